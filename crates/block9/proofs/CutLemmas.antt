@@ -1,0 +1,217 @@
+-- How lists are cut: a cut is the only one, a prefix of what is kept is kept, and the tail alone decides what a record does.
+use Rattle.std.proofs.Common.{◌≡◌, ℕ, ◌-◌, ◌<◌, ◌∙◌, List, [], ◌∷◌, ◌++◌, length, take, refl, sym, ap, subst, true, Some, None, arith, length-append}
+use Rattle.std.proofs.lemmas.List.{append_assoc, append-nil, same_from_push, length_push}
+use Rattle.capture9.specs.declared.line_byte.LineByte.{LineByte}
+use Rattle.capture9.specs.declared.line_byte.Wire.TheVariants.{Controller, Deck}
+use Rattle.block9.specs.declared.block.Block.{Block}
+use Rattle.block9.specs.declared.command.Command.{Command}
+use Rattle.block9.specs.declared.pairer.Exchange.{Exchange}
+use Rattle.block9.specs.declared.place.Place.TheVariants.{InCommand, InReply}
+use Rattle.block9.specs.Block.{Spells}
+use Rattle.block9.specs.Command.{command_of, fits, is_reply_time_valid}
+use Rattle.block9.specs.Line.{IsBegun, IsWhole, block_len, bytes_of, first_time, last_time}
+use Rattle.block9.specs.Exchange.{IsCommand, IsInTime, IsExchange, IsTail, Cut, IsKept}
+use Rattle.block9.specs.Exchange.IsTail.{nothing, in_command, after_command, in_reply}
+use Rattle.block9.specs.Pairing.{pairing}
+use Rattle.block9.proofs.LineLemmas.{whole_len, whole_long, block_len-append, whole_parts, spelled_once}
+use Rattle.block9.proofs.BlockSteps.{begun_less, whole_less}
+use Rattle.block9.proofs.TableLemmas as table
+use Rattle.block9.proofs.TailLemmas.{apart, idle_kept, in_command_kept, after_command_kept, in_reply_of, in_reply_kept, meaning_in_reply}
+
+-- a last record is the last one of the second of two parts
+pub last_apart : (t c d : List LineByte) (r : LineByte) → t ++ r ∷ [] ≡ c ++ d → 0 < length d → (d' : List LineByte) × (d ≡ d' ++ r ∷ []) × (t ≡ c ++ d')
+last_apart t c d r e some =
+    let parts = apart d some in
+    let front = take (length d - 1) d in
+    let whole : t ++ r ∷ [] ≡ (c ++ front) ++ parts.0 ∷ [] = e ∙ ap (λ (l : List LineByte). c ++ l) parts.1 ∙ sym (append_assoc c front (parts.0 ∷ [])) in
+    let same = same_from_push t (c ++ front) r parts.0 whole in
+    (front, parts.1 ∙ ap (λ (x : LineByte). front ++ x ∷ []) (sym same.1), same.0)
+
+-- the first record of a list stays the first
+pub first_time-push : (a : LineByte) (rest : List LineByte) (r : LineByte) → first_time ((a ∷ rest) ++ r ∷ []) ≡ first_time (a ∷ rest)
+first_time-push a rest r = refl
+
+-- a tail without its last record is a tail, and the record broke no rule
+pub tail_less : (t : List LineByte) (r : LineByte) → IsTail (t ++ r ∷ []) → IsTail t × (pairing t r ≡ None)
+tail_less t r (nothing e) = absurd (let n = length_push t r in let m : length (t ++ r ∷ []) ≡ 0 = ap length e in omega arith)
+tail_less [] r (in_command h) = (nothing refl, idle_kept r h)
+tail_less (a ∷ rest) r (in_command h) =
+    let parts = begun_less Controller a rest r h in
+    (in_command parts.0.begun, in_command_kept (a ∷ rest) r parts.0 (table.none_open InCommand (a ∷ rest) (a ∷ rest) r parts.1))
+tail_less t r (after_command b c h) =
+    let parts = whole_less Controller t r b h.whole in (
+      in_command parts.continues.begun,
+      in_command_kept t r parts.continues (table.none_end InCommand t t r parts.sum_right
+          (table.some_command _ c (ap command_of (sym parts.block) ∙ h.meaning))),
+    )
+tail_less t r (in_reply command reply b c e hc hd soon) =
+    let parts = last_apart t command reply r e hd.begun in
+    in_reply_less t command parts.0 r b c parts.2 hc (subst (λ (l : List LineByte). IsBegun Deck l) parts.1 hd) (subst (λ (l : List LineByte). IsInTime command l) parts.1 soon)
+  where
+    in_reply_less : (t command front : List LineByte) (r : LineByte) (b : Block) (c : Command) → t ≡ command ++ front → IsCommand command b c → IsBegun Deck (front ++ r ∷ []) → IsInTime command (front ++ r ∷ []) → IsTail t × (pairing t r ≡ None)
+    in_reply_less t command [] r b c e hc hd soon =
+        let same : t ≡ command = e ∙ append-nil command in
+        let P : List LineByte → Type 0 = λ l. IsTail l × (pairing l r ≡ None) in
+        subst P (sym same) (after_command b c hc, after_command_kept command r b hc.whole hd soon)
+    in_reply_less t command (a ∷ rest) r b c e hc hd soon =
+        let parts = begun_less Deck a rest r hd in
+        let P : List LineByte → Type 0 = λ l. IsTail l × (pairing l r ≡ None) in
+        subst P (sym e) (
+          in_reply command (a ∷ rest) b c refl hc parts.0.begun (record { later = soon.later; soon = soon.soon }),
+          in_reply_kept command (a ∷ rest) (command ++ a ∷ rest) r (in_reply_of command (a ∷ rest) b hc.whole (omega arith)) parts.0 (table.none_open InReply (command ++ a ∷ rest) (a ∷ rest) r parts.1),
+        )
+
+-- an exchange without its last record is a tail, and the record broke no rule
+pub exchange_less : (t : List LineByte) (r : LineByte) (e : Exchange) → IsExchange (t ++ r ∷ []) e → IsTail t × (pairing t r ≡ None)
+exchange_less t r e h =
+    let long = whole_long Deck h.answered e.reply h.reply in
+    let parts = last_apart t h.asked h.answered r h.split (omega arith) in
+    ended t h.asked parts.0 parts.2 h.command (subst (λ (l : List LineByte). IsWhole Deck l e.reply) parts.1 h.reply) (subst (λ (l : List LineByte). IsInTime h.asked l) parts.1 h.in_time) h.kind h.valid_time
+  where
+    ended : (t command front : List LineByte) → t ≡ command ++ front → IsCommand command e.block e.command → IsWhole Deck (front ++ r ∷ []) e.reply → IsInTime command (front ++ r ∷ []) → fits e.command e.reply ≡ true → is_reply_time_valid e.command e.reply ≡ true → IsTail t × (pairing t r ≡ None)
+    ended t command [] same hc hd soon kind valid = absurd (let n = whole_long Deck (r ∷ []) e.reply hd in omega arith)
+    ended t command (a ∷ rest) same hc hd soon kind valid =
+        let parts = whole_less Deck (a ∷ rest) r e.reply hd in
+        let place = in_reply_of command (a ∷ rest) e.block hc.whole (omega arith) in
+        let meant = ap command_of (meaning_in_reply command (a ∷ rest) (command ++ a ∷ rest) e.block hc.whole place) ∙ hc.meaning in
+        let P : List LineByte → Type 0 = λ l. IsTail l × (pairing l r ≡ None) in
+        subst P (sym same) (
+          in_reply command (a ∷ rest) e.block e.command refl hc parts.continues.begun (record { later = soon.later; soon = soon.soon }),
+          in_reply_kept command (a ∷ rest) (command ++ a ∷ rest) r place parts.continues
+              (table.none_end InReply (command ++ a ∷ rest) (a ∷ rest) r parts.sum_right
+              (table.some_reply _ e.command _ meant (ap (λ (x : Block). fits e.command x) (sym parts.block) ∙ kind) (ap (λ (x : Block). is_reply_time_valid e.command x) (sym parts.block) ∙ valid))),
+        )
+
+-- no tail begins with a whole exchange
+pub tail_no_exchange : (t front rest : List LineByte) (e : Exchange) → IsTail t → IsExchange front e → t ≡ front ++ rest → ⊥
+tail_no_exchange t front rest e (nothing same) h split =
+    let n : length t ≡ 0 = ap length same in
+    let m : length t ≡ length (front ++ rest) = ap length split in
+    let k : length front ≡ length (h.asked ++ h.answered) = ap length h.split in
+    let long = whole_long Controller h.asked e.block h.command.whole in
+    absurd (omega (arith, length-append front rest, length-append h.asked h.answered))
+tail_no_exchange t front rest e (in_command begun) h split =
+    let whole : t ≡ h.asked ++ (h.answered ++ rest) = split ∙ ap (λ (l : List LineByte). l ++ rest) h.split ∙ append_assoc h.asked h.answered rest in
+    let len = whole_len Controller h.asked e.block h.command.whole in
+    let long = whole_long Controller h.asked e.block h.command.whole in
+    let same : block_len t ≡ block_len h.asked = ap block_len whole ∙ block_len-append h.asked (h.answered ++ rest) (omega arith) in
+    let short = begun.short in
+    let m : length t ≡ length (h.asked ++ (h.answered ++ rest)) = ap length whole in
+    absurd (omega (arith, length-append h.asked (h.answered ++ rest)))
+tail_no_exchange t front rest e (after_command b c command) h split =
+    let whole : t ++ [] ≡ h.asked ++ (h.answered ++ rest) = append-nil t ∙ split ∙ ap (λ (l : List LineByte). l ++ rest) h.split ∙ append_assoc h.asked h.answered rest in
+    let parts = whole_parts Controller Controller t h.asked [] (h.answered ++ rest) b e.block command.whole h.command.whole whole in
+    let long = whole_long Deck h.answered e.reply h.reply in
+    let n : length (h.answered ++ rest) ≡ 0 = ap length (sym parts.1) in
+    absurd (omega (arith, length-append h.answered rest))
+tail_no_exchange t front rest e (in_reply command reply b c same hc hd soon) h split =
+    let whole : command ++ reply ≡ h.asked ++ (h.answered ++ rest) = sym same ∙ split ∙ ap (λ (l : List LineByte). l ++ rest) h.split ∙ append_assoc h.asked h.answered rest in
+    let parts = whole_parts Controller Controller command h.asked reply (h.answered ++ rest) b e.block hc.whole h.command.whole whole in
+    let len = whole_len Deck h.answered e.reply h.reply in
+    let long = whole_long Deck h.answered e.reply h.reply in
+    let first : block_len reply ≡ block_len h.answered = ap block_len parts.1 ∙ block_len-append h.answered rest (omega arith) in
+    let short = hd.short in
+    let m : length reply ≡ length (h.answered ++ rest) = ap length parts.1 in
+    absurd (omega (arith, length-append h.answered rest))
+
+-- an exchange at the head of a list is the only one there
+pub record SameFront (d e : Exchange) (a b x y : List LineByte) : Type 0 where
+  pub exchanges : d ≡ e
+  pub fronts : a ≡ b
+  pub rests : x ≡ y
+
+pub exchange_once : (d e : Exchange) (a b x y : List LineByte) → IsExchange a d → IsExchange b e → a ++ x ≡ b ++ y → SameFront d e a b x y
+exchange_once d e a b x y h k same =
+    let whole : h.asked ++ (h.answered ++ x) ≡ k.asked ++ (k.answered ++ y) =
+    sym (append_assoc h.asked h.answered x) ∙ ap (λ (l : List LineByte). l ++ x) (sym h.split) ∙ same ∙ ap (λ (l : List LineByte). l ++ y) k.split ∙ append_assoc k.asked k.answered y in
+    let commands = whole_parts Controller Controller h.asked k.asked (h.answered ++ x) (k.answered ++ y) d.block e.block h.command.whole k.command.whole whole in
+    let replies = whole_parts Deck Deck h.answered k.answered x y d.reply e.reply h.reply k.reply commands.1 in
+    let blocks : d.block ≡ e.block = spelled_once (bytes_of k.asked) d.block e.block (subst (λ (l : List LineByte). Spells (bytes_of l) d.block) commands.0 h.command.whole.spelled) k.command.whole.spelled in
+    let answers : d.reply ≡ e.reply = spelled_once (bytes_of k.answered) d.reply e.reply (subst (λ (l : List LineByte). Spells (bytes_of l) d.reply) replies.0 h.reply.spelled) k.reply.spelled in
+    let meant : Some d.command ≡ Some e.command = sym h.command.meaning ∙ ap command_of blocks ∙ k.command.meaning in
+    let command : d.command ≡ e.command = cc in
+    let last : last_time h.asked ≡ last_time k.asked = ap last_time commands.0 in
+    let first : first_time h.answered ≡ first_time k.answered = ap first_time replies.0 in
+    let delays = h.delay in
+    let delays_too = k.delay in
+    let delay : d.delay_us ≡ e.delay_us = omega arith in
+    record {
+      exchanges = same_exchange d e command blocks answers delay;
+      fronts = h.split ∙ ap (λ (l : List LineByte). l ++ h.answered) commands.0 ∙ ap (λ (l : List LineByte). k.asked ++ l) replies.0 ∙ sym k.split;
+      rests = replies.1;
+    }
+  where
+    same_exchange : (d e : Exchange) → d.command ≡ e.command → d.block ≡ e.block → d.reply ≡ e.reply → d.delay_us ≡ e.delay_us → d ≡ e
+    same_exchange d e p q r s =
+        let put : Command → Block → Block → ℕ → Exchange = λ c b a n. record { command = c; block = b; reply = a; delay_us = n } in
+        ap (λ c. put c d.block d.reply d.delay_us) p ∙ ap (λ b. put e.command b d.reply d.delay_us) q ∙ ap (λ a. put e.command e.block a d.delay_us) r ∙ ap (λ n. put e.command e.block e.reply n) s
+
+-- a list has at most one cut
+pub cut_once : (p : List LineByte) (ds es : List Exchange) (t u : List LineByte) → Cut p ds t → Cut p es u → (ds ≡ es) × (t ≡ u)
+cut_once p [] [] t u h k = (refl, sym h.0 ∙ k.0)
+cut_once p [] (e ∷ es) t u h k = absurd (tail_no_exchange p k.0 k.1 e (subst (λ (l : List LineByte). IsTail l) (sym h.0) h.1) k.3 k.2)
+cut_once p (d ∷ ds) [] t u h k = absurd (tail_no_exchange p h.0 h.1 d (subst (λ (l : List LineByte). IsTail l) (sym k.0) k.1) h.3 h.2)
+cut_once p (d ∷ ds) (e ∷ es) t u h k =
+    let same = exchange_once d e h.0 k.0 h.1 k.1 h.3 k.3 (sym h.2 ∙ k.2) in
+    let more = cut_once k.1 ds es t u (subst (λ (l : List LineByte). Cut l ds t) same.rests h.4) k.4 in
+    (ap (λ x. x ∷ ds) same.exchanges ∙ ap (λ l. e ∷ l) more.0, more.1)
+
+-- cuts that begin with an exchange
+pub cut_more : (front rest : List LineByte) (e : Exchange) → IsExchange front e → IsKept rest → IsKept (front ++ rest)
+cut_more front rest e h k = record { exchanges = e ∷ k.exchanges; tail = k.tail; cut = (front, rest, refl, h, k.cut) }
+
+pub tail_kept : (t : List LineByte) → IsTail t → IsKept t
+tail_kept t h = record { exchanges = []; tail = t; cut = (refl, h) }
+
+pub exchange_kept : (front : List LineByte) (e : Exchange) → IsExchange front e → IsKept front
+exchange_kept front e h = subst (λ (l : List LineByte). IsKept l) (append-nil front) (cut_more front [] e h (tail_kept [] (nothing refl)))
+
+-- a list that ends in a record: it is the record alone, or the rest ends in it
+pub kept_less_at : (p : List LineByte) (r : LineByte) (es : List Exchange) (u : List LineByte) → Cut (p ++ r ∷ []) es u → IsKept p
+kept_less_at p r [] u h = tail_kept p (tail_less p r (subst (λ (l : List LineByte). IsTail l) (sym h.0) h.1)).0
+kept_less_at p r (e ∷ es) u h = go h.1 h.2 h.4 (λ q s v k. kept_less_at q s es v k)
+  where
+    go : (rest : List LineByte) → p ++ r ∷ [] ≡ h.0 ++ rest → Cut rest es u → ((q : List LineByte) (s : LineByte) (v : List LineByte) → Cut (q ++ s ∷ []) es v → IsKept q) → IsKept p
+    go [] split more ih = tail_kept p (exchange_less p r e (subst (λ (l : List LineByte). IsExchange l e) (sym (split ∙ append-nil h.0)) h.3)).0
+    go (a ∷ rest) split more ih =
+        let parts = last_apart p h.0 (a ∷ rest) r split (omega arith) in
+        subst (λ (l : List LineByte). IsKept l) (sym parts.2)
+        (cut_more h.0 parts.0 e h.3 (ih parts.0 r u (subst (λ (l : List LineByte). Cut l es u) parts.1 more)))
+
+-- a prefix of a list that is kept is kept
+pub kept_less : (p : List LineByte) (r : LineByte) → IsKept (p ++ r ∷ []) → IsKept p
+kept_less p r h = kept_less_at p r h.exchanges h.tail h.cut
+
+-- after a tail, a record with a list that is kept breaks no rule
+pub kept_no_fault : (t : List LineByte) (r : LineByte) → IsTail t → IsKept (t ++ r ∷ []) → pairing t r ≡ None
+kept_no_fault t r tail h = by h.exchanges h.tail h.cut
+  where
+    by : (es : List Exchange) (u : List LineByte) → Cut (t ++ r ∷ []) es u → pairing t r ≡ None
+    by [] u k = (tail_less t r (subst (λ (l : List LineByte). IsTail l) (sym k.0) k.1)).1
+    by (e ∷ es) u k = go k.1 k.2
+      where
+        go : (rest : List LineByte) → t ++ r ∷ [] ≡ k.0 ++ rest → pairing t r ≡ None
+        go [] split = (exchange_less t r e (subst (λ (l : List LineByte). IsExchange l e) (sym (split ∙ append-nil k.0)) k.3)).1
+        go (a ∷ rest) split =
+            let parts = last_apart t k.0 (a ∷ rest) r split (omega arith) in
+            absurd (tail_no_exchange t k.0 parts.0 e tail k.3 parts.2)
+
+-- what a record does after a list depends on the list's tail
+pub kept_by_tail : (p : List LineByte) (es : List Exchange) (t : List LineByte) (r : LineByte) → Cut p es t → IsKept (t ++ r ∷ []) → IsKept (p ++ r ∷ [])
+kept_by_tail p [] t r h k = subst (λ (l : List LineByte). IsKept (l ++ r ∷ [])) (sym h.0) k
+kept_by_tail p (e ∷ es) t r h k =
+    let more = cut_more h.0 (h.1 ++ r ∷ []) e h.3 (kept_by_tail h.1 es t r h.4 k) in
+    subst (λ (l : List LineByte). IsKept l) (sym (ap (λ (l : List LineByte). l ++ r ∷ []) h.2 ∙ append_assoc h.0 h.1 (r ∷ []))) more
+
+pub tail_by_kept : (p : List LineByte) (es : List Exchange) (t : List LineByte) (r : LineByte) → Cut p es t → IsKept (p ++ r ∷ []) → IsKept (t ++ r ∷ [])
+tail_by_kept p [] t r h k = subst (λ (l : List LineByte). IsKept (l ++ r ∷ [])) h.0 k
+tail_by_kept p (e ∷ es) t r h k = tail_by_kept h.1 es t r h.4 (by k.exchanges k.tail k.cut)
+  where
+    whole : p ++ r ∷ [] ≡ h.0 ++ (h.1 ++ r ∷ [])
+    whole = ap (λ (l : List LineByte). l ++ r ∷ []) h.2 ∙ append_assoc h.0 h.1 (r ∷ [])
+
+    by : (ds : List Exchange) (u : List LineByte) → Cut (p ++ r ∷ []) ds u → IsKept (h.1 ++ r ∷ [])
+    by [] u c = absurd (tail_no_exchange (p ++ r ∷ []) h.0 (h.1 ++ r ∷ []) e (subst (λ (l : List LineByte). IsTail l) (sym c.0) c.1) h.3 whole)
+    by (d ∷ ds) u c =
+        let same = exchange_once d e c.0 h.0 c.1 (h.1 ++ r ∷ []) c.3 h.3 (sym c.2 ∙ whole) in
+        record { exchanges = ds; tail = u; cut = subst (λ (l : List LineByte). Cut l ds u) same.rests c.4 }

@@ -1,0 +1,7 @@
+pub mod SpellingLemmas
+pub mod LineLemmas
+pub mod BlockSteps
+pub mod TableLemmas
+pub mod TailLemmas
+pub mod CutLemmas
+pub mod StepLemmas

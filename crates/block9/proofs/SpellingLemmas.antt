@@ -1,0 +1,58 @@
+-- Which bytes spell a block.
+use Rattle.std.proofs.Common.{◌≡◌, ◌≢◌, ℕ, suc, ◌+◌, ◌-◌, ◌*◌, ◌/◌, ◌%◌, ◌<◌, ◌∙◌, List, [], ◌∷◌, ◌++◌, length, sym, ap, Some, arith}
+use Rattle.std.proofs.lemmas.List.{same_from_push}
+use Rattle.std.specs.List.{sum, slice_get}
+use Rattle.capture9.specs.declared.line_byte.LineByte.{LineByte}
+use Rattle.block9.specs.declared.block.Block.{Block}
+use Rattle.block9.specs.Block.{Spells, body_of, block_of}
+use Rattle.block9.specs.Line.{last_time}
+use Rattle.block9.proofs.LineLemmas.{byte_parts}
+
+-- bytes that spell a block are its body and the sum
+pub spelled_parts : (bytes body : List ℕ) (last : ℕ) (b : Block) → bytes ≡ body ++ last ∷ [] → Spells bytes b → (body ≡ body_of b) × (last ≡ sum body % 256)
+spelled_parts bytes body last b e h =
+    let same = same_from_push body (body_of b) last (sum (body_of b) % 256) (sym e ∙ h.spelled) in
+    (same.0, same.1 ∙ ap (λ (xs : List ℕ). sum xs % 256) (sym same.0))
+
+pub not_alone : (bytes body : List ℕ) (last : ℕ) (b : Block) → bytes ≡ body ++ last ∷ [] → length body ≡ 0 → Spells bytes b → ⊥
+not_alone bytes body last b e n h =
+    let same : length body ≡ length (body_of b) = ap length (spelled_parts bytes body last b e h).0 in
+    absurd (omega arith)
+
+pub spelled_len : (bytes body : List ℕ) (last first : ℕ) (b : Block) → bytes ≡ body ++ last ∷ [] → Some first ≡ slice_get body 0 → Spells bytes b → length body ≡ first % 16 + 2
+spelled_len bytes [] last first b e f h = cc
+spelled_len bytes (a ∷ body) last first b e f h =
+    let parts = spelled_parts bytes (a ∷ body) last b e h in
+    let head : first ≡ 16 * b.group + length b.bytes.items = let p = parts.0 in cc in
+    let low = (byte_parts b.group (length b.bytes.items) h.block.data_bytes).0 in
+    let same : length (a ∷ body) ≡ length (body_of b) = ap length parts.0 in
+    let low_half : first % 16 ≡ length b.bytes.items = ap (λ n. n % 16) head ∙ low in
+    omega arith
+
+pub no_spelling_len : (bytes body : List ℕ) (last first : ℕ) → bytes ≡ body ++ last ∷ [] → Some first ≡ slice_get body 0 → length body ≢ first % 16 + 2 → (b : Block) → Spells bytes b → ⊥
+no_spelling_len bytes body last first e f other b h = other (spelled_len bytes body last first b e f h)
+
+pub no_spelling_sum : (bytes body : List ℕ) (last : ℕ) → bytes ≡ body ++ last ∷ [] → sum body % 256 ≢ last → (b : Block) → Spells bytes b → ⊥
+no_spelling_sum bytes body last e other b h = other (sym (spelled_parts bytes body last b e h).1)
+
+-- a body of the right length, and its sum
+pub spells_body : (bytes body : List ℕ) (last first : ℕ) → bytes ≡ body ++ last ∷ [] → Some first ≡ slice_get body 0 → first < 256 → length body ≡ first % 16 + 2 → last ≡ sum body % 256 → Spells bytes (block_of body)
+spells_body bytes [] last first e f low len s = cc
+spells_body bytes (a ∷ []) last first e f low len s = absurd (omega arith)
+spells_body bytes (a ∷ c ∷ rest) last first e f low len s =
+    let head : a ≡ first = cc in
+    let b = block_of (a ∷ c ∷ rest) in
+    let whole : a ≡ 16 * (a / 16) + length rest = omega arith in
+    let body : a ∷ c ∷ rest ≡ body_of b = ap (λ (n : ℕ). let xs : List ℕ = n ∷ c ∷ rest in xs) whole in
+    record {
+      block = record { group = omega arith; data_bytes = omega arith };
+      spelled = e ∙ ap (λ (n : ℕ). (a ∷ c ∷ rest) ++ n ∷ []) s ∙ ap (λ (xs : List ℕ). xs ++ sum xs % 256 ∷ []) body;
+    }
+
+-- the last record's time
+pub last_time-last : (records : List LineByte) (last : LineByte) → Some last ≡ slice_get records (length records - 1) → last.time_us ≡ last_time records
+last_time-last [] last e = cc
+last_time-last (a ∷ []) last e = let same : last ≡ a = cc in ap (λ (r : LineByte). r.time_us) same
+last_time-last (a ∷ b ∷ records) last e =
+    let count : length (a ∷ b ∷ records) - 1 ≡ suc (length (b ∷ records) - 1) = omega arith in
+    last_time-last (b ∷ records) last (e ∙ ap (λ (n : ℕ). slice_get (a ∷ b ∷ records) n) count)

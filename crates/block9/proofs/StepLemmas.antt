@@ -1,0 +1,187 @@
+-- What a record that breaks no rule makes of a tail.
+use Rattle.std.proofs.Common.{◌≡◌, ℕ, ◌-◌, ◌<◌, ◌≤◌, ◌∙◌, List, [], ◌∷◌, ◌++◌, length, take, drop, refl, sym, ap, subst, true, false, Option, Some, None, arith, length-append}
+use Rattle.std.proofs.lemmas.List.{append_assoc, append-nil}
+use Rattle.capture9.specs.declared.line_byte.LineByte.{LineByte}
+use Rattle.capture9.specs.declared.line_byte.Wire.TheVariants.{Controller, Deck}
+use Rattle.block9.specs.declared.block.Block.{Block}
+use Rattle.block9.specs.declared.command.Command.{Command}
+use Rattle.block9.specs.declared.pairer.Exchange.{Exchange}
+use Rattle.block9.specs.declared.place.Place.{Place}
+use Rattle.block9.specs.declared.place.Place.TheVariants.{Idle, InCommand, AfterCommand, InReply}
+use Rattle.block9.specs.Block.{block_of}
+use Rattle.block9.specs.Command.{command_of, fits, is_reply_time_valid}
+use Rattle.block9.specs.Line.{IsBegun, IsWhole, block_len, bytes_of, first_time, last_time}
+use Rattle.block9.specs.Exchange.{IsCommand, IsInTime, IsExchange, IsTail, Does, tail_after}
+use Rattle.block9.specs.declared.pairer.Step.{Step}
+use Rattle.block9.specs.declared.pairer.Step.TheVariants as step
+use Rattle.block9.specs.Exchange.IsTail.{nothing, in_command, after_command, in_reply}
+use Rattle.block9.specs.Pairing.{place_of, open_at, ends_block, pairing}
+use Rattle.block9.specs.Reading.{Answers, Closes}
+use Rattle.block9.specs.Paired.{IsNotBefore}
+use Rattle.std.specs.Option.{ForSome}
+use Rattle.block9.proofs.LineLemmas.{last_time-push, whole_len, whole_parts, first_time-push_any}
+use Rattle.block9.proofs.BlockSteps.{begun_more, whole_now}
+use Rattle.block9.proofs.TableLemmas as table
+use Rattle.block9.proofs.TailLemmas.{InReplyOf, place_in_command, place_of_command, kept_idle, kept_in_command, kept_after_command, in_reply_of, kept_in_reply, meaning_in_reply}
+
+-- the parts of a tail inside a reply
+pub record ReplyParts (t : List LineByte) : Type 0 where
+  pub command : List LineByte
+  pub reply : List LineByte
+  pub block : Block
+  pub meaning : Command
+  pub split : t ≡ command ++ reply
+  pub is_command : IsCommand command block meaning
+  pub begun : IsBegun Deck reply
+  pub in_time : IsInTime command reply
+  pub place : InReplyOf command reply t
+
+pub reply_parts : (t : List LineByte) → IsTail t → place_of t ≡ InReply → ReplyParts t
+reply_parts t (nothing e) p = absurd (let idle : place_of t ≡ Idle = ap place_of e in let other : Idle ≡ InReply = sym idle ∙ p in cc)
+reply_parts t (in_command h) p = absurd (let other : InCommand ≡ InReply = sym (place_in_command Controller t h) ∙ p in cc)
+reply_parts t (after_command b c h) p = absurd (let other : AfterCommand ≡ InReply = sym (place_of_command Controller t b h.whole) ∙ p in cc)
+reply_parts t (in_reply command reply b c e hc hd soon) p = record {
+  command = command;
+  reply = reply;
+  block = b;
+  meaning = c;
+  split = e;
+  is_command = hc;
+  begun = hd;
+  in_time = soon;
+  place = subst (λ (l : List LineByte). InReplyOf command reply l) (sym e) (in_reply_of command reply b hc.whole hd.begun);
+}
+
+-- the reply's first record is not before the command's last one
+pub delay_fits : (t : List LineByte) → IsTail t → place_of t ≡ InReply → last_time (take (block_len t) t) ≤ first_time (drop (block_len t) t)
+delay_fits t h p =
+    let parts = reply_parts t h p in
+    let last = ap last_time parts.place.first in
+    let first = ap first_time parts.place.current in
+    let later = parts.in_time.later in
+    omega arith
+
+-- no list that goes on after a whole command is a command
+pub beyond_command : (command more : List LineByte) (b d : Block) → IsWhole Controller command b → 0 < length more → IsWhole Controller (command ++ more) d → ⊥
+beyond_command command more b d h some k =
+    let parts = whole_parts Controller Controller (command ++ more) command [] more d b k h (append-nil (command ++ more)) in
+    let n : length more ≡ 0 = ap length (sym parts.1) in
+    omega arith
+
+-- a begun block is no whole one
+pub begun_not_whole : (t : List LineByte) (b : Block) → IsBegun Controller t → IsWhole Controller t b → ⊥
+begun_not_whole t b h k = let len = whole_len Controller t b k in let short = h.short in omega arith
+
+-- a record that does not end its block
+pub record StillTail (records : List LineByte) : Type 0 where
+  pub tail : IsTail records
+  pub no_command : (b : Block) (c : Command) → IsCommand records b c → ⊥
+
+pub waits : (t : List LineByte) (r : LineByte) → IsTail t → last_time t ≤ r.time_us → pairing t r ≡ None → ends_block (open_at (place_of t) t) ≡ false → StillTail (t ++ r ∷ [])
+waits t r (nothing e) later quiet ends =
+    let begun = kept_idle r (subst (λ (l : List LineByte). pairing l r ≡ None) e quiet) in
+    let still : StillTail (r ∷ []) = record { tail = in_command begun; no_command = λ b c h. begun_not_whole (r ∷ []) b begun h.whole } in
+    subst (λ (l : List LineByte). StillTail (l ++ r ∷ [])) (sym e) still
+waits t r (in_command h) later quiet ends =
+    let same : ends_block t ≡ false = sym (ap (λ (p : Place). ends_block (open_at p t)) (place_in_command Controller t h)) ∙ ends in
+    let more = begun_more Controller t r h (kept_in_command t r h later quiet).1 same in
+    record { tail = in_command more; no_command = λ b c k. begun_not_whole (t ++ r ∷ []) b more k.whole }
+waits t r (after_command b c h) later quiet ends =
+    let next = kept_after_command t r b h.whole later quiet in
+    record { tail = in_reply t (r ∷ []) b c refl h next.0 next.1; no_command = λ d x k. beyond_command t (r ∷ []) b d h.whole (omega arith) k.whole }
+waits t r (in_reply command reply b c e hc hd soon) later quiet ends =
+    let parts = in_reply_of command reply b hc.whole hd.begun in
+    let place : InReplyOf command reply t = subst (λ (l : List LineByte). InReplyOf command reply l) (sym e) parts in
+    let same : ends_block reply ≡ false = sym (ap (λ (p : Place). ends_block (open_at p t)) place.place ∙ ap ends_block place.current) ∙ ends in
+    let more = begun_more Deck reply r hd (kept_in_reply command reply t r place later quiet).1 same in
+    let whole : t ++ r ∷ [] ≡ command ++ (reply ++ r ∷ []) = ap (λ (l : List LineByte). l ++ r ∷ []) e ∙ append_assoc command reply (r ∷ []) in
+    let first = first_time-push_any reply r hd.begun in
+    let still : StillTail (command ++ (reply ++ r ∷ [])) = record {
+      tail = in_reply command (reply ++ r ∷ []) b c refl hc more (record { later = let a = soon.later in omega arith; soon = let a = soon.soon in omega arith });
+      no_command = λ d x k. beyond_command command (reply ++ r ∷ []) b d hc.whole more.begun k.whole;
+    } in
+    subst StillTail (sym whole) still
+
+-- a record that ends a command
+pub commands : (t : List LineByte) (r : LineByte) → IsTail t → last_time t ≤ r.time_us → pairing t r ≡ None → ends_block (open_at (place_of t) t) ≡ true → place_of t ≡ InCommand → (b : Block) × (c : Command) × IsCommand (t ++ r ∷ []) b c
+commands t r (nothing e) later quiet ends p = absurd (let idle : place_of t ≡ Idle = ap place_of e in let other : Idle ≡ InCommand = sym idle ∙ p in cc)
+commands t r (in_command h) later quiet ends p =
+    let same : ends_block t ≡ true = sym (ap (λ (p : Place). ends_block (open_at p t)) (place_in_command Controller t h)) ∙ ends in
+    let next = kept_in_command t r h later quiet in
+    let parts = table.end_none InCommand t t r next.0.at_end same in
+    let meaning = table.command_some _ parts.1 in
+    (block_of (bytes_of t), meaning.0, record { whole = whole_now Controller t r h next.1 same parts.0; meaning = meaning.1 })
+commands t r (after_command b c h) later quiet ends p = absurd (let other : AfterCommand ≡ InCommand = sym (place_of_command Controller t b h.whole) ∙ p in cc)
+commands t r (in_reply command reply b c e hc hd soon) later quiet ends p =
+    absurd (let place = subst (λ (l : List LineByte). place_of l ≡ InReply) (sym e) (in_reply_of command reply b hc.whole hd.begun).place in let other : InReply ≡ InCommand = sym place ∙ p in cc)
+
+-- a record that ends a reply
+pub closes : (t : List LineByte) (r : LineByte) (e : Exchange) → IsTail t → last_time t ≤ r.time_us → pairing t r ≡ None → ends_block (open_at (place_of t) t) ≡ true → place_of t ≡ InReply → Closes t e → IsExchange (t ++ r ∷ []) e
+closes t r e h later quiet ends p read =
+    let parts = reply_parts t h p in
+    let same : ends_block parts.reply ≡ true = sym (ap (λ (p : Place). ends_block (open_at p t)) p ∙ ap ends_block parts.place.current) ∙ ends in
+    let next = kept_in_reply parts.command parts.reply t r parts.place later quiet in
+    let at_end : table.end_none_of InReply t parts.reply r = subst (λ (l : List LineByte). table.end_none_of InReply t l r) parts.place.current next.0.at_end in
+    let end = table.end_none InReply t parts.reply r at_end same in
+    let reply : e.reply ≡ block_of (bytes_of parts.reply) = read.reply ∙ ap (λ (l : List LineByte). block_of (bytes_of l)) parts.place.current in
+    let meant : command_of (block_of (bytes_of (take (block_len t - 1) t))) ≡ Some e.command = ap command_of (sym read.block) ∙ read.meaning in
+    let right = table.reply_some _ e.command (block_of (bytes_of parts.reply)) meant end.1 in
+    let block : e.block ≡ parts.block = read.block ∙ meaning_in_reply parts.command parts.reply t parts.block parts.is_command.whole parts.place in
+    let first = first_time-push_any parts.reply r parts.begun.begun in
+    let last = ap last_time parts.place.first in
+    let head = ap first_time parts.place.current in
+    let delay = read.delay in
+    record {
+      asked = parts.command;
+      answered = parts.reply ++ r ∷ [];
+      split = ap (λ (l : List LineByte). l ++ r ∷ []) parts.split ∙ append_assoc parts.command parts.reply (r ∷ []);
+      command = record { whole = subst (λ (b : Block). IsWhole Controller parts.command b) (sym block) parts.is_command.whole; meaning = read.meaning };
+      reply = subst (λ (b : Block). IsWhole Deck (parts.reply ++ r ∷ []) b) (sym reply) (whole_now Deck parts.reply r parts.begun next.1 same end.0);
+      in_time = record { later = let a = parts.in_time.later in omega arith; soon = let a = parts.in_time.soon in omega arith };
+      delay = omega arith;
+      kind = ap (λ (b : Block). fits e.command b) reply ∙ right.0;
+      valid_time = ap (λ (b : Block). is_reply_time_valid e.command b) reply ∙ right.1;
+    }
+
+-- a tail has at most 35 records: a command of 18 and all but the last of a reply
+pub block_len_low : (t : List LineByte) → block_len t ≤ 18
+block_len_low [] = omega arith
+block_len_low (a ∷ rest) = omega arith
+
+pub tail_short : (t : List LineByte) → IsTail t → length t ≤ 35
+tail_short t (nothing e) = let n : length t ≡ 0 = ap length e in omega arith
+tail_short t (in_command h) = let s = h.short in let l = block_len_low t in omega arith
+tail_short t (after_command b c h) = let s = whole_len Controller t b h.whole in let l = block_len_low t in omega arith
+tail_short t (in_reply command reply b c e hc hd soon) =
+    let n : length t ≡ length (command ++ reply) = ap length e in
+    let s = whole_len Controller command b hc.whole in
+    let d = hd.short in
+    omega (arith, length-append command reply, block_len_low command, block_len_low reply)
+
+-- the step that is answered is the one that the record does
+pub does : (t : List LineByte) (r : LineByte) (s : Step) → IsTail t → last_time t ≤ r.time_us → (pairing t r ≡ None) × Answers t s → Does t r s
+does t r step.Waiting h later read = let still = waits t r h later read.0 read.1 in (still.tail, still.no_command)
+does t r step.Command h later read = commands t r h later read.0 read.1.0 read.1.1
+does t r (step.Exchange e) h later read = closes t r e h later read.0 read.1.0 read.1.1 read.1.2
+
+-- what it leaves is a tail, with no record after the one that was fed
+pub still_tail : (t : List LineByte) (r : LineByte) (s : Step) → Does t r s → IsTail (tail_after t r s)
+still_tail t r step.Waiting h = h.0
+still_tail t r step.Command h = after_command h.0 h.1 h.2
+still_tail t r (step.Exchange e) h = nothing refl
+
+pub last_time-tail_after : (t : List LineByte) (r : LineByte) (s : Step) → last_time (tail_after t r s) ≤ r.time_us
+last_time-tail_after t r step.Waiting = let e = last_time-push t r in omega arith
+last_time-tail_after t r step.Command = let e = last_time-push t r in omega arith
+last_time-tail_after t r (step.Exchange e) = omega arith
+
+-- a record that is fed is not before the tail
+pub in_order : (last : Option ℕ) (before now : ℕ) → IsNotBefore last before → ForSome last (λ time. time ≤ now) → before ≤ now
+in_order None before now h k = omega arith
+in_order (Some time) before now h k = let t = k time refl in omega arith
+
+-- the command's records without the last one, from the tail that begins with them
+pub body_again : (t : List LineByte) → IsTail t → place_of t ≡ InReply → take (length (take (block_len t) t) - 1) (take (block_len t) t) ≡ take (block_len t - 1) t
+body_again t h p =
+    let parts = reply_parts t h p in
+    ap (λ (l : List LineByte). take (length l - 1) l) parts.place.first ∙ sym parts.place.body

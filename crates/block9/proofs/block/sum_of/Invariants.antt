@@ -1,0 +1,6 @@
+use Rattle.std.proofs.Common.{◌≡◌, ◌%◌, take}
+use Rattle.std.specs.List.{sum}
+use Rattle.block9.proofs.block.sum_of.Given as goal
+
+abbrev pub invariant-loop-byte : goal.invariant-loop-byte
+invariant-loop-byte l = l.total ≡ sum (take l.byte-index l.bytes) % 256

@@ -1,0 +1,28 @@
+-- What a block is, and how it is spelled on the line.
+use Rattle.std.specs.Prelude.{ℕ, ◌+◌, ◌*◌, ◌/◌, ◌%◌, ◌<◌, ◌≤◌, ◌≡◌, List, [], ◌∷◌, ◌++◌, length}
+use Rattle.std.specs.List.{sum}
+use Rattle.block9.specs.declared.block.Block.{Block}
+
+-- a group is below 16, and there are 0 to 15 data bytes
+pub record IsBlock (b : Block) : Type 0 where
+  pub group : b.group < 16
+  pub data_bytes : length b.bytes.items ≤ 15
+
+-- the bytes before the sum: the group and the number of data bytes in one byte, the code, the data
+abbrev pub body_of : Block → List ℕ
+body_of b = (16 * b.group + length b.bytes.items) ∷ b.code ∷ b.bytes.items
+
+-- a block as it is sent: its body, and the sum of the body's bytes modulo 256
+abbrev pub spelling : Block → List ℕ
+spelling b = body_of b ++ sum (body_of b) % 256 ∷ []
+
+-- these bytes are the spelling of this block
+pub record Spells (bytes : List ℕ) (b : Block) : Type 0 where
+  pub block : IsBlock b
+  pub spelled : bytes ≡ spelling b
+
+-- the block with this body
+abbrev pub block_of : List ℕ → Block
+block_of [] = record { group = 0; code = 0; bytes = record { items = [] } }
+block_of (first ∷ []) = record { group = first / 16; code = 0; bytes = record { items = [] } }
+block_of (first ∷ code ∷ bytes) = record { group = first / 16; code = code; bytes = record { items = bytes } }

@@ -1,0 +1,63 @@
+-- Exchanges, tails, and how a list of records is cut into them.
+use Rattle.std.specs.Prelude.{◌+◌, ◌≤◌, ◌≡◌, true, Some, List, [], ◌∷◌, ◌++◌}
+use Rattle.capture9.specs.declared.line_byte.LineByte.{LineByte}
+use Rattle.capture9.specs.declared.line_byte.Wire.TheVariants.{Controller, Deck}
+use Rattle.block9.specs.declared.block.Block.{Block}
+use Rattle.block9.specs.declared.command.Command.{Command}
+use Rattle.block9.specs.declared.pairer.Exchange.{Exchange}
+use Rattle.block9.specs.declared.pairer.Step.{Step}
+use Rattle.block9.specs.declared.pairer.Step.TheVariants as step
+use Rattle.block9.specs.Command.{command_of, fits, is_reply_time_valid}
+use Rattle.block9.specs.Line.{IsWhole, IsBegun, first_time, last_time, reply_limit}
+
+-- a whole command: a block on the controller's wire, with what it means
+pub record IsCommand (records : List LineByte) (b : Block) (c : Command) : Type 0 where
+  pub whole : IsWhole Controller records b
+  pub meaning : command_of b ≡ Some c
+
+-- the reply's first record comes neither before the command's last one nor too late after it
+pub record IsInTime (command reply : List LineByte) : Type 0 where
+  pub later : last_time command ≤ first_time reply
+  pub soon : first_time reply ≤ last_time command + reply_limit
+
+-- the records are a command and its reply
+pub record IsExchange (records : List LineByte) (e : Exchange) : Type 0 where
+  pub asked : List LineByte
+  pub answered : List LineByte
+  pub split : records ≡ asked ++ answered
+  pub command : IsCommand asked e.block e.command
+  pub reply : IsWhole Deck answered e.reply
+  pub in_time : IsInTime asked answered
+  pub delay : last_time asked + e.delay_us ≡ first_time answered
+  pub kind : fits e.command e.reply ≡ true
+  pub valid_time : is_reply_time_valid e.command e.reply ≡ true
+
+-- what may be open at the end: nothing, a command that is begun or whole, or a command and the beginning of its reply
+pub data IsTail (records : List LineByte) : Type 0 where
+  nothing : records ≡ [] → IsTail records
+  in_command : IsBegun Controller records → IsTail records
+  after_command : (b : Block) (c : Command) → IsCommand records b c → IsTail records
+  in_reply : (command reply : List LineByte) (b : Block) (c : Command) → records ≡ command ++ reply → IsCommand command b c → IsBegun Deck reply → IsInTime command reply → IsTail records
+
+-- the records are those of the exchanges, in order, and then the tail
+abbrev pub Cut : List LineByte → List Exchange → List LineByte → Type 0
+Cut records [] tail = (records ≡ tail) × IsTail tail
+Cut records (e ∷ es) tail = (front : List LineByte) × (rest : List LineByte) × (records ≡ front ++ rest) × IsExchange front e × Cut rest es tail
+
+-- the records keep the rules of blocks, pairing and timing: they can be cut
+pub record IsKept (records : List LineByte) : Type 0 where
+  pub exchanges : List Exchange
+  pub tail : List LineByte
+  pub cut : Cut records exchanges tail
+
+-- the tail that a step leaves: it grows by the record, and a whole exchange leaves nothing open
+abbrev pub tail_after : List LineByte → LineByte → Step → List LineByte
+tail_after tail r step.Waiting = tail ++ r ∷ []
+tail_after tail r step.Command = tail ++ r ∷ []
+tail_after tail r (step.Exchange e) = []
+
+-- what a record does that keeps the rules after a tail
+abbrev pub Does : List LineByte → LineByte → Step → Type 0
+Does tail r step.Waiting = IsTail (tail ++ r ∷ []) × ((b : Block) (c : Command) → ¬ IsCommand (tail ++ r ∷ []) b c)
+Does tail r step.Command = (b : Block) × (c : Command) × IsCommand (tail ++ r ∷ []) b c
+Does tail r (step.Exchange e) = IsExchange (tail ++ r ∷ []) e

@@ -1,0 +1,106 @@
+-- Which rule a record breaks after a tail: a table with a line for each rule, in the order in which they count.
+use Rattle.std.specs.Prelude.{◌+◌, ◌-◌, ◌%◌, ◌==◌, nat_lt, nat_le, if◌then◌else◌, Bool, false, Option, Some, None, List, [], ◌∷◌, length, take, drop}
+use Rattle.std.specs.List.{sum}
+use Rattle.std.specs.Option.{option_or}
+use Rattle.capture9.specs.declared.line_byte.LineByte.{LineByte}
+use Rattle.capture9.specs.declared.line_byte.Wire.TheVariants.{Controller, Deck}
+use Rattle.capture9.specs.declared.line_byte.Wire.{Wire}
+use Rattle.block9.specs.declared.command.Command.{Command}
+use Rattle.block9.specs.declared.block.Block.{Block}
+use Rattle.block9.specs.declared.place.Place.{Place}
+use Rattle.block9.specs.declared.place.Place.TheVariants.{Idle, InCommand, AfterCommand, InReply}
+use Rattle.block9.specs.declared.reason.Reason.{Reason}
+use Rattle.block9.specs.declared.reason.Reason.TheVariants.{WrongGroup, WrongSum, ByteGap, ReplyWithoutCommand, ReplyInsideCommand, CommandBeforeReply, CommandInsideReply, WrongReply, InvalidCommandTime, InvalidReplyTime, LateReply, NoReply}
+use Rattle.block9.specs.Block.{block_of}
+use Rattle.block9.specs.Command.{command_of, fits, is_reply_time_valid}
+use Rattle.block9.specs.Line.{allows, block_len, byte_gap, bytes_of, group_in, last_time, reply_limit}
+
+-- where a tail stands, from how many records its first block has
+abbrev pub place_of : List LineByte → Place
+place_of [] = Idle
+place_of (first ∷ more) =
+    if nat_lt (length (first ∷ more)) (block_len (first ∷ more)) then InCommand
+    else (if length (first ∷ more) == block_len (first ∷ more) then AfterCommand else InReply)
+
+-- the records of the block that is open at the end of a tail
+abbrev pub open_at : Place → List LineByte → List LineByte
+open_at Idle tail = []
+open_at InCommand tail = tail
+open_at AfterCommand tail = []
+open_at InReply tail = drop (block_len tail) tail
+
+-- the record is the last one of the block that is open
+abbrev pub ends_block : List LineByte → Bool
+ends_block [] = false
+ends_block (first ∷ more) = length (first ∷ more) + 1 == block_len (first ∷ more)
+
+-- whether a reply that begins at this record, or a command that does, is within the reply limit
+abbrev pub is_soon : List LineByte → LineByte → Bool
+is_soon tail r = nat_le r.time_us (last_time tail + reply_limit)
+
+-- whether this record comes soon enough after the one before it in its block
+abbrev pub is_linked : List LineByte → LineByte → Bool
+is_linked tail r = nat_le r.time_us (last_time tail + byte_gap)
+
+-- a record on the wire whose turn it is not
+abbrev pub wire_fault : Place → Wire → Bool → Option Reason
+wire_fault Idle Controller soon = None
+wire_fault Idle Deck soon = Some ReplyWithoutCommand
+wire_fault InCommand Controller soon = None
+wire_fault InCommand Deck soon = Some ReplyInsideCommand
+wire_fault AfterCommand Controller soon = if soon then Some CommandBeforeReply else Some NoReply
+wire_fault AfterCommand Deck soon = None
+wire_fault InReply Controller soon = Some CommandInsideReply
+wire_fault InReply Deck soon = None
+
+-- a record that comes too late: to begin a reply, or to go on with a block
+abbrev pub time_fault : Place → Bool → Bool → Option Reason
+time_fault Idle soon linked = None
+time_fault InCommand soon linked = if linked then None else Some ByteGap
+time_fault AfterCommand soon linked = if soon then None else Some LateReply
+time_fault InReply soon linked = if linked then None else Some ByteGap
+
+-- a first byte whose group the wire does not allow
+abbrev pub group_fault : Place → Bool → Option Reason
+group_fault Idle allowed = if allowed then None else Some WrongGroup
+group_fault InCommand allowed = None
+group_fault AfterCommand allowed = if allowed then None else Some WrongGroup
+group_fault InReply allowed = None
+
+-- a last byte that is not the sum of the bytes before it
+abbrev pub sum_fault : List LineByte → LineByte → Option Reason
+sum_fault current r = if r.byte == sum (bytes_of current) % 256 then None else Some WrongSum
+
+-- a command with no meaning, since its time is not valid
+abbrev pub command_fault : Option Command → Option Reason
+command_fault None = Some InvalidCommandTime
+command_fault (Some c) = None
+
+-- a reply to a command with no meaning, of a kind that the command may not have, or with a time that is not valid
+abbrev pub reply_fault : Option Command → Block → Option Reason
+reply_fault None reply = Some InvalidCommandTime
+reply_fault (Some c) reply = if fits c reply then (if is_reply_time_valid c reply then None else Some InvalidReplyTime) else Some WrongReply
+
+-- what the last record of a block breaks beside its sum; the block has the open records as its body
+abbrev pub meaning_fault : Place → List LineByte → List LineByte → Option Reason
+meaning_fault Idle tail current = None
+meaning_fault InCommand tail current = command_fault (command_of (block_of (bytes_of current)))
+meaning_fault AfterCommand tail current = None
+meaning_fault InReply tail current = reply_fault (command_of (block_of (bytes_of (take (block_len tail - 1) tail)))) (block_of (bytes_of current))
+
+abbrev pub end_fault : Place → List LineByte → List LineByte → LineByte → Option Reason
+end_fault place tail current r =
+    if ends_block current then option_or (sum_fault current r) (meaning_fault place tail current) else None
+
+-- what a record breaks by its turn, its time or its group
+abbrev pub early_fault : Place → List LineByte → LineByte → Option Reason
+early_fault place tail r =
+    option_or (option_or (wire_fault place r.wire (is_soon tail r)) (time_fault place (is_soon tail r) (is_linked tail r)))
+    (group_fault place (allows r.wire (group_in r.byte)))
+
+-- the reason that stands first in the table, if the record breaks a rule
+abbrev pub fault_at : Place → List LineByte → LineByte → Option Reason
+fault_at place tail r = option_or (early_fault place tail r) (end_fault place tail (open_at place tail) r)
+
+abbrev pub pairing : List LineByte → LineByte → Option Reason
+pairing tail r = fault_at (place_of tail) tail r

@@ -1,0 +1,71 @@
+//! A block of the protocol.
+ghost use Rattle.std.specs.Prelude.{◌≡◌, ℕ, ◌%◌, ◌≤◌, IfSome, IfNone, length};
+ghost use Rattle.std.specs.List.{sum};
+
+use arrayvec::ArrayVec;
+
+/// A block: a group, a code, and 0 to 15 data bytes.
+///
+/// On the line stand the group and the number of data bytes in one byte, the code, the data, and the sum
+/// of all these bytes modulo 256 (the protocol manual).
+#[derive(Debug, Drop, PartialEq, Eq)]
+pub struct Block {
+    /// The high four bits of the first byte, so below 16: what kind of message it is.
+    pub group: u8,
+    /// The second byte: which message of its group it is.
+    pub code: u8,
+    /// The data bytes, as many as the low four bits of the first byte say.
+    pub bytes: ArrayVec<u8, 15>,
+}
+
+impl Block {
+    ghost use Rattle.std.specs.Prelude.{◌≡◌, ◌≤◌, IfSome, IfNone, length};
+    ghost use Rattle.block9.specs.Block.{Spells, block_of};
+
+    /// The block that these bytes spell, its sum included.
+    ///
+    /// `None` exactly where they are not the spelling of one whole block: there are fewer or more of them
+    /// than the first byte says, or the last one is not the sum.
+    pub fn from_bytes(bytes: &[u8]) -> Option<Block>
+        ensures some { IfSome result (Spells bytes.now) }
+        ensures none { IfNone result ((b : Block) → ¬ Spells bytes.now b) }
+    {
+        let (sum, body) = bytes.split_last()?;
+        let first = body.first()?;
+        if body.len() != usize::from(*first % 16) + 2 || sum_of(body) != *sum {
+            return None;
+        }
+        Some(Block::of_body(body))
+    }
+
+    /// The block with this body: the bytes before the sum.
+    pub(crate) fn of_body(body: &[u8]) -> Block
+        requires code { 2 ≤ length body.now }
+        requires data { length body.now ≤ 17 }
+        ensures { result ≡ block_of body.now }
+    {
+        let mut bytes = ArrayVec::new();
+        for byte in &body[2..] {
+            bytes.push(*byte);
+        }
+        Block {
+            group: body[0] / 16,
+            code: body[1],
+            bytes,
+        }
+    }
+}
+
+/// The sum of the bytes, modulo 256.
+pub(crate) fn sum_of(bytes: &[u8]) -> u8
+    ensures { result ≡ sum bytes.now % 256 }
+{
+    let mut total = 0u8;
+    for byte in bytes {
+        total = total.wrapping_add(*byte);
+    }
+    total
+}
+
+#[cfg(test)]
+mod tests;

@@ -1,0 +1,30 @@
+//! Blocks of the protocol, and the pairing of commands and replies, one record at a time.
+//!
+//! A `Block` is what bytes on the line spell, and a `Command` is what a block of the controller means. A
+//! `Pairer` takes the captured bytes in turn and answers each `Exchange`, a command with its reply, or the
+//! `Reason` why a record breaks the rules.
+#![tactic(auto)]
+
+mod block;
+mod command;
+mod line;
+mod pairer;
+mod place;
+mod reason;
+mod rules;
+
+pub use block::Block;
+pub use command::{Command, reply_time_valid};
+pub use pairer::{Exchange, Pairer, Step};
+pub use reason::Reason;
+
+/// The longest time between neighbouring records of one block, in microseconds.
+///
+/// The protocol manual's gap of 10 ms, and the 287 microseconds that a byte takes on the line (eleven bits
+/// at 38,400 a second, rounded up): a tap may stamp either edge of a byte.
+pub const BYTE_GAP_US: u64 = 10_287;
+
+/// The longest time from a command's last record to its reply's first one, in microseconds.
+///
+/// The protocol manual's 9 ms, and the time of a byte for the same reason as in [`BYTE_GAP_US`].
+pub const REPLY_LIMIT_US: u64 = 9_287;

@@ -1,0 +1,211 @@
+//! Pairs commands with replies, one record at a time.
+ghost use Rattle.std.specs.Prelude.{◌≡◌, ◌≤◌, ◌-◌, length, take, drop, true, IfOk, IfErr, Some, None};
+ghost use Rattle.block9.specs.Block.{block_of};
+ghost use Rattle.block9.specs.Command.{command_of, fits, is_reply_time_valid};
+ghost use Rattle.block9.specs.Exchange.{IsTail, tail_after};
+ghost use Rattle.block9.specs.Line.{block_len, bytes_of, last_time};
+ghost use Rattle.block9.specs.Pairing.{early_fault, pairing, place_of, reply_fault};
+ghost use Rattle.block9.specs.Reading.{Answers, Closes};
+
+use crate::block::{Block, sum_of};
+use crate::command::{Command, reply_time_valid};
+use crate::line::{block_len, bytes_of, ends_block, first_time, last_time};
+use crate::place::Place;
+use crate::reason::Reason;
+use crate::{BYTE_GAP_US, REPLY_LIMIT_US, rules};
+use arrayvec::ArrayVec;
+use capture9::LineByte;
+use std::marker::Model;
+
+/// A whole command and its whole reply.
+#[derive(Debug, Drop, PartialEq, Eq)]
+pub struct Exchange {
+    /// What the command's block means.
+    pub command: Command,
+    /// The command's block.
+    pub block: Block,
+    /// The reply's block.
+    pub reply: Block,
+    /// The time from the command's last record to the reply's first one, in microseconds: at most
+    /// [`REPLY_LIMIT_US`].
+    pub delay_us: u64,
+}
+
+/// What a record does that keeps the rules.
+#[derive(Debug, Drop, PartialEq, Eq)]
+pub enum Step {
+    /// It begins a block or goes on with one.
+    Waiting,
+    /// It is the last record of a command, whose reply is still to come.
+    Command,
+    /// It is the last record of a reply: this exchange is whole.
+    Exchange(Exchange),
+}
+
+/// The rule that the record breaks before its block is whole: its turn, its time, its group.
+fn early_fault(place: Place, tail: &[LineByte], line_byte: LineByte) -> Option<Reason>
+    requires later { last_time tail.now ≤ line_byte.time_us }
+    ensures { result ≡ early_fault place tail.now line_byte }
+{
+    let since_us = line_byte.time_us - last_time(tail);
+    let soon = since_us <= REPLY_LIMIT_US;
+    rules::wire_fault(place, line_byte.wire, soon)
+        .or(rules::time_fault(place, soon, since_us <= BYTE_GAP_US))
+        .or(rules::group_fault(place, rules::allows(line_byte.wire, line_byte.byte / 16)))
+}
+
+/// The exchange that the tail and a whole reply are.
+fn exchange_of(tail: &[LineByte], reply: Block) -> Result<Exchange, Reason>
+    requires tail { IsTail tail.now }
+    requires in_reply { place_of tail.now ≡ Place.InReply }
+    requires reply { reply ≡ block_of (bytes_of (drop (block_len tail.now) tail.now)) }
+    ensures ok { IfOk result (λ e. Closes tail.now e × (fits e.command e.reply ≡ true) × (is_reply_time_valid e.command e.reply ≡ true)) }
+    ensures err { IfErr result (λ reason. reply_fault (command_of (block_of (bytes_of (take (block_len tail.now - 1) tail.now)))) reply ≡ Some reason) }
+{
+    let (asked, answered) = tail.split_at(block_len(tail));
+    let block = Block::of_body(bytes_of(&asked[..asked.len() - 1]).as_slice());
+    let command = Command::of(&block).ok_or(Reason::InvalidCommandTime)?;
+    if !command.fits(&reply) {
+        return Err(Reason::WrongReply);
+    }
+    if !reply_time_valid(&command, &reply) {
+        return Err(Reason::InvalidReplyTime);
+    }
+    let delay_us = first_time(answered) - last_time(asked);
+    Ok(Exchange {
+        command,
+        block,
+        reply,
+        delay_us,
+    })
+}
+
+/// What the record does after the tail: the step, or the first rule that it breaks.
+fn answer(tail: &[LineByte], line_byte: LineByte) -> Result<Step, Reason>
+    requires tail { IsTail tail.now }
+    requires later { last_time tail.now ≤ line_byte.time_us }
+    ensures ok { IfOk result (λ step. (pairing tail.now line_byte ≡ None) × Answers tail.now step) }
+    ensures err { IfErr result (λ reason. pairing tail.now line_byte ≡ Some reason) }
+{
+    let place = Place::of(tail);
+    if let Some(reason) = early_fault(place, tail, line_byte) {
+        return Err(reason);
+    }
+    let current = place.open_in(tail);
+    if !ends_block(current) {
+        return Ok(Step::Waiting);
+    }
+    let body = bytes_of(current);
+    if sum_of(body.as_slice()) != line_byte.byte {
+        return Err(Reason::WrongSum);
+    }
+    let block = Block::of_body(body.as_slice());
+    if place == Place::InReply {
+        return exchange_of(tail, block).map(Step::Exchange);
+    }
+    match Command::of(&block) {
+        Some(_) => Ok(Step::Command),
+        None => Err(Reason::InvalidCommandTime),
+    }
+}
+
+/// Leaves the tail as the step does: with the record, or with nothing after a whole exchange.
+fn advance(tail: &mut ArrayVec<LineByte, 35>, line_byte: LineByte, step: &Step)
+    requires { length (tail_after tail.old.items line_byte step.now) ≤ 35 }
+    ensures { tail.new.items ≡ tail_after tail.old.items line_byte step.now }
+{
+    match step {
+        Step::Waiting | Step::Command => tail.push(line_byte),
+        Step::Exchange(_) => tail.clear(),
+    }
+}
+
+/// Pairs commands with replies, one record at a time.
+///
+/// It holds its tail, which is the records since the last whole exchange: at most a command of 18 records
+/// and 17 of its reply. Once a record broke a rule it holds the reason instead. No call takes memory.
+#[derive(Drop)]
+pub struct Pairer {
+    tail: ArrayVec<LineByte, 35>,
+    last_time: Option<u64>,
+    reason: Option<Reason>,
+}
+
+impl Model for Pairer {
+    ghost use Rattle.block9.specs.Paired.{Paired, IsSound};
+
+    ghost Value = { Paired };
+
+    ghost view = { λ p. record { tail = p.tail.items; last_time = p.last_time; reason = p.reason } };
+
+    ghost invariant = { λ p. IsSound p.tail.items p.last_time };
+}
+
+impl Pairer {
+    ghost use Rattle.std.specs.Prelude.{◌≡◌, ◌≤◌, length, None, Some, [], IfOk, IfErr};
+    ghost use Rattle.std.specs.Option.{ForSome};
+    ghost use Rattle.block9.specs.Paired.{Takes, Refuses};
+
+    /// A pairer that was fed nothing: it has no tail, no last time and no reason.
+    pub fn new() -> Pairer
+        ensures { result ≡ record { tail = []; last_time = None; reason = None } }
+    {
+        Pairer {
+            tail: ArrayVec::new(),
+            last_time: None,
+            reason: None,
+        }
+    }
+
+    /// Takes the next record, whose time is not below the last one's.
+    ///
+    /// `Ok` says what the record does. The tail then has it at its end, and is empty after a whole
+    /// exchange.
+    ///
+    /// `Err` is the first rule that the record breaks, in the order that [`Reason`] gives and the
+    /// table in `specs/Pairing.antt` states: the records so far keep the rules, and with this one they do not. Every later
+    /// call answers the same reason and changes nothing. [`Reason::NoRun`] is never among them.
+    ///
+    /// The rules are the protocol manual's; where it leaves a choice, this profile favours the deck.
+    pub fn feed(&mut self, line_byte: LineByte) -> Result<Step, Reason>
+        requires { ForSome self.old.last_time (λ before. before ≤ line_byte.time_us) }
+        ensures takes { self.old.reason ≡ None → IfOk result (λ step. Takes self.old line_byte step self.new) }
+        ensures refuses { self.old.reason ≡ None → IfErr result (λ reason. Refuses self.old line_byte reason self.new) }
+        ensures again { (reason : Reason) → self.old.reason ≡ Some reason
+            → (result ≡ Err reason) × (self.new ≡ self.old) }
+    {
+        if let Some(reason) = self.reason {
+            return Err(reason);
+        }
+        self.last_time = Some(line_byte.time_us);
+        let step = match answer(self.tail.as_slice(), line_byte) {
+            Ok(step) => step,
+            Err(reason) => {
+                self.reason = Some(reason);
+                return Err(reason);
+            }
+        };
+        advance(&mut self.tail, line_byte, &step);
+        Ok(step)
+    }
+
+    /// The time of the last record that it was fed, in microseconds, and `None` before the first. After a
+    /// reason it stays that of the record which broke the rule.
+    pub fn last_time(&self) -> Option<u64>
+        ensures { result ≡ self.now.last_time }
+    {
+        self.last_time
+    }
+
+    /// How many records came since the last whole exchange, at most 35. Not asked after a reason.
+    pub fn tail_len(&self) -> usize
+        requires { self.now.reason ≡ None }
+        ensures len { result ≡ length self.now.tail }
+        ensures bound { result ≤ 35 }
+    {
+        self.tail.len()
+    }
+}
+
+#[cfg(test)]
+mod tests;

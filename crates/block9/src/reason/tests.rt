@@ -1,0 +1,33 @@
+//! The names and the texts of the reasons, by hand.
+
+use crate::Reason;
+
+#[test]
+fn names_and_texts(rt: HostRuntime) {
+    for (reason, name, text) in [
+        (Reason::WrongGroup, "B1", "wrong group for this wire"),
+        (Reason::WrongSum, "B2", "wrong sum"),
+        (Reason::ByteGap, "B3", "gap inside a block"),
+        (Reason::ReplyWithoutCommand, "P1", "reply without a command"),
+        (
+            Reason::ReplyInsideCommand,
+            "P2",
+            "reply before the end of the command",
+        ),
+        (Reason::CommandBeforeReply, "P3", "command before the reply"),
+        (Reason::CommandInsideReply, "P4", "command inside a reply"),
+        (Reason::WrongReply, "P5", "wrong kind of reply"),
+        (
+            Reason::InvalidCommandTime,
+            "P6",
+            "invalid time in a command",
+        ),
+        (Reason::InvalidReplyTime, "P7", "invalid time in a reply"),
+        (Reason::LateReply, "L1", "late reply"),
+        (Reason::NoReply, "L2", "no reply"),
+        (Reason::NoRun, "M1", "no run remains"),
+    ] {
+        assert_eq!(rt; reason.name(), name, "{reason:?}");
+        assert_eq!(rt; reason.text(), text, "{reason:?}");
+    }
+}

@@ -1,0 +1,23 @@
+-- A list of records that were read so far, against the text's rows.
+use Rattle.std.proofs.Common.{◌≡◌, ℕ, List, ◌++◌, Option, Some, None}
+use Rattle.std.specs.Prelude.{IfSome, option_map, ⊤}
+use Rattle.capture9.specs.declared.error.CaptureError.{CaptureError}
+use Rattle.capture9.specs.declared.line_byte.LineByte.{LineByte}
+use Rattle.capture9.specs.Capture.{WasRead}
+use Rattle.capture9.specs.Rows.{Rows, rows_of}
+
+-- these records were read of those rows, and the rest is still to come
+pub record IsRest (all : Rows) (items : List LineByte) (rest : Rows) : Type 0 where
+  pub records : all.records ≡ items ++ rest.records
+  pub fault : all.fault ≡ rest.fault
+
+-- the same where the rows are known
+abbrev pub IsReadUpTo : Option Rows → List LineByte → Option Rows → Type 0
+IsReadUpTo None items now = ⊤
+IsReadUpTo (Some all) items now = (rest : Rows) × (now ≡ Some rest) × IsRest all items rest
+
+-- what holds of the rows of a text
+pub of-text : (known : Option (List ℕ)) (items : List LineByte) (wrong : Option CaptureError) → IfSome (option_map rows_of known) (λ all. WasRead all items wrong)
+    → IfSome known (λ text. WasRead (rows_of text) items wrong)
+of-text None items wrong h = tt
+of-text (Some text) items wrong h = h

@@ -1,0 +1,17 @@
+-- The list has the records given so far, and the rest of the text's rows is still to come.
+use Rattle.std.proofs.Common.{◌-◌, ◌≡◌, ◌≤◌, [], false, length}
+use Rattle.capture9.specs.declared.records.Standing.TheVariants as standing
+use Rattle.capture9.proofs.CaptureFacts.{IsReadUpTo}
+use Rattle.capture9.proofs.capture.read_into.Given as goal
+
+abbrev pub invariant-loop-record : goal.invariant-loop-record
+invariant-loop-record g l = record {
+  reading : l.records.standing ≡ standing.Reading;
+  given : l.records.given ≡ length l.rows.items;
+  within : l.records.given ≤ 4000000;
+  headed : l.records.is_headed ≡ false → l.rows.items ≡ [];
+  rows : IsReadUpTo l.fn.records.rows l.rows.items l.records.rows;
+}
+
+abbrev pub decreases-loop-record : goal.decreases-loop-record
+decreases-loop-record g l = 4000000 - l.records.given

@@ -1,0 +1,5 @@
+pub mod Capture
+pub mod Coming
+pub mod Fields
+pub mod Rows
+pub mod Unread

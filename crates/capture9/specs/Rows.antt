@@ -1,0 +1,64 @@
+-- What a text of a capture holds.
+use Rattle.std.specs.Prelude.{ℕ, ◌+◌, List, [], ◌∷◌, Option, Some, None, Result, Ok, Err, nat_lt, if◌then◌else◌}
+use Rattle.csv.specs.Reading.{default_config, records, strip_bom}
+use Rattle.capture9.specs.declared.error.CaptureError.{CaptureError}
+use Rattle.capture9.specs.declared.error.CaptureKind.{CaptureKind}
+use Rattle.capture9.specs.declared.error.CaptureKind.TheVariants as kind
+use Rattle.capture9.specs.declared.line_byte.LineByte.{LineByte}
+use Rattle.capture9.specs.declared.line_byte.Wire.{Wire}
+use Rattle.capture9.specs.Fields.{is_header, time_of, wire_of, byte_of}
+
+-- what a text holds: the records of its good rows, and the fault of the first bad one
+pub record Rows : Type 0 where
+  pub records : List LineByte
+  pub fault : Option CaptureError
+
+-- no row
+abbrev pub no_rows : Rows
+no_rows = record { records = []; fault = None }
+
+-- a bad row: it and what follows have no records
+abbrev pub bad_row : CaptureKind → ℕ → Rows
+bad_row k number = record { records = []; fault = Some (record { kind = k; row = number }) }
+
+-- a good row, and the rows after it
+abbrev pub good_row : LineByte → Rows → Rows
+good_row r rest = record { records = r ∷ rest.records; fault = rest.fault }
+
+-- the record of three fields that are read so, after a row of this time, or the first that is spelled wrong
+abbrev pub record_of : ℕ → Option ℕ → Option Wire → Option ℕ → Result LineByte CaptureKind
+record_of before None wire byte = Err kind.Time
+record_of before (Some time) None byte = Err kind.Wire
+record_of before (Some time) (Some wire) None = Err kind.Byte
+record_of before (Some time) (Some w) (Some b) =
+    if nat_lt time before then Err kind.Backwards else Ok (record { time_us = time; wire = w; byte = b })
+
+-- the record of these fields, of which there must be three
+abbrev pub fields_record : ℕ → List (List ℕ) → Result LineByte CaptureKind
+fields_record before (time ∷ wire ∷ byte ∷ []) = record_of before (time_of time) (wire_of wire) (byte_of byte)
+fields_record before _ = Err kind.Fields
+
+-- the record of the row with this number and these fields, after a row of this time (0 at first), or the
+-- first rule that the row breaks
+abbrev pub row_of : ℕ → ℕ → List (List ℕ) → Result LineByte CaptureKind
+row_of number before fields = if nat_lt 4000000 number then Err kind.TooMany else fields_record before fields
+
+-- what a row and the rows after it hold, which depend on the row's time
+abbrev pub row_then : ℕ → Result LineByte CaptureKind → (ℕ → Rows) → Rows
+row_then number (Ok r) rest = good_row r (rest r.time_us)
+row_then number (Err k) rest = bad_row k number
+
+-- what the rows from the one with this number on hold; the first bad row ends the list
+abbrev pub rows_from : ℕ → ℕ → List (List (List ℕ)) → Rows
+rows_from number before [] = no_rows
+rows_from number before (fields ∷ rest) =
+    row_then number (row_of number before fields) (λ time. rows_from (number + 1) time rest)
+
+-- what CSV records hold: first the header, and then data rows, numbered from 1
+abbrev pub headed_rows : List (List (List ℕ)) → Rows
+headed_rows [] = bad_row kind.Header 0
+headed_rows (fields ∷ rest) = if is_header fields then rows_from 1 0 rest else bad_row kind.Header 0
+
+-- what a text holds, by its bytes; a byte order mark before the header is no part of it
+abbrev pub rows_of : List ℕ → Rows
+rows_of text = headed_rows (records default_config (strip_bom text))

@@ -1,0 +1,73 @@
+-- What the fields of a `Records` tell of the rows that are still to come.
+use Rattle.std.specs.Prelude.{◌≡◌, ℕ, ◌+◌, ◌≤◌, ◌↔◌, Bool, true, false, List, [], ◌∷◌, Option, Some, None, length, option_map, IfSome, IsTrue, if◌then◌else◌}
+use Rattle.csv.specs.Reading.{Ready, default_config, is_flexible, reader_config, reader_state, reader_trim, records_from, source_of}
+use Rattle.csv.specs.declared.parser.State.{State}
+use Rattle.csv.specs.declared.reader.Reader.{Reader}
+use Rattle.csv.specs.declared.reader.Trim.TheVariants as trim
+use Rattle.capture9.specs.declared.records.Standing.{Standing}
+use Rattle.capture9.specs.declared.records.Standing.TheVariants as standing
+use Rattle.capture9.specs.declared.error.CaptureError.{CaptureError}
+use Rattle.capture9.specs.declared.error.CaptureKind.TheVariants as kind
+use Rattle.capture9.specs.Coming.{Coming, is_of_text}
+use Rattle.capture9.specs.Rows.{Rows, bad_row, headed_rows, no_rows, rows_from}
+
+-- the CSV records of a text, from a state of the machine that reads CSV
+abbrev pub records_at : State → List ℕ → List (List (List ℕ))
+records_at s bytes = records_from default_config (length bytes + 1) s bytes
+
+-- the CSV records that a reader has still to read, where its bytes are known
+abbrev pub unread_records : {R : Type 0} → (R → Option (List ℕ)) → Reader R → Option (List (List (List ℕ)))
+unread_records remaining r = option_map (records_at (reader_state r)) (source_of remaining r)
+
+-- what those records hold, by whether the header was read, the rows given and the time of the last
+abbrev pub unread_rows : Bool → ℕ → ℕ → List (List (List ℕ)) → Rows
+unread_rows is_headed given last_time unread =
+    if is_headed then rows_from (given + 1) last_time unread else headed_rows unread
+
+-- the rows that are still to come
+abbrev pub rows_to_come : Standing → Bool → ℕ → ℕ → Option (List (List (List ℕ))) → Option Rows
+rows_to_come standing.Reading is_headed given last_time unread = option_map (unread_rows is_headed given last_time) unread
+rows_to_come standing.Ended is_headed given last_time unread = Some no_rows
+rows_to_come (standing.Refused e) is_headed given last_time unread = None
+
+-- how callers see a `Records` with these fields
+abbrev pub coming_of : Standing → Bool → ℕ → ℕ → Option (List (List (List ℕ))) → Coming
+coming_of s headed count time unread =
+    record { rows = rows_to_come s headed count time unread; given = count; is_headed = headed; last_time = time; standing = s }
+
+-- a reader that takes every record as it stands: commas, no trimming, any number of fields, no header of its own
+pub record IsPlain {R : Type 0} (r : Reader R) : Type 0 where
+  pub config : reader_config r ≡ default_config
+  pub trim : reader_trim r ≡ trim.None
+  pub flexible : is_flexible r ≡ true
+  pub ready : Ready r
+
+-- what the fields of a `Records` keep
+pub record IsSound {R : Type 0} (s : Standing) (is_headed : Bool) (given last_time : ℕ) (r : Reader R) : Type 0 where
+  pub plain : s ≡ standing.Reading → IsPlain r
+  pub within : given ≤ 4000000
+  pub fresh : is_headed ≡ false → (given ≡ 0) × (last_time ≡ 0)
+  pub ended : s ≡ standing.Ended → is_headed ≡ true
+
+-- what a read of a CSV record did: there was one, with these fields, or there was none
+abbrev pub TakesFields : List (List (List ℕ)) → Bool → List (List ℕ) → Option (List (List (List ℕ))) → Type 0
+TakesFields [] found fields after = found ≡ false
+TakesFields (first ∷ rest) found fields after = (found ≡ true) × (fields ≡ first) × (after ≡ Some rest)
+
+-- the header was read, and the rows to come are those that were
+pub record PassesHeader (old new : Coming) : Type 0 where
+  pub standing : new.standing ≡ standing.Reading
+  pub is_headed : new.is_headed ≡ true
+  pub given : new.given ≡ old.given
+  pub last_time : new.last_time ≡ old.last_time
+  pub rows : IfSome old.rows (λ rows. new.rows ≡ Some rows)
+
+-- reading is refused at this row
+pub record RefusesAt (row : ℕ) (old : Coming) (e : CaptureError) (new : Coming) : Type 0 where
+  pub is_refused : new.standing ≡ standing.Refused e
+  pub given : new.given ≡ old.given
+  pub last_time : new.last_time ≡ old.last_time
+  pub rows : new.rows ≡ None
+  pub fault : IsTrue (is_of_text e.kind) → IfSome old.rows (λ rows. rows ≡ bad_row e.kind e.row)
+  pub place : e.row ≡ row
+  pub header : IsTrue (is_of_text e.kind) → (e.kind ≡ kind.Header) ↔ (e.row ≡ 0)

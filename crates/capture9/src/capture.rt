@@ -1,0 +1,68 @@
+//! A whole capture in memory.
+
+ghost use Rattle.std.specs.Prelude.{[], ◌+◌, ◌≡◌, ◌≤◌, length, IfErr, IfSome};
+ghost use Rattle.std.specs.Result.{result_err};
+ghost use Rattle.capture9.specs.Capture.{IsAfter, WasRead};
+ghost use Rattle.capture9.specs.Rows.{rows_of};
+
+use crate::error::{CaptureError, CaptureKind};
+use crate::line_byte::LineByte;
+use crate::records::{Records, Standing};
+use std::alloc::Global;
+use std::io::Read;
+
+/// The records of a capture, up to its first fault.
+#[derive(Drop)]
+pub struct Capture {
+    /// The records before the fault, in the order of the text.
+    pub rows: Vec<LineByte>,
+    /// Why no more was read, where it was not the end of the text.
+    pub fault: Option<CaptureError>,
+}
+
+/// Reads the records of a text, up to its end or its first fault.
+///
+/// A fault is what `Records::next` refuses with, at its row. Where this list can grow no further it is
+/// `OutOfMemory`, at the row of the record that found no room.
+pub fn read_capture<R: Read + Drop>(alloc: Global, reader: R) -> Capture
+    ensures rows { IfSome (R.remaining reader)
+        (λ text. WasRead (rows_of text) result.rows.items result.fault) }
+    ensures place { IfSome result.fault (λ e. IsAfter result.rows.items e) }
+    ensures limit { length result.rows.items ≤ 4000000 }
+{
+    let mut records = Records::new(alloc, reader);
+    let mut rows = Vec::new(alloc);
+    let fault = read_into(&mut rows, &mut records).err();
+    Capture { rows, fault }
+}
+
+/// Reads records into a list, up to the end of the text or the first refusal.
+fn read_into<R: Read + Drop>(
+    rows: &mut Vec<LineByte>,
+    records: &mut Records<R>,
+) -> Result<(), CaptureError>
+    requires empty { rows.old.items ≡ [] }
+    requires reading { records.old.standing ≡ Standing.Reading }
+    requires none_given { records.old.given ≡ 0 }
+    ensures rows { IfSome records.old.rows (λ all. WasRead all rows.new.items (result_err result)) }
+    ensures place { IfErr result (λ e. IsAfter rows.new.items e) }
+    ensures limit { length rows.new.items ≤ 4000000 }
+{
+    while let Some(record) = records.next()? {
+        if rows.push(record).is_err() {
+            return Err(no_room(rows.len()));
+        }
+    }
+    Ok(())
+}
+
+/// Want of memory at the row after so many.
+fn no_room(held: usize) -> CaptureError
+    requires { held ≤ 4000000 }
+    ensures { result ≡ record { kind = CaptureKind.OutOfMemory; row = held + 1 } }
+{
+    CaptureError {
+        kind: CaptureKind::OutOfMemory,
+        row: held as u32 + 1,
+    }
+}

@@ -1,0 +1,125 @@
+//! The fields of a row: from bytes to the record that they spell.
+
+ghost use Rattle.std.specs.Prelude.{◌≡◌, ◌≢◌, ◌∷◌, [], length, MatchOption};
+ghost use Rattle.csv.specs.Records.{fields_of};
+ghost use Rattle.capture9.specs.Fields.{byte_of, hex_digit_of, is_header, time_of, wire_of};
+ghost use Rattle.capture9.specs.Rows.{row_of};
+
+use crate::error::CaptureKind;
+use crate::line_byte::{LineByte, Wire};
+use csv::ByteRecord;
+
+/// The most data rows of a capture.
+const MAX_ROWS: u32 = 4_000_000;
+
+/// The most digits of a time.
+const MAX_TIME_DIGITS: usize = 15;
+
+/// The three fields of a row.
+#[derive(Clone, Copy)]
+struct Columns<'a> {
+    time: &'a [u8],
+    wire: &'a [u8],
+    byte: &'a [u8],
+}
+
+/// The fields of a CSV record, where it has three.
+fn three_columns(row: &ByteRecord) -> Option<Columns<'_>>
+    ensures { MatchOption result (length (fields_of row.now) ≢ 3)
+        (λ c. fields_of row.now ≡ c.time.now ∷ c.wire.now ∷ c.byte.now ∷ []) }
+{
+    if row.len() != 3 {
+        return None;
+    }
+    Some(Columns {
+        time: row.get(0)?,
+        wire: row.get(1)?,
+        byte: row.get(2)?,
+    })
+}
+
+/// Whether a CSV record is the header of a capture.
+pub(crate) fn is_header(row: &ByteRecord) -> bool
+    ensures { result ≡ is_header (fields_of row.now) }
+{
+    match three_columns(row) {
+        Some(names) => {
+            names.time == b"time_us".as_slice()
+                && names.wire == b"wire".as_slice()
+                && names.byte == b"byte".as_slice()
+        },
+        None => false,
+    }
+}
+
+/// The record of the data row with this number, after a row of the time `before`, or the first rule
+/// that the row breaks.
+pub(crate) fn read_row(number: u32, before: u64, row: &ByteRecord) -> Result<LineByte, CaptureKind>
+    ensures { result ≡ row_of number before (fields_of row.now) }
+{
+    if number > MAX_ROWS {
+        return Err(CaptureKind::TooMany);
+    }
+    let columns = three_columns(row).ok_or(CaptureKind::Fields)?;
+    let time_us = read_time(columns.time).ok_or(CaptureKind::Time)?;
+    let wire = read_wire(columns.wire).ok_or(CaptureKind::Wire)?;
+    let byte = read_byte(columns.byte).ok_or(CaptureKind::Byte)?;
+    if time_us < before {
+        return Err(CaptureKind::Backwards);
+    }
+    Ok(LineByte {
+        time_us,
+        wire,
+        byte,
+    })
+}
+
+/// The time that a field tells, in microseconds: 1 to 15 decimal digits.
+fn read_time(field: &[u8]) -> Option<u64>
+    ensures { result ≡ time_of field.now }
+{
+    if field.is_empty() || field.len() > MAX_TIME_DIGITS {
+        return None;
+    }
+    let mut time = 0;
+    for byte in field {
+        if !byte.is_ascii_digit() {
+            return None;
+        }
+        time = time * 10 + u64::from(*byte - b'0');
+    }
+    Some(time)
+}
+
+/// The wire that a field names: `C` or `D`.
+fn read_wire(field: &[u8]) -> Option<Wire>
+    ensures { result ≡ wire_of field.now }
+{
+    match field {
+        b"C" => Some(Wire::Controller),
+        b"D" => Some(Wire::Deck),
+        _ => None,
+    }
+}
+
+/// The byte that a field tells: two hexadecimal digits, of either case.
+fn read_byte(field: &[u8]) -> Option<u8>
+    ensures { result ≡ byte_of field.now }
+{
+    match field {
+        [high, low] => Some(hex_digit(*high)? * 16 + hex_digit(*low)?),
+        _ => None,
+    }
+}
+
+/// The value of a hexadecimal digit.
+fn hex_digit(byte: u8) -> Option<u8>
+    ensures { result ≡ hex_digit_of byte }
+{
+    match byte {
+        b'0'..=b'9' => Some(byte - b'0'),
+        b'a'..=b'f' => Some(byte - b'a' + 10),
+        b'A'..=b'F' => Some(byte - b'A' + 10),
+        _ => None,
+    }
+}

@@ -1,0 +1,186 @@
+//! The records of a text, one at a time.
+
+ghost use Rattle.std.specs.Prelude.{◌≡◌, ◌+◌, ◌≤◌, true, false, IfErr, IfNone, IfOk, IfSome, OnOk, option_map};
+ghost use Rattle.csv.specs.Records.{fields_of};
+ghost use Rattle.capture9.specs.Coming.{GivesEnd, GivesRecord, GivesRefusal, is_of_text};
+ghost use Rattle.capture9.specs.Rows.{rows_of};
+ghost use Rattle.capture9.specs.Unread.{IsPlain, PassesHeader, RefusesAt, TakesFields, unread_records};
+
+use crate::error::{CaptureError, CaptureKind};
+use crate::fields;
+use crate::line_byte::LineByte;
+use csv::{ByteRecord, ErrorKind, Reader, ReaderBuilder};
+use std::alloc::Global;
+use std::io::Read;
+use std::marker::Model;
+
+/// Whether a `Records` reads on.
+#[derive(Clone, Copy, Debug, PartialEq, Eq)]
+pub enum Standing {
+    /// It reads on.
+    Reading,
+    /// The text has ended.
+    Ended,
+    /// Reading was refused.
+    Refused(CaptureError),
+}
+
+/// The records of a capture's text, read one at a time.
+///
+/// A contract sees it as what is still to come of the text's rows, the number of records given, whether
+/// the header was read, the time of the last record, and whether it reads on.
+#[derive(Drop)]
+pub struct Records<R: Read + Drop> {
+    reader: Reader<R>,
+    row: ByteRecord,
+    given: u32,
+    is_headed: bool,
+    last_time: u64,
+    standing: Standing,
+}
+
+impl<R: Read + Drop> Model for Records<R> {
+    ghost use Rattle.capture9.specs.Coming.{Coming};
+
+    ghost Value = { Coming };
+
+    ghost use Rattle.capture9.specs.Unread.{IsSound, coming_of, unread_records};
+
+    ghost view = { λ r. coming_of r.standing r.is_headed r.given r.last_time (unread_records R.remaining r.reader) };
+
+    ghost invariant = { λ r. IsSound r.standing r.is_headed r.given r.last_time r.reader };
+}
+
+impl<R: Read + Drop> Records<R> {
+    /// The records of the text that a reader gives. It reads nothing yet, and takes no memory.
+    pub fn new(alloc: Global, reader: R) -> Records<R>
+        ensures { result ≡ record {
+          rows = option_map rows_of (R.remaining reader);
+          given = 0;
+          is_headed = false;
+          last_time = 0;
+          standing = Standing.Reading;
+        } }
+    {
+        Records {
+            // A row may have any number of fields here, since the number is a rule of its own; a byte
+            // order mark before the header is taken away by `csv` itself, and is no part of the text.
+            reader: ReaderBuilder::new()
+                .has_headers(false)
+                .flexible(true)
+                .from_reader(alloc, reader),
+            row: ByteRecord::new(alloc),
+            given: 0,
+            is_headed: false,
+            last_time: 0,
+            standing: Standing::Reading,
+        }
+    }
+
+    /// Gives the next record of the text, or None after the last.
+    ///
+    /// A refusal is `Read` where the reader fails, `OutOfMemory` where there is no room for the row, and
+    /// else the first rule that the row breaks. Its row is the data row in question, counted from 1, and
+    /// 0 while the header is being read, which the first call does.
+    ///
+    /// After the end it gives None each time, and after a refusal the same refusal each time, and reads
+    /// no more: it asks `csv` for 4,000,002 records at most, the header and a row too many included.
+    pub fn next(&mut self) -> Result<Option<LineByte>, CaptureError>
+        ensures given { IfOk result (λ o. IfSome o (λ r. GivesRecord self.old r self.new)) }
+        ensures ended { IfOk result (λ o. IfNone o (GivesEnd self.old self.new)) }
+        ensures refused { IfErr result (λ e. GivesRefusal self.old e self.new) }
+        ensures after_end { self.old.standing ≡ Standing.Ended
+            → (result ≡ Ok None) × (self.new ≡ self.old) }
+        ensures after_refusal { (e : CaptureError) → self.old.standing ≡ Standing.Refused e
+            → (result ≡ Err e) × (self.new ≡ self.old) }
+        ensures within { self.new.given ≤ 4000000 }
+    {
+        match self.standing {
+            Standing::Reading => {}
+            Standing::Ended => return Ok(None),
+            Standing::Refused(error) => return Err(error),
+        }
+        if !self.is_headed {
+            self.read_header()?;
+        }
+        self.read_row()
+    }
+
+    /// Reads the first CSV record, which has to be the header.
+    fn read_header(&mut self) -> Result<(), CaptureError>
+        requires reading { self.old.standing ≡ Standing.Reading }
+        requires first { self.old.is_headed ≡ false }
+        ensures ok { OnOk result (PassesHeader self.old self.new) }
+        ensures err { IfErr result (λ e. RefusesAt 0 self.old e self.new) }
+    {
+        let kind = match read_record(&mut self.reader, &mut self.row) {
+            Ok(found) => {
+                if found && fields::is_header(&self.row) {
+                    self.is_headed = true;
+                    return Ok(());
+                }
+                CaptureKind::Header
+            }
+            Err(kind) => kind,
+        };
+        Err(refuse(&mut self.standing, kind, 0))
+    }
+
+    /// Reads the next CSV record, which is a data row.
+    fn read_row(&mut self) -> Result<Option<LineByte>, CaptureError>
+        requires reading { self.old.standing ≡ Standing.Reading }
+        requires headed { self.old.is_headed ≡ true }
+        ensures given { IfOk result (λ o. IfSome o (λ r. GivesRecord self.old r self.new)) }
+        ensures ended { IfOk result (λ o. IfNone o (GivesEnd self.old self.new)) }
+        ensures refused { IfErr result (λ e. RefusesAt (self.old.given + 1) self.old e self.new) }
+        ensures within { self.new.given ≤ 4000000 }
+    {
+        let number = self.given + 1;
+        let outcome = match read_record(&mut self.reader, &mut self.row) {
+            Ok(true) => fields::read_row(number, self.last_time, &self.row),
+            Ok(false) => {
+                self.standing = Standing::Ended;
+                return Ok(None);
+            }
+            Err(kind) => Err(kind),
+        };
+        match outcome {
+            Ok(record) => {
+                self.given = number;
+                self.last_time = record.time_us;
+                Ok(Some(record))
+            }
+            Err(kind) => Err(refuse(&mut self.standing, kind, number)),
+        }
+    }
+}
+
+/// Reads the next CSV record into `row`, and answers whether there was one.
+fn read_record<R: Read + Drop>(
+    reader: &mut Reader<R>,
+    row: &mut ByteRecord,
+) -> Result<bool, CaptureKind>
+    requires { IsPlain reader.old }
+    ensures plain { OnOk result (IsPlain reader.new) }
+    ensures next { IfOk result (λ found. IfSome (unread_records R.remaining reader.old)
+        (λ unread. TakesFields unread found (fields_of row.new) (unread_records R.remaining reader.new))) }
+    ensures refused { IfErr result (λ k. is_of_text k ≡ false) }
+{
+    match reader.read_byte_record(row) {
+        Ok(found) => Ok(found),
+        Err(error) => match error.kind() {
+            ErrorKind::OutOfMemory => Err(CaptureKind::OutOfMemory),
+            _ => Err(CaptureKind::Read),
+        },
+    }
+}
+
+/// Marks a refusal at this row, and answers it.
+fn refuse(standing: &mut Standing, kind: CaptureKind, row: u32) -> CaptureError
+    ensures error { result ≡ record { kind = kind; row = row } }
+    ensures marked { standing.new ≡ Standing.Refused result }
+{
+    let error = CaptureError { kind, row };
+    *standing = Standing::Refused(error);
+    error
+}

@@ -1,0 +1,5 @@
+pub mod CutSteps
+pub mod SoFarSteps
+pub mod LawLemmas
+pub mod TellLemmas
+pub mod ReasonLemmas

@@ -1,0 +1,9 @@
+use Rattle.std.proofs.Common.{◌-◌}
+use Rattle.judge9.specs.SoFar.{SoFar}
+use Rattle.judge9.proofs.judging.judge_rows.Given as goal
+
+abbrev pub invariant-rows : goal.invariant-rows
+invariant-rows g l = SoFar l.fn.rows.rows l.rows l.pairer l.records l.exchanges
+
+abbrev pub decreases-rows : goal.decreases-rows
+decreases-rows g l = 4000000 - l.rows.given

@@ -1,0 +1,6 @@
+use Rattle.judge9.proofs.LawLemmas.{breaks_once}
+use Rattle.judge9.proofs.ReasonLemmas.{some_reason}
+use Rattle.judge9.proofs.laws.some_reason_applies.Goals as goal
+
+pub returns : goal.returns
+returns c = record { some = some_reason; one = breaks_once }

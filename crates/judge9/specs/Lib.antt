@@ -1,0 +1,5 @@
+pub mod Ok
+pub mod Refusal
+pub mod Answer
+pub mod Report
+pub mod SoFar

@@ -1,0 +1,21 @@
+-- How a refusal of the records becomes one of the judging.
+use Rattle.capture9.specs.declared.error.CaptureError.{CaptureError}
+use Rattle.capture9.specs.declared.error.CaptureKind.{CaptureKind}
+use Rattle.capture9.specs.declared.error.CaptureKind.TheVariants as kind
+use Rattle.judge9.specs.declared.error.JudgeError.{JudgeError}
+use Rattle.judge9.specs.declared.error.JudgeError.TheVariants as error
+
+-- by its kind: want of memory is told apart from what the reader and the text bring
+abbrev pub refusal_by : CaptureKind → CaptureError → JudgeError
+refusal_by kind.OutOfMemory e = error.OutOfMemory
+refusal_by kind.Header e = error.Capture e
+refusal_by kind.Fields e = error.Capture e
+refusal_by kind.Time e = error.Capture e
+refusal_by kind.Wire e = error.Capture e
+refusal_by kind.Byte e = error.Capture e
+refusal_by kind.Backwards e = error.Capture e
+refusal_by kind.TooMany e = error.Capture e
+refusal_by kind.Read e = error.Capture e
+
+abbrev pub refusal_of : CaptureError → JudgeError
+refusal_of e = refusal_by e.kind e

@@ -1,0 +1,34 @@
+//! Why judging stopped without a verdict.
+ghost use Rattle.std.specs.Prelude.{◌≡◌};
+
+use capture9::{CaptureError, CaptureKind};
+use thiserror::Error;
+
+/// Why there is no verdict.
+#[derive(Debug, Drop, PartialEq, Eq, Error)]
+pub enum JudgeError {
+    /// The capture can't be read to its end: a row is bad, or the reader failed. The kind is never
+    /// `OutOfMemory`.
+    #[error("the capture can't be read: {0:?}")]
+    Capture(CaptureError),
+    /// The writer failed, was interrupted, or took nothing.
+    #[error("the report can't be written")]
+    Write,
+    /// A growth of memory was refused.
+    #[error("out of memory")]
+    OutOfMemory,
+}
+
+impl From<CaptureError> for JudgeError {
+    ghost use Rattle.std.specs.Prelude.{◌≡◌};
+    ghost use Rattle.judge9.specs.Refusal.{refusal_of};
+
+    ghost from_gives = { λ e refusal. refusal ≡ refusal_of e };
+
+    fn from(e: CaptureError) -> JudgeError {
+        match e.kind {
+            CaptureKind::OutOfMemory => JudgeError::OutOfMemory,
+            _ => JudgeError::Capture(e),
+        }
+    }
+}

@@ -1,0 +1,84 @@
+//! Judges a capture as it is read: one turn reads a row and feeds it to the pairer.
+ghost use Rattle.std.specs.Prelude.{◌≡◌, ◌≢◌, IfSome, IfOk, IfErr, IsTrue};
+ghost use Rattle.capture9.specs.Coming.{is_of_text};
+ghost use Rattle.capture9.specs.declared.records.Standing.{Standing};
+ghost use Rattle.capture9.specs.Rows.{rows_of};
+ghost use Rattle.judge9.specs.Answer.{IsAnswer, IsOkBefore, IsTheAnswer, StoppedBefore, told};
+ghost use Rattle.judge9.specs.Answer.Answer.{judged, unreadable};
+ghost use Rattle.judge9.specs.Report.{Tells, Wrote, WrotePart};
+
+use crate::error::JudgeError;
+use crate::report::{put_all, verdict_line};
+use crate::verdict::{Verdict, View};
+use block9::{Pairer, Step};
+use capture9::{CaptureError, CaptureKind, Records};
+use std::alloc::Global;
+use std::io::{Read, Write};
+
+/// Judges the capture that the reader gives, and writes the line of the verdict.
+pub fn judge<R: Read + Drop, W: Write>(
+    alloc: Global,
+    reader: R,
+    writer: &mut W,
+    view: View,
+) -> Result<Verdict, JudgeError>
+    ensures answer { IfSome (R.remaining reader)
+        (λ text. IfSome (told result) (IsTheAnswer (rows_of text))) }
+    ensures wrote { Wrote result (W.contents writer.old) (W.contents writer.new) }
+    ensures part { result ≡ Err JudgeError.Write → IfSome (R.remaining reader)
+        (λ text. WrotePart (rows_of text) (W.contents writer.old) (W.contents writer.new)) }
+    ensures stopped { IfSome (R.remaining reader)
+        (λ text. IfErr result (StoppedBefore (rows_of text))) }
+    ensures kind { (e : CaptureError) → result ≡ Err (JudgeError.Capture e) → e.kind ≢ CaptureKind.OutOfMemory }
+{
+    let View::Verdict = view;
+    let mut rows = Records::new(alloc, reader);
+    match judge_rows(&mut rows) {
+        Ok(verdict) => tell(alloc, writer, verdict),
+        Err(e) => Err(JudgeError::from(e)),
+    }
+}
+
+/// Writes the line of the verdict, and answers the verdict.
+fn tell<W: Write>(alloc: Global, writer: &mut W, verdict: Verdict) -> Result<Verdict, JudgeError>
+    ensures { Tells verdict result (W.contents writer.old) (W.contents writer.new) }
+{
+    let line = verdict_line(alloc, verdict).map_err(|_| JudgeError::OutOfMemory)?;
+    put_all(writer, line.as_bytes()).map_err(|_| JudgeError::Write)?;
+    Ok(verdict)
+}
+
+/// The verdict on all the rows that are to come, or the refusal that ends them.
+fn judge_rows<R: Read + Drop>(rows: &mut Records<R>) -> Result<Verdict, CaptureError>
+    requires first { rows.old.given ≡ 0 }
+    requires reading { rows.old.standing ≡ Standing.Reading }
+    ensures verdict { IfSome rows.old.rows
+        (λ all. IfOk result (λ v. IsAnswer all (judged v))) }
+    ensures fault { IfSome rows.old.rows
+        (λ all. IfErr result (λ e. IsTrue (is_of_text e.kind) → IsAnswer all (unreadable e))) }
+    ensures before { IfSome rows.old.rows
+        (λ all. IfErr result (λ e. IsOkBefore all e.row)) }
+{
+    let mut pairer = Pairer::new();
+    let mut records = 0u32;
+    let mut exchanges = 0u32;
+    'rows: while let Some(line_byte) = rows.next()? {
+        records += 1;
+        match pairer.feed(line_byte) {
+            Ok(Step::Waiting) => {}
+            Ok(Step::Command) => {}
+            Ok(Step::Exchange(_)) => exchanges += 1,
+            Err(reason) => {
+                return Ok(Verdict::No {
+                    at: records,
+                    reason,
+                });
+            }
+        }
+    }
+    Ok(Verdict::Yes {
+        records,
+        exchanges,
+        tail: pairer.tail_len() as u32,
+    })
+}

@@ -1,0 +1,169 @@
+//! Readable captures, and their verdicts.
+
+use super::readers::Plays;
+use super::{HEADER, PLAY, told};
+use crate::Verdict;
+use block9::Reason;
+use std::alloc::{AllocError, Global};
+use std::fmt::Write;
+use std::test::Fail;
+
+/// The text of a capture whose records are 400 microseconds apart: wire letters, each before the bytes that
+/// it brings.
+fn capture(alloc: Global, blocks: &str) -> Result<String, AllocError> {
+    let mut text = String::from_str(alloc, HEADER)?;
+    let mut time = 0u32;
+    let mut is_deck = false;
+    for word in blocks.split_whitespace() {
+        if word == "C" || word == "D" {
+            is_deck = word == "D";
+            continue;
+        }
+        time = time.saturating_add(400);
+        if is_deck {
+            writeln!(text, "{time},D,{word}")?;
+        } else {
+            writeln!(text, "{time},C,{word}")?;
+        }
+    }
+    Ok(text)
+}
+
+#[test]
+fn records_in_step(rt: HostRuntime) -> Result<(), Fail> {
+    for (blocks, line) in [
+        ("", "yes: records 0, exchanges 0, open 0\n"),
+        (
+            "C 20 01 21 D 10 01 11",
+            "yes: records 6, exchanges 1, open 0\n",
+        ),
+        ("C 20 01", "yes: records 2, exchanges 0, open 2\n"),
+        ("C 20 01 21", "yes: records 3, exchanges 0, open 3\n"),
+        ("C 20 01 21 D 10", "yes: records 4, exchanges 0, open 4\n"),
+        (
+            "C 20 01 21 D 10 01 11 D 10 01 11",
+            "no at record 7: P1 reply without a command\n",
+        ),
+        ("C 20 01 22", "no at record 3: B2 wrong sum\n"),
+        ("C 20 01 21 D 10 01 12", "no at record 6: B2 wrong sum\n"),
+        ("C 10", "no at record 1: B1 wrong group for this wire\n"),
+        ("C 70", "no at record 1: B1 wrong group for this wire\n"),
+        (
+            "C 20 01 21 D 20",
+            "no at record 4: B1 wrong group for this wire\n",
+        ),
+        ("D 10", "no at record 1: P1 reply without a command\n"),
+        (
+            "C 20 D 10",
+            "no at record 2: P2 reply before the end of the command\n",
+        ),
+        (
+            "C 20 01 21 C 20",
+            "no at record 4: P3 command before the reply\n",
+        ),
+        (
+            "C 20 01 21 D 10 C 20",
+            "no at record 5: P4 command inside a reply\n",
+        ),
+    ] {
+        let text = capture(rt.alloc(), blocks)?;
+        let (_, written) = told(rt.alloc(), text.as_bytes());
+        assert_eq!(rt; written.as_slice(), line.as_bytes(), "at {blocks}");
+    }
+    Ok(())
+}
+
+#[test]
+fn verdicts_as_values(rt: HostRuntime) -> Result<(), Fail> {
+    let (yes, _) = told(rt.alloc(), PLAY.as_bytes());
+    let whole = Verdict::Yes {
+        records: 6,
+        exchanges: 1,
+        tail: 0,
+    };
+    assert!(rt; yes == Ok(whole));
+    let text = capture(rt.alloc(), "C 20 01 21 D 10 01 11 C 20 01 22")?;
+    let (no, _) = told(rt.alloc(), text.as_bytes());
+    let broken = Verdict::No {
+        at: 9,
+        reason: Reason::WrongSum,
+    };
+    assert!(rt; no == Ok(broken));
+    Ok(())
+}
+
+#[test]
+fn reply_limits_and_gaps(rt: HostRuntime) {
+    for (text, line) in [
+        // The reply begins 9,287 after the command, and 9,288.
+        (
+            "time_us,wire,byte\n400,C,20\n800,C,01\n1200,C,21\n10487,D,10\n10887,D,01\n11287,D,11\n",
+            "yes: records 6, exchanges 1, open 0\n",
+        ),
+        (
+            "time_us,wire,byte\n400,C,20\n800,C,01\n1200,C,21\n10488,D,10\n",
+            "no at record 4: L1 late reply\n",
+        ),
+        // The reply's bytes come 10,287 apart, and 10,288.
+        (
+            "time_us,wire,byte\n400,C,20\n800,C,01\n1200,C,21\n10487,D,10\n20774,D,01\n31061,D,11\n",
+            "yes: records 6, exchanges 1, open 0\n",
+        ),
+        (
+            "time_us,wire,byte\n400,C,20\n800,C,01\n1200,C,21\n10487,D,10\n20775,D,01\n",
+            "no at record 5: B3 gap inside a block\n",
+        ),
+        (
+            "time_us,wire,byte\n400,C,20\n800,C,01\n1200,C,21\n10487,D,10\n20774,D,01\n31062,D,11\n",
+            "no at record 6: B3 gap inside a block\n",
+        ),
+        (
+            "time_us,wire,byte\n400,C,20\n10687,C,01\n",
+            "yes: records 2, exchanges 0, open 2\n",
+        ),
+        (
+            "time_us,wire,byte\n400,C,20\n10688,C,01\n",
+            "no at record 2: B3 gap inside a block\n",
+        ),
+        // The next command comes before the reply, within the limit and after it.
+        (
+            "time_us,wire,byte\n400,C,20\n800,C,01\n1200,C,21\n6200,C,20\n",
+            "no at record 4: P3 command before the reply\n",
+        ),
+        (
+            "time_us,wire,byte\n400,C,20\n800,C,01\n1200,C,21\n10487,C,20\n",
+            "no at record 4: P3 command before the reply\n",
+        ),
+        (
+            "time_us,wire,byte\n400,C,20\n800,C,01\n1200,C,21\n10488,C,20\n",
+            "no at record 4: L2 no reply\n",
+        ),
+        (
+            "time_us,wire,byte\n400,C,20\n800,C,01\n1200,C,21\n21200,C,20\n",
+            "no at record 4: L2 no reply\n",
+        ),
+        // Equal times are in order, and so are quotes, CRLF and a missing last line feed.
+        (
+            "time_us,wire,byte\n400,C,20\n400,C,01\n",
+            "yes: records 2, exchanges 0, open 2\n",
+        ),
+        (
+            "time_us,wire,byte\r\n\"400\",\"C\",\"20\"",
+            "yes: records 1, exchanges 0, open 1\n",
+        ),
+        (
+            "time_us,wire,byte\n999999999999999,C,20\n",
+            "yes: records 1, exchanges 0, open 1\n",
+        ),
+    ] {
+        let (_, written) = told(rt.alloc(), text.as_bytes());
+        assert_eq!(rt; written.as_slice(), line.as_bytes(), "at {text}");
+    }
+}
+
+#[test]
+fn four_million_records(rt: HostRuntime) {
+    let (_, written) = told(rt.alloc(), Plays::new(rt.alloc(), 4_000_000));
+    let line = b"yes: records 4000000, exchanges 666666, open 4\n";
+    assert_eq!(rt; written.as_slice(), line.as_slice());
+}

@@ -1,0 +1,133 @@
+//! Texts that can't be read, and readers and writers that fail.
+
+use super::readers::{Cut, Plays, Repeated};
+use super::writers::{Narrow, Then};
+use super::{HEADER, PLAY, WRONG_SUM, told};
+use crate::{JudgeError, Verdict, View, judge};
+use block9::Reason;
+use capture9::{CaptureError, CaptureKind};
+
+/// The refusal of a capture.
+fn refused(kind: CaptureKind, row: u32) -> Result<Verdict, JudgeError> {
+    Err(JudgeError::Capture(CaptureError { kind, row }))
+}
+
+/// What is answered at a wrong sum in record 3.
+const SUM_AT_3: Verdict = Verdict::No {
+    at: 3,
+    reason: Reason::WrongSum,
+};
+
+#[test]
+fn unreadable_texts(rt: HostRuntime) {
+    for (text, kind, row) in [
+        (b"".as_slice(), CaptureKind::Header, 0),
+        (b"time_us,wire,Byte\n400,C,20\n", CaptureKind::Header, 0),
+        (
+            b"time_us,wire,byte,more\n400,C,20\n",
+            CaptureKind::Header,
+            0,
+        ),
+        (b"time_us,wire,byte\n400,C", CaptureKind::Fields, 1),
+        (b"time_us,wire,byte\nx\n", CaptureKind::Fields, 1),
+        (b"time_us,wire,byte\n,C,20\n", CaptureKind::Time, 1),
+        (b"time_us,wire,byte\n+400,C,20\n", CaptureKind::Time, 1),
+        (b"time_us,wire,byte\n4x0,X,G1\n", CaptureKind::Time, 1),
+        (
+            b"time_us,wire,byte\n1000000000000000,C,20\n",
+            CaptureKind::Time,
+            1,
+        ),
+        (b"time_us,wire,byte\n400,CC,20\n", CaptureKind::Wire, 1),
+        (b"time_us,wire,byte\n400,X,G1\n", CaptureKind::Wire, 1),
+        (b"time_us,wire,byte\n400,c,20\n", CaptureKind::Wire, 1),
+        (b"time_us,wire,byte\n400,C,2\n", CaptureKind::Byte, 1),
+        (b"time_us,wire,byte\n400,C,0x\n", CaptureKind::Byte, 1),
+        (b"time_us,wire,byte\n400,C,\xFF\xFE\n", CaptureKind::Byte, 1),
+        (
+            b"time_us,wire,byte\n800,C,20\n400,C,G1\n",
+            CaptureKind::Byte,
+            2,
+        ),
+        (
+            b"time_us,wire,byte\n800,C,20\n400,C,01\n",
+            CaptureKind::Backwards,
+            2,
+        ),
+        (
+            b"time_us,wire,byte\n400,C,20\n800,C,01\n1200,C,21\n1600,D,10\n2000,D,01\n2400,D,11\n2800,C,G1\n",
+            CaptureKind::Byte,
+            7,
+        ),
+    ] {
+        let (answer, written) = told(rt.alloc(), text);
+        assert!(rt; answer == refused(kind, row), "at {kind:?} {row}");
+        assert!(rt; written.is_empty());
+    }
+}
+
+#[test]
+fn a_broken_rule_comes_before_a_later_bad_row(rt: HostRuntime) {
+    let text = b"time_us,wire,byte\n400,C,20\n800,C,01\n1200,C,22\n1600,D,G1\n";
+    let (answer, written) = told(rt.alloc(), text.as_slice());
+    assert!(rt; answer == Ok(SUM_AT_3));
+    assert_eq!(rt;
+        written.as_slice(),
+        b"no at record 3: B2 wrong sum\n".as_slice()
+    );
+}
+
+#[test]
+fn no_row_is_read_after_the_break(rt: HostRuntime) {
+    let mut reader = Repeated::new(WRONG_SUM, "1600,C,20\n", 1_000_000);
+    let (answer, _) = told(rt.alloc(), &mut reader);
+    assert!(rt; answer == Ok(SUM_AT_3));
+    assert!(rt; reader.given() < 1_000_000);
+}
+
+#[test]
+fn readers_that_fail(rt: HostRuntime) {
+    // At once; inside row 4; after row 6, inside row 7.
+    let more =
+        "time_us,wire,byte\n400,C,20\n800,C,01\n1200,C,21\n1600,D,10\n2000,D,01\n2400,D,11\n2800,C";
+    for (text, left, row) in [(PLAY, 0, 0), (PLAY, 52, 4), (more, more.len(), 7)] {
+        let (answer, written) = told(rt.alloc(), Cut::new(text, left));
+        assert!(rt; answer == refused(CaptureKind::Read, row), "at row {row}");
+        assert!(rt; written.is_empty());
+    }
+    let broken = "time_us,wire,byte\n400,C,20\n800,C,01\n1200,C,22\n1600,C,20\n2000,C,20\n";
+    let (answer, _) = told(rt.alloc(), Cut::new(broken, broken.len()));
+    assert!(rt; answer == Ok(SUM_AT_3));
+}
+
+#[test]
+fn one_record_too_many(rt: HostRuntime) {
+    let (answer, written) = told(rt.alloc(), Plays::new(rt.alloc(), 4_000_001));
+    assert!(rt; answer == refused(CaptureKind::TooMany, 4_000_001));
+    assert!(rt; written.is_empty());
+}
+
+#[test]
+fn rows_without_end_at_one_time(rt: HostRuntime) {
+    let six = "400,C,20\n400,C,01\n400,C,21\n400,D,10\n400,D,01\n400,D,11\n";
+    let (answer, written) = told(rt.alloc(), Repeated::new(HEADER, six, u64::MAX));
+    assert!(rt; answer == refused(CaptureKind::TooMany, 4_000_001));
+    assert!(rt; written.is_empty());
+}
+
+#[test]
+fn writers_that_stop(rt: HostRuntime) {
+    let line = b"yes: records 6, exchanges 1, open 0\n";
+    for room in 0..line.len() {
+        for then in [Then::Fail, Then::Interrupt, Then::TakeNone] {
+            let mut writer = Narrow::new(rt.alloc(), room, then);
+            let answer = judge(rt.alloc(), PLAY.as_bytes(), &mut writer, View::Verdict);
+            assert!(rt; answer == Err(JudgeError::Write));
+            assert_eq!(rt; writer.into_taken().as_slice(), &line[..room]);
+        }
+    }
+    let mut writer = Narrow::new(rt.alloc(), line.len(), Then::Fail);
+    let answer = judge(rt.alloc(), PLAY.as_bytes(), &mut writer, View::Verdict);
+    assert!(rt; answer.is_ok());
+    assert_eq!(rt; writer.into_taken().as_slice(), line.as_slice());
+}

@@ -1,0 +1,133 @@
+//! Readers for the tests.
+
+use std::alloc::Global;
+use std::fmt::Write;
+use std::io;
+use std::io::Read;
+
+/// Gives its text a byte at a time, and fails once it has given so many bytes.
+#[derive(Drop)]
+pub(super) struct Cut<'a> {
+    text: &'a [u8],
+    left: usize,
+}
+
+impl<'a> Cut<'a> {
+    pub(super) fn new(text: &'a str, left: usize) -> Self {
+        Cut {
+            text: text.as_bytes(),
+            left,
+        }
+    }
+}
+
+impl Read for Cut<'_> {
+    fn read(&mut self, buf: &mut [u8]) -> io::Result<usize> {
+        if self.left == 0 {
+            return Err(io::Error::from(io::ErrorKind::BrokenPipe));
+        }
+        match (self.text.split_first(), buf.first_mut()) {
+            (Some((byte, rest)), Some(place)) => {
+                *place = *byte;
+                self.text = rest;
+                self.left -= 1;
+                Ok(1)
+            }
+            _ => Ok(0),
+        }
+    }
+}
+
+/// Gives a head, and then one text so many times; it counts the bytes that it gave.
+#[derive(Drop)]
+pub(super) struct Repeated<'a> {
+    rest: &'a [u8],
+    text: &'a [u8],
+    times: u64,
+    given: usize,
+}
+
+impl<'a> Repeated<'a> {
+    pub(super) fn new(head: &'a str, text: &'a str, times: u64) -> Self {
+        Repeated {
+            rest: head.as_bytes(),
+            text: text.as_bytes(),
+            times,
+            given: 0,
+        }
+    }
+
+    /// How many bytes it gave.
+    pub(super) fn given(&self) -> usize {
+        self.given
+    }
+}
+
+impl Read for Repeated<'_> {
+    fn read(&mut self, buf: &mut [u8]) -> io::Result<usize> {
+        if self.rest.is_empty() && self.times > 0 {
+            self.times -= 1;
+            self.rest = self.text;
+        }
+        let count = self.rest.read(buf)?;
+        self.given = self.given.saturating_add(count);
+        Ok(count)
+    }
+}
+
+/// Makes the text of so many records as it is read: PLAY and its acknowledgement again and again, 400
+/// microseconds apart.
+#[derive(Drop)]
+pub(super) struct Plays {
+    line: String,
+    at: usize,
+    made: u32,
+    records: u32,
+}
+
+impl Plays {
+    pub(super) fn new(alloc: Global, records: u32) -> Self {
+        Plays {
+            line: String::new(alloc),
+            at: 0,
+            made: 0,
+            records,
+        }
+    }
+
+    fn make_line(&mut self) -> io::Result<()> {
+        self.line.clear();
+        self.at = 0;
+        let time = u64::from(self.made) * 400;
+        let row = match self.made % 6 {
+            1 => "C,20",
+            2 => "C,01",
+            3 => "C,21",
+            4 => "D,10",
+            5 => "D,01",
+            _ => "D,11",
+        };
+        let written = if self.made == 0 {
+            self.line.push_str("time_us,wire,byte\n")
+        } else {
+            writeln!(self.line, "{time},{row}")
+        };
+        self.made = self.made.saturating_add(1);
+        written.map_err(|_| io::Error::from(io::ErrorKind::OutOfMemory))
+    }
+}
+
+impl Read for Plays {
+    fn read(&mut self, buf: &mut [u8]) -> io::Result<usize> {
+        if self.at >= self.line.len() && self.made <= self.records {
+            self.make_line()?;
+        }
+        let mut rest = match self.line.as_bytes().get(self.at..) {
+            Some(rest) => rest,
+            None => &[],
+        };
+        let count = rest.read(buf)?;
+        self.at = self.at.saturating_add(count);
+        Ok(count)
+    }
+}

@@ -1,0 +1,85 @@
+//! How the program ends: its status, and the line on standard error.
+use capture9::{CaptureError, CaptureKind};
+use std::fmt;
+
+/// The line on standard error, which its `Display` writes without a line feed.
+#[derive(Clone, Copy, Debug, PartialEq, Eq)]
+pub enum Line {
+    /// Nothing went wrong.
+    NoLine,
+    /// A row of the capture is bad. The kind is none of `Read` and `OutOfMemory`.
+    Unreadable(CaptureError),
+    /// The reader failed at this data row, counted from 1; 0 stands for the header.
+    ReadFault(u32),
+    /// The file can't be opened.
+    CannotOpen,
+    /// The writer failed, was interrupted or took nothing.
+    WriteFault,
+    /// A growth of memory was refused.
+    NoMemory,
+}
+
+impl fmt::Display for Line {
+    ghost use Rattle.std.specs.Prelude.{Some};
+    ghost use Rattle.ninecheck.specs.Text.{text_of};
+
+    ghost output = { λ line. Some (text_of line) };
+
+    fn fmt<W: fmt::Write>(&self, f: &mut fmt::Formatter<W>) -> fmt::Result {
+        match self {
+            Line::NoLine => Ok(()),
+            Line::Unreadable(e) => {
+                let (row, word) = (e.row, word_of(e.kind));
+                write!(f, "unreadable at row {row}: {word}")
+            }
+            Line::ReadFault(row) => {
+                let row = *row;
+                write!(f, "read fault at row {row}")
+            }
+            Line::CannotOpen => write!(f, "cannot open"),
+            Line::WriteFault => write!(f, "write fault"),
+            Line::NoMemory => write!(f, "out of memory"),
+        }
+    }
+}
+
+ghost use Rattle.std.specs.Prelude.{◌≡◌};
+ghost use Rattle.ninecheck.specs.Word.{word_of};
+
+/// What is wrong at a row, in a word or two.
+fn word_of<'a>(kind: CaptureKind) -> &'a str
+    ensures { result.now ≡ word_of kind }
+{
+    match kind {
+        CaptureKind::Header => "header",
+        CaptureKind::Fields => "fields",
+        CaptureKind::Time => "time",
+        CaptureKind::Wire => "wire",
+        CaptureKind::Byte => "byte",
+        CaptureKind::Backwards => "backwards",
+        CaptureKind::TooMany => "too many rows",
+        CaptureKind::Read => "read fault",
+        CaptureKind::OutOfMemory => "out of memory",
+    }
+}
+
+/// How the program ends.
+#[derive(Clone, Copy, Debug, PartialEq, Eq)]
+pub struct Outcome {
+    /// The exit status: 0 yes, 1 no, 3 a capture that can't be read, 4 a reader or a writer that failed or a
+    /// file that can't be opened, 5 want of memory. (2 is kept for words that are no command.)
+    pub status: u8,
+    /// The line on standard error.
+    pub line: Line,
+}
+
+impl Outcome {
+    ghost use Rattle.std.specs.Prelude.{◌≡◌};
+
+    /// The end with this status and this line.
+    pub(crate) const fn new(status: u8, line: Line) -> Outcome
+        ensures { result ≡ record { status = status; line = line } }
+    {
+        Outcome { status, line }
+    }
+}
