@@ -1,0 +1,23 @@
+#!/bin/sh
+# Measures the calls of a SpanSet against the same calls on a plain Rust Vec<(u32, u32)>.
+# Proves and builds the Rattle side in a workspace of its own, which takes a few minutes.
+# Each line: spans, call, nanoseconds a call in Rattle, in Rust, and their ratio.
+set -eu
+here=$(cd "$(dirname "$0")" && pwd)
+work=$(mktemp -d)
+trap 'rm -rf "$work"' EXIT
+mkdir -p "$work/crates/tc25_sets/src"
+for part in src specs proofs; do
+    mkdir -p "$work/crates/tc25"
+    cp -R "$here/../../crates/tc25/$part" "$work/crates/tc25/$part"
+done
+cp "$here/rattle/main.rattle" "$work/crates/tc25_sets/src/main.rt"
+printf 'tc25:\ntc25_sets: tc25\n' > "$work/crates.txt"
+(cd "$work/crates/tc25_sets" && rt run > "$work/build.log" 2>&1) || { cat "$work/build.log"; exit 1; }
+rustc --edition 2024 -O -o "$work/rust" "$here/rust/main.rs"
+"$work/crates/tc25_sets/out/tc25_sets" > "$work/rattle.txt"
+"$work/rust" > "$work/rust.txt"
+paste -d ' ' "$work/rattle.txt" "$work/rust.txt" | awk '
+    $1 != $5 || $2 != $6 || $4 != $8 { print "the two sides differ: " $0; bad = 1; next }
+    { printf "%6d  %-16s %10.1f %10.1f  %5.2f\n", $1, $2, $3 / 100000, $7 / 100000, $3 / $7 }
+    END { exit bad }'

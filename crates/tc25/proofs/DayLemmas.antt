@@ -1,0 +1,42 @@
+-- What four bytes read as.
+use Rattle.std.proofs.Common.{ℕ, ◌≡◌, true, List, Some, None, is_some, refl, ap, arith, rules}
+use Rattle.std.proofs.lemmas.Bool.{false≢true}
+use Rattle.std.proofs.lemmas.Grind.{common_steps}
+use Rattle.tc25.specs.Day.{ReadsAs, time_of, is_valid_time}
+
+-- the time given is read
+pub ReadsAs-from_time_of : (bytes : List ℕ) (t : ℕ) → time_of bytes ≡ Some t → ReadsAs bytes t
+unfolding time_of
+ReadsAs-from_time_of bytes t e = grind (arith, common_steps)
+
+-- a time that is read is given
+pub time_of-from_ReadsAs : (bytes : List ℕ) (t : ℕ) → ReadsAs bytes t → time_of bytes ≡ Some t
+unfolding time_of
+time_of-from_ReadsAs bytes t r = search rules
+
+-- none is given where none is read
+pub time_of-from_none : (bytes : List ℕ) → ((t : ℕ) → ReadsAs bytes t → ⊥) → time_of bytes ≡ None
+time_of-from_none bytes none =
+    elim (time_of bytes) as (λ o. time_of bytes ≡ o → o ≡ None) [
+      | None ↦ λ _. refl
+      | Some t ↦ λ e. absurd (none t (ReadsAs-from_time_of bytes t e))
+    ] refl
+
+-- bytes that are valid read as a time
+pub ReadsAs-from_valid : (bytes : List ℕ) → is_valid_time bytes ≡ true → (t : ℕ) × ReadsAs bytes t
+ReadsAs-from_valid bytes valid =
+    elim (time_of bytes) as (λ o. time_of bytes ≡ o → is_some o ≡ true → (t : ℕ) × ReadsAs bytes t) [
+      | None ↦ λ _ some. absurd (false≢true some)
+      | Some t ↦ λ e _. (t, ReadsAs-from_time_of bytes t e)
+    ] refl valid
+
+-- a time that is read makes its bytes valid
+pub valid-from_ReadsAs : (bytes : List ℕ) (t : ℕ) → ReadsAs bytes t → is_valid_time bytes ≡ true
+valid-from_ReadsAs bytes t reads = ap is_some (time_of-from_ReadsAs bytes t reads)
+
+-- bytes read as one time at most
+pub ReadsAs-unique : (bytes : List ℕ) (t u : ℕ) → ReadsAs bytes t → ReadsAs bytes u → t ≡ u
+ReadsAs-unique bytes t u first second =
+    let a = time_of-from_ReadsAs bytes t first in
+    let b = time_of-from_ReadsAs bytes u second in
+    cc

@@ -1,0 +1,7 @@
+pub mod CountLemmas
+pub mod DayLemmas
+pub mod FramesLemmas
+pub mod ListLemmas
+pub mod SpanSetLemmas
+pub mod SpansLemmas
+pub mod TimesLemmas

@@ -1,0 +1,7 @@
+-- The one span has each frame of the day.
+use Rattle.tc25.proofs.TimesLemmas.{times_where-every}
+use Rattle.tc25.proofs.SpanSetLemmas.{day_is_covered}
+use Rattle.tc25.proofs.span_set.SpanSetTimeSet.all.Goals as goal
+
+pub returns : goal.returns
+returns c = times_where-every _ (λ f h. rw c.in_ok-from_slice.ensures.items (day_is_covered f h))

@@ -1,0 +1,8 @@
+-- What is covered afterwards is the set that the call names.
+use Rattle.std.proofs.lemmas.Result.{on_ok_weaker}
+use Rattle.tc25.specs.declared.direction.Direction.TheVariants.{Next}
+use Rattle.tc25.proofs.TimesLemmas.{times_where-widened}
+use Rattle.tc25.proofs.span_set.SpanSetTimeSet.widen_next.Goals as goal
+
+pub returns-clause-ok : goal.returns-clause-ok
+returns-clause-ok c = on_ok_weaker c.widen.result (times_where-widened _ _ Next) c.widen.ensures.ok

@@ -1,0 +1,9 @@
+pub mod Day
+pub mod Frames
+pub mod ListMembers
+pub mod Moves
+pub mod SpanMembers
+pub mod SpanMoves
+pub mod Spans
+pub mod Times
+pub mod TimesWhere

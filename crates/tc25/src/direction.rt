@@ -1,0 +1,51 @@
+//! The two ways to go from one frame to a neighbour.
+
+ghost use Rattle.std.specs.Prelude.{◌≡◌, ◌<◌};
+ghost use Rattle.tc25.specs.Day.{day};
+ghost use Rattle.tc25.specs.Moves.{moved, edge_of, entry_of};
+
+use crate::time_code::TimeCode;
+
+/// To the next frame or to the frame before, round the day.
+#[derive(Clone, Copy, Debug, PartialEq, Eq)]
+pub(crate) enum Direction {
+    Next,
+    Prev,
+}
+
+impl Direction {
+    /// The frame that a frame of the day moves to.
+    pub(crate) fn moved(self, frame: u32) -> u32
+        requires { frame < day }
+        ensures value { result ≡ moved self frame }
+        ensures below_day { result < day }
+    {
+        match self {
+            Direction::Next => (frame + 1) % TimeCode::FRAMES_IN_DAY,
+            Direction::Prev => match frame.checked_sub(1) {
+                Some(before) => before,
+                None => TimeCode::FRAMES_IN_DAY - 1,
+            },
+        }
+    }
+
+    /// The frame of the day from which the direction leads out of it.
+    pub(crate) fn edge(self) -> u32
+        ensures { result ≡ edge_of self }
+    {
+        match self {
+            Direction::Next => TimeCode::FRAMES_IN_DAY - 1,
+            Direction::Prev => 0,
+        }
+    }
+
+    /// The frame of the day at which the direction comes in again.
+    pub(crate) fn entry(self) -> u32
+        ensures { result ≡ entry_of self }
+    {
+        match self {
+            Direction::Next => 0,
+            Direction::Prev => TimeCode::FRAMES_IN_DAY - 1,
+        }
+    }
+}

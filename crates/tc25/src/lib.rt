@@ -1,0 +1,19 @@
+//! Times of day in frames at 25 frames a second, and sets of them.
+#![tactic(auto)]
+
+mod direction;
+mod laws;
+mod list_set;
+#[cfg(test)]
+mod set_tests;
+mod span;
+mod span_set;
+mod spans;
+mod time_code;
+mod time_set;
+
+pub use laws::{memberships, neighbours, readings, span_counts};
+pub use list_set::ListSet;
+pub use span_set::SpanSet;
+pub use time_code::TimeCode;
+pub use time_set::TimeSet;

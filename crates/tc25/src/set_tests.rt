@@ -1,0 +1,297 @@
+//! Tests of both kinds of set: each call on examples, and both kinds side by side.
+
+use crate::list_set::ListSet;
+use crate::span_set::SpanSet;
+use crate::time_code::TimeCode;
+use crate::time_set::TimeSet;
+use std::alloc::{AllocError, Global};
+use std::process::Abort;
+use std::test::Fail;
+
+/// Frames round midnight and round noon, at which sets are compared.
+const FRAMES: [u32; 24] = [
+    0, 1, 2, 3, 4, 5, 6, 7, 8, 9, 1_079_998, 1_079_999, 1_080_000, 1_080_001, 1_080_002, 2_159_991,
+    2_159_992, 2_159_993, 2_159_994, 2_159_995, 2_159_996, 2_159_997, 2_159_998, 2_159_999,
+];
+
+/// A call that changes a set.
+#[derive(Clone, Copy, Debug)]
+enum Call {
+    ShiftNext,
+    ShiftPrev,
+    WidenNext,
+    WidenPrev,
+    Add(u32),
+    KeepOnly(u32),
+}
+
+/// A set before and after a call, and the number of its spans then.
+#[derive(Clone, Copy)]
+struct Example {
+    before: &'static [u32],
+    call: Call,
+    after: &'static [u32],
+    spans: usize,
+}
+
+fn examples() -> [Example; 12] {
+    [
+        Example {
+            before: &[5],
+            call: Call::Add(7),
+            after: &[5, 7],
+            spans: 2,
+        },
+        Example {
+            before: &[5, 7],
+            call: Call::Add(6),
+            after: &[5, 6, 7],
+            spans: 1,
+        },
+        Example {
+            before: &[5, 7],
+            call: Call::Add(7),
+            after: &[5, 7],
+            spans: 2,
+        },
+        Example {
+            before: &[1, 3],
+            call: Call::WidenNext,
+            after: &[1, 2, 3, 4],
+            spans: 1,
+        },
+        Example {
+            before: &[2, 4],
+            call: Call::WidenPrev,
+            after: &[1, 2, 3, 4],
+            spans: 1,
+        },
+        Example {
+            before: &[0],
+            call: Call::WidenPrev,
+            after: &[0, 2_159_999],
+            spans: 2,
+        },
+        Example {
+            before: &[2_159_999],
+            call: Call::WidenNext,
+            after: &[0, 2_159_999],
+            spans: 2,
+        },
+        Example {
+            before: &[2_159_998, 2_159_999],
+            call: Call::ShiftNext,
+            after: &[0, 2_159_999],
+            spans: 2,
+        },
+        Example {
+            before: &[0, 1],
+            call: Call::ShiftPrev,
+            after: &[0, 2_159_999],
+            spans: 2,
+        },
+        Example {
+            before: &[0, 2_159_999],
+            call: Call::ShiftNext,
+            after: &[0, 1],
+            spans: 1,
+        },
+        Example {
+            before: &[5, 7],
+            call: Call::KeepOnly(6),
+            after: &[],
+            spans: 0,
+        },
+        Example {
+            before: &[5, 6, 7],
+            call: Call::KeepOnly(6),
+            after: &[6],
+            spans: 1,
+        },
+    ]
+}
+
+fn time(frame: u32) -> TimeCode {
+    TimeCode::from_frames(frame).unwrap_or_default()
+}
+
+fn make_call<S: TimeSet>(set: &mut S, call: Call) -> Result<(), AllocError> {
+    match call {
+        Call::ShiftNext => set.shift_next(),
+        Call::ShiftPrev => set.shift_prev(),
+        Call::WidenNext => set.widen_next(),
+        Call::WidenPrev => set.widen_prev(),
+        Call::Add(frame) => set.add(time(frame)),
+        Call::KeepOnly(frame) => set.keep_only(time(frame)),
+    }
+}
+
+fn set_of<S: TimeSet>(alloc: Global, frames: &[u32]) -> Result<S, AllocError> {
+    let mut set = S::none(alloc);
+    for frame in frames {
+        set.add(time(*frame))?;
+    }
+    Ok(set)
+}
+
+/// Whether the members at the frames that are compared are the given ones.
+fn has_only<S: TimeSet>(set: &S, frames: &[u32]) -> bool {
+    for frame in FRAMES {
+        if set.contains(time(frame)) != frames.contains(&frame) {
+            return false;
+        }
+    }
+    true
+}
+
+fn follows_examples<S: TimeSet>(rt: &impl Abort, alloc: Global) -> Result<(), AllocError> {
+    for example in examples() {
+        let mut set: S = set_of(alloc, example.before)?;
+        assert!(rt; has_only(&set, example.before), "before {:?}", example.call);
+        make_call(&mut set, example.call)?;
+        assert!(rt; has_only(&set, example.after), "after {:?}", example.call);
+        assert_eq!(rt; set.is_empty(), example.after.is_empty());
+    }
+    Ok(())
+}
+
+/// A set of one time, at both ends of the day.
+fn knows_one_time<S: TimeSet>(rt: &impl Abort, alloc: Global) -> Result<(), AllocError> {
+    for frame in [0, 1_080_000, 2_159_999] {
+        let set = S::one(alloc, time(frame))?;
+        assert!(rt; has_only(&set, &[frame]), "one {frame}");
+        assert_eq!(rt; set.only(), Some(time(frame)));
+        assert_eq!(rt; set.least(), Some(time(frame)));
+    }
+    let set: S = set_of(alloc, &[2_159_999, 0])?;
+    assert_eq!(rt; set.only(), None);
+    assert_eq!(rt; set.least(), Some(time(0)));
+    let pair: S = set_of(alloc, &[8, 9])?;
+    assert_eq!(rt; pair.only(), None);
+    assert_eq!(rt; pair.least(), Some(time(8)));
+    let none = S::none(alloc);
+    assert_eq!(rt; none.only(), None);
+    assert_eq!(rt; none.least(), None);
+    assert!(rt; none.is_empty());
+    Ok(())
+}
+
+fn copies<S: TimeSet>(rt: &impl Abort, alloc: Global) -> Result<(), AllocError> {
+    let mut set: S = set_of(alloc, &[5, 7])?;
+    let copy = set.copy()?;
+    set.add(time(6))?;
+    assert!(rt; has_only(&copy, &[5, 7]));
+    assert!(rt; has_only(&set, &[5, 6, 7]));
+    let all = S::all(alloc)?.copy()?;
+    assert!(rt; has_only(&all, &FRAMES));
+    Ok(())
+}
+
+/// The whole day, which each call but `keep_only` leaves whole.
+fn keeps_the_whole_day<S: TimeSet>(rt: &impl Abort, alloc: Global) -> Result<(), AllocError> {
+    let calls = [
+        Call::ShiftNext,
+        Call::ShiftPrev,
+        Call::WidenNext,
+        Call::WidenPrev,
+        Call::Add(7),
+    ];
+    let mut set = S::all(alloc)?;
+    for call in calls {
+        make_call(&mut set, call)?;
+        assert!(rt; has_only(&set, &FRAMES), "after {call:?}");
+        assert_eq!(rt; set.only(), None);
+        assert_eq!(rt; set.least(), Some(time(0)));
+    }
+    set.keep_only(time(2_159_999))?;
+    assert!(rt; has_only(&set, &[2_159_999]));
+    assert_eq!(rt; set.only(), Some(time(2_159_999)));
+    Ok(())
+}
+
+/// Every time but the last, as a set made one time after the other.
+fn all_but_the_last<S: TimeSet>(alloc: Global) -> Result<S, AllocError> {
+    let mut set = S::none(alloc);
+    for frame in 0..2_159_999 {
+        set.add(time(frame))?;
+    }
+    Ok(set)
+}
+
+#[test]
+fn lists(rt: HostRuntime) -> Result<(), Fail> {
+    follows_examples::<ListSet>(&rt, rt.alloc())?;
+    knows_one_time::<ListSet>(&rt, rt.alloc())?;
+    copies::<ListSet>(&rt, rt.alloc())?;
+    keeps_the_whole_day::<ListSet>(&rt, rt.alloc())?;
+    let mut set: ListSet = all_but_the_last(rt.alloc())?;
+    set.widen_next()?;
+    assert!(rt; has_only(&set, &FRAMES));
+    Ok(())
+}
+
+#[test]
+fn spans(rt: HostRuntime) -> Result<(), Fail> {
+    follows_examples::<SpanSet>(&rt, rt.alloc())?;
+    knows_one_time::<SpanSet>(&rt, rt.alloc())?;
+    copies::<SpanSet>(&rt, rt.alloc())?;
+    keeps_the_whole_day::<SpanSet>(&rt, rt.alloc())?;
+    let mut set: SpanSet = all_but_the_last(rt.alloc())?;
+    assert_eq!(rt; set.spans(), 1);
+    set.widen_next()?;
+    assert!(rt; has_only(&set, &FRAMES));
+    assert_eq!(rt; set.spans(), 1);
+    set.shift_prev()?;
+    assert_eq!(rt; set.spans(), 1);
+    Ok(())
+}
+
+#[test]
+fn counts_spans(rt: HostRuntime) -> Result<(), Fail> {
+    for example in examples() {
+        let mut set: SpanSet = set_of(rt.alloc(), example.before)?;
+        make_call(&mut set, example.call)?;
+        assert_eq!(rt; set.spans(), example.spans, "after {:?}", example.call);
+    }
+    let copy = set_of::<SpanSet>(rt.alloc(), &[5, 7])?.copy()?;
+    assert_eq!(rt; copy.spans(), 2);
+    Ok(())
+}
+
+/// A call from a drawn number, mostly one that adds or moves.
+fn call_from(drawn: u32) -> Call {
+    let frame = FRAMES[(drawn >> 8) as usize % 24];
+    match drawn >> 28 {
+        0 | 1 => Call::ShiftNext,
+        2 | 3 => Call::ShiftPrev,
+        4 | 5 => Call::WidenNext,
+        6 | 7 => Call::WidenPrev,
+        8 => Call::KeepOnly(frame),
+        _ => Call::Add(frame),
+    }
+}
+
+#[test]
+fn both_kinds_agree(rt: HostRuntime) -> Result<(), Fail> {
+    let mut spans = SpanSet::none(rt.alloc());
+    let mut list = ListSet::none(rt.alloc());
+    let mut drawn = 2_463_534_242u32;
+    for turn in 0..500 {
+        drawn = drawn.wrapping_mul(1_664_525).wrapping_add(1_013_904_223);
+        let call = call_from(drawn);
+        make_call(&mut spans, call)?;
+        make_call(&mut list, call)?;
+        for frame in FRAMES {
+            let time = time(frame);
+            assert_eq!(rt;
+                spans.contains(time),
+                list.contains(time),
+                "{frame} in turn {turn}"
+            );
+        }
+        assert_eq!(rt; spans.is_empty(), list.is_empty(), "in turn {turn}");
+        assert_eq!(rt; spans.only(), list.only(), "in turn {turn}");
+        assert_eq!(rt; spans.least(), list.least(), "in turn {turn}");
+    }
+    Ok(())
+}

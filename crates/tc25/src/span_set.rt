@@ -1,0 +1,128 @@
+//! The set of times that a tracker keeps: a sorted list of spans.
+
+ghost use Rattle.tc25.specs.Spans.{IsCanonical, IsCanonical-prop};
+
+use crate::direction::Direction;
+use crate::span::{LAST_FRAME, Span};
+use crate::spans;
+use crate::time_code::TimeCode;
+use crate::time_set::TimeSet;
+use std::alloc::{AllocError, Global};
+
+/// A set of times as the list of its spans, in ascending order.
+///
+/// Each span begins at least two frames above the end of the one before, so a set has one list of
+/// spans. The last frame of the day and frame 0 are in one span only where that is the whole day.
+#[derive(Drop)]
+pub struct SpanSet {
+    spans: Vec<Span>,
+    ghost canonical: { IsCanonical 0 spans.items } by { IsCanonical-prop 0 spans.items },
+}
+
+impl SpanSet {
+    ghost use Rattle.std.specs.Prelude.{◌≡◌};
+    ghost use Rattle.tc25.specs.SpanMembers.{members_of};
+    ghost use Rattle.tc25.specs.Times.{span_count};
+
+    /// The number of spans: of members that are frame 0 or whose frame before is no member.
+    ///
+    /// Takes no memory.
+    pub fn spans(&self) -> usize
+        ensures { result ≡ span_count (members_of self.now) }
+    {
+        self.spans.len()
+    }
+}
+
+impl TimeSet for SpanSet {
+    ghost use Rattle.std.specs.Prelude.{◌≡◌, ◌<◌, ℕ, true};
+    ghost use Rattle.std.specs.FinSet as set;
+    ghost use Rattle.tc25.specs.Day.{day};
+    ghost use Rattle.tc25.specs.SpanMembers.{members_of};
+    ghost use Rattle.tc25.specs.TimesWhere.{times_where_below};
+
+    ghost members = { members_of };
+
+    fn none(alloc: Global) -> Self {
+        SpanSet {
+            spans: Vec::new(alloc),
+        }
+    }
+
+    fn all(alloc: Global) -> Result<Self, AllocError> {
+        let day = Span {
+            first: 0,
+            last: LAST_FRAME,
+        };
+        Ok(SpanSet {
+            spans: Vec::from_slice(alloc, &[day])?,
+        })
+    }
+
+    fn one(alloc: Global, time: TimeCode) -> Result<Self, AllocError> {
+        let frame = time.frames();
+        Ok(SpanSet {
+            spans: Vec::from_slice(alloc, &[Span::of(frame)])?,
+        })
+    }
+
+    fn contains(&self, time: TimeCode) -> bool {
+        spans::contains(&self.spans, time.frames())
+    }
+
+    fn is_empty(&self) -> bool {
+        self.spans.is_empty()
+    }
+
+    fn only(&self) -> Option<TimeCode> {
+        if self.spans.len() != 1 {
+            return None;
+        }
+        let span = self.spans[0];
+        if span.first == span.last {
+            TimeCode::from_frames(span.first)
+        } else {
+            None
+        }
+    }
+
+    fn least(&self) -> Option<TimeCode> {
+        match self.spans.first() {
+            Some(span) => TimeCode::from_frames(span.first),
+            None => None,
+        }
+    }
+
+    fn shift_next(&mut self) -> Result<(), AllocError> {
+        spans::shift(&mut self.spans, Direction::Next)
+    }
+
+    fn shift_prev(&mut self) -> Result<(), AllocError> {
+        spans::shift(&mut self.spans, Direction::Prev)
+    }
+
+    fn widen_next(&mut self) -> Result<(), AllocError> {
+        spans::widen(&mut self.spans, Direction::Next)
+    }
+
+    fn widen_prev(&mut self) -> Result<(), AllocError> {
+        spans::widen(&mut self.spans, Direction::Prev)
+    }
+
+    fn add(&mut self, time: TimeCode) -> Result<(), AllocError> {
+        spans::add(&mut self.spans, time.frames())
+    }
+
+    fn keep_only(&mut self, time: TimeCode) -> Result<(), AllocError> {
+        spans::keep_only(&mut self.spans, time.frames());
+        Ok(())
+    }
+
+    fn copy(&self) -> Result<Self, AllocError> {
+        Ok(SpanSet {
+            spans: Vec::from_slice(*self.spans.allocator(), &self.spans)?,
+        })
+    }
+
+    ghost below_day = { λ s. times_where_below _ };
+}
