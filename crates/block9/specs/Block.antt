@@ -1,5 +1,5 @@
 -- What a block is, and how it is spelled on the line.
-use Rattle.std.specs.Prelude.{ℕ, ◌+◌, ◌*◌, ◌/◌, ◌%◌, ◌<◌, ◌≤◌, ◌≡◌, List, [], ◌∷◌, ◌++◌, length}
+use Rattle.std.specs.Prelude.{ℕ, ◌+◌, ◌*◌, ◌/◌, ◌%◌, ◌<◌, ◌≤◌, ◌≡◌, List, [], ◌∷◌, ◌++◌, length, slice_index}
 use Rattle.std.specs.List.{sum}
 use Rattle.block9.specs.declared.block.Block.{Block}
 
@@ -26,3 +26,11 @@ abbrev pub block_of : List ℕ → Block
 block_of [] = record { group = 0; code = 0; bytes = record { items = [] } }
 block_of (first ∷ []) = record { group = first / 16; code = 0; bytes = record { items = [] } }
 block_of (first ∷ code ∷ bytes) = record { group = first / 16; code = code; bytes = record { items = bytes } }
+
+-- the first two bytes of a block as one number: 0x2001 for a block that begins with 20 01
+abbrev pub head_of : Block → ℕ
+head_of b = 256 * (16 * b.group + length b.bytes.items) + b.code
+
+-- the first data byte, and 0 where there is none
+abbrev pub first_datum : Block → ℕ
+first_datum b = slice_index b.bytes.items 0

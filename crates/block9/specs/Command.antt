@@ -1,17 +1,251 @@
--- What a block means: the command that a controller's block is, and which replies go with it.
-use Rattle.std.specs.Prelude.{Bool, true, Option, Some}
+-- What a block of the controller means, its name, and which replies go with it: the tables of commands and replies.
+use Rattle.std.specs.Prelude.{ℕ, ◌%◌, ◌==◌, ◌&&◌, ◌||◌, nat_le, if◌then◌else◌, Bool, true, Option, Some, None, option_map, List, [], ◌∷◌, length, codes}
+use Rattle.std.specs.List.{list_any}
+use Rattle.tc25.specs.Day.{time_of, is_valid_time}
 use Rattle.block9.specs.declared.block.Block.{Block}
 use Rattle.block9.specs.declared.command.Command.{Command}
-use Rattle.block9.specs.declared.command.Command.TheVariants.{Unlisted}
+use Rattle.block9.specs.declared.command.Command.TheVariants.{LocalDisable, DeviceType, LocalEnable, Stop, Play, Record, StandbyOff, StandbyOn, Eject, FastForward, JogForward, VarForward, ShuttleForward, Rewind, JogReverse, VarReverse, ShuttleReverse, Preroll, CueUpWithData, SyncPlay, InEntry, OutEntry, AudioInEntry, AudioOutEntry, InDataPreset, OutDataPreset, AudioInDataPreset, AudioOutDataPreset, InShiftPlus, InShiftMinus, OutShiftPlus, OutShiftMinus, AudioInShiftPlus, AudioInShiftMinus, AudioOutShiftPlus, AudioOutShiftMinus, InFlagReset, OutFlagReset, AudioInFlagReset, AudioOutFlagReset, InRecall, OutRecall, AudioInRecall, AudioOutRecall, EditPreset, PrerollPreset, TimerModeSelect, AutoModeOff, AutoModeOn, CurrentTimeSense, InDataSense, OutDataSense, AudioInDataSense, AudioOutDataSense, StatusSense, Unlisted}
+use Rattle.block9.specs.Block.{first_datum, head_of}
+
+-- ---- the command that a block is
+
+-- a row of a table: the first two bytes of a block as one number, and the command that such a block is
+pub record Row : Type 0 where
+  pub head : ℕ
+  pub meaning : Block → Option Command
+
+-- a command whose data bytes, if it has any, are free
+abbrev pub row : ℕ → Command → Row
+row head c = record { head = head; meaning = λ b. Some c }
+
+-- a command with a time, its four data bytes; a block whose time is not valid is no command
+abbrev pub timed : ℕ → (ℕ → Command) → Row
+timed head c = record { head = head; meaning = λ b. option_map c (time_of b.bytes.items) }
+
+-- a command with one data byte, which may be any
+abbrev pub with_byte : ℕ → (ℕ → Command) → Row
+with_byte head c = record { head = head; meaning = λ b. Some (c (first_datum b)) }
+
+-- a number is one of these
+abbrev pub is_one_of : List ℕ → ℕ → Bool
+is_one_of ks n = list_any (λ k. k == n) ks
+
+-- the times that may be asked for
+abbrev pub is_selector : ℕ → Bool
+is_selector n = is_one_of (0x01 ∷ 0x02 ∷ 0x03 ∷ 0x04 ∷ 0x08 ∷ []) n
+
+-- a command whose one data byte selects a time; with another selector it is not listed
+abbrev pub selected : ℕ → (ℕ → Command) → Row
+selected head c = record { head = head; meaning = λ b. if is_selector (first_datum b) then Some (c (first_datum b)) else Some (Unlisted b.group) }
+
+-- group 0
+abbrev pub system_control : List Row
+system_control =
+    row 0x00_0C LocalDisable
+    ∷ row 0x00_11 DeviceType
+    ∷ row 0x00_1D LocalEnable
+    ∷ []
+
+-- group 2; where a command has speed bytes there may be one or two
+abbrev pub transport_control : List Row
+transport_control =
+    row 0x20_00 Stop
+    ∷ row 0x20_01 Play
+    ∷ row 0x20_02 Record
+    ∷ row 0x20_04 StandbyOff
+    ∷ row 0x20_05 StandbyOn
+    ∷ row 0x20_0F Eject
+    ∷ row 0x20_10 FastForward
+    ∷ row 0x21_11 JogForward
+    ∷ row 0x22_11 JogForward
+    ∷ row 0x21_12 VarForward
+    ∷ row 0x22_12 VarForward
+    ∷ row 0x21_13 ShuttleForward
+    ∷ row 0x22_13 ShuttleForward
+    ∷ row 0x20_20 Rewind
+    ∷ row 0x21_21 JogReverse
+    ∷ row 0x22_21 JogReverse
+    ∷ row 0x21_22 VarReverse
+    ∷ row 0x22_22 VarReverse
+    ∷ row 0x21_23 ShuttleReverse
+    ∷ row 0x22_23 ShuttleReverse
+    ∷ row 0x20_30 Preroll
+    ∷ timed 0x24_31 CueUpWithData
+    ∷ row 0x20_34 SyncPlay
+    ∷ []
+
+-- group 4
+abbrev pub preset_control : List Row
+preset_control =
+    row 0x40_10 InEntry
+    ∷ row 0x40_11 OutEntry
+    ∷ row 0x40_12 AudioInEntry
+    ∷ row 0x40_13 AudioOutEntry
+    ∷ timed 0x44_14 InDataPreset
+    ∷ timed 0x44_15 OutDataPreset
+    ∷ timed 0x44_16 AudioInDataPreset
+    ∷ timed 0x44_17 AudioOutDataPreset
+    ∷ row 0x40_18 InShiftPlus
+    ∷ row 0x40_19 InShiftMinus
+    ∷ row 0x40_1A OutShiftPlus
+    ∷ row 0x40_1B OutShiftMinus
+    ∷ row 0x40_1C AudioInShiftPlus
+    ∷ row 0x40_1D AudioInShiftMinus
+    ∷ row 0x40_1E AudioOutShiftPlus
+    ∷ row 0x40_1F AudioOutShiftMinus
+    ∷ row 0x40_20 InFlagReset
+    ∷ row 0x40_21 OutFlagReset
+    ∷ row 0x40_22 AudioInFlagReset
+    ∷ row 0x40_23 AudioOutFlagReset
+    ∷ row 0x40_24 InRecall
+    ∷ row 0x40_25 OutRecall
+    ∷ row 0x40_26 AudioInRecall
+    ∷ row 0x40_27 AudioOutRecall
+    ∷ row 0x41_30 EditPreset
+    ∷ row 0x42_30 EditPreset
+    ∷ row 0x44_31 PrerollPreset
+    ∷ row 0x41_36 TimerModeSelect
+    ∷ row 0x40_40 AutoModeOff
+    ∷ row 0x40_41 AutoModeOn
+    ∷ []
+
+-- group 6
+abbrev pub sense_requests : List Row
+sense_requests =
+    selected 0x61_0C CurrentTimeSense
+    ∷ row 0x60_10 InDataSense
+    ∷ row 0x60_11 OutDataSense
+    ∷ row 0x60_12 AudioInDataSense
+    ∷ row 0x60_13 AudioOutDataSense
+    ∷ with_byte 0x61_20 StatusSense
+    ∷ []
+
+-- the table of a group
+abbrev pub rows_of : ℕ → List Row
+rows_of group =
+    if group == 0 then system_control
+    else (if group == 2 then transport_control
+    else (if group == 4 then preset_control
+    else (if group == 6 then sense_requests else [])))
+
+-- what a table says of a block with these first two bytes: a block that it has no row for is a command that is not listed
+abbrev pub meaning_in : List Row → ℕ → Block → Option Command
+meaning_in [] head b = Some (Unlisted b.group)
+meaning_in (r ∷ rows) head b = if r.head == head then r.meaning b else meaning_in rows head b
 
 -- the command that a block is: none where a time that has to be valid is not
-abbrev pub command_of : Block → Option Command
-command_of b = Some (Unlisted b.group)
+unfoldable pub command_of : Block → Option Command
+command_of b = meaning_in (rows_of b.group) (head_of b) b
 
--- whether a reply is of a kind that the command may have
-abbrev pub fits : Command → Block → Bool
-fits (Unlisted group) reply = true
+-- ---- kinds of reply
+
+-- a block with these first two bytes
+abbrev pub begins : ℕ → Block → Bool
+begins head reply = head_of reply == head
+
+-- not acknowledged: one byte of reasons
+abbrev pub is_nak : Block → Bool
+is_nak = begins 0x11_12
+
+-- acknowledged: no data
+abbrev pub acknowledged : Block → Bool
+acknowledged = begins 0x10_01
+
+-- the first two bytes of a timer's time, whose bytes are free
+abbrev pub timer_heads : List ℕ
+timer_heads = 0x74_00 ∷ 0x74_01 ∷ []
+
+-- the first two bytes of a time that has to be valid
+abbrev pub time_heads : List ℕ
+time_heads = 0x74_04 ∷ 0x74_06 ∷ 0x74_14 ∷ 0x74_16 ∷ []
+
+-- a time, be it a timer's
+abbrev pub is_time : Block → Bool
+is_time reply = is_one_of timer_heads (head_of reply) || is_one_of time_heads (head_of reply)
+
+-- status data, no more than were asked for
+abbrev pub is_status : ℕ → Block → Bool
+is_status most reply = reply.group == 7 && reply.code == 0x20 && nat_le (length reply.bytes.items) most
+
+-- ---- the name of each command, and its reply
+
+-- the name that the protocol manual gives to a command, and the reply that it may have beside a NAK
+pub record Listing : Type 0 where
+  pub name : Option (List ℕ)
+  pub answer : Block → Bool
+
+-- a command that is listed
+abbrev pub named : List ℕ → (Block → Bool) → Listing
+named name answer = record { name = Some name; answer = answer }
+
+-- each command; one that is not listed has no name, and takes any reply
+abbrev pub listing : Command → Listing
+listing LocalDisable = named (codes "LOCAL DISABLE") acknowledged
+listing DeviceType = named (codes "DEVICE TYPE") (begins 0x12_11)
+listing LocalEnable = named (codes "LOCAL ENABLE") acknowledged
+listing Stop = named (codes "STOP") acknowledged
+listing Play = named (codes "PLAY") acknowledged
+listing Record = named (codes "RECORD") acknowledged
+listing StandbyOff = named (codes "STANDBY OFF") acknowledged
+listing StandbyOn = named (codes "STANDBY ON") acknowledged
+listing Eject = named (codes "EJECT") acknowledged
+listing FastForward = named (codes "FAST FWD") acknowledged
+listing JogForward = named (codes "JOG FWD") acknowledged
+listing VarForward = named (codes "VAR FWD") acknowledged
+listing ShuttleForward = named (codes "SHUTTLE FWD") acknowledged
+listing Rewind = named (codes "REWIND") acknowledged
+listing JogReverse = named (codes "JOG REV") acknowledged
+listing VarReverse = named (codes "VAR REV") acknowledged
+listing ShuttleReverse = named (codes "SHUTTLE REV") acknowledged
+listing Preroll = named (codes "PREROLL") acknowledged
+listing (CueUpWithData time) = named (codes "CUE UP WITH DATA") acknowledged
+listing SyncPlay = named (codes "SYNC PLAY") acknowledged
+listing InEntry = named (codes "IN ENTRY") acknowledged
+listing OutEntry = named (codes "OUT ENTRY") acknowledged
+listing AudioInEntry = named (codes "AUDIO IN ENTRY") acknowledged
+listing AudioOutEntry = named (codes "AUDIO OUT ENTRY") acknowledged
+listing (InDataPreset time) = named (codes "IN DATA PRESET") acknowledged
+listing (OutDataPreset time) = named (codes "OUT DATA PRESET") acknowledged
+listing (AudioInDataPreset time) = named (codes "AUDIO IN DATA PRESET") acknowledged
+listing (AudioOutDataPreset time) = named (codes "AUDIO OUT DATA PRESET") acknowledged
+listing InShiftPlus = named (codes "IN SHIFT +") acknowledged
+listing InShiftMinus = named (codes "IN SHIFT -") acknowledged
+listing OutShiftPlus = named (codes "OUT SHIFT +") acknowledged
+listing OutShiftMinus = named (codes "OUT SHIFT -") acknowledged
+listing AudioInShiftPlus = named (codes "AUDIO IN SHIFT +") acknowledged
+listing AudioInShiftMinus = named (codes "AUDIO IN SHIFT -") acknowledged
+listing AudioOutShiftPlus = named (codes "AUDIO OUT SHIFT +") acknowledged
+listing AudioOutShiftMinus = named (codes "AUDIO OUT SHIFT -") acknowledged
+listing InFlagReset = named (codes "IN FLAG RESET") acknowledged
+listing OutFlagReset = named (codes "OUT FLAG RESET") acknowledged
+listing AudioInFlagReset = named (codes "AUDIO IN FLAG RESET") acknowledged
+listing AudioOutFlagReset = named (codes "AUDIO OUT FLAG RESET") acknowledged
+listing InRecall = named (codes "IN RECALL") acknowledged
+listing OutRecall = named (codes "OUT RECALL") acknowledged
+listing AudioInRecall = named (codes "AUDIO IN RECALL") acknowledged
+listing AudioOutRecall = named (codes "AUDIO OUT RECALL") acknowledged
+listing EditPreset = named (codes "EDIT PRESET") acknowledged
+listing PrerollPreset = named (codes "PREROLL PRESET") acknowledged
+listing TimerModeSelect = named (codes "TIMER MODE SELECT") acknowledged
+listing AutoModeOff = named (codes "AUTO MODE OFF") acknowledged
+listing AutoModeOn = named (codes "AUTO MODE ON") acknowledged
+listing (CurrentTimeSense selector) = named (codes "CURRENT TIME SENSE") is_time
+listing InDataSense = named (codes "IN DATA SENSE") (begins 0x74_10)
+listing OutDataSense = named (codes "OUT DATA SENSE") (begins 0x74_11)
+listing AudioInDataSense = named (codes "AUDIO IN DATA SENSE") (begins 0x74_12)
+listing AudioOutDataSense = named (codes "AUDIO OUT DATA SENSE") (begins 0x74_13)
+listing (StatusSense asked) = named (codes "STATUS SENSE") (is_status (asked % 16))
+listing (Unlisted group) = record { name = None; answer = λ reply. true }
+
+-- the name of a command, if it is listed
+unfoldable pub name_of : Command → Option (List ℕ)
+name_of c = (listing c).name
+
+-- whether a reply is of a kind that the command may have: a NAK is taken for every command
+unfoldable pub fits : Command → Block → Bool
+fits c reply = is_nak reply || (listing c).answer reply
 
 -- whether the time in a reply is valid, where it has to be
-abbrev pub is_reply_time_valid : Command → Block → Bool
-is_reply_time_valid (Unlisted group) reply = true
+unfoldable pub is_reply_time_valid : Command → Block → Bool
+is_reply_time_valid (CurrentTimeSense selector) reply = if is_one_of time_heads (head_of reply) then is_valid_time reply.bytes.items else true
+is_reply_time_valid _ reply = true

@@ -1,5 +1,6 @@
 pub mod Block
 pub mod Command
+pub mod Nak
 pub mod Line
 pub mod Exchange
 pub mod Reasons

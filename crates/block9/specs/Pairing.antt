@@ -88,6 +88,7 @@ meaning_fault InCommand tail current = command_fault (command_of (block_of (byte
 meaning_fault AfterCommand tail current = None
 meaning_fault InReply tail current = reply_fault (command_of (block_of (bytes_of (take (block_len tail - 1) tail)))) (block_of (bytes_of current))
 
+-- what the last record of a block breaks: nothing where it is not the last one
 abbrev pub end_fault : Place → List LineByte → List LineByte → LineByte → Option Reason
 end_fault place tail current r =
     if ends_block current then option_or (sum_fault current r) (meaning_fault place tail current) else None
@@ -98,9 +99,10 @@ early_fault place tail r =
     option_or (option_or (wire_fault place r.wire (is_soon tail r)) (time_fault place (is_soon tail r) (is_linked tail r)))
     (group_fault place (allows r.wire (group_in r.byte)))
 
--- the reason that stands first in the table, if the record breaks a rule
+-- the reason that stands first in the table, by the place where the tail stands
 abbrev pub fault_at : Place → List LineByte → LineByte → Option Reason
 fault_at place tail r = option_or (early_fault place tail r) (end_fault place tail (open_at place tail) r)
 
+-- the rule that a record breaks after a tail
 abbrev pub pairing : List LineByte → LineByte → Option Reason
 pairing tail r = fault_at (place_of tail) tail r

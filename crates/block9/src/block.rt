@@ -3,6 +3,7 @@ ghost use Rattle.std.specs.Prelude.{◌≡◌, ℕ, ◌%◌, ◌≤◌, IfSome, 
 ghost use Rattle.std.specs.List.{sum};
 
 use arrayvec::ArrayVec;
+use tc25::TimeCode;
 
 /// A block: a group, a code, and 0 to 15 data bytes.
 ///
@@ -20,7 +21,8 @@ pub struct Block {
 
 impl Block {
     ghost use Rattle.std.specs.Prelude.{◌≡◌, ◌≤◌, IfSome, IfNone, length};
-    ghost use Rattle.block9.specs.Block.{Spells, block_of};
+    ghost use Rattle.tc25.specs.Day.{time_of};
+    ghost use Rattle.block9.specs.Block.{Spells, block_of, first_datum, head_of};
 
     /// The block that these bytes spell, its sum included.
     ///
@@ -36,6 +38,29 @@ impl Block {
             return None;
         }
         Some(Block::of_body(body))
+    }
+
+    /// The first two bytes of the block as one number: 0x2001 for a block that begins with `20 01`.
+    pub(crate) fn head(&self) -> u32
+        ensures { result ≡ head_of self.now }
+    {
+        let (group, code) = (u32::from(self.group), u32::from(self.code));
+        (group * 16 + self.bytes.len() as u32) * 256 + code
+    }
+
+    /// The first data byte, and 0 where there is none.
+    pub(crate) fn first_datum(&self) -> u8
+        ensures { result ≡ first_datum self.now }
+    {
+        self.bytes.as_slice().first().copied().unwrap_or(0)
+    }
+
+    /// The time that the data are: `None` where they are not four bytes of a valid time.
+    pub(crate) fn time(&self) -> Option<TimeCode>
+        ensures { result ≡ time_of self.now.bytes.items }
+    {
+        let bytes = self.bytes.as_slice().as_array()?;
+        TimeCode::from_bytes(*bytes)
     }
 
     /// The block with this body: the bytes before the sum.

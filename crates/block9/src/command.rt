@@ -1,13 +1,154 @@
-//! What a controller's block means, and which replies go with it.
+//! What a controller's block means: the commands, by the first two bytes of their blocks, and their names.
+//!
+//! To add a command, write its variant, its name, its arm in its group's function and, where its reply is
+//! no acknowledgement, its arm in `fits`. The definitions have a row and a line for it in
+//! `specs/Command.antt`.
 ghost use Rattle.std.specs.Prelude.{◌≡◌};
-ghost use Rattle.block9.specs.Command.{is_reply_time_valid};
+ghost use Rattle.block9.specs.Command.{meaning_in, preset_control, selected, sense_requests, system_control, transport_control};
 
-use crate::Block;
+use crate::block::Block;
+use crate::reply::{ACK, NAK, is_status, is_time, is_timer};
+use tc25::TimeCode;
 
 /// What a block on the controller's wire is.
+///
+/// There is a variant for each name in the protocol manual's tables that this profile lists, and one for
+/// all other commands.
 #[derive(Clone, Copy, Debug, PartialEq, Eq)]
 pub enum Command {
-    /// A command that the table does not list. It takes any reply.
+    /// LOCAL DISABLE: the deck's panel is switched off.
+    LocalDisable,
+    /// DEVICE TYPE: asks what the deck is.
+    DeviceType,
+    /// LOCAL ENABLE: the deck's panel is switched on.
+    LocalEnable,
+    /// STOP: the tape stops.
+    Stop,
+    /// PLAY: plays.
+    Play,
+    /// RECORD: records.
+    Record,
+    /// STANDBY OFF: the deck leaves standby.
+    StandbyOff,
+    /// STANDBY ON: the deck goes to standby.
+    StandbyOn,
+    /// EJECT: the cassette is put out.
+    Eject,
+    /// FAST FWD: winds on.
+    FastForward,
+    /// JOG FWD: jogs on. Its one or two speed bytes are free.
+    JogForward,
+    /// VAR FWD: plays on at a variable speed. Its one or two speed bytes are free.
+    VarForward,
+    /// SHUTTLE FWD: shuttles on. Its one or two speed bytes are free.
+    ShuttleForward,
+    /// REWIND: winds back.
+    Rewind,
+    /// JOG REV: jogs back. Its one or two speed bytes are free.
+    JogReverse,
+    /// VAR REV: plays back at a variable speed. Its one or two speed bytes are free.
+    VarReverse,
+    /// SHUTTLE REV: shuttles back. Its one or two speed bytes are free.
+    ShuttleReverse,
+    /// PREROLL: cues up ahead of the register IN.
+    Preroll,
+    /// CUE UP WITH DATA: cues up at a time.
+    CueUpWithData {
+        /// The time to go to.
+        time: TimeCode,
+    },
+    /// SYNC PLAY: plays in step with the reference.
+    SyncPlay,
+    /// IN ENTRY: the register IN takes the deck's time.
+    InEntry,
+    /// OUT ENTRY: the register OUT takes the deck's time.
+    OutEntry,
+    /// AUDIO IN ENTRY: the register audio IN takes the deck's time.
+    AudioInEntry,
+    /// AUDIO OUT ENTRY: the register audio OUT takes the deck's time.
+    AudioOutEntry,
+    /// IN DATA PRESET: the register IN takes this time.
+    InDataPreset {
+        /// The register's new time.
+        time: TimeCode,
+    },
+    /// OUT DATA PRESET: the register OUT takes this time.
+    OutDataPreset {
+        /// The register's new time.
+        time: TimeCode,
+    },
+    /// AUDIO IN DATA PRESET: the register audio IN takes this time.
+    AudioInDataPreset {
+        /// The register's new time.
+        time: TimeCode,
+    },
+    /// AUDIO OUT DATA PRESET: the register audio OUT takes this time.
+    AudioOutDataPreset {
+        /// The register's new time.
+        time: TimeCode,
+    },
+    /// IN SHIFT +: the register IN moves to the next frame.
+    InShiftPlus,
+    /// IN SHIFT -: the register IN moves to the frame before.
+    InShiftMinus,
+    /// OUT SHIFT +: the register OUT moves to the next frame.
+    OutShiftPlus,
+    /// OUT SHIFT -: the register OUT moves to the frame before.
+    OutShiftMinus,
+    /// AUDIO IN SHIFT +: the register audio IN moves to the next frame.
+    AudioInShiftPlus,
+    /// AUDIO IN SHIFT -: the register audio IN moves to the frame before.
+    AudioInShiftMinus,
+    /// AUDIO OUT SHIFT +: the register audio OUT moves to the next frame.
+    AudioOutShiftPlus,
+    /// AUDIO OUT SHIFT -: the register audio OUT moves to the frame before.
+    AudioOutShiftMinus,
+    /// IN FLAG RESET: the register IN is cleared.
+    InFlagReset,
+    /// OUT FLAG RESET: the register OUT is cleared.
+    OutFlagReset,
+    /// AUDIO IN FLAG RESET: the register audio IN is cleared.
+    AudioInFlagReset,
+    /// AUDIO OUT FLAG RESET: the register audio OUT is cleared.
+    AudioOutFlagReset,
+    /// IN RECALL: the register IN takes an earlier entry.
+    InRecall,
+    /// OUT RECALL: the register OUT takes an earlier entry.
+    OutRecall,
+    /// AUDIO IN RECALL: the register audio IN takes an earlier entry.
+    AudioInRecall,
+    /// AUDIO OUT RECALL: the register audio OUT takes an earlier entry.
+    AudioOutRecall,
+    /// EDIT PRESET: chooses what is edited. Its one or two bytes are free.
+    EditPreset,
+    /// PREROLL PRESET: sets the length of a preroll. Its four bytes are free.
+    PrerollPreset,
+    /// TIMER MODE SELECT: chooses the timer. Its byte is free.
+    TimerModeSelect,
+    /// AUTO MODE OFF: switches the automatic mode off.
+    AutoModeOff,
+    /// AUTO MODE ON: switches the automatic mode on.
+    AutoModeOn,
+    /// CURRENT TIME SENSE: asks for the time.
+    CurrentTimeSense {
+        /// Which of the deck's times: 01, 02, 03, 04 or 08.
+        selector: u8,
+    },
+    /// IN DATA SENSE: asks for the register IN.
+    InDataSense,
+    /// OUT DATA SENSE: asks for the register OUT.
+    OutDataSense,
+    /// AUDIO IN DATA SENSE: asks for the register audio IN.
+    AudioInDataSense,
+    /// AUDIO OUT DATA SENSE: asks for the register audio OUT.
+    AudioOutDataSense,
+    /// STATUS SENSE: asks for status data.
+    StatusSense {
+        /// The first status datum in the high four bits, how many data in the low four.
+        asked: u8,
+    },
+    /// A command that the tables do not list, by its code, its number of data bytes or its selector. It
+    /// takes any reply.
     Unlisted {
         /// The group of its block.
         group: u8,
@@ -15,36 +156,223 @@ pub enum Command {
 }
 
 impl Command {
-    ghost use Rattle.block9.specs.Command.{command_of, fits};
+    ghost use Rattle.std.specs.Prelude.{◌≡◌, option_map};
+    ghost use Rattle.block9.specs.Command.{command_of, fits, name_of};
 
-    /// The command that a block of the controller is.
+    /// The command that a block of the controller is, by its first two bytes, and of CURRENT TIME SENSE by
+    /// its selector too.
     ///
-    /// `None` exactly where the block has a time that has to be valid and is not.
+    /// `None` exactly where the block is CUE UP WITH DATA or a DATA PRESET and its time is not valid.
+    #[tactic(auto, unfolding(crate::specs::Command::command_of))]
     pub fn of(block: &Block) -> Option<Command>
         ensures { result ≡ command_of block.now }
     {
-        Some(Command::Unlisted { group: block.group })
+        let head = block.head();
+        match block.group {
+            0 => system_control(head, block),
+            2 => transport_control(head, block),
+            4 => preset_control(head, block),
+            6 => sense_requests(head, block),
+            group => Some(Command::Unlisted { group }),
+        }
     }
 
-    /// Whether a reply is of a kind that the command may have. An unlisted command takes any block.
+    /// The name that the protocol manual gives to the command, and `None` for one that is not listed.
+    #[tactic(auto, unfolding(crate::specs::Command::name_of))]
+    pub fn name<'a>(&self) -> Option<&'a str>
+        ensures { option_map (λ name. name.now) result ≡ name_of self.now }
+    {
+        match self {
+            Command::LocalDisable => Some("LOCAL DISABLE"),
+            Command::DeviceType => Some("DEVICE TYPE"),
+            Command::LocalEnable => Some("LOCAL ENABLE"),
+            Command::Stop => Some("STOP"),
+            Command::Play => Some("PLAY"),
+            Command::Record => Some("RECORD"),
+            Command::StandbyOff => Some("STANDBY OFF"),
+            Command::StandbyOn => Some("STANDBY ON"),
+            Command::Eject => Some("EJECT"),
+            Command::FastForward => Some("FAST FWD"),
+            Command::JogForward => Some("JOG FWD"),
+            Command::VarForward => Some("VAR FWD"),
+            Command::ShuttleForward => Some("SHUTTLE FWD"),
+            Command::Rewind => Some("REWIND"),
+            Command::JogReverse => Some("JOG REV"),
+            Command::VarReverse => Some("VAR REV"),
+            Command::ShuttleReverse => Some("SHUTTLE REV"),
+            Command::Preroll => Some("PREROLL"),
+            Command::CueUpWithData { .. } => Some("CUE UP WITH DATA"),
+            Command::SyncPlay => Some("SYNC PLAY"),
+            Command::InEntry => Some("IN ENTRY"),
+            Command::OutEntry => Some("OUT ENTRY"),
+            Command::AudioInEntry => Some("AUDIO IN ENTRY"),
+            Command::AudioOutEntry => Some("AUDIO OUT ENTRY"),
+            Command::InDataPreset { .. } => Some("IN DATA PRESET"),
+            Command::OutDataPreset { .. } => Some("OUT DATA PRESET"),
+            Command::AudioInDataPreset { .. } => Some("AUDIO IN DATA PRESET"),
+            Command::AudioOutDataPreset { .. } => Some("AUDIO OUT DATA PRESET"),
+            Command::InShiftPlus => Some("IN SHIFT +"),
+            Command::InShiftMinus => Some("IN SHIFT -"),
+            Command::OutShiftPlus => Some("OUT SHIFT +"),
+            Command::OutShiftMinus => Some("OUT SHIFT -"),
+            Command::AudioInShiftPlus => Some("AUDIO IN SHIFT +"),
+            Command::AudioInShiftMinus => Some("AUDIO IN SHIFT -"),
+            Command::AudioOutShiftPlus => Some("AUDIO OUT SHIFT +"),
+            Command::AudioOutShiftMinus => Some("AUDIO OUT SHIFT -"),
+            Command::InFlagReset => Some("IN FLAG RESET"),
+            Command::OutFlagReset => Some("OUT FLAG RESET"),
+            Command::AudioInFlagReset => Some("AUDIO IN FLAG RESET"),
+            Command::AudioOutFlagReset => Some("AUDIO OUT FLAG RESET"),
+            Command::InRecall => Some("IN RECALL"),
+            Command::OutRecall => Some("OUT RECALL"),
+            Command::AudioInRecall => Some("AUDIO IN RECALL"),
+            Command::AudioOutRecall => Some("AUDIO OUT RECALL"),
+            Command::EditPreset => Some("EDIT PRESET"),
+            Command::PrerollPreset => Some("PREROLL PRESET"),
+            Command::TimerModeSelect => Some("TIMER MODE SELECT"),
+            Command::AutoModeOff => Some("AUTO MODE OFF"),
+            Command::AutoModeOn => Some("AUTO MODE ON"),
+            Command::CurrentTimeSense { .. } => Some("CURRENT TIME SENSE"),
+            Command::InDataSense => Some("IN DATA SENSE"),
+            Command::OutDataSense => Some("OUT DATA SENSE"),
+            Command::AudioInDataSense => Some("AUDIO IN DATA SENSE"),
+            Command::AudioOutDataSense => Some("AUDIO OUT DATA SENSE"),
+            Command::StatusSense { .. } => Some("STATUS SENSE"),
+            Command::Unlisted { .. } => None,
+        }
+    }
+
+    /// Whether a reply is of a kind that the command may have.
     ///
-    /// The time in a reply is not judged here, but by [`reply_time_valid`].
+    /// A NAK may come to every command, and any block to one that is not listed. Otherwise the deck
+    /// answers DEVICE TYPE and the senses with what they ask for, and every other command with an
+    /// acknowledgement. The time in a reply is not judged here, but by [`crate::reply_time_valid`].
+    #[tactic(auto, unfolding(crate::specs::Command::fits))]
     pub fn fits(&self, reply: &Block) -> bool
         ensures { result ≡ fits self.now reply.now }
     {
-        let _reply = reply;
+        let head = reply.head();
+        if head == NAK {
+            return true;
+        }
         match self {
+            Command::DeviceType => head == 0x12_11,
+            Command::CurrentTimeSense { .. } => is_timer(head) || is_time(head),
+            Command::InDataSense => head == 0x74_10,
+            Command::OutDataSense => head == 0x74_11,
+            Command::AudioInDataSense => head == 0x74_12,
+            Command::AudioOutDataSense => head == 0x74_13,
+            Command::StatusSense { asked } => is_status(reply, asked % 16),
             Command::Unlisted { .. } => true,
+            _ => head == ACK,
         }
     }
 }
 
-/// Whether the time in a reply is valid, where it has to be; true where there is none to judge.
-pub fn reply_time_valid(command: &Command, reply: &Block) -> bool
-    ensures { result ≡ is_reply_time_valid command.now reply.now }
+/// The system control commands: group 0.
+fn system_control(head: u32, block: &Block) -> Option<Command>
+    ensures { result ≡ meaning_in system_control head block.now }
 {
-    let _reply = reply;
-    match command {
-        Command::Unlisted { .. } => true,
+    match head {
+        0x00_0C => Some(Command::LocalDisable),
+        0x00_11 => Some(Command::DeviceType),
+        0x00_1D => Some(Command::LocalEnable),
+        _ => Some(Command::Unlisted { group: block.group }),
     }
 }
+
+/// The transport control commands: group 2.
+fn transport_control(head: u32, block: &Block) -> Option<Command>
+    ensures { result ≡ meaning_in transport_control head block.now }
+{
+    let time = block.time();
+    match head {
+        0x20_00 => Some(Command::Stop),
+        0x20_01 => Some(Command::Play),
+        0x20_02 => Some(Command::Record),
+        0x20_04 => Some(Command::StandbyOff),
+        0x20_05 => Some(Command::StandbyOn),
+        0x20_0F => Some(Command::Eject),
+        0x20_10 => Some(Command::FastForward),
+        0x21_11 | 0x22_11 => Some(Command::JogForward),
+        0x21_12 | 0x22_12 => Some(Command::VarForward),
+        0x21_13 | 0x22_13 => Some(Command::ShuttleForward),
+        0x20_20 => Some(Command::Rewind),
+        0x21_21 | 0x22_21 => Some(Command::JogReverse),
+        0x21_22 | 0x22_22 => Some(Command::VarReverse),
+        0x21_23 | 0x22_23 => Some(Command::ShuttleReverse),
+        0x20_30 => Some(Command::Preroll),
+        0x24_31 => Some(Command::CueUpWithData { time: time? }),
+        0x20_34 => Some(Command::SyncPlay),
+        _ => Some(Command::Unlisted { group: block.group }),
+    }
+}
+
+/// The preset and select control commands: group 4.
+fn preset_control(head: u32, block: &Block) -> Option<Command>
+    ensures { result ≡ meaning_in preset_control head block.now }
+{
+    let time = block.time();
+    match head {
+        0x40_10 => Some(Command::InEntry),
+        0x40_11 => Some(Command::OutEntry),
+        0x40_12 => Some(Command::AudioInEntry),
+        0x40_13 => Some(Command::AudioOutEntry),
+        0x44_14 => Some(Command::InDataPreset { time: time? }),
+        0x44_15 => Some(Command::OutDataPreset { time: time? }),
+        0x44_16 => Some(Command::AudioInDataPreset { time: time? }),
+        0x44_17 => Some(Command::AudioOutDataPreset { time: time? }),
+        0x40_18 => Some(Command::InShiftPlus),
+        0x40_19 => Some(Command::InShiftMinus),
+        0x40_1A => Some(Command::OutShiftPlus),
+        0x40_1B => Some(Command::OutShiftMinus),
+        0x40_1C => Some(Command::AudioInShiftPlus),
+        0x40_1D => Some(Command::AudioInShiftMinus),
+        0x40_1E => Some(Command::AudioOutShiftPlus),
+        0x40_1F => Some(Command::AudioOutShiftMinus),
+        0x40_20 => Some(Command::InFlagReset),
+        0x40_21 => Some(Command::OutFlagReset),
+        0x40_22 => Some(Command::AudioInFlagReset),
+        0x40_23 => Some(Command::AudioOutFlagReset),
+        0x40_24 => Some(Command::InRecall),
+        0x40_25 => Some(Command::OutRecall),
+        0x40_26 => Some(Command::AudioInRecall),
+        0x40_27 => Some(Command::AudioOutRecall),
+        0x41_30 | 0x42_30 => Some(Command::EditPreset),
+        0x44_31 => Some(Command::PrerollPreset),
+        0x41_36 => Some(Command::TimerModeSelect),
+        0x40_40 => Some(Command::AutoModeOff),
+        0x40_41 => Some(Command::AutoModeOn),
+        _ => Some(Command::Unlisted { group: block.group }),
+    }
+}
+
+/// The sense requests: group 6.
+fn sense_requests(head: u32, block: &Block) -> Option<Command>
+    ensures { result ≡ meaning_in sense_requests head block.now }
+{
+    match head {
+        0x61_0C => time_sense(block),
+        0x60_10 => Some(Command::InDataSense),
+        0x60_11 => Some(Command::OutDataSense),
+        0x60_12 => Some(Command::AudioInDataSense),
+        0x60_13 => Some(Command::AudioOutDataSense),
+        0x61_20 => Some(Command::StatusSense {
+            asked: block.first_datum(),
+        }),
+        _ => Some(Command::Unlisted { group: block.group }),
+    }
+}
+
+/// The request for a time. One with another selector is not listed.
+fn time_sense(block: &Block) -> Option<Command>
+    ensures { result ≡ (selected 0x61_0C Command.CurrentTimeSense).meaning block.now }
+{
+    match block.first_datum() {
+        selector @ (0x01..=0x04 | 0x08) => Some(Command::CurrentTimeSense { selector }),
+        _ => Some(Command::Unlisted { group: block.group }),
+    }
+}
+
+#[cfg(test)]
+mod tests;

@@ -8,15 +8,19 @@
 mod block;
 mod command;
 mod line;
+mod nak;
 mod pairer;
 mod place;
 mod reason;
+mod reply;
 mod rules;
 
 pub use block::Block;
-pub use command::{Command, reply_time_valid};
+pub use command::Command;
+pub use nak::NakBits;
 pub use pairer::{Exchange, Pairer, Step};
 pub use reason::Reason;
+pub use reply::reply_time_valid;
 
 /// The longest time between neighbouring records of one block, in microseconds.
 ///

@@ -8,10 +8,11 @@ ghost use Rattle.block9.specs.Pairing.{early_fault, pairing, place_of, reply_fau
 ghost use Rattle.block9.specs.Reading.{Answers, Closes};
 
 use crate::block::{Block, sum_of};
-use crate::command::{Command, reply_time_valid};
+use crate::command::Command;
 use crate::line::{block_len, bytes_of, ends_block, first_time, last_time};
 use crate::place::Place;
 use crate::reason::Reason;
+use crate::reply::reply_time_valid;
 use crate::{BYTE_GAP_US, REPLY_LIMIT_US, rules};
 use arrayvec::ArrayVec;
 use capture9::LineByte;
@@ -162,9 +163,9 @@ impl Pairer {
     /// `Ok` says what the record does. The tail then has it at its end, and is empty after a whole
     /// exchange.
     ///
-    /// `Err` is the first rule that the record breaks, in the order that [`Reason`] gives and the
-    /// table in `specs/Pairing.antt` states: the records so far keep the rules, and with this one they do not. Every later
-    /// call answers the same reason and changes nothing. [`Reason::NoRun`] is never among them.
+    /// `Err` is the first rule that the record breaks, in the order that [`Reason`] gives and the table in
+    /// `specs/Pairing.antt` states: the records so far keep the rules, and with this one they do not. Every
+    /// later call answers the same reason and changes nothing. [`Reason::NoRun`] is never among them.
     ///
     /// The rules are the protocol manual's; where it leaves a choice, this profile favours the deck.
     pub fn feed(&mut self, line_byte: LineByte) -> Result<Step, Reason>

@@ -1,13 +1,12 @@
 -- A cut that gets one record more.
-use Rattle.std.proofs.Common.{◌≡◌, ℕ, ◌+◌, ◌≤◌, ◌∙◌, List, [], ◌∷◌, ◌++◌, length, refl, sym, ap, subst, arith, length-append}
-use Rattle.std.proofs.lemmas.List.{append_assoc, append-nil, length_push}
+use Rattle.std.proofs.Common.{◌∙◌, List, [], ◌∷◌, ◌++◌, refl, sym, ap}
+use Rattle.std.proofs.lemmas.List.{append_assoc, append-nil}
 use Rattle.capture9.specs.declared.line_byte.LineByte.{LineByte}
 use Rattle.block9.specs.declared.pairer.Exchange.{Exchange}
 use Rattle.block9.specs.declared.pairer.Step.{Step}
 use Rattle.block9.specs.declared.pairer.Step.TheVariants as step
-use Rattle.block9.specs.Exchange.{Cut, Does, IsExchange, IsTail, IsKept, tail_after}
+use Rattle.block9.specs.Exchange.{Cut, Does, IsExchange, IsTail, tail_after}
 use Rattle.block9.specs.Exchange.IsTail.{nothing}
-use Rattle.block9.proofs.CutLemmas.{tail_by_kept}
 use Rattle.block9.proofs.StepLemmas.{still_tail}
 
 -- a tail that grows

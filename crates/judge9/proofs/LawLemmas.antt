@@ -1,24 +1,21 @@
--- The laws on lists of records that are in order, and on answers.
-use Rattle.std.proofs.Common.{◌≡◌, ◌⊎◌, ◌↔◌, inl, inr, ℕ, suc, ◌+◌, ◌-◌, ◌<◌, ◌≤◌, ◌∙◌, Bool, true, false, List, [], ◌∷◌, ◌++◌, length, take, drop, Option, Some, None, refl, sym, ap, subst, arith, length-append}
-use Rattle.std.proofs.lemmas.List.{append_assoc, append-nil, length_push}
+-- The laws on lists of records that keep the rules, and on answers.
+use Rattle.std.proofs.Common.{◌≡◌, ◌⊎◌, inl, inr, ℕ, ◌<◌, ◌≤◌, ◌∙◌, List, [], ◌∷◌, ◌++◌, length, Some, None, refl, sym, ap, subst, arith}
+use Rattle.std.proofs.lemmas.List.{append_assoc, append-nil}
 use Rattle.std.proofs.lemmas.Bool.{cases_lt}
 use Rattle.capture9.specs.declared.line_byte.LineByte.{LineByte}
-use Rattle.capture9.specs.declared.error.CaptureError.{CaptureError}
 use Rattle.capture9.specs.Rows.{Rows}
 use Rattle.block9.specs.declared.pairer.Exchange.{Exchange}
 use Rattle.block9.specs.declared.reason.Reason.{Reason}
-use Rattle.block9.specs.Exchange.{Cut, IsKept, IsTail}
-use Rattle.block9.specs.Line.{last_time}
+use Rattle.block9.specs.Exchange.{Cut, IsTail}
 use Rattle.block9.specs.Pairing.{pairing}
 use Rattle.block9.proofs.LineLemmas.{same_parts}
 use Rattle.block9.proofs.CutLemmas.{cut_once, kept_less, kept_by_tail, tail_by_kept}
-use Rattle.judge9.specs.declared.verdict.Verdict.{Verdict}
 use Rattle.judge9.specs.declared.verdict.Verdict.TheVariants as verdict
 use Rattle.judge9.specs.Ok.{IsOk, Breaks}
 use Rattle.judge9.specs.Answer.{Answer, IsAnswer, IsFirstBreak, AreCounts}
 use Rattle.judge9.specs.Answer.Answer.{judged, unreadable}
 
--- every first part of a list in order is in order
+-- every first part of records that keep the rules keeps them
 pub first_part : (q p : List LineByte) → IsOk (p ++ q) → IsOk p
 first_part [] p h = subst IsOk (append-nil p) h
 first_part (x ∷ q) p h = kept_less p x (first_part q (p ++ x ∷ []) (subst IsOk (sym (append_assoc p (x ∷ []) q)) h))
@@ -64,7 +61,7 @@ breaks_once p r x y h k =
     let both : Some x ≡ Some y = sym h.first ∙ ap (λ (l : List LineByte). pairing l r) same ∙ k.first in
     cc
 
--- a break and the whole in order exclude each other
+-- records with a break do not keep the rules
 pub no_break : (items : List LineByte) (at : ℕ) (x : Reason) → IsOk items → IsFirstBreak items at x → ⊥
 no_break items at x ok h =
     h.breaks.not_ok (first_part h.after (h.before ++ h.next ∷ []) (subst IsOk (h.split ∙ sym (append_assoc h.before (h.next ∷ []) h.after)) ok))
@@ -92,7 +89,7 @@ break_once items m n x y h k = by (cases_lt (length h.before) (length k.before))
 pub counts_ok : (items : List LineByte) (r e t : ℕ) → AreCounts items r e t → IsOk items
 counts_ok items r e t h = record { exchanges = h.cut_exchanges; tail = h.cut_tail; cut = h.cut }
 
--- a text has one answer at most
+-- one answer at most is right for a text
 pub answer_once : (rows : Rows) (a b : Answer) → IsAnswer rows a → IsAnswer rows b → a ≡ b
 answer_once rows (judged (verdict.Yes r e t)) (judged (verdict.Yes s f u)) h k =
     let same = cut_once rows.records h.1.cut_exchanges k.1.cut_exchanges h.1.cut_tail k.1.cut_tail h.1.cut k.1.cut in

@@ -1,4 +1,5 @@
 pub mod CutSteps
+pub mod SoFar
 pub mod SoFarSteps
 pub mod LawLemmas
 pub mod TellLemmas

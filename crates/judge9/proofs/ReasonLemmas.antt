@@ -1,7 +1,6 @@
--- Some reason always applies: a record that breaks no line of the table leaves the records in order.
-use Rattle.std.proofs.Common.{◌≡◌, ◌⊎◌, inl, inr, ℕ, ◌+◌, ◌-◌, ◌<◌, ◌≤◌, ◌∙◌, Bool, true, false, List, [], ◌∷◌, ◌++◌, length, take, drop, Option, Some, None, refl, sym, ap, subst, arith}
+-- Some reason always applies: after a record that breaks no line of the table, the records still keep the rules.
+use Rattle.std.proofs.Common.{◌≡◌, ◌-◌, ◌≤◌, ◌∙◌, Bool, true, false, List, [], ◌∷◌, ◌++◌, take, drop, Option, Some, None, refl, sym, ap, subst, arith}
 use Rattle.capture9.specs.declared.line_byte.LineByte.{LineByte}
-use Rattle.capture9.specs.declared.line_byte.Wire.TheVariants.{Controller, Deck}
 use Rattle.block9.specs.declared.block.Block.{Block}
 use Rattle.block9.specs.declared.command.Command.{Command}
 use Rattle.block9.specs.declared.pairer.Exchange.{Exchange}
@@ -10,15 +9,15 @@ use Rattle.block9.specs.declared.place.Place.TheVariants.{Idle, InCommand, After
 use Rattle.block9.specs.declared.reason.Reason.{Reason}
 use Rattle.block9.specs.Block.{block_of}
 use Rattle.block9.specs.Command.{command_of}
-use Rattle.block9.specs.Exchange.{Cut, IsCommand, IsExchange, IsKept, IsTail}
-use Rattle.block9.specs.Exchange.IsTail.{nothing, in_command, after_command, in_reply}
+use Rattle.block9.specs.Exchange.{Cut, IsKept, IsTail}
+use Rattle.block9.specs.Exchange.IsTail.{after_command}
 use Rattle.block9.specs.Line.{block_len, bytes_of, first_time, last_time}
 use Rattle.block9.specs.Pairing.{ends_block, open_at, pairing, place_of, reply_fault}
 use Rattle.block9.specs.Reading.{Closes}
 use Rattle.block9.proofs.CutLemmas.{exchange_kept, kept_by_tail, tail_kept}
 use Rattle.block9.proofs.StepLemmas.{closes, commands, delay_fits, reply_parts, waits}
 use Rattle.block9.proofs.TableLemmas as table
-use Rattle.block9.proofs.TailLemmas.{in_reply_of, kept_in_reply, last_time-append, place_in_command, place_of_command}
+use Rattle.block9.proofs.TailLemmas.{kept_in_reply, last_time-append}
 use Rattle.judge9.specs.Ok.{IsOk, Breaks}
 use Rattle.judge9.proofs.LawLemmas.{cut_tail}
 
@@ -69,7 +68,7 @@ last_time-cut p (e ∷ es) t h =
     let whole = ap last_time h.2 in
     omega arith
 
--- where the records are in order and with one more are not, the table has a reason
+-- where the records keep the rules and with one more do not, the table has a reason
 pub some_reason : (p : List LineByte) (r : LineByte) → IsOk p → last_time p ≤ r.time_us → ¬ IsOk (p ++ r ∷ []) → (x : Reason) × Breaks p r x
 some_reason p r ok later broken = by (pairing ok.tail r) refl
   where

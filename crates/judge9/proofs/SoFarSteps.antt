@@ -1,25 +1,25 @@
 -- A row that is judged: the records so far, and the verdict at the end or at a break.
-use Rattle.std.proofs.Common.{◌≡◌, ◌⊎◌, inl, inr, IsTrue, Bool, true, false, ℕ, ◌+◌, ◌≤◌, ◌∙◌, List, [], ◌∷◌, ◌++◌, length, Option, Some, None, refl, sym, ap, subst, arith, length-append}
+use Rattle.std.proofs.Common.{◌≡◌, ◌⊎◌, inl, inr, IsTrue, true, false, ℕ, ◌+◌, ◌≤◌, ◌∙◌, List, [], ◌∷◌, ◌++◌, length, Option, Some, None, refl, sym, ap, subst, arith}
 use Rattle.std.proofs.lemmas.List.{append_assoc, append-nil, length_push}
-use Rattle.std.specs.Option.{IfSome, ForSome, option_map}
+use Rattle.std.specs.Option.{IfSome}
 use Rattle.capture9.specs.declared.line_byte.LineByte.{LineByte}
 use Rattle.capture9.specs.declared.error.CaptureError.{CaptureError}
+use Rattle.capture9.specs.Capture.{IsAfter}
 use Rattle.capture9.specs.Coming.{Coming, GivesRecord, GivesEnd, GivesRefusal, TakesRecord, is_of_text}
 use Rattle.capture9.specs.declared.records.Standing.TheVariants.{Reading}
-use Rattle.capture9.specs.Rows.{Rows, bad_row, good_row, no_rows}
+use Rattle.capture9.specs.Rows.{Rows, bad_row, no_rows}
 use Rattle.block9.specs.declared.pairer.Exchange.{Exchange}
 use Rattle.block9.specs.declared.pairer.Step.{Step}
 use Rattle.block9.specs.declared.pairer.Step.TheVariants as step
 use Rattle.block9.specs.declared.reason.Reason.{Reason}
-use Rattle.block9.specs.Exchange.{Cut, IsKept}
+use Rattle.block9.specs.Exchange.{Cut}
 use Rattle.block9.specs.Exchange.IsTail.{nothing}
 use Rattle.block9.specs.Paired.{Paired, Takes, Refuses}
 use Rattle.block9.proofs.CutLemmas.{tail_by_kept}
 use Rattle.judge9.specs.declared.verdict.Verdict.TheVariants.{Yes, No}
-use Rattle.judge9.specs.Ok.{IsOk, Breaks}
-use Rattle.judge9.specs.Answer.{IsAnswer, IsFirstBreak, IsOkBefore, AreCounts}
+use Rattle.judge9.specs.Answer.{IsAnswer, IsOkBefore}
 use Rattle.judge9.specs.Answer.Answer.{judged, unreadable}
-use Rattle.judge9.specs.SoFar.{SoFar, WereRead}
+use Rattle.judge9.proofs.SoFar.{SoFar, WereRead}
 use Rattle.judge9.proofs.CutSteps.{cut-step, exchanges_after}
 
 -- a row more was read
@@ -136,16 +136,15 @@ so_far-start coming paired given reading new = record {
     start (Some rows) = (rows, refl, refl)
 
 -- a refusal at a row
-pub so_far-before : (coming after : Coming) (rows : Rows) (paired : Paired) (n m : ℕ) (e : CaptureError) → SoFar (Some rows) coming paired n m → GivesRefusal coming e after → IsOkBefore rows e.row
+pub so_far-before : (coming after : Coming) (rows : Rows) (paired : Paired) (n m : ℕ) (e : CaptureError) → SoFar (Some rows) coming paired n m → GivesRefusal coming e after → IsOkBefore rows e
 so_far-before coming after rows paired n m e h refusal = record {
   items = h.items;
-  rest = h.read.0.records;
-  split = ap (λ (x : Rows). x.records) h.read.2;
+  start = (h.read.0.records, ap (λ (x : Rows). x.records) h.read.2);
   place = by (refusal.place h.is_reading);
   is_ok = record { exchanges = h.cut_exchanges; tail = paired.tail; cut = h.cut };
 }
   where
-    by : (e.row ≡ coming.given + 1) ⊎ ((e.row ≡ 0) × (coming.is_headed ≡ false)) → (e.row ≡ length h.items + 1) ⊎ ((e.row ≡ 0) × (h.items ≡ []))
+    by : (e.row ≡ coming.given + 1) ⊎ ((e.row ≡ 0) × (coming.is_headed ≡ false)) → IsAfter h.items e
     by (inl p) = inl (let g = h.given in let k = h.number in omega arith)
     by (inr p) = inr (p.0, h.unheaded p.1)
 

@@ -1,8 +1,7 @@
 -- What the result of the checker tells.
-use Rattle.std.proofs.Common.{◌≡◌, ◌≢◌, IsTrue, if◌then◌else◌, Bool, true, false, ℕ, List, [], Option, Some, None, Result, Ok, Err, refl, sym, ap, subst, ◌∙◌}
+use Rattle.std.proofs.Common.{◌≡◌, IsTrue, if◌then◌else◌, Bool, true, false, ℕ, List, Option, Some, None, Result, Ok, Err, refl, sym, subst}
 use Rattle.std.specs.Option.{IfSome, option_map}
-use Rattle.std.specs.Result.{IfErr, IfOk}
-use Rattle.std.specs.Io.KnownBytes.{Appends}
+use Rattle.std.specs.Result.{IfErr}
 use Rattle.std.proofs.KnownBytes.{Appends-nil}
 use Rattle.capture9.specs.declared.error.CaptureError.{CaptureError}
 use Rattle.capture9.specs.declared.error.CaptureKind.{CaptureKind}
@@ -12,7 +11,7 @@ use Rattle.capture9.specs.Rows.{Rows, rows_of}
 use Rattle.judge9.specs.declared.error.JudgeError.{JudgeError}
 use Rattle.judge9.specs.declared.error.JudgeError.TheVariants as error
 use Rattle.judge9.specs.declared.verdict.Verdict.{Verdict}
-use Rattle.judge9.specs.Answer.{Answer, IsAnswer, IsOkBefore, IsTheAnswer, StoppedBefore, told}
+use Rattle.judge9.specs.Answer.{Answer, IsAnswer, IsOkBefore, IsTheAnswer, StoppedBefore, answer_of}
 use Rattle.judge9.specs.Answer.Answer.{judged, unreadable}
 use Rattle.judge9.specs.Refusal.{refusal_by, refusal_of}
 use Rattle.judge9.specs.Report.{Tells, Wrote, WrotePart}
@@ -23,17 +22,11 @@ pub the_answer : (rows : Rows) (v : Verdict) → IsAnswer rows (judged v) → Is
 the_answer rows v h = record { is_answer = h; only = λ other k. answer_once rows other (judged v) k h }
 
 -- a verdict that was told
-pub told-answer : (rows : Rows) (v : Verdict) (r : Result Verdict JudgeError) (old new : Option (List ℕ)) → IsAnswer rows (judged v) → Tells v r old new → IfSome (told r) (IsTheAnswer rows)
+pub told-answer : (rows : Rows) (v : Verdict) (r : Result Verdict JudgeError) (old new : Option (List ℕ)) → IsAnswer rows (judged v) → Tells v r old new → IfSome (answer_of r) (IsTheAnswer rows)
 told-answer rows v (Ok w) old new h k = subst (λ (x : Verdict). IsTheAnswer rows (judged x)) (sym k.0) (the_answer rows v h)
 told-answer rows v (Err (error.Capture e)) old new h k = absurd k
 told-answer rows v (Err error.Write) old new h k = tt
 told-answer rows v (Err error.OutOfMemory) old new h k = tt
-
-pub told-wrote : (v : Verdict) (r : Result Verdict JudgeError) (old new : Option (List ℕ)) → Tells v r old new → Wrote r old new
-told-wrote v (Ok w) old new k = subst (λ (x : Verdict). Wrote (Ok x) old new) (sym k.0) k.1
-told-wrote v (Err (error.Capture e)) old new k = absurd k
-told-wrote v (Err error.Write) old new k = (v, k)
-told-wrote v (Err error.OutOfMemory) old new k = k
 
 pub told-part : (rows : Rows) (v : Verdict) (r : Result Verdict JudgeError) (old new : Option (List ℕ)) → IsAnswer rows (judged v) → Tells v r old new → r ≡ Err error.Write → WrotePart rows old new
 told-part rows v (Ok w) old new h k e = cc
@@ -47,12 +40,6 @@ told-stopped rows v (Err (error.Capture e)) old new k = absurd k
 told-stopped rows v (Err error.Write) old new k = tt
 told-stopped rows v (Err error.OutOfMemory) old new k = tt
 
-pub told-kind : (v : Verdict) (r : Result Verdict JudgeError) (old new : Option (List ℕ)) → Tells v r old new → (e : CaptureError) → r ≡ Err (error.Capture e) → e.kind ≢ kind.OutOfMemory
-told-kind v (Ok w) old new k e same = λ _. cc
-told-kind v (Err (error.Capture x)) old new k e same = absurd k
-told-kind v (Err error.Write) old new k e same = λ _. cc
-told-kind v (Err error.OutOfMemory) old new k e same = λ _. cc
-
 -- what is said of all the rows is said of the text's rows
 pub over_text : (o : Option (List ℕ)) (rows : Option Rows) (P : Rows → Type 0) → rows ≡ option_map rows_of o → IfSome rows P → IfSome o (λ text. P (rows_of text))
 over_text None rows P e h = tt
@@ -64,28 +51,28 @@ each_text None P Q f h = tt
 each_text (Some text) P Q f h = f text h
 
 -- a refusal that was told
-pub told-capture : (e : CaptureError) (P : Answer → Type 0) → (IsTrue (is_of_text e.kind) → P (unreadable e)) → IfSome (told (Err (error.Capture e))) P
-told-capture e P f = by (is_of_text e.kind) f
+pub answer_of-capture : (e : CaptureError) (P : Answer → Type 0) → (IsTrue (is_of_text e.kind) → P (unreadable e)) → IfSome (answer_of (Err (error.Capture e))) P
+answer_of-capture e P f = by (is_of_text e.kind) f
   where
     by : (b : Bool) → (IsTrue b → P (unreadable e)) → IfSome (if b then Some (unreadable e) else None) P
     by true f = f refl
     by false f = tt
 
-pub told-refusal : (k : CaptureKind) (e : CaptureError) (P : Answer → Type 0) → (IsTrue (is_of_text e.kind) → P (unreadable e)) → IfSome (told (Err (refusal_by k e))) P
-told-refusal kind.Header e P f = told-capture e P f
-told-refusal kind.Fields e P f = told-capture e P f
-told-refusal kind.Time e P f = told-capture e P f
-told-refusal kind.Wire e P f = told-capture e P f
-told-refusal kind.Byte e P f = told-capture e P f
-told-refusal kind.Backwards e P f = told-capture e P f
-told-refusal kind.TooMany e P f = told-capture e P f
-told-refusal kind.Read e P f = told-capture e P f
-told-refusal kind.OutOfMemory e P f = tt
+pub answer_of-refusal : (k : CaptureKind) (e : CaptureError) (P : Answer → Type 0) → (IsTrue (is_of_text e.kind) → P (unreadable e)) → IfSome (answer_of (Err (refusal_by k e))) P
+answer_of-refusal kind.Header e P f = answer_of-capture e P f
+answer_of-refusal kind.Fields e P f = answer_of-capture e P f
+answer_of-refusal kind.Time e P f = answer_of-capture e P f
+answer_of-refusal kind.Wire e P f = answer_of-capture e P f
+answer_of-refusal kind.Byte e P f = answer_of-capture e P f
+answer_of-refusal kind.Backwards e P f = answer_of-capture e P f
+answer_of-refusal kind.TooMany e P f = answer_of-capture e P f
+answer_of-refusal kind.Read e P f = answer_of-capture e P f
+answer_of-refusal kind.OutOfMemory e P f = tt
 
-pub refused-answer : (rows : Rows) (e : CaptureError) (x : JudgeError) → x ≡ refusal_of e → (IsTrue (is_of_text e.kind) → IsAnswer rows (unreadable e)) → IfSome (told (Err x)) (IsTheAnswer rows)
+pub refused-answer : (rows : Rows) (e : CaptureError) (x : JudgeError) → x ≡ refusal_of e → (IsTrue (is_of_text e.kind) → IsAnswer rows (unreadable e)) → IfSome (answer_of (Err x)) (IsTheAnswer rows)
 refused-answer rows e x same h =
-    let P : JudgeError → Type 0 = λ y. IfSome (told (Err y)) (IsTheAnswer rows) in
-    subst P (sym same) (told-refusal e.kind e (IsTheAnswer rows) (λ t. record { is_answer = h t; only = λ other k. answer_once rows other (unreadable e) k (h t) }))
+    let P : JudgeError → Type 0 = λ y. IfSome (answer_of (Err y)) (IsTheAnswer rows) in
+    subst P (sym same) (answer_of-refusal e.kind e (IsTheAnswer rows) (λ t. record { is_answer = h t; only = λ other k. answer_once rows other (unreadable e) k (h t) }))
 
 pub wrote-refusal : (k : CaptureKind) (e : CaptureError) (old : Option (List ℕ)) → Wrote (Err (refusal_by k e)) old old
 wrote-refusal kind.Header e old = Appends-nil old
@@ -101,7 +88,7 @@ wrote-refusal kind.OutOfMemory e old = Appends-nil old
 pub refused-wrote : (e : CaptureError) (x : JudgeError) (old : Option (List ℕ)) → x ≡ refusal_of e → Wrote (Err x) old old
 refused-wrote e x old same = let P : JudgeError → Type 0 = λ y. Wrote (Err y) old old in subst P (sym same) (wrote-refusal e.kind e old)
 
-pub stopped-refusal : (k : CaptureKind) (rows : Rows) (e : CaptureError) → IsOkBefore rows e.row → StoppedBefore rows (refusal_by k e)
+pub stopped-refusal : (k : CaptureKind) (rows : Rows) (e : CaptureError) → IsOkBefore rows e → StoppedBefore rows (refusal_by k e)
 stopped-refusal kind.Header rows e h = λ _. h
 stopped-refusal kind.Fields rows e h = λ _. h
 stopped-refusal kind.Time rows e h = λ _. h
@@ -112,5 +99,5 @@ stopped-refusal kind.TooMany rows e h = λ _. h
 stopped-refusal kind.Read rows e h = λ _. h
 stopped-refusal kind.OutOfMemory rows e h = tt
 
-pub refused-stopped : (rows : Rows) (e : CaptureError) (x : JudgeError) → x ≡ refusal_of e → IsOkBefore rows e.row → StoppedBefore rows x
+pub refused-stopped : (rows : Rows) (e : CaptureError) (x : JudgeError) → x ≡ refusal_of e → IsOkBefore rows e → StoppedBefore rows x
 refused-stopped rows e x same h = let P : JudgeError → Type 0 = λ y. StoppedBefore rows y in subst P (sym same) (stopped-refusal e.kind rows e h)

@@ -2,4 +2,3 @@ pub mod Ok
 pub mod Refusal
 pub mod Answer
 pub mod Report
-pub mod SoFar

@@ -1,11 +1,11 @@
--- How a refusal of the records becomes one of the judging.
+-- How a refusal of a capture's records becomes a refusal of `judge`.
 use Rattle.capture9.specs.declared.error.CaptureError.{CaptureError}
 use Rattle.capture9.specs.declared.error.CaptureKind.{CaptureKind}
 use Rattle.capture9.specs.declared.error.CaptureKind.TheVariants as kind
 use Rattle.judge9.specs.declared.error.JudgeError.{JudgeError}
 use Rattle.judge9.specs.declared.error.JudgeError.TheVariants as error
 
--- by its kind: want of memory is told apart from what the reader and the text bring
+-- by its kind: want of memory is one thing wherever it comes; what the reader or the text bring stays whole
 abbrev pub refusal_by : CaptureKind → CaptureError → JudgeError
 refusal_by kind.OutOfMemory e = error.OutOfMemory
 refusal_by kind.Header e = error.Capture e
@@ -17,5 +17,6 @@ refusal_by kind.Backwards e = error.Capture e
 refusal_by kind.TooMany e = error.Capture e
 refusal_by kind.Read e = error.Capture e
 
+-- by the kind that it has
 abbrev pub refusal_of : CaptureError → JudgeError
 refusal_of e = refusal_by e.kind e

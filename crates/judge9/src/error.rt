@@ -7,14 +7,15 @@ use thiserror::Error;
 /// Why there is no verdict.
 #[derive(Debug, Drop, PartialEq, Eq, Error)]
 pub enum JudgeError {
-    /// The capture can't be read to its end: a row is bad, or the reader failed. The kind is never
-    /// `OutOfMemory`.
+    /// The capture can't be read to its end: a row is bad, or the reader failed or was interrupted. The
+    /// error says which, and at which row. Its kind is never `OutOfMemory`. Nothing was written.
     #[error("the capture can't be read: {0:?}")]
     Capture(CaptureError),
-    /// The writer failed, was interrupted, or took nothing.
+    /// The writer failed, was interrupted, or took no byte. What it took until then is a first part of the
+    /// verdict's line.
     #[error("the report can't be written")]
     Write,
-    /// A growth of memory was refused.
+    /// A growth of memory was refused. Nothing was written.
     #[error("out of memory")]
     OutOfMemory,
 }

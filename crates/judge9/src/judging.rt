@@ -1,9 +1,9 @@
-//! Judges a capture as it is read: one turn reads a row and feeds it to the pairer.
+//! Judges a capture as it is read: one turn reads a row and feeds its record to the pairer.
 ghost use Rattle.std.specs.Prelude.{◌≡◌, ◌≢◌, IfSome, IfOk, IfErr, IsTrue};
 ghost use Rattle.capture9.specs.Coming.{is_of_text};
 ghost use Rattle.capture9.specs.declared.records.Standing.{Standing};
 ghost use Rattle.capture9.specs.Rows.{rows_of};
-ghost use Rattle.judge9.specs.Answer.{IsAnswer, IsOkBefore, IsTheAnswer, StoppedBefore, told};
+ghost use Rattle.judge9.specs.Answer.{IsAnswer, IsOkBefore, IsTheAnswer, StoppedBefore, answer_of};
 ghost use Rattle.judge9.specs.Answer.Answer.{judged, unreadable};
 ghost use Rattle.judge9.specs.Report.{Tells, Wrote, WrotePart};
 
@@ -16,6 +16,33 @@ use std::alloc::Global;
 use std::io::{Read, Write};
 
 /// Judges the capture that the reader gives, and writes the line of the verdict.
+///
+/// It reads row by row, up to the end, the first bad row or the first record that breaks a rule, and keeps no
+/// list of records. The line is written last, and the writer is not flushed.
+///
+/// Where the reader tells its bytes, they are the text, and the result is the one that is right for it:
+///
+/// * `Ok(Yes)` exactly where no row of the text is bad and all its records keep the rules. It counts the
+///   records, the whole exchanges that they are cut into, and the open records after the last of these.
+/// * `Ok(No)` at record n with reason r exactly where the first n - 1 records keep the rules, the first n do
+///   not, and r is the first rule of the table that record n breaks. Rows after it have no part in this, not
+///   even bad ones.
+/// * `Err(Capture(e))` with a fault of the text exactly where e is the fault of its first bad row, or of the
+///   header, and all records before that row keep the rules.
+///
+/// The other results come where something outside the text fails:
+///
+/// * `Err(Capture(e))` of the kind `Read` where the reader fails or is interrupted, while it reads data row
+///   `e.row`, or the header at 0. All records before that row keep the rules.
+/// * `Err(Write)` where the writer fails, is interrupted or takes no byte. No call is tried again.
+/// * `Err(OutOfMemory)` where a growth of memory is refused, for a row or for the line. That is never told as
+///   a `Capture`.
+///
+/// No contract can say that reader, writer and memory do not fail: that these three come only then is tested.
+///
+/// A verdict is answered where its line was written whole. On `Err(Write)` a first part of a verdict's line was
+/// written, and where the reader tells its bytes it is the line of the right verdict. On every other `Err`
+/// nothing was written.
 pub fn judge<R: Read + Drop, W: Write>(
     alloc: Global,
     reader: R,
@@ -23,7 +50,7 @@ pub fn judge<R: Read + Drop, W: Write>(
     view: View,
 ) -> Result<Verdict, JudgeError>
     ensures answer { IfSome (R.remaining reader)
-        (λ text. IfSome (told result) (IsTheAnswer (rows_of text))) }
+        (λ text. IfSome (answer_of result) (IsTheAnswer (rows_of text))) }
     ensures wrote { Wrote result (W.contents writer.old) (W.contents writer.new) }
     ensures part { result ≡ Err JudgeError.Write → IfSome (R.remaining reader)
         (λ text. WrotePart (rows_of text) (W.contents writer.old) (W.contents writer.new)) }
@@ -31,6 +58,7 @@ pub fn judge<R: Read + Drop, W: Write>(
         (λ text. IfErr result (StoppedBefore (rows_of text))) }
     ensures kind { (e : CaptureError) → result ≡ Err (JudgeError.Capture e) → e.kind ≢ CaptureKind.OutOfMemory }
 {
+    // The one view there is: the line of the verdict alone.
     let View::Verdict = view;
     let mut rows = Records::new(alloc, reader);
     match judge_rows(&mut rows) {
@@ -39,7 +67,7 @@ pub fn judge<R: Read + Drop, W: Write>(
     }
 }
 
-/// Writes the line of the verdict, and answers the verdict.
+/// Writes the line of the verdict and answers the verdict, or why the line was not written whole.
 fn tell<W: Write>(alloc: Global, writer: &mut W, verdict: Verdict) -> Result<Verdict, JudgeError>
     ensures { Tells verdict result (W.contents writer.old) (W.contents writer.new) }
 {
@@ -48,7 +76,8 @@ fn tell<W: Write>(alloc: Global, writer: &mut W, verdict: Verdict) -> Result<Ver
     Ok(verdict)
 }
 
-/// The verdict on all the rows that are to come, or the refusal that ends them.
+/// The verdict on all the rows that are to come, or the refusal that ends them: its row is the first that was
+/// not judged.
 fn judge_rows<R: Read + Drop>(rows: &mut Records<R>) -> Result<Verdict, CaptureError>
     requires first { rows.old.given ≡ 0 }
     requires reading { rows.old.standing ≡ Standing.Reading }
@@ -57,7 +86,7 @@ fn judge_rows<R: Read + Drop>(rows: &mut Records<R>) -> Result<Verdict, CaptureE
     ensures fault { IfSome rows.old.rows
         (λ all. IfErr result (λ e. IsTrue (is_of_text e.kind) → IsAnswer all (unreadable e))) }
     ensures before { IfSome rows.old.rows
-        (λ all. IfErr result (λ e. IsOkBefore all e.row)) }
+        (λ all. IfErr result (λ e. IsOkBefore all e)) }
 {
     let mut pairer = Pairer::new();
     let mut records = 0u32;

@@ -1,5 +1,5 @@
-//! The laws of the definitions, each the contract of a function that does nothing: what carries a verdict
-//! from a record to the next.
+//! The laws of the definitions that contracts cite, each the contract of a function that does nothing: what
+//! carries a verdict from a record to the next.
 ghost use Rattle.std.specs.Prelude.{◌≡◌, ◌≤◌, ◌↔◌, List, [], ◌∷◌, ◌++◌};
 ghost use Rattle.block9.specs.Exchange.{Cut};
 ghost use Rattle.block9.specs.Line.{last_time};
@@ -13,33 +13,34 @@ use capture9::LineByte;
 
 /// A list of records has at most one cut into exchanges and a tail.
 pub fn one_cut()
-    ensures { (p : List LineByte) (ds es : List Exchange) (t u : List LineByte)
-        → Cut p ds t → Cut p es u → (ds ≡ es) × (t ≡ u) }
+    ensures { (records : List LineByte) (some others : List Exchange) (tail rest : List LineByte)
+        → Cut records some tail → Cut records others rest → (some ≡ others) × (tail ≡ rest) }
 {}
 
-/// Records that are in order with one more are in order without it.
+/// Records that keep the rules together with a next one keep them without it.
 pub fn prefix_is_ok()
-    ensures { (p : List LineByte) (r : LineByte) → IsOk (p ++ r ∷ []) → IsOk p }
+    ensures { (records : List LineByte) (next : LineByte) → IsOk (records ++ next ∷ []) → IsOk records }
 {}
 
-/// What a record does after a list depends on the list's tail alone, and so does the reason.
+/// Whether the next record breaks a rule depends on the tail of the records alone, and so does the reason.
 pub fn tail_decides()
-    ensures order { (p : List LineByte) (es : List Exchange) (t : List LineByte) (r : LineByte)
-        → Cut p es t → (IsOk (p ++ r ∷ []) ↔ IsOk (t ++ r ∷ [])) }
-    ensures reason { (p : List LineByte) (es : List Exchange) (t : List LineByte) (r : LineByte) (x : Reason)
-        → Cut p es t → (Breaks p r x ↔ Breaks t r x) }
+    ensures is_ok { (records : List LineByte) (exchanges : List Exchange) (tail : List LineByte) (next : LineByte)
+        → Cut records exchanges tail → (IsOk (records ++ next ∷ []) ↔ IsOk (tail ++ next ∷ [])) }
+    ensures reason { (records : List LineByte) (exchanges : List Exchange) (tail : List LineByte)
+        → Cut records exchanges tail
+        → (next : LineByte) (reason : Reason) → (Breaks records next reason ↔ Breaks tail next reason) }
 {}
 
-/// Where records are in order, and with one more that is not earlier they are not, some reason applies, and
-/// one alone.
+/// Where records keep the rules, and with a next one that is not earlier they do not, some reason applies; and
+/// never more than one does.
 pub fn some_reason_applies()
-    ensures some { (p : List LineByte) (r : LineByte) → IsOk p → last_time p ≤ r.time_us
-        → ¬ IsOk (p ++ r ∷ []) → (x : Reason) × Breaks p r x }
-    ensures one { (p : List LineByte) (r : LineByte) (x y : Reason)
-        → Breaks p r x → Breaks p r y → x ≡ y }
+    ensures some { (records : List LineByte) (next : LineByte) → IsOk records → last_time records ≤ next.time_us
+        → ¬ IsOk (records ++ next ∷ []) → (reason : Reason) × Breaks records next reason }
+    ensures one { (records : List LineByte) (next : LineByte) (reason other : Reason)
+        → Breaks records next reason → Breaks records next other → reason ≡ other }
 {}
 
-/// A text has at most one answer.
+/// At most one answer is right for a text.
 pub fn one_answer()
-    ensures { (rows : Rows) (a b : Answer) → IsAnswer rows a → IsAnswer rows b → a ≡ b }
+    ensures { (rows : Rows) (answer other : Answer) → IsAnswer rows answer → IsAnswer rows other → answer ≡ other }
 {}

@@ -1,4 +1,7 @@
-//! The judging of a capture: a verdict on its records, and the report of it.
+//! The judging of a capture: a verdict on its records, and the line that reports it.
+//!
+//! [`judge`] reads the records from a text, feeds them to a pairer and writes the line of the verdict. The
+//! module [`laws`] states what holds of the definitions that its contract cites.
 #![tactic(auto)]
 
 mod error;

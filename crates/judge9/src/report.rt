@@ -1,4 +1,4 @@
-//! The text of the report, and how it is written.
+//! The line that reports a verdict, and how it is written.
 ghost use Rattle.std.specs.Prelude.{◌≡◌, IfOk, OnOk, OnErr};
 ghost use Rattle.std.specs.Io.KnownBytes.{Appends};
 ghost use Rattle.std.specs.String.{string_bytes};
@@ -8,7 +8,7 @@ use crate::verdict::Verdict;
 use std::alloc::{AllocError, Global};
 use std::io::Write;
 
-/// The writer failed, was interrupted, or took nothing.
+/// The writer failed, was interrupted, or took no byte.
 #[derive(Clone, Copy, Debug, PartialEq, Eq)]
 pub(crate) struct WriteFault;
 
@@ -29,8 +29,8 @@ pub(crate) fn verdict_line(alloc: Global, verdict: Verdict) -> Result<String, Al
     }
 }
 
-/// Writes all the bytes. A call that fails, is interrupted or takes nothing is a fault, and is not tried
-/// again; what was taken until then is a first part of the bytes.
+/// Writes all the bytes, and goes on after a call that takes some of them. A call that fails, is interrupted or
+/// takes none is a fault, and is not tried again; what was taken until then is a first part of the bytes.
 pub(crate) fn put_all<W: Write>(writer: &mut W, bytes: &[u8]) -> Result<(), WriteFault>
     ensures ok { OnOk result (Appends (W.contents writer.old) (W.contents writer.new) bytes.now) }
     ensures err { OnErr result (AppendsPart (W.contents writer.old) (W.contents writer.new) bytes.now) }

@@ -20,7 +20,10 @@ const PLAY: &str =
 const WRONG_SUM: &str = "time_us,wire,byte\n400,C,20\n800,C,01\n1200,C,22\n";
 
 /// What is answered, and what is written.
-fn told<R: Read + Drop>(alloc: Global, reader: R) -> (Result<Verdict, JudgeError>, Vec<u8>) {
+fn answer_and_text<R: Read + Drop>(
+    alloc: Global,
+    reader: R,
+) -> (Result<Verdict, JudgeError>, Vec<u8>) {
     let mut writer = Narrow::roomy(alloc);
     let answer = judge(alloc, reader, &mut writer, View::Verdict);
     (answer, writer.into_taken())

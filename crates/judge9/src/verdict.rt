@@ -1,25 +1,25 @@
-//! What the checker answers.
+//! What is answered to a capture that can be judged.
 
 use block9::Reason;
 
 /// The verdict on the records of a capture.
 #[derive(Clone, Copy, Debug, PartialEq, Eq)]
 pub enum Verdict {
-    /// All records keep the rules.
+    /// No row is bad, and all records keep the rules. A capture with no record is one of these.
     Yes {
         /// How many records there are.
         records: u32,
-        /// How many whole exchanges they hold.
+        /// How many whole exchanges they hold: a command and its reply each.
         exchanges: u32,
-        /// How many records are open at the end: those of a command or a reply that is not whole, or of a
-        /// command with no reply yet.
+        /// How many records come after the last whole exchange, at most 35: those of a command whose reply
+        /// is not whole yet, with what there is of the reply, or of a command that is not whole itself.
         tail: u32,
     },
-    /// A record breaks a rule.
+    /// A record breaks a rule. Later rows were not judged, and may be bad.
     No {
-        /// The number of the first record that does, counted from 1.
+        /// The number of the first record that does, counted from 1: its data row.
         at: u32,
-        /// The rule that it breaks.
+        /// The rule that it breaks, and the first of them where it breaks several.
         reason: Reason,
     },
 }

@@ -1,6 +1,5 @@
 -- How the program ends: its status, and the line on standard error.
-use Rattle.std.specs.Prelude.{ℕ, List, [], ◌++◌, Result, Ok, Err, codes}
-use Rattle.std.specs.Fmt.{decimal}
+use Rattle.std.specs.Prelude.{Result, Ok, Err}
 use Rattle.capture9.specs.declared.error.CaptureError.{CaptureError}
 use Rattle.capture9.specs.declared.error.CaptureKind.{CaptureKind}
 use Rattle.capture9.specs.declared.error.CaptureKind.TheVariants as kind
@@ -8,11 +7,10 @@ use Rattle.judge9.specs.declared.error.JudgeError.{JudgeError}
 use Rattle.judge9.specs.declared.error.JudgeError.TheVariants as error
 use Rattle.judge9.specs.declared.verdict.Verdict.{Verdict}
 use Rattle.judge9.specs.declared.verdict.Verdict.TheVariants as verdict
-use Rattle.ninecheck.specs.declared.ending.Line.{Line}
 use Rattle.ninecheck.specs.declared.ending.Line.TheVariants as line
 use Rattle.ninecheck.specs.declared.ending.Outcome.{Outcome}
 
--- a capture that the reader could not give, or one that can't be read
+-- the end after a refusal of the capture, by its kind: a bad row, a reader that failed, or want of memory
 abbrev pub capture_outcome : CaptureKind → CaptureError → Outcome
 capture_outcome kind.Header e = record { status = 3; line = line.Unreadable e }
 capture_outcome kind.Fields e = record { status = 3; line = line.Unreadable e }
@@ -24,7 +22,8 @@ capture_outcome kind.TooMany e = record { status = 3; line = line.Unreadable e }
 capture_outcome kind.Read e = record { status = 4; line = line.ReadFault e.row }
 capture_outcome kind.OutOfMemory e = record { status = 5; line = line.NoMemory }
 
--- 0 for yes, 1 for no, 3 for a capture that can't be read, 4 for a reader or a writer that failed, 5 for want of memory
+-- the status is 0 for yes, 1 for no, 3 for a bad row, 4 for a reader or a writer that failed, 5 for want of
+-- memory; only a verdict has no line
 abbrev pub outcome_of : Result Verdict JudgeError → Outcome
 outcome_of (Ok (verdict.Yes records exchanges tail)) = record { status = 0; line = line.NoLine }
 outcome_of (Ok (verdict.No at reason)) = record { status = 1; line = line.NoLine }

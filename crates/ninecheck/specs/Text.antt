@@ -5,6 +5,7 @@ use Rattle.ninecheck.specs.declared.ending.Line.{Line}
 use Rattle.ninecheck.specs.declared.ending.Line.TheVariants as line
 use Rattle.ninecheck.specs.Word.{word_of}
 
+-- the line's text, without a line feed; none where there is a verdict
 abbrev pub text_of : Line → List ℕ
 text_of line.NoLine = []
 text_of (line.Unreadable e) = codes "unreadable at row " ++ decimal e.row ++ codes ": " ++ word_of e.kind

@@ -1,8 +1,9 @@
--- What is wrong at a row, in a word or two.
+-- The words for what is wrong at a row.
 use Rattle.std.specs.Prelude.{ℕ, List, codes}
 use Rattle.capture9.specs.declared.error.CaptureKind.{CaptureKind}
 use Rattle.capture9.specs.declared.error.CaptureKind.TheVariants as kind
 
+-- the word or two for a kind of fault
 abbrev pub word_of : CaptureKind → List ℕ
 word_of kind.Header = codes "header"
 word_of kind.Fields = codes "fields"

@@ -1,19 +1,22 @@
 //! How the program ends: its status, and the line on standard error.
+ghost use Rattle.std.specs.Prelude.{◌≡◌};
+ghost use Rattle.ninecheck.specs.Word.{word_of};
+
 use capture9::{CaptureError, CaptureKind};
 use std::fmt;
 
 /// The line on standard error, which its `Display` writes without a line feed.
 #[derive(Clone, Copy, Debug, PartialEq, Eq)]
 pub enum Line {
-    /// Nothing went wrong.
+    /// There is a verdict, and nothing to be said beside it.
     NoLine,
-    /// A row of the capture is bad. The kind is none of `Read` and `OutOfMemory`.
+    /// A row of the capture is bad, or its header. The kind is neither `Read` nor `OutOfMemory`.
     Unreadable(CaptureError),
-    /// The reader failed at this data row, counted from 1; 0 stands for the header.
+    /// The reader failed or was interrupted at this data row, counted from 1; 0 stands for the header.
     ReadFault(u32),
-    /// The file can't be opened.
+    /// The file can't be opened. No result of `judge` ends so.
     CannotOpen,
-    /// The writer failed, was interrupted or took nothing.
+    /// The writer failed, was interrupted, or took no byte.
     WriteFault,
     /// A growth of memory was refused.
     NoMemory,
@@ -42,9 +45,6 @@ impl fmt::Display for Line {
         }
     }
 }
-
-ghost use Rattle.std.specs.Prelude.{◌≡◌};
-ghost use Rattle.ninecheck.specs.Word.{word_of};
 
 /// What is wrong at a row, in a word or two.
 fn word_of<'a>(kind: CaptureKind) -> &'a str

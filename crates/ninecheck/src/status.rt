@@ -1,4 +1,4 @@
-//! How the program ends after a judging.
+//! From the result of a judging to how the program ends.
 ghost use Rattle.std.specs.Prelude.{◌≡◌};
 ghost use Rattle.ninecheck.specs.Outcome.{outcome_of};
 
@@ -6,7 +6,16 @@ use crate::ending::{Line, Outcome};
 use capture9::CaptureKind;
 use judge9::{JudgeError, Verdict};
 
-/// How the program ends after a judging. Takes no memory.
+/// How the program ends after a judging; the statuses are this profile's choice. Takes no memory.
+///
+/// | `judge` answers | status | line |
+/// |---|---|---|
+/// | a yes | 0 | none |
+/// | a no | 1 | none |
+/// | a bad row, or a bad header | 3 | what is wrong, and the row |
+/// | that the reader failed | 4 | the row |
+/// | that the writer failed | 4 | a write fault |
+/// | want of memory, in either form | 5 | want of memory |
 pub fn outcome(judged: &Result<Verdict, JudgeError>) -> Outcome
     ensures { result ≡ outcome_of judged.now }
 {

@@ -6,6 +6,9 @@ use capture9::Wire::{Controller, Deck};
 use capture9::{LineByte, Wire};
 use std::process::Abort;
 
+mod listed;
+mod times;
+
 /// Bytes of one wire, one every 400 microseconds from a time on.
 #[derive(Clone, Copy)]
 struct Part<'a> {
@@ -80,7 +83,7 @@ fn first_fault(rt: &impl Abort, parts: &[Part]) -> Option<(usize, Reason)> {
 #[test]
 fn a_command_and_its_reply_are_an_exchange(rt: HostRuntime) {
     let exchange = Exchange {
-        command: Command::Unlisted { group: 2 },
+        command: Command::Play,
         block: Block::from_bytes(&[0x20, 0x01, 0x21]).expect(&rt, "a block"),
         reply: Block::from_bytes(&[0x10, 0x01, 0x11]).expect(&rt, "a block"),
         delay_us: 400,
@@ -257,120 +260,6 @@ fn records_out_of_turn(rt: HostRuntime) {
                 play,
                 sent(1_600, Deck, &[0x10]),
                 sent(2_000, Controller, &[0x20]),
-            ]
-            .as_slice(),
-            (5, Reason::CommandInsideReply),
-        ),
-    ] {
-        assert_eq!(rt; first_fault(&rt, parts), Some(fault));
-    }
-}
-
-#[test]
-fn times_of_replies(rt: HostRuntime) {
-    let play = sent(400, Controller, &[0x20, 0x01, 0x21]);
-    for (parts, fault) in [
-        ([play, sent(10_487, Deck, &ACK)].as_slice(), None),
-        (
-            [play, sent(10_488, Deck, &ACK)].as_slice(),
-            Some((4, Reason::LateReply)),
-        ),
-        (
-            [
-                play,
-                sent(10_487, Deck, &[0x10]),
-                sent(20_774, Deck, &[0x01]),
-                sent(31_061, Deck, &[0x11]),
-            ]
-            .as_slice(),
-            None,
-        ),
-        (
-            [
-                play,
-                sent(10_487, Deck, &[0x10]),
-                sent(20_775, Deck, &[0x01]),
-            ]
-            .as_slice(),
-            Some((5, Reason::ByteGap)),
-        ),
-        (
-            [
-                play,
-                sent(10_487, Deck, &[0x10]),
-                sent(20_774, Deck, &[0x01]),
-                sent(31_062, Deck, &[0x11]),
-            ]
-            .as_slice(),
-            Some((6, Reason::ByteGap)),
-        ),
-    ] {
-        assert_eq!(rt; first_fault(&rt, parts), fault);
-    }
-}
-
-#[test]
-fn times_inside_commands(rt: HostRuntime) {
-    let begun = sent(400, Controller, &[0x20]);
-    for (parts, fault) in [
-        ([begun, sent(10_687, Controller, &[0x01])].as_slice(), None),
-        (
-            [begun, sent(10_688, Controller, &[0x01])].as_slice(),
-            Some((2, Reason::ByteGap)),
-        ),
-        (
-            [
-                begun,
-                sent(800, Controller, &[0x01]),
-                sent(11_087, Controller, &[0x21]),
-            ]
-            .as_slice(),
-            None,
-        ),
-        (
-            [
-                begun,
-                sent(800, Controller, &[0x01]),
-                sent(11_088, Controller, &[0x21]),
-            ]
-            .as_slice(),
-            Some((3, Reason::ByteGap)),
-        ),
-    ] {
-        assert_eq!(rt; first_fault(&rt, parts), fault);
-    }
-}
-
-#[test]
-fn the_first_of_two_reasons(rt: HostRuntime) {
-    let play = sent(400, Controller, &[0x20, 0x01, 0x21]);
-    let begun = sent(400, Controller, &[0x20, 0x01]);
-    for (parts, fault) in [
-        (
-            [sent(400, Deck, &[0x20])].as_slice(),
-            (1, Reason::ReplyWithoutCommand),
-        ),
-        (
-            [begun, sent(90_000, Deck, &[0x20])].as_slice(),
-            (3, Reason::ReplyInsideCommand),
-        ),
-        (
-            [begun, sent(90_000, Controller, &[0x22])].as_slice(),
-            (3, Reason::ByteGap),
-        ),
-        (
-            [play, sent(90_000, Deck, &[0x20])].as_slice(),
-            (4, Reason::LateReply),
-        ),
-        (
-            [play, sent(90_000, Controller, &[0x10])].as_slice(),
-            (4, Reason::NoReply),
-        ),
-        (
-            [
-                play,
-                sent(1_600, Deck, &[0x10]),
-                sent(90_000, Controller, &[0x10]),
             ]
             .as_slice(),
             (5, Reason::CommandInsideReply),

@@ -2,7 +2,7 @@
 
 use super::readers::{Cut, Plays, Repeated};
 use super::writers::{Narrow, Then};
-use super::{HEADER, PLAY, WRONG_SUM, told};
+use super::{HEADER, PLAY, WRONG_SUM, answer_and_text};
 use crate::{JudgeError, Verdict, View, judge};
 use block9::Reason;
 use capture9::{CaptureError, CaptureKind};
@@ -60,7 +60,7 @@ fn unreadable_texts(rt: HostRuntime) {
             7,
         ),
     ] {
-        let (answer, written) = told(rt.alloc(), text);
+        let (answer, written) = answer_and_text(rt.alloc(), text);
         assert!(rt; answer == refused(kind, row), "at {kind:?} {row}");
         assert!(rt; written.is_empty());
     }
@@ -69,7 +69,7 @@ fn unreadable_texts(rt: HostRuntime) {
 #[test]
 fn a_broken_rule_comes_before_a_later_bad_row(rt: HostRuntime) {
     let text = b"time_us,wire,byte\n400,C,20\n800,C,01\n1200,C,22\n1600,D,G1\n";
-    let (answer, written) = told(rt.alloc(), text.as_slice());
+    let (answer, written) = answer_and_text(rt.alloc(), text.as_slice());
     assert!(rt; answer == Ok(SUM_AT_3));
     assert_eq!(rt;
         written.as_slice(),
@@ -80,7 +80,7 @@ fn a_broken_rule_comes_before_a_later_bad_row(rt: HostRuntime) {
 #[test]
 fn no_row_is_read_after_the_break(rt: HostRuntime) {
     let mut reader = Repeated::new(WRONG_SUM, "1600,C,20\n", 1_000_000);
-    let (answer, _) = told(rt.alloc(), &mut reader);
+    let (answer, _) = answer_and_text(rt.alloc(), &mut reader);
     assert!(rt; answer == Ok(SUM_AT_3));
     assert!(rt; reader.given() < 1_000_000);
 }
@@ -91,18 +91,18 @@ fn readers_that_fail(rt: HostRuntime) {
     let more =
         "time_us,wire,byte\n400,C,20\n800,C,01\n1200,C,21\n1600,D,10\n2000,D,01\n2400,D,11\n2800,C";
     for (text, left, row) in [(PLAY, 0, 0), (PLAY, 52, 4), (more, more.len(), 7)] {
-        let (answer, written) = told(rt.alloc(), Cut::new(text, left));
+        let (answer, written) = answer_and_text(rt.alloc(), Cut::new(text, left));
         assert!(rt; answer == refused(CaptureKind::Read, row), "at row {row}");
         assert!(rt; written.is_empty());
     }
     let broken = "time_us,wire,byte\n400,C,20\n800,C,01\n1200,C,22\n1600,C,20\n2000,C,20\n";
-    let (answer, _) = told(rt.alloc(), Cut::new(broken, broken.len()));
+    let (answer, _) = answer_and_text(rt.alloc(), Cut::new(broken, broken.len()));
     assert!(rt; answer == Ok(SUM_AT_3));
 }
 
 #[test]
 fn one_record_too_many(rt: HostRuntime) {
-    let (answer, written) = told(rt.alloc(), Plays::new(rt.alloc(), 4_000_001));
+    let (answer, written) = answer_and_text(rt.alloc(), Plays::new(rt.alloc(), 4_000_001));
     assert!(rt; answer == refused(CaptureKind::TooMany, 4_000_001));
     assert!(rt; written.is_empty());
 }
@@ -110,7 +110,7 @@ fn one_record_too_many(rt: HostRuntime) {
 #[test]
 fn rows_without_end_at_one_time(rt: HostRuntime) {
     let six = "400,C,20\n400,C,01\n400,C,21\n400,D,10\n400,D,01\n400,D,11\n";
-    let (answer, written) = told(rt.alloc(), Repeated::new(HEADER, six, u64::MAX));
+    let (answer, written) = answer_and_text(rt.alloc(), Repeated::new(HEADER, six, u64::MAX));
     assert!(rt; answer == refused(CaptureKind::TooMany, 4_000_001));
     assert!(rt; written.is_empty());
 }

@@ -1,16 +1,8 @@
-use Rattle.std.proofs.Common.{◌≡◌, ap, IsTrue, List, ℕ, Result, Option, Err}
-use Rattle.std.specs.Option.{IfSome}
-use Rattle.std.specs.Result.{IfErr}
-use Rattle.capture9.specs.declared.error.CaptureError.{CaptureError}
+use Rattle.std.proofs.Common.{ap, IsTrue}
 use Rattle.capture9.specs.Coming.{Coming, is_of_text}
-use Rattle.capture9.specs.Rows.{Rows, rows_of}
-use Rattle.judge9.specs.declared.error.JudgeError.{JudgeError}
-use Rattle.judge9.specs.declared.error.JudgeError.TheVariants as error
-use Rattle.judge9.specs.declared.verdict.Verdict.{Verdict}
-use Rattle.judge9.specs.Answer.{IsAnswer, IsOkBefore, IsTheAnswer, StoppedBefore, told}
+use Rattle.capture9.specs.Rows.{rows_of}
+use Rattle.judge9.specs.Answer.{IsAnswer, IsOkBefore}
 use Rattle.judge9.specs.Answer.Answer.{judged, unreadable}
-use Rattle.judge9.specs.Refusal.{refusal_of}
-use Rattle.judge9.specs.Report.{Tells, WrotePart}
 use Rattle.judge9.proofs.TellLemmas.{over_text, each_text, told-answer, told-part, told-stopped, refused-answer, refused-stopped, refused-wrote}
 use Rattle.judge9.proofs.judging.judge.Goals as goal
 
@@ -44,5 +36,5 @@ returns-clause-wrote g c = refused-wrote c.in-Err.e c.from.result _ c.from.ensur
 pub returns-clause-stopped : goal.returns-clause-stopped
 returns-clause-stopped g c =
     let rows = ap (λ (x : Coming). x.rows) c.new-rows.ensures in
-    let before = over_text (g.R.Read.remaining c.args.reader) c.new-rows.result.rows (λ all. IsOkBefore all c.in-Err.e.row) rows c.in-Err.ensures.before in
+    let before = over_text (g.R.Read.remaining c.args.reader) c.new-rows.result.rows (λ all. IsOkBefore all c.in-Err.e) rows c.in-Err.ensures.before in
     each_text _ _ _ (λ text h. refused-stopped (rows_of text) c.in-Err.e c.from.result c.from.ensures h) before

@@ -1,5 +1,4 @@
-use Rattle.std.proofs.Common.{◌≡◌, ◌+◌, arith, subst, ℕ, add-zero}
-use Rattle.judge9.specs.SoFar.{SoFar}
+use Rattle.std.proofs.Common.{add-zero}
 use Rattle.judge9.proofs.SoFarSteps.{so_far-step, so_far-break_if}
 use Rattle.judge9.proofs.judging.judge_rows.Goals as goal
 

@@ -1,5 +1,5 @@
 use Rattle.std.proofs.Common.{◌-◌}
-use Rattle.judge9.specs.SoFar.{SoFar}
+use Rattle.judge9.proofs.SoFar.{SoFar}
 use Rattle.judge9.proofs.judging.judge_rows.Given as goal
 
 abbrev pub invariant-rows : goal.invariant-rows

@@ -1,4 +1,4 @@
--- Where the judging of a text stands.
+-- Where the judging of a text stands: the loop's invariant.
 use Rattle.std.specs.Prelude.{◌≡◌, ℕ, ◌≤◌, false, List, [], ◌++◌, length, Option, Some, None, ⊤}
 use Rattle.std.specs.Option.{ForSome}
 use Rattle.capture9.specs.declared.line_byte.LineByte.{LineByte}
@@ -14,7 +14,7 @@ abbrev pub WereRead : Option Rows → List LineByte → Option Rows → Type 0
 WereRead None items left = ⊤
 WereRead (Some rows) items left = (rest : Rows) × (left ≡ Some rest) × (rows ≡ record { records = items ++ rest.records; fault = rest.fault })
 
--- the records so far are in order; the pairer has their tail
+-- the records so far keep the rules and have this cut; the pairer has their tail
 pub record SoFar (rows : Option Rows) (coming : Coming) (paired : Paired) (records exchanges : ℕ) : Type 0 where
   pub items : List LineByte
   pub cut_exchanges : List Exchange

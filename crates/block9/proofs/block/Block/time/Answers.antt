@@ -1,0 +1,17 @@
+-- Lists of another length than four are no time.
+use Rattle.std.proofs.Common.{◌≡◌, ◌≢◌, ℕ, List, [], ◌∷◌, length, None, refl, ap, ◌∙◌}
+use Rattle.tc25.specs.Day.{time_of}
+use Rattle.block9.proofs.block.Block.time.Goals as goal
+
+no_time : (bytes : List ℕ) → length bytes ≢ 4 → None ≡ time_of bytes
+unfolding time_of
+no_time [] h = refl
+no_time (a ∷ []) h = refl
+no_time (a ∷ b ∷ []) h = refl
+no_time (a ∷ b ∷ c ∷ []) h = refl
+no_time (a ∷ b ∷ c ∷ d ∷ []) h = absurd (h refl)
+no_time (a ∷ b ∷ c ∷ d ∷ e ∷ bytes) h = refl
+
+pub returns-in_err-bytes : goal.returns-in_err-bytes
+returns-in_err-bytes c =
+    c.from_residual.ensures ∙ no_time c.args.self.now.bytes.items (λ four. c.in_err-bytes.ensures.cases (ap length c.as_slice.ensures.value ∙ four))

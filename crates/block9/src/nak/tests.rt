@@ -1,0 +1,41 @@
+//! The reasons in NAKs, by hand.
+
+use crate::{Block, NakBits};
+use bitflags::Flags;
+
+#[test]
+fn reasons_of_a_nak(rt: HostRuntime) {
+    for (reply, bits) in [
+        ([0x11, 0x12, 0x14, 0x37].as_slice(), Some(0x14)),
+        ([0x11, 0x12, 0x00, 0x23].as_slice(), Some(0x00)),
+        ([0x11, 0x12, 0x0A, 0x2D].as_slice(), Some(0x0A)),
+        ([0x10, 0x12, 0x22].as_slice(), None),
+        ([0x11, 0x01, 0x14, 0x26].as_slice(), None),
+        ([0x10, 0x01, 0x11].as_slice(), None),
+    ] {
+        let block = Block::from_bytes(reply).expect(&rt, "a block");
+        assert_eq!(rt;
+            NakBits::of(&block).map(|nak| nak.bits()),
+            bits,
+            "{reply:?}"
+        );
+    }
+}
+
+#[test]
+fn each_reason_has_its_bit_and_name(rt: HostRuntime) {
+    for (bit, flag, name) in [
+        (0x01, NakBits::UNDEFINED, "undefined"),
+        (0x04, NakBits::CHECKSUM, "checksum"),
+        (0x10, NakBits::PARITY, "parity"),
+        (0x20, NakBits::OVERRUN, "overrun"),
+        (0x40, NakBits::FRAMING, "framing"),
+        (0x80, NakBits::TIMEOUT, "timeout"),
+    ] {
+        assert_eq!(rt; NakBits::from_bits_retain(bit), flag, "{name}");
+        assert_eq!(rt; NakBits::from_name(name), Some(flag), "{name}");
+    }
+    assert_eq!(rt; NakBits::all().bits(), 0xF5);
+    assert!(rt; NakBits::from_bits_retain(0x14).contains(NakBits::PARITY));
+    assert!(rt; !NakBits::from_bits_retain(0x0A).contains(NakBits::OVERRUN));
+}
