@@ -56,7 +56,8 @@ pub fn judge<R: Read + Drop, W: Write>(
         (λ text. WrotePart (rows_of text) (W.contents writer.old) (W.contents writer.new)) }
     ensures stopped { IfSome (R.remaining reader)
         (λ text. IfErr result (StoppedBefore (rows_of text))) }
-    ensures kind { (e : CaptureError) → result ≡ Err (JudgeError.Capture e) → e.kind ≢ CaptureKind.OutOfMemory }
+    ensures kind { (e : CaptureError) → result ≡ Err (JudgeError.Capture e)
+        → e.kind ≢ CaptureKind.OutOfMemory }
 {
     // The one view there is: the line of the verdict alone.
     let View::Verdict = view;

@@ -132,7 +132,7 @@ fn kinds_of_replies_and_times(rt: HostRuntime) -> Result<(), Fail> {
         ),
     ] {
         let text = capture(rt.alloc(), blocks)?;
-        let (_, written) = told(rt.alloc(), text.as_bytes());
+        let (_, written) = answer_and_text(rt.alloc(), text.as_bytes());
         assert_eq!(rt; written.as_slice(), line.as_bytes(), "at {blocks}");
     }
     Ok(())
