@@ -7,8 +7,8 @@ use Rattle.std.specs.Cmp.{nat_cmp_total, unsigned_tied}
 use Rattle.std.specs.FinSet as set
 use Rattle.tc25.specs.Day.{day, next_frame, prev_frame}
 use Rattle.tc25.specs.Times.{Times, BelowDay, numbers_below, frames_below, every_time, just, image, span_count, begin_count}
-use Rattle.tc25.specs.TimesWhere.{contains-every_time, contains-frames_below}
-use Rattle.tc25.specs.Moves.{moved, moved_from}
+use Rattle.tc25.specs.Working.TimesWhere.{contains-every_time, contains-frames_below}
+use Rattle.tc25.specs.Working.Moves.{moved, moved_from}
 use Rattle.tc25.specs.declared.direction.Direction.{Direction}
 use Rattle.tc25.specs.declared.direction.Direction.TheVariants.{Next, Prev}
 use Rattle.tc25.proofs.TimesLemmas.{same_times, contains-insert_nat, contains-items_nat, contains-moved, image_to, finds, list_any-map, moved_below, moved_from-moved, moved-moved_from}
@@ -26,7 +26,7 @@ some_in t k there =
       | inr some ↦ omega arith
     ]
 
-contains-remove_nat : (s : Times) (k f : ℕ) → set.contains (set.remove s k) f ≡ (not (eqb f k) && set.contains s f)
+pub contains-remove_nat : (s : Times) (k f : ℕ) → set.contains (set.remove s k) f ≡ (not (eqb f k) && set.contains s f)
 contains-remove_nat s k f = set.contains-remove nat_cmp_total s k f ∙ ap (λ b. not b && set.contains s f) (unsigned_tied f k)
 
 -- a list's set within t has at most as many members
@@ -240,6 +240,12 @@ widen_prev_within s below f there =
     ]
 
 -- a widening does not raise it
+pub begin_count-next : (s : Times) → BelowDay s → begin_count (image next_frame s) ≡ begin_count s
+begin_count-next = begin_count-moved Next
+
+pub begin_count-prev : (s : Times) → BelowDay s → begin_count (image prev_frame s) ≡ begin_count s
+begin_count-prev = begin_count-moved Prev
+
 pub begin_count-widened_next : (s : Times) → BelowDay s → begin_count (set.union s (image next_frame s)) ≤ begin_count s
 begin_count-widened_next s below =
     let within = len_within _ _ (widen_next_within s below) in
@@ -291,6 +297,22 @@ pub span_count-begin_count : (s : Times) → span_count s ≤ begin_count s + 1
 span_count-begin_count s =
     let within = len_within _ _ (spans_within s) in
     let more = len_insert_more (begins s) 0 in
+    let a = span_count_is s in
+    let b = begin_count_is s in
+    omega arith
+
+begins_within : (s : Times) → Within (begins s) (span_firsts s)
+begins_within s f there =
+    let parts = begins_parts s f there in
+    contains-span_firsts s f ∙ and_from (set.contains s f) _ parts.0 (elim (cases_eq f 0) [
+      | inl zero_frame ↦ or_left _ _ (eq-eqb f 0 zero_frame)
+      | inr later ↦ let other = ne_eqb f 0 later in or_right (eqb f 0) _ (ap not (rw other at parts.1))
+    ])
+
+-- a set has no more beginnings than spans
+pub begin_count-span_count : (s : Times) → begin_count s ≤ span_count s
+begin_count-span_count s =
+    let within = len_within _ _ (begins_within s) in
     let a = span_count_is s in
     let b = begin_count_is s in
     omega arith

@@ -9,9 +9,9 @@ use Rattle.std.specs.Cmp.{nat_cmp_total}
 use Rattle.std.specs.FinSet as set
 use Rattle.tc25.specs.Day.{day}
 use Rattle.tc25.specs.Times.{Times, times_where, just, IsLeast, span_count}
-use Rattle.tc25.specs.SpanMoves.{point}
+use Rattle.tc25.specs.Working.SpanMoves.{point}
 use Rattle.tc25.specs.Spans.{in_span, is_covered, IsSpan, IsCanonical}
-use Rattle.tc25.specs.TimesWhere.{contains-times_where}
+use Rattle.tc25.specs.Working.TimesWhere.{contains-times_where}
 use Rattle.tc25.specs.declared.span.Span.{Span}
 use Rattle.tc25.proofs.TimesLemmas.{same_times, empty_iff, just_iff, two_iff, none_iff, least_from, times_where-empty, some_given}
 use Rattle.tc25.proofs.SpansLemmas.{uncovered_below}

@@ -7,9 +7,10 @@ use Rattle.std.specs.List.{insert, remove}
 use Rattle.std.specs.Result.{OnErr}
 use Rattle.std.specs.List.Sorted.{IsNonDecreasingBy}
 use Rattle.tc25.specs.Day.{day, next_frame, prev_frame}
-use Rattle.tc25.specs.Moves.{moved_from, edge_of, entry_of}
-use Rattle.tc25.specs.SpanMoves.{point, shifted_span, widened_span}
-use Rattle.tc25.specs.Spans.{in_span, is_covered, IsSpan, IsCanonical, IsPlace, glue, joined, with_frame, without_last, without_first, without_edge}
+use Rattle.tc25.specs.Working.Moves.{moved_from, edge_of, entry_of}
+use Rattle.tc25.specs.Working.SpanMoves.{point, shifted_span, widened_span}
+use Rattle.tc25.specs.Spans.{in_span, is_covered, IsSpan, IsCanonical}
+use Rattle.tc25.specs.Working.SpanLists.{IsPlace, glue, joined, with_frame, without_last, without_first, without_edge}
 use Rattle.tc25.specs.declared.direction.Direction.{Direction}
 use Rattle.tc25.specs.declared.direction.Direction.TheVariants.{Next, Prev}
 use Rattle.tc25.specs.declared.span.Span.{Span}

@@ -9,8 +9,8 @@ use Rattle.std.specs.Option.{SomeIff}
 use Rattle.std.specs.FinSet as set
 use Rattle.tc25.specs.Day.{day}
 use Rattle.tc25.specs.Times.{Times, BelowDay, every_time, times_where, just, image, IsLeast}
-use Rattle.tc25.specs.TimesWhere.{contains-every_time, contains-times_where, times_where_below}
-use Rattle.tc25.specs.Moves.{moved, moved_from}
+use Rattle.tc25.specs.Working.TimesWhere.{contains-every_time, contains-times_where, times_where_below}
+use Rattle.tc25.specs.Working.Moves.{moved, moved_from}
 use Rattle.tc25.specs.declared.direction.Direction.{Direction}
 use Rattle.tc25.specs.declared.direction.Direction.TheVariants.{Next, Prev}
 

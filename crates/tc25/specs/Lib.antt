@@ -1,9 +1,7 @@
 pub mod Day
 pub mod Frames
-pub mod ListMembers
-pub mod Moves
-pub mod SpanMembers
-pub mod SpanMoves
+pub mod ListSet
+pub mod SpanSet
 pub mod Spans
 pub mod Times
-pub mod TimesWhere
+pub mod Working

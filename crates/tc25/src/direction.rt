@@ -2,7 +2,7 @@
 
 ghost use Rattle.std.specs.Prelude.{◌≡◌, ◌<◌};
 ghost use Rattle.tc25.specs.Day.{day};
-ghost use Rattle.tc25.specs.Moves.{moved, edge_of, entry_of};
+ghost use Rattle.tc25.specs.Working.Moves.{moved, edge_of, entry_of};
 
 use crate::time_code::TimeCode;
 

@@ -38,7 +38,7 @@ pub fn memberships()
 ///
 /// A time begins a set where it is a member and the time before, round the day, is not. A shift
 /// keeps the number of these, a widening does not raise it, and a time that is added raises it by
-/// one at most. A set has at most one span more, and no set has more than 1,080,000.
+/// one at most. A set has as many spans or one more, and no set has more than 1,080,000.
 pub fn span_counts()
     ensures shift_next { (s : Times) → BelowDay s → begin_count (image next_frame s) ≡ begin_count s }
     ensures shift_prev { (s : Times) → BelowDay s → begin_count (image prev_frame s) ≡ begin_count s }
@@ -50,5 +50,6 @@ pub fn span_counts()
     ensures all { begin_count every_time ≡ 0 }
     ensures one { (t : ℕ) → begin_count (just t) ≤ 1 }
     ensures spans { (s : Times) → span_count s ≤ begin_count s + 1 }
+    ensures begins { (s : Times) → begin_count s ≤ span_count s }
     ensures greatest { (s : Times) → BelowDay s → span_count s ≤ 1080000 }
 {}

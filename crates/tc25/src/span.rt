@@ -2,7 +2,7 @@
 
 ghost use Rattle.std.specs.Prelude.{◌≡◌, ◌≤◌, ◌<◌};
 ghost use Rattle.tc25.specs.Day.{day};
-ghost use Rattle.tc25.specs.SpanMoves.{point, shifted_span, widened_span};
+ghost use Rattle.tc25.specs.Working.SpanMoves.{point, shifted_span, widened_span};
 
 use crate::direction::Direction;
 use crate::time_code::TimeCode;

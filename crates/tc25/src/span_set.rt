@@ -21,7 +21,7 @@ pub struct SpanSet {
 
 impl SpanSet {
     ghost use Rattle.std.specs.Prelude.{◌≡◌};
-    ghost use Rattle.tc25.specs.SpanMembers.{members_of};
+    ghost use Rattle.tc25.specs.SpanSet.{members_of};
     ghost use Rattle.tc25.specs.Times.{span_count};
 
     /// The number of spans: of members that are frame 0 or whose frame before is no member.
@@ -38,8 +38,8 @@ impl TimeSet for SpanSet {
     ghost use Rattle.std.specs.Prelude.{◌≡◌, ◌<◌, ℕ, true};
     ghost use Rattle.std.specs.FinSet as set;
     ghost use Rattle.tc25.specs.Day.{day};
-    ghost use Rattle.tc25.specs.SpanMembers.{members_of};
-    ghost use Rattle.tc25.specs.TimesWhere.{times_where_below};
+    ghost use Rattle.tc25.specs.SpanSet.{members_of};
+    ghost use Rattle.tc25.specs.Working.TimesWhere.{times_where_below};
 
     ghost members = { members_of };
 

@@ -2,9 +2,10 @@
 
 ghost use Rattle.std.specs.Prelude.{◌≡◌, ◌≤◌, ◌<◌, ◌+◌, ◌++◌, ◌||◌, ℕ, false, [], ◌∷◌, if◌then◌else◌, length, map, take, drop, vec_len, vec_capacity, OnOk, OnErr};
 ghost use Rattle.tc25.specs.Day.{day};
-ghost use Rattle.tc25.specs.Moves.{moved_from};
-ghost use Rattle.tc25.specs.SpanMoves.{point, shifted_span, widened_span};
-ghost use Rattle.tc25.specs.Spans.{is_covered, IsSpan, IsCanonical, IsPlace, glue, joined, with_frame, without_edge};
+ghost use Rattle.tc25.specs.Working.Moves.{moved_from};
+ghost use Rattle.tc25.specs.Working.SpanMoves.{point, shifted_span, widened_span};
+ghost use Rattle.tc25.specs.Spans.{is_covered, IsSpan, IsCanonical};
+ghost use Rattle.tc25.specs.Working.SpanLists.{IsPlace, glue, joined, with_frame, without_edge};
 
 use crate::direction::Direction;
 use crate::span::{LAST_FRAME, Span};

@@ -1,13 +1,12 @@
 -- Each law is a lemma on sets.
-use Rattle.tc25.specs.declared.direction.Direction.TheVariants.{Next, Prev}
-use Rattle.tc25.proofs.CountLemmas.{begin_count-moved, begin_count-widened_next, begin_count-widened_prev, begin_count-insert, begin_count-kept, begin_count-empty, begin_count-every_time, begin_count-just, span_count-begin_count, span_count-in_day}
+use Rattle.tc25.proofs.CountLemmas.{begin_count-next, begin_count-prev, begin_count-widened_next, begin_count-widened_prev, begin_count-insert, begin_count-kept, begin_count-empty, begin_count-every_time, begin_count-just, span_count-begin_count, begin_count-span_count, span_count-in_day}
 use Rattle.tc25.proofs.laws.span_counts.Goals as goal
 
 pub returns-clause-shift_next : goal.returns-clause-shift_next
-returns-clause-shift_next c = begin_count-moved Next
+returns-clause-shift_next c = begin_count-next
 
 pub returns-clause-shift_prev : goal.returns-clause-shift_prev
-returns-clause-shift_prev c = begin_count-moved Prev
+returns-clause-shift_prev c = begin_count-prev
 
 pub returns-clause-widen_next : goal.returns-clause-widen_next
 returns-clause-widen_next c = begin_count-widened_next
@@ -35,3 +34,6 @@ returns-clause-one c = begin_count-just
 
 pub returns-clause-greatest : goal.returns-clause-greatest
 returns-clause-greatest c = span_count-in_day
+
+pub returns-clause-begins : goal.returns-clause-begins
+returns-clause-begins c = begin_count-span_count

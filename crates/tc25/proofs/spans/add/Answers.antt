@@ -2,7 +2,7 @@
 use Rattle.std.proofs.Common.{◌<◌, ◌≤◌, ◌+◌, ◌++◌, ◌∙◌, sym, ap, subst, arith, length, take, drop}
 use Rattle.std.proofs.lemmas.List.{get_or_default}
 use Rattle.tc25.specs.Day.{day}
-use Rattle.tc25.specs.Spans.{glue}
+use Rattle.tc25.specs.Working.SpanLists.{glue}
 use Rattle.tc25.specs.declared.span.Span.{Span}
 use Rattle.tc25.proofs.SpansLemmas.{canonical_at, grown, with_frame-grown_next, with_frame-alone, canonical_with, uncovered_near, on_err}
 use Rattle.tc25.proofs.spans.add.Goals as goal

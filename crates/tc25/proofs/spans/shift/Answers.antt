@@ -1,8 +1,9 @@
 -- A shift within the day, and where a frame leaves it that frame is added where it comes in.
 use Rattle.std.proofs.Common.{◌≡◌, ◌∙◌, sym, ap, refl, map, arith}
 use Rattle.std.proofs.lemmas.Result.{on_ok_weaker}
-use Rattle.tc25.specs.Spans.{is_covered, without_edge}
-use Rattle.tc25.specs.SpanMoves.{shifted_span}
+use Rattle.tc25.specs.Spans.{is_covered}
+use Rattle.tc25.specs.Working.SpanLists.{without_edge}
+use Rattle.tc25.specs.Working.SpanMoves.{shifted_span}
 use Rattle.tc25.proofs.SpansLemmas.{canonical_shift, covered_shift, shift_stays, shifted_all, neighbour_covered, no_err}
 use Rattle.tc25.proofs.spans.shift.Goals as goal
 use Rattle.tc25.proofs.spans.shift.Goals.{then-not-contains-2+in_ok-reserve, else-not-contains-2}

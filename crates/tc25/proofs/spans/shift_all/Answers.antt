@@ -2,7 +2,7 @@
 use Rattle.std.proofs.Common.{◌<◌, arith, length, get_or}
 use Rattle.std.proofs.lemmas.List.{get_or_default}
 use Rattle.std.proofs.lemmas.List.Edits.{map_over_more}
-use Rattle.tc25.specs.SpanMoves.{shifted_span}
+use Rattle.tc25.specs.Working.SpanMoves.{shifted_span}
 use Rattle.tc25.specs.declared.span.Span.{Span}
 use Rattle.tc25.proofs.SpansLemmas.{mapped_front-at, canonical_at}
 use Rattle.tc25.proofs.spans.shift_all.Goals as goal

@@ -1,9 +1,10 @@
 -- A widening within the day, and where a frame leaves it that frame is added where it comes in.
 use Rattle.std.proofs.Common.{◌≡◌, ◌∙◌, sym, ap, map, inl, inr, true, false, ◌⊎◌}
 use Rattle.std.proofs.lemmas.Result.{on_ok_weaker}
-use Rattle.tc25.specs.Moves.{entry_of, edge_of}
-use Rattle.tc25.specs.Spans.{is_covered, joined}
-use Rattle.tc25.specs.SpanMoves.{widened_span}
+use Rattle.tc25.specs.Working.Moves.{entry_of, edge_of}
+use Rattle.tc25.specs.Spans.{is_covered}
+use Rattle.tc25.specs.Working.SpanLists.{joined}
+use Rattle.tc25.specs.Working.SpanMoves.{widened_span}
 use Rattle.tc25.proofs.SpansLemmas.{canonical_widen, covered_widen, widen_stays, widened_all}
 use Rattle.tc25.proofs.spans.widen.Goals as goal
 use Rattle.tc25.proofs.spans.widen.Goals.{then-not-contains-via-then-not-contains, then-not-contains-via-else-not-contains+then-contains}

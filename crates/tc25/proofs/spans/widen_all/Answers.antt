@@ -1,6 +1,6 @@
 -- Each turn joins a span to the current one, or begins a new one.
 use Rattle.std.proofs.Common.{◌+◌, ◌<◌, ◌≤◌, ◌∙◌, ap, subst, arith, length, get_or}
-use Rattle.tc25.specs.SpanMoves.{widened_span}
+use Rattle.tc25.specs.Working.SpanMoves.{widened_span}
 use Rattle.tc25.specs.declared.span.Span.{Span}
 use Rattle.tc25.proofs.SpansLemmas.{canonical_at, same_at, same_rest_next, same_rest_set, step_touching, step_apart, widened_in_day}
 use Rattle.tc25.proofs.spans.widen_all.Goals as goal
