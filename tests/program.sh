@@ -42,6 +42,16 @@ run_text() {
     status=$?
 }
 
+# run_blocks BLOCKS: the program on records 400 microseconds apart: wire letters, each before the bytes that it
+# brings.
+run_blocks() {
+    {
+        echo 'time_us,wire,byte'
+        echo "$1" | tr -s ' ' '\n' | awk '/^[CD]$/ { wire = $0; next } { time += 400; print time "," wire "," $0 }'
+    } | "$program" > "$work/out" 2> "$work/err"
+    status=$?
+}
+
 # The examples, each with its answer.
 while IFS='|' read -r file want_status want_out want_err; do
     case "$file" in '#'* | '') continue ;; esac
@@ -51,30 +61,84 @@ done < examples/ANSWERS
 
 # Forms of CSV that are the same capture.
 yes='yes: records 2, exchanges 0, open 2'
-run_text 'time_us,wire,byte\n400,C,20\n800,C,01'
-expect 'no line feed at the end' 0 "$yes" ''
-run_text 'time_us,wire,byte\r\n400,C,20\r\n800,C,01\r\n'
-expect 'CRLF' 0 "$yes" ''
-run_text '"time_us","wire","byte"\n"400","C","20"\n"800","C","01"\n'
-expect 'quotes' 0 "$yes" ''
-run_text 'time_us,wire,byte\n\n400,C,20\n\n800,C,01\n\n'
-expect 'empty lines' 0 "$yes" ''
-run_text '\357\273\277time_us,wire,byte\n400,C,20\n800,C,01\n'
-expect 'a byte order mark' 0 "$yes" ''
+while IFS='|' read -r name text; do
+    run_text "$text"
+    expect "$name" 0 "$yes" ''
+done <<'END'
+no line feed at the end|time_us,wire,byte\n400,C,20\n800,C,01
+CRLF|time_us,wire,byte\r\n400,C,20\r\n800,C,01\r\n
+CR alone|time_us,wire,byte\r400,C,20\r800,C,01\r
+quotes|"time_us","wire","byte"\n"400","C","20"\n"800","C","01"\n
+bytes after a closing quote|time_us,wire,byte\n400,C,"2"0\n"8"00,C,01\n
+a quote that the end of the text closes|time_us,wire,byte\n400,C,20\n800,C,"01
+empty lines|time_us,wire,byte\n\n400,C,20\n\n800,C,01\n\n
+a byte order mark|\357\273\277time_us,wire,byte\n400,C,20\n800,C,01\n
+a byte order mark and an empty line|\357\273\277\n\ntime_us,wire,byte\n400,C,20\n800,C,01\n
+zeros in front, and digits of both cases|time_us,wire,byte\n000000000000400,C,20\n400,C,aB\n
+END
+run_text 'time_us,wire,byte'
+expect 'a header without a line feed' 0 'yes: records 0, exchanges 0, open 0' ''
 
 # Texts that can't be read.
-run_text ''
-expect 'an empty text' 3 '' 'unreadable at row 0: header'
-run_text 'time_us,wire,byte\n400,C\n'
-expect 'two fields' 3 '' 'unreadable at row 1: fields'
-run_text 'time_us,wire,byte\n1000000000000000,C,20\n'
-expect 'sixteen digits' 3 '' 'unreadable at row 1: time'
-run_text 'time_us,wire,byte\n400,c,20\n'
-expect 'a lower-case wire' 3 '' 'unreadable at row 1: wire'
-run_text 'time_us,wire,byte\n800,C,20\n400,C,01\n'
-expect 'a time that falls' 3 '' 'unreadable at row 2: backwards'
+while IFS='|' read -r name row word text; do
+    run_text "$text"
+    expect "$name" 3 '' "unreadable at row $row: $word"
+done <<'END'
+an empty text|0|header|
+empty lines alone|0|header|\n\r\n
+a byte order mark alone|0|header|\357\273\277
+another header|0|header|time_us,wire,Byte\n400,C,20\n
+a header with a byte that is no UTF-8|0|header|time_us,wire,byte\377\n400,C,20\n
+an unclosed quote in the header|0|header|"time_us,wire,byte\n400,C,20\n
+two fields|1|fields|time_us,wire,byte\n400,C\n
+a line of blanks|1|fields|time_us,wire,byte\n  \n400,C,20\n
+one empty field in quotes|1|fields|time_us,wire,byte\n""\n
+a comment|2|fields|time_us,wire,byte\n400,C,20\n# over\n
+an unclosed quote that takes the rest of the text|2|fields|time_us,wire,byte\n400,C,20\n"800,C,01\n1200,C,21\n
+sixteen digits|1|time|time_us,wire,byte\n1000000000000000,C,20\n
+a sign|1|time|time_us,wire,byte\n+400,C,20\n
+a blank after the time|1|time|time_us,wire,byte\n400 ,C,20\n
+three empty fields|1|time|time_us,wire,byte\n,,\n
+a byte order mark before a row|1|time|time_us,wire,byte\n\357\273\277400,C,20\n
+a lower-case wire|1|wire|time_us,wire,byte\n400,c,20\n
+a wire that is no UTF-8|1|wire|time_us,wire,byte\n400,\377,20\n
+one digit|1|byte|time_us,wire,byte\n400,C,2\n
+a blank before the byte|1|byte|time_us,wire,byte\n400,C, 20\n
+a byte that is no UTF-8|1|byte|time_us,wire,byte\n400,C,\377\376\n
+a quote inside a field|1|byte|time_us,wire,byte\n400,C,2"0"\n
+two quotes for one|1|byte|time_us,wire,byte\n400,C,"2""0"\n
+a line feed inside quotes|1|byte|time_us,wire,byte\n400,C,"20\n"\n
+an unclosed quote that takes a line feed|1|byte|time_us,wire,byte\n400,C,"20\n
+a time that falls|2|backwards|time_us,wire,byte\n800,C,20\n400,C,01\n
+END
 run_text 'time_us,wire,byte\n400,C,20\n800,C,01\n1200,C,22\n1600,D,G1\n'
 expect 'a rule broken before a bad row' 1 'no at record 3: B2 wrong sum' ''
+
+# Captures that begin inside an exchange, commands that are not listed, times, and what is not judged.
+while IFS='|' read -r name want_status want_out blocks; do
+    run_blocks "$blocks"
+    expect "$name" "$want_status" "$want_out" ''
+done <<'END'
+a capture that begins with a reply|1|no at record 1: P1 reply without a command|D 10 01 11
+a capture that begins inside a command|1|no at record 4: P2 reply before the end of the command|C 01 21 20 D 10 01 11
+a code that is not listed|0|yes: records 10, exchanges 1, open 0|C 20 03 23 D 74 04 25 00 00 00 9D
+a listed code with another count|0|yes: records 9, exchanges 1, open 0|C 21 01 00 22 D 12 11 20 10 53
+a listed code in another group|0|yes: records 6, exchanges 1, open 0|C 30 01 31 D 30 01 31
+a preset with another count|0|yes: records 9, exchanges 1, open 0|C 43 14 25 00 00 7C D 10 01 11
+a selector that is not listed|0|yes: records 11, exchanges 1, open 0|C 61 0C 05 72 D 74 04 25 00 00 00 9D
+a reply of a wrong sum to a command that is not listed|1|no at record 6: B2 wrong sum|C 20 03 23 D 10 01 12
+a reply of a wrong group to a command that is not listed|1|no at record 4: B1 wrong group for this wire|C 20 03 23 D 20
+frame 25|1|no at record 7: P6 invalid time in a command|C 44 14 25 00 00 10 8D
+frame 29|1|no at record 7: P6 invalid time in a command|C 44 14 29 00 00 10 91
+frame 24 with its flag bits|0|yes: records 10, exchanges 1, open 0|C 44 14 E4 80 80 C0 FC D 10 01 11
+time replies that go back|0|yes: records 22, exchanges 2, open 0|C 61 0C 01 6E D 74 04 24 00 00 00 9C C 61 0C 01 6E D 74 04 00 00 00 00 78
+END
+run_text 'time_us,wire,byte\n0,C,20\n0,C,01\n0,C,21\n0,D,10\n0,D,01\n0,D,11\n999999999999999,C,20\n'
+expect 'records at one time, and a long pause' 0 'yes: records 7, exchanges 1, open 1' ''
+
+"$program" two words < examples/play.csv > "$work/out" 2> "$work/err"
+status=$?
+expect 'words of a command line, which are not read' 0 'yes: records 6, exchanges 1, open 0' ''
 
 # Streams that fail.
 run_on .
@@ -106,6 +170,32 @@ expect 'a closed standard error' 3 '' ''
 } | "$program" > "$work/out" 2> "$work/err"
 status=$?
 expect 'a long pipe' 0 'yes: records 240000, exchanges 40000, open 0' ''
+
+# The script that builds the program where it is not built, with a builder of our own on its path.
+mkdir -p "$work/tree/crates/ninecheck" "$work/bin"
+cp ninecheck "$work/tree/ninecheck"
+echo 'a capture' > "$work/tree/crates/ninecheck/stdin"
+printf '#!/bin/sh\necho "not proved"\nexit 1\n' > "$work/bin/rt"
+chmod +x "$work/bin/rt"
+building='ninecheck: proving and building, which takes a few minutes'
+PATH="$work/bin:$PATH" "$work/tree/ninecheck" < examples/play.csv > "$work/out" 2> "$work/err"
+status=$?
+expect 'a build that fails' 125 '' "$building
+not proved"
+cat > "$work/bin/rt" <<'END'
+#!/bin/sh
+mkdir -p out
+printf '#!/bin/sh\necho "$@"; cat; exit 7\n' > out/ninecheck
+chmod +x out/ninecheck
+END
+echo 'a row' | PATH="$work/bin:$PATH" "$work/tree/ninecheck" two words > "$work/out" 2> "$work/err"
+status=$?
+expect 'a build that succeeds' 7 'two words
+a row' "$building"
+echo 'a row' | PATH="$work/bin:$PATH" "$work/tree/ninecheck" > "$work/out" 2> "$work/err"
+status=$?
+expect 'a program that is built' 7 '
+a row' ''
 
 echo "$passed passed, $failed failed"
 [ "$failed" = 0 ]

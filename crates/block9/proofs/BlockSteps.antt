@@ -7,9 +7,10 @@ use Rattle.capture9.specs.declared.line_byte.LineByte.{LineByte}
 use Rattle.capture9.specs.declared.line_byte.Wire.{Wire}
 use Rattle.capture9.specs.declared.line_byte.Wire.TheVariants.{Controller, Deck}
 use Rattle.block9.specs.declared.block.Block.{Block}
-use Rattle.block9.specs.Block.{IsBlock, body_of, block_of}
+use Rattle.block9.specs.Block.{IsBlock, body_of}
 use Rattle.block9.specs.Line.{IsWhole, IsBegun, allows, block_len, bytes_of, group_in}
-use Rattle.block9.specs.Pairing.{ends_block}
+use Rattle.block9.specs.Working.Body.{block_of}
+use Rattle.block9.specs.Working.Table.{ends_block}
 use Rattle.block9.proofs.LineLemmas.{GoesOn, linked_less, linked_last, linked_more, whole_first, whole_long, block_of-body_of}
 
 -- a group that some wire allows is below 16

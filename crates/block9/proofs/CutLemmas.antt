@@ -12,7 +12,7 @@ use Rattle.block9.specs.Command.{command_of, fits, is_reply_time_valid}
 use Rattle.block9.specs.Line.{IsBegun, IsWhole, block_len, bytes_of, first_time, last_time}
 use Rattle.block9.specs.Exchange.{IsCommand, IsInTime, IsExchange, IsTail, Cut, IsKept}
 use Rattle.block9.specs.Exchange.IsTail.{nothing, in_command, after_command, in_reply}
-use Rattle.block9.specs.Pairing.{pairing}
+use Rattle.block9.specs.Working.Table.{pairing}
 use Rattle.block9.proofs.LineLemmas.{whole_len, whole_long, block_len-append, whole_parts, spelled_once}
 use Rattle.block9.proofs.BlockSteps.{begun_less, whole_less}
 use Rattle.block9.proofs.TableLemmas as table

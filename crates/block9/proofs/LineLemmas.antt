@@ -5,7 +5,8 @@ use Rattle.std.specs.List.{sum}
 use Rattle.capture9.specs.declared.line_byte.LineByte.{LineByte}
 use Rattle.capture9.specs.declared.line_byte.Wire.{Wire}
 use Rattle.block9.specs.declared.block.Block.{Block}
-use Rattle.block9.specs.Block.{Spells, body_of, spelling, block_of}
+use Rattle.block9.specs.Block.{Spells, body_of, spelling}
+use Rattle.block9.specs.Working.Body.{block_of}
 use Rattle.block9.specs.Line.{IsLinked, IsWhole, block_len, byte_gap, bytes_of, first_time, last_time}
 
 -- the time, the wire and the gap of a record that goes on with a block

@@ -4,8 +4,9 @@ use Rattle.std.proofs.lemmas.List.{same_from_push}
 use Rattle.std.specs.List.{sum, slice_get}
 use Rattle.capture9.specs.declared.line_byte.LineByte.{LineByte}
 use Rattle.block9.specs.declared.block.Block.{Block}
-use Rattle.block9.specs.Block.{Spells, body_of, block_of}
+use Rattle.block9.specs.Block.{Spells, body_of}
 use Rattle.block9.specs.Line.{last_time}
+use Rattle.block9.specs.Working.Body.{block_of}
 use Rattle.block9.proofs.LineLemmas.{byte_parts}
 
 -- bytes that spell a block are its body and the sum

@@ -8,16 +8,18 @@ use Rattle.block9.specs.declared.command.Command.{Command}
 use Rattle.block9.specs.declared.pairer.Exchange.{Exchange}
 use Rattle.block9.specs.declared.place.Place.{Place}
 use Rattle.block9.specs.declared.place.Place.TheVariants.{Idle, InCommand, AfterCommand, InReply}
-use Rattle.block9.specs.Block.{block_of}
+use Rattle.block9.specs.Working.Body.{block_of}
 use Rattle.block9.specs.Command.{command_of, fits, is_reply_time_valid}
 use Rattle.block9.specs.Line.{IsBegun, IsWhole, block_len, bytes_of, first_time, last_time}
 use Rattle.block9.specs.Exchange.{IsCommand, IsInTime, IsExchange, IsTail, Does, tail_after}
 use Rattle.block9.specs.declared.pairer.Step.{Step}
 use Rattle.block9.specs.declared.pairer.Step.TheVariants as step
 use Rattle.block9.specs.Exchange.IsTail.{nothing, in_command, after_command, in_reply}
-use Rattle.block9.specs.Pairing.{place_of, open_at, ends_block, pairing}
-use Rattle.block9.specs.Reading.{Answers, Closes}
-use Rattle.block9.specs.Paired.{IsNotBefore}
+use Rattle.block9.specs.Working.Table.{place_of, open_at, ends_block, pairing}
+use Rattle.block9.specs.declared.pairer.Taken.{Taken}
+use Rattle.block9.specs.declared.pairer.Taken.TheVariants as taken
+use Rattle.block9.specs.Working.ReadOff.{Closes, IsReadAs, step_of}
+use Rattle.block9.specs.Working.Held.{IsNotBefore}
 use Rattle.std.specs.Option.{ForSome}
 use Rattle.block9.proofs.LineLemmas.{last_time-push, whole_len, whole_parts, first_time-push_any}
 use Rattle.block9.proofs.BlockSteps.{begun_more, whole_now}
@@ -158,11 +160,11 @@ tail_short t (in_reply command reply b c e hc hd soon) =
     let d = hd.short in
     omega (arith, length-append command reply, block_len_low command, block_len_low reply)
 
--- the step that is answered is the one that the record does
-pub does : (t : List LineByte) (r : LineByte) (s : Step) → IsTail t → last_time t ≤ r.time_us → (pairing t r ≡ None) × Answers t s → Does t r s
-does t r step.Waiting h later read = let still = waits t r h later read.0 read.1 in (still.tail, still.no_command)
-does t r step.Command h later read = commands t r h later read.0 read.1.0 read.1.1
-does t r (step.Exchange e) h later read = closes t r e h later read.0 read.1.0 read.1.1 read.1.2
+-- the step that is told is the one that the record does
+pub does : (t : List LineByte) (r : LineByte) (x : Taken) → IsTail t → last_time t ≤ r.time_us → (pairing t r ≡ None) × IsReadAs t x → Does t r (step_of x)
+does t r taken.Waiting h later read = let still = waits t r h later read.0 read.1 in (still.tail, still.no_command)
+does t r (taken.Command c) h later read = commands t r h later read.0 read.1.0 read.1.1
+does t r (taken.Exchange e) h later read = closes t r e h later read.0 read.1.0 read.1.1 read.1.2
 
 -- what it leaves is a tail, with no record after the one that was fed
 pub still_tail : (t : List LineByte) (r : LineByte) (s : Step) → Does t r s → IsTail (tail_after t r s)

@@ -1,5 +1,5 @@
 -- The table of rules at each of the four places: what it says where a record breaks none, and when that is so.
-use Rattle.std.proofs.Common.{◌≡◌, ℕ, ◌%◌, if◌then◌else◌, ◌≤◌, ◌∙◌, List, refl, ap, true, false, Bool, Option, Some, None, arith, eqb, leb}
+use Rattle.std.proofs.Common.{◌≡◌, ◌≢◌, ℕ, ◌%◌, if◌then◌else◌, ◌<◌, ◌≤◌, ◌∙◌, List, refl, ap, true, false, Bool, Option, Some, None, arith, eqb, leb}
 use Rattle.std.proofs.lemmas.Bool.Decides.{nat_tests}
 use Rattle.std.specs.List.{sum}
 use Rattle.std.specs.Option.{option_or}
@@ -11,10 +11,10 @@ use Rattle.block9.specs.declared.command.Command.{Command}
 use Rattle.block9.specs.declared.place.Place.{Place}
 use Rattle.block9.specs.declared.place.Place.TheVariants.{Idle, InCommand, AfterCommand, InReply}
 use Rattle.block9.specs.declared.reason.Reason.{Reason}
-use Rattle.block9.specs.declared.reason.Reason.TheVariants.{InvalidReplyTime, WrongReply}
+use Rattle.block9.specs.declared.reason.Reason.TheVariants.{InvalidCommandTime, InvalidReplyTime, WrongReply}
 use Rattle.block9.specs.Command.{fits, is_reply_time_valid}
 use Rattle.block9.specs.Line.{allows, bytes_of, group_in}
-use Rattle.block9.specs.Pairing.{open_at, ends_block, is_soon, is_linked, wire_fault, time_fault, group_fault, sum_fault, command_fault, reply_fault, meaning_fault, end_fault, fault_at}
+use Rattle.block9.specs.Working.Table.{open_at, ends_block, is_soon, is_linked, wire_fault, time_fault, group_fault, sum_fault, command_fault, reply_fault, meaning_fault, end_fault, fault_at}
 
 pub or-none : (a b : Option Reason) → option_or a b ≡ None → (a ≡ None) × (b ≡ None)
 or-none None b h = (refl, h)
@@ -96,6 +96,18 @@ eq_true a b h = grind (arith, nat_tests)
 pub true_eq : (a b : ℕ) → a ≡ b → eqb a b ≡ true
 true_eq a b h = grind (arith, nat_tests)
 
+pub le_false : (a b : ℕ) → leb a b ≡ false → b < a
+le_false a b h = grind (arith, nat_tests)
+
+pub false_le : (a b : ℕ) → b < a → leb a b ≡ false
+false_le a b h = grind (arith, nat_tests)
+
+pub eq_false : (a b : ℕ) → eqb a b ≡ false → a ≢ b
+eq_false a b h = λ e. grind (arith, nat_tests)
+
+pub false_eq : (a b : ℕ) → a ≢ b → eqb a b ≡ false
+false_eq a b h = grind (arith, nat_tests)
+
 -- the end of a block: both parts, where there is one
 pub end_none : (place : Place) (tail current : List LineByte) (r : LineByte) → end_fault place tail current r ≡ None → ends_block current ≡ true → (r.byte ≡ sum (bytes_of current) % 256) × (meaning_fault place tail current ≡ None)
 end_none place tail current r h e =
@@ -143,6 +155,16 @@ some_reply (Some d) c reply e f v =
     both true true h k = refl
     both true false h k = cc
     both false b h k = cc
+
+-- a reply that breaks a rule
+pub reply_no_meaning : (o : Option Command) (reply : Block) → o ≡ None → reply_fault o reply ≡ Some InvalidCommandTime
+reply_no_meaning o reply e = rw e refl
+
+pub reply_kind : (o : Option Command) (c : Command) (reply : Block) → o ≡ Some c → fits c reply ≡ false → reply_fault o reply ≡ Some WrongReply
+reply_kind o c reply e f = rw (e, f) refl
+
+pub reply_time : (o : Option Command) (c : Command) (reply : Block) → o ≡ Some c → fits c reply ≡ true → is_reply_time_valid c reply ≡ false → reply_fault o reply ≡ Some InvalidReplyTime
+reply_time o c reply e f v = rw (e, f, v) refl
 
 -- no reason at the end of a block
 abbrev pub end_none_of : Place → List LineByte → List LineByte → LineByte → Type 0

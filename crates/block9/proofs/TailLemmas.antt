@@ -8,10 +8,10 @@ use Rattle.capture9.specs.declared.line_byte.Wire.TheVariants.{Controller, Deck}
 use Rattle.block9.specs.declared.block.Block.{Block}
 use Rattle.block9.specs.declared.place.Place.{Place}
 use Rattle.block9.specs.declared.place.Place.TheVariants.{Idle, InCommand, AfterCommand, InReply}
-use Rattle.block9.specs.Block.{block_of}
+use Rattle.block9.specs.Working.Body.{block_of}
 use Rattle.block9.specs.Line.{IsBegun, IsWhole, allows, block_len, bytes_of, group_in, last_time}
 use Rattle.block9.specs.Exchange.{IsInTime}
-use Rattle.block9.specs.Pairing.{place_of, fault_at, pairing}
+use Rattle.block9.specs.Working.Table.{place_of, fault_at, pairing}
 use Rattle.block9.proofs.LineLemmas.{GoesOn, whole_len, whole_long, block_len-append}
 use Rattle.block9.proofs.BlockSteps.{Continues, begun_first, whole_less}
 use Rattle.block9.proofs.TableLemmas as table

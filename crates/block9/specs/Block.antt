@@ -1,5 +1,5 @@
 -- What a block is, and how it is spelled on the line.
-use Rattle.std.specs.Prelude.{ℕ, ◌+◌, ◌*◌, ◌/◌, ◌%◌, ◌<◌, ◌≤◌, ◌≡◌, List, [], ◌∷◌, ◌++◌, length, slice_index}
+use Rattle.std.specs.Prelude.{ℕ, ◌+◌, ◌*◌, ◌%◌, ◌<◌, ◌≤◌, ◌≡◌, List, [], ◌∷◌, ◌++◌, length, slice_index}
 use Rattle.std.specs.List.{sum}
 use Rattle.block9.specs.declared.block.Block.{Block}
 
@@ -20,12 +20,6 @@ spelling b = body_of b ++ sum (body_of b) % 256 ∷ []
 pub record Spells (bytes : List ℕ) (b : Block) : Type 0 where
   pub block : IsBlock b
   pub spelled : bytes ≡ spelling b
-
--- the block with this body
-abbrev pub block_of : List ℕ → Block
-block_of [] = record { group = 0; code = 0; bytes = record { items = [] } }
-block_of (first ∷ []) = record { group = first / 16; code = 0; bytes = record { items = [] } }
-block_of (first ∷ code ∷ bytes) = record { group = first / 16; code = code; bytes = record { items = bytes } }
 
 -- the first two bytes of a block as one number: 0x2001 for a block that begins with 20 01
 abbrev pub head_of : Block → ℕ

@@ -121,8 +121,8 @@ sense_requests =
     ∷ []
 
 -- the table of a group
-abbrev pub rows_of : ℕ → List Row
-rows_of group =
+abbrev pub table_of : ℕ → List Row
+table_of group =
     if group == 0 then system_control
     else (if group == 2 then transport_control
     else (if group == 4 then preset_control
@@ -135,7 +135,7 @@ meaning_in (r ∷ rows) head b = if r.head == head then r.meaning b else meaning
 
 -- the command that a block is: none where a time that has to be valid is not
 unfoldable pub command_of : Block → Option Command
-command_of b = meaning_in (rows_of b.group) (head_of b) b
+command_of b = meaning_in (table_of b.group) (head_of b) b
 
 -- ---- kinds of reply
 
@@ -155,13 +155,13 @@ acknowledged = begins 0x10_01
 abbrev pub timer_heads : List ℕ
 timer_heads = 0x74_00 ∷ 0x74_01 ∷ []
 
--- the first two bytes of a time that has to be valid
-abbrev pub time_heads : List ℕ
-time_heads = 0x74_04 ∷ 0x74_06 ∷ 0x74_14 ∷ 0x74_16 ∷ []
+-- the first two bytes of a time code, which has to be valid
+abbrev pub time_code_heads : List ℕ
+time_code_heads = 0x74_04 ∷ 0x74_06 ∷ 0x74_14 ∷ 0x74_16 ∷ []
 
--- a time, be it a timer's
+-- a time: a timer's, or a time code
 abbrev pub is_time : Block → Bool
-is_time reply = is_one_of timer_heads (head_of reply) || is_one_of time_heads (head_of reply)
+is_time reply = is_one_of timer_heads (head_of reply) || is_one_of time_code_heads (head_of reply)
 
 -- status data, no more than were asked for
 abbrev pub is_status : ℕ → Block → Bool
@@ -247,5 +247,5 @@ fits c reply = is_nak reply || (listing c).answer reply
 
 -- whether the time in a reply is valid, where it has to be
 unfoldable pub is_reply_time_valid : Command → Block → Bool
-is_reply_time_valid (CurrentTimeSense selector) reply = if is_one_of time_heads (head_of reply) then is_valid_time reply.bytes.items else true
+is_reply_time_valid (CurrentTimeSense selector) reply = if is_one_of time_code_heads (head_of reply) then is_valid_time reply.bytes.items else true
 is_reply_time_valid _ reply = true

@@ -3,7 +3,6 @@ pub mod Command
 pub mod Nak
 pub mod Line
 pub mod Exchange
-pub mod Reasons
-pub mod Pairing
-pub mod Reading
-pub mod Paired
+pub mod Reason
+pub mod Pairer
+pub mod Working

@@ -6,13 +6,17 @@ use Rattle.capture9.specs.declared.line_byte.Wire.TheVariants.{Controller, Deck}
 use Rattle.block9.specs.declared.block.Block.{Block}
 use Rattle.block9.specs.Block.{Spells}
 
--- the longest time between neighbouring records of one block, in microseconds
-abbrev pub byte_gap : ℕ
-byte_gap = 10287
+-- the time that a byte takes on the line, in microseconds: eleven bits at 38,400 a second, rounded up
+abbrev pub byte_time : ℕ
+byte_time = 287
 
--- the longest time from a command's last record to its reply's first, in microseconds
+-- the longest time between neighbouring records of one block, in microseconds: 10 ms, and the time of a byte
+abbrev pub byte_gap : ℕ
+byte_gap = 10000 + byte_time
+
+-- the longest time from a command's last record to its reply's first, in microseconds: 9 ms, and the time of a byte
 abbrev pub reply_limit : ℕ
-reply_limit = 9287
+reply_limit = 9000 + byte_time
 
 -- the bytes of the records
 abbrev pub bytes_of : List LineByte → List ℕ

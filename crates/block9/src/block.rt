@@ -22,7 +22,8 @@ pub struct Block {
 impl Block {
     ghost use Rattle.std.specs.Prelude.{◌≡◌, ◌≤◌, IfSome, IfNone, length};
     ghost use Rattle.tc25.specs.Day.{time_of};
-    ghost use Rattle.block9.specs.Block.{Spells, block_of, first_datum, head_of};
+    ghost use Rattle.block9.specs.Block.{Spells, first_datum, head_of};
+    ghost use Rattle.block9.specs.Working.Body.{block_of};
 
     /// The block that these bytes spell, its sum included.
     ///

@@ -7,7 +7,7 @@ ghost use Rattle.std.specs.Prelude.{◌≡◌};
 ghost use Rattle.block9.specs.Command.{meaning_in, preset_control, selected, sense_requests, system_control, transport_control};
 
 use crate::block::Block;
-use crate::reply::{ACK, NAK, is_status, is_time, is_timer};
+use crate::reply::{ACK, NAK, is_status, is_time};
 use tc25::TimeCode;
 
 /// What a block on the controller's wire is.
@@ -257,7 +257,7 @@ impl Command {
         }
         match self {
             Command::DeviceType => head == 0x12_11,
-            Command::CurrentTimeSense { .. } => is_timer(head) || is_time(head),
+            Command::CurrentTimeSense { .. } => is_time(reply),
             Command::InDataSense => head == 0x74_10,
             Command::OutDataSense => head == 0x74_11,
             Command::AudioInDataSense => head == 0x74_12,
@@ -285,7 +285,6 @@ fn system_control(head: u32, block: &Block) -> Option<Command>
 fn transport_control(head: u32, block: &Block) -> Option<Command>
     ensures { result ≡ meaning_in transport_control head block.now }
 {
-    let time = block.time();
     match head {
         0x20_00 => Some(Command::Stop),
         0x20_01 => Some(Command::Play),
@@ -302,7 +301,9 @@ fn transport_control(head: u32, block: &Block) -> Option<Command>
         0x21_22 | 0x22_22 => Some(Command::VarReverse),
         0x21_23 | 0x22_23 => Some(Command::ShuttleReverse),
         0x20_30 => Some(Command::Preroll),
-        0x24_31 => Some(Command::CueUpWithData { time: time? }),
+        0x24_31 => Some(Command::CueUpWithData {
+            time: block.time()?,
+        }),
         0x20_34 => Some(Command::SyncPlay),
         _ => Some(Command::Unlisted { group: block.group }),
     }
@@ -312,16 +313,23 @@ fn transport_control(head: u32, block: &Block) -> Option<Command>
 fn preset_control(head: u32, block: &Block) -> Option<Command>
     ensures { result ≡ meaning_in preset_control head block.now }
 {
-    let time = block.time();
     match head {
         0x40_10 => Some(Command::InEntry),
         0x40_11 => Some(Command::OutEntry),
         0x40_12 => Some(Command::AudioInEntry),
         0x40_13 => Some(Command::AudioOutEntry),
-        0x44_14 => Some(Command::InDataPreset { time: time? }),
-        0x44_15 => Some(Command::OutDataPreset { time: time? }),
-        0x44_16 => Some(Command::AudioInDataPreset { time: time? }),
-        0x44_17 => Some(Command::AudioOutDataPreset { time: time? }),
+        0x44_14 => Some(Command::InDataPreset {
+            time: block.time()?,
+        }),
+        0x44_15 => Some(Command::OutDataPreset {
+            time: block.time()?,
+        }),
+        0x44_16 => Some(Command::AudioInDataPreset {
+            time: block.time()?,
+        }),
+        0x44_17 => Some(Command::AudioOutDataPreset {
+            time: block.time()?,
+        }),
         0x40_18 => Some(Command::InShiftPlus),
         0x40_19 => Some(Command::InShiftMinus),
         0x40_1A => Some(Command::OutShiftPlus),

@@ -7,6 +7,7 @@
 
 mod block;
 mod command;
+pub mod laws;
 mod line;
 mod nak;
 mod pairer;
@@ -22,13 +23,15 @@ pub use pairer::{Exchange, Pairer, Step};
 pub use reason::Reason;
 pub use reply::reply_time_valid;
 
+/// The time that a byte takes on the line, in microseconds: eleven bits at 38,400 a second, rounded up.
+pub const BYTE_TIME_US: u64 = 287;
+
 /// The longest time between neighbouring records of one block, in microseconds.
 ///
-/// The protocol manual's gap of 10 ms, and the 287 microseconds that a byte takes on the line (eleven bits
-/// at 38,400 a second, rounded up): a tap may stamp either edge of a byte.
-pub const BYTE_GAP_US: u64 = 10_287;
+/// The protocol manual's gap of 10 ms, and the time of a byte: a tap may stamp either edge of a byte.
+pub const BYTE_GAP_US: u64 = 10_000 + BYTE_TIME_US;
 
 /// The longest time from a command's last record to its reply's first one, in microseconds.
 ///
 /// The protocol manual's 9 ms, and the time of a byte for the same reason as in [`BYTE_GAP_US`].
-pub const REPLY_LIMIT_US: u64 = 9_287;
+pub const REPLY_LIMIT_US: u64 = 9_000 + BYTE_TIME_US;

@@ -1,7 +1,7 @@
 //! Lists of records: the block that they begin, their bytes, and the times at which they begin and end.
 ghost use Rattle.std.specs.Prelude.{◌≡◌, ◌≤◌, length};
 ghost use Rattle.block9.specs.Line.{block_len, bytes_of, first_time, last_time};
-ghost use Rattle.block9.specs.Pairing.{ends_block};
+ghost use Rattle.block9.specs.Working.Table.{ends_block};
 
 use arrayvec::ArrayVec;
 use capture9::LineByte;

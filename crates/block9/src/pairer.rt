@@ -1,11 +1,12 @@
 //! Pairs commands with replies, one record at a time.
-ghost use Rattle.std.specs.Prelude.{◌≡◌, ◌≤◌, ◌-◌, length, take, drop, true, IfOk, IfErr, Some, None};
-ghost use Rattle.block9.specs.Block.{block_of};
+ghost use Rattle.std.specs.Prelude.{◌≡◌, ◌≤◌, length, take, drop, ◌-◌, true, IfOk, IfErr, Some, None};
 ghost use Rattle.block9.specs.Command.{command_of, fits, is_reply_time_valid};
 ghost use Rattle.block9.specs.Exchange.{IsTail, tail_after};
 ghost use Rattle.block9.specs.Line.{block_len, bytes_of, last_time};
-ghost use Rattle.block9.specs.Pairing.{early_fault, pairing, place_of, reply_fault};
-ghost use Rattle.block9.specs.Reading.{Answers, Closes};
+ghost use Rattle.block9.specs.Working.Body.{block_of};
+ghost use Rattle.block9.specs.Working.Held.{Means};
+ghost use Rattle.block9.specs.Working.ReadOff.{Closes, IsReadAs, meaning_after, step_of};
+ghost use Rattle.block9.specs.Working.Table.{early_fault, pairing, place_of, reply_fault};
 
 use crate::block::{Block, sum_of};
 use crate::command::Command;
@@ -43,6 +44,17 @@ pub enum Step {
     Exchange(Exchange),
 }
 
+/// What a record does that keeps the rules, and what a command means that it ends.
+#[derive(Drop)]
+enum Taken {
+    /// It begins a block or goes on with one.
+    Waiting,
+    /// It is the last record of this command.
+    Command(Command),
+    /// It is the last record of a reply: this exchange is whole.
+    Exchange(Exchange),
+}
+
 /// The rule that the record breaks before its block is whole: its turn, its time, its group.
 fn early_fault(place: Place, tail: &[LineByte], line_byte: LineByte) -> Option<Reason>
     requires later { last_time tail.now ≤ line_byte.time_us }
@@ -55,23 +67,31 @@ fn early_fault(place: Place, tail: &[LineByte], line_byte: LineByte) -> Option<R
         .or(rules::group_fault(place, rules::allows(line_byte.wire, line_byte.byte / 16)))
 }
 
-/// The exchange that the tail and a whole reply are.
-fn exchange_of(tail: &[LineByte], reply: Block) -> Result<Exchange, Reason>
+/// The exchange that the tail and a whole reply are. `meaning`: what the tail's command means.
+fn exchange_of(
+    tail: &[LineByte],
+    meaning: Option<Command>,
+    reply: Block,
+) -> Result<Exchange, Reason>
     requires tail { IsTail tail.now }
     requires in_reply { place_of tail.now ≡ Place.InReply }
+    requires means { Means tail.now meaning }
     requires reply { reply ≡ block_of (bytes_of (drop (block_len tail.now) tail.now)) }
     ensures ok { IfOk result (λ e. Closes tail.now e × (fits e.command e.reply ≡ true) × (is_reply_time_valid e.command e.reply ≡ true)) }
     ensures err { IfErr result (λ reason. reply_fault (command_of (block_of (bytes_of (take (block_len tail.now - 1) tail.now)))) reply ≡ Some reason) }
 {
-    let (asked, answered) = tail.split_at(block_len(tail));
-    let block = Block::of_body(bytes_of(&asked[..asked.len() - 1]).as_slice());
-    let command = Command::of(&block).ok_or(Reason::InvalidCommandTime)?;
+    // A command without a meaning was refused at its last record, so there is one here.
+    let Some(command) = meaning else {
+        return Err(Reason::InvalidCommandTime);
+    };
     if !command.fits(&reply) {
         return Err(Reason::WrongReply);
     }
     if !reply_time_valid(&command, &reply) {
         return Err(Reason::InvalidReplyTime);
     }
+    let (asked, answered) = tail.split_at(block_len(tail));
+    let block = Block::of_body(bytes_of(&asked[..asked.len() - 1]).as_slice());
     let delay_us = first_time(answered) - last_time(asked);
     Ok(Exchange {
         command,
@@ -81,11 +101,13 @@ fn exchange_of(tail: &[LineByte], reply: Block) -> Result<Exchange, Reason>
     })
 }
 
-/// What the record does after the tail: the step, or the first rule that it breaks.
-fn answer(tail: &[LineByte], line_byte: LineByte) -> Result<Step, Reason>
+/// What the record does after the tail, or the first rule that it breaks. `meaning`: what the tail's command
+/// means, once it is whole.
+fn answer(tail: &[LineByte], meaning: Option<Command>, line_byte: LineByte) -> Result<Taken, Reason>
     requires tail { IsTail tail.now }
+    requires means { Means tail.now meaning }
     requires later { last_time tail.now ≤ line_byte.time_us }
-    ensures ok { IfOk result (λ step. (pairing tail.now line_byte ≡ None) × Answers tail.now step) }
+    ensures ok { IfOk result (λ taken. (pairing tail.now line_byte ≡ None) × IsReadAs tail.now taken) }
     ensures err { IfErr result (λ reason. pairing tail.now line_byte ≡ Some reason) }
 {
     let place = Place::of(tail);
@@ -94,7 +116,7 @@ fn answer(tail: &[LineByte], line_byte: LineByte) -> Result<Step, Reason>
     }
     let current = place.open_in(tail);
     if !ends_block(current) {
-        return Ok(Step::Waiting);
+        return Ok(Taken::Waiting);
     }
     let body = bytes_of(current);
     if sum_of(body.as_slice()) != line_byte.byte {
@@ -102,22 +124,42 @@ fn answer(tail: &[LineByte], line_byte: LineByte) -> Result<Step, Reason>
     }
     let block = Block::of_body(body.as_slice());
     if place == Place::InReply {
-        return exchange_of(tail, block).map(Step::Exchange);
+        return exchange_of(tail, meaning, block).map(Taken::Exchange);
     }
     match Command::of(&block) {
-        Some(_) => Ok(Step::Command),
+        Some(command) => Ok(Taken::Command(command)),
         None => Err(Reason::InvalidCommandTime),
     }
 }
 
-/// Leaves the tail as the step does: with the record, or with nothing after a whole exchange.
-fn advance(tail: &mut ArrayVec<LineByte, 35>, line_byte: LineByte, step: &Step)
-    requires { length (tail_after tail.old.items line_byte step.now) ≤ 35 }
-    ensures { tail.new.items ≡ tail_after tail.old.items line_byte step.now }
+/// Leaves the tail and its command's meaning as the record does, and answers the step: the tail has the record
+/// at its end, or is empty after a whole exchange.
+fn advance(
+    tail: &mut ArrayVec<LineByte, 35>,
+    meaning: &mut Option<Command>,
+    line_byte: LineByte,
+    taken: Taken,
+) -> Step
+    requires { length (tail_after tail.old.items line_byte (step_of taken)) ≤ 35 }
+    ensures step { result ≡ step_of taken }
+    ensures tail { tail.new.items ≡ tail_after tail.old.items line_byte (step_of taken) }
+    ensures meaning { meaning.new ≡ meaning_after meaning.old taken }
 {
-    match step {
-        Step::Waiting | Step::Command => tail.push(line_byte),
-        Step::Exchange(_) => tail.clear(),
+    match taken {
+        Taken::Waiting => {
+            tail.push(line_byte);
+            Step::Waiting
+        }
+        Taken::Command(command) => {
+            tail.push(line_byte);
+            *meaning = Some(command);
+            Step::Command
+        }
+        Taken::Exchange(exchange) => {
+            tail.clear();
+            *meaning = None;
+            Step::Exchange(exchange)
+        }
     }
 }
 
@@ -128,24 +170,27 @@ fn advance(tail: &mut ArrayVec<LineByte, 35>, line_byte: LineByte, step: &Step)
 #[derive(Drop)]
 pub struct Pairer {
     tail: ArrayVec<LineByte, 35>,
+    /// What the tail's command means, once it is whole.
+    meaning: Option<Command>,
     last_time: Option<u64>,
     reason: Option<Reason>,
 }
 
 impl Model for Pairer {
-    ghost use Rattle.block9.specs.Paired.{Paired, IsSound};
+    ghost use Rattle.block9.specs.Pairer.{Paired};
+    ghost use Rattle.block9.specs.Working.Held.{HoldsInPairer};
 
     ghost Value = { Paired };
 
     ghost view = { λ p. record { tail = p.tail.items; last_time = p.last_time; reason = p.reason } };
 
-    ghost invariant = { λ p. IsSound p.tail.items p.last_time };
+    ghost invariant = { λ p. HoldsInPairer p.tail.items p.meaning p.last_time };
 }
 
 impl Pairer {
     ghost use Rattle.std.specs.Prelude.{◌≡◌, ◌≤◌, length, None, Some, [], IfOk, IfErr};
     ghost use Rattle.std.specs.Option.{ForSome};
-    ghost use Rattle.block9.specs.Paired.{Takes, Refuses};
+    ghost use Rattle.block9.specs.Pairer.{Takes, Refuses};
 
     /// A pairer that was fed nothing: it has no tail, no last time and no reason.
     pub fn new() -> Pairer
@@ -153,6 +198,7 @@ impl Pairer {
     {
         Pairer {
             tail: ArrayVec::new(),
+            meaning: None,
             last_time: None,
             reason: None,
         }
@@ -163,9 +209,10 @@ impl Pairer {
     /// `Ok` says what the record does. The tail then has it at its end, and is empty after a whole
     /// exchange.
     ///
-    /// `Err` is the first rule that the record breaks, in the order that [`Reason`] gives and the table in
-    /// `specs/Pairing.antt` states: the records so far keep the rules, and with this one they do not. Every
-    /// later call answers the same reason and changes nothing. [`Reason::NoRun`] is never among them.
+    /// `Err` is the first rule that the record breaks, in the order that [`Reason`] gives and
+    /// `specs/Reason.antt` states, a line for each: the records so far keep the rules, and with this one they
+    /// do not. Every later call answers the same reason and changes nothing. [`Reason::NoRun`] is never among
+    /// them.
     ///
     /// The rules are the protocol manual's; where it leaves a choice, this profile favours the deck.
     pub fn feed(&mut self, line_byte: LineByte) -> Result<Step, Reason>
@@ -179,15 +226,13 @@ impl Pairer {
             return Err(reason);
         }
         self.last_time = Some(line_byte.time_us);
-        let step = match answer(self.tail.as_slice(), line_byte) {
-            Ok(step) => step,
+        match answer(self.tail.as_slice(), self.meaning, line_byte) {
+            Ok(taken) => Ok(advance(&mut self.tail, &mut self.meaning, line_byte, taken)),
             Err(reason) => {
                 self.reason = Some(reason);
-                return Err(reason);
+                Err(reason)
             }
-        };
-        advance(&mut self.tail, line_byte, &step);
-        Ok(step)
+        }
     }
 
     /// The time of the last record that it was fed, in microseconds, and `None` before the first. After a
@@ -205,6 +250,17 @@ impl Pairer {
         ensures bound { result ≤ 35 }
     {
         self.tail.len()
+    }
+}
+
+impl Default for Pairer {
+    ghost use Rattle.std.specs.Prelude.{◌≡◌, None, []};
+
+    /// A pairer that was fed nothing.
+    fn default() -> Pairer
+        ensures { result ≡ record { tail = []; last_time = None; reason = None } }
+    {
+        Pairer::new()
     }
 }
 

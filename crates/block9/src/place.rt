@@ -19,7 +19,7 @@ pub enum Place {
 
 impl Place {
     ghost use Rattle.std.specs.Prelude.{◌≡◌};
-    ghost use Rattle.block9.specs.Pairing.{place_of, open_at};
+    ghost use Rattle.block9.specs.Working.Table.{place_of, open_at};
 
     /// Where the tail stands, from how many records its first block has.
     pub(crate) fn of(tail: &[LineByte]) -> Place

@@ -37,7 +37,7 @@ pub enum Reason {
 }
 
 impl Reason {
-    ghost use Rattle.block9.specs.Reasons.{name_of, text_of};
+    ghost use Rattle.block9.specs.Reason.{name_of, text_of};
 
     /// The short name that a report gives: a letter and a digit.
     pub fn name<'a>(self) -> &'a str

@@ -1,6 +1,6 @@
 //! The replies of the deck: their kinds, by their first two bytes, and the times in them.
 ghost use Rattle.std.specs.Prelude.{◌≡◌};
-ghost use Rattle.block9.specs.Command.{is_one_of, is_reply_time_valid, is_status, time_heads, timer_heads};
+ghost use Rattle.block9.specs.Command.{is_one_of, is_reply_time_valid, is_status, is_time, time_code_heads, timer_heads};
 
 use crate::block::Block;
 use crate::command::Command;
@@ -12,17 +12,25 @@ pub(crate) const ACK: u32 = 0x10_01;
 pub(crate) const NAK: u32 = 0x11_12;
 
 /// Whether these are the first two bytes of a timer's time, whose bytes are free.
-pub(crate) fn is_timer(head: u32) -> bool
+fn is_timer(head: u32) -> bool
     ensures { result ≡ is_one_of timer_heads head }
 {
     matches!(head, 0x74_00 | 0x74_01)
 }
 
-/// Whether these are the first two bytes of a time that has to be valid.
-pub(crate) fn is_time(head: u32) -> bool
-    ensures { result ≡ is_one_of time_heads head }
+/// Whether these are the first two bytes of a time code, which has to be valid.
+fn is_time_code(head: u32) -> bool
+    ensures { result ≡ is_one_of time_code_heads head }
 {
     matches!(head, 0x74_04 | 0x74_06 | 0x74_14 | 0x74_16)
+}
+
+/// Whether a reply has a time: a timer's, or a time code.
+pub(crate) fn is_time(reply: &Block) -> bool
+    ensures { result ≡ is_time reply.now }
+{
+    let head = reply.head();
+    is_timer(head) || is_time_code(head)
 }
 
 /// Whether a reply has status data, no more than `most` of them.
@@ -40,7 +48,7 @@ pub fn reply_time_valid(command: &Command, reply: &Block) -> bool
     ensures { result ≡ is_reply_time_valid command.now reply.now }
 {
     match command {
-        Command::CurrentTimeSense { .. } if is_time(reply.head()) => reply.time().is_some(),
+        Command::CurrentTimeSense { .. } if is_time_code(reply.head()) => reply.time().is_some(),
         _ => true,
     }
 }

@@ -1,7 +1,8 @@
-//! The rules that a record may break before its block is whole, in code: the table is in `specs/Pairing.antt`.
+//! The rules that a record may break before its block is whole, by the place where the tail stands. What each
+//! reason says is in `specs/Reason.antt`.
 ghost use Rattle.std.specs.Prelude.{◌≡◌, ◌<◌};
 ghost use Rattle.block9.specs.Line.{allows};
-ghost use Rattle.block9.specs.Pairing.{wire_fault, time_fault, group_fault};
+ghost use Rattle.block9.specs.Working.Table.{wire_fault, time_fault, group_fault};
 
 use crate::place::Place;
 use crate::reason::Reason;

@@ -7,7 +7,7 @@ use Rattle.csv.specs.declared.parser.Config.{Config}
 use Rattle.csv.specs.declared.parser.State.{State}
 use Rattle.csv.specs.declared.parser.State.TheVariants as st
 use Rattle.csv.specs.declared.reader.Reader.{Reader}
-use Rattle.capture9.specs.Unread.{IsPlain, TakesFields, records_at, unread_records}
+use Rattle.capture9.specs.Working.{IsPlain, TakesFields, records_at, unread_records}
 
 -- a record took bytes, or it was the last and none are left
 record Falls (bytes : List ℕ) (p : Read) : Type 0 where

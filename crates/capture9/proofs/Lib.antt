@@ -1,6 +1,7 @@
 pub mod CaptureFacts
 pub mod ColumnFacts
-pub mod ComingFacts
 pub mod CsvFacts
 pub mod FieldFacts
+pub mod LawFacts
+pub mod RecordsFacts
 pub mod RowFacts

@@ -1,5 +1,7 @@
 pub mod Capture
-pub mod Coming
+pub mod Error
+pub mod ErrorText
 pub mod Fields
+pub mod Records
 pub mod Rows
-pub mod Unread
+pub mod Working

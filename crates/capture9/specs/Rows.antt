@@ -1,5 +1,5 @@
 -- What a text of a capture holds.
-use Rattle.std.specs.Prelude.{ℕ, ◌+◌, List, [], ◌∷◌, Option, Some, None, Result, Ok, Err, nat_lt, if◌then◌else◌}
+use Rattle.std.specs.Prelude.{◌≢◌, ℕ, ◌+◌, List, [], ◌∷◌, Option, Some, None, Result, Ok, Err, nat_lt, if◌then◌else◌}
 use Rattle.csv.specs.Reading.{default_config, records, strip_bom}
 use Rattle.capture9.specs.declared.error.CaptureError.{CaptureError}
 use Rattle.capture9.specs.declared.error.CaptureKind.{CaptureKind}
@@ -24,6 +24,10 @@ bad_row k number = record { records = []; fault = Some (record { kind = k; row =
 -- a good row, and the rows after it
 abbrev pub good_row : LineByte → Rows → Rows
 good_row r rest = record { records = r ∷ rest.records; fault = rest.fault }
+
+-- the header was there: its fault is not what these rows end with
+abbrev pub HasHeader : Rows → Type 0
+HasHeader rows = rows.fault ≢ Some (record { kind = kind.Header; row = 0 })
 
 -- the record of three fields that are read so, after a row of this time, or the first that is spelled wrong
 abbrev pub record_of : ℕ → Option ℕ → Option Wire → Option ℕ → Result LineByte CaptureKind

@@ -2,7 +2,8 @@
 
 ghost use Rattle.std.specs.Prelude.{[], ◌+◌, ◌≡◌, ◌≤◌, length, IfErr, IfSome};
 ghost use Rattle.std.specs.Result.{result_err};
-ghost use Rattle.capture9.specs.Capture.{IsAfter, WasRead};
+ghost use Rattle.capture9.specs.Capture.{WasRead};
+ghost use Rattle.capture9.specs.Error.{IsAfter};
 ghost use Rattle.capture9.specs.Rows.{rows_of};
 
 use crate::error::{CaptureError, CaptureKind};

@@ -1,5 +1,8 @@
 //! Why a capture can be read no further, and at which row.
 
+use std::error::Error;
+use std::fmt;
+
 /// What is wrong with a capture, or with its reading.
 ///
 /// The rules of the text are this profile's choice. Where several hold at one row, the first of this
@@ -35,3 +38,30 @@ pub struct CaptureError {
     /// The data row in question, counted from 1, and 0 while the header is being read.
     pub row: u32,
 }
+
+impl fmt::Display for CaptureError {
+    ghost use Rattle.std.specs.Prelude.{Some};
+    ghost use Rattle.capture9.specs.ErrorText.{text_of};
+
+    ghost output = { λ e. Some (text_of e) };
+
+    fn fmt<W: fmt::Write>(&self, f: &mut fmt::Formatter<W>) -> fmt::Result {
+        let row = self.row;
+        match self.kind {
+            CaptureKind::Header => write!(f, "the header is not time_us,wire,byte"),
+            CaptureKind::Fields => write!(f, "row {row} has another number of fields than three"),
+            CaptureKind::Time => write!(f, "the time of row {row} is not 1 to 15 decimal digits"),
+            CaptureKind::Wire => write!(f, "the wire of row {row} is neither C nor D"),
+            CaptureKind::Byte => write!(f, "the byte of row {row} is not two hexadecimal digits"),
+            CaptureKind::Backwards => write!(
+                f,
+                "the time of row {row} is below that of the row before"
+            ),
+            CaptureKind::TooMany => write!(f, "row {row} is more than a capture may have"),
+            CaptureKind::Read => write!(f, "the reader failed at row {row}"),
+            CaptureKind::OutOfMemory => write!(f, "out of memory at row {row}"),
+        }
+    }
+}
+
+impl Error for CaptureError {}

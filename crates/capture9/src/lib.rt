@@ -10,6 +10,7 @@
 mod capture;
 mod error;
 mod fields;
+pub mod laws;
 mod line_byte;
 #[cfg(test)]
 mod readers;

@@ -1,10 +1,13 @@
 //! The records of a text, one at a time.
 
-ghost use Rattle.std.specs.Prelude.{◌≡◌, ◌+◌, ◌≤◌, true, false, IfErr, IfNone, IfOk, IfSome, OnOk, option_map};
+ghost use Rattle.std.specs.Prelude.{◌≡◌, ◌≢◌, ◌+◌, ◌≤◌, ◌↔◌, true, false, IfErr, IfNone, IfOk, IfSome, OnErr, OnOk, option_map};
+ghost use Rattle.csv.specs.Reading.{error_kind};
 ghost use Rattle.csv.specs.Records.{fields_of};
-ghost use Rattle.capture9.specs.Coming.{GivesEnd, GivesRecord, GivesRefusal, is_of_text};
+ghost use Rattle.csv.specs.declared.error.ErrorKind.TheVariants.{OutOfMemory};
+ghost use Rattle.capture9.specs.Error.{is_of_text};
+ghost use Rattle.capture9.specs.Working.{IsPlain, PassesHeader, TakesFields, unread_records};
+ghost use Rattle.capture9.specs.Records.{GivesEnd, GivesRecord, GivesRefusal};
 ghost use Rattle.capture9.specs.Rows.{rows_of};
-ghost use Rattle.capture9.specs.Unread.{IsPlain, PassesHeader, RefusesAt, TakesFields, unread_records};
 
 use crate::error::{CaptureError, CaptureKind};
 use crate::fields;
@@ -28,7 +31,7 @@ pub enum Standing {
 /// The records of a capture's text, read one at a time.
 ///
 /// A contract sees it as what is still to come of the text's rows, the number of records given, whether
-/// the header was read, the time of the last record, and whether it reads on.
+/// the header was read, the time of the last record, whether it reads on, and the reader as it stands.
 #[derive(Drop)]
 pub struct Records<R: Read + Drop> {
     reader: Reader<R>,
@@ -40,15 +43,23 @@ pub struct Records<R: Read + Drop> {
 }
 
 impl<R: Read + Drop> Model for Records<R> {
-    ghost use Rattle.capture9.specs.Coming.{Coming};
+    ghost use Rattle.capture9.specs.Records.{Progress};
 
-    ghost Value = { Coming };
+    ghost Value = { Progress R };
 
-    ghost use Rattle.capture9.specs.Unread.{IsSound, coming_of, unread_records};
+    ghost use Rattle.csv.specs.Reading.{reader_source};
+    ghost use Rattle.capture9.specs.Working.{HoldsInRecords, rows_to_come, unread_records};
 
-    ghost view = { λ r. coming_of r.standing r.is_headed r.given r.last_time (unread_records R.remaining r.reader) };
+    ghost view = { λ r. record {
+      rows = rows_to_come r.standing r.is_headed r.given r.last_time (unread_records R.remaining r.reader);
+      given = r.given;
+      is_headed = r.is_headed;
+      last_time = r.last_time;
+      standing = r.standing;
+      source = reader_source r.reader;
+    } };
 
-    ghost invariant = { λ r. IsSound r.standing r.is_headed r.given r.last_time r.reader };
+    ghost invariant = { λ r. HoldsInRecords r.standing r.is_headed r.given r.last_time r.reader };
 }
 
 impl<R: Read + Drop> Records<R> {
@@ -60,6 +71,7 @@ impl<R: Read + Drop> Records<R> {
           is_headed = false;
           last_time = 0;
           standing = Standing.Reading;
+          source = reader;
         } }
     {
         Records {
@@ -84,7 +96,8 @@ impl<R: Read + Drop> Records<R> {
     /// 0 while the header is being read, which the first call does.
     ///
     /// After the end it gives None each time, and after a refusal the same refusal each time, and reads
-    /// no more: it asks `csv` for 4,000,002 records at most, the header and a row too many included.
+    /// no more. As a call asks `csv` for one record, and for the header before the first, these are
+    /// 4,000,002 at most, a row too many included.
     pub fn next(&mut self) -> Result<Option<LineByte>, CaptureError>
         ensures given { IfOk result (λ o. IfSome o (λ r. GivesRecord self.old r self.new)) }
         ensures ended { IfOk result (λ o. IfNone o (GivesEnd self.old self.new)) }
@@ -111,7 +124,8 @@ impl<R: Read + Drop> Records<R> {
         requires reading { self.old.standing ≡ Standing.Reading }
         requires first { self.old.is_headed ≡ false }
         ensures ok { OnOk result (PassesHeader self.old self.new) }
-        ensures err { IfErr result (λ e. RefusesAt 0 self.old e self.new) }
+        ensures err { IfErr result (λ e. GivesRefusal self.old e self.new) }
+        ensures unread { OnErr result (self.new.is_headed ≡ false) }
     {
         let kind = match read_record(&mut self.reader, &mut self.row) {
             Ok(found) => {
@@ -132,7 +146,8 @@ impl<R: Read + Drop> Records<R> {
         requires headed { self.old.is_headed ≡ true }
         ensures given { IfOk result (λ o. IfSome o (λ r. GivesRecord self.old r self.new)) }
         ensures ended { IfOk result (λ o. IfNone o (GivesEnd self.old self.new)) }
-        ensures refused { IfErr result (λ e. RefusesAt (self.old.given + 1) self.old e self.new) }
+        ensures refused { IfErr result (λ e. GivesRefusal self.old e self.new) }
+        ensures stays_headed { self.new.is_headed ≡ true }
         ensures within { self.new.given ≤ 4000000 }
     {
         let number = self.given + 1;
@@ -168,10 +183,18 @@ fn read_record<R: Read + Drop>(
 {
     match reader.read_byte_record(row) {
         Ok(found) => Ok(found),
-        Err(error) => match error.kind() {
-            ErrorKind::OutOfMemory => Err(CaptureKind::OutOfMemory),
-            _ => Err(CaptureKind::Read),
-        },
+        Err(error) => Err(kind_of(&error)),
+    }
+}
+
+/// What a failed read of `csv` is told as.
+fn kind_of(error: &csv::Error) -> CaptureKind
+    ensures memory { (result ≡ CaptureKind.OutOfMemory) ↔ (error_kind error.now ≡ OutOfMemory) }
+    ensures read { (result ≡ CaptureKind.Read) ↔ (error_kind error.now ≢ OutOfMemory) }
+{
+    match error.kind() {
+        ErrorKind::OutOfMemory => CaptureKind::OutOfMemory,
+        _ => CaptureKind::Read,
     }
 }
 

@@ -353,6 +353,26 @@ fn nothing_more_is_read_once_it_has_ended(rt: HostRuntime) {
 }
 
 #[test]
+fn errors_in_words(rt: HostRuntime) {
+    for (kind, row, text) in [
+        (
+            CaptureKind::Header,
+            0,
+            "the header is not time_us,wire,byte",
+        ),
+        (
+            CaptureKind::Wire,
+            12,
+            "the wire of row 12 is neither C nor D",
+        ),
+        (CaptureKind::Read, 0, "the reader failed at row 0"),
+    ] {
+        let words = error(kind, row).to_string(rt.alloc());
+        assert!(rt; words.is_ok_and(|words| words.as_str() == text), "{kind:?}");
+    }
+}
+
+#[test]
 fn a_default_record_is_zero(rt: HostRuntime) {
     assert_eq!(rt; LineByte::default(), from_controller(0, 0));
 }

@@ -7,13 +7,14 @@ use Rattle.capture9.specs.Rows.{Rows}
 use Rattle.block9.specs.declared.pairer.Exchange.{Exchange}
 use Rattle.block9.specs.declared.reason.Reason.{Reason}
 use Rattle.block9.specs.Exchange.{Cut, IsTail}
-use Rattle.block9.specs.Pairing.{pairing}
+use Rattle.block9.specs.Reason.{IsReason}
 use Rattle.block9.proofs.LineLemmas.{same_parts}
+use Rattle.block9.proofs.ReasonLemmas.{reason_once}
 use Rattle.block9.proofs.CutLemmas.{cut_once, kept_less, kept_by_tail, tail_by_kept}
 use Rattle.judge9.specs.declared.verdict.Verdict.TheVariants as verdict
-use Rattle.judge9.specs.Ok.{IsOk, Breaks}
-use Rattle.judge9.specs.Answer.{Answer, IsAnswer, IsFirstBreak, AreCounts}
-use Rattle.judge9.specs.Answer.Answer.{judged, unreadable}
+use Rattle.judge9.specs.Verdict.{IsOk, Breaks, IsFirstBreak, AreCounts}
+use Rattle.judge9.specs.Judging.{Answer, IsAnswer}
+use Rattle.judge9.specs.Judging.Answer.{judged, unreadable}
 
 -- every first part of records that keep the rules keeps them
 pub first_part : (q p : List LineByte) → IsOk (p ++ q) → IsOk p
@@ -42,7 +43,7 @@ breaks-tail p es t r x cut h = record {
   tail = t;
   cut = (refl, cut_tail p es t cut);
   not_ok = λ ok. h.not_ok (kept_by_tail p es t r cut ok);
-  first = subst (λ (l : List LineByte). pairing l r ≡ Some x) (cut_once p h.exchanges es h.tail t h.cut cut).1 h.first;
+  is_reason = subst (λ (l : List LineByte). IsReason l r x) (cut_once p h.exchanges es h.tail t h.cut cut).1 h.is_reason;
 }
 
 pub tail-breaks : (p : List LineByte) (es : List Exchange) (t : List LineByte) (r : LineByte) (x : Reason) → Cut p es t → Breaks t r x → Breaks p r x
@@ -51,15 +52,14 @@ tail-breaks p es t r x cut h = record {
   tail = t;
   cut = cut;
   not_ok = λ ok. h.not_ok (tail_by_kept p es t r cut ok);
-  first = subst (λ (l : List LineByte). pairing l r ≡ Some x) (cut_once t h.exchanges [] h.tail t h.cut (refl, cut_tail p es t cut)).1 h.first;
+  is_reason = subst (λ (l : List LineByte). IsReason l r x) (cut_once t h.exchanges [] h.tail t h.cut (refl, cut_tail p es t cut)).1 h.is_reason;
 }
 
 -- one reason
 pub breaks_once : (p : List LineByte) (r : LineByte) (x y : Reason) → Breaks p r x → Breaks p r y → x ≡ y
 breaks_once p r x y h k =
     let same = (cut_once p h.exchanges k.exchanges h.tail k.tail h.cut k.cut).1 in
-    let both : Some x ≡ Some y = sym h.first ∙ ap (λ (l : List LineByte). pairing l r) same ∙ k.first in
-    cc
+    reason_once k.tail r x y (subst (λ (l : List LineByte). IsReason l r x) same h.is_reason) k.is_reason
 
 -- records with a break do not keep the rules
 pub no_break : (items : List LineByte) (at : ℕ) (x : Reason) → IsOk items → IsFirstBreak items at x → ⊥

@@ -1,24 +1,25 @@
 -- A row that is judged: the records so far, and the verdict at the end or at a break.
-use Rattle.std.proofs.Common.{◌≡◌, ◌⊎◌, inl, inr, IsTrue, true, false, ℕ, ◌+◌, ◌≤◌, ◌∙◌, List, [], ◌∷◌, ◌++◌, length, Option, Some, None, refl, sym, ap, subst, arith}
+use Rattle.std.proofs.Common.{◌≡◌, ◌≢◌, Bool, true, false, IsTrue, ℕ, ◌+◌, ◌≤◌, ◌∙◌, List, [], ◌∷◌, ◌++◌, length, Option, Some, None, refl, sym, ap, subst, arith}
 use Rattle.std.proofs.lemmas.List.{append_assoc, append-nil, length_push}
 use Rattle.std.specs.Option.{IfSome}
 use Rattle.capture9.specs.declared.line_byte.LineByte.{LineByte}
 use Rattle.capture9.specs.declared.error.CaptureError.{CaptureError}
-use Rattle.capture9.specs.Capture.{IsAfter}
-use Rattle.capture9.specs.Coming.{Coming, GivesRecord, GivesEnd, GivesRefusal, TakesRecord, is_of_text}
+use Rattle.capture9.specs.Error.{is_of_text}
+use Rattle.capture9.specs.Records.{GivesEnd, GivesRecord, GivesRefusal, IsPlaced, Progress, TakesRecord}
 use Rattle.capture9.specs.declared.records.Standing.TheVariants.{Reading}
-use Rattle.capture9.specs.Rows.{Rows, bad_row, no_rows}
+use Rattle.capture9.specs.Rows.{HasHeader, Rows, bad_row, no_rows}
 use Rattle.block9.specs.declared.pairer.Exchange.{Exchange}
 use Rattle.block9.specs.declared.pairer.Step.{Step}
 use Rattle.block9.specs.declared.pairer.Step.TheVariants as step
 use Rattle.block9.specs.declared.reason.Reason.{Reason}
 use Rattle.block9.specs.Exchange.{Cut}
 use Rattle.block9.specs.Exchange.IsTail.{nothing}
-use Rattle.block9.specs.Paired.{Paired, Takes, Refuses}
+use Rattle.block9.specs.Pairer.{Paired, Takes, Refuses}
 use Rattle.block9.proofs.CutLemmas.{tail_by_kept}
+use Rattle.capture9.proofs.RecordsFacts.{refused-after}
 use Rattle.judge9.specs.declared.verdict.Verdict.TheVariants.{Yes, No}
-use Rattle.judge9.specs.Answer.{IsAnswer, IsOkBefore}
-use Rattle.judge9.specs.Answer.Answer.{judged, unreadable}
+use Rattle.judge9.specs.Judging.{IsAnswer, IsOkBefore}
+use Rattle.judge9.specs.Judging.Answer.{judged, unreadable}
 use Rattle.judge9.proofs.SoFar.{SoFar, WereRead}
 use Rattle.judge9.proofs.CutSteps.{cut-step, exchanges_after}
 
@@ -59,26 +60,26 @@ length-exchanges_after es step.Command = omega arith
 length-exchanges_after es (step.Exchange e) = let p = length_push es e in omega arith
 
 -- after a row that keeps the rules
-pub so_far-step : (rows : Option Rows) (coming after : Coming) (paired next : Paired) (r : LineByte) (s : Step) (n m : ℕ) → SoFar rows coming paired n m → GivesRecord coming r after → Takes paired r s next → SoFar rows after next (n + 1) (m + exchange_count s)
-so_far-step rows coming after paired next r s n m h given takes = record {
+pub so_far-step : {R : Type 0} (rows : Option Rows) (progress after : Progress R) (paired next : Paired) (r : LineByte) (s : Step) (n m : ℕ) → SoFar rows progress paired n m → GivesRecord progress r after → Takes paired r s next → SoFar rows after next (n + 1) (m + exchange_count s)
+so_far-step rows progress after paired next r s n m h given takes = record {
   items = h.items ++ r ∷ [];
   cut_exchanges = exchanges_after h.cut_exchanges s;
   cut = subst (λ (l : List LineByte). Cut (h.items ++ r ∷ []) (exchanges_after h.cut_exchanges s) l) (sym takes.tail) (cut-step h.items h.cut_exchanges paired.tail r s h.cut takes.does);
   number = let e = h.number in let p = length_push h.items r in omega arith;
   exchange_number = let e = h.exchange_number in let p = length-exchanges_after h.cut_exchanges s in omega arith;
   few = let e = h.few in let p = exchange_count_low s in omega arith;
+  within = let e = h.given in let g = given.given in let w = given.within in omega arith;
   given = let e = h.given in let g = given.given in omega arith;
-  unheaded = λ e. let both : true ≡ false = sym given.is_headed ∙ e in cc;
   is_reading = given.is_reading;
   no_reason = takes.reason;
   in_order = λ x e. let same : Some x ≡ Some r.time_us = sym e ∙ takes.last_time in let t : x ≡ r.time_us = cc in let l = given.last_time in omega arith;
-  read = read-more rows coming.rows after.rows h.items r h.read given.rows;
+  read = read-more rows progress.rows after.rows h.items r h.read given.rows;
 }
 
 -- a row that breaks a rule
-pub so_far-break : (coming after : Coming) (rows : Rows) (paired next : Paired) (r : LineByte) (reason : Reason) (n m : ℕ) → SoFar (Some rows) coming paired n m → GivesRecord coming r after → Refuses paired r reason next → IsAnswer rows (judged (No (n + 1) reason))
-so_far-break coming after rows paired next r reason n m h given refuses =
-    let read = read-more (Some rows) coming.rows after.rows h.items r h.read given.rows in
+pub so_far-break : {R : Type 0} (progress after : Progress R) (rows : Rows) (paired next : Paired) (r : LineByte) (reason : Reason) (n m : ℕ) → SoFar (Some rows) progress paired n m → GivesRecord progress r after → Refuses paired r reason next → IsAnswer rows (judged (No (n + 1) reason))
+so_far-break progress after rows paired next r reason n m h given refuses =
+    let read = read-more (Some rows) progress.rows after.rows h.items r h.read given.rows in
     record {
       before = h.items;
       next = r;
@@ -90,14 +91,14 @@ so_far-break coming after rows paired next r reason n m h given refuses =
         tail = paired.tail;
         cut = h.cut;
         not_ok = λ ok. refuses.not_kept (tail_by_kept h.items h.cut_exchanges paired.tail r h.cut ok);
-        first = refuses.first;
+        is_reason = refuses.is_reason;
       };
     }
 
 -- the end of the rows
-pub so_far-end : (coming after : Coming) (rows : Rows) (paired : Paired) (n m : ℕ) → SoFar (Some rows) coming paired n m → GivesEnd coming after → IsAnswer rows (judged (Yes n m (length paired.tail)))
-so_far-end coming after rows paired n m h end =
-    let left : h.read.0 ≡ no_rows = none_left coming.rows h.read.1 end.none_left in
+pub so_far-end : {R : Type 0} (progress after : Progress R) (rows : Rows) (paired : Paired) (n m : ℕ) → SoFar (Some rows) progress paired n m → GivesEnd progress after → IsAnswer rows (judged (Yes n m (length paired.tail)))
+so_far-end progress after rows paired n m h end =
+    let left : h.read.0 ≡ no_rows = none_left progress.rows h.read.1 end.none_left in
     let records : rows.records ≡ h.items = ap (λ (x : Rows). x.records) h.read.2 ∙ ap (λ (x : Rows). h.items ++ x.records) left ∙ append-nil h.items in (
       ap (λ (x : Rows). x.fault) h.read.2 ∙ ap (λ (x : Rows). x.fault) left,
       record {
@@ -115,20 +116,20 @@ so_far-end coming after rows paired n m h end =
     none_left (Some x) e k = let same : x ≡ h.read.0 = cc in sym same ∙ k
 
 -- before the first row
-pub so_far-start : (coming : Coming) (paired : Paired) → coming.given ≡ 0 → coming.standing ≡ Reading → paired ≡ record { tail = []; last_time = None; reason = None } → SoFar coming.rows coming paired 0 0
-so_far-start coming paired given reading new = record {
+pub so_far-start : {R : Type 0} (progress : Progress R) (paired : Paired) → progress.given ≡ 0 → progress.standing ≡ Reading → paired ≡ record { tail = []; last_time = None; reason = None } → SoFar progress.rows progress paired 0 0
+so_far-start progress paired given reading new = record {
   items = [];
   cut_exchanges = [];
   cut = (ap (λ (p : Paired). p.tail) (sym new), nothing (ap (λ (p : Paired). p.tail) new));
   number = refl;
   exchange_number = refl;
   few = omega arith;
+  within = omega arith;
   given = given;
-  unheaded = λ e. refl;
   is_reading = reading;
   no_reason = ap (λ (p : Paired). p.reason) new;
   in_order = λ x e. let none : None ≡ Some x = ap (λ (p : Paired). p.last_time) (sym new) ∙ e in cc;
-  read = start coming.rows;
+  read = start progress.rows;
 }
   where
     start : (rows : Option Rows) → WereRead rows [] rows
@@ -136,22 +137,28 @@ so_far-start coming paired given reading new = record {
     start (Some rows) = (rows, refl, refl)
 
 -- a refusal at a row
-pub so_far-before : (coming after : Coming) (rows : Rows) (paired : Paired) (n m : ℕ) (e : CaptureError) → SoFar (Some rows) coming paired n m → GivesRefusal coming e after → IsOkBefore rows e
-so_far-before coming after rows paired n m e h refusal = record {
+pub so_far-before : {R : Type 0} (progress after : Progress R) (rows : Rows) (paired : Paired) (n m : ℕ) (e : CaptureError) → SoFar (Some rows) progress paired n m → GivesRefusal progress e after → IsOkBefore rows e
+so_far-before progress after rows paired n m e h refusal = record {
   items = h.items;
   start = (h.read.0.records, ap (λ (x : Rows). x.records) h.read.2);
-  place = by (refusal.place h.is_reading);
+  place = refused-after progress after e h.items refusal (h.given ∙ h.number);
+  has_header = by after.is_headed refusal.place refusal.has_header;
   is_ok = record { exchanges = h.cut_exchanges; tail = paired.tail; cut = h.cut };
 }
   where
-    by : (e.row ≡ coming.given + 1) ⊎ ((e.row ≡ 0) × (coming.is_headed ≡ false)) → IsAfter h.items e
-    by (inl p) = inl (let g = h.given in let k = h.number in omega arith)
-    by (inr p) = inr (p.0, h.unheaded p.1)
+    left_has : (o : Option Rows) → o ≡ Some h.read.0 → IfSome o HasHeader → HasHeader h.read.0
+    left_has None same k = cc
+    left_has (Some x) same k = let one : x ≡ h.read.0 = cc in subst HasHeader one k
+
+    by : (headed : Bool) → IsPlaced headed after.given e → (headed ≡ true → IfSome progress.rows HasHeader) → e.row ≢ 0 → HasHeader rows
+    by true placed has low = λ wrong.
+        left_has progress.rows h.read.1 (has refl) (sym (ap (λ (x : Rows). x.fault) h.read.2) ∙ wrong)
+    by false placed has low = absurd (low placed.row)
 
 -- a fault of the text
-pub so_far-fault : (coming after : Coming) (rows : Rows) (paired : Paired) (n m : ℕ) (e : CaptureError) → SoFar (Some rows) coming paired n m → GivesRefusal coming e after → IsTrue (is_of_text e.kind) → IsAnswer rows (unreadable e)
-so_far-fault coming after rows paired n m e h refusal of_text =
-    let left : h.read.0 ≡ bad_row e.kind e.row = bad coming.rows h.read.1 (refusal.fault h.is_reading of_text) in
+pub so_far-fault : {R : Type 0} (progress after : Progress R) (rows : Rows) (paired : Paired) (n m : ℕ) (e : CaptureError) → SoFar (Some rows) progress paired n m → GivesRefusal progress e after → IsTrue (is_of_text e.kind) → IsAnswer rows (unreadable e)
+so_far-fault progress after rows paired n m e h refusal of_text =
+    let left : h.read.0 ≡ bad_row e.kind e.row = bad progress.rows h.read.1 (refusal.fault of_text) in
     let records : rows.records ≡ h.items = ap (λ (x : Rows). x.records) h.read.2 ∙ ap (λ (x : Rows). h.items ++ x.records) left ∙ append-nil h.items in (
       ap (λ (x : Rows). x.fault) h.read.2 ∙ ap (λ (x : Rows). x.fault) left,
       record { exchanges = h.cut_exchanges; tail = paired.tail; cut = subst (λ (l : List LineByte). Cut l h.cut_exchanges paired.tail) (sym records) h.cut },
@@ -162,6 +169,6 @@ so_far-fault coming after rows paired n m e h refusal of_text =
     bad (Some x) same k = let one : x ≡ h.read.0 = cc in sym one ∙ k
 
 -- the same, where it is not known what the text is
-pub so_far-break_if : (rows : Option Rows) (coming after : Coming) (paired next : Paired) (r : LineByte) (reason : Reason) (n m : ℕ) → SoFar rows coming paired n m → GivesRecord coming r after → Refuses paired r reason next → IfSome rows (λ all. IsAnswer all (judged (No (n + 1) reason)))
-so_far-break_if None coming after paired next r reason n m h given refuses = tt
-so_far-break_if (Some rows) coming after paired next r reason n m h given refuses = so_far-break coming after rows paired next r reason n m h given refuses
+pub so_far-break_if : {R : Type 0} (rows : Option Rows) (progress after : Progress R) (paired next : Paired) (r : LineByte) (reason : Reason) (n m : ℕ) → SoFar rows progress paired n m → GivesRecord progress r after → Refuses paired r reason next → IfSome rows (λ all. IsAnswer all (judged (No (n + 1) reason)))
+so_far-break_if None progress after paired next r reason n m h given refuses = tt
+so_far-break_if (Some rows) progress after paired next r reason n m h given refuses = so_far-break progress after rows paired next r reason n m h given refuses

@@ -2,19 +2,22 @@
 use Rattle.std.proofs.Common.{◌≡◌, IsTrue, if◌then◌else◌, Bool, true, false, ℕ, List, Option, Some, None, Result, Ok, Err, refl, sym, subst}
 use Rattle.std.specs.Option.{IfSome, option_map}
 use Rattle.std.specs.Result.{IfErr}
+use Rattle.std.specs.Io.KnownBytes.{Appends}
 use Rattle.std.proofs.KnownBytes.{Appends-nil}
 use Rattle.capture9.specs.declared.error.CaptureError.{CaptureError}
 use Rattle.capture9.specs.declared.error.CaptureKind.{CaptureKind}
 use Rattle.capture9.specs.declared.error.CaptureKind.TheVariants as kind
-use Rattle.capture9.specs.Coming.{is_of_text}
+use Rattle.capture9.specs.Error.{is_of_text}
 use Rattle.capture9.specs.Rows.{Rows, rows_of}
 use Rattle.judge9.specs.declared.error.JudgeError.{JudgeError}
 use Rattle.judge9.specs.declared.error.JudgeError.TheVariants as error
 use Rattle.judge9.specs.declared.verdict.Verdict.{Verdict}
-use Rattle.judge9.specs.Answer.{Answer, IsAnswer, IsOkBefore, IsTheAnswer, StoppedBefore, answer_of}
-use Rattle.judge9.specs.Answer.Answer.{judged, unreadable}
-use Rattle.judge9.specs.Refusal.{refusal_by, refusal_of}
-use Rattle.judge9.specs.Report.{Tells, Wrote, WrotePart}
+use Rattle.judge9.specs.Judging.{Answer, IsAnswer, IsOkBefore, IsTheAnswer, StoppedBefore, answer_of}
+use Rattle.judge9.specs.Judging.Answer.{judged, unreadable}
+use Rattle.judge9.specs.Error.{refusal_by, refusal_of}
+use Rattle.judge9.specs.Verdict.{CanBeVerdict}
+use Rattle.judge9.specs.Report.{Wrote, WrotePart, line_of}
+use Rattle.judge9.specs.Working.{Tells}
 use Rattle.judge9.proofs.LawLemmas.{answer_once}
 
 -- the only answer, of an answer
@@ -40,6 +43,12 @@ told-stopped rows v (Err (error.Capture e)) old new k = absurd k
 told-stopped rows v (Err error.Write) old new k = tt
 told-stopped rows v (Err error.OutOfMemory) old new k = tt
 
+pub told-wrote : (v : Verdict) (r : Result Verdict JudgeError) (old new : Option (List ℕ)) → CanBeVerdict v → Tells v r old new → Wrote r old new
+told-wrote v (Ok w) old new h k = subst (λ (x : Verdict). Appends old new (line_of x)) (sym k.0) k.1
+told-wrote v (Err (error.Capture e)) old new h k = absurd k
+told-wrote v (Err error.Write) old new h k = (v, h, k)
+told-wrote v (Err error.OutOfMemory) old new h k = k
+
 -- what is said of all the rows is said of the text's rows
 pub over_text : (o : Option (List ℕ)) (rows : Option Rows) (P : Rows → Type 0) → rows ≡ option_map rows_of o → IfSome rows P → IfSome o (λ text. P (rows_of text))
 over_text None rows P e h = tt
@@ -58,46 +67,29 @@ answer_of-capture e P f = by (is_of_text e.kind) f
     by true f = f refl
     by false f = tt
 
-pub answer_of-refusal : (k : CaptureKind) (e : CaptureError) (P : Answer → Type 0) → (IsTrue (is_of_text e.kind) → P (unreadable e)) → IfSome (answer_of (Err (refusal_by k e))) P
-answer_of-refusal kind.Header e P f = answer_of-capture e P f
-answer_of-refusal kind.Fields e P f = answer_of-capture e P f
-answer_of-refusal kind.Time e P f = answer_of-capture e P f
-answer_of-refusal kind.Wire e P f = answer_of-capture e P f
-answer_of-refusal kind.Byte e P f = answer_of-capture e P f
-answer_of-refusal kind.Backwards e P f = answer_of-capture e P f
-answer_of-refusal kind.TooMany e P f = answer_of-capture e P f
-answer_of-refusal kind.Read e P f = answer_of-capture e P f
-answer_of-refusal kind.OutOfMemory e P f = tt
+-- a refusal of the capture stays whole, or is want of memory
+pub refusal_cases : (P : JudgeError → Type 0) (k : CaptureKind) (e : CaptureError) → P (error.Capture e) → P error.OutOfMemory → P (refusal_by k e)
+refusal_cases P kind.Header e whole memory = whole
+refusal_cases P kind.Fields e whole memory = whole
+refusal_cases P kind.Time e whole memory = whole
+refusal_cases P kind.Wire e whole memory = whole
+refusal_cases P kind.Byte e whole memory = whole
+refusal_cases P kind.Backwards e whole memory = whole
+refusal_cases P kind.TooMany e whole memory = whole
+refusal_cases P kind.Read e whole memory = whole
+refusal_cases P kind.OutOfMemory e whole memory = memory
+
+-- a fact on the refusal that is answered
+pub refused : (P : JudgeError → Type 0) (e : CaptureError) (x : JudgeError) → x ≡ refusal_of e → P (error.Capture e) → P error.OutOfMemory → P x
+refused P e x same whole memory = subst P (sym same) (refusal_cases P e.kind e whole memory)
 
 pub refused-answer : (rows : Rows) (e : CaptureError) (x : JudgeError) → x ≡ refusal_of e → (IsTrue (is_of_text e.kind) → IsAnswer rows (unreadable e)) → IfSome (answer_of (Err x)) (IsTheAnswer rows)
 refused-answer rows e x same h =
-    let P : JudgeError → Type 0 = λ y. IfSome (answer_of (Err y)) (IsTheAnswer rows) in
-    subst P (sym same) (answer_of-refusal e.kind e (IsTheAnswer rows) (λ t. record { is_answer = h t; only = λ other k. answer_once rows other (unreadable e) k (h t) }))
-
-pub wrote-refusal : (k : CaptureKind) (e : CaptureError) (old : Option (List ℕ)) → Wrote (Err (refusal_by k e)) old old
-wrote-refusal kind.Header e old = Appends-nil old
-wrote-refusal kind.Fields e old = Appends-nil old
-wrote-refusal kind.Time e old = Appends-nil old
-wrote-refusal kind.Wire e old = Appends-nil old
-wrote-refusal kind.Byte e old = Appends-nil old
-wrote-refusal kind.Backwards e old = Appends-nil old
-wrote-refusal kind.TooMany e old = Appends-nil old
-wrote-refusal kind.Read e old = Appends-nil old
-wrote-refusal kind.OutOfMemory e old = Appends-nil old
+    refused (λ y. IfSome (answer_of (Err y)) (IsTheAnswer rows)) e x same
+    (answer_of-capture e (IsTheAnswer rows) (λ t. record { is_answer = h t; only = λ other k. answer_once rows other (unreadable e) k (h t) })) tt
 
 pub refused-wrote : (e : CaptureError) (x : JudgeError) (old : Option (List ℕ)) → x ≡ refusal_of e → Wrote (Err x) old old
-refused-wrote e x old same = let P : JudgeError → Type 0 = λ y. Wrote (Err y) old old in subst P (sym same) (wrote-refusal e.kind e old)
-
-pub stopped-refusal : (k : CaptureKind) (rows : Rows) (e : CaptureError) → IsOkBefore rows e → StoppedBefore rows (refusal_by k e)
-stopped-refusal kind.Header rows e h = λ _. h
-stopped-refusal kind.Fields rows e h = λ _. h
-stopped-refusal kind.Time rows e h = λ _. h
-stopped-refusal kind.Wire rows e h = λ _. h
-stopped-refusal kind.Byte rows e h = λ _. h
-stopped-refusal kind.Backwards rows e h = λ _. h
-stopped-refusal kind.TooMany rows e h = λ _. h
-stopped-refusal kind.Read rows e h = λ _. h
-stopped-refusal kind.OutOfMemory rows e h = tt
+refused-wrote e x old same = refused (λ y. Wrote (Err y) old old) e x same (Appends-nil old) (Appends-nil old)
 
 pub refused-stopped : (rows : Rows) (e : CaptureError) (x : JudgeError) → x ≡ refusal_of e → IsOkBefore rows e → StoppedBefore rows x
-refused-stopped rows e x same h = let P : JudgeError → Type 0 = λ y. StoppedBefore rows y in subst P (sym same) (stopped-refusal e.kind rows e h)
+refused-stopped rows e x same h = refused (StoppedBefore rows) e x same (λ _. h) tt

@@ -1,4 +1,5 @@
-pub mod Ok
-pub mod Refusal
-pub mod Answer
+pub mod Verdict
+pub mod Judging
+pub mod Error
 pub mod Report
+pub mod Working

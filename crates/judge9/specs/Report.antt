@@ -1,15 +1,16 @@
 -- The text of a report, and how much of it was written.
-use Rattle.std.specs.Prelude.{◌≡◌, ℕ, ◌≤◌, List, [], ◌++◌, codes, length, take, Option, Result, Ok, Err}
+use Rattle.std.specs.Prelude.{ℕ, ◌≤◌, List, [], ◌++◌, codes, length, take, Option, Result, Ok, Err}
 use Rattle.capture9.specs.Rows.{Rows}
 use Rattle.std.specs.Io.KnownBytes.{Appends}
 use Rattle.std.specs.Fmt.{decimal}
-use Rattle.block9.specs.Reasons.{name_of, text_of}
+use Rattle.block9.specs.Reason.{name_of, text_of}
 use Rattle.judge9.specs.declared.error.JudgeError.{JudgeError}
 use Rattle.judge9.specs.declared.error.JudgeError.TheVariants as error
 use Rattle.judge9.specs.declared.verdict.Verdict.{Verdict}
 use Rattle.judge9.specs.declared.verdict.Verdict.TheVariants.{Yes, No}
-use Rattle.judge9.specs.Answer.{Answer, IsAnswer}
-use Rattle.judge9.specs.Answer.Answer.{judged, unreadable}
+use Rattle.judge9.specs.Verdict.{CanBeVerdict}
+use Rattle.judge9.specs.Judging.{Answer, IsAnswer}
+use Rattle.judge9.specs.Judging.Answer.{judged, unreadable}
 
 -- the line of a verdict, with its line feed
 abbrev pub line_of : Verdict → List ℕ
@@ -27,12 +28,12 @@ text_of_answer (unreadable e) = []
 abbrev pub AppendsPart : Option (List ℕ) → Option (List ℕ) → List ℕ → Type 0
 AppendsPart old new bytes = (n : ℕ) × (n ≤ length bytes) × Appends old new (take n bytes)
 
--- what was written: the whole line on a verdict, a first part of some verdict's line where the writer failed,
--- and else nothing
+-- what was written: the whole line on a verdict, a first part of a line that some capture has
+-- where the writer failed, and else nothing
 abbrev pub Wrote : Result Verdict JudgeError → Option (List ℕ) → Option (List ℕ) → Type 0
 Wrote (Ok v) old new = Appends old new (line_of v)
 Wrote (Err (error.Capture e)) old new = Appends old new []
-Wrote (Err error.Write) old new = (v : Verdict) × AppendsPart old new (line_of v)
+Wrote (Err error.Write) old new = (v : Verdict) × CanBeVerdict v × AppendsPart old new (line_of v)
 Wrote (Err error.OutOfMemory) old new = Appends old new []
 
 -- what was written is a first part of the text of the right answer
@@ -40,11 +41,3 @@ pub record WrotePart (rows : Rows) (old new : Option (List ℕ)) : Type 0 where
   pub answer : Answer
   pub is_answer : IsAnswer rows answer
   pub part : AppendsPart old new (text_of_answer answer)
-
--- the result of writing this verdict's line: the verdict with its line written, a first part of the line where
--- the writer failed, and nothing where there was no memory for it
-abbrev pub Tells : Verdict → Result Verdict JudgeError → Option (List ℕ) → Option (List ℕ) → Type 0
-Tells v (Ok w) old new = (w ≡ v) × Appends old new (line_of v)
-Tells v (Err (error.Capture e)) old new = ⊥
-Tells v (Err error.Write) old new = AppendsPart old new (line_of v)
-Tells v (Err error.OutOfMemory) old new = Appends old new []

@@ -9,7 +9,7 @@ use thiserror::Error;
 pub enum JudgeError {
     /// The capture can't be read to its end: a row is bad, or the reader failed or was interrupted. The
     /// error says which, and at which row. Its kind is never `OutOfMemory`. Nothing was written.
-    #[error("the capture can't be read: {0:?}")]
+    #[error("{0}")]
     Capture(CaptureError),
     /// The writer failed, was interrupted, or took no byte. What it took until then is a first part of the
     /// verdict's line.
@@ -22,7 +22,7 @@ pub enum JudgeError {
 
 impl From<CaptureError> for JudgeError {
     ghost use Rattle.std.specs.Prelude.{◌≡◌};
-    ghost use Rattle.judge9.specs.Refusal.{refusal_of};
+    ghost use Rattle.judge9.specs.Error.{refusal_of};
 
     ghost from_gives = { λ e refusal. refusal ≡ refusal_of e };
 

@@ -1,11 +1,13 @@
 //! Judges a capture as it is read: one turn reads a row and feeds its record to the pairer.
 ghost use Rattle.std.specs.Prelude.{◌≡◌, ◌≢◌, IfSome, IfOk, IfErr, IsTrue};
-ghost use Rattle.capture9.specs.Coming.{is_of_text};
+ghost use Rattle.capture9.specs.Error.{is_of_text};
 ghost use Rattle.capture9.specs.declared.records.Standing.{Standing};
 ghost use Rattle.capture9.specs.Rows.{rows_of};
-ghost use Rattle.judge9.specs.Answer.{IsAnswer, IsOkBefore, IsTheAnswer, StoppedBefore, answer_of};
-ghost use Rattle.judge9.specs.Answer.Answer.{judged, unreadable};
-ghost use Rattle.judge9.specs.Report.{Tells, Wrote, WrotePart};
+ghost use Rattle.judge9.specs.Judging.{CanBeRefusal, CanBeResult, IsAnswer, IsOkBefore, IsTheAnswer, StoppedBefore, answer_of};
+ghost use Rattle.judge9.specs.Judging.Answer.{judged, unreadable};
+ghost use Rattle.judge9.specs.Report.{Wrote, WrotePart};
+ghost use Rattle.judge9.specs.Verdict.{CanBeVerdict};
+ghost use Rattle.judge9.specs.Working.{Tells};
 
 use crate::error::JudgeError;
 use crate::report::{put_all, verdict_line};
@@ -25,15 +27,16 @@ use std::io::{Read, Write};
 /// * `Ok(Yes)` exactly where no row of the text is bad and all its records keep the rules. It counts the
 ///   records, the whole exchanges that they are cut into, and the open records after the last of these.
 /// * `Ok(No)` at record n with reason r exactly where the first n - 1 records keep the rules, the first n do
-///   not, and r is the first rule of the table that record n breaks. Rows after it have no part in this, not
-///   even bad ones.
+///   not, and r is the first rule, in the order in which they count, that record n breaks. Rows after it have
+///   no part in this, not even bad ones.
 /// * `Err(Capture(e))` with a fault of the text exactly where e is the fault of its first bad row, or of the
 ///   header, and all records before that row keep the rules.
 ///
 /// The other results come where something outside the text fails:
 ///
 /// * `Err(Capture(e))` of the kind `Read` where the reader fails or is interrupted, while it reads data row
-///   `e.row`, or the header at 0. All records before that row keep the rules.
+///   `e.row`, or the header at 0. All records before that row keep the rules, and behind row 0 the text has
+///   its header.
 /// * `Err(Write)` where the writer fails, is interrupted or takes no byte. No call is tried again.
 /// * `Err(OutOfMemory)` where a growth of memory is refused, for a row or for the line. That is never told as
 ///   a `Capture`.
@@ -43,6 +46,17 @@ use std::io::{Read, Write};
 /// A verdict is answered where its line was written whole. On `Err(Write)` a first part of a verdict's line was
 /// written, and where the reader tells its bytes it is the line of the right verdict. On every other `Err`
 /// nothing was written.
+///
+/// Where the reader does not tell its bytes, as standard input does not, this much still holds:
+///
+/// * A yes has counts that a capture can have: at most 4,000,000 records, of which a whole exchange has 6 to 36
+///   and the open tail at most 35.
+/// * A no is at record 1 to 4,000,000, and for a reason of pairing: never `NoRun`.
+/// * A fault of the text is at row 0 exactly where it is the header's, at row 4,000,001 exactly where that is a
+///   row too many, and else between; a read fault is at row 4,000,001 at most. No `Capture` has the kind
+///   `OutOfMemory`.
+/// * Where the writer tells its bytes, the line of the verdict that is answered was written. On `Err(Write)` it
+///   was a first part of a line of such a yes or such a no, and on every other `Err` nothing.
 pub fn judge<R: Read + Drop, W: Write>(
     alloc: Global,
     reader: R,
@@ -58,6 +72,7 @@ pub fn judge<R: Read + Drop, W: Write>(
         (λ text. IfErr result (StoppedBefore (rows_of text))) }
     ensures kind { (e : CaptureError) → result ≡ Err (JudgeError.Capture e)
         → e.kind ≢ CaptureKind.OutOfMemory }
+    ensures can_be { CanBeResult result }
 {
     // The one view there is: the line of the verdict alone.
     let View::Verdict = view;
@@ -88,6 +103,8 @@ fn judge_rows<R: Read + Drop>(rows: &mut Records<R>) -> Result<Verdict, CaptureE
         (λ all. IfErr result (λ e. IsTrue (is_of_text e.kind) → IsAnswer all (unreadable e))) }
     ensures before { IfSome rows.old.rows
         (λ all. IfErr result (λ e. IsOkBefore all e)) }
+    ensures can_be_verdict { IfOk result CanBeVerdict }
+    ensures can_be_refusal { IfErr result CanBeRefusal }
 {
     let mut pairer = Pairer::new();
     let mut records = 0u32;

@@ -5,8 +5,8 @@ ghost use Rattle.block9.specs.Exchange.{Cut};
 ghost use Rattle.block9.specs.Line.{last_time};
 ghost use Rattle.block9.specs.declared.pairer.Exchange.{Exchange};
 ghost use Rattle.capture9.specs.Rows.{Rows};
-ghost use Rattle.judge9.specs.Answer.{Answer, IsAnswer};
-ghost use Rattle.judge9.specs.Ok.{Breaks, IsOk};
+ghost use Rattle.judge9.specs.Judging.{Answer, IsAnswer};
+ghost use Rattle.judge9.specs.Verdict.{Breaks, IsOk};
 
 use block9::Reason;
 use capture9::LineByte;

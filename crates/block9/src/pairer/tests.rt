@@ -6,6 +6,7 @@ use capture9::Wire::{Controller, Deck};
 use capture9::{LineByte, Wire};
 use std::process::Abort;
 
+mod first;
 mod listed;
 mod times;
 
@@ -111,7 +112,7 @@ fn a_command_and_its_reply_are_an_exchange(rt: HostRuntime) {
 
 #[test]
 fn a_reason_stays(rt: HostRuntime) {
-    let mut pairer = Pairer::new();
+    let mut pairer = Pairer::default();
     assert_eq!(rt;
         take(&rt, &mut pairer, record(400, Controller, 0x20)),
         Step::Waiting

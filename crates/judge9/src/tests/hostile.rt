@@ -19,45 +19,25 @@ const SUM_AT_3: Verdict = Verdict::No {
 };
 
 #[test]
-fn unreadable_texts(rt: HostRuntime) {
+fn each_kind_of_unreadable_text(rt: HostRuntime) {
     for (text, kind, row) in [
         (b"".as_slice(), CaptureKind::Header, 0),
-        (b"time_us,wire,Byte\n400,C,20\n", CaptureKind::Header, 0),
-        (
-            b"time_us,wire,byte,more\n400,C,20\n",
-            CaptureKind::Header,
-            0,
-        ),
         (b"time_us,wire,byte\n400,C", CaptureKind::Fields, 1),
-        (b"time_us,wire,byte\nx\n", CaptureKind::Fields, 1),
-        (b"time_us,wire,byte\n,C,20\n", CaptureKind::Time, 1),
-        (b"time_us,wire,byte\n+400,C,20\n", CaptureKind::Time, 1),
-        (b"time_us,wire,byte\n4x0,X,G1\n", CaptureKind::Time, 1),
         (
             b"time_us,wire,byte\n1000000000000000,C,20\n",
             CaptureKind::Time,
             1,
         ),
-        (b"time_us,wire,byte\n400,CC,20\n", CaptureKind::Wire, 1),
-        (b"time_us,wire,byte\n400,X,G1\n", CaptureKind::Wire, 1),
         (b"time_us,wire,byte\n400,c,20\n", CaptureKind::Wire, 1),
-        (b"time_us,wire,byte\n400,C,2\n", CaptureKind::Byte, 1),
-        (b"time_us,wire,byte\n400,C,0x\n", CaptureKind::Byte, 1),
-        (b"time_us,wire,byte\n400,C,\xFF\xFE\n", CaptureKind::Byte, 1),
         (
-            b"time_us,wire,byte\n800,C,20\n400,C,G1\n",
+            b"time_us,wire,byte\n400,C,20\n800,C,01\n1200,C,21\n1600,D,10\n2000,D,01\n2400,D,11\n2800,C,G1\n",
             CaptureKind::Byte,
-            2,
+            7,
         ),
         (
             b"time_us,wire,byte\n800,C,20\n400,C,01\n",
             CaptureKind::Backwards,
             2,
-        ),
-        (
-            b"time_us,wire,byte\n400,C,20\n800,C,01\n1200,C,21\n1600,D,10\n2000,D,01\n2400,D,11\n2800,C,G1\n",
-            CaptureKind::Byte,
-            7,
         ),
     ] {
         let (answer, written) = answer_and_text(rt.alloc(), text);
@@ -130,4 +110,20 @@ fn writers_that_stop(rt: HostRuntime) {
     let answer = judge(rt.alloc(), PLAY.as_bytes(), &mut writer, View::Verdict);
     assert!(rt; answer.is_ok());
     assert_eq!(rt; writer.into_taken().as_slice(), line.as_slice());
+}
+
+#[test]
+fn refusals_in_words(rt: HostRuntime) {
+    let byte = JudgeError::Capture(CaptureError {
+        kind: CaptureKind::Byte,
+        row: 7,
+    });
+    for (refusal, words) in &[
+        (byte, "the byte of row 7 is not two hexadecimal digits"),
+        (JudgeError::Write, "the report can't be written"),
+        (JudgeError::OutOfMemory, "out of memory"),
+    ] {
+        let text = refusal.to_string(rt.alloc()).expect(&rt, "memory");
+        assert_eq!(rt; text.as_str(), *words);
+    }
 }

@@ -1,4 +1,4 @@
-//! Records that come late, and records that break two rules at once.
+//! Records that come in time and late, by hand.
 
 use super::{ACK, first_fault, sent};
 use crate::Reason;
@@ -76,44 +76,5 @@ fn times_inside_commands(rt: HostRuntime) {
         ),
     ] {
         assert_eq!(rt; first_fault(&rt, parts), fault);
-    }
-}
-
-#[test]
-fn the_first_of_two_reasons(rt: HostRuntime) {
-    let play = sent(400, Controller, &[0x20, 0x01, 0x21]);
-    let begun = sent(400, Controller, &[0x20, 0x01]);
-    for (parts, fault) in [
-        (
-            [sent(400, Deck, &[0x20])].as_slice(),
-            (1, Reason::ReplyWithoutCommand),
-        ),
-        (
-            [begun, sent(90_000, Deck, &[0x20])].as_slice(),
-            (3, Reason::ReplyInsideCommand),
-        ),
-        (
-            [begun, sent(90_000, Controller, &[0x22])].as_slice(),
-            (3, Reason::ByteGap),
-        ),
-        (
-            [play, sent(90_000, Deck, &[0x20])].as_slice(),
-            (4, Reason::LateReply),
-        ),
-        (
-            [play, sent(90_000, Controller, &[0x10])].as_slice(),
-            (4, Reason::NoReply),
-        ),
-        (
-            [
-                play,
-                sent(1_600, Deck, &[0x10]),
-                sent(90_000, Controller, &[0x10]),
-            ]
-            .as_slice(),
-            (5, Reason::CommandInsideReply),
-        ),
-    ] {
-        assert_eq!(rt; first_fault(&rt, parts), Some(fault));
     }
 }

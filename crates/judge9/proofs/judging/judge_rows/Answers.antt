@@ -1,4 +1,7 @@
-use Rattle.std.proofs.Common.{add-zero}
+use Rattle.std.proofs.Common.{add-zero, sym, subst}
+use Rattle.judge9.specs.declared.verdict.Verdict.TheVariants.{Yes}
+use Rattle.judge9.specs.Verdict.{CanBeVerdict}
+use Rattle.judge9.proofs.LimitLemmas.{can_be-yes}
 use Rattle.judge9.proofs.SoFarSteps.{so_far-step, so_far-break_if}
 use Rattle.judge9.proofs.judging.judge_rows.Goals as goal
 
@@ -25,3 +28,7 @@ returns-in-Err-clause-verdict g c =
     let given = rw c.in-Some.is at c.in_ok-line_byte.ensures.given in
     let refuses = c.in-Err.ensures.refuses c.rows.invariant.no_reason in
     so_far-break_if _ _ _ _ _ _ _ _ _ c.rows.invariant given refuses
+
+pub returns-clause-can_be_verdict : goal.returns-clause-can_be_verdict
+returns-clause-can_be_verdict g c =
+    subst (λ n. CanBeVerdict (Yes c.rows.records c.rows.exchanges n)) (sym c.tail_len.ensures.len) (can_be-yes _ _ _ _ _ c.rows.invariant)

@@ -1,4 +1,5 @@
--- Which rule a record breaks after a tail: a table with a line for each rule, in the order in which they count.
+-- Which rule a record breaks after a tail, as the code reads it: by the place where the tail stands and by lengths.
+-- Private functions alone cite this; it gives the reasons of specs/Reason.antt by proofs/ReasonLemmas.antt.
 use Rattle.std.specs.Prelude.{◌+◌, ◌-◌, ◌%◌, ◌==◌, nat_lt, nat_le, if◌then◌else◌, Bool, false, Option, Some, None, List, [], ◌∷◌, length, take, drop}
 use Rattle.std.specs.List.{sum}
 use Rattle.std.specs.Option.{option_or}
@@ -11,7 +12,7 @@ use Rattle.block9.specs.declared.place.Place.{Place}
 use Rattle.block9.specs.declared.place.Place.TheVariants.{Idle, InCommand, AfterCommand, InReply}
 use Rattle.block9.specs.declared.reason.Reason.{Reason}
 use Rattle.block9.specs.declared.reason.Reason.TheVariants.{WrongGroup, WrongSum, ByteGap, ReplyWithoutCommand, ReplyInsideCommand, CommandBeforeReply, CommandInsideReply, WrongReply, InvalidCommandTime, InvalidReplyTime, LateReply, NoReply}
-use Rattle.block9.specs.Block.{block_of}
+use Rattle.block9.specs.Working.Body.{block_of}
 use Rattle.block9.specs.Command.{command_of, fits, is_reply_time_valid}
 use Rattle.block9.specs.Line.{allows, block_len, byte_gap, bytes_of, group_in, last_time, reply_limit}
 

@@ -1,15 +1,14 @@
 -- A `Records` as its callers see it: what is still to come, and what a call of `next` does to it.
-use Rattle.std.specs.Prelude.{◌≡◌, ℕ, ◌+◌, ◌^◌, ◌<◌, ◌≤◌, ◌⊎◌, ◌↔◌, Bool, true, false, IsTrue, Option, Some, None, IfSome, ⊤}
+use Rattle.std.specs.Prelude.{◌≡◌, ℕ, ◌+◌, ◌^◌, ◌<◌, ◌≤◌, ◌⊎◌, Bool, true, false, IsTrue, Option, Some, None, IfSome, if◌then◌else◌, ⊤}
 use Rattle.capture9.specs.declared.error.CaptureError.{CaptureError}
-use Rattle.capture9.specs.declared.error.CaptureKind.{CaptureKind}
-use Rattle.capture9.specs.declared.error.CaptureKind.TheVariants as kind
 use Rattle.capture9.specs.declared.line_byte.LineByte.{LineByte}
 use Rattle.capture9.specs.declared.records.Standing.{Standing}
 use Rattle.capture9.specs.declared.records.Standing.TheVariants as standing
-use Rattle.capture9.specs.Rows.{Rows, no_rows, bad_row, good_row}
+use Rattle.capture9.specs.Error.{IsAtItsRow, is_of_text}
+use Rattle.capture9.specs.Rows.{Rows, HasHeader, no_rows, bad_row, good_row}
 
--- a `Records` as its callers see it
-pub record Coming : Type 0 where
+-- how far a `Records` over a reader has come
+pub record Progress (R : Type 0) : Type 0 where
   -- what is still to come of the text's rows, where the reader tells its bytes and nothing was refused
   pub rows : Option Rows
   -- how many records were given
@@ -20,18 +19,8 @@ pub record Coming : Type 0 where
   pub last_time : ℕ
   -- whether it reads on
   pub standing : Standing
-
--- a kind of fault that the text itself has, and not the reader or the memory
-abbrev pub is_of_text : CaptureKind → Bool
-is_of_text kind.Header = true
-is_of_text kind.Fields = true
-is_of_text kind.Time = true
-is_of_text kind.Wire = true
-is_of_text kind.Byte = true
-is_of_text kind.Backwards = true
-is_of_text kind.TooMany = true
-is_of_text kind.Read = false
-is_of_text kind.OutOfMemory = false
+  -- the reader, as the reads so far have left it
+  pub source : R
 
 -- the record is the first of the rows that were to come, where these are known, and the rest is now to come
 abbrev pub TakesRecord : Option Rows → LineByte → Option Rows → Type 0
@@ -39,7 +28,7 @@ TakesRecord None r after = ⊤
 TakesRecord (Some rows) r after = (rest : Rows) × (after ≡ Some rest) × (rows ≡ good_row r rest)
 
 -- a record was given
-pub record GivesRecord (old : Coming) (r : LineByte) (new : Coming) : Type 0 where
+pub record GivesRecord {R : Type 0} (old : Progress R) (r : LineByte) (new : Progress R) : Type 0 where
   pub was_reading : old.standing ≡ standing.Reading
   pub is_reading : new.standing ≡ standing.Reading
   pub given : new.given ≡ old.given + 1
@@ -48,10 +37,11 @@ pub record GivesRecord (old : Coming) (r : LineByte) (new : Coming) : Type 0 whe
   pub in_order : old.last_time ≤ r.time_us
   pub in_range : r.time_us < 10 ^ 15
   pub last_time : new.last_time ≡ r.time_us
+  pub has_header : IfSome old.rows HasHeader
   pub rows : TakesRecord old.rows r new.rows
 
 -- there is no record left
-pub record GivesEnd (old new : Coming) : Type 0 where
+pub record GivesEnd {R : Type 0} (old new : Progress R) : Type 0 where
   pub was_open : (old.standing ≡ standing.Reading) ⊎ (old.standing ≡ standing.Ended)
   pub is_ended : new.standing ≡ standing.Ended
   pub given : new.given ≡ old.given
@@ -60,15 +50,21 @@ pub record GivesEnd (old new : Coming) : Type 0 where
   pub none_left : IfSome old.rows (λ rows. rows ≡ no_rows)
   pub rows : new.rows ≡ Some no_rows
 
+-- where a refusal stands: at row 0 while the header is being read, and else at the row after the records given
+pub record IsPlaced (is_headed : Bool) (given : ℕ) (e : CaptureError) : Type 0 where
+  pub row : e.row ≡ (if is_headed then given + 1 else 0)
+  pub none_given : is_headed ≡ false → given ≡ 0
+  pub at_its_row : IsTrue (is_of_text e.kind) → IsAtItsRow e
+
 -- reading is refused
-pub record GivesRefusal (old : Coming) (e : CaptureError) (new : Coming) : Type 0 where
+pub record GivesRefusal {R : Type 0} (old : Progress R) (e : CaptureError) (new : Progress R) : Type 0 where
   pub is_refused : new.standing ≡ standing.Refused e
+  pub place : IsPlaced new.is_headed new.given e
   pub given : new.given ≡ old.given
   pub last_time : new.last_time ≡ old.last_time
+  -- the header stays read, and is read only where the text has it
+  pub stays_headed : old.is_headed ≡ true → new.is_headed ≡ true
+  pub has_header : new.is_headed ≡ true → IfSome old.rows HasHeader
+  -- a fault of the text is the one that was to come
+  pub fault : IsTrue (is_of_text e.kind) → IfSome old.rows (λ rows. rows ≡ bad_row e.kind e.row)
   pub rows : new.rows ≡ None
-  -- where it read on until then, a fault of the text is the one that was to come,
-  pub fault : old.standing ≡ standing.Reading → IsTrue (is_of_text e.kind) → IfSome old.rows (λ rows. rows ≡ bad_row e.kind e.row)
-  -- its row is the one after the records given, or 0 while the header is read,
-  pub place : old.standing ≡ standing.Reading → (e.row ≡ old.given + 1) ⊎ ((e.row ≡ 0) × (old.is_headed ≡ false))
-  -- and a fault of the text is at 0 where it is the header's
-  pub header : old.standing ≡ standing.Reading → IsTrue (is_of_text e.kind) → (e.kind ≡ kind.Header) ↔ (e.row ≡ 0)

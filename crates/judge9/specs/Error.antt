@@ -8,14 +8,7 @@ use Rattle.judge9.specs.declared.error.JudgeError.TheVariants as error
 -- by its kind: want of memory is one thing wherever it comes; what the reader or the text bring stays whole
 abbrev pub refusal_by : CaptureKind → CaptureError → JudgeError
 refusal_by kind.OutOfMemory e = error.OutOfMemory
-refusal_by kind.Header e = error.Capture e
-refusal_by kind.Fields e = error.Capture e
-refusal_by kind.Time e = error.Capture e
-refusal_by kind.Wire e = error.Capture e
-refusal_by kind.Byte e = error.Capture e
-refusal_by kind.Backwards e = error.Capture e
-refusal_by kind.TooMany e = error.Capture e
-refusal_by kind.Read e = error.Capture e
+refusal_by _ e = error.Capture e
 
 -- by the kind that it has
 abbrev pub refusal_of : CaptureError → JudgeError

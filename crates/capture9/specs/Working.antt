@@ -1,15 +1,15 @@
--- What the fields of a `Records` tell of the rows that are still to come.
-use Rattle.std.specs.Prelude.{◌≡◌, ℕ, ◌+◌, ◌≤◌, ◌↔◌, Bool, true, false, List, [], ◌∷◌, Option, Some, None, length, option_map, IfSome, IsTrue, if◌then◌else◌}
+-- What the clauses of private functions cite, and what stands inside a `Records`. No public contract reaches it, so
+-- no reader has to believe it.
+use Rattle.std.specs.Prelude.{◌≡◌, ℕ, ◌+◌, ◌≤◌, Bool, true, false, List, [], ◌∷◌, Option, Some, None, length, option_map, IfSome, if◌then◌else◌}
 use Rattle.csv.specs.Reading.{Ready, default_config, is_flexible, reader_config, reader_state, reader_trim, records_from, source_of}
 use Rattle.csv.specs.declared.parser.State.{State}
 use Rattle.csv.specs.declared.reader.Reader.{Reader}
 use Rattle.csv.specs.declared.reader.Trim.TheVariants as trim
+use Rattle.capture9.specs.declared.error.CaptureError.{CaptureError}
 use Rattle.capture9.specs.declared.records.Standing.{Standing}
 use Rattle.capture9.specs.declared.records.Standing.TheVariants as standing
-use Rattle.capture9.specs.declared.error.CaptureError.{CaptureError}
-use Rattle.capture9.specs.declared.error.CaptureKind.TheVariants as kind
-use Rattle.capture9.specs.Coming.{Coming, is_of_text}
-use Rattle.capture9.specs.Rows.{Rows, bad_row, headed_rows, no_rows, rows_from}
+use Rattle.capture9.specs.Records.{IsPlaced, Progress}
+use Rattle.capture9.specs.Rows.{Rows, headed_rows, no_rows, rows_from}
 
 -- the CSV records of a text, from a state of the machine that reads CSV
 abbrev pub records_at : State → List ℕ → List (List (List ℕ))
@@ -30,11 +30,6 @@ rows_to_come standing.Reading is_headed given last_time unread = option_map (unr
 rows_to_come standing.Ended is_headed given last_time unread = Some no_rows
 rows_to_come (standing.Refused e) is_headed given last_time unread = None
 
--- how callers see a `Records` with these fields
-abbrev pub coming_of : Standing → Bool → ℕ → ℕ → Option (List (List (List ℕ))) → Coming
-coming_of s headed count time unread =
-    record { rows = rows_to_come s headed count time unread; given = count; is_headed = headed; last_time = time; standing = s }
-
 -- a reader that takes every record as it stands: commas, no trimming, any number of fields, no header of its own
 pub record IsPlain {R : Type 0} (r : Reader R) : Type 0 where
   pub config : reader_config r ≡ default_config
@@ -42,12 +37,13 @@ pub record IsPlain {R : Type 0} (r : Reader R) : Type 0 where
   pub flexible : is_flexible r ≡ true
   pub ready : Ready r
 
--- what the fields of a `Records` keep
-pub record IsSound {R : Type 0} (s : Standing) (is_headed : Bool) (given last_time : ℕ) (r : Reader R) : Type 0 where
+-- what always holds of the fields of a `Records`
+pub record HoldsInRecords {R : Type 0} (s : Standing) (is_headed : Bool) (given last_time : ℕ) (r : Reader R) : Type 0 where
   pub plain : s ≡ standing.Reading → IsPlain r
   pub within : given ≤ 4000000
   pub fresh : is_headed ≡ false → (given ≡ 0) × (last_time ≡ 0)
   pub ended : s ≡ standing.Ended → is_headed ≡ true
+  pub refused : (e : CaptureError) → s ≡ standing.Refused e → IsPlaced is_headed given e
 
 -- what a read of a CSV record did: there was one, with these fields, or there was none
 abbrev pub TakesFields : List (List (List ℕ)) → Bool → List (List ℕ) → Option (List (List (List ℕ))) → Type 0
@@ -55,19 +51,9 @@ TakesFields [] found fields after = found ≡ false
 TakesFields (first ∷ rest) found fields after = (found ≡ true) × (fields ≡ first) × (after ≡ Some rest)
 
 -- the header was read, and the rows to come are those that were
-pub record PassesHeader (old new : Coming) : Type 0 where
+pub record PassesHeader {R : Type 0} (old new : Progress R) : Type 0 where
   pub standing : new.standing ≡ standing.Reading
   pub is_headed : new.is_headed ≡ true
   pub given : new.given ≡ old.given
   pub last_time : new.last_time ≡ old.last_time
   pub rows : IfSome old.rows (λ rows. new.rows ≡ Some rows)
-
--- reading is refused at this row
-pub record RefusesAt (row : ℕ) (old : Coming) (e : CaptureError) (new : Coming) : Type 0 where
-  pub is_refused : new.standing ≡ standing.Refused e
-  pub given : new.given ≡ old.given
-  pub last_time : new.last_time ≡ old.last_time
-  pub rows : new.rows ≡ None
-  pub fault : IsTrue (is_of_text e.kind) → IfSome old.rows (λ rows. rows ≡ bad_row e.kind e.row)
-  pub place : e.row ≡ row
-  pub header : IsTrue (is_of_text e.kind) → (e.kind ≡ kind.Header) ↔ (e.row ≡ 0)

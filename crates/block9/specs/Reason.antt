@@ -1,0 +1,118 @@
+-- Which rule a record breaks after a tail: a line for each reason, the order in which they count, their names and
+-- their texts.
+use Rattle.std.specs.Prelude.{ℕ, ◌+◌, ◌%◌, ◌<◌, ◌≤◌, ◌≡◌, ◌≢◌, ◌⊎◌, false, None, List, [], ◌∷◌, ◌++◌, length, codes}
+use Rattle.std.specs.List.{sum}
+use Rattle.capture9.specs.declared.line_byte.LineByte.{LineByte}
+use Rattle.capture9.specs.declared.line_byte.Wire.TheVariants.{Controller, Deck}
+use Rattle.block9.specs.declared.block.Block.{Block}
+use Rattle.block9.specs.declared.command.Command.{Command}
+use Rattle.block9.specs.declared.reason.Reason.{Reason}
+use Rattle.block9.specs.declared.reason.Reason.TheVariants.{WrongGroup, WrongSum, ByteGap, ReplyWithoutCommand, ReplyInsideCommand, CommandBeforeReply, CommandInsideReply, WrongReply, InvalidCommandTime, InvalidReplyTime, LateReply, NoReply, NoRun}
+use Rattle.block9.specs.Command.{command_of, fits, is_reply_time_valid}
+use Rattle.block9.specs.Line.{IsBegun, IsWhole, allows, block_len, byte_gap, bytes_of, group_in, last_time, reply_limit}
+use Rattle.block9.specs.Exchange.{IsCommand, IsInTime}
+
+-- ---- what a tail is, beside nothing and a begun command
+
+-- a whole command
+abbrev pub IsWholeCommand : List LineByte → Type 0
+IsWholeCommand tail = (b : Block) × (c : Command) × IsCommand tail b c
+
+-- a whole command, and after it, in time, the first records of its reply
+pub record IsAnswered (tail : List LineByte) (c : Command) (reply : List LineByte) : Type 0 where
+  pub command : List LineByte
+  pub block : Block
+  pub split : tail ≡ command ++ reply
+  pub is_command : IsCommand command block c
+  pub begun : IsBegun Deck reply
+  pub in_time : IsInTime command reply
+
+-- these are the records of the block that is begun at the end of a tail: a command, or the reply to one
+abbrev pub IsOpen : List LineByte → List LineByte → Type 0
+IsOpen tail records = ((tail ≡ records) × IsBegun Controller records) ⊎ ((c : Command) × IsAnswered tail c records)
+
+-- the record ends this reply to this command
+abbrev pub EndsReply : List LineByte → LineByte → Command → Block → Type 0
+EndsReply tail r c reply = (records : List LineByte) × IsAnswered tail c records × IsWhole Deck (records ++ r ∷ []) reply
+
+-- ---- the reasons
+
+-- what a reason says of a tail and of the record after it; of several that hold, the order below tells which counts
+abbrev pub Holds : Reason → List LineByte → LineByte → Type 0
+-- the deck sends where nothing is open, or inside a command
+Holds ReplyWithoutCommand tail r = (tail ≡ []) × (r.wire ≡ Deck)
+Holds ReplyInsideCommand tail r = IsBegun Controller tail × (r.wire ≡ Deck)
+-- the controller sends where a reply is to come, within the reply limit or after it, or inside a reply
+Holds CommandBeforeReply tail r = IsWholeCommand tail × (r.wire ≡ Controller) × (r.time_us ≤ last_time tail + reply_limit)
+Holds NoReply tail r = IsWholeCommand tail × (r.wire ≡ Controller) × (last_time tail + reply_limit < r.time_us)
+Holds CommandInsideReply tail r = ((c : Command) × (reply : List LineByte) × IsAnswered tail c reply) × (r.wire ≡ Controller)
+-- the reply begins after the reply limit
+Holds LateReply tail r = IsWholeCommand tail × (r.wire ≡ Deck) × (last_time tail + reply_limit < r.time_us)
+-- a block is begun, and the record comes after the byte gap
+Holds ByteGap tail r = ((records : List LineByte) × IsOpen tail records) × (last_time tail + byte_gap < r.time_us)
+-- the first record of a block has a group that its wire does not allow
+Holds WrongGroup tail r = ((tail ≡ []) ⊎ IsWholeCommand tail) × (allows r.wire (group_in r.byte) ≡ false)
+-- a block is begun, and the record stands where its sum does and is not the sum of the bytes before it
+Holds WrongSum tail r =
+    (records : List LineByte) × IsOpen tail records × (length records + 1 ≡ block_len records) × (r.byte ≢ sum (bytes_of records) % 256)
+-- a command that ends has no meaning, since its time is not valid
+Holds InvalidCommandTime tail r = (b : Block) × IsWhole Controller (tail ++ r ∷ []) b × (command_of b ≡ None)
+-- a reply that ends is of no kind that its command may have, or has a time that should be valid and is not
+Holds WrongReply tail r = (c : Command) × (reply : Block) × EndsReply tail r c reply × (fits c reply ≡ false)
+Holds InvalidReplyTime tail r = (c : Command) × (reply : Block) × EndsReply tail r c reply × (is_reply_time_valid c reply ≡ false)
+-- this needs a deck to be followed, so it never holds here
+Holds NoRun tail r = ⊥
+
+-- the order in which the reasons count: the wire, the time, the group, the sum, what the block means, the deck
+abbrev pub order : List Reason
+order =
+    ReplyWithoutCommand ∷ ReplyInsideCommand ∷ CommandBeforeReply ∷ NoReply ∷ CommandInsideReply
+    ∷ LateReply ∷ ByteGap
+    ∷ WrongGroup
+    ∷ WrongSum
+    ∷ InvalidCommandTime ∷ WrongReply ∷ InvalidReplyTime
+    ∷ NoRun
+    ∷ []
+
+-- the first one in a list that holds
+abbrev pub IsFirst : (Reason → Type 0) → List Reason → Reason → Type 0
+IsFirst holds [] reason = ⊥
+IsFirst holds (x ∷ more) reason = ((reason ≡ x) × holds x) ⊎ ((¬ holds x) × IsFirst holds more reason)
+
+-- the reason why a record breaks the rules after a tail: the first one in the order that holds
+abbrev pub IsReason : List LineByte → LineByte → Reason → Type 0
+IsReason tail r reason = IsFirst (λ x. Holds x tail r) order reason
+
+-- ---- the names and the texts
+
+-- the short name that a report gives
+abbrev pub name_of : Reason → List ℕ
+name_of WrongGroup = codes "B1"
+name_of WrongSum = codes "B2"
+name_of ByteGap = codes "B3"
+name_of ReplyWithoutCommand = codes "P1"
+name_of ReplyInsideCommand = codes "P2"
+name_of CommandBeforeReply = codes "P3"
+name_of CommandInsideReply = codes "P4"
+name_of WrongReply = codes "P5"
+name_of InvalidCommandTime = codes "P6"
+name_of InvalidReplyTime = codes "P7"
+name_of LateReply = codes "L1"
+name_of NoReply = codes "L2"
+name_of NoRun = codes "M1"
+
+-- the reason in words
+abbrev pub text_of : Reason → List ℕ
+text_of WrongGroup = codes "wrong group for this wire"
+text_of WrongSum = codes "wrong sum"
+text_of ByteGap = codes "gap inside a block"
+text_of ReplyWithoutCommand = codes "reply without a command"
+text_of ReplyInsideCommand = codes "reply before the end of the command"
+text_of CommandBeforeReply = codes "command before the reply"
+text_of CommandInsideReply = codes "command inside a reply"
+text_of WrongReply = codes "wrong kind of reply"
+text_of InvalidCommandTime = codes "invalid time in a command"
+text_of InvalidReplyTime = codes "invalid time in a reply"
+text_of LateReply = codes "late reply"
+text_of NoReply = codes "no reply"
+text_of NoRun = codes "no run remains"

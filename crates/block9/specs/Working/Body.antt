@@ -1,0 +1,9 @@
+-- The block with a body, as private functions read it.
+use Rattle.std.specs.Prelude.{ℕ, ◌/◌, List, [], ◌∷◌}
+use Rattle.block9.specs.declared.block.Block.{Block}
+
+-- the block with this body
+abbrev pub block_of : List ℕ → Block
+block_of [] = record { group = 0; code = 0; bytes = record { items = [] } }
+block_of (first ∷ []) = record { group = first / 16; code = 0; bytes = record { items = [] } }
+block_of (first ∷ code ∷ bytes) = record { group = first / 16; code = code; bytes = record { items = bytes } }

@@ -1,0 +1,47 @@
+//! The laws of the definitions that contracts cite, each the contract of a function that does nothing, and what
+//! the public constants are.
+ghost use Rattle.std.specs.Prelude.{◌≡◌, ◌+◌, ◌-◌, ◌*◌, ◌<◌, ◌≤◌, List, [], ◌∷◌, ◌++◌, Contains, codes};
+ghost use Rattle.block9.specs.Exchange.{IsKept, IsTail};
+ghost use Rattle.block9.specs.Line.{byte_gap, byte_time, last_time, reply_limit};
+ghost use Rattle.block9.specs.Nak.{nak_bits};
+ghost use Rattle.block9.specs.Reason.{IsReason};
+
+use crate::nak::NakBits;
+use crate::reason::Reason;
+use crate::{BYTE_GAP_US, BYTE_TIME_US, REPLY_LIMIT_US};
+use capture9::LineByte;
+
+/// Where a tail with a next record, which is not earlier, does not keep the rules, there is a reason; and there
+/// is none where it keeps them.
+pub fn some_reason_applies()
+    ensures some { (tail : List LineByte) (next : LineByte) → IsTail tail → last_time tail ≤ next.time_us
+        → ¬ IsKept (tail ++ next ∷ []) → (reason : Reason) × IsReason tail next reason }
+    ensures broken { (tail : List LineByte) (next : LineByte) (reason : Reason) → IsTail tail
+        → IsReason tail next reason → ¬ IsKept (tail ++ next ∷ []) }
+{}
+
+/// At most one reason is the reason.
+pub fn at_most_one_reason()
+    ensures { (tail : List LineByte) (next : LineByte) (reason other : Reason)
+        → IsReason tail next reason → IsReason tail next other → reason ≡ other }
+{}
+
+/// The public limits are those of the definitions, and the time of a byte is eleven bits at 38,400 a second,
+/// rounded up.
+pub fn limits()
+    ensures byte_time { BYTE_TIME_US ≡ byte_time }
+    ensures byte_gap { BYTE_GAP_US ≡ byte_gap }
+    ensures reply_limit { REPLY_LIMIT_US ≡ reply_limit }
+    ensures not_below { 11 * 1000000 ≤ byte_time * 38400 }
+    ensures rounded_up { (byte_time - 1) * 38400 < 11 * 1000000 }
+{}
+
+/// Each public bit of a NAK is the one that the definitions give its name.
+pub fn nak_names()
+    ensures undefined { Contains nak_bits (codes "undefined", NakBits.UNDEFINED.0) }
+    ensures checksum { Contains nak_bits (codes "checksum", NakBits.CHECKSUM.0) }
+    ensures parity { Contains nak_bits (codes "parity", NakBits.PARITY.0) }
+    ensures overrun { Contains nak_bits (codes "overrun", NakBits.OVERRUN.0) }
+    ensures framing { Contains nak_bits (codes "framing", NakBits.FRAMING.0) }
+    ensures timeout { Contains nak_bits (codes "timeout", NakBits.TIMEOUT.0) }
+{}

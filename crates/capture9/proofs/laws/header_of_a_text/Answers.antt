@@ -1,0 +1,7 @@
+-- What holds of every list of CSV records holds of those of a text.
+use Rattle.csv.specs.Reading.{default_config, records, strip_bom}
+use Rattle.capture9.proofs.LawFacts.{has-header}
+use Rattle.capture9.proofs.laws.header_of_a_text.Goals as goal
+
+pub returns : goal.returns
+returns c = λ text. has-header (records default_config (strip_bom text))

@@ -1,0 +1,33 @@
+//! The laws of the rows of a text, each the contract of a function that does nothing.
+ghost use Rattle.std.specs.Prelude.{◌≡◌, ◌↔◌, ◌∷◌, true, ℕ, ◌^◌, ◌<◌, ◌≤◌, IsTrue, List, Some, length};
+ghost use Rattle.std.specs.List.{All};
+ghost use Rattle.std.specs.List.Sorted.{IsNonDecreasingBy};
+ghost use Rattle.capture9.specs.Error.{IsAfter, is_of_text};
+ghost use Rattle.capture9.specs.Fields.{is_header};
+ghost use Rattle.capture9.specs.Rows.{HasHeader, rows_of};
+ghost use Rattle.csv.specs.Reading.{default_config, records, strip_bom};
+
+use crate::error::CaptureError;
+
+/// A text has its header exactly where its first CSV record is one.
+pub fn header_of_a_text()
+    ensures { (text : List ℕ) → HasHeader (rows_of text)
+        ↔ ((fields : List (List ℕ)) × (rest : List (List (List ℕ)))
+        × (records default_config (strip_bom text) ≡ fields ∷ rest) × (is_header fields ≡ true)) }
+{}
+
+/// A text has at most 4,000,000 records. Their times never fall, and each is below 10^15.
+pub fn records_of_a_text()
+    ensures limit { (text : List ℕ) → length (rows_of text).records ≤ 4000000 }
+    ensures in_order { (text : List ℕ) → IsNonDecreasingBy (λ r. r.time_us) (rows_of text).records }
+    ensures in_range { (text : List ℕ) → All (λ r. r.time_us < 10 ^ 15) (rows_of text).records }
+{}
+
+/// The fault of a text is of the text itself. The header's is at row 0, where there is no record, and every
+/// other is at the row after the records: 4,000,001 exactly where that is a row too many.
+pub fn fault_of_a_text()
+    ensures of_text { (text : List ℕ) (e : CaptureError) → (rows_of text).fault ≡ Some e
+        → IsTrue (is_of_text e.kind) }
+    ensures place { (text : List ℕ) (e : CaptureError) → (rows_of text).fault ≡ Some e
+        → IsAfter (rows_of text).records e }
+{}
