@@ -57,7 +57,7 @@ impl Block {
     }
 
     /// The time that the data are: `None` where they are not four bytes of a valid time.
-    pub(crate) fn time(&self) -> Option<TimeCode>
+    pub fn time(&self) -> Option<TimeCode>
         ensures { result ≡ time_of self.now.bytes.items }
     {
         let bytes = self.bytes.as_slice().as_array()?;

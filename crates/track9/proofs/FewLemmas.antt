@@ -1,0 +1,169 @@
+-- How often a register's times begin: at most once more than there were presets to it.
+use Rattle.std.proofs.Common.{◌≡◌, ℕ, ◌≤◌, ◌+◌, Bool, true, false, if◌then◌else◌, Option, Some, None, refl, sym, subst, arith}
+use Rattle.std.specs.FinSet as set
+use Rattle.tc25.specs.Times.{BelowDay, Times, begin_count, every_time, just}
+use Rattle.tc25.proofs.CountLemmas.{begin_count-empty, begin_count-every_time, begin_count-insert, begin_count-just, begin_count-next, begin_count-prev, begin_count-span_count, begin_count-widened_next, begin_count-widened_prev, span_count-in_day}
+use Rattle.track9.specs.declared.effect.Change.{Change}
+use Rattle.track9.specs.declared.effect.Change.TheVariants.{SetSomewhere, SetAt, Next, Prev, Reset, Recall}
+use Rattle.track9.specs.declared.effect.Effect.{Effect}
+use Rattle.track9.specs.declared.effect.Effect.TheVariants as effect
+use Rattle.track9.specs.declared.presets.Presets.{Presets}
+use Rattle.track9.specs.declared.state.Register.{Register}
+use Rattle.track9.specs.declared.state.Register.TheVariants.{RegIn, RegOut, RegAudioIn, RegAudioOut}
+use Rattle.track9.specs.Presets.{count_of, one_more, with_one}
+use Rattle.track9.specs.Tracker.{Entries, PartStates, StateSet, entries_of, part_of}
+use Rattle.track9.specs.Working.Entries.{agreeing, changed, said, widened}
+use Rattle.track9.specs.Working.Parts.{all_states, changed_entries, changed_part, no_states, settled, with_entries}
+use Rattle.track9.specs.Working.States.{AreFew, counted, map_parts}
+use Rattle.track9.proofs.ReachLemmas.{mapped}
+
+-- no more beginnings than this
+abbrev pub FewTimes : ℕ → Entries → Type 0
+FewTimes n es = begin_count es.times ≤ n + 1
+
+-- the same of each register of a part
+abbrev pub FewIn : Presets → PartStates → Type 0
+FewIn n p = (r : Register) → FewTimes (count_of r n) (entries_of r p)
+
+few_none : (n : ℕ) → begin_count set.empty ≤ n + 1
+few_none n = omega (arith, begin_count-empty)
+
+few_every : (n : ℕ) → begin_count every_time ≤ n + 1
+few_every n = omega (arith, begin_count-every_time)
+
+few_just : (n t : ℕ) → begin_count (just t) ≤ n + 1
+few_just n t = omega (arith, begin_count-just t)
+
+pub few_all_states : (n : Presets) → FewIn n all_states
+few_all_states n RegIn = few_every n.ins
+few_all_states n RegOut = few_every n.outs
+few_all_states n RegAudioIn = few_every n.ains
+few_all_states n RegAudioOut = few_every n.aouts
+
+pub few_no_states : (n : Presets) → FewIn n no_states
+few_no_states n RegIn = few_none n.ins
+few_no_states n RegOut = few_none n.outs
+few_no_states n RegAudioIn = few_none n.ains
+few_no_states n RegAudioOut = few_none n.aouts
+
+-- ---- entries
+
+pub few_agreeing : (n : ℕ) (o : Option ℕ) (es : Entries) → FewTimes n (agreeing o es)
+few_agreeing n None es = few_none n
+few_agreeing n (Some t) es = by (set.contains es.times t)
+  where
+    by : (b : Bool) → begin_count (if b then just t else set.empty) ≤ n + 1
+    by true = few_just n t
+    by false = few_none n
+
+pub few_said : (n : ℕ) (o : Option Bool) (es : Entries) → FewTimes n es → FewTimes n (said o es)
+few_said n None es h = h
+few_said n (Some true) es h = h
+few_said n (Some false) es h = few_none n
+
+-- the presets to a register after one more change
+abbrev pub counted_to : Change → ℕ → ℕ
+counted_to (SetAt t) n = one_more n
+counted_to _ n = n
+
+changed_few : (c : Change) (es : Entries) (n : ℕ) → BelowDay es.times → FewTimes n es → FewTimes (counted_to c n) (changed c es)
+changed_few SetSomewhere es n below h = few_every n
+changed_few (SetAt t) es n below h = few_just (one_more n) t
+changed_few Next es n below h = omega (arith, begin_count-next es.times below, h)
+changed_few Prev es n below h = omega (arith, begin_count-prev es.times below, h)
+changed_few Reset es n below h = few_none n
+changed_few Recall es n below h = few_every n
+
+-- a day has fewer beginnings than can be counted
+few_in_day : (s : Times) → BelowDay s → begin_count s ≤ 1080000
+few_in_day s below = omega (arith, begin_count-span_count s, span_count-in_day s below)
+
+inserted_few : (s : Times) (t n : ℕ) → begin_count s ≤ n + 1 → begin_count (set.insert s t) ≤ 1080000 → begin_count (set.insert s t) ≤ one_more n + 1
+inserted_few s t n h few = omega (arith, begin_count-insert s t, h, few)
+
+widened_few : (c : Change) (es : Entries) (n : ℕ) → BelowDay es.times → BelowDay (widened c es).times → FewTimes n es → FewTimes (counted_to c n) (widened c es)
+widened_few SetSomewhere es n below after h = few_every n
+widened_few (SetAt t) es n below after h = inserted_few es.times t n h (few_in_day (set.insert es.times t) after)
+widened_few Next es n below after h = omega (arith, begin_count-widened_next es.times below, h)
+widened_few Prev es n below after h = omega (arith, begin_count-widened_prev es.times below, h)
+widened_few Reset es n below after h = h
+widened_few Recall es n below after h = few_every n
+
+pub few_changed : (may_stay : Bool) (c : Change) (es : Entries) (n : ℕ) → BelowDay es.times → BelowDay (changed_entries may_stay c es).times → FewTimes n es → FewTimes (counted_to c n) (changed_entries may_stay c es)
+few_changed false c es n below after h = changed_few c es n below h
+few_changed true c es n below after h = widened_few c es n below after h
+
+-- ---- parts
+
+pub few_settled : (n : Presets) (p : PartStates) → FewIn n p → FewIn n (settled p)
+few_settled n p h = by _
+  where
+    by : (b : Bool) → FewIn n (if b then p else no_states)
+    by true = h
+    by false = few_no_states n
+
+pub few_if : (n : Presets) (b : Bool) (p q : PartStates) → FewIn n p → FewIn n q → FewIn n (if b then p else q)
+few_if n true p q h k = h
+few_if n false p q h k = k
+
+few_put_at : (n : Presets) (r q : Register) (es : Entries) (p : PartStates) → FewIn n p → FewTimes (count_of r n) es → FewTimes (count_of q n) (entries_of q (with_entries r es p))
+few_put_at n RegIn RegIn es p old new = new
+few_put_at n RegOut RegOut es p old new = new
+few_put_at n RegAudioIn RegAudioIn es p old new = new
+few_put_at n RegAudioOut RegAudioOut es p old new = new
+few_put_at n RegIn q es p old new = old q
+few_put_at n RegOut q es p old new = old q
+few_put_at n RegAudioIn q es p old new = old q
+few_put_at n RegAudioOut q es p old new = old q
+
+pub few_put : (n : Presets) (r : Register) (es : Entries) (p : PartStates) → FewIn n p → FewTimes (count_of r n) es → FewIn n (with_entries r es p)
+few_put n RegIn es p old new = λ q. few_put_at n RegIn q es p old new
+few_put n RegOut es p old new = λ q. few_put_at n RegOut q es p old new
+few_put n RegAudioIn es p old new = λ q. few_put_at n RegAudioIn q es p old new
+few_put n RegAudioOut es p old new = λ q. few_put_at n RegAudioOut q es p old new
+
+-- ---- counts
+
+-- a change counts for its register, and no register loses by it
+count_more : (c : Change) (r : Register) (n : Presets) → count_of r (counted (effect.Change r c) n) ≡ counted_to c (count_of r n)
+count_more (SetAt t) RegIn n = refl
+count_more (SetAt t) RegOut n = refl
+count_more (SetAt t) RegAudioIn n = refl
+count_more (SetAt t) RegAudioOut n = refl
+count_more SetSomewhere r n = refl
+count_more Next r n = refl
+count_more Prev r n = refl
+count_more Reset r n = refl
+count_more Recall r n = refl
+
+-- one preset more
+few_up : (n : ℕ) (es : Entries) → BelowDay es.times → FewTimes n es → FewTimes (one_more n) es
+few_up n es below h = omega (arith, h, few_in_day es.times below)
+
+few_one_more : (n : Presets) (r q : Register) (p : PartStates) → ((q : Register) → BelowDay (entries_of q p).times) → FewIn n p → FewTimes (count_of q (with_one r n)) (entries_of q p)
+few_one_more n RegIn RegIn p below h = few_up n.ins p.ins (below RegIn) (h RegIn)
+few_one_more n RegOut RegOut p below h = few_up n.outs p.outs (below RegOut) (h RegOut)
+few_one_more n RegAudioIn RegAudioIn p below h = few_up n.ains p.ains (below RegAudioIn) (h RegAudioIn)
+few_one_more n RegAudioOut RegAudioOut p below h = few_up n.aouts p.aouts (below RegAudioOut) (h RegAudioOut)
+few_one_more n RegIn q p below h = h q
+few_one_more n RegOut q p below h = h q
+few_one_more n RegAudioIn q p below h = h q
+few_one_more n RegAudioOut q p below h = h q
+
+pub few_counted : (e : Effect) (n : Presets) (p : PartStates) → ((q : Register) → BelowDay (entries_of q p).times) → FewIn n p → FewIn (counted e n) p
+few_counted (effect.Change RegIn (SetAt t)) n p below h = λ q. few_one_more n RegIn q p below h
+few_counted (effect.Change RegOut (SetAt t)) n p below h = λ q. few_one_more n RegOut q p below h
+few_counted (effect.Change RegAudioIn (SetAt t)) n p below h = λ q. few_one_more n RegAudioIn q p below h
+few_counted (effect.Change RegAudioOut (SetAt t)) n p below h = λ q. few_one_more n RegAudioOut q p below h
+few_counted _ n p below h = h
+
+pub few_changed_part : (may_stay : Bool) (r : Register) (c : Change) (n : Presets) (p : PartStates) → ((q : Register) → BelowDay (entries_of q p).times)
+    → BelowDay (changed_entries may_stay c (entries_of r p)).times → FewIn n p → FewIn (counted (effect.Change r c) n) (changed_part may_stay r c p)
+few_changed_part may_stay r c n p below after h =
+    few_put (counted (effect.Change r c) n) r (changed_entries may_stay c (entries_of r p)) p (few_counted (effect.Change r c) n p below h)
+    (subst (λ k. FewTimes k (changed_entries may_stay c (entries_of r p))) (sym (count_more c r n)) (few_changed may_stay c (entries_of r p) (count_of r n) (below r) after (h r)))
+
+-- ---- all parts
+
+pub few_mapped : (n : Presets) (f : Bool → PartStates → PartStates) (v : StateSet) → ((l pn : Bool) → FewIn n (f l (part_of v l pn))) → AreFew n (map_parts f v)
+few_mapped n f v each = λ l pn. subst (FewIn n) (sym (mapped f v l pn)) (each l pn)

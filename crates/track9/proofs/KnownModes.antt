@@ -1,0 +1,268 @@
+-- What is known of modes.
+use Rattle.std.proofs.Common.{◌≡◌, ◌≢◌, ◌⊎◌, inl, inr, ℕ, ◌<◌, ◌==◌, ◌&&◌, ◌||◌, not, Bool, true, false, if◌then◌else◌, refl, sym, ap, ◌∙◌, subst, arith, bit_and}
+use Rattle.std.proofs.lemmas.Bool.{and_parts, eq-eqb, false≢true, or_cases}
+use Rattle.std.proofs.lemmas.Bool.Decides.{nat_tests}
+use Rattle.std.proofs.lemmas.Nat.Bits.{bit_at-lt, same_from_bits_below}
+use Rattle.std.specs.Int.{bit_at}
+use Rattle.tc25.proofs.TimesLemmas.{same_test}
+use Rattle.track9.specs.declared.knowledge.Known.{Known}
+use Rattle.track9.specs.declared.knowledge.Known.TheVariants as known
+use Rattle.track9.specs.declared.mode.Mode.{Mode}
+use Rattle.track9.specs.declared.mode.Mode.TheVariants.{Stop, Play, Rec, FastForward, Rewind, Shuttle, Jog, Var, Cued, Eject}
+use Rattle.track9.specs.declared.mode_set.ModeSet.{ModeSet}
+use Rattle.track9.specs.declared.pairs.Pairs.{Pairs}
+use Rattle.track9.specs.declared.state.State.{State}
+use Rattle.track9.specs.Knowledge.{IsKnown}
+use Rattle.track9.specs.Mode.{index_of, is_mode}
+use Rattle.track9.specs.ModeSet.{bit_of, has}
+use Rattle.track9.specs.Tracker.{Possible, StateSet, has_pair, part_of, shown_with}
+use Rattle.track9.specs.Working.Knowing.{KnowsModes, goals_in, known_fact, shown_in}
+use Rattle.track9.specs.Working.Pairs.{by_goal, either, goal_if_shown, goals_of, goes, is_some, modes}
+use Rattle.track9.specs.Working.Parts.{is_live}
+use Rattle.track9.specs.Working.States.{AreWhole, is_panel_live, some_state}
+use Rattle.track9.proofs.ForgetLemmas.{live_some}
+use Rattle.track9.proofs.ModeLemmas.{has-and, has-bit}
+use Rattle.track9.proofs.PairLemmas.{all_has, all_modes, find_mode, goes_from, goes_to, index-mode_of, is_mode-same, just_mode, left2, mode_just, mode_of, mode_some, none_of, nothing_has, or2, right2, some_mode, ten_bits}
+use Rattle.track9.proofs.PartLemmas.{a_state, in_pairs, shown_by_goal, state_live}
+use Rattle.track9.proofs.ReachLemmas.{impossible, possible}
+use Rattle.track9.proofs.WholeLemmas.{whole_of}
+
+-- ---- one mode alone
+
+mode_self : (m : Mode) → is_mode m m ≡ true
+mode_self m = eq-eqb (index_of m) (index_of m) refl
+
+just_is : (m n : Mode) → has (bit_of m) n ≡ is_mode n m
+just_is m n = same_test (has (bit_of m) n) (is_mode n m)
+    (λ h. subst (λ k. is_mode k m ≡ true) (sym (just_mode m n h)) (mode_self m))
+    (λ h. subst (λ k. has (bit_of m) k ≡ true) (sym (is_mode-same n m h)) (mode_just m))
+
+-- the ten bits alone
+has_ten : (s : ℕ) (n : Mode) → has (bit_and s 0x3FF) n ≡ has s n
+has_ten s n = has-and s 0x3FF n ∙ ap (λ b. has s n && b) (all_has n) ∙ both (has s n)
+  where
+    both : (b : Bool) → (b && true) ≡ b
+    both true = refl
+    both false = refl
+
+pub single : (s : ModeSet) (m : Mode) → bit_and s.0 0x3FF ≡ bit_of m → (n : Mode) → has s.0 n ≡ true → n ≡ m
+single s m bits n h = just_mode m n (ap (λ b. has b n) (sym bits) ∙ has_ten s.0 n ∙ h)
+
+bit_of-lt : (m : Mode) → bit_of m < 1024
+bit_of-lt Stop = omega arith
+bit_of-lt Play = omega arith
+bit_of-lt Rec = omega arith
+bit_of-lt FastForward = omega arith
+bit_of-lt Rewind = omega arith
+bit_of-lt Shuttle = omega arith
+bit_of-lt Jog = omega arith
+bit_of-lt Var = omega arith
+bit_of-lt Cued = omega arith
+bit_of-lt Eject = omega arith
+
+same_bit : (a b : ℕ) → a < 2 → b < 2 → (a == 1) ≡ (b == 1) → a ≡ b
+same_bit a b p q h = grind (arith, nat_tests)
+
+-- a set that has a mode and no other is that one bit
+alone : (s : ModeSet) (m : Mode) → has s.0 m ≡ true → ((n : Mode) → (has s.0 n && not (is_mode n m)) ≡ false) → bit_and s.0 0x3FF ≡ bit_of m
+alone s m there others = same_from_bits_below 10 (bit_and s.0 0x3FF) (bit_of m) (ten_bits s.0) (bit_of-lt m) (λ i h.
+    let n = mode_of i in
+    let here : has (bit_and s.0 0x3FF) n ≡ has (bit_of m) n = has_ten s.0 n ∙ same n (is_mode n m) refl ∙ sym (just_is m n) in
+    let at : (bit_at (bit_and s.0 0x3FF) (index_of n) == 1) ≡ (bit_at (bit_of m) (index_of n) == 1) = sym (has-bit (bit_and s.0 0x3FF) n) ∙ here ∙ has-bit (bit_of m) n in
+    same_bit (bit_at (bit_and s.0 0x3FF) i) (bit_at (bit_of m) i) (bit_at-lt (bit_and s.0 0x3FF) i) (bit_at-lt (bit_of m) i)
+    (subst (λ k. (bit_at (bit_and s.0 0x3FF) k == 1) ≡ (bit_at (bit_of m) k == 1)) (index-mode_of i h) at))
+  where
+    flip : (b c : Bool) → (b && not c) ≡ false → c ≡ false → b ≡ false
+    flip true true h e = e
+    flip true false h e = absurd (false≢true (sym h))
+    flip false c h e = refl
+
+    same : (n : Mode) (b : Bool) → is_mode n m ≡ b → has s.0 n ≡ is_mode n m
+    same n true e = subst (λ k. has s.0 k ≡ true) (sym (is_mode-same n m e)) there ∙ sym e
+    same n false e = flip (has s.0 n) (is_mode n m) (others n) e ∙ sym e
+
+-- a set with nine modes missing has the tenth
+pub last_mode : (s : ModeSet) → is_some s ≡ true → has s.0 Stop ≡ false → has s.0 Play ≡ false → has s.0 Rec ≡ false → has s.0 FastForward ≡ false → has s.0 Rewind ≡ false → has s.0 Shuttle ≡ false
+    → has s.0 Jog ≡ false → has s.0 Var ≡ false → has s.0 Cued ≡ false → has s.0 Eject ≡ true
+last_mode s some a b c d e f g h i = let w = some_mode s some in by w.0 w.1
+  where
+    by : (m : Mode) → has s.0 m ≡ true → has s.0 Eject ≡ true
+    by Stop t = absurd (false≢true (sym a ∙ t))
+    by Play t = absurd (false≢true (sym b ∙ t))
+    by Rec t = absurd (false≢true (sym c ∙ t))
+    by FastForward t = absurd (false≢true (sym d ∙ t))
+    by Rewind t = absurd (false≢true (sym e ∙ t))
+    by Shuttle t = absurd (false≢true (sym f ∙ t))
+    by Jog t = absurd (false≢true (sym g ∙ t))
+    by Var t = absurd (false≢true (sym h ∙ t))
+    by Cued t = absurd (false≢true (sym i ∙ t))
+    by Eject t = t
+
+pub two_modes : (s : ModeSet) (m : Mode) → has s.0 m ≡ true → (bit_and s.0 0x3FF ≡ bit_of m → ⊥) → (m n : Mode) × (has s.0 m ≡ true) × (has s.0 n ≡ true) × (m ≢ n)
+two_modes s m there not_one =
+    elim (find_mode (λ n. has s.0 n && not (is_mode n m)) all_modes) [
+      | inl w ↦ let both = and_parts (has s.0 w.0) (not (is_mode w.0 m)) w.1 in (m, w.0, there, both.0, other w.0 both.1)
+      | inr none ↦ absurd (not_one (alone s m there (none_of (λ n. has s.0 n && not (is_mode n m)) none)))
+    ]
+  where
+    other : (n : Mode) → not (is_mode n m) ≡ true → m ≢ n
+    other n h e = false≢true (sym (ap not (subst (λ k. is_mode k m ≡ true) e (mode_self m))) ∙ h)
+
+-- ---- all goals, all shown modes
+
+goal_from : (p : Pairs) (g : Mode) → has (goals_of p).0 g ≡ true → (m : Mode) × (has_pair p g m ≡ true)
+goal_from p g h =
+    let w = goes_from (by_goal (goal_if_shown p)) g h in
+    by (is_some (shown_with p w.0)) w.0 refl (subst (λ (x : ModeSet). has x.0 g ≡ true) (shown_by_goal (goal_if_shown p) w.0) w.1)
+  where
+    by : (b : Bool) → (f : Mode) → is_some (shown_with p f) ≡ b → has (if b then modes (bit_of f) else modes 0).0 g ≡ true → (m : Mode) × (has_pair p g m ≡ true)
+    by true f e there =
+        let w = some_mode (shown_with p f) e in
+        (w.0, subst (λ k. has_pair p k w.0 ≡ true) (sym (just_mode f g there)) w.1)
+    by false f e there = absurd (false≢true (sym (nothing_has g) ∙ there))
+
+goal_to : (p : Pairs) (g m : Mode) → has_pair p g m ≡ true → has (goals_of p).0 g ≡ true
+goal_to p g m h =
+    goes_to (by_goal (goal_if_shown p)) g g
+    (subst (λ (x : ModeSet). has x.0 g ≡ true) (sym (shown_by_goal (goal_if_shown p) g))
+    (subst (λ (b : Bool). has (if b then modes (bit_of g) else modes 0).0 g ≡ true) (sym (mode_some (shown_with p g) m h)) (mode_just g)))
+
+-- in which part a mode of all parts is
+in_four : (f : Pairs → ModeSet) (v : StateSet) (m : Mode) → has (either (either (either (f v.remote.pairs) (f v.local.pairs)) (f v.remote_panel.pairs)) (f v.local_panel.pairs)).0 m ≡ true
+    → (l pn : Bool) × (has (f (part_of v l pn).pairs).0 m ≡ true)
+in_four f v m h = elim (or2 (either (either (f v.remote.pairs) (f v.local.pairs)) (f v.remote_panel.pairs)) (f v.local_panel.pairs) m h) [
+  | inr a ↦ (true, true, a)
+  | inl a ↦ elim (or2 (either (f v.remote.pairs) (f v.local.pairs)) (f v.remote_panel.pairs) m a) [
+    | inr b ↦ (false, true, b)
+    | inl b ↦ elim (or2 (f v.remote.pairs) (f v.local.pairs) m b) [ inl c ↦ (false, false, c) | inr c ↦ (true, false, c) ]
+  ]
+]
+
+four_in : (f : Pairs → ModeSet) (v : StateSet) (m : Mode) (l pn : Bool) → has (f (part_of v l pn).pairs).0 m ≡ true
+    → has (either (either (either (f v.remote.pairs) (f v.local.pairs)) (f v.remote_panel.pairs)) (f v.local_panel.pairs)).0 m ≡ true
+four_in f v m false false h = left2 (either (either (f v.remote.pairs) (f v.local.pairs)) (f v.remote_panel.pairs)) (f v.local_panel.pairs) m (left2 (either (f v.remote.pairs) (f v.local.pairs)) (f v.remote_panel.pairs) m (left2 (f v.remote.pairs) (f v.local.pairs) m h))
+four_in f v m true false h = left2 (either (either (f v.remote.pairs) (f v.local.pairs)) (f v.remote_panel.pairs)) (f v.local_panel.pairs) m (left2 (either (f v.remote.pairs) (f v.local.pairs)) (f v.remote_panel.pairs) m (right2 (f v.remote.pairs) (f v.local.pairs) m h))
+four_in f v m false true h = left2 (either (either (f v.remote.pairs) (f v.local.pairs)) (f v.remote_panel.pairs)) (f v.local_panel.pairs) m (right2 (either (f v.remote.pairs) (f v.local.pairs)) (f v.remote_panel.pairs) m h)
+four_in f v m true true h = right2 (either (either (f v.remote.pairs) (f v.local.pairs)) (f v.remote_panel.pairs)) (f v.local_panel.pairs) m h
+
+-- a pair of a part is one of a state
+pair_state : (v : StateSet) (l pn : Bool) (g m : Mode) → AreWhole v → has_pair (part_of v l pn).pairs g m ≡ true → (s : State) × Possible v s × (s.goal ≡ g) × (s.shown ≡ m)
+pair_state v l pn g m whole pair =
+    let p = part_of v l pn in
+    let w = a_state p l pn (whole_of v whole l pn) (mode_some (goes p.pairs) m (goes_to p.pairs g m pair)) in
+    let s : State = record w.0 { goal = g; shown = m } in
+    (s, possible v s l pn w.2 w.3 (in_pairs p p.pairs w.0 g m w.1.registers pair), refl, refl)
+
+goal_of : (v : StateSet) (s : State) → Possible v s → has (goals_in v).0 s.goal ≡ true
+goal_of v s i = four_in goals_of v s.goal s.local s.panel (goal_to (part_of v s.local s.panel).pairs s.goal s.shown i.pair)
+
+of_goal : (v : StateSet) (g : Mode) → AreWhole v → has (goals_in v).0 g ≡ true → (s : State) × Possible v s × (s.goal ≡ g)
+of_goal v g whole h =
+    let a = in_four goals_of v g h in
+    let m = goal_from (part_of v a.0 a.1).pairs g a.2 in
+    let w = pair_state v a.0 a.1 g m.0 whole m.1 in
+    (w.0, w.1, w.2)
+
+shown_of : (v : StateSet) (s : State) → Possible v s → has (shown_in v).0 s.shown ≡ true
+shown_of v s i = four_in goes v s.shown s.local s.panel (goes_to (part_of v s.local s.panel).pairs s.goal s.shown i.pair)
+
+of_shown : (v : StateSet) (m : Mode) → AreWhole v → has (shown_in v).0 m ≡ true → (s : State) × Possible v s × (s.shown ≡ m)
+of_shown v m whole h =
+    let a = in_four goes v m h in
+    let g = goes_from (part_of v a.0 a.1).pairs m a.2 in
+    let w = pair_state v a.0 a.1 g.0 m whole g.1 in
+    (w.0, w.1, w.3)
+
+-- what is known of a mode of all states, by the set of these modes
+known_by : (X : State → Type 0) (field : State → Mode) (set : ModeSet) (k : Known Mode) → ((s : State) → X s → has set.0 (field s) ≡ true) → ((m : Mode) → has set.0 m ≡ true → (s : State) × X s × (field s ≡ m))
+    → KnowsModes set k → IsKnown X field k
+known_by X field set (known.Is m) there back h = λ s i. h (field s) (there s i)
+known_by X field set known.Unknown there back h =
+    let a = back h.0 h.2 in
+    let b = back h.1 h.3 in
+    (a.0, b.0, a.1, b.1, λ e. h.4 (sym a.2 ∙ e ∙ b.2))
+
+pub goals_known : (v : StateSet) (set : ModeSet) (k : Known Mode) → set ≡ goals_in v → AreWhole v → KnowsModes set k → IsKnown (Possible v) (λ (s : State). s.goal) k
+goals_known v set k e whole h = known_by (Possible v) (λ (s : State). s.goal) (goals_in v) k (goal_of v) (λ m there. of_goal v m whole there) (subst (λ x. KnowsModes x k) e h)
+
+pub shown_known : (v : StateSet) (set : ModeSet) (k : Known Mode) → set ≡ shown_in v → AreWhole v → KnowsModes set k → IsKnown (Possible v) (λ (s : State). s.shown) k
+shown_known v set k e whole h = known_by (Possible v) (λ (s : State). s.shown) (shown_in v) k (shown_of v) (λ m there. of_shown v m whole there) (subst (λ x. KnowsModes x k) e h)
+
+pub goals_some : (v : StateSet) (set : ModeSet) → set ≡ goals_in v → AreWhole v → some_state v ≡ true → is_some set ≡ true
+goals_some v set e whole live = let w = live_some v whole live in subst (λ x. is_some x ≡ true) (sym e) (mode_some (goals_in v) w.0.goal (goal_of v w.0 w.1))
+
+pub shown_some : (v : StateSet) (set : ModeSet) → set ≡ shown_in v → AreWhole v → some_state v ≡ true → is_some set ≡ true
+shown_some v set e whole live = let w = live_some v whole live in subst (λ x. is_some x ≡ true) (sym e) (mode_some (shown_in v) w.0.shown (shown_of v w.0 w.1))
+
+-- ---- facts
+
+-- what is known of a fact of all states, by whether there is one where it is false and one where it is true
+fact_by : (X : State → Type 0) (field : State → Bool) (a b : Bool) → ((s : State) → X s → field s ≡ false → a ≡ true) → ((s : State) → X s → field s ≡ true → b ≡ true)
+    → (a ≡ true → (s : State) × X s × (field s ≡ false)) → (b ≡ true → (s : State) × X s × (field s ≡ true)) → ((s : State) × X s) → IsKnown X field (known_fact a b)
+fact_by X field true true p q r s some =
+    let a = r refl in
+    let b = s refl in
+    (a.0, b.0, a.1, b.1, λ e. false≢true (sym a.2 ∙ e ∙ b.2))
+fact_by X field true false p q r s some = λ t i. by t i (field t) refl
+  where
+    by : (t : State) → X t → (c : Bool) → field t ≡ c → c ≡ false
+    by t i false e = refl
+    by t i true e = absurd (false≢true (q t i e))
+fact_by X field false true p q r s some = λ t i. by t i (field t) refl
+  where
+    by : (t : State) → X t → (c : Bool) → field t ≡ c → c ≡ true
+    by t i true e = refl
+    by t i false e = absurd (false≢true (p t i e))
+fact_by X field false false p q r s some = absurd (by (field some.0) refl)
+  where
+    by : (c : Bool) → field some.0 ≡ c → ⊥
+    by false e = false≢true (p some.0 some.1 e)
+    by true e = false≢true (q some.0 some.1 e)
+
+either_live : (a b : Bool) → (a ≡ true) ⊎ (b ≡ true) → (a || b) ≡ true
+either_live true b h = refl
+either_live false b (inl h) = absurd (false≢true h)
+either_live false b (inr h) = h
+
+live_state : (v : StateSet) (l pn : Bool) → AreWhole v → is_live (part_of v l pn) ≡ true → (s : State) × Possible v s × (s.local ≡ l) × (s.panel ≡ pn)
+live_state v l pn whole live = let w = a_state (part_of v l pn) l pn (whole_of v whole l pn) live in (w.0, possible v w.0 l pn w.2 w.3 w.1, w.2, w.3)
+
+local_live : (v : StateSet) (l : Bool) (s : State) → Possible v s → s.local ≡ l → (is_live (part_of v l false) || is_live (part_of v l true)) ≡ true
+local_live v l s i e = by s.panel refl
+  where
+    by : (pn : Bool) → s.panel ≡ pn → (is_live (part_of v l false) || is_live (part_of v l true)) ≡ true
+    by false q = either_live _ _ (inl (state_live (part_of v l false) s (impossible v s l false e q i)))
+    by true q = either_live _ _ (inr (state_live (part_of v l true) s (impossible v s l true e q i)))
+
+of_local : (v : StateSet) (l : Bool) → AreWhole v → (is_live (part_of v l false) || is_live (part_of v l true)) ≡ true → (s : State) × Possible v s × (s.local ≡ l)
+of_local v l whole live = elim (or_cases (is_live (part_of v l false)) (is_live (part_of v l true)) live) [
+  | inl a ↦ let w = live_state v l false whole a in (w.0, w.1, w.2)
+  | inr a ↦ let w = live_state v l true whole a in (w.0, w.1, w.2)
+]
+
+panel_live : (v : StateSet) (pn : Bool) (s : State) → Possible v s → s.panel ≡ pn → (is_live (part_of v false pn) || is_live (part_of v true pn)) ≡ true
+panel_live v pn s i e = by s.local refl
+  where
+    by : (l : Bool) → s.local ≡ l → (is_live (part_of v false pn) || is_live (part_of v true pn)) ≡ true
+    by false q = either_live _ _ (inl (state_live (part_of v false pn) s (impossible v s false pn q e i)))
+    by true q = either_live _ _ (inr (state_live (part_of v true pn) s (impossible v s true pn q e i)))
+
+of_panel : (v : StateSet) (pn : Bool) → AreWhole v → (is_live (part_of v false pn) || is_live (part_of v true pn)) ≡ true → (s : State) × Possible v s × (s.panel ≡ pn)
+of_panel v pn whole live = elim (or_cases (is_live (part_of v false pn)) (is_live (part_of v true pn)) live) [
+  | inl a ↦ let w = live_state v false pn whole a in (w.0, w.1, w.3)
+  | inr a ↦ let w = live_state v true pn whole a in (w.0, w.1, w.3)
+]
+
+pub local_known : (v : StateSet) (a b : Bool) → a ≡ (is_live v.remote || is_live v.remote_panel) → b ≡ (is_live v.local || is_live v.local_panel) → AreWhole v → some_state v ≡ true → (k : Known Bool) → k ≡ known_fact a b
+    → IsKnown (Possible v) (λ (s : State). s.local) k
+local_known v a b p q whole live k e =
+    subst (λ k. IsKnown (Possible v) (λ (s : State). s.local) k) (sym (e ∙ ap (λ x. known_fact x b) p ∙ ap (λ x. known_fact (is_live v.remote || is_live v.remote_panel) x) q))
+    (fact_by (Possible v) (λ (s : State). s.local) (is_live v.remote || is_live v.remote_panel) (is_live v.local || is_live v.local_panel)
+    (local_live v false) (local_live v true) (of_local v false whole) (of_local v true whole) (live_some v whole live))
+
+pub panel_known : (v : StateSet) (a b : Bool) → a ≡ (is_live v.remote || is_live v.local) → b ≡ is_panel_live v → AreWhole v → some_state v ≡ true → (k : Known Bool) → k ≡ known_fact a b
+    → IsKnown (Possible v) (λ (s : State). s.panel) k
+panel_known v a b p q whole live k e =
+    subst (λ k. IsKnown (Possible v) (λ (s : State). s.panel) k) (sym (e ∙ ap (λ x. known_fact x b) p ∙ ap (λ x. known_fact (is_live v.remote || is_live v.local) x) q))
+    (fact_by (Possible v) (λ (s : State). s.panel) (is_live v.remote || is_live v.local) (is_panel_live v)
+    (panel_live v false) (panel_live v true) (of_panel v false whole) (of_panel v true whole) (live_some v whole live))

@@ -1,0 +1,76 @@
+-- At most one thing is known of states, of which there is one.
+use Rattle.std.proofs.Common.{◌≡◌, Bool, true, ℕ, List, refl, sym, ap, ◌∙◌}
+use Rattle.std.proofs.lemmas.Bool.{false≢true}
+use Rattle.block9.specs.declared.pairer.Exchange.{Exchange}
+use Rattle.track9.specs.declared.knowledge.Known.{Known}
+use Rattle.track9.specs.declared.knowledge.Known.TheVariants as known
+use Rattle.track9.specs.declared.knowledge.KnownEntry.{KnownEntry}
+use Rattle.track9.specs.declared.knowledge.KnownEntry.TheVariants as entry
+use Rattle.track9.specs.declared.knowledge.Knowledge.{Knowledge}
+use Rattle.track9.specs.declared.mode.Mode.{Mode}
+use Rattle.track9.specs.declared.state.Entry.{Entry}
+use Rattle.track9.specs.declared.state.Entry.TheVariants.{Clear, At}
+use Rattle.track9.specs.declared.state.Hands.{Hands}
+use Rattle.track9.specs.declared.state.Register.{Register}
+use Rattle.track9.specs.declared.state.Register.TheVariants.{RegIn, RegOut, RegAudioIn, RegAudioOut}
+use Rattle.track9.specs.declared.state.State.{State}
+use Rattle.track9.specs.Knowledge.{IsKnowledge, IsKnown, IsKnownEntry}
+use Rattle.track9.specs.Run.{Ends, HasRun}
+use Rattle.track9.specs.State.{entry_of, is_set}
+use Rattle.track9.proofs.RunLemmas.{some_end}
+
+known_once : {A : Type 0} (X : State → Type 0) (field : State → A) (a b : Known A) → ((s : State) × X s) → IsKnown X field a → IsKnown X field b → a ≡ b
+known_once X field (known.Is v) (known.Is w) some h k = ap known.Is (sym (h some.0 some.1) ∙ k some.0 some.1)
+known_once X field (known.Is v) known.Unknown some h k = absurd (k.4 (h k.0 k.2 ∙ sym (h k.1 k.3)))
+known_once X field known.Unknown (known.Is w) some h k = absurd (h.4 (k h.0 h.2 ∙ sym (k h.1 h.3)))
+known_once X field known.Unknown known.Unknown some h k = refl
+
+at_once : (t u : ℕ) → At t ≡ At u → t ≡ u
+at_once t u e = cc
+
+clear_set : {P : Type 0} (e : Entry) → e ≡ Clear → is_set e ≡ true → P
+clear_set e clear h = absurd (false≢true (sym (ap is_set clear) ∙ h))
+
+at_clear : {P : Type 0} (e : Entry) (t : ℕ) → e ≡ At t → e ≡ Clear → P
+at_clear e t at clear = clear_set e clear (ap is_set at)
+
+entry_once : (X : State → Type 0) (r : Register) (a b : KnownEntry) → ((s : State) × X s) → IsKnownEntry X r a → IsKnownEntry X r b → a ≡ b
+entry_once X r entry.Clear entry.Clear some h k = refl
+entry_once X r entry.Clear (entry.At u) some h k = at_clear (entry_of r some.0) u (k some.0 some.1) (h some.0 some.1)
+entry_once X r entry.Clear entry.SetSomewhere some h k = clear_set (entry_of r some.0) (h some.0 some.1) (k.0 some.0 some.1)
+entry_once X r entry.Clear entry.Unknown some h k = clear_set (entry_of r k.1) (h k.1 k.3) k.5
+entry_once X r (entry.At t) entry.Clear some h k = at_clear (entry_of r some.0) t (h some.0 some.1) (k some.0 some.1)
+entry_once X r (entry.At t) (entry.At u) some h k = ap entry.At (at_once t u (sym (h some.0 some.1) ∙ k some.0 some.1))
+entry_once X r (entry.At t) entry.SetSomewhere some h k = absurd (k.1.4 (h k.1.0 k.1.2 ∙ sym (h k.1.1 k.1.3)))
+entry_once X r (entry.At t) entry.Unknown some h k = at_clear (entry_of r k.0) t (h k.0 k.2) k.4
+entry_once X r entry.SetSomewhere entry.Clear some h k = clear_set (entry_of r some.0) (k some.0 some.1) (h.0 some.0 some.1)
+entry_once X r entry.SetSomewhere (entry.At u) some h k = absurd (h.1.4 (k h.1.0 h.1.2 ∙ sym (k h.1.1 h.1.3)))
+entry_once X r entry.SetSomewhere entry.SetSomewhere some h k = refl
+entry_once X r entry.SetSomewhere entry.Unknown some h k = clear_set (entry_of r k.0) k.4 (h.0 k.0 k.2)
+entry_once X r entry.Unknown entry.Clear some h k = clear_set (entry_of r h.1) (k h.1 h.3) h.5
+entry_once X r entry.Unknown (entry.At u) some h k = at_clear (entry_of r h.0) u (k h.0 h.2) h.4
+entry_once X r entry.Unknown entry.SetSomewhere some h k = clear_set (entry_of r h.0) h.4 (k.0 h.0 h.2)
+entry_once X r entry.Unknown entry.Unknown some h k = refl
+
+same_knowledge : (k l : Knowledge) → k.goal ≡ l.goal → k.shown ≡ l.shown → k.ins ≡ l.ins → k.outs ≡ l.outs → k.ains ≡ l.ains → k.aouts ≡ l.aouts → k.local ≡ l.local → k.panel ≡ l.panel → k ≡ l
+same_knowledge k l a b c d e f g h =
+    let mk : Knowledge → Knowledge = λ k. k in
+    ap (λ (x : Known Mode). mk (record { goal = x; shown = k.shown; ins = k.ins; outs = k.outs; ains = k.ains; aouts = k.aouts; local = k.local; panel = k.panel })) a
+    ∙ ap (λ (x : Known Mode). mk (record { goal = l.goal; shown = x; ins = k.ins; outs = k.outs; ains = k.ains; aouts = k.aouts; local = k.local; panel = k.panel })) b
+    ∙ ap (λ (x : KnownEntry). mk (record { goal = l.goal; shown = l.shown; ins = x; outs = k.outs; ains = k.ains; aouts = k.aouts; local = k.local; panel = k.panel })) c
+    ∙ ap (λ (x : KnownEntry). mk (record { goal = l.goal; shown = l.shown; ins = l.ins; outs = x; ains = k.ains; aouts = k.aouts; local = k.local; panel = k.panel })) d
+    ∙ ap (λ (x : KnownEntry). mk (record { goal = l.goal; shown = l.shown; ins = l.ins; outs = l.outs; ains = x; aouts = k.aouts; local = k.local; panel = k.panel })) e
+    ∙ ap (λ (x : KnownEntry). mk (record { goal = l.goal; shown = l.shown; ins = l.ins; outs = l.outs; ains = l.ains; aouts = x; local = k.local; panel = k.panel })) f
+    ∙ ap (λ (x : Known Bool). mk (record { goal = l.goal; shown = l.shown; ins = l.ins; outs = l.outs; ains = l.ains; aouts = l.aouts; local = x; panel = k.panel })) g
+    ∙ ap (λ (x : Known Bool). mk (record { goal = l.goal; shown = l.shown; ins = l.ins; outs = l.outs; ains = l.ains; aouts = l.aouts; local = l.local; panel = x })) h
+
+pub one_knowledge : (X : State → Type 0) (k l : Knowledge) → ((s : State) × X s) → IsKnowledge X k → IsKnowledge X l → k ≡ l
+one_knowledge X k l some h i =
+    same_knowledge k l
+    (known_once X (λ (s : State). s.goal) k.goal l.goal some h.goal i.goal) (known_once X (λ (s : State). s.shown) k.shown l.shown some h.shown i.shown)
+    (entry_once X RegIn k.ins l.ins some h.ins i.ins) (entry_once X RegOut k.outs l.outs some h.outs i.outs)
+    (entry_once X RegAudioIn k.ains l.ains some h.ains i.ains) (entry_once X RegAudioOut k.aouts l.aouts some h.aouts i.aouts)
+    (known_once X (λ (s : State). s.local) k.local l.local some h.local i.local) (known_once X (λ (s : State). s.panel) k.panel l.panel some h.panel i.panel)
+
+pub known_of_ends : (h : Hands) (es : List Exchange) (k l : Knowledge) → HasRun h es → IsKnowledge (Ends h es) k → IsKnowledge (Ends h es) l → k ≡ l
+known_of_ends h es k l run = one_knowledge (Ends h es) k l ((some_end h es).1 run)

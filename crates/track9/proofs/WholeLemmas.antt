@@ -1,0 +1,125 @@
+-- Each factor of a part keeps something, or none does.
+use Rattle.std.proofs.Common.{◌≡◌, inl, ◌&&◌, Bool, true, false, if◌then◌else◌, refl, sym, ap, ◌∙◌, subst}
+use Rattle.std.proofs.lemmas.Bool.{and_parts}
+use Rattle.tc25.proofs.TimesLemmas.{same_test}
+use Rattle.track9.specs.declared.effect.Change.{Change}
+use Rattle.track9.specs.declared.mode.Mode.{Mode}
+use Rattle.track9.specs.declared.mode_set.ModeSet.{ModeSet}
+use Rattle.track9.specs.declared.pairs.Pairs.{Pairs}
+use Rattle.track9.specs.declared.state.Register.{Register}
+use Rattle.track9.specs.declared.state.Register.TheVariants.{RegIn, RegOut, RegAudioIn, RegAudioOut}
+use Rattle.track9.specs.ModeSet.{has}
+use Rattle.track9.specs.Tracker.{Entries, PartStates, StateSet, entries_of, part_of}
+use Rattle.track9.specs.Working.Entries.{some_entry}
+use Rattle.track9.specs.Working.Pairs.{drifted, drifted_with, goes, some_pair}
+use Rattle.track9.specs.Working.Parts.{Whole, all_states, changed_entries, changed_part, drifted_part, forgotten_part, gone_pairs, gone_part, is_live, no_states, settled, with_entries, with_pairs}
+use Rattle.track9.specs.Working.States.{AreWhole, map_parts}
+use Rattle.track9.proofs.EntryLemmas.{changed_some, no_entry, widened_some}
+use Rattle.track9.proofs.GoalLemmas.{goal_pair_goes}
+use Rattle.track9.proofs.PairLemmas.{drifted_from, drifted_to, goes_from, pairs_some, some_mode}
+use Rattle.track9.proofs.PartLemmas.{same_entries, shown_by_goal}
+
+some_put : (r q : Register) (es : Entries) (p : PartStates) (b : Bool) → ((q : Register) → some_entry (entries_of q p) ≡ b) → some_entry es ≡ b → some_entry (entries_of q (with_entries r es p)) ≡ b
+some_put RegIn RegIn es p b old new = new
+some_put RegOut RegOut es p b old new = new
+some_put RegAudioIn RegAudioIn es p b old new = new
+some_put RegAudioOut RegAudioOut es p b old new = new
+some_put RegIn q es p b old new = old q
+some_put RegOut q es p b old new = old q
+some_put RegAudioIn q es p b old new = old q
+some_put RegAudioOut q es p b old new = old q
+
+whole_put : (r : Register) (es : Entries) (p : PartStates) → Whole p → some_entry es ≡ is_live p → Whole (with_entries r es p)
+whole_put RegIn es p old new = λ q. some_put RegIn q es p _ old new
+whole_put RegOut es p old new = λ q. some_put RegOut q es p _ old new
+whole_put RegAudioIn es p old new = λ q. some_put RegAudioIn q es p _ old new
+whole_put RegAudioOut es p old new = λ q. some_put RegAudioOut q es p _ old new
+
+whole_pairs : (q : Pairs) (p : PartStates) → Whole p → some_pair q ≡ is_live p → Whole (with_pairs q p)
+whole_pairs q p old same = λ r. ap some_entry (same_entries r p q) ∙ old r ∙ sym same
+
+pub whole_all : Whole all_states
+whole_all RegIn = refl
+whole_all RegOut = refl
+whole_all RegAudioIn = refl
+whole_all RegAudioOut = refl
+
+pub whole_none : Whole no_states
+whole_none RegIn = no_entry
+whole_none RegOut = no_entry
+whole_none RegAudioIn = no_entry
+whole_none RegAudioOut = no_entry
+
+pub whole_settled : (p : PartStates) → Whole (settled p)
+whole_settled p = by (is_live p && some_entry p.ins && some_entry p.outs && some_entry p.ains && some_entry p.aouts) refl
+  where
+    each : (p : PartStates) → some_entry p.ins ≡ is_live p → some_entry p.outs ≡ is_live p → some_entry p.ains ≡ is_live p → some_entry p.aouts ≡ is_live p → Whole p
+    each p a b c d RegIn = a
+    each p a b c d RegOut = b
+    each p a b c d RegAudioIn = c
+    each p a b c d RegAudioOut = d
+
+    by : (b : Bool) → (is_live p && some_entry p.ins && some_entry p.outs && some_entry p.ains && some_entry p.aouts) ≡ b → Whole (if b then p else no_states)
+    by false e = whole_none
+    by true e =
+        let d = and_parts (is_live p && some_entry p.ins && some_entry p.outs && some_entry p.ains) (some_entry p.aouts) e in
+        let c = and_parts (is_live p && some_entry p.ins && some_entry p.outs) (some_entry p.ains) d.0 in
+        let b = and_parts (is_live p && some_entry p.ins) (some_entry p.outs) c.0 in
+        let a = and_parts (is_live p) (some_entry p.ins) b.0 in
+        each p (a.1 ∙ sym a.0) (b.1 ∙ sym a.0) (c.1 ∙ sym a.0) (d.1 ∙ sym a.0)
+
+-- a part that stays where it has no states
+pub whole_live : (p q : PartStates) → Whole p → (is_live p ≡ true → Whole q) → Whole (if is_live p then q else p)
+whole_live p q whole h = by (is_live p) refl
+  where
+    by : (b : Bool) → is_live p ≡ b → Whole (if b then q else p)
+    by true live = h live
+    by false dead = whole
+
+pub whole_goal : (may_stay : Bool) (goal : Mode) (p : PartStates) → Whole p → is_live p ≡ true → Whole (gone_part may_stay goal p)
+whole_goal may_stay goal p whole live =
+    let m = some_mode (goes p.pairs) live in
+    whole_pairs (gone_pairs may_stay goal p.pairs) p whole
+    (pairs_some (gone_pairs may_stay goal p.pairs) goal m.0 (goal_pair_goes may_stay goal p.pairs m.0 m.1) ∙ sym live)
+
+some_changed : (may_stay : Bool) (c : Change) (es : Entries) → some_entry es ≡ true → some_entry (changed_entries may_stay c es) ≡ true
+some_changed false c es h = changed_some c es h
+some_changed true c es h = widened_some c es h
+
+pub whole_change : (may_stay : Bool) (r : Register) (c : Change) (p : PartStates) → Whole p → is_live p ≡ true → Whole (changed_part may_stay r c p)
+whole_change may_stay r c p whole live =
+    whole_put r (changed_entries may_stay c (entries_of r p)) p whole (some_changed may_stay c (entries_of r p) (whole r ∙ live) ∙ sym live)
+
+pub whole_forgotten : (p : PartStates) → is_live p ≡ true → Whole (forgotten_part p)
+whole_forgotten p live = whole_pairs p.pairs all_states whole_all (live ∙ sym (whole_all RegIn))
+
+-- a drift leaves a state, and makes none from nothing
+drift_some : (p : Pairs) → some_pair (drifted p) ≡ some_pair p
+drift_some p = same_test (some_pair (drifted p)) (some_pair p)
+    (λ h. let m = some_mode (goes (drifted p)) h in let g = goes_from (drifted p) m.0 m.1 in
+    let w = drifted_from p g.0 m.0 (subst (λ (x : ModeSet). has x.0 m.0 ≡ true) (shown_by_goal (drifted_with p) g.0) g.1) in pairs_some p w.0 w.1 w.2)
+    (λ h. let m = some_mode (goes p) h in let g = goes_from p m.0 m.1 in
+    pairs_some (drifted p) g.0 m.0 (subst (λ (x : ModeSet). has x.0 m.0 ≡ true) (sym (shown_by_goal (drifted_with p) g.0)) (drifted_to p g.0 m.0 g.0 m.0 g.1 (inl (refl, inl refl)))))
+
+pub whole_drift : (p : PartStates) → Whole p → Whole (drifted_part p)
+whole_drift p whole = whole_pairs (drifted p.pairs) p whole (drift_some p.pairs)
+
+-- ---- all parts
+
+pub whole_mapped : (f : Bool → PartStates → PartStates) (v : StateSet) → AreWhole v → ((l : Bool) (p : PartStates) → Whole p → Whole (f l p)) → AreWhole (map_parts f v)
+whole_mapped f v whole each = record {
+  remote = each false v.remote whole.remote;
+  local = each true v.local whole.local;
+  remote_panel = each false v.remote_panel whole.remote_panel;
+  local_panel = each true v.local_panel whole.local_panel;
+}
+
+pub whole_if : (b : Bool) (p q : PartStates) → Whole p → Whole q → Whole (if b then p else q)
+whole_if true p q whole other = whole
+whole_if false p q whole other = other
+
+pub whole_of : (v : StateSet) → AreWhole v → (l pn : Bool) → Whole (part_of v l pn)
+whole_of v whole false false = whole.remote
+whole_of v whole true false = whole.local
+whole_of v whole false true = whole.remote_panel
+whole_of v whole true true = whole.local_panel

@@ -1,0 +1,54 @@
+use Rattle.std.proofs.Common.{subst}
+use Rattle.track9.specs.declared.knowledge.Knowledge.{Knowledge}
+use Rattle.track9.specs.Knowledge.{IsKnowledge}
+use Rattle.track9.specs.Tracker.{Possible, Tracked}
+use Rattle.track9.proofs.TrackerLemmas.{remaining_live}
+use Rattle.track9.proofs.tracker.Tracker.knowledge.Goals as goal
+
+pub known_goal-requires-clause-some : goal.known_goal-requires-clause-some
+known_goal-requires-clause-some g c = remaining_live c.args.self.now c.self.inside.states c.self.inside.hands c.self.inside.presets c.self.view_is c.requires
+
+pub known_shown-requires-clause-some : goal.known_shown-requires-clause-some
+known_shown-requires-clause-some g c = remaining_live c.args.self.now c.self.inside.states c.self.inside.hands c.self.inside.presets c.self.view_is c.requires
+
+pub known_entry-requires-clause-some : goal.known_entry-requires-clause-some
+known_entry-requires-clause-some g c = remaining_live c.args.self.now c.self.inside.states c.self.inside.hands c.self.inside.presets c.self.view_is c.requires
+
+pub known_entry-requires-2-clause-some : goal.known_entry-requires-2-clause-some
+known_entry-requires-2-clause-some g c = remaining_live c.args.self.now c.self.inside.states c.self.inside.hands c.self.inside.presets c.self.view_is c.requires
+
+pub known_entry-requires-3-clause-some : goal.known_entry-requires-3-clause-some
+known_entry-requires-3-clause-some g c = remaining_live c.args.self.now c.self.inside.states c.self.inside.hands c.self.inside.presets c.self.view_is c.requires
+
+pub known_entry-requires-4-clause-some : goal.known_entry-requires-4-clause-some
+known_entry-requires-4-clause-some g c = remaining_live c.args.self.now c.self.inside.states c.self.inside.hands c.self.inside.presets c.self.view_is c.requires
+
+pub known_local-requires-clause-some : goal.known_local-requires-clause-some
+known_local-requires-clause-some g c = remaining_live c.args.self.now c.self.inside.states c.self.inside.hands c.self.inside.presets c.self.view_is c.requires
+
+pub known_panel-requires-clause-some : goal.known_panel-requires-clause-some
+known_panel-requires-clause-some g c = remaining_live c.args.self.now c.self.inside.states c.self.inside.hands c.self.inside.presets c.self.view_is c.requires
+
+pub returns : goal.returns
+returns g c =
+    let k : Knowledge = record {
+      goal = c.known_goal.result;
+      shown = c.known_shown.result;
+      ins = c.known_entry.result;
+      outs = c.known_entry-2.result;
+      ains = c.known_entry-3.result;
+      aouts = c.known_entry-4.result;
+      local = c.known_local.result;
+      panel = c.known_panel.result;
+    } in
+    let P : Tracked → Type 0 = λ t. IsKnowledge (Possible t.states) k in
+    subst P c.self.view_is (record {
+      goal = c.known_goal.ensures;
+      shown = c.known_shown.ensures;
+      ins = c.known_entry.ensures;
+      outs = c.known_entry-2.ensures;
+      ains = c.known_entry-3.ensures;
+      aouts = c.known_entry-4.ensures;
+      local = c.known_local.ensures;
+      panel = c.known_panel.ensures;
+    })

@@ -1,0 +1,29 @@
+-- The exchanges that take no memory, where hands are not allowed.
+use Rattle.std.specs.Prelude.{◌||◌, ◌&&◌, Bool, true, false}
+use Rattle.block9.specs.declared.block.Block.{Block}
+use Rattle.block9.specs.declared.command.Command.{Command}
+use Rattle.block9.specs.Command.{is_nak}
+use Rattle.track9.specs.declared.effect.Effect.{Effect}
+use Rattle.track9.specs.declared.effect.Effect.TheVariants as effect
+use Rattle.track9.specs.declared.sense.Sense.{Sense}
+use Rattle.track9.specs.declared.sense.Sense.TheVariants as sense
+use Rattle.track9.specs.Effect.{effect_of}
+use Rattle.track9.specs.Shows.{sense_of}
+
+-- an effect on goal, shown mode and panel alone
+abbrev pub is_frugal_effect : Effect → Bool
+is_frugal_effect effect.Nothing = true
+is_frugal_effect (effect.Go g) = true
+is_frugal_effect effect.KeepOrStop = true
+is_frugal_effect (effect.Panel on) = true
+is_frugal_effect _ = false
+
+-- what is asked for is no register's time
+abbrev pub is_frugal_sense : Sense → Bool
+is_frugal_sense (sense.Register r) = false
+is_frugal_sense _ = true
+
+-- a NAK; or a command that asks for no register's time, and changes and forgets no register: each system and transport
+-- command, STATUS SENSE and CURRENT TIME SENSE are of this kind
+abbrev pub is_frugal : Command → Block → Bool
+is_frugal command reply = is_nak reply || (is_frugal_sense (sense_of command) && is_frugal_effect (effect_of command))

@@ -1,0 +1,51 @@
+-- How the values that models show are stored.
+use Rattle.std.specs.Prelude.{ℕ, ◌≡◌, Bool, true, false, if◌then◌else◌, List, refl}
+use Rattle.std.specs.Coded.{Coded, code_by, coded×, coded_ℕ, coded_bool, coded_list}
+use Rattle.std.specs.FinSet as set
+use Rattle.tc25.specs.Times.{Times}
+use Rattle.track9.specs.declared.mode_set.ModeSet.{ModeSet}
+use Rattle.track9.specs.declared.pairs.Pairs.{Pairs}
+use Rattle.track9.specs.declared.presets.Presets.{Presets}
+use Rattle.track9.specs.declared.state.Hands.{Hands}
+use Rattle.track9.specs.declared.state.Hands.TheVariants as hands
+use Rattle.track9.specs.Tracker.{Entries, PartStates, StateSet, Tracked}
+
+abbrev pub entries_code : Coded Entries
+entries_code = code_by (Bool × Times) (coded× coded_bool (set.code coded_ℕ)) (λ e. (e.may_clear, e.times)) (λ p. record { may_clear = p.0; times = p.1 }) (λ _. refl)
+
+abbrev pub mode_set_code : Coded ModeSet
+mode_set_code = code_by ℕ coded_ℕ (λ s. s.0) (λ n. record { 0 = n }) (λ _. refl)
+
+abbrev pub pairs_code : Coded Pairs
+pairs_code = code_by (List ModeSet) (coded_list mode_set_code) (λ p. p.0) (λ l. record { 0 = l }) (λ _. refl)
+
+abbrev pub part_code : Coded PartStates
+part_code =
+    code_by (Pairs × (Entries × (Entries × (Entries × Entries)))) (coded× pairs_code (coded× entries_code (coded× entries_code (coded× entries_code entries_code))))
+    (λ p. (p.pairs, (p.ins, (p.outs, (p.ains, p.aouts))))) (λ p. record { pairs = p.0; ins = p.1.0; outs = p.1.1.0; ains = p.1.1.1.0; aouts = p.1.1.1.1 }) (λ _. refl)
+
+abbrev pub states_code : Coded StateSet
+states_code =
+    code_by (PartStates × (PartStates × (PartStates × PartStates))) (coded× part_code (coded× part_code (coded× part_code part_code)))
+    (λ v. (v.remote, (v.local, (v.remote_panel, v.local_panel)))) (λ p. record { remote = p.0; local = p.1.0; remote_panel = p.1.1.0; local_panel = p.1.1.1 }) (λ _. refl)
+
+abbrev pub is_allowed : Hands → Bool
+is_allowed hands.None = false
+is_allowed hands.Allowed = true
+
+pub hands_back : (h : Hands) → (if is_allowed h then hands.Allowed else hands.None) ≡ h
+hands_back hands.None = refl
+hands_back hands.Allowed = refl
+
+abbrev pub hands_code : Coded Hands
+hands_code = code_by Bool coded_bool is_allowed (λ b. if b then hands.Allowed else hands.None) hands_back
+
+abbrev pub presets_code : Coded Presets
+presets_code =
+    code_by (ℕ × (ℕ × (ℕ × ℕ))) (coded× coded_ℕ (coded× coded_ℕ (coded× coded_ℕ coded_ℕ)))
+    (λ n. (n.ins, (n.outs, (n.ains, n.aouts)))) (λ p. record { ins = p.0; outs = p.1.0; ains = p.1.1.0; aouts = p.1.1.1 }) (λ _. refl)
+
+abbrev pub tracked_code : Coded Tracked
+tracked_code =
+    code_by (StateSet × (Hands × Presets)) (coded× states_code (coded× hands_code presets_code))
+    (λ t. (t.states, (t.hands, t.presets))) (λ p. record { states = p.0; hands = p.1.0; presets = p.1.1 }) (λ _. refl)

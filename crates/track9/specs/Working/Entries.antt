@@ -1,0 +1,56 @@
+-- How the entries that a register may have change.
+use Rattle.std.specs.Prelude.{ℕ, ◌||◌, not, if◌then◌else◌, Bool, true, false, List, [], ◌∷◌, Option, Some, None}
+use Rattle.std.specs.FinSet as set
+use Rattle.tc25.specs.Day.{next_frame, prev_frame}
+use Rattle.tc25.specs.Times.{Times, every_time, just, image}
+use Rattle.track9.specs.declared.effect.Change.{Change}
+use Rattle.track9.specs.declared.effect.Change.TheVariants.{SetSomewhere, SetAt, Next, Prev, Reset, Recall}
+use Rattle.track9.specs.Tracker.{Entries}
+
+abbrev pub entries : Bool → Times → Entries
+entries c ts = record { may_clear = c; times = ts }
+
+-- no entry, and every entry
+abbrev pub no_entries : Entries
+no_entries = entries false set.empty
+
+abbrev pub all_entries : Entries
+all_entries = entries true every_time
+
+-- what becomes of the entries
+abbrev pub changed : Change → Entries → Entries
+changed SetSomewhere es = entries false every_time
+changed (SetAt t) es = entries false (just t)
+changed Next es = entries es.may_clear (image next_frame es.times)
+changed Prev es = entries es.may_clear (image prev_frame es.times)
+changed Reset es = entries true set.empty
+changed Recall es = entries true every_time
+
+-- the same, where the deck may also leave the register as it is
+abbrev pub widened : Change → Entries → Entries
+widened SetSomewhere es = entries es.may_clear every_time
+widened (SetAt t) es = entries es.may_clear (set.insert es.times t)
+widened Next es = entries es.may_clear (set.union es.times (image next_frame es.times))
+widened Prev es = entries es.may_clear (set.union es.times (image prev_frame es.times))
+widened Reset es = entries true es.times
+widened Recall es = entries true every_time
+
+-- the entries that agree with the time that was read, if it was a valid one
+abbrev pub agreeing : Option ℕ → Entries → Entries
+agreeing None es = entries es.may_clear set.empty
+agreeing (Some t) es = entries es.may_clear (if set.contains es.times t then just t else set.empty)
+
+-- the entries that are Set, or are Clear; all of them where nothing was said
+abbrev pub said : Option Bool → Entries → Entries
+said None es = es
+said (Some true) es = entries false es.times
+said (Some false) es = entries es.may_clear set.empty
+
+-- nothing is listed
+abbrev pub is_nil : List ℕ → Bool
+is_nil [] = true
+is_nil (x ∷ xs) = false
+
+-- there is an entry
+abbrev pub some_entry : Entries → Bool
+some_entry es = es.may_clear || not (is_nil (set.items es.times))

@@ -1,0 +1,66 @@
+-- How what is known of a set of states is put together.
+use Rattle.std.specs.Prelude.{◌≡◌, ◌≢◌, ◌==◌, if◌then◌else◌, Bool, true, false, Option, Some, None}
+use Rattle.track9.specs.declared.knowledge.Known.{Known}
+use Rattle.track9.specs.declared.knowledge.Known.TheVariants as known
+use Rattle.track9.specs.declared.knowledge.KnownEntry.{KnownEntry}
+use Rattle.track9.specs.declared.knowledge.KnownEntry.TheVariants as entry
+use Rattle.track9.specs.declared.mode.Mode.{Mode}
+use Rattle.track9.specs.declared.mode_set.ModeSet.{ModeSet}
+use Rattle.track9.specs.declared.state.Entry.{Entry}
+use Rattle.track9.specs.declared.state.Entry.TheVariants.{Clear, At}
+use Rattle.track9.specs.declared.state.Register.{Register}
+use Rattle.track9.specs.ModeSet.{has}
+use Rattle.track9.specs.State.{is_set}
+use Rattle.track9.specs.Tracker.{Allows, PartStates, StateSet, entries_of}
+use Rattle.track9.specs.Working.Pairs.{either, goals_of, goes}
+use Rattle.track9.specs.Working.Parts.{is_live}
+
+-- ---- modes
+
+-- a set has this mode alone, or two
+abbrev pub KnowsModes : ModeSet → Known Mode → Type 0
+KnowsModes set (known.Is m) = (n : Mode) → has set.0 n ≡ true → n ≡ m
+KnowsModes set known.Unknown = (m n : Mode) × (has set.0 m ≡ true) × (has set.0 n ≡ true) × (m ≢ n)
+
+-- all goals, and all shown modes
+abbrev pub goals_in : StateSet → ModeSet
+goals_in v = either (either (either (goals_of v.remote.pairs) (goals_of v.local.pairs)) (goals_of v.remote_panel.pairs)) (goals_of v.local_panel.pairs)
+
+abbrev pub shown_in : StateSet → ModeSet
+shown_in v = either (either (either (goes v.remote.pairs) (goes v.local.pairs)) (goes v.remote_panel.pairs)) (goes v.local_panel.pairs)
+
+-- ---- facts
+
+-- what is known of a fact that may be false, or true
+abbrev pub known_fact : Bool → Bool → Known Bool
+known_fact true true = known.Unknown
+known_fact true false = known.Is false
+known_fact false b = known.Is b
+
+-- ---- registers
+
+-- what is known of an entry that is one of these
+abbrev pub KnowsOf : (Entry → Type 0) → KnownEntry → Type 0
+KnowsOf E entry.Clear = (e : Entry) → E e → e ≡ Clear
+KnowsOf E (entry.At t) = (e : Entry) → E e → e ≡ At t
+KnowsOf E entry.SetSomewhere = ((e : Entry) → E e → is_set e ≡ true) × ((d e : Entry) × E d × E e × (d ≢ e))
+KnowsOf E entry.Unknown = E Clear × ((e : Entry) × E e × (is_set e ≡ true))
+
+-- what is known of an entry that is one of either
+abbrev pub joined_known : KnownEntry → KnownEntry → KnownEntry
+joined_known entry.Clear entry.Clear = entry.Clear
+joined_known (entry.At t) (entry.At u) = if t == u then entry.At t else entry.SetSomewhere
+joined_known (entry.At t) entry.SetSomewhere = entry.SetSomewhere
+joined_known entry.SetSomewhere (entry.At t) = entry.SetSomewhere
+joined_known entry.SetSomewhere entry.SetSomewhere = entry.SetSomewhere
+joined_known _ _ = entry.Unknown
+
+abbrev pub join_options : Option KnownEntry → Option KnownEntry → Option KnownEntry
+join_options None b = b
+join_options (Some k) None = Some k
+join_options (Some k) (Some l) = Some (joined_known k l)
+
+-- what a part tells of a register: nothing where it has no states
+abbrev pub PartKnows : PartStates → Register → Option KnownEntry → Type 0
+PartKnows p r None = is_live p ≡ false
+PartKnows p r (Some k) = (is_live p ≡ true) × KnowsOf (Allows (entries_of r p)) k

@@ -1,0 +1,178 @@
+//! Sets of pairs of a goal and a shown mode.
+ghost use Rattle.std.specs.Prelude.{◌≡◌};
+ghost use Rattle.track9.specs.Tracker.{shown_with};
+ghost use Rattle.track9.specs.Working.Pairs.{all_pairs, drifted, drifted_with, goes, gone, gone_with, goal_if_shown, goals_of, is_some, joined, masked, no_pairs, some_pair};
+
+use crate::mode::Mode;
+use crate::mode_set::ModeSet;
+
+/// The modes that may be shown with each goal, in the order of the modes.
+#[derive(Clone, Copy, Debug, PartialEq, Eq)]
+pub(crate) struct Pairs([ModeSet; 10]);
+
+impl Pairs {
+    /// No pair.
+    pub(crate) fn none() -> Pairs
+        ensures { result ≡ no_pairs }
+    {
+        Pairs([ModeSet::NONE; 10])
+    }
+
+    /// Every pair.
+    pub(crate) fn all() -> Pairs
+        ensures { result ≡ all_pairs }
+    {
+        Pairs([ModeSet::ALL; 10])
+    }
+
+    /// The modes that may be shown with a goal.
+    pub(crate) fn shown(&self, goal: Mode) -> ModeSet
+        ensures { result ≡ shown_with self.now goal }
+    {
+        self.0[goal.index()]
+    }
+
+    /// All modes that may be shown, with any goal.
+    pub(crate) fn all_shown(&self) -> ModeSet
+        ensures { result ≡ goes self.now }
+    {
+        let [a, b, c, d, e, f, g, h, i, j] = self.0;
+        a.or(b).or(c).or(d).or(e).or(f).or(g).or(h).or(i).or(j)
+    }
+
+    /// The goals that a mode may be shown with.
+    pub(crate) fn goals(&self) -> ModeSet
+        ensures { result ≡ goals_of self.now }
+    {
+        Pairs([
+            self.goal_if_shown(Mode::Stop),
+            self.goal_if_shown(Mode::Play),
+            self.goal_if_shown(Mode::Rec),
+            self.goal_if_shown(Mode::FastForward),
+            self.goal_if_shown(Mode::Rewind),
+            self.goal_if_shown(Mode::Shuttle),
+            self.goal_if_shown(Mode::Jog),
+            self.goal_if_shown(Mode::Var),
+            self.goal_if_shown(Mode::Cued),
+            self.goal_if_shown(Mode::Eject),
+        ])
+        .all_shown()
+    }
+
+    /// The goal alone, where a mode may be shown with it.
+    fn goal_if_shown(&self, goal: Mode) -> ModeSet
+        ensures { result ≡ goal_if_shown self.now goal }
+    {
+        if self.shown(goal).is_some() {
+            ModeSet::just(goal)
+        } else {
+            ModeSet::NONE
+        }
+    }
+
+    /// Whether there is a pair.
+    pub(crate) fn is_some(&self) -> bool
+        ensures { result ≡ some_pair self.now }
+    {
+        self.all_shown().is_some()
+    }
+
+    /// The pairs that a drift of the mechanics reaches.
+    pub(crate) fn drifted(&self) -> Pairs
+        ensures { result ≡ drifted self.now }
+    {
+        let some = self.is_some();
+        Pairs([
+            self.drifted_with(some, Mode::Stop),
+            self.drifted_with(some, Mode::Play),
+            self.drifted_with(some, Mode::Rec),
+            self.drifted_with(some, Mode::FastForward),
+            self.drifted_with(some, Mode::Rewind),
+            self.drifted_with(some, Mode::Shuttle),
+            self.drifted_with(some, Mode::Jog),
+            self.drifted_with(some, Mode::Var),
+            self.drifted_with(some, Mode::Cued),
+            self.drifted_with(some, Mode::Eject),
+        ])
+    }
+
+    /// The modes that a drift can show with a goal: those that it keeps the goal for, and STOP where the
+    /// deck has come to a halt. `some`: there is a pair.
+    fn drifted_with(&self, some: bool, goal: Mode) -> ModeSet
+        requires { some ≡ some_pair self.now }
+        ensures { result ≡ drifted_with self.now goal }
+    {
+        let shown = self.shown(goal);
+        let kept = if shown.is_some() {
+            shown.or(ModeSet::just(goal)).or(ModeSet::on_the_way(goal))
+        } else {
+            shown
+        };
+        let halted = if some && goal == Mode::Stop {
+            ModeSet::just(Mode::Stop)
+        } else {
+            ModeSet::NONE
+        };
+        kept.or(halted)
+    }
+
+    /// The pairs with this goal in place of theirs.
+    pub(crate) fn gone(&self, goal: Mode) -> Pairs
+        ensures { result ≡ gone goal self.now }
+    {
+        let shown = self.all_shown();
+        let with = |g: Mode| if g == goal { shown } else { ModeSet::NONE };
+        Pairs([
+            with(Mode::Stop),
+            with(Mode::Play),
+            with(Mode::Rec),
+            with(Mode::FastForward),
+            with(Mode::Rewind),
+            with(Mode::Shuttle),
+            with(Mode::Jog),
+            with(Mode::Var),
+            with(Mode::Cued),
+            with(Mode::Eject),
+        ])
+    }
+
+    /// The pairs of either set.
+    pub(crate) fn joined(&self, other: &Pairs) -> Pairs
+        ensures { result ≡ joined self.now other.now }
+    {
+        let [a, b, c, d, e, f, g, h, i, j] = self.0;
+        let [k, l, m, n, o, p, q, r, s, t] = other.0;
+        Pairs([
+            a.or(k),
+            b.or(l),
+            c.or(m),
+            d.or(n),
+            e.or(o),
+            f.or(p),
+            g.or(q),
+            h.or(r),
+            i.or(s),
+            j.or(t),
+        ])
+    }
+
+    /// The pairs with one of these modes shown.
+    pub(crate) fn masked(&self, mask: ModeSet) -> Pairs
+        ensures { result ≡ masked mask self.now }
+    {
+        let [a, b, c, d, e, f, g, h, i, j] = self.0;
+        let only = |shown: ModeSet| shown.and(mask);
+        Pairs([
+            only(a),
+            only(b),
+            only(c),
+            only(d),
+            only(e),
+            only(f),
+            only(g),
+            only(h),
+            only(i),
+            only(j),
+        ])
+    }
+}

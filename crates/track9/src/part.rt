@@ -1,0 +1,344 @@
+//! The states with one value of local and one of panel.
+ghost use Rattle.std.specs.Prelude.{◌≡◌, IfOk, OnErr, OnOk, true};
+ghost use Rattle.tc25.specs.Times.{BelowDay, span_count};
+ghost use Rattle.track9.specs.Tracker.{entries_of};
+ghost use Rattle.track9.specs.Working.Entries.{agreeing};
+ghost use Rattle.track9.specs.Working.Knowing.{PartKnows};
+ghost use Rattle.track9.specs.Working.Parts.{Whole, all_states, aside, bit_in, changed_entries, changed_part, drifted_part, forgotten_part, gone_part, is_live, no_states, put_aside, put_part, put_settled, settled, shown_part, status_part, where_live, with_entries, with_pairs};
+ghost use Rattle.track9.specs.declared.state.Register.{Register as ARegister};
+
+use crate::effect::Change;
+use crate::knowledge::KnownEntry;
+use crate::mode::Mode;
+use crate::mode_set::ModeSet;
+use crate::pairs::Pairs;
+use crate::register_set::RegisterSet;
+use crate::state::Register;
+use std::alloc::{AllocError, Global};
+use std::marker::Model;
+use tc25::{SpanSet, TimeCode, TimeSet};
+
+/// The states with one value of local and one of panel: each pair of modes with any of the entries of each
+/// register. Either every factor has something in it, or none has.
+#[derive(Drop)]
+pub(crate) struct Part<S: TimeSet> {
+    pairs: Pairs,
+    ins: RegisterSet<S>,
+    outs: RegisterSet<S>,
+    ains: RegisterSet<S>,
+    aouts: RegisterSet<S>,
+}
+
+impl<S: TimeSet> Model for Part<S> {
+    ghost use Rattle.track9.specs.Tracker.{PartStates};
+    ghost use Rattle.track9.specs.Working.Codes.{part_code};
+
+    ghost Value = { PartStates };
+
+    ghost coded = { part_code };
+
+    ghost view = { λ p. record { pairs = p.pairs; ins = p.ins; outs = p.outs; ains = p.ains; aouts = p.aouts } };
+}
+
+impl<S: TimeSet> Part<S> {
+    /// No state. Takes no memory.
+    pub(crate) fn none(alloc: Global) -> Part<S>
+        ensures { result ≡ no_states }
+    {
+        Part {
+            pairs: Pairs::none(),
+            ins: RegisterSet::none(alloc),
+            outs: RegisterSet::none(alloc),
+            ains: RegisterSet::none(alloc),
+            aouts: RegisterSet::none(alloc),
+        }
+    }
+
+    /// Every state.
+    pub(crate) fn all(alloc: Global) -> Result<Part<S>, AllocError>
+        ensures { IfOk result (λ p. p ≡ all_states) }
+    {
+        Part::with_any_entries(alloc, Pairs::all())
+    }
+
+    /// These pairs, each with any entries.
+    fn with_any_entries(alloc: Global, pairs: Pairs) -> Result<Part<S>, AllocError>
+        ensures { IfOk result (λ p. p ≡ with_pairs pairs all_states) }
+    {
+        Ok(Part {
+            pairs,
+            ins: RegisterSet::all(alloc)?,
+            outs: RegisterSet::all(alloc)?,
+            ains: RegisterSet::all(alloc)?,
+            aouts: RegisterSet::all(alloc)?,
+        })
+    }
+
+    /// Its times are times of the day. Does nothing.
+    pub(crate) fn below_day(&self)
+        ensures { (r : ARegister) → BelowDay (entries_of r self.now).times }
+    {
+        self.ins.below_day();
+        self.outs.below_day();
+        self.ains.below_day();
+        self.aouts.below_day();
+    }
+
+    /// Whether there is a state.
+    pub(crate) fn is_live(&self) -> bool
+        ensures { result ≡ is_live self.now }
+    {
+        self.pairs.is_some()
+    }
+
+    /// The pairs.
+    pub(crate) fn pairs(&self) -> Pairs
+        ensures { result ≡ self.now.pairs }
+    {
+        self.pairs
+    }
+
+    /// Puts pairs in place.
+    pub(crate) fn put_pairs(&mut self, pairs: Pairs)
+        ensures { self.new ≡ with_pairs pairs self.old }
+    {
+        self.pairs = pairs;
+    }
+
+    /// The entries of a register.
+    pub(crate) fn entries(&self, register: Register) -> &RegisterSet<S>
+        ensures { result.now ≡ entries_of register self.entry.now }
+    {
+        match register {
+            Register::RegIn => &self.ins,
+            Register::RegOut => &self.outs,
+            Register::RegAudioIn => &self.ains,
+            Register::RegAudioOut => &self.aouts,
+        }
+    }
+
+    /// What is known of a register: None where there is no state.
+    pub(crate) fn known(&self, register: Register) -> Option<KnownEntry>
+        requires { Whole self.now }
+        ensures { PartKnows self.now register result }
+    {
+        if self.is_live() {
+            Some(self.entries(register).known())
+        } else {
+            None
+        }
+    }
+
+    /// Puts a register's entries in place.
+    pub(crate) fn put(&mut self, register: Register, entries: RegisterSet<S>)
+        ensures { self.new ≡ with_entries register entries self.old }
+    {
+        match register {
+            Register::RegIn => self.ins = entries,
+            Register::RegOut => self.outs = entries,
+            Register::RegAudioIn => self.ains = entries,
+            Register::RegAudioOut => self.aouts = entries,
+        }
+    }
+
+    /// Lets go of everything where a factor has nothing left. Takes no memory.
+    pub(crate) fn settle(&mut self, alloc: Global)
+        ensures { self.new ≡ settled self.old }
+    {
+        let modes = self.pairs.is_some();
+        let (ins, outs) = (self.ins.is_some(), self.outs.is_some());
+        let (ains, aouts) = (self.ains.is_some(), self.aouts.is_some());
+        if !(modes && ins && outs && ains && aouts) {
+            *self = Part::none(alloc);
+        }
+    }
+
+    /// A drift of the mechanics.
+    pub(crate) fn drift(&mut self)
+        ensures { self.new ≡ drifted_part self.old }
+    {
+        self.pairs = self.pairs.drifted();
+    }
+
+    /// The deck goes for a goal, or may also leave it.
+    pub(crate) fn go(&mut self, may_stay: bool, goal: Mode)
+        ensures { self.new ≡ where_live (gone_part may_stay goal) self.old }
+    {
+        if !self.is_live() {
+            return;
+        }
+        let gone = self.pairs.gone(goal);
+        self.pairs = if may_stay {
+            self.pairs.joined(&gone)
+        } else {
+            gone
+        };
+    }
+
+    /// What becomes of a register's entries, or may where the deck may leave it, in a set of its own: None where
+    /// there is no state.
+    pub(crate) fn change_aside(
+        &self,
+        alloc: Global,
+        may_stay: bool,
+        register: Register,
+        change: &Change,
+    ) -> Result<Option<RegisterSet<S>>, AllocError>
+        ensures { IfOk result (λ o. o ≡ aside self.now (changed_entries may_stay change.now (entries_of register self.now))) }
+    {
+        if !self.is_live() {
+            return Ok(None);
+        }
+        let entries = self.entries(register);
+        let changed = if may_stay {
+            entries.widened(alloc, change)?
+        } else {
+            entries.changed(alloc, change)?
+        };
+        Ok(Some(changed))
+    }
+
+    /// The entries of a register that agree with a time that was read, in a set of their own: None where there
+    /// is no state.
+    pub(crate) fn sense_aside(
+        &self,
+        alloc: Global,
+        register: Register,
+        time: &Option<TimeCode>,
+    ) -> Result<Option<RegisterSet<S>>, AllocError>
+        ensures { IfOk result (λ o. o ≡ aside self.now (agreeing time.now (entries_of register self.now))) }
+    {
+        if !self.is_live() {
+            return Ok(None);
+        }
+        Ok(Some(self.entries(register).agreeing(alloc, time)?))
+    }
+
+    /// Every state aside: None where there is no state.
+    pub(crate) fn forget_tape_aside(&self, alloc: Global) -> Result<Option<Part<S>>, AllocError>
+        ensures { IfOk result (λ o. o ≡ aside self.now all_states) }
+    {
+        if !self.is_live() {
+            return Ok(None);
+        }
+        Ok(Some(Part::all(alloc)?))
+    }
+
+    /// The pairs with any entries aside: None where there is no state.
+    pub(crate) fn forget_registers_aside(
+        &self,
+        alloc: Global,
+    ) -> Result<Option<Part<S>>, AllocError>
+        ensures { IfOk result (λ o. o ≡ aside self.now (forgotten_part self.now)) }
+    {
+        if !self.is_live() {
+            return Ok(None);
+        }
+        Ok(Some(Part::with_any_entries(alloc, self.pairs)?))
+    }
+
+    /// Puts a register's entries in place that were made aside.
+    pub(crate) fn put_aside(&mut self, register: Register, entries: Option<RegisterSet<S>>)
+        ensures { self.new ≡ put_aside register entries self.old }
+    {
+        if let Some(entries) = entries {
+            self.put(register, entries);
+        }
+    }
+
+    /// The same, and lets go of everything where they are none.
+    pub(crate) fn put_settled(
+        &mut self,
+        alloc: Global,
+        register: Register,
+        entries: Option<RegisterSet<S>>,
+    )
+        ensures { self.new ≡ put_settled register entries self.old }
+    {
+        if let Some(entries) = entries {
+            self.put(register, entries);
+            self.settle(alloc);
+        }
+    }
+
+    /// Puts a part in place that was made aside.
+    pub(crate) fn put_part(&mut self, part: Option<Part<S>>)
+        ensures { self.new ≡ put_part part self.old }
+    {
+        if let Some(part) = part {
+            *self = part;
+        }
+    }
+
+    /// What may become of a register's entries, in place, where the deck may also leave it.
+    pub(crate) fn widen(
+        &mut self,
+        alloc: Global,
+        register: Register,
+        change: &Change,
+    ) -> Result<(), AllocError>
+        ensures ok { OnOk result (self.new ≡ where_live (changed_part true register change.now) self.old) }
+        ensures err { OnErr result (self.new ≡ self.old) }
+    {
+        if !self.is_live() {
+            return Ok(());
+        }
+        match register {
+            Register::RegIn => self.ins.widen(alloc, change),
+            Register::RegOut => self.outs.widen(alloc, change),
+            Register::RegAudioIn => self.ains.widen(alloc, change),
+            Register::RegAudioOut => self.aouts.widen(alloc, change),
+        }
+    }
+
+    /// Keeps the states that agree with status data: none where LOCAL does not agree. Takes no memory.
+    pub(crate) fn keep_status(
+        &mut self,
+        alloc: Global,
+        agrees: bool,
+        mask: ModeSet,
+        datum: Option<u8>,
+    )
+        ensures { self.new ≡ where_live (status_part agrees mask datum) self.old }
+    {
+        if !self.is_live() {
+            return;
+        }
+        if agrees {
+            self.keep_shown(alloc, mask, datum);
+        } else {
+            *self = Part::none(alloc);
+        }
+    }
+
+    /// Keeps the states with these modes shown, and with registers Set as the bits of status datum 3 say.
+    fn keep_shown(&mut self, alloc: Global, mask: ModeSet, datum: Option<u8>)
+        ensures { self.new ≡ shown_part mask datum self.old }
+    {
+        self.pairs = self.pairs.masked(mask);
+        self.ins.keep_said(alloc, bit_in(0x01, datum));
+        self.outs.keep_said(alloc, bit_in(0x02, datum));
+        self.ains.keep_said(alloc, bit_in(0x04, datum));
+        self.aouts.keep_said(alloc, bit_in(0x08, datum));
+        self.settle(alloc);
+    }
+}
+
+/// Whether the bit of a datum is 1, if there is the datum.
+fn bit_in(bit: u8, datum: Option<u8>) -> Option<bool>
+    ensures { result ≡ bit_in bit datum }
+{
+    match datum {
+        Some(byte) => Some(byte & bit == bit),
+        None => None,
+    }
+}
+
+impl Part<SpanSet> {
+    /// The number of spans of a register's times.
+    pub(crate) fn spans(&self, register: Register) -> usize
+        ensures { result ≡ span_count (entries_of register self.now).times }
+    {
+        self.entries(register).spans()
+    }
+}

@@ -1,0 +1,202 @@
+//! Sets of entries of one register.
+ghost use Rattle.std.specs.Prelude.{◌≡◌, IfOk, OnErr, OnOk, true};
+ghost use Rattle.tc25.specs.Times.{BelowDay, span_count};
+ghost use Rattle.track9.specs.Tracker.{Allows};
+ghost use Rattle.track9.specs.Working.Knowing.{KnowsOf};
+ghost use Rattle.track9.specs.Working.Entries.{agreeing, all_entries, changed, no_entries, said, some_entry, widened};
+
+use crate::effect::Change;
+use crate::knowledge::KnownEntry;
+use std::alloc::{AllocError, Global};
+use std::marker::Model;
+use tc25::{SpanSet, TimeCode, TimeSet};
+
+/// The entries that a register may have.
+#[derive(Drop)]
+pub(crate) struct RegisterSet<S: TimeSet> {
+    may_clear: bool,
+    times: S,
+}
+
+impl<S: TimeSet> Model for RegisterSet<S> {
+    ghost use Rattle.track9.specs.Tracker.{Entries};
+    ghost use Rattle.track9.specs.Working.Codes.{entries_code};
+
+    ghost Value = { Entries };
+
+    ghost coded = { entries_code };
+
+    ghost use Rattle.tc25.specs.Times.{BelowDay};
+
+    ghost view = { λ r. record { may_clear = r.may_clear; times = S.members r.times } };
+
+    ghost invariant = { λ r. BelowDay (S.members r.times) };
+}
+
+impl<S: TimeSet> RegisterSet<S> {
+    /// No entry. Takes no memory.
+    pub(crate) fn none(alloc: Global) -> RegisterSet<S>
+        ensures { result ≡ no_entries }
+    {
+        RegisterSet {
+            may_clear: false,
+            times: S::none(alloc),
+        }
+    }
+
+    /// Every entry.
+    pub(crate) fn all(alloc: Global) -> Result<RegisterSet<S>, AllocError>
+        ensures { IfOk result (λ r. r ≡ all_entries) }
+    {
+        Ok(RegisterSet {
+            may_clear: true,
+            times: S::all(alloc)?,
+        })
+    }
+
+    /// Its times are times of the day. Does nothing.
+    pub(crate) fn below_day(&self)
+        ensures { BelowDay self.now.times }
+    {
+        let _ = &self.times;
+    }
+
+    /// Whether there is an entry.
+    pub(crate) fn is_some(&self) -> bool
+        ensures { result ≡ some_entry self.now }
+    {
+        self.may_clear || !self.times.is_empty()
+    }
+
+    /// What all entries agree on, of which there is one.
+    pub(crate) fn known(&self) -> KnownEntry
+        requires { some_entry self.now ≡ true }
+        ensures { KnowsOf (Allows self.now) result }
+    {
+        if self.times.is_empty() {
+            return KnownEntry::Clear;
+        }
+        if self.may_clear {
+            return KnownEntry::Unknown;
+        }
+        match self.times.only() {
+            Some(time) => KnownEntry::At(time),
+            None => KnownEntry::SetSomewhere,
+        }
+    }
+
+    /// What becomes of the entries, in a set of its own.
+    pub(crate) fn changed(
+        &self,
+        alloc: Global,
+        change: &Change,
+    ) -> Result<RegisterSet<S>, AllocError>
+        ensures { IfOk result (λ r. r ≡ changed change.now self.now) }
+    {
+        match change {
+            Change::SetSomewhere => Ok(RegisterSet {
+                may_clear: false,
+                times: S::all(alloc)?,
+            }),
+            Change::SetAt(time) => Ok(RegisterSet {
+                may_clear: false,
+                times: S::one(alloc, *time)?,
+            }),
+            Change::Next => {
+                let mut times = self.times.copy()?;
+                times.shift_next()?;
+                Ok(RegisterSet {
+                    may_clear: self.may_clear,
+                    times,
+                })
+            }
+            Change::Prev => {
+                let mut times = self.times.copy()?;
+                times.shift_prev()?;
+                Ok(RegisterSet {
+                    may_clear: self.may_clear,
+                    times,
+                })
+            }
+            Change::Reset => Ok(RegisterSet {
+                may_clear: true,
+                times: S::none(alloc),
+            }),
+            Change::Recall => RegisterSet::all(alloc),
+        }
+    }
+
+    /// What may become of the entries, in place, where the deck may also leave the register as it is.
+    pub(crate) fn widen(&mut self, alloc: Global, change: &Change) -> Result<(), AllocError>
+        ensures ok { OnOk result (self.new ≡ widened change.now self.old) }
+        ensures err { OnErr result (self.new ≡ self.old) }
+    {
+        match change {
+            Change::SetSomewhere => self.times = S::all(alloc)?,
+            Change::SetAt(time) => self.times.add(*time)?,
+            Change::Next => self.times.widen_next()?,
+            Change::Prev => self.times.widen_prev()?,
+            Change::Reset => self.may_clear = true,
+            Change::Recall => {
+                self.times = S::all(alloc)?;
+                self.may_clear = true;
+            }
+        }
+        Ok(())
+    }
+
+    /// The same in a set of its own.
+    pub(crate) fn widened(
+        &self,
+        alloc: Global,
+        change: &Change,
+    ) -> Result<RegisterSet<S>, AllocError>
+        ensures { IfOk result (λ r. r ≡ widened change.now self.now) }
+    {
+        let mut copy = RegisterSet {
+            may_clear: self.may_clear,
+            times: self.times.copy()?,
+        };
+        copy.widen(alloc, change)?;
+        Ok(copy)
+    }
+
+    /// The entries that agree with a time that was read, in a set of its own: None where it was not valid,
+    /// which only a Clear register gives. Copies no times.
+    pub(crate) fn agreeing(
+        &self,
+        alloc: Global,
+        time: &Option<TimeCode>,
+    ) -> Result<RegisterSet<S>, AllocError>
+        ensures { IfOk result (λ r. r ≡ agreeing time.now self.now) }
+    {
+        let times = match time {
+            Some(time) if self.times.contains(*time) => S::one(alloc, *time)?,
+            _ => S::none(alloc),
+        };
+        Ok(RegisterSet {
+            may_clear: self.may_clear,
+            times,
+        })
+    }
+
+    /// Keeps the entries that are Set, or those that are Clear, where a status reply says which.
+    pub(crate) fn keep_said(&mut self, alloc: Global, is_set: Option<bool>)
+        ensures { self.new ≡ said is_set self.old }
+    {
+        match is_set {
+            Some(true) => self.may_clear = false,
+            Some(false) => self.times = S::none(alloc),
+            None => {}
+        }
+    }
+}
+
+impl RegisterSet<SpanSet> {
+    /// The number of spans of its times.
+    pub(crate) fn spans(&self) -> usize
+        ensures { result ≡ span_count self.now.times }
+    {
+        self.times.spans()
+    }
+}

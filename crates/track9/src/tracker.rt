@@ -1,0 +1,135 @@
+//! The states that the deck could be in, exchange by exchange.
+ghost use Rattle.std.specs.Prelude.{◌≡◌, ◌↔◌, ◌≤◌, ◌+◌, IfErr, IfOk, IsOk, IsTrue, false};
+ghost use Rattle.track9.specs.Frugal.{is_frugal};
+ghost use Rattle.track9.specs.Knowledge.{IsKnowledge};
+ghost use Rattle.track9.specs.Presets.{IsSpanCount, count_of, presets_after};
+ghost use Rattle.track9.specs.State.{IsFirst};
+ghost use Rattle.track9.specs.Step.{AreReached, Exchanges};
+ghost use Rattle.track9.specs.Tracker.{Possible};
+ghost use Rattle.track9.specs.declared.state.Register.{Register as ARegister};
+ghost use Rattle.track9.specs.declared.state.State.{State as AState};
+
+use crate::knowledge::Knowledge;
+use crate::presets::Presets;
+use crate::state::{Hands, Register};
+use crate::states::States;
+use block9::{Block, Command};
+use std::alloc::{AllocError, Global};
+use std::marker::Model;
+use tc25::{SpanSet, TimeSet};
+
+/// All states that the deck could be in after the exchanges of a capture so far.
+///
+/// A contract sees it as a set of states, by the pairs of modes and the sets of times that it keeps; the states
+/// are never listed. It also knows whether hands are allowed on the panel, and how many data presets to each
+/// register were acknowledged.
+#[derive(Drop)]
+pub struct Tracker<S: TimeSet> {
+    states: States<S>,
+    hands: Hands,
+    presets: Presets,
+    alloc: Global,
+}
+
+impl<S: TimeSet> Model for Tracker<S> {
+    ghost use Rattle.track9.specs.Tracker.{Tracked};
+    ghost use Rattle.track9.specs.Working.Codes.{tracked_code};
+
+    ghost Value = { Tracked };
+
+    ghost coded = { tracked_code };
+
+    ghost use Rattle.track9.specs.Working.States.{IsKept};
+
+    ghost view = { λ t. record { states = t.states; hands = t.hands; presets = t.presets } };
+
+    ghost invariant = { λ t. IsKept t.hands t.presets t.states };
+}
+
+impl<S: TimeSet> Tracker<S> {
+    /// A tracker before the first exchange: every state is possible, but that the panel is off, always, where
+    /// hands are not allowed (this profile's choice: nothing is known before a capture).
+    ///
+    /// An error comes where memory is refused.
+    pub fn new(alloc: Global, hands: Hands) -> Result<Self, AllocError>
+        ensures states { IfOk result (λ t. (s : AState) → Possible t.states s ↔ IsFirst hands s) }
+        ensures hands { IfOk result (λ t. t.hands ≡ hands) }
+        ensures presets { IfOk result (λ t. (r : ARegister) → count_of r t.presets ≡ 0) }
+    {
+        Ok(Tracker {
+            states: States::first(alloc, hands)?,
+            hands,
+            presets: Presets::default(),
+            alloc,
+        })
+    }
+
+    /// Takes the next exchange, of a command and a reply that fits it, as a `Pairer` answers it.
+    ///
+    /// The states are then exactly those that a drift and a step of the deck lead to from a state before, where the
+    /// step gives this reply to this command. It answers true where there is such a state, and false where there
+    /// is none: then no run of the deck gives the replies so far, and every later call answers false or an error.
+    /// What a deck may do is in `specs/Drift.antt` and `specs/Step.antt`; the effects of commands, the modes and the
+    /// status bits are this profile's.
+    ///
+    /// An error comes where memory is refused, and the tracker is then as it was. Where hands are not allowed none
+    /// comes for a NAK, nor for a command that asks for no register's time and changes and forgets no register.
+    pub fn observe(&mut self, command: &Command, reply: &Block) -> Result<bool, AllocError>
+        ensures reached { IfOk result (λ b. AreReached (Possible self.old.states) (Exchanges self.old.hands command.now reply.now) (Possible self.new.states)) }
+        ensures remains { IfOk result (λ b. IsTrue b ↔ ((s : AState) × Possible self.new.states s)) }
+        ensures over { ¬ ((s : AState) × Possible self.old.states s) → IfOk result (λ b. b ≡ false) }
+        ensures hands { IfOk result (λ b. self.new.hands ≡ self.old.hands) }
+        ensures presets { IfOk result (λ b. self.new.presets ≡ presets_after command.now reply.now b self.old.presets) }
+        ensures unchanged { IfErr result (λ e. self.new ≡ self.old) }
+        ensures frugal { self.old.hands ≡ Hands.None → IsTrue (is_frugal command.now reply.now) → IsOk result }
+    {
+        self.states
+            .exchange(self.alloc, self.hands, command, reply)?;
+        let remains = self.states.is_some();
+        self.presets.count_exchange(command, reply, remains);
+        Ok(remains)
+    }
+
+    /// Whether a state is possible. Takes no memory.
+    pub fn remains(&self) -> bool
+        ensures { IsTrue result ↔ ((s : AState) × Possible self.now.states s) }
+    {
+        self.states.is_some()
+    }
+
+    /// What all possible states agree on, field by field. There has to be one (`remains`). Takes no memory.
+    pub fn knowledge(&self) -> Knowledge
+        requires { (s : AState) × Possible self.now.states s }
+        ensures { IsKnowledge (Possible self.now.states) result }
+    {
+        Knowledge {
+            goal: self.states.known_goal(),
+            shown: self.states.known_shown(),
+            ins: self.states.known_entry(Register::RegIn),
+            outs: self.states.known_entry(Register::RegOut),
+            ains: self.states.known_entry(Register::RegAudioIn),
+            aouts: self.states.known_entry(Register::RegAudioOut),
+            local: self.states.known_local(),
+            panel: self.states.known_panel(),
+        }
+    }
+}
+
+impl Tracker<SpanSet> {
+    /// The greatest number of spans of the times at which a register may be Set, over the four values of local and
+    /// of the panel: at most two more than `presets`. Takes no memory.
+    pub fn spans(&self, register: Register) -> usize
+        ensures exact { (s : AState) → Possible self.now.states s → IsSpanCount (Possible self.now.states) register result }
+        ensures few { result ≤ count_of register self.now.presets + 2 }
+    {
+        self.states.spans(register)
+    }
+
+    /// How many data presets to a register were acknowledged and left a state possible; it stays at 4,294,967,295
+    /// once that is reached. Takes no memory.
+    pub fn presets(&self, register: Register) -> u32
+        ensures { result ≡ count_of register self.now.presets }
+    {
+        self.presets.count(register)
+    }
+}
