@@ -56,7 +56,8 @@ impl Block {
         self.bytes.as_slice().first().copied().unwrap_or(0)
     }
 
-    /// The time that the data are: `None` where they are not four bytes of a valid time.
+    /// The time that the data are, as the protocol manual spells times: `None` exactly where they are not the four
+    /// bytes of a valid one.
     pub fn time(&self) -> Option<TimeCode>
         ensures { result ≡ time_of self.now.bytes.items }
     {
