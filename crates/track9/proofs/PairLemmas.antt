@@ -258,27 +258,35 @@ goes_from p m h = by_eject (or2 (to_cued p) (shown_with p Eject) m h)
     by_play : (has (shown_with p Stop).0 m ≡ true) ⊎ (has (shown_with p Play).0 m ≡ true) → (g : Mode) × (has_pair p g m ≡ true)
     by_play (inl e) = (Stop, e)
     by_play (inr e) = (Play, e)
+
     by_rec : (has (to_play p).0 m ≡ true) ⊎ (has (shown_with p Rec).0 m ≡ true) → (g : Mode) × (has_pair p g m ≡ true)
     by_rec (inl e) = by_play (or2 (shown_with p Stop) (shown_with p Play) m e)
     by_rec (inr e) = (Rec, e)
+
     by_fast_forward : (has (to_rec p).0 m ≡ true) ⊎ (has (shown_with p FastForward).0 m ≡ true) → (g : Mode) × (has_pair p g m ≡ true)
     by_fast_forward (inl e) = by_rec (or2 (to_play p) (shown_with p Rec) m e)
     by_fast_forward (inr e) = (FastForward, e)
+
     by_rewind : (has (to_fast_forward p).0 m ≡ true) ⊎ (has (shown_with p Rewind).0 m ≡ true) → (g : Mode) × (has_pair p g m ≡ true)
     by_rewind (inl e) = by_fast_forward (or2 (to_rec p) (shown_with p FastForward) m e)
     by_rewind (inr e) = (Rewind, e)
+
     by_shuttle : (has (to_rewind p).0 m ≡ true) ⊎ (has (shown_with p Shuttle).0 m ≡ true) → (g : Mode) × (has_pair p g m ≡ true)
     by_shuttle (inl e) = by_rewind (or2 (to_fast_forward p) (shown_with p Rewind) m e)
     by_shuttle (inr e) = (Shuttle, e)
+
     by_jog : (has (to_shuttle p).0 m ≡ true) ⊎ (has (shown_with p Jog).0 m ≡ true) → (g : Mode) × (has_pair p g m ≡ true)
     by_jog (inl e) = by_shuttle (or2 (to_rewind p) (shown_with p Shuttle) m e)
     by_jog (inr e) = (Jog, e)
+
     by_var : (has (to_jog p).0 m ≡ true) ⊎ (has (shown_with p Var).0 m ≡ true) → (g : Mode) × (has_pair p g m ≡ true)
     by_var (inl e) = by_jog (or2 (to_shuttle p) (shown_with p Jog) m e)
     by_var (inr e) = (Var, e)
+
     by_cued : (has (to_var p).0 m ≡ true) ⊎ (has (shown_with p Cued).0 m ≡ true) → (g : Mode) × (has_pair p g m ≡ true)
     by_cued (inl e) = by_var (or2 (to_jog p) (shown_with p Var) m e)
     by_cued (inr e) = (Cued, e)
+
     by_eject : (has (to_cued p).0 m ≡ true) ⊎ (has (shown_with p Eject).0 m ≡ true) → (g : Mode) × (has_pair p g m ≡ true)
     by_eject (inl e) = by_cued (or2 (to_var p) (shown_with p Cued) m e)
     by_eject (inr e) = (Eject, e)

@@ -18,6 +18,8 @@ mod sense;
 mod state;
 mod states;
 mod status;
+#[cfg(test)]
+mod tests;
 mod tracker;
 
 pub use effect::{Change, Effect};
