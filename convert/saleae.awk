@@ -1,0 +1,169 @@
+# Makes a capture of the CSV that Saleae's Logic exports of two Async Serial analyzers:
+#
+#     awk -v controller=Controller -v deck=Deck -f convert/saleae.awk < export.csv > capture.csv
+#
+# `controller` and `deck` are the analyzers' names. Columns are found by their titles, and others are passed over:
+#
+#     name,type,start_time,duration,data,error                         the newer form
+#     Time [s],Analyzer Name,Value,Parity Error,Framing Error          the older form
+#
+# An older export without `Analyzer Name` is one file for each analyzer. Then both are read in one, the
+# controller's first (`cat controller.csv deck.csv`), and no names are needed. Times are cut to whole microseconds;
+# where one is below 0 all are moved by the same whole seconds.
+
+BEGIN { converter = "saleae.awk" }
+
+{
+    sub(/\r$/, "")
+    fields = split_fields($0)
+}
+
+NR == 1 {
+    header = $0
+    read_header()
+    next
+}
+
+!name_at && $0 == header {
+    if (wire == "D") refuse("a third file begins: " $0)
+    wire = "D"
+    next
+}
+
+fields != titles { refuse("not as many fields as the header: " $0) }
+
+field[mark_at] != "" || field[other_mark_at] != "" { refuse("a damaged byte: " $0) }
+
+type_at && field[type_at] != "data" { refuse("a row that is no byte: " $0) }
+
+field[byte_at] !~ /^0x[0-9A-Fa-f][0-9A-Fa-f]$/ { refuse("no byte of the form 0x20: " $0) }
+
+field[time_at] !~ /^-?[0-9]+(\.[0-9]+)?([eE][-+][0-9][0-9]?)?$/ { refuse("no time in seconds: " $0) }
+
+name_at && !(field[name_at] in analyzer_wire) { refuse("neither the controller's analyzer nor the deck's: " $0) }
+
+{
+    time = microseconds(field[time_at])
+    keep(time, name_at ? analyzer_wire[field[name_at]] : wire, substr(field[byte_at], 3))
+    if (time + later < 0) later = 1000000 * int((999999 - time) / 1000000)
+}
+
+END { if (!refused && header != "" && !name_at && wire != "D") refuse("the deck's file is missing") }
+
+function read_header(    k) {
+    titles = fields
+    for (k = 1; k <= titles; k++) title_at[field[k]] = k
+    if ("start_time" in title_at) {
+        time_at = column_of("start_time")
+        name_at = column_of("name")
+        type_at = column_of("type")
+        byte_at = column_of("data")
+        mark_at = other_mark_at = column_of("error")
+    } else {
+        time_at = column_of("Time [s]")
+        name_at = "Analyzer Name" in title_at ? title_at["Analyzer Name"] : 0
+        byte_at = column_of("Value")
+        mark_at = column_of("Parity Error")
+        other_mark_at = column_of("Framing Error")
+    }
+    if (name_at) read_names()
+    else wire = "C"
+}
+
+function column_of(title) {
+    if (!(title in title_at)) refuse("the header has no column '" title "': " $0)
+    return title_at[title]
+}
+
+function read_names() {
+    if (controller == "" || deck == "") refuse("-v controller=ANALYZER or -v deck=ANALYZER is missing")
+    if (controller "" == deck "") refuse("-v controller and -v deck are the same analyzer")
+    analyzer_wire[controller] = "C"
+    analyzer_wire[deck] = "D"
+}
+
+# Splits a line at its commas, and takes the quotes off a field; what is in them may have commas.
+function split_fields(line,    last, comma) {
+    last = 0
+    line = line ","
+    while (line != "") {
+        last++
+        if (match(line, /^"([^"]|"")*",/)) {
+            field[last] = substr(line, 2, RLENGTH - 3)
+            gsub(/""/, "\"", field[last])
+            line = substr(line, RLENGTH + 1)
+        } else {
+            comma = index(line, ",")
+            field[last] = substr(line, 1, comma - 1)
+            line = substr(line, comma + 1)
+        }
+    }
+    return last
+}
+
+# By the digits, since what awk takes for a number's point depends on the country.
+function microseconds(seconds,    sign, power, parts, digits, places, whole, rest) {
+    sign = sub(/^-/, "", seconds) ? -1 : 1
+    split(tolower(seconds), power, "e")
+    split(power[1], parts, ".")
+    digits = parts[1] parts[2]
+    places = length(parts[1]) + power[2] + 6
+    while (length(digits) < places) digits = digits "0"
+    whole = places > 0 ? number(substr(digits, 1, places)) : 0
+    rest = places > 0 ? substr(digits, places + 1) : digits
+    return sign * whole - (sign < 0 && rest ~ /[1-9]/)
+}
+
+# From here on every converter is the same.
+
+# Keeps a byte until the whole export was read, so that a refused export leaves no part of a capture behind.
+function keep(time, wire, byte) {
+    if (time > 999999999999999) refuse("a time of more than fifteen digits: " $0)
+    if (count[wire] > 0 && time < times[slot(wire, count[wire])]) {
+        refuse("a time below the one before on this wire: " $0)
+    }
+    count[wire]++
+    times[slot(wire, count[wire])] = time
+    bytes[slot(wire, count[wire])] = toupper(byte)
+}
+
+# Where the wire's k-th byte is kept: at a number, which takes some awks half the memory that a text takes.
+function slot(wire, k) {
+    return 2 * k + (wire == "D")
+}
+
+# A number without its leading zeros, since some awks take a number that begins with one for octal.
+function number(digits) {
+    sub(/^0+/, "", digits)
+    return digits + 0
+}
+
+function refuse(what) {
+    print converter ": line " NR ": " what | "cat >&2"
+    close("cat >&2")
+    refused = 1
+    exit 1
+}
+
+# The wire whose next byte is the earlier one: the controller's, where both have the same time.
+function next_wire() {
+    if (written["C"] == count["C"]) return "D"
+    if (written["D"] == count["D"]) return "C"
+    return times[slot("D", written["D"] + 1)] < times[slot("C", written["C"] + 1)] ? "D" : "C"
+}
+
+function write(wire,    k) {
+    k = slot(wire, ++written[wire])
+    printf "%.0f,%s,%s\n", times[k] + later, wire, bytes[k] | "cat"
+}
+
+# The capture goes through `cat`, since no awk tells what became of its own output.
+END {
+    if (refused) exit 1
+    count["C"] += 0
+    count["D"] += 0
+    if (count["C"] + count["D"] == 0) refuse("no byte in the export")
+    print "time_us,wire,byte" | "cat"
+    while (written["C"] < count["C"] || written["D"] < count["D"]) write(next_wire())
+    if (close("cat") != 0) refuse("the capture can't be written")
+}

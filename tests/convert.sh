@@ -1,0 +1,191 @@
+#!/usr/bin/env bash
+# Runs the converters on the stored exports and on damaged ones, under each awk that is there, and the built
+# program on what they make. The last line is 'N passed, M failed'.
+set -u
+cd "$(dirname "$0")/.." || exit 1
+program=${NINECHECK:-$PWD/crates/ninecheck/out/ninecheck}
+
+work=$(mktemp -d)
+trap 'rm -rf "$work"' EXIT
+passed=0
+failed=0
+
+# judge NAME CONDITION...: counts whether this command succeeds.
+judge() {
+    local name=$1
+    shift
+    if "$@"; then
+        passed=$((passed + 1))
+    else
+        failed=$((failed + 1))
+        echo "FAILED $name"
+    fi
+}
+
+# convert CONVERTER WORDS: the converter on standard input; its streams are left in $work/out and $work/err.
+convert() {
+    $awk $2 -f "convert/$1" > "$work/out" 2> "$work/err"
+    status=$?
+}
+
+# is_capture FILE: the run made this capture and said nothing.
+is_capture() {
+    [ "$status" = 0 ] && cmp "$work/out" "$1" && [ ! -s "$work/err" ]
+}
+
+# is_refused LINE: the run wrote this line to standard error, and nothing to standard output.
+is_refused() {
+    printf '%s\n' "$1" > "$work/want"
+    [ "$status" = 1 ] && [ ! -s "$work/out" ] && cmp "$work/err" "$work/want"
+}
+
+# is_verdict STATUS LINE: the program answers this on what the run made.
+is_verdict() {
+    "$program" check < "$work/out" > "$work/verdict" 2> "$work/err"
+    [ $? = "$1" ] && [ "$(cat "$work/verdict")" = "$2" ] && [ ! -s "$work/err" ]
+}
+
+# The stored exports, each with its capture and its answer.
+stored_exports() {
+    local export converter words capture want_status want_line
+    while IFS='|' read -r export converter words capture want_status want_line; do
+        case "$export" in '#'* | '') continue ;; esac
+        convert "$converter" "$words" < "examples/exports/$export"
+        judge "$awk: $export" is_capture "examples/exports/$capture"
+        judge "$awk: the program on $export" is_verdict "$want_status" "$want_line"
+    done < examples/exports/ANSWERS
+    convert sigrok.awk '-v rate=2000000' < examples/exports/sigrok-damaged.txt
+    judge "$awk: sigrok-damaged.txt" is_refused 'sigrok.awk: line 10: a damaged byte: 5613-5666 uart-2: Parity error'
+}
+
+# Exports with printf's escapes, and the rows of their captures.
+good_exports() {
+    local name converter words text rows
+    while IFS='|' read -r name converter words text rows; do
+        printf "$text" > "$work/in"
+        convert "$converter" "$words" < "$work/in"
+        printf "time_us,wire,byte\n$rows" > "$work/want"
+        judge "$awk: $name" is_capture "$work/want"
+    done <<'END'
+sigrok: the deck's wire first|sigrok.awk|-v rate=1000000|1626-1835 uart-2: 10\n426-635 uart-1: 20\n|426,C,20\n1626,D,10\n
+sigrok: both wires by turns|sigrok.awk|-v rate=1000000|5-9 uart-1: 20\n7-9 uart-2: 10\n6-9 uart-1: 01\n8-9 uart-2: 01\n|5,C,20\n6,C,01\n7,D,10\n8,D,01\n
+sigrok: both wires at one time|sigrok.awk|-v rate=1000000|5-9 uart-2: 10\n5-9 uart-1: 20\n|5,C,20\n5,D,10\n
+sigrok: one wire alone|sigrok.awk|-v rate=1000000|5-9 uart-2: 10\n|5,D,10\n
+sigrok: times are cut, not rounded|sigrok.awk|-v rate=24000000|47-90 uart-1: 20\n48-90 uart-1: 01\n|1,C,20\n2,C,01\n
+sigrok: a rate below a sample a microsecond|sigrok.awk|-v rate=500000|3-90 uart-1: 20\n|6,C,20\n
+sigrok: a day at 24 million samples a second|sigrok.awk|-v rate=24000000|2073600000023-2073600000099 uart-1: 20\n2073600000024-2073600000099 uart-1: 01\n|86400000000,C,20\n86400000001,C,01\n
+sigrok: CRLF, lower case, no line feed at the end|sigrok.awk|-v rate=1000000|5-9 uart-1: 2a\r\n6-9 uart-1: FF|5,C,2A\n6,C,FF\n
+saleae: columns in another order, and one more|saleae.awk|-v controller=A -v deck=B|error,data,note,start_time,name,type\n,0x20,x,0.5,A,data\n|500000,C,20\n
+saleae: a comma and quotes in a name|saleae.awk|-v controller=A,"1" -v deck=B|name,type,start_time,duration,data,error\n"A,""1""",data,1,1,0x20,""\n|1000000,C,20\n
+saleae: names that are numbers|saleae.awk|-v controller=1 -v deck=01|name,type,start_time,duration,data,error\n1,data,1,1,0x20,\n01,data,2,1,0x10,\n|1000000,C,20\n2000000,D,10\n
+saleae: powers of ten|saleae.awk|-v controller=A -v deck=B|name,type,start_time,duration,data,error\nA,data,9e-08,1,0x20,\nA,data,8.672e-05,1,0x01,\nA,data,1.5E+1,1,0x21,\nB,data,12345e-3,1,0x10,\n|0,C,20\n86,C,01\n12345000,D,10\n15000000,C,21\n
+saleae: times below 0|saleae.awk|-v controller=A -v deck=B|name,type,start_time,duration,data,error\nA,data,-1.2500005,1,0x20,\nA,data,-0.0000001,1,0x01,\nB,data,0,1,0x10,\n|749999,C,20\n1999999,C,01\n2000000,D,10\n
+saleae: times below 0 on the deck's wire alone|saleae.awk|-v controller=A -v deck=B|name,type,start_time,duration,data,error\nA,data,0.25,1,0x20,\nB,data,-1,1,0x10,\n|0,D,10\n1250000,C,20\n
+saleae: CRLF in two older files|saleae.awk||Time [s],Value,Parity Error,Framing Error\r\n1.5,0x20,,\r\nTime [s],Value,Parity Error,Framing Error\r\n1.25,0x10,,\r\n|1250000,D,10\n1500000,C,20\n
+saleae: an older file without a byte|saleae.awk||Time [s],Value,Parity Error,Framing Error\nTime [s],Value,Parity Error,Framing Error\n1.25,0x10,,\n|1250000,D,10\n
+sigrok: zeros in front|sigrok.awk|-v rate=1000000|010-90 uart-1: 20\n|10,C,20\n
+log: zeros in front, and seconds without a point|log.awk|-v controller=A -v deck=B|010 A 20\n0011.0100 A 01\n|10000000,C,20\n11010000,C,01\n
+log: ports that are numbers, and blanks|log.awk|-v controller=1 -v deck=01| 1   1 \t 20 fF\r\n01.0000019 01 10\n|1000000,C,20\n1000001,D,10\n1000287,C,FF\n
+END
+}
+
+# Exports that are refused: the name and line of the message, and what it says.
+bad_exports() {
+    local name converter words line what text
+    while IFS='|' read -r name converter words line what text; do
+        printf "$text" > "$work/in"
+        convert "$converter" "$words" < "$work/in"
+        judge "$awk: $name" is_refused "$converter: line $line: $what"
+    done <<'END'
+sigrok: no rate|sigrok.awk||0|-v rate=SAMPLES_A_SECOND is missing, or wrong|5-9 uart-1: 20\n
+sigrok: a rate with a letter|sigrok.awk|-v rate=1m|0|-v rate=SAMPLES_A_SECOND is missing, or wrong|5-9 uart-1: 20\n
+sigrok: a rate of 0|sigrok.awk|-v rate=0|0|-v rate=SAMPLES_A_SECOND is missing, or wrong|5-9 uart-1: 20\n
+sigrok: an empty export|sigrok.awk|-v rate=1000000|0|no byte in the export|
+sigrok: an empty line|sigrok.awk|-v rate=1000000|2|unknown line: |5-9 uart-1: 20\n\n6-9 uart-1: 01\n
+sigrok: a parity error|sigrok.awk|-v rate=1000000|2|a damaged byte: 5-9 uart-2: Parity error|5-9 uart-2: 20\n5-9 uart-2: Parity error\n
+sigrok: a framing error|sigrok.awk|-v rate=1000000|2|a damaged byte: 5-9 uart-1: Frame error|5-9 uart-1: 20\n5-9 uart-1: Frame error\n
+sigrok: a broken line|sigrok.awk|-v rate=1000000|2|a damaged byte: 5-9 uart-1: Break condition|5-9 uart-1: 20\n5-9 uart-1: Break condition\n
+sigrok: a third decoder|sigrok.awk|-v rate=1000000|1|unknown line: 5-9 uart-3: 20|5-9 uart-3: 20\n
+sigrok: no sample numbers|sigrok.awk|-v rate=1000000|1|unknown line: uart-1: 20|uart-1: 20\n
+sigrok: an export that was cut short|sigrok.awk|-v rate=1000000|2|unknown line: 6-9 uart-1: 0|5-9 uart-1: 20\n6-9 uart-1: 0
+sigrok: a wire that goes back|sigrok.awk|-v rate=1000000|3|a time below the one before on this wire: 5-9 uart-1: 01|6-9 uart-1: 20\n5-9 uart-2: 10\n5-9 uart-1: 01\n
+sigrok: a time too great|sigrok.awk|-v rate=1|1|a time of more than fifteen digits: 1000000000-1000000001 uart-1: 20|1000000000-1000000001 uart-1: 20\n
+saleae: an empty export|saleae.awk|-v controller=A -v deck=B|0|no byte in the export|
+saleae: a header alone|saleae.awk|-v controller=A -v deck=B|1|no byte in the export|name,type,start_time,duration,data,error\n
+saleae: no header|saleae.awk|-v controller=A -v deck=B|1|the header has no column 'Time [s]': A,data,1,1,0x20,|A,data,1,1,0x20,\n
+saleae: no column of errors|saleae.awk|-v controller=A -v deck=B|1|the header has no column 'error': name,type,start_time,duration,data|name,type,start_time,duration,data\n
+saleae: no column of framing errors|saleae.awk|-v controller=A -v deck=B|1|the header has no column 'Framing Error': Time [s],Value,Parity Error|Time [s],Value,Parity Error\n
+saleae: no controller|saleae.awk|-v deck=B|1|-v controller=ANALYZER or -v deck=ANALYZER is missing|name,type,start_time,duration,data,error\n
+saleae: no deck|saleae.awk|-v controller=A|1|-v controller=ANALYZER or -v deck=ANALYZER is missing|Time [s],Analyzer Name,Value,Parity Error,Framing Error\n
+saleae: one name for both|saleae.awk|-v controller=A -v deck=A|1|-v controller and -v deck are the same analyzer|name,type,start_time,duration,data,error\n
+saleae: another analyzer|saleae.awk|-v controller=A -v deck=B|2|neither the controller's analyzer nor the deck's: a,data,1,1,0x20,|name,type,start_time,duration,data,error\na,data,1,1,0x20,\n
+saleae: a parity error|saleae.awk|-v controller=A -v deck=B|3|a damaged byte: A,data,2,1,0x01,parity|name,type,start_time,duration,data,error\nA,data,1,1,0x20,\nA,data,2,1,0x01,parity\n
+saleae: an older parity error|saleae.awk|-v controller=A -v deck=B|2|a damaged byte: 1,A,0x20,Error,|Time [s],Analyzer Name,Value,Parity Error,Framing Error\n1,A,0x20,Error,\n
+saleae: an older framing error|saleae.awk|-v controller=A -v deck=B|2|a damaged byte: 1,A,0x20,,Error|Time [s],Analyzer Name,Value,Parity Error,Framing Error\n1,A,0x20,,Error\n
+saleae: a row that is no byte|saleae.awk|-v controller=A -v deck=B|2|a row that is no byte: A,break,1,1,0x20,|name,type,start_time,duration,data,error\nA,break,1,1,0x20,\n
+saleae: a byte that is not hexadecimal|saleae.awk|-v controller=A -v deck=B|2|no byte of the form 0x20: A,data,1,1,32,|name,type,start_time,duration,data,error\nA,data,1,1,32,\n
+saleae: a time of day|saleae.awk|-v controller=A -v deck=B|2|no time in seconds: A,data,2024-01-01T00:00:00Z,1,0x20,|name,type,start_time,duration,data,error\nA,data,2024-01-01T00:00:00Z,1,0x20,\n
+saleae: a time too great|saleae.awk|-v controller=A -v deck=B|2|a time of more than fifteen digits: A,data,1e+9,1,0x20,|name,type,start_time,duration,data,error\nA,data,1e+9,1,0x20,\n
+saleae: an export that was cut short|saleae.awk|-v controller=A -v deck=B|3|not as many fields as the header: A,data,2,1,0x0|name,type,start_time,duration,data,error\nA,data,1,1,0x20,\nA,data,2,1,0x0
+saleae: an empty line|saleae.awk|-v controller=A -v deck=B|3|not as many fields as the header: |name,type,start_time,duration,data,error\nA,data,1,1,0x20,\n\n
+saleae: a wire that goes back|saleae.awk|-v controller=A -v deck=B|4|a time below the one before on this wire: A,data,1,1,0x01,|name,type,start_time,duration,data,error\nA,data,2,1,0x20,\nB,data,1,1,0x10,\nA,data,1,1,0x01,\n
+saleae: the older file of one wire alone|saleae.awk||2|the deck's file is missing|Time [s],Value,Parity Error,Framing Error\n1,0x20,,\n
+saleae: a third older file|saleae.awk||3|a third file begins: Time [s],Value,Parity Error,Framing Error|Time [s],Value,Parity Error,Framing Error\nTime [s],Value,Parity Error,Framing Error\nTime [s],Value,Parity Error,Framing Error\n
+log: no controller|log.awk|-v deck=B|0|-v controller=PORT or -v deck=PORT is missing|1 A 20\n
+log: no deck|log.awk|-v controller=A|0|-v controller=PORT or -v deck=PORT is missing|1 A 20\n
+log: one port for both|log.awk|-v controller=A -v deck=A|0|-v controller and -v deck are the same port|1 A 20\n
+log: an empty log|log.awk|-v controller=A -v deck=B|0|no byte in the export|
+log: a line without a byte|log.awk|-v controller=A -v deck=B|2|unknown line: 2 A|1 A 20\n2 A\n
+log: an empty line|log.awk|-v controller=A -v deck=B|2|unknown line: |1 A 20\n\n
+log: a decimal comma|log.awk|-v controller=A -v deck=B|1|no time in seconds: 1,5 A 20|1,5 A 20\n
+log: another port|log.awk|-v controller=A -v deck=B|2|neither the controller's port nor the deck's: 2 C 20|1 A 20\n2 C 20\n
+log: a byte that is marked|log.awk|-v controller=A -v deck=B|2|no byte of two hexadecimal digits: 2 A 01 21! 20|1 A 20\n2 A 01 21! 20\n
+log: a line that begins before the last one's end|log.awk|-v controller=A -v deck=B|2|a time below the one before on this wire: 1.000573 A 21|1 A 20 01 00\n1.000573 A 21\n
+log: seconds since 1970|log.awk|-v controller=A -v deck=B|1|a time of more than fifteen digits: 1700000000.5 A 20|1700000000.5 A 20\n
+END
+}
+
+# A full device. Under its option --posix gawk does not tell what became of a pipe, so it runs without.
+full_device() {
+    ${awk% --posix} -v rate=2000000 -f convert/sigrok.awk < examples/exports/sigrok.txt > /dev/full 2> "$work/err"
+    status=$?
+    judge "$awk: a full device" [ "$status" = 1 ]
+    judge "$awk: the message of a full device" grep -q "^sigrok.awk: line 17: the capture can't be written$" "$work/err"
+}
+
+for awk in awk mawk 'gawk --posix' 'busybox awk'; do
+    if ! $awk 'BEGIN { exit 0 }' < /dev/null > /dev/null 2>&1; then
+        echo "not there, and not tried: $awk"
+        continue
+    fi
+    stored_exports
+    good_exports
+    bad_exports
+    full_device
+done
+
+# The commands of docs/CAPTURE.md that are to be copied: those on the stored exports, and the one that takes off
+# what comes before the first whole exchange.
+commands=0
+while read -r command; do
+    export=${command##*examples/exports/}
+    export=${export%% *}
+    (cd "$work" && ln -sf "$OLDPWD/convert" "$OLDPWD/examples" . && sh -c "$command" 2> err)
+    judge "the page's command on $export" cmp "$work/capture.csv" "examples/exports/${export%.*}-capture.csv"
+    commands=$((commands + 1))
+done < <(sed -n 's/^    \(awk .*examples\/exports.*\)/\1/p' docs/CAPTURE.md)
+judge "the page's commands: $commands" [ "$commands" = 5 ]
+printf 'time_us,wire,byte\n1,C,21\n2,D,10\n3,D,01\n4,D,11\n5,C,20\n6,C,01\n7,D,10\n8,C,20\n' > "$work/capture.csv"
+printf 'time_us,wire,byte\n5,C,20\n6,C,01\n7,D,10\n8,C,20\n' > "$work/want"
+(cd "$work" && sh -c "$(sed -n 's/^    \(awk -F, .*\)/\1/p' "$OLDPWD/docs/CAPTURE.md")")
+judge "the page's command for the beginning" cmp "$work/begun.csv" "$work/want"
+
+# What the converters have in common is the same in each.
+for converter in convert/*.awk; do
+    sed -n '/^# From here on every converter is the same/,$p' "$converter" > "$work/$(basename "$converter")"
+done
+judge 'the same end of log.awk' cmp "$work/sigrok.awk" "$work/log.awk"
+judge 'the same end of saleae.awk' cmp "$work/sigrok.awk" "$work/saleae.awk"
+
+echo "$passed passed, $failed failed"
+[ "$failed" = 0 ]
