@@ -64,14 +64,14 @@ shown_factors mask d p = record {
 }
 
 -- a state agrees with the modes and with datum 3
-record AgreesWith (mask : ModeSet) (d : Option ℕ) (s : State) : Type 0 where
+record FitsStatus (mask : ModeSet) (d : Option ℕ) (s : State) : Type 0 where
   shown : has mask.0 s.shown ≡ true
   ins : Says 0x01 (is_set s.ins) d
   outs : Says 0x02 (is_set s.outs) d
   ains : Says 0x04 (is_set s.ains) d
   aouts : Says 0x08 (is_set s.aouts) d
 
-shown_from : (mask : ModeSet) (d : Option ℕ) (p : PartStates) (t : State) → InPart (shown_part mask d p) t → InPart p t × AgreesWith mask d t
+shown_from : (mask : ModeSet) (d : Option ℕ) (p : PartStates) (t : State) → InPart (shown_part mask d p) t → InPart p t × FitsStatus mask d t
 shown_from mask d p t i =
     let there = settled_from (shown_factors mask d p) t i in
     let pair = and_parts (has_pair p.pairs t.goal t.shown) (has mask.0 t.shown) (sym (masked_has mask p.pairs t.goal t.shown) ∙ there.pair) in
@@ -83,7 +83,7 @@ shown_from mask d p t i =
       record { shown = pair.1; ins = a.1; outs = b.1; ains = c.1; aouts = e.1 },
     )
 
-shown_to : (mask : ModeSet) (d : Option ℕ) (p : PartStates) (t : State) → InPart p t → AgreesWith mask d t → InPart (shown_part mask d p) t
+shown_to : (mask : ModeSet) (d : Option ℕ) (p : PartStates) (t : State) → InPart p t → FitsStatus mask d t → InPart (shown_part mask d p) t
 shown_to mask d p t i h =
     settled_to (shown_factors mask d p) t (record {
       pair = masked_has mask p.pairs t.goal t.shown ∙ and_from (has_pair p.pairs t.goal t.shown) (has mask.0 t.shown) i.pair h.shown;
@@ -101,7 +101,7 @@ status_reached asked reply agrees mask l pn p there back modes =
       from = λ t el ep i. from agrees refl t el ep i;
       to = λ s t el ep i goes.
           let status = goes.0 in
-          let agreed : AgreesWith mask d s = record { shown = modes s.shown ∙ status.shown; ins = status.ins; outs = status.outs; ains = status.ains; aouts = status.aouts } in
+          let agreed : FitsStatus mask d s = record { shown = modes s.shown ∙ status.shown; ins = status.ins; outs = status.outs; ains = status.ains; aouts = status.aouts } in
           subst (λ (b : Bool). InPart (if b then shown_part mask d p else no_states) t) (sym (back (subst (λ b. Says 0x01 b (datum asked reply 0)) el status.local)))
           (subst (λ u. InPart (shown_part mask d p) u) (sym goes.1) (shown_to mask d p s i agreed));
     }

@@ -19,12 +19,12 @@ use Rattle.track9.specs.declared.state.Hands.TheVariants as hands
 use Rattle.track9.specs.declared.state.Register.{Register}
 use Rattle.track9.specs.declared.state.Register.TheVariants.{RegIn, RegOut, RegAudioIn, RegAudioOut}
 use Rattle.track9.specs.declared.state.State.{State}
-use Rattle.track9.specs.declared.states.Agrees.{Agrees}
+use Rattle.track9.specs.declared.states.LocalFits.{LocalFits}
 use Rattle.track9.specs.Drift.{Drift}
 use Rattle.track9.specs.Effect.{Does, effect_of}
 use Rattle.track9.specs.ModeSet.{has}
 use Rattle.track9.specs.Presets.{presets_after, with_command}
-use Rattle.track9.specs.Shows.{Agrees as AgreesWith, Says, datum, may_show, sense_of}
+use Rattle.track9.specs.Shows.{Agrees, Says, datum, may_show, sense_of}
 use Rattle.track9.specs.Step.{AreReached, Step, done, ignored, refused}
 use Rattle.track9.specs.Tracker.{PartStates, Possible, StateSet, entries_of, part_of}
 use Rattle.track9.specs.Working.Entries.{agreeing}
@@ -83,14 +83,14 @@ presets_of : (c : Command) (reply : Block) (n : Presets) → is_nak reply ≡ fa
 presets_of c reply n e = ap (λ (b : Bool). if not b && true then with_command c n else n) e ∙ command_counts c n
 
 -- a step of a command that asks for something is what its reply shows
-asks_there : (h : Hands) (c : Command) (reply : Block) (q : Sense) (s t : State) → is_nak reply ≡ false → sense_of c ≡ q → effect_of c ≡ effect.Nothing → AgreesWith q s reply × (t ≡ s) → Step h c reply s t
+asks_there : (h : Hands) (c : Command) (reply : Block) (q : Sense) (s t : State) → is_nak reply ≡ false → sense_of c ≡ q → effect_of c ≡ effect.Nothing → Agrees q s reply × (t ≡ s) → Step h c reply s t
 asks_there h c reply q s t nak asks none w =
-    done nak (subst (λ q. AgreesWith q s reply) (sym asks) w.0) (subst (λ e. Does h e s t) (sym none) w.1)
+    done nak (subst (λ q. Agrees q s reply) (sym asks) w.0) (subst (λ e. Does h e s t) (sym none) w.1)
 
-asks_back : (h : Hands) (c : Command) (reply : Block) (q : Sense) (s t : State) → is_nak reply ≡ false → sense_of c ≡ q → effect_of c ≡ effect.Nothing → Step h c reply s t → AgreesWith q s reply × (t ≡ s)
+asks_back : (h : Hands) (c : Command) (reply : Block) (q : Sense) (s t : State) → is_nak reply ≡ false → sense_of c ≡ q → effect_of c ≡ effect.Nothing → Step h c reply s t → Agrees q s reply × (t ≡ s)
 asks_back h c reply q s t nak asks none (refused was e) = absurd (false≢true (sym nak ∙ was))
-asks_back h c reply q s t nak asks none (done was shows does) = (subst (λ q. AgreesWith q s reply) asks shows, subst (λ e. Does h e s t) none does)
-asks_back h c reply q s t nak asks none (ignored was shows may local e) = (subst (λ q. AgreesWith q s reply) asks shows, e)
+asks_back h c reply q s t nak asks none (done was shows does) = (subst (λ q. Agrees q s reply) asks shows, subst (λ e. Does h e s t) none does)
+asks_back h c reply q s t nak asks none (ignored was shows may local e) = (subst (λ q. Agrees q s reply) asks shows, e)
 
 sensed_is : (r : Register) (time : Option ℕ) (p : PartStates) → sensed_aside r time p ≡ (if is_live p then sensed_part r time p else p)
 sensed_is r time p = by (is_live p)
@@ -168,7 +168,7 @@ few_status : (n : Presets) (b : Bool) (mask : ModeSet) (d : Option ℕ) (p : Par
 few_status n true mask d p h = few_shown n mask d p h
 few_status n false mask d p h = few_no_states n
 
-pub reads_status : (asked : ℕ) (reply : Block) (a : Agrees) (mask : ModeSet) (v w : StateSet) → a.remote ≡ agrees_local false (datum asked reply 0) → a.local ≡ agrees_local true (datum asked reply 0)
+pub reads_status : (asked : ℕ) (reply : Block) (a : LocalFits) (mask : ModeSet) (v w : StateSet) → a.remote ≡ agrees_local false (datum asked reply 0) → a.local ≡ agrees_local true (datum asked reply 0)
     → (d1 d2 d : Option ℕ) → d1 ≡ datum asked reply 1 → d2 ≡ datum asked reply 2 → ((m : Mode) → has mask.0 m ≡ may_show d1 d2 m)
     → d ≡ datum asked reply 3 → w ≡ after_status a mask d v → AreWhole v → ReadsStatus asked reply v w
 reads_status asked reply a mask v w remote local d1 d2 d first second modes third new whole =
@@ -207,8 +207,8 @@ step_status h c reply asked v w nak asks read =
 -- ---- effects
 
 does_there : (h : Hands) (c : Command) (reply : Block) (s t : State) → is_nak reply ≡ false → sense_of c ≡ sense.Nothing → DoesOrNot h (effect_of c) s t → Step h c reply s t
-does_there h c reply s t nak asks (inl does) = done nak (subst (λ q. AgreesWith q s reply) (sym asks) tt) does
-does_there h c reply s t nak asks (inr (may, local, e)) = ignored nak (subst (λ q. AgreesWith q s reply) (sym asks) tt) may local e
+does_there h c reply s t nak asks (inl does) = done nak (subst (λ q. Agrees q s reply) (sym asks) tt) does
+does_there h c reply s t nak asks (inr (may, local, e)) = ignored nak (subst (λ q. Agrees q s reply) (sym asks) tt) may local e
 
 does_back : (h : Hands) (c : Command) (reply : Block) (s t : State) → is_nak reply ≡ false → Step h c reply s t → DoesOrNot h (effect_of c) s t
 does_back h c reply s t nak (refused was e) = absurd (false≢true (sym nak ∙ was))

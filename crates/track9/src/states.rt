@@ -46,7 +46,7 @@ impl<S: TimeSet> Model for States<S> {
 
 /// Whether a reply's bit LOCAL agrees with a deck in remote, and with one in local.
 #[derive(Clone, Copy, Debug, PartialEq, Eq)]
-pub(crate) struct Agrees {
+pub(crate) struct LocalFits {
     pub(crate) remote: bool,
     pub(crate) local: bool,
 }
@@ -197,7 +197,7 @@ impl<S: TimeSet> States<S> {
     pub(crate) fn keep_status(
         &mut self,
         alloc: Global,
-        agrees: Agrees,
+        agrees: LocalFits,
         shown: ModeSet,
         datum: Option<u8>,
     )

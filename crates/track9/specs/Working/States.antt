@@ -15,7 +15,7 @@ use Rattle.track9.specs.declared.state.Hands.TheVariants as hands
 use Rattle.track9.specs.declared.presets.Presets.{Presets}
 use Rattle.track9.specs.declared.state.Register.{Register}
 use Rattle.track9.specs.declared.state.State.{State}
-use Rattle.track9.specs.declared.states.Agrees.{Agrees}
+use Rattle.track9.specs.declared.states.LocalFits.{LocalFits}
 use Rattle.track9.specs.Effect.{Does, may_ignore}
 use Rattle.track9.specs.Presets.{count_of, presets_after, with_one}
 use Rattle.track9.specs.Shows.{ShowsStatus}
@@ -117,7 +117,7 @@ abbrev pub after_sense : Register → Option ℕ → StateSet → StateSet
 after_sense r time v = map_parts (λ local. sensed_aside r time) v
 
 -- status data agree with some states
-abbrev pub after_status : Agrees → ModeSet → Option ℕ → StateSet → StateSet
+abbrev pub after_status : LocalFits → ModeSet → Option ℕ → StateSet → StateSet
 after_status agrees mask datum v =
     map_parts (λ local. where_live (status_part (if local then agrees.local else agrees.remote) mask datum)) v
 

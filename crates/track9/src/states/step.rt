@@ -9,7 +9,7 @@ use crate::mode::Mode;
 use crate::reply::is_nak;
 use crate::sense::Sense;
 use crate::state::Hands;
-use crate::states::{Agrees, States};
+use crate::states::{LocalFits, States};
 use crate::status::{datum, modes_shown};
 use block9::{Block, Command};
 use std::alloc::{AllocError, Global};
@@ -81,7 +81,7 @@ impl<S: TimeSet> States<S> {
         ensures { ReadsStatus asked reply.now self.old self.new }
     {
         let said = datum(asked, reply, 0);
-        let agrees = Agrees {
+        let agrees = LocalFits {
             remote: agrees_local(false, said),
             local: agrees_local(true, said),
         };
