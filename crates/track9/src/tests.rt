@@ -1,38 +1,16 @@
 //! Exchanges that a tracker takes, and what it answers to them, with values from the protocol's rules, by hand.
-mod agreed;
 mod counted;
-mod drawn;
-mod plain_deck;
 mod possible;
 mod refused;
 mod rows;
 mod sent;
-mod side_by_side;
-mod slow;
 
-use crate::{Hands, Knowledge, Known, KnownEntry, Tracker};
+use crate::{Hands, Knowledge, Tracker};
 use block9::{Block, Command, reply_time_valid};
 use sent::Sent;
 use std::alloc::AllocError;
 use std::process::Abort;
-use tc25::{TimeCode, TimeSet};
-
-/// Nothing is known, but that the panel is off.
-const UNKNOWN: Knowledge = Knowledge {
-    goal: Known::Unknown,
-    shown: Known::Unknown,
-    ins: KnownEntry::Unknown,
-    outs: KnownEntry::Unknown,
-    ains: KnownEntry::Unknown,
-    aouts: KnownEntry::Unknown,
-    local: Known::Unknown,
-    panel: Known::Is(false),
-};
-
-/// The time at that hour.
-fn hour(hours: u32) -> TimeCode {
-    TimeCode::from_frames(hours.wrapping_mul(90_000)).unwrap_or_default()
-}
+use tc25::TimeSet;
 
 /// The command and the reply that these bytes spell.
 fn exchange(rt: &impl Abort, sent: Sent) -> (Command, Block) {

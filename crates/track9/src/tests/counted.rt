@@ -3,16 +3,17 @@
 use super::sent::*;
 use super::*;
 use crate::Register;
+use std::alloc::Global;
 use std::test::Fail;
 use tc25::SpanSet;
 
 /// Exchanges, and then the spans and the presets of IN, and those of audio IN.
-type Row = (&'static [Sent], usize, u32, usize, u32);
+pub(super) type Row = (&'static [Sent], usize, u32, usize, u32);
 
 /// IN DATA PRESET 12:00:00:00.
 const PRESET_12: Sent = (IN_PRESET_12, ACK);
 
-const ROWS: &[Row] = &[
+pub(super) const ROWS: &[Row] = &[
     (&[], 1, 0, 1, 0),
     (
         &[
@@ -61,37 +62,68 @@ const ROWS: &[Row] = &[
     (&[REMOTE, PRESET_10, UNLISTED_2], 1, 1, 1, 0),
 ];
 
-#[test]
-fn rows(rt: HostRuntime) -> Result<(), Fail> {
-    for (exchanges, in_spans, in_presets, audio_spans, audio_presets) in ROWS {
-        let mut tracker: Tracker<SpanSet> = Tracker::new(rt.alloc(), Hands::None)?;
-        take_all(&rt, &mut tracker, exchanges)?;
-        for (register, spans, presets) in [
-            (Register::RegIn, *in_spans, *in_presets),
-            (Register::RegAudioIn, *audio_spans, *audio_presets),
-        ] {
-            assert_eq!(rt;
-                tracker.spans(register),
-                spans,
-                "{register:?} {exchanges:?}"
-            );
-            assert_eq!(rt;
-                tracker.presets(register),
-                presets,
-                "{register:?} {exchanges:?}"
-            );
-        }
+/// Takes exchanges that leave a state, and then asks each of these registers for its spans and its presets.
+fn count(
+    rt: &impl Abort,
+    tracker: &mut Tracker<SpanSet>,
+    exchanges: &[Sent],
+    counts: &[(Register, usize, u32)],
+) -> Result<(), AllocError> {
+    take_all(rt, tracker, exchanges)?;
+    for (register, spans, presets) in counts {
+        assert_eq!(rt;
+            tracker.spans(*register),
+            *spans,
+            "{register:?} {exchanges:?}"
+        );
+        assert_eq!(rt;
+            tracker.presets(*register),
+            *presets,
+            "{register:?} {exchanges:?}"
+        );
     }
     Ok(())
 }
 
+fn count_from_first(
+    rt: &impl Abort,
+    alloc: Global,
+    exchanges: &[Sent],
+    counts: &[(Register, usize, u32)],
+) -> Result<(), AllocError> {
+    let mut tracker: Tracker<SpanSet> = Tracker::new(alloc, Hands::None)?;
+    count(rt, &mut tracker, exchanges, counts)
+}
+
+#[test]
+fn rows(rt: HostRuntime) -> Result<(), Fail> {
+    for (exchanges, in_spans, in_presets, audio_spans, audio_presets) in ROWS {
+        let counts = [
+            (Register::RegIn, *in_spans, *in_presets),
+            (Register::RegAudioIn, *audio_spans, *audio_presets),
+        ];
+        count_from_first(&rt, rt.alloc(), exchanges, &counts)?;
+    }
+    Ok(())
+}
+
+/// A preset that leaves no state does not count.
+fn count_none(rt: &impl Abort, tracker: &mut Tracker<SpanSet>) -> Result<(), AllocError> {
+    take_all(rt, tracker, &[REMOTE, PRESET_10])?;
+    assert!(rt; !take(rt, tracker, LOCAL)?);
+    assert!(rt; !take(rt, tracker, PRESET_12)?);
+    assert_eq!(rt; tracker.presets(Register::RegIn), 1);
+    Ok(())
+}
+
+fn count_none_from_first(rt: &impl Abort, alloc: Global) -> Result<(), AllocError> {
+    let mut tracker: Tracker<SpanSet> = Tracker::new(alloc, Hands::None)?;
+    count_none(rt, &mut tracker)
+}
+
 #[test]
 fn a_preset_that_leaves_no_state(rt: HostRuntime) -> Result<(), Fail> {
-    let mut tracker: Tracker<SpanSet> = Tracker::new(rt.alloc(), Hands::None)?;
-    take_all(&rt, &mut tracker, &[REMOTE, PRESET_10])?;
-    assert!(rt; !take(&rt, &mut tracker, LOCAL)?);
-    assert!(rt; !take(&rt, &mut tracker, PRESET_12)?);
-    assert_eq!(rt; tracker.presets(Register::RegIn), 1);
+    count_none_from_first(&rt, rt.alloc())?;
     Ok(())
 }
 
@@ -111,13 +143,12 @@ fn each_register(rt: HostRuntime) -> Result<(), Fail> {
         Register::RegAudioOut,
     ];
     for (place, preset) in presets.iter().enumerate() {
-        let mut tracker: Tracker<SpanSet> = Tracker::new(rt.alloc(), Hands::None)?;
-        take_all(&rt, &mut tracker, &[REMOTE, (*preset, ACK)])?;
-        for (other, register) in registers.iter().enumerate() {
-            let presets = u32::from(place == other);
-            assert_eq!(rt; tracker.presets(*register), presets, "{place} {register:?}");
-            assert_eq!(rt; tracker.spans(*register), 1, "{place} {register:?}");
+        let mut counts = registers.map(|register| (register, 1, 0));
+        if let Some(counted) = counts.get_mut(place) {
+            counted.2 = 1;
         }
+        let exchanges = [REMOTE, (*preset, ACK)];
+        count_from_first(&rt, rt.alloc(), &exchanges, &counts)?;
     }
     Ok(())
 }

@@ -20,42 +20,50 @@ const LATER: &[Sent] = &[
 /// Takes exchanges, whether or not a state remains after the last.
 fn judge<S: TimeSet>(
     rt: &impl Abort,
+    tracker: &mut Tracker<S>,
+    exchanges: &[Sent],
+    remains: bool,
+) -> Result<(), AllocError> {
+    assert!(rt; tracker.remains());
+    let (last, before) = exchanges.split_last().expect(rt, "an exchange");
+    take_all(rt, tracker, before)?;
+    assert_eq!(rt; take(rt, tracker, *last)?, remains, "{exchanges:?}");
+    assert_eq!(rt; tracker.remains(), remains, "{exchanges:?}");
+    if !remains {
+        stay_without(rt, tracker)?;
+    }
+    Ok(())
+}
+
+/// Takes exchanges that can't bring back a state.
+fn stay_without<S: TimeSet>(rt: &impl Abort, tracker: &mut Tracker<S>) -> Result<(), AllocError> {
+    for sent in LATER {
+        assert!(rt; !take(rt, tracker, *sent)?, "{sent:?}");
+        assert!(rt; !tracker.remains(), "{sent:?}");
+    }
+    Ok(())
+}
+
+fn judge_from_first<S: TimeSet>(
+    rt: &impl Abort,
     alloc: Global,
     hands: Hands,
     exchanges: &[Sent],
     remains: bool,
 ) -> Result<(), AllocError> {
     let mut tracker: Tracker<S> = Tracker::new(alloc, hands)?;
-    assert!(rt; tracker.remains());
-    let (last, before) = exchanges.split_last().expect(rt, "an exchange");
-    take_all(rt, &mut tracker, before)?;
-    assert_eq!(rt;
-        take(rt, &mut tracker, *last)?,
-        remains,
-        "{hands:?} {exchanges:?}"
-    );
-    assert_eq!(rt; tracker.remains(), remains, "{hands:?} {exchanges:?}");
-    if !remains {
-        for sent in LATER {
-            assert!(rt;
-                !take(rt, &mut tracker, *sent)?,
-                "{sent:?} after {exchanges:?}"
-            );
-            assert!(rt; !tracker.remains(), "{sent:?} after {exchanges:?}");
-        }
-    }
-    Ok(())
+    judge(rt, &mut tracker, exchanges, remains)
 }
 
 fn judge_all<S: TimeSet>(rt: &impl Abort, alloc: Global) -> Result<(), AllocError> {
     for rows in [REGISTERS, SHIFTS, TRANSPORT, FORGOTTEN, AUDIO] {
         for (exchanges, remains) in rows {
-            judge::<S>(rt, alloc, Hands::None, exchanges, *remains)?;
+            judge_from_first::<S>(rt, alloc, Hands::None, exchanges, *remains)?;
         }
     }
     for (exchanges, untouched, touched) in HANDS {
-        judge::<S>(rt, alloc, Hands::None, exchanges, *untouched)?;
-        judge::<S>(rt, alloc, Hands::Allowed, exchanges, *touched)?;
+        judge_from_first::<S>(rt, alloc, Hands::None, exchanges, *untouched)?;
+        judge_from_first::<S>(rt, alloc, Hands::Allowed, exchanges, *touched)?;
     }
     Ok(())
 }

@@ -2,6 +2,7 @@
 //!
 //! Where none is refused they only show the answers that the other tests show.
 
+use super::counted::ROWS;
 use super::rows::{AUDIO, FORGOTTEN, HANDS, REGISTERS, SHIFTS, TRANSPORT};
 use super::sent::Sent;
 use super::{exchange, known, observe};
@@ -72,7 +73,22 @@ fn tracker<S: Counted>(alloc: Global, hands: Hands) -> Result<Tracker<S>, AllocE
     }
 }
 
+/// Takes exchanges, whether or not a state remains after the last.
 fn judge<S: Counted>(
+    rt: &impl Abort,
+    tracker: &mut Tracker<S>,
+    exchanges: &[Sent],
+    remains: bool,
+) -> Result<(), AllocError> {
+    let (last, before) = exchanges.split_last().expect(rt, "an exchange");
+    for sent in before {
+        assert!(rt; take(rt, tracker, *sent)?, "{exchanges:?}");
+    }
+    assert_eq!(rt; take(rt, tracker, *last)?, remains, "{exchanges:?}");
+    Ok(())
+}
+
+fn judge_from_first<S: Counted>(
     rt: &impl Abort,
     alloc: Global,
     hands: Hands,
@@ -80,27 +96,18 @@ fn judge<S: Counted>(
     remains: bool,
 ) -> Result<(), AllocError> {
     let mut tracker: Tracker<S> = tracker(alloc, hands)?;
-    let (last, before) = exchanges.split_last().expect(rt, "an exchange");
-    for sent in before {
-        assert!(rt; take(rt, &mut tracker, *sent)?, "{hands:?} {exchanges:?}");
-    }
-    assert_eq!(rt;
-        take(rt, &mut tracker, *last)?,
-        remains,
-        "{hands:?} {exchanges:?}"
-    );
-    Ok(())
+    judge(rt, &mut tracker, exchanges, remains)
 }
 
 fn judge_all<S: Counted>(rt: &impl Abort, alloc: Global) -> Result<(), AllocError> {
     for rows in [REGISTERS, SHIFTS, TRANSPORT, FORGOTTEN, AUDIO] {
         for (exchanges, remains) in rows {
-            judge::<S>(rt, alloc, Hands::None, exchanges, *remains)?;
+            judge_from_first::<S>(rt, alloc, Hands::None, exchanges, *remains)?;
         }
     }
     for (exchanges, untouched, touched) in HANDS {
-        judge::<S>(rt, alloc, Hands::None, exchanges, *untouched)?;
-        judge::<S>(rt, alloc, Hands::Allowed, exchanges, *touched)?;
+        judge_from_first::<S>(rt, alloc, Hands::None, exchanges, *untouched)?;
+        judge_from_first::<S>(rt, alloc, Hands::Allowed, exchanges, *touched)?;
     }
     Ok(())
 }
@@ -114,5 +121,24 @@ fn lists(rt: HostRuntime) -> Result<(), Fail> {
 #[test]
 fn spans(rt: HostRuntime) -> Result<(), Fail> {
     judge_all::<SpanSet>(&rt, rt.alloc())?;
+    Ok(())
+}
+
+/// Takes exchanges, and counts what they left.
+fn count_after(rt: &impl Abort, alloc: Global, exchanges: &[Sent]) -> Result<Counts, AllocError> {
+    let mut tracker: Tracker<SpanSet> = tracker(alloc, Hands::None)?;
+    if !exchanges.is_empty() {
+        judge(rt, &mut tracker, exchanges, true)?;
+    }
+    Ok(SpanSet::counts(&tracker))
+}
+
+#[test]
+fn counts(rt: HostRuntime) -> Result<(), Fail> {
+    for (exchanges, in_spans, in_presets, audio_spans, audio_presets) in ROWS {
+        let [ins, _, ains, _] = count_after(&rt, rt.alloc(), exchanges)?;
+        assert_eq!(rt; ins, (*in_spans, *in_presets), "{exchanges:?}");
+        assert_eq!(rt; ains, (*audio_spans, *audio_presets), "{exchanges:?}");
+    }
     Ok(())
 }

@@ -29,7 +29,6 @@ pub(super) const STOOD_BY: Sent = (&[0x20, 0x05, 0x25], ACK);
 
 pub(super) const EJECTED: Sent = (&[0x20, 0x0F, 0x2F], ACK);
 
-pub(super) const FAST_FORWARDED: Sent = (&[0x20, 0x10, 0x30], ACK);
 /// CUE UP WITH DATA 01:02:03:04.
 pub(super) const CUED_UP: Sent = (&[0x24, 0x31, 0x04, 0x03, 0x02, 0x01, 0x5F], ACK);
 
