@@ -117,9 +117,9 @@ impl<S: TimeSet> Tracker<S> {
 
 impl Tracker<SpanSet> {
     /// The greatest number of spans of the times at which a register may be Set, over the four values of local and
-    /// of the panel: at most two more than `presets`. Takes no memory.
+    /// of the panel: at most two more than `presets`, and 0 where no state remains. Takes no memory.
     pub fn spans(&self, register: Register) -> usize
-        ensures exact { (s : AState) → Possible self.now.states s → IsSpanCount (Possible self.now.states) register result }
+        ensures exact { IsSpanCount (Possible self.now.states) register result }
         ensures few { result ≤ count_of register self.now.presets + 2 }
     {
         self.states.spans(register)

@@ -5,7 +5,7 @@ use Rattle.track9.proofs.TrackerLemmas.{span_count_is, spans_few}
 use Rattle.track9.proofs.tracker.Tracker+SpanSet.spans.Goals as goal
 
 pub returns-clause-exact : goal.returns-clause-exact
-returns-clause-exact c = λ s i.
+returns-clause-exact c =
     let P : Tracked → Type 0 = λ t. IsSpanCount (Possible t.states) c.args.register c.spans.result in
     subst P c.self.view_is (span_count_is c.self.inside.states c.args.register c.spans.result c.self.invariant.whole c.spans.ensures)
 
