@@ -110,7 +110,7 @@ two_modes s m there not_one =
 
 -- ---- all goals, all shown modes
 
-goal_from : (p : Pairs) (g : Mode) → has (goals_of p).0 g ≡ true → (m : Mode) × (has_pair p g m ≡ true)
+pub goal_from : (p : Pairs) (g : Mode) → has (goals_of p).0 g ≡ true → (m : Mode) × (has_pair p g m ≡ true)
 goal_from p g h =
     let w = goes_from (by_goal (goal_if_shown p)) g h in
     by (is_some (shown_with p w.0)) w.0 refl (subst (λ (x : ModeSet). has x.0 g ≡ true) (shown_by_goal (goal_if_shown p) w.0) w.1)
@@ -121,7 +121,7 @@ goal_from p g h =
         (w.0, subst (λ k. has_pair p k w.0 ≡ true) (sym (just_mode f g there)) w.1)
     by false f e there = absurd (false≢true (sym (nothing_has g) ∙ there))
 
-goal_to : (p : Pairs) (g m : Mode) → has_pair p g m ≡ true → has (goals_of p).0 g ≡ true
+pub goal_to : (p : Pairs) (g m : Mode) → has_pair p g m ≡ true → has (goals_of p).0 g ≡ true
 goal_to p g m h =
     goes_to (by_goal (goal_if_shown p)) g g
     (subst (λ (x : ModeSet). has x.0 g ≡ true) (sym (shown_by_goal (goal_if_shown p) g))

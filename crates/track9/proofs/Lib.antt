@@ -7,6 +7,7 @@ pub mod ForgetLemmas
 pub mod GoalLemmas
 pub mod KnownEntries
 pub mod KnownModes
+pub mod MemberLemmas
 pub mod ModeLemmas
 pub mod OneKnowledge
 pub mod PairLemmas

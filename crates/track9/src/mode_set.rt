@@ -150,7 +150,7 @@ impl ModeSet {
     }
 
     /// The first mode of the set, in the order of the modes. It has one.
-    fn first(self) -> Mode
+    pub(crate) fn first(self) -> Mode
         requires { is_some self ≡ true }
         ensures { has self.0 result ≡ true }
     {

@@ -74,6 +74,19 @@ impl<S: TimeSet> Part<S> {
         })
     }
 
+    /// An equal part.
+    pub(crate) fn copy(&self) -> Result<Part<S>, AllocError>
+        ensures { IfOk result (λ p. p ≡ self.now) }
+    {
+        Ok(Part {
+            pairs: self.pairs,
+            ins: self.ins.copy()?,
+            outs: self.outs.copy()?,
+            ains: self.ains.copy()?,
+            aouts: self.aouts.copy()?,
+        })
+    }
+
     /// Its times are times of the day. Does nothing.
     pub(crate) fn below_day(&self)
         ensures { (r : ARegister) → BelowDay (entries_of r self.now).times }

@@ -7,6 +7,7 @@ ghost use Rattle.track9.specs.Working.Entries.{agreeing, all_entries, changed, n
 
 use crate::effect::Change;
 use crate::knowledge::KnownEntry;
+use crate::state::Entry;
 use std::alloc::{AllocError, Global};
 use std::marker::Model;
 use tc25::{SpanSet, TimeCode, TimeSet};
@@ -54,6 +55,16 @@ impl<S: TimeSet> RegisterSet<S> {
         })
     }
 
+    /// An equal set.
+    pub(crate) fn copy(&self) -> Result<RegisterSet<S>, AllocError>
+        ensures { IfOk result (λ r. r ≡ self.now) }
+    {
+        Ok(RegisterSet {
+            may_clear: self.may_clear,
+            times: self.times.copy()?,
+        })
+    }
+
     /// Its times are times of the day. Does nothing.
     pub(crate) fn below_day(&self)
         ensures { BelowDay self.now.times }
@@ -66,6 +77,17 @@ impl<S: TimeSet> RegisterSet<S> {
         ensures { result ≡ some_entry self.now }
     {
         self.may_clear || !self.times.is_empty()
+    }
+
+    /// Some entry, of which there is one: the earliest time, or else Clear.
+    pub(crate) fn first(&self) -> Entry
+        requires { some_entry self.now ≡ true }
+        ensures { Allows self.now result }
+    {
+        match self.times.least() {
+            Some(time) => Entry::At(time),
+            None => Entry::Clear,
+        }
     }
 
     /// What all entries agree on, of which there is one.
@@ -153,10 +175,7 @@ impl<S: TimeSet> RegisterSet<S> {
     ) -> Result<RegisterSet<S>, AllocError>
         ensures { IfOk result (λ r. r ≡ widened change.now self.now) }
     {
-        let mut copy = RegisterSet {
-            may_clear: self.may_clear,
-            times: self.times.copy()?,
-        };
+        let mut copy = self.copy()?;
         copy.widen(alloc, change)?;
         Ok(copy)
     }

@@ -22,6 +22,7 @@ use std::mem;
 use tc25::{SpanSet, TimeCode, TimeSet};
 
 mod knowing;
+mod member;
 mod step;
 
 /// The states in which the deck may be.
@@ -70,6 +71,18 @@ impl<S: TimeSet> States<S> {
             local: Part::all(alloc)?,
             remote_panel: all_or_none(alloc, is_allowed)?,
             local_panel: all_or_none(alloc, is_allowed)?,
+        })
+    }
+
+    /// An equal set.
+    pub(crate) fn copy(&self) -> Result<States<S>, AllocError>
+        ensures { IfOk result (λ v. v ≡ self.now) }
+    {
+        Ok(States {
+            remote: self.remote.copy()?,
+            local: self.local.copy()?,
+            remote_panel: self.remote_panel.copy()?,
+            local_panel: self.local_panel.copy()?,
         })
     }
 

@@ -1,9 +1,16 @@
 //! Exchanges that a tracker takes, and what it answers to them, with values from the protocol's rules, by hand.
+mod agreed;
+mod all_states;
+mod copied;
 mod counted;
+mod drawn;
+mod member;
+mod plain_deck;
 mod possible;
 mod refused;
 mod rows;
 mod sent;
+mod side_by_side;
 
 use crate::{Hands, Knowledge, Tracker};
 use block9::{Block, Command, reply_time_valid};

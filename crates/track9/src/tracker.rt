@@ -1,5 +1,5 @@
 //! The states that the deck could be in, exchange by exchange.
-ghost use Rattle.std.specs.Prelude.{◌≡◌, ◌↔◌, ◌≤◌, ◌+◌, IfErr, IfOk, IsOk, IsTrue, false};
+ghost use Rattle.std.specs.Prelude.{◌≡◌, ◌↔◌, ◌≤◌, ◌+◌, IfErr, IfNone, IfOk, IfSome, IsOk, IsTrue, false};
 ghost use Rattle.track9.specs.Frugal.{is_frugal};
 ghost use Rattle.track9.specs.Knowledge.{IsKnowledge};
 ghost use Rattle.track9.specs.Presets.{IsSpanCount, count_of, presets_after};
@@ -11,7 +11,7 @@ ghost use Rattle.track9.specs.declared.state.State.{State as AState};
 
 use crate::knowledge::Knowledge;
 use crate::presets::Presets;
-use crate::state::{Hands, Register};
+use crate::state::{Hands, Register, State};
 use crate::states::States;
 use block9::{Block, Command};
 use std::alloc::{AllocError, Global};
@@ -95,6 +95,29 @@ impl<S: TimeSet> Tracker<S> {
         ensures { IsTrue result ↔ ((s : AState) × Possible self.now.states s) }
     {
         self.states.is_some()
+    }
+
+    /// An equal tracker: of the same states, hands and presets.
+    ///
+    /// An error comes where memory is refused. This tracker stays as it is, either way.
+    pub fn snapshot(&self) -> Result<Self, AllocError>
+        ensures { IfOk result (λ t. t ≡ self.now) }
+    {
+        Ok(Tracker {
+            states: self.states.copy()?,
+            hands: self.hands,
+            presets: self.presets,
+            alloc: self.alloc,
+        })
+    }
+
+    /// Some possible state, or `None` exactly where none is possible. Which one it is of several is not said. Takes no
+    /// memory.
+    pub fn member(&self) -> Option<State>
+        ensures some { IfSome result (Possible self.now.states) }
+        ensures none { IfNone result (¬ ((s : AState) × Possible self.now.states s)) }
+    {
+        self.states.member()
     }
 
     /// What all possible states agree on, field by field. There has to be one (`remains`). Takes no memory.

@@ -6,7 +6,8 @@ use Rattle.track9.specs.declared.mode_set.ModeSet.{ModeSet}
 use Rattle.track9.specs.declared.pairs.Pairs.{Pairs}
 use Rattle.track9.specs.declared.state.Register.{Register}
 use Rattle.track9.specs.declared.state.Register.TheVariants.{RegIn, RegOut, RegAudioIn, RegAudioOut}
-use Rattle.track9.specs.Tracker.{Entries, PartStates, entries_of}
+use Rattle.track9.specs.declared.state.State.{State}
+use Rattle.track9.specs.Tracker.{Entries, InPart, PartStates, entries_of}
 use Rattle.track9.specs.Working.Entries.{agreeing, all_entries, changed, no_entries, said, some_entry, widened}
 use Rattle.track9.specs.Working.Pairs.{all_pairs, drifted, gone, joined, masked, no_pairs, some_pair}
 
@@ -24,6 +25,12 @@ is_live p = some_pair p.pairs
 -- each factor has something in it, or none has
 abbrev pub Whole : PartStates → Type 0
 Whole p = (r : Register) → some_entry (entries_of r p) ≡ is_live p
+
+-- a state of a part, with these values of local and of panel
+pub record HasState (p : PartStates) (l pn : Bool) (s : State) : Type 0 where
+  pub inside : InPart p s
+  pub local : s.local ≡ l
+  pub panel : s.panel ≡ pn
 
 abbrev pub with_entries : Register → Entries → PartStates → PartStates
 with_entries RegIn es p = record p { ins = es }
