@@ -1,10 +1,12 @@
 #!/usr/bin/env bash
-# Runs the tests of refused growths with the first growth of memory refused, with the second, and so on until a
-# run refuses none: each run must pass, as it does where memory is there.
-# The last line is 'N passed, M failed', where a test counts once.
+# Runs the tests of refused growths, and the built program, with the first growth of memory refused, with the
+# second, and so on until a run refuses none. Each test must pass, as it does where memory is there; the program
+# must answer what is right, or that it is out of memory.
+# The last line is 'N passed, M failed', where a test counts once, and so do the words of a program.
 set -u
 cd "$(dirname "$0")/.." || exit 1
 tests=${TRACK9_TESTS:-$PWD/crates/track9/out/track9_tests}
+program=${NINECHECK:-$PWD/crates/ninecheck/out/ninecheck}
 
 work=$(mktemp -d)
 trap 'rm -rf "$work"' EXIT
@@ -43,6 +45,88 @@ names=$("$tests" --list | grep -o 'tests::refused::[a-z_]*')
 for name in $names; do
     try_each "$name"
 done
+
+# refuses N WORDS...: runs the program with growth N refused; answers in $count how many growths there were.
+refuses() {
+    rm -f "$work/count"
+    GROWTHS="$work/count" FAIL_AT=$1 LD_PRELOAD="$work/refuse_growth.so" \
+        "$program" "${@:2}" > "$work/out" 2> "$work/err" < examples/play.csv
+    status=$?
+    count=$(cat "$work/count" 2> /dev/null || echo none)
+}
+
+# is_answer: the run did what is right, or told that it is out of memory and wrote a first part of what is right.
+is_answer() {
+    if [ "$status" = "$right" ]; then
+        cmp -s "$work/out" "$work/right_out" && cmp -s "$work/err" "$work/right_err"
+    else
+        [ "$status" = 5 ] && [ "$(cat "$work/err")" = 'out of memory' ] &&
+            cmp -s -n "$(wc -c < "$work/out")" "$work/out" "$work/right_out"
+    fi
+}
+
+# try_words STATUS WORDS...: the program with these words, and each of its growths refused in turn.
+try_words() {
+    local n=0 refused=0
+    right=$1
+    shift
+    refuses 0 "$@"
+    cp "$work/out" "$work/right_out"
+    cp "$work/err" "$work/right_err"
+    while :; do
+        n=$((n + 1))
+        refuses "$n" "$@"
+        if ! is_answer || [ "$count" = none ]; then
+            failed=$((failed + 1))
+            echo "FAILED '$*' with growth $n refused: status $status, growths $count"
+            cat "$work/out" "$work/err"
+            return
+        fi
+        [ "$count" -lt "$n" ] && break
+        [ "$status" != 5 ] || refused=$((refused + 1))
+    done
+    # The last run refused none.
+    if [ "$status" = "$right" ] && [ "$refused" -gt 0 ]; then
+        passed=$((passed + 1))
+        echo "'$*': right with each of $count growths refused"
+    else
+        failed=$((failed + 1))
+        echo "FAILED '$*': status $status where no growth is refused, and $refused times out of memory"
+    fi
+}
+
+try_words 0 check examples/play.csv
+try_words 0 check --hands examples/play.csv
+try_words 0 check
+try_words 0 explain --hands
+try_words 1 explain examples/second-reply.csv
+try_words 3 check examples/bad-byte.csv
+try_words 4 check absent.csv
+try_words 2 frob
+try_words 0 explain examples/fast-forward.csv
+try_words 1 explain examples/disputed-in-point.csv
+
+# try_blocks STATUS WORD BLOCKS: the same on records 400 microseconds apart: wire letters, each before the bytes that
+# it brings.
+try_blocks() {
+    {
+        echo 'time_us,wire,byte'
+        echo "$3" | tr -s ' ' '\n' | awk '/^[CD]$/ { wire = $0; next } { time += 400; print time "," wire "," $0 }'
+    } > "$work/blocks.csv"
+    try_words "$1" "$2" "$work/blocks.csv"
+}
+
+ack='D 10 01 11'
+remote='C 61 20 01 82 D 71 20 00 91'
+entry="C 40 10 50 $ack"
+local_at_10='C 61 20 04 85 D 74 20 01 20 00 01 B6 C 60 10 70 D 74 10 00 00 00 10 94'
+# An IN point that is captured and sensed twice, and in a remote deck sensed as two.
+try_blocks 0 explain "$entry C 60 10 70 D 74 10 00 00 00 05 89 C 60 10 70 D 74 10 00 00 00 05 89"
+try_blocks 1 check "$remote $entry C 60 10 70 D 74 10 00 00 00 05 89 C 60 10 70 D 74 10 01 00 00 05 8A"
+# Shifts: over midnight; three, and one back, in a local deck, which may do some of them.
+try_blocks 0 check "$remote C 44 14 24 59 59 23 51 $ack C 40 18 58 $ack C 60 10 70 D 74 10 00 00 00 00 84"
+try_blocks 0 explain "$local_at_10 C 40 18 58 $ack C 40 18 58 $ack C 40 18 58 $ack C 60 10 70 D 74 10 02 00 00 10 96"
+try_blocks 1 check "$local_at_10 C 40 19 59 $ack C 60 10 70 D 74 10 01 00 00 10 95"
 
 echo "$passed passed, $failed failed"
 [ "$failed" = 0 ]

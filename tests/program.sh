@@ -28,17 +28,22 @@ expect() {
     fi
 }
 
+# run WORDS...: the program with these words, on the standard input that it is given.
+run() {
+    "$program" "$@" > "$work/out" 2> "$work/err"
+    status=$?
+}
+
 # run_on FILE: the program with this file as its standard input.
 run_on() {
     : > "$work/out"
     : > "$work/err"
-    "$program" < "$1" > "$work/out" 2> "$work/err"
-    status=$?
+    run check < "$1"
 }
 
 # run_text TEXT: the program on this text, with printf's escapes, through a pipe.
 run_text() {
-    printf "$1" | "$program" > "$work/out" 2> "$work/err"
+    printf "$1" | "$program" check > "$work/out" 2> "$work/err"
     status=$?
 }
 
@@ -48,7 +53,7 @@ run_blocks() {
     {
         echo 'time_us,wire,byte'
         echo "$1" | tr -s ' ' '\n' | awk '/^[CD]$/ { wire = $0; next } { time += 400; print time "," wire "," $0 }'
-    } | "$program" > "$work/out" 2> "$work/err"
+    } | "$program" check > "$work/out" 2> "$work/err"
     status=$?
 }
 
@@ -136,28 +141,121 @@ END
 run_text 'time_us,wire,byte\n0,C,20\n0,C,01\n0,C,21\n0,D,10\n0,D,01\n0,D,11\n999999999999999,C,20\n'
 expect 'records at one time, and a long pause' 0 'yes: records 7, exchanges 1, open 1' ''
 
-"$program" two words < examples/play.csv > "$work/out" 2> "$work/err"
+# Words: the file before and behind the option, and standard input where there is none.
+yes='yes: records 6, exchanges 1, open 0'
+run check examples/play.csv < /dev/null
+expect 'check with a file' 0 "$yes" ''
+run check --hands examples/play.csv < /dev/null
+expect 'check with the option before the file' 0 "$yes" ''
+run check examples/play.csv --hands < /dev/null
+expect 'check with the option behind the file' 0 "$yes" ''
+run check --hands < examples/play.csv
+expect 'check with the option on standard input' 0 "$yes" ''
+run check examples/second-reply.csv < /dev/null
+expect 'check with a file that breaks a rule' 1 'no at record 7: P1 reply without a command' ''
+run check examples/bad-byte.csv < /dev/null
+expect 'check with a file that has a bad row' 3 '' 'unreadable at row 7: byte'
+cp examples/play.csv "$work/--hands"
+(cd "$work" && "$program" check -- --hands) > "$work/out" 2> "$work/err" < /dev/null
 status=$?
-expect 'words of a command line, which are not read' 0 'yes: records 6, exchanges 1, open 0' ''
+expect 'a file whose name is that of the option' 0 "$yes" ''
+
+# explain ends with the line that check writes, and has its status.
+explained() {
+    tail -n 1 "$work/out" > "$work/last" && mv "$work/last" "$work/out"
+    expect "$@"
+}
+run explain examples/play.csv < /dev/null
+explained 'explain with a file' 0 "$yes" ''
+run explain --hands examples/play.csv < /dev/null
+explained 'explain with the option before the file' 0 "$yes" ''
+run explain examples/play.csv --hands < /dev/null
+explained 'explain with the option behind the file' 0 "$yes" ''
+run explain < examples/play.csv
+explained 'explain on standard input' 0 "$yes" ''
+run explain examples/wrong-sum.csv < /dev/null
+explained 'explain with a file that breaks a rule' 1 'no at record 3: B2 wrong sum' ''
+run explain < examples/wrong-header.csv
+expect 'explain of a text that is no capture' 3 '' 'unreadable at row 0: header'
+
+# Words that are no command, and words that ask for help: status 2, and a line that the text on this stream has.
+while IFS='|' read -r stream words line; do
+    run $words < examples/play.csv
+    cp "$work/$stream" "$work/text"
+    : > "$work/$stream"
+    grep -qxF -- "$line" "$work/text" || echo "no such line: $line" >> "$work/err"
+    expect "the words '$words'" 2 '' ''
+done <<'END'
+err||error: 'ninecheck' requires a subcommand but one was not provided
+err|frob|error: unrecognized subcommand 'frob'
+err|chec|  tip: a similar subcommand exists: 'check'
+err|check.csv|error: unrecognized subcommand 'check.csv'
+err|check a b|error: unexpected argument 'b' found
+err|check --hands --hands|error: the argument '--hands' cannot be used multiple times
+err|check --hands=yes|error: unexpected value 'yes' for '--hands' found; no more were expected
+err|check --hand|  tip: a similar argument exists: '--hands'
+err|--hands check|error: unexpected argument '--hands' found
+err|--version|error: unexpected argument '--version' found
+out|--help|Usage: ninecheck <COMMAND>
+out|-h|Usage: ninecheck <COMMAND>
+out|help|Usage: ninecheck <COMMAND>
+out|check --help|Usage: ninecheck check [OPTIONS] [FILE]
+out|explain -h|Usage: ninecheck explain [OPTIONS] [FILE]
+out|help explain|Usage: ninecheck explain [OPTIONS] [FILE]
+END
+run "$(printf '\377')" < examples/play.csv
+expect 'a word that is not UTF-8' 2 '' 'error: a word of the command line is not UTF-8'
+
+# Files.
+run check . < examples/play.csv
+expect 'a directory' 4 '' 'read fault at row 0'
+run check "$work/absent.csv" < examples/play.csv
+expect 'an absent file' 4 '' 'cannot open'
+run check '' < examples/play.csv
+expect 'a file without a name' 4 '' 'cannot open'
+run check examples/play.csv/more < examples/play.csv
+expect 'a file in a file' 4 '' 'cannot open'
+ln -s loop "$work/loop"
+run check "$work/loop" < examples/play.csv
+expect 'a link to itself' 4 '' 'cannot open'
+: > "$work/empty.csv"
+run check "$work/empty.csv" < examples/play.csv
+expect 'an empty file' 3 '' 'unreadable at row 0: header'
+# For the superuser every file is readable, so this one runs as somebody else.
+as=
+[ "$(id -u)" != 0 ] || as='setpriv --reuid=65534 --regid=65534 --clear-groups'
+mkdir "$work/others"
+cp "$program" examples/play.csv "$work/others"
+chmod 755 "$work" "$work/others"
+chmod 000 "$work/others/play.csv"
+$as "$work/others/ninecheck" check "$work/others/play.csv" > "$work/out" 2> "$work/err" < /dev/null
+status=$?
+expect 'a file that may not be read' 4 '' 'cannot open'
 
 # Streams that fail.
 run_on .
 expect 'a directory as input' 4 '' 'read fault at row 0'
-"$program" < examples/play.csv > /dev/full 2> "$work/err"
+(
+    ulimit -v 262144
+    exec "$program" check < /dev/zero > "$work/out" 2> "$work/err"
+)
+status=$?
+expect 'a row without end' 5 '' 'out of memory'
+"$program" check < examples/play.csv > /dev/full 2> "$work/err"
 status=$?
 : > "$work/out"
 expect 'a full device' 4 '' 'write fault'
-"$program" < examples/play.csv >&- 2> "$work/err"
+"$program" check < examples/play.csv >&- 2> "$work/err"
 status=$?
 expect 'a closed output' 4 '' 'write fault'
 {
     sleep 1
-    "$program" < examples/play.csv 2> "$work/err"
+    "$program" check < examples/play.csv 2> "$work/err"
     echo $? > "$work/status"
 } | true
 status=$(cat "$work/status")
 expect 'a closed pipe' 4 '' 'write fault'
-"$program" < examples/wrong-header.csv > "$work/out" 2>&-
+"$program" check < examples/wrong-header.csv > "$work/out" 2>&-
 status=$?
 : > "$work/err"
 expect 'a closed standard error' 3 '' ''
@@ -167,7 +265,7 @@ expect 'a closed standard error' 3 '' ''
     echo 'time_us,wire,byte'
     awk 'BEGIN { split("C,20 C,01 C,21 D,10 D,01 D,11", row, " ")
         for (k = 1; k <= 240000; k++) print 400 * k "," row[(k - 1) % 6 + 1] }'
-} | "$program" > "$work/out" 2> "$work/err"
+} | "$program" check > "$work/out" 2> "$work/err"
 status=$?
 expect 'a long pipe' 0 'yes: records 240000, exchanges 40000, open 0' ''
 
@@ -196,6 +294,25 @@ echo 'a row' | PATH="$work/bin:$PATH" "$work/tree/ninecheck" > "$work/out" 2> "$
 status=$?
 expect 'a program that is built' 7 '
 a row' ''
+
+# The address space that the script leaves to the program: 4 GB, or less where less is left to the script.
+printf '#!/bin/sh\nulimit -v\n' > "$work/tree/crates/ninecheck/out/ninecheck"
+for bound in '-v 8388608' '-S -v 8388608' '-v 4194304' '-v 1048576' '-S -v 1048576'; do
+    (
+        ulimit $bound
+        exec "$work/tree/ninecheck" > "$work/out" 2> "$work/err"
+    )
+    status=$?
+    want=${bound##* }
+    [ "$want" -lt 4194304 ] || want=4194304
+    expect "address space under ulimit $bound" 0 "$want" ''
+done
+(
+    ulimit -v 524288
+    exec ./ninecheck check < /dev/zero > "$work/out" 2> "$work/err"
+)
+status=$?
+expect 'a row without end, by the script' 5 '' 'out of memory'
 
 echo "$passed passed, $failed failed"
 [ "$failed" = 0 ]

@@ -1,12 +1,13 @@
 -- A cut that gets one record more.
-use Rattle.std.proofs.Common.{◌∙◌, List, [], ◌∷◌, ◌++◌, refl, sym, ap}
+use Rattle.std.proofs.Common.{◌≡◌, ◌⊎◌, inl, inr, ◌∙◌, List, [], ◌∷◌, ◌++◌, refl, sym, ap, subst, arith}
 use Rattle.std.proofs.lemmas.List.{append_assoc, append-nil}
 use Rattle.capture9.specs.declared.line_byte.LineByte.{LineByte}
 use Rattle.block9.specs.declared.pairer.Exchange.{Exchange}
 use Rattle.block9.specs.declared.pairer.Step.{Step}
 use Rattle.block9.specs.declared.pairer.Step.TheVariants as step
-use Rattle.block9.specs.Exchange.{Cut, Does, IsExchange, IsTail, tail_after}
+use Rattle.block9.specs.Exchange.{Cut, Does, IsExchange, IsKept, IsTail, tail_after}
 use Rattle.block9.specs.Exchange.IsTail.{nothing}
+use Rattle.block9.proofs.CutLemmas.{last_apart, tail_no_exchange}
 use Rattle.block9.proofs.StepLemmas.{still_tail}
 
 -- a tail that grows
@@ -32,3 +33,20 @@ pub cut-step : (p : List LineByte) (es : List Exchange) (t : List LineByte) (r :
 cut-step p es t r step.Waiting h done = cut-tail p es t r h (still_tail t r step.Waiting done)
 cut-step p es t r step.Command h done = cut-tail p es t r h (still_tail t r step.Command done)
 cut-step p es t r (step.Exchange e) h done = cut-exchange p es t r e h done
+
+-- what a record makes of a tail where the rules of pairing are kept: a longer tail, or an exchange
+abbrev pub Grows : List LineByte → LineByte → Type 0
+Grows t r = IsTail (t ++ r ∷ []) ⊎ ((e : Exchange) × IsExchange (t ++ r ∷ []) e)
+
+pub kept_grows : (t : List LineByte) (r : LineByte) → IsTail t → IsKept (t ++ r ∷ []) → Grows t r
+kept_grows t r tail h = by h.exchanges h.tail h.cut
+  where
+    by : (es : List Exchange) (u : List LineByte) → Cut (t ++ r ∷ []) es u → Grows t r
+    by [] u k = inl (subst (λ (l : List LineByte). IsTail l) (sym k.0) k.1)
+    by (e ∷ es) u k = go k.1 k.2
+      where
+        go : (rest : List LineByte) → t ++ r ∷ [] ≡ k.0 ++ rest → Grows t r
+        go [] split = inr (e, subst (λ (l : List LineByte). IsExchange l e) (sym (split ∙ append-nil k.0)) k.3)
+        go (a ∷ rest) split =
+            let parts = last_apart t k.0 (a ∷ rest) r split (omega arith) in
+            absurd (tail_no_exchange t k.0 parts.0 e tail k.3 parts.2)

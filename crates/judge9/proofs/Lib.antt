@@ -1,7 +1,13 @@
+pub mod RunSteps
 pub mod CutSteps
+pub mod LineSteps
 pub mod SoFar
 pub mod SoFarSteps
+pub mod Seen
 pub mod LawLemmas
 pub mod TellLemmas
 pub mod LimitLemmas
 pub mod ReasonLemmas
+pub mod BreakLemmas
+pub mod PieceLemmas
+pub mod TextLemmas

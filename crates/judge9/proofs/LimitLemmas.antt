@@ -1,29 +1,34 @@
 -- What a judging can bring, whatever the reader tells of its bytes.
-use Rattle.std.proofs.Common.{◌≡◌, Bool, true, false, ℕ, ◌+◌, ◌*◌, ◌≤◌, List, [], ◌∷◌, ◌++◌, length, Option, Result, Ok, Err, ap, sym, subst, arith, length-append}
+use Rattle.std.proofs.Common.{◌≡◌, ◌≢◌, ◌∙◌, Some, None, refl, Bool, true, false, ℕ, ◌+◌, ◌*◌, ◌≤◌, List, [], ◌∷◌, ◌++◌, length, Option, Result, Ok, Err, ap, sym, subst, arith, length-append}
+use Rattle.std.specs.Option.{IfSome}
 use Rattle.capture9.specs.declared.error.CaptureError.{CaptureError}
+use Rattle.capture9.specs.declared.error.CaptureKind.{CaptureKind}
+use Rattle.capture9.specs.declared.error.CaptureKind.TheVariants as kind
 use Rattle.capture9.specs.declared.line_byte.LineByte.{LineByte}
 use Rattle.capture9.specs.Records.{GivesRecord, GivesRefusal, IsPlaced, Progress}
-use Rattle.capture9.specs.Rows.{Rows}
+use Rattle.capture9.specs.Rows.{HasHeader, Rows}
+use Rattle.capture9.proofs.RecordsFacts.{refused-after}
 use Rattle.block9.specs.declared.pairer.Exchange.{Exchange}
 use Rattle.block9.specs.declared.reason.Reason.{Reason}
 use Rattle.block9.specs.Exchange.{Cut, IsExchange}
-use Rattle.block9.specs.Pairer.{Paired, Refuses}
-use Rattle.block9.specs.declared.reason.Reason.TheVariants.{NoRun}
-use Rattle.block9.specs.Reason.{Holds, IsReason, order}
-use Rattle.block9.proofs.OrderLemmas.{first_holds}
+use Rattle.block9.specs.Pairer.{Paired}
 use Rattle.block9.proofs.LineLemmas.{whole_len, whole_long}
 use Rattle.block9.proofs.StepLemmas.{block_len_low, tail_short}
 use Rattle.judge9.specs.declared.error.JudgeError.{JudgeError}
 use Rattle.judge9.specs.declared.error.JudgeError.TheVariants as error
 use Rattle.judge9.specs.declared.verdict.Verdict.{Verdict}
 use Rattle.judge9.specs.declared.verdict.Verdict.TheVariants.{Yes, No}
-use Rattle.judge9.specs.Error.{refusal_of}
-use Rattle.judge9.specs.Judging.{CanBeRefusal, CanBeResult}
+use Rattle.judge9.specs.declared.verdict.View.{View}
+use Rattle.judge9.specs.Error.{refusal_by, refusal_of}
+use Rattle.judge9.specs.Judging.{CanBeRefusal, CanBeResult, IsOkBefore, StoppedBefore}
+use Rattle.judge9.specs.Report.{Told, line_of}
 use Rattle.judge9.specs.Verdict.{CanBeVerdict}
 use Rattle.judge9.proofs.LawLemmas.{cut_tail}
 use Rattle.judge9.proofs.SoFar.{SoFar}
-use Rattle.judge9.proofs.TellLemmas.{refused}
-use Rattle.judge9.specs.Working.{Tells}
+use Rattle.judge9.proofs.TellLemmas.{refused, told-refusal}
+use Rattle.judge9.specs.Working.{IsSame, Judges, Puts}
+use Rattle.track9.specs.declared.state.Hands.{Hands}
+use Rattle.track9.specs.Tracker.{Tracked}
 
 -- an exchange has 6 to 36 records
 exchange_least : (front : List LineByte) (e : Exchange) → IsExchange front e → 6 ≤ length front
@@ -56,9 +61,9 @@ cut_most p (e ∷ es) t h =
     let most = exchange_most h.0 e h.3 in
     omega (arith, length-append h.0 h.1)
 
--- a yes, a no and a refusal that the loop answers
-pub can_be-yes : {R : Type 0} (rows : Option Rows) (progress : Progress R) (paired : Paired) (n m : ℕ) → SoFar rows progress paired n m → CanBeVerdict (Yes n m (length paired.tail))
-can_be-yes rows progress paired n m h =
+-- a yes, a no and a refusal of the capture
+pub can_be-yes : {R : Type 0} (which : View) (hands : Hands) (rows : Option Rows) (progress : Progress R) (paired : Paired) (tracked : Tracked) (old now : Option (List ℕ)) (n m : ℕ) → SoFar which hands rows progress paired tracked old now n m → CanBeVerdict (Yes n m (length paired.tail))
+can_be-yes which hands rows progress paired tracked old now n m h =
     let records = h.number in
     let exchanges = h.exchange_number in
     let least = cut_least h.items h.cut_exchanges paired.tail h.cut in
@@ -69,26 +74,91 @@ can_be-yes rows progress paired n m h =
       no_more = omega arith;
     }
 
-pub can_be-no : {R : Type 0} (rows : Option Rows) (progress after : Progress R) (paired next : Paired) (r : LineByte) (reason : Reason) (n m : ℕ) → SoFar rows progress paired n m → GivesRecord progress r after → Refuses paired r reason next → CanBeVerdict (No (n + 1) reason)
-can_be-no rows progress after paired next r reason n m h given refuses = record {
-  counted = omega arith;
-  few = let e = h.given in let g = given.given in let w = given.within in omega arith;
-  not_of_a_run = λ e. first_holds (λ x. Holds x paired.tail r) order NoRun (subst (IsReason paired.tail r) e refuses.is_reason);
-}
+pub can_be-no : {R : Type 0} (which : View) (hands : Hands) (rows : Option Rows) (progress given : Progress R) (paired : Paired) (tracked : Tracked) (old now : Option (List ℕ)) (r : LineByte) (reason : Reason) (n m : ℕ) → SoFar which hands rows progress paired tracked old now n m → GivesRecord progress r given → CanBeVerdict (No (n + 1) reason)
+can_be-no which hands rows progress given paired tracked old now r reason n m h gives =
+    record { counted = omega arith; few = let e = h.given in let g = gives.given in let w = gives.within in omega arith }
 
-pub can_be-refusal : {R : Type 0} (rows : Option Rows) (progress after : Progress R) (paired : Paired) (e : CaptureError) (n m : ℕ) → SoFar rows progress paired n m → GivesRefusal progress e after → CanBeRefusal e
-can_be-refusal rows progress after paired e n m h refusal = record { few = by after.is_headed refusal.place; at_its_row = refusal.place.at_its_row }
+can_be-refusal : {R : Type 0} (which : View) (hands : Hands) (rows : Option Rows) (progress given : Progress R) (paired : Paired) (tracked : Tracked) (old now : Option (List ℕ)) (e : CaptureError) (n m : ℕ) → SoFar which hands rows progress paired tracked old now n m → GivesRefusal progress e given → CanBeRefusal e
+can_be-refusal which hands rows progress given paired tracked old now e n m h refusal = record { few = by given.is_headed refusal.place; at_its_row = refusal.place.at_its_row }
   where
-    by : (headed : Bool) → IsPlaced headed after.given e → e.row ≤ 4000001
+    by : (headed : Bool) → IsPlaced headed given.given e → e.row ≤ 4000001
     by true placed = let place = placed.row in let same = refusal.given in let g = h.given in let w = h.within in omega arith
     by false placed = let place = placed.row in omega arith
 
--- a verdict that was told, and a refusal
-pub told-can_be : (v : Verdict) (r : Result Verdict JudgeError) (old new : Option (List ℕ)) → CanBeVerdict v → Tells v r old new → CanBeResult r
-told-can_be v (Ok w) old new h k = subst CanBeVerdict (sym k.0) h
-told-can_be v (Err (error.Capture e)) old new h k = absurd k
-told-can_be v (Err error.Write) old new h k = tt
-told-can_be v (Err error.OutOfMemory) old new h k = tt
+-- all the records before the row of a refusal keep the rules
+before_refusal : {R : Type 0} (which : View) (hands : Hands) (progress given : Progress R) (rows : Rows) (paired : Paired) (tracked : Tracked) (old now : Option (List ℕ)) (n m : ℕ) (e : CaptureError) → SoFar which hands (Some rows) progress paired tracked old now n m → GivesRefusal progress e given → IsOkBefore hands rows e
+before_refusal which hands progress given rows paired tracked old now n m e h refusal = record {
+  items = h.items;
+  start = (h.read.0.records, ap (λ (x : Rows). x.records) h.read.2);
+  place = refused-after progress given e h.items refusal (h.given ∙ h.number);
+  has_header = by given.is_headed refusal.place refusal.has_header;
+  is_ok = record { exchanges = h.cut_exchanges; tail = paired.tail; cut = h.cut; run = h.run };
+}
+  where
+    left_has : (o : Option Rows) → o ≡ Some h.read.0 → IfSome o HasHeader → HasHeader h.read.0
+    left_has None same k = cc
+    left_has (Some x) same k = let one : x ≡ h.read.0 = cc in subst HasHeader one k
 
-pub refused-can_be : (e : CaptureError) (x : JudgeError) → x ≡ refusal_of e → CanBeRefusal e → CanBeResult (Err x)
-refused-can_be e x same h = refused (λ y. CanBeResult (Err y)) e x same h tt
+    by : (headed : Bool) → IsPlaced headed given.given e → (headed ≡ true → IfSome progress.rows HasHeader) → e.row ≢ 0 → HasHeader rows
+    by true placed has low = λ wrong.
+        left_has progress.rows h.read.1 (has refl) (sym (ap (λ (x : Rows). x.fault) h.read.2) ∙ wrong)
+    by false placed has low = absurd (low placed.row)
+
+stopped-refusal : {R : Type 0} (which : View) (hands : Hands) (rows : Option Rows) (progress given : Progress R) (paired : Paired) (tracked : Tracked) (old now : Option (List ℕ)) (n m : ℕ) (e : CaptureError) (x : JudgeError) → SoFar which hands rows progress paired tracked old now n m → GivesRefusal progress e given → x ≡ refusal_of e
+    → IfSome rows (λ all. StoppedBefore hands all x)
+stopped-refusal which hands None progress given paired tracked old now n m e x h refusal same = tt
+stopped-refusal which hands (Some rows) progress given paired tracked old now n m e x h refusal same =
+    refused (StoppedBefore hands rows) e x same (λ _. before_refusal which hands progress given rows paired tracked old now n m e h refusal) tt
+
+-- ---- all that the result tells, at each end
+
+each_row : (rows : Option Rows) (P : Rows → Type 0) → ((all : Rows) → P all) → IfSome rows P
+each_row None P f = tt
+each_row (Some all) P f = f all
+
+-- a result that is a verdict, or a line of it that was not written whole
+pub judges-told : (which : View) (hands : Hands) (rows : Option Rows) (v : Verdict) (r : Result Verdict JudgeError) (old now new : Option (List ℕ)) → Told which hands rows r old new → CanBeVerdict v → IsSame v r → Puts (line_of v) r now new → Judges which hands rows r old new
+judges-told which hands rows v (Ok w) old now new told can same puts =
+    record { told = told; stopped = each_row rows _ (λ all. tt); is_kind = λ e q. cc; can_be = subst CanBeVerdict (sym same) can }
+judges-told which hands rows v (Err (error.Capture e)) old now new told can same puts = absurd puts
+judges-told which hands rows v (Err error.Write) old now new told can same puts =
+    record { told = told; stopped = each_row rows _ (λ all. tt); is_kind = λ e q. cc; can_be = tt }
+judges-told which hands rows v (Err error.OutOfMemory) old now new told can same puts =
+    record { told = told; stopped = each_row rows _ (λ all. tt); is_kind = λ e q. cc; can_be = tt }
+
+pub judges-memory : (which : View) (hands : Hands) (rows : Option Rows) (old now : Option (List ℕ)) → Told which hands rows (Err error.OutOfMemory) old now → Judges which hands rows (Err error.OutOfMemory) old now
+judges-memory which hands rows old now told =
+    record { told = told; stopped = each_row rows _ (λ all. tt); is_kind = λ e q. cc; can_be = tt }
+
+pub judges-line : (which : View) (hands : Hands) (rows : Option Rows) (x : JudgeError) (line : List ℕ) (old now new : Option (List ℕ)) → Told which hands rows (Err x) old new → Puts {A = Unit {0}} line (Err x) now new → Judges which hands rows (Err x) old new
+judges-line which hands rows (error.Capture e) line old now new told puts = absurd puts
+judges-line which hands rows error.Write line old now new told puts =
+    record { told = told; stopped = each_row rows _ (λ all. tt); is_kind = λ e q. cc; can_be = tt }
+judges-line which hands rows error.OutOfMemory line old now new told puts =
+    record { told = told; stopped = each_row rows _ (λ all. tt); is_kind = λ e q. cc; can_be = tt }
+
+pub judges-refusal : {R : Type 0} (which : View) (hands : Hands) (rows : Option Rows) (progress given : Progress R) (paired : Paired) (tracked : Tracked) (old now : Option (List ℕ)) (n m : ℕ) (e : CaptureError) (x : JudgeError) → SoFar which hands rows progress paired tracked old now n m → GivesRefusal progress e given → x ≡ refusal_of e
+    → Judges which hands rows (Err x) old now
+judges-refusal which hands rows progress given paired tracked old now n m e x h refusal same = record {
+  told = told-refusal which hands rows progress given paired tracked old now n m e x h refusal same;
+  stopped = stopped-refusal which hands rows progress given paired tracked old now n m e x h refusal same;
+  is_kind = λ d q wrong. apart e.kind refl d (sym same ∙ inner x d q) wrong;
+  can_be = refused (λ y. CanBeResult (Err y)) e x same (can_be-refusal which hands rows progress given paired tracked old now e n m h refusal) tt;
+}
+  where
+    inner : (x : JudgeError) (d : CaptureError) → (let r : Result Verdict JudgeError = Err x in r) ≡ Err (error.Capture d) → x ≡ error.Capture d
+    inner x d q = cc
+
+    other : (k : CaptureKind) → e.kind ≡ k → (d : CaptureError) → error.Capture e ≡ error.Capture d → d.kind ≡ kind.OutOfMemory → k ≢ kind.OutOfMemory → ⊥
+    other k is d q wrong apart_from = let one : e ≡ d = cc in apart_from (sym is ∙ ap (λ (y : CaptureError). y.kind) one ∙ wrong)
+
+    apart : (k : CaptureKind) → e.kind ≡ k → (d : CaptureError) → refusal_of e ≡ error.Capture d → d.kind ≡ kind.OutOfMemory → ⊥
+    apart kind.OutOfMemory is d q wrong = let memory : refusal_of e ≡ error.OutOfMemory = ap (λ k. refusal_by k e) is in let both : error.OutOfMemory ≡ error.Capture d = sym memory ∙ q in cc
+    apart kind.Header is d q wrong = other kind.Header is d (sym (ap (λ k. refusal_by k e) is) ∙ q) wrong (λ same. cc)
+    apart kind.Fields is d q wrong = other kind.Fields is d (sym (ap (λ k. refusal_by k e) is) ∙ q) wrong (λ same. cc)
+    apart kind.Time is d q wrong = other kind.Time is d (sym (ap (λ k. refusal_by k e) is) ∙ q) wrong (λ same. cc)
+    apart kind.Wire is d q wrong = other kind.Wire is d (sym (ap (λ k. refusal_by k e) is) ∙ q) wrong (λ same. cc)
+    apart kind.Byte is d q wrong = other kind.Byte is d (sym (ap (λ k. refusal_by k e) is) ∙ q) wrong (λ same. cc)
+    apart kind.Backwards is d q wrong = other kind.Backwards is d (sym (ap (λ k. refusal_by k e) is) ∙ q) wrong (λ same. cc)
+    apart kind.TooMany is d q wrong = other kind.TooMany is d (sym (ap (λ k. refusal_by k e) is) ∙ q) wrong (λ same. cc)
+    apart kind.Read is d q wrong = other kind.Read is d (sym (ap (λ k. refusal_by k e) is) ∙ q) wrong (λ same. cc)

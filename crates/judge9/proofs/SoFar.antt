@@ -1,6 +1,7 @@
 -- Where the judging of a text stands: the loop's invariant.
 use Rattle.std.specs.Prelude.{◌≡◌, ℕ, ◌≤◌, List, ◌++◌, length, Option, Some, None, ⊤}
 use Rattle.std.specs.Option.{ForSome}
+use Rattle.std.specs.Io.KnownBytes.{Appends}
 use Rattle.capture9.specs.declared.line_byte.LineByte.{LineByte}
 use Rattle.capture9.specs.declared.records.Standing.TheVariants.{Reading}
 use Rattle.capture9.specs.Records.{Progress}
@@ -8,17 +9,29 @@ use Rattle.capture9.specs.Rows.{Rows}
 use Rattle.block9.specs.declared.pairer.Exchange.{Exchange}
 use Rattle.block9.specs.Exchange.{Cut}
 use Rattle.block9.specs.Pairer.{Paired}
+use Rattle.track9.specs.declared.state.Hands.{Hands}
+use Rattle.track9.specs.Run.{HasRun}
+use Rattle.track9.specs.Tracker.{Tracked}
+use Rattle.judge9.specs.declared.verdict.View.{View}
+use Rattle.judge9.specs.Report.{IsExplained}
+use Rattle.judge9.proofs.RunSteps.{Follows}
 
 -- these records were read, and the rest of the rows is still to come
 abbrev pub WereRead : Option Rows → List LineByte → Option Rows → Type 0
 WereRead None items left = ⊤
 WereRead (Some rows) items left = (rest : Rows) × (left ≡ Some rest) × (rows ≡ record { records = items ++ rest.records; fault = rest.fault })
 
--- the records so far keep the rules and have this cut; the pairer has their tail
-pub record SoFar {R : Type 0} (rows : Option Rows) (progress : Progress R) (paired : Paired) (records exchanges : ℕ) : Type 0 where
+-- the records so far keep the rules and have this cut; the pairer has their tail, the tracker keeps the states that the
+-- runs of their exchanges end in, and what the view shows of these was written
+pub record SoFar {R : Type 0} (view : View) (hands : Hands) (rows : Option Rows) (progress : Progress R) (paired : Paired) (tracked : Tracked) (old now : Option (List ℕ)) (records exchanges : ℕ) : Type 0 where
   pub items : List LineByte
   pub cut_exchanges : List Exchange
   pub cut : Cut items cut_exchanges paired.tail
+  pub run : HasRun hands cut_exchanges
+  pub follows : Follows hands cut_exchanges tracked
+  pub text : List ℕ
+  pub explained : IsExplained view hands cut_exchanges text
+  pub wrote : Appends old now text
   pub number : records ≡ length items
   pub exchange_number : exchanges ≡ length cut_exchanges
   pub few : exchanges ≤ records

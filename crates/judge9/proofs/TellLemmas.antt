@@ -1,66 +1,56 @@
--- What the result of the checker tells.
-use Rattle.std.proofs.Common.{◌≡◌, IsTrue, if◌then◌else◌, Bool, true, false, ℕ, List, Option, Some, None, Result, Ok, Err, refl, sym, subst}
+-- What the result of a judging tells at each of its ends.
+use Rattle.std.proofs.Common.{◌≡◌, inl, inr, IsTrue, if◌then◌else◌, Bool, true, false, ℕ, ◌+◌, ◌∙◌, List, [], ◌∷◌, ◌++◌, length, Option, Some, None, Result, Ok, Err, refl, sym, ap, subst, arith}
+use Rattle.std.proofs.lemmas.List.{append_assoc, append-nil}
+use Rattle.std.proofs.KnownBytes.{Appends-nil, Appends-trans}
 use Rattle.std.specs.Option.{IfSome, option_map}
-use Rattle.std.specs.Result.{IfErr}
 use Rattle.std.specs.Io.KnownBytes.{Appends}
-use Rattle.std.proofs.KnownBytes.{Appends-nil}
 use Rattle.capture9.specs.declared.error.CaptureError.{CaptureError}
 use Rattle.capture9.specs.declared.error.CaptureKind.{CaptureKind}
 use Rattle.capture9.specs.declared.error.CaptureKind.TheVariants as kind
+use Rattle.capture9.specs.declared.line_byte.LineByte.{LineByte}
+use Rattle.capture9.specs.Capture.{IsStartOf}
 use Rattle.capture9.specs.Error.{is_of_text}
-use Rattle.capture9.specs.Rows.{Rows, rows_of}
+use Rattle.capture9.specs.Records.{GivesEnd, GivesRecord, GivesRefusal, Progress}
+use Rattle.capture9.specs.Rows.{Rows, bad_row, no_rows, rows_of}
+use Rattle.capture9.proofs.RecordsFacts.{refused-after}
+use Rattle.block9.specs.declared.pairer.Exchange.{Exchange}
+use Rattle.block9.specs.declared.pairer.Step.TheVariants as step
+use Rattle.block9.specs.declared.reason.Reason.{Reason}
+use Rattle.block9.specs.Exchange.{Cut}
+use Rattle.block9.specs.Exchange.IsTail.{nothing}
+use Rattle.block9.specs.Pairer.{Paired, Takes}
+use Rattle.track9.specs.declared.state.Hands.{Hands}
+use Rattle.track9.specs.Run.{HasRun}
+use Rattle.track9.specs.Tracker.{Possible, Tracked}
 use Rattle.judge9.specs.declared.error.JudgeError.{JudgeError}
 use Rattle.judge9.specs.declared.error.JudgeError.TheVariants as error
 use Rattle.judge9.specs.declared.verdict.Verdict.{Verdict}
-use Rattle.judge9.specs.Judging.{Answer, IsAnswer, IsOkBefore, IsTheAnswer, StoppedBefore, answer_of}
+use Rattle.judge9.specs.declared.verdict.Verdict.TheVariants.{Yes, No}
+use Rattle.judge9.specs.declared.verdict.View.{View}
+use Rattle.judge9.specs.Judging.{Answer, IsAnswer, IsTheAnswer, answer_of}
 use Rattle.judge9.specs.Judging.Answer.{judged, unreadable}
 use Rattle.judge9.specs.Error.{refusal_by, refusal_of}
-use Rattle.judge9.specs.Verdict.{CanBeVerdict}
-use Rattle.judge9.specs.Report.{Wrote, WrotePart, line_of}
-use Rattle.judge9.specs.Working.{Tells}
+use Rattle.judge9.specs.Verdict.{AreCounts, Breaks, IsFirstBreak}
+use Rattle.judge9.specs.Report.{IsVerdictAfter, Told, Written, line_of}
+use Rattle.judge9.specs.Working.{Explains, IsSame, Puts}
 use Rattle.judge9.proofs.LawLemmas.{answer_once}
+use Rattle.judge9.proofs.LineSteps.{none_after, part_after}
+use Rattle.judge9.proofs.RunSteps.{Follows, run_start}
+use Rattle.judge9.proofs.Seen.{Seen, rest_has, seen}
+use Rattle.judge9.proofs.SoFar.{SoFar}
+use Rattle.judge9.proofs.SoFarSteps.{cut-after, explained-start, read-more, shown-more}
 
 -- the only answer, of an answer
-pub the_answer : (rows : Rows) (v : Verdict) → IsAnswer rows (judged v) → IsTheAnswer rows (judged v)
-the_answer rows v h = record { is_answer = h; only = λ other k. answer_once rows other (judged v) k h }
-
--- a verdict that was told
-pub told-answer : (rows : Rows) (v : Verdict) (r : Result Verdict JudgeError) (old new : Option (List ℕ)) → IsAnswer rows (judged v) → Tells v r old new → IfSome (answer_of r) (IsTheAnswer rows)
-told-answer rows v (Ok w) old new h k = subst (λ (x : Verdict). IsTheAnswer rows (judged x)) (sym k.0) (the_answer rows v h)
-told-answer rows v (Err (error.Capture e)) old new h k = absurd k
-told-answer rows v (Err error.Write) old new h k = tt
-told-answer rows v (Err error.OutOfMemory) old new h k = tt
-
-pub told-part : (rows : Rows) (v : Verdict) (r : Result Verdict JudgeError) (old new : Option (List ℕ)) → IsAnswer rows (judged v) → Tells v r old new → r ≡ Err error.Write → WrotePart rows old new
-told-part rows v (Ok w) old new h k e = cc
-told-part rows v (Err (error.Capture x)) old new h k e = absurd k
-told-part rows v (Err error.Write) old new h k e = record { answer = judged v; is_answer = h; part = k }
-told-part rows v (Err error.OutOfMemory) old new h k e = cc
-
-pub told-stopped : (rows : Rows) (v : Verdict) (r : Result Verdict JudgeError) (old new : Option (List ℕ)) → Tells v r old new → IfErr r (StoppedBefore rows)
-told-stopped rows v (Ok w) old new k = tt
-told-stopped rows v (Err (error.Capture e)) old new k = absurd k
-told-stopped rows v (Err error.Write) old new k = tt
-told-stopped rows v (Err error.OutOfMemory) old new k = tt
-
-pub told-wrote : (v : Verdict) (r : Result Verdict JudgeError) (old new : Option (List ℕ)) → CanBeVerdict v → Tells v r old new → Wrote r old new
-told-wrote v (Ok w) old new h k = subst (λ (x : Verdict). Appends old new (line_of x)) (sym k.0) k.1
-told-wrote v (Err (error.Capture e)) old new h k = absurd k
-told-wrote v (Err error.Write) old new h k = (v, h, k)
-told-wrote v (Err error.OutOfMemory) old new h k = k
+pub the_answer : (hands : Hands) (rows : Rows) (answer : Answer) → IsAnswer hands rows answer → IsTheAnswer hands rows answer
+the_answer hands rows answer h = record { is_answer = h; only = λ other k. answer_once hands rows other answer k h }
 
 -- what is said of all the rows is said of the text's rows
 pub over_text : (o : Option (List ℕ)) (rows : Option Rows) (P : Rows → Type 0) → rows ≡ option_map rows_of o → IfSome rows P → IfSome o (λ text. P (rows_of text))
 over_text None rows P e h = tt
 over_text (Some text) rows P e h = let Q : Option Rows → Type 0 = λ r. IfSome r P in subst Q e h
 
--- a fact for each text, from another
-pub each_text : (o : Option (List ℕ)) (P Q : List ℕ → Type 0) → ((text : List ℕ) → P text → Q text) → IfSome o P → IfSome o Q
-each_text None P Q f h = tt
-each_text (Some text) P Q f h = f text h
-
 -- a refusal that was told
-pub answer_of-capture : (e : CaptureError) (P : Answer → Type 0) → (IsTrue (is_of_text e.kind) → P (unreadable e)) → IfSome (answer_of (Err (error.Capture e))) P
+answer_of-capture : (e : CaptureError) (P : Answer → Type 0) → (IsTrue (is_of_text e.kind) → P (unreadable e)) → IfSome (answer_of (Err (error.Capture e))) P
 answer_of-capture e P f = by (is_of_text e.kind) f
   where
     by : (b : Bool) → (IsTrue b → P (unreadable e)) → IfSome (if b then Some (unreadable e) else None) P
@@ -68,7 +58,7 @@ answer_of-capture e P f = by (is_of_text e.kind) f
     by false f = tt
 
 -- a refusal of the capture stays whole, or is want of memory
-pub refusal_cases : (P : JudgeError → Type 0) (k : CaptureKind) (e : CaptureError) → P (error.Capture e) → P error.OutOfMemory → P (refusal_by k e)
+refusal_cases : (P : JudgeError → Type 0) (k : CaptureKind) (e : CaptureError) → P (error.Capture e) → P error.OutOfMemory → P (refusal_by k e)
 refusal_cases P kind.Header e whole memory = whole
 refusal_cases P kind.Fields e whole memory = whole
 refusal_cases P kind.Time e whole memory = whole
@@ -83,13 +73,167 @@ refusal_cases P kind.OutOfMemory e whole memory = memory
 pub refused : (P : JudgeError → Type 0) (e : CaptureError) (x : JudgeError) → x ≡ refusal_of e → P (error.Capture e) → P error.OutOfMemory → P x
 refused P e x same whole memory = subst P (sym same) (refusal_cases P e.kind e whole memory)
 
-pub refused-answer : (rows : Rows) (e : CaptureError) (x : JudgeError) → x ≡ refusal_of e → (IsTrue (is_of_text e.kind) → IsAnswer rows (unreadable e)) → IfSome (answer_of (Err x)) (IsTheAnswer rows)
-refused-answer rows e x same h =
-    refused (λ y. IfSome (answer_of (Err y)) (IsTheAnswer rows)) e x same
-    (answer_of-capture e (IsTheAnswer rows) (λ t. record { is_answer = h t; only = λ other k. answer_once rows other (unreadable e) k (h t) })) tt
+-- the records of the rows are those read and the rest
+records_are : {rows left : Option Rows} {items : List LineByte} {mine : Rows} (s : Seen rows left items mine) → s.all.records ≡ items ++ s.rest.records
+records_are s = ap (λ (x : Rows). x.records) s.whole
 
-pub refused-wrote : (e : CaptureError) (x : JudgeError) (old : Option (List ℕ)) → x ≡ refusal_of e → Wrote (Err x) old old
-refused-wrote e x old same = refused (λ y. Wrote (Err y) old old) e x same (Appends-nil old) (Appends-nil old)
+fault_is : {rows left : Option Rows} {items : List LineByte} {mine : Rows} (s : Seen rows left items mine) → s.all.fault ≡ s.rest.fault
+fault_is s = ap (λ (x : Rows). x.fault) s.whole
 
-pub refused-stopped : (rows : Rows) (e : CaptureError) (x : JudgeError) → x ≡ refusal_of e → IsOkBefore rows e → StoppedBefore rows x
-refused-stopped rows e x same h = refused (StoppedBefore rows) e x same (λ _. h) tt
+starts : {rows left : Option Rows} {items : List LineByte} {mine : Rows} (s : Seen rows left items mine) → IsStartOf items s.all.records
+starts s = (s.rest.records, records_are s)
+
+-- what is told after the records so far, of these rows
+after : {R : Type 0} (which : View) (hands : Hands) (rows : Option Rows) (progress : Progress R) (paired : Paired) (tracked : Tracked) (old now new : Option (List ℕ)) (n m : ℕ) (h : SoFar which hands rows progress paired tracked old now n m) (all : Rows) (r : Result Verdict JudgeError) → IfSome rows (λ a. all ≡ a) → IsStartOf h.items all.records
+    → IfSome (answer_of r) (IsTheAnswer hands all) → Written hands all h.items h.text r old new → Told which hands rows r old new
+after which hands rows progress paired tracked old now new n m h all r is_known start answer written = record {
+  rows = all;
+  is_known = is_known;
+  answer = answer;
+  items = h.items;
+  start = start;
+  exchanges = h.cut_exchanges;
+  tail = paired.tail;
+  cut = h.cut;
+  run = h.run;
+  text = h.text;
+  explained = h.explained;
+  written = written;
+}
+
+-- a verdict that is told
+told-verdict : {R : Type 0} (which : View) (hands : Hands) (rows : Option Rows) (progress : Progress R) (paired : Paired) (tracked : Tracked) (old now new : Option (List ℕ)) (n m : ℕ) (h : SoFar which hands rows progress paired tracked old now n m) (all : Rows) (v : Verdict) (r : Result Verdict JudgeError) → IfSome rows (λ a. all ≡ a) → IsStartOf h.items all.records
+    → IsAnswer hands all (judged v) → IsVerdictAfter h.items v → IsSame v r → Puts (line_of v) r now new → Told which hands rows r old new
+told-verdict which hands rows progress paired tracked old now new n m h all v (Ok w) is_known start is follows same puts =
+    after which hands rows progress paired tracked old now new n m h all (Ok w) is_known start
+    (subst (λ (x : Verdict). IsTheAnswer hands all (judged x)) (sym same) (the_answer hands all (judged v) is))
+    (subst (λ (x : Verdict). IsVerdictAfter h.items x × Appends old new (h.text ++ line_of x)) (sym same) (follows, Appends-trans old now new h.text (line_of v) h.wrote puts))
+told-verdict which hands rows progress paired tracked old now new n m h all v (Err (error.Capture e)) is_known start is follows same puts = absurd puts
+told-verdict which hands rows progress paired tracked old now new n m h all v (Err error.Write) is_known start is follows same puts =
+    after which hands rows progress paired tracked old now new n m h all (Err error.Write) is_known start tt (inr (v, is, follows, part_after old now new h.text (line_of v) h.wrote puts))
+told-verdict which hands rows progress paired tracked old now new n m h all v (Err error.OutOfMemory) is_known start is follows same puts =
+    after which hands rows progress paired tracked old now new n m h all (Err error.OutOfMemory) is_known start tt (none_after old now new h.text h.wrote puts)
+
+-- at the end of the rows
+pub told-yes : {R : Type 0} (which : View) (hands : Hands) (rows : Option Rows) (progress ended : Progress R) (paired : Paired) (tracked : Tracked) (old now new : Option (List ℕ)) (n m : ℕ) (r : Result Verdict JudgeError) → (h : SoFar which hands rows progress paired tracked old now n m) → GivesEnd progress ended
+    → IsSame (Yes n m (length paired.tail)) r → Puts (line_of (Yes n m (length paired.tail))) r now new → Told which hands rows r old new
+told-yes which hands rows progress ended paired tracked old now new n m r h end same puts =
+    told-verdict which hands rows progress paired tracked old now new n m h s.all (Yes n m (length paired.tail)) r s.is_known (starts s) (fault_is s ∙ ap (λ (x : Rows). x.fault) left, counts) h.number same puts
+  where
+    s : Seen rows progress.rows h.items no_rows
+    s = seen rows progress.rows h.items no_rows h.read
+
+    left : s.rest ≡ no_rows
+    left = rest_has (λ rest. rest ≡ no_rows) s refl end.none_left
+
+    records : s.all.records ≡ h.items
+    records = records_are s ∙ ap (λ (x : Rows). h.items ++ x.records) left ∙ append-nil h.items
+
+    counts : AreCounts hands s.all.records n m (length paired.tail)
+    counts = record {
+      cut_exchanges = h.cut_exchanges;
+      cut_tail = paired.tail;
+      cut = subst (λ (l : List LineByte). Cut l h.cut_exchanges paired.tail) (sym records) h.cut;
+      run = h.run;
+      number = h.number ∙ ap length (sym records);
+      exchange_number = h.exchange_number;
+      tail_number = refl;
+    }
+
+-- at a record that breaks a rule
+pub told-no : {R : Type 0} (which : View) (hands : Hands) (rows : Option Rows) (progress given : Progress R) (paired : Paired) (tracked : Tracked) (old now new : Option (List ℕ)) (n m : ℕ) (next : LineByte) (reason : Reason) (r : Result Verdict JudgeError) → (h : SoFar which hands rows progress paired tracked old now n m) → GivesRecord progress next given → Breaks hands h.items next reason
+    → IsSame (No (n + 1) reason) r → Puts (line_of (No (n + 1) reason)) r now new → Told which hands rows r old new
+told-no which hands rows progress given paired tracked old now new n m next reason r h gives breaks same puts =
+    told-verdict which hands rows progress paired tracked old now new n m h s.all (No (n + 1) reason) r s.is_known (next ∷ s.rest.records, split) is (let e = h.number in omega arith) same puts
+  where
+    s : Seen rows given.rows (h.items ++ next ∷ []) no_rows
+    s = seen rows given.rows (h.items ++ next ∷ []) no_rows (read-more rows progress.rows given.rows h.items next h.read gives.rows)
+
+    split : s.all.records ≡ h.items ++ next ∷ s.rest.records
+    split = records_are s ∙ append_assoc h.items (next ∷ []) s.rest.records
+
+    is : IsFirstBreak hands s.all.records (n + 1) reason
+    is = record { before = h.items; next = next; after = s.rest.records; split = split; number = let e = h.number in omega arith; breaks = breaks }
+
+-- at want of memory
+pub told-memory : {R : Type 0} (which : View) (hands : Hands) (rows : Option Rows) (progress : Progress R) (paired : Paired) (tracked : Tracked) (old now : Option (List ℕ)) (n m : ℕ) → SoFar which hands rows progress paired tracked old now n m → Told which hands rows (Err error.OutOfMemory) old now
+told-memory which hands rows progress paired tracked old now n m h =
+    let s = seen rows progress.rows h.items no_rows h.read in
+    after which hands rows progress paired tracked old now now n m h s.all (Err error.OutOfMemory) s.is_known (starts s) tt h.wrote
+
+-- at a refusal of the capture
+pub told-refusal : {R : Type 0} (which : View) (hands : Hands) (rows : Option Rows) (progress given : Progress R) (paired : Paired) (tracked : Tracked) (old now : Option (List ℕ)) (n m : ℕ) (e : CaptureError) (x : JudgeError) → SoFar which hands rows progress paired tracked old now n m → GivesRefusal progress e given → x ≡ refusal_of e → Told which hands rows (Err x) old now
+told-refusal which hands rows progress given paired tracked old now n m e x h refusal same =
+    refused (λ y. Told which hands rows (Err y) old now) e x same
+    (after which hands rows progress paired tracked old now now n m h s.all (Err (error.Capture e)) s.is_known (starts s) (answer_of-capture e (IsTheAnswer hands s.all) (λ t. the_answer hands s.all (unreadable e) (is t)))
+    (refused-after progress given e h.items refusal (h.given ∙ h.number), h.wrote))
+    (told-memory which hands rows progress paired tracked old now n m h)
+  where
+    s : Seen rows progress.rows h.items (bad_row e.kind e.row)
+    s = seen rows progress.rows h.items (bad_row e.kind e.row) h.read
+
+    is : IsTrue (is_of_text e.kind) → IsAnswer hands s.all (unreadable e)
+    is t =
+        let left : s.rest ≡ bad_row e.kind e.row = rest_has (λ rest. rest ≡ bad_row e.kind e.row) s refl (refusal.fault t) in
+        let records : s.all.records ≡ h.items = records_are s ∙ ap (λ (x : Rows). h.items ++ x.records) left ∙ append-nil h.items in (
+          fault_is s ∙ ap (λ (x : Rows). x.fault) left,
+          record { exchanges = h.cut_exchanges; tail = paired.tail; cut = subst (λ (l : List LineByte). Cut l h.cut_exchanges paired.tail) (sym records) h.cut; run = h.run },
+        )
+
+-- where the line of an exchange was not written whole
+pub told-line : {R : Type 0} (which : View) (hands : Hands) (rows : Option Rows) (progress given : Progress R) (paired next : Paired) (tracked observed : Tracked) (old now new : Option (List ℕ)) (n m : ℕ) (r : LineByte) (e : Exchange) (x : JudgeError) → (h : SoFar which hands rows progress paired tracked old now n m) → GivesRecord progress r given → Takes paired r (step.Exchange e) next
+    → Follows hands (h.cut_exchanges ++ e ∷ []) observed → HasRun hands (h.cut_exchanges ++ e ∷ []) → Explains which hands (n + 1) e (Possible observed.states) (Err x) now new → Told which hands rows (Err x) old new
+told-line which hands rows progress given paired next tracked observed old now new n m r e (error.Capture c) h gives takes follows run line = absurd line.puts
+told-line which hands rows progress given paired next tracked observed old now new n m r e error.OutOfMemory h gives takes follows run line =
+    let s = seen rows progress.rows h.items no_rows h.read in
+    after which hands rows progress paired tracked old now new n m h s.all (Err error.OutOfMemory) s.is_known (starts s) tt (none_after old now new h.text h.wrote line.puts)
+told-line which hands rows progress given paired next tracked observed old now new n m r e error.Write h gives takes follows run line =
+    let s = seen rows given.rows (h.items ++ r ∷ []) no_rows (read-more rows progress.rows given.rows h.items r h.read gives.rows) in
+    record {
+      rows = s.all;
+      is_known = s.is_known;
+      answer = tt;
+      items = h.items ++ r ∷ [];
+      start = starts s;
+      exchanges = h.cut_exchanges ++ e ∷ [];
+      tail = next.tail;
+      cut = cut-after h.items h.cut_exchanges r (step.Exchange e) paired next h.cut takes;
+      run = run;
+      text = h.text ++ line.line;
+      explained = shown-more which hands rows progress paired next tracked observed old now r e n m line.line h takes follows line.is_line;
+      written = inl (part_after old now new h.text line.line h.wrote line.puts);
+    }
+
+-- where there was no memory for the tracker, and nothing was read
+pub told-nothing : (which : View) (hands : Hands) (rows : Option Rows) (old : Option (List ℕ)) → Told which hands rows (Err error.OutOfMemory) old old
+told-nothing which hands rows old = by rows
+  where
+    by : (o : Option Rows) → Told which hands o (Err error.OutOfMemory) old old
+    by None = record {
+      rows = no_rows;
+      is_known = tt;
+      answer = tt;
+      items = [];
+      start = (no_rows.records, refl);
+      exchanges = [];
+      tail = [];
+      cut = (refl, nothing refl);
+      run = run_start hands;
+      text = [];
+      explained = explained-start which hands;
+      written = Appends-nil old;
+    }
+    by (Some all) = record {
+      rows = all;
+      is_known = refl;
+      answer = tt;
+      items = [];
+      start = (all.records, refl);
+      exchanges = [];
+      tail = [];
+      cut = (refl, nothing refl);
+      run = run_start hands;
+      text = [];
+      explained = explained-start which hands;
+      written = Appends-nil old;
+    }

@@ -7,6 +7,7 @@ use Rattle.capture9.specs.declared.line_byte.LineByte.{LineByte}
 use Rattle.capture9.specs.Capture.{IsStartOf}
 use Rattle.capture9.specs.Error.{IsAfter, IsAtItsRow, is_of_text}
 use Rattle.capture9.specs.Rows.{HasHeader, Rows}
+use Rattle.track9.specs.declared.state.Hands.{Hands}
 use Rattle.judge9.specs.declared.error.JudgeError.{JudgeError}
 use Rattle.judge9.specs.declared.error.JudgeError.TheVariants as error
 use Rattle.judge9.specs.declared.verdict.Verdict.{Verdict}
@@ -21,15 +22,15 @@ pub data Answer : Type 0 where
 -- the answer is right for a text with these rows: yes where no row is bad and all the records keep the rules,
 -- no where a record is the first that breaks one, and else the fault of the first bad row, which needs that
 -- all the records before it keep the rules
-abbrev pub IsAnswer : Rows → Answer → Type 0
-IsAnswer rows (judged (verdict.Yes records exchanges tail)) = (rows.fault ≡ None) × AreCounts rows.records records exchanges tail
-IsAnswer rows (judged (verdict.No at reason)) = IsFirstBreak rows.records at reason
-IsAnswer rows (unreadable e) = (rows.fault ≡ Some e) × IsOk rows.records
+abbrev pub IsAnswer : Hands → Rows → Answer → Type 0
+IsAnswer hands rows (judged (verdict.Yes records exchanges tail)) = (rows.fault ≡ None) × AreCounts hands rows.records records exchanges tail
+IsAnswer hands rows (judged (verdict.No at reason)) = IsFirstBreak hands rows.records at reason
+IsAnswer hands rows (unreadable e) = (rows.fault ≡ Some e) × IsOk hands rows.records
 
 -- the answer is right for a text with these rows, and no other one is
-pub record IsTheAnswer (rows : Rows) (answer : Answer) : Type 0 where
-  pub is_answer : IsAnswer rows answer
-  pub only : (other : Answer) → IsAnswer rows other → other ≡ answer
+pub record IsTheAnswer (hands : Hands) (rows : Rows) (answer : Answer) : Type 0 where
+  pub is_answer : IsAnswer hands rows answer
+  pub only : (other : Answer) → IsAnswer hands rows other → other ≡ answer
 
 -- the answer that a result of `judge` tells: none where the reader, the writer or the memory failed
 abbrev pub answer_of : Result Verdict JudgeError → Option Answer
@@ -40,18 +41,18 @@ answer_of (Err error.OutOfMemory) = None
 
 -- all the records before the row of this refusal keep the rules; before row 0, the header, there are none, and
 -- behind it the text has its header
-pub record IsOkBefore (rows : Rows) (e : CaptureError) : Type 0 where
+pub record IsOkBefore (hands : Hands) (rows : Rows) (e : CaptureError) : Type 0 where
   pub items : List LineByte
   pub start : IsStartOf items rows.records
   pub place : IsAfter items e
   pub has_header : e.row ≢ 0 → HasHeader rows
-  pub is_ok : IsOk items
+  pub is_ok : IsOk hands items
 
 -- where the reader failed at a row, all the records before it keep the rules
-abbrev pub StoppedBefore : Rows → JudgeError → Type 0
-StoppedBefore rows (error.Capture e) = e.kind ≡ kind.Read → IsOkBefore rows e
-StoppedBefore rows error.Write = ⊤
-StoppedBefore rows error.OutOfMemory = ⊤
+abbrev pub StoppedBefore : Hands → Rows → JudgeError → Type 0
+StoppedBefore hands rows (error.Capture e) = e.kind ≡ kind.Read → IsOkBefore hands rows e
+StoppedBefore hands rows error.Write = ⊤
+StoppedBefore hands rows error.OutOfMemory = ⊤
 
 -- a row that a refusal of a capture can name
 pub record CanBeRefusal (e : CaptureError) : Type 0 where

@@ -1,5 +1,6 @@
 pub mod Verdict
 pub mod Judging
 pub mod Error
+pub mod Explanation
 pub mod Report
 pub mod Working

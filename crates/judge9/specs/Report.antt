@@ -1,15 +1,28 @@
 -- The text of a report, and how much of it was written.
-use Rattle.std.specs.Prelude.{ℕ, ◌≤◌, List, [], ◌++◌, codes, length, take, Option, Result, Ok, Err}
-use Rattle.capture9.specs.Rows.{Rows}
+use Rattle.std.specs.Prelude.{◌≡◌, ◌⊎◌, ℕ, ◌+◌, ◌-◌, ◌≤◌, List, [], ◌∷◌, ◌++◌, codes, length, take, Option, Result, Ok, Err}
+use Rattle.std.specs.Option.{IfSome}
 use Rattle.std.specs.Io.KnownBytes.{Appends}
 use Rattle.std.specs.Fmt.{decimal}
+use Rattle.capture9.specs.declared.line_byte.LineByte.{LineByte}
+use Rattle.capture9.specs.Capture.{IsStartOf}
+use Rattle.capture9.specs.Error.{IsAfter}
+use Rattle.capture9.specs.Rows.{Rows}
+use Rattle.block9.specs.declared.pairer.Exchange.{Exchange}
+use Rattle.block9.specs.Block.{spelling}
+use Rattle.block9.specs.Exchange.{Cut}
 use Rattle.block9.specs.Reason.{name_of, text_of}
+use Rattle.track9.specs.declared.knowledge.Knowledge.{Knowledge}
+use Rattle.track9.specs.declared.state.Hands.{Hands}
+use Rattle.track9.specs.Knowledge.{IsKnowledge}
+use Rattle.track9.specs.Run.{Ends, HasRun}
 use Rattle.judge9.specs.declared.error.JudgeError.{JudgeError}
 use Rattle.judge9.specs.declared.error.JudgeError.TheVariants as error
 use Rattle.judge9.specs.declared.verdict.Verdict.{Verdict}
 use Rattle.judge9.specs.declared.verdict.Verdict.TheVariants.{Yes, No}
-use Rattle.judge9.specs.Verdict.{CanBeVerdict}
-use Rattle.judge9.specs.Judging.{Answer, IsAnswer}
+use Rattle.judge9.specs.declared.verdict.View.{View}
+use Rattle.judge9.specs.declared.verdict.View.TheVariants as view
+use Rattle.judge9.specs.Explanation.{line_of_exchange}
+use Rattle.judge9.specs.Judging.{Answer, IsAnswer, IsTheAnswer, answer_of}
 use Rattle.judge9.specs.Judging.Answer.{judged, unreadable}
 
 -- the line of a verdict, with its line feed
@@ -19,25 +32,76 @@ line_of (Yes records exchanges tail) =
 line_of (No at reason) =
     codes "no at record " ++ decimal at ++ codes ": " ++ name_of reason ++ codes " " ++ text_of reason ++ codes "\n"
 
--- what is written for an answer: the verdict's line, and nothing for a text that can't be read to its end
-abbrev pub text_of_answer : Answer → List ℕ
-text_of_answer (judged v) = line_of v
-text_of_answer (unreadable e) = []
+-- how many records an exchange has
+abbrev pub records_of : Exchange → ℕ
+records_of e = length (spelling e.block) + length (spelling e.reply)
+
+-- the lines of exchanges: `before` are those that come before them, and end with the record of this number; each
+-- line names the exchange's last record, and shows what is known of all states that the runs up to it end in
+abbrev pub AreLines : Hands → List Exchange → ℕ → List Exchange → List ℕ → Type 0
+AreLines hands before at [] text = text ≡ []
+AreLines hands before at (e ∷ es) text =
+    (known : Knowledge) × (rest : List ℕ) × IsKnowledge (Ends hands (before ++ e ∷ [])) known
+    × AreLines hands (before ++ e ∷ []) (at + records_of e) es rest
+    × (text ≡ line_of_exchange hands (at + records_of e) e known ++ rest)
+
+-- what a view shows of the exchanges of a capture, before the verdict
+abbrev pub IsExplained : View → Hands → List Exchange → List ℕ → Type 0
+IsExplained view.Verdict hands exchanges text = text ≡ []
+IsExplained view.Explain hands exchanges text = AreLines hands [] 0 exchanges text
+
+-- the records whose exchanges a report explains: those before the break, and all where there is none
+abbrev pub explained_of : Rows → Answer → List LineByte
+explained_of rows (judged (Yes records exchanges tail)) = rows.records
+explained_of rows (judged (No at reason)) = take (at - 1) rows.records
+explained_of rows (unreadable e) = rows.records
+
+-- the last line of a report: the verdict's, and none for a text that can't be read to its end
+abbrev pub last_line : Answer → List ℕ
+last_line (judged v) = line_of v
+last_line (unreadable e) = []
+
+-- the whole text of a report on a text with these rows, of which this is the answer
+pub record IsText (which : View) (hands : Hands) (rows : Rows) (answer : Answer) (whole : List ℕ) : Type 0 where
+  pub exchanges : List Exchange
+  pub tail : List LineByte
+  pub cut : Cut (explained_of rows answer) exchanges tail
+  pub text : List ℕ
+  pub explained : IsExplained which hands exchanges text
+  pub is_whole : whole ≡ text ++ last_line answer
 
 -- known bytes grow by a first part of these, which may be none or all of them
 abbrev pub AppendsPart : Option (List ℕ) → Option (List ℕ) → List ℕ → Type 0
 AppendsPart old new bytes = (n : ℕ) × (n ≤ length bytes) × Appends old new (take n bytes)
 
--- what was written: the whole line on a verdict, a first part of a line that some capture has
--- where the writer failed, and else nothing
-abbrev pub Wrote : Result Verdict JudgeError → Option (List ℕ) → Option (List ℕ) → Type 0
-Wrote (Ok v) old new = Appends old new (line_of v)
-Wrote (Err (error.Capture e)) old new = Appends old new []
-Wrote (Err error.Write) old new = (v : Verdict) × CanBeVerdict v × AppendsPart old new (line_of v)
-Wrote (Err error.OutOfMemory) old new = Appends old new []
+-- a verdict for which these records are the ones that keep the rules: all of them, or those before the break
+abbrev pub IsVerdictAfter : List LineByte → Verdict → Type 0
+IsVerdictAfter items (Yes records exchanges tail) = records ≡ length items
+IsVerdictAfter items (No at reason) = at ≡ length items + 1
 
--- what was written is a first part of the text of the right answer
-pub record WrotePart (rows : Rows) (old new : Option (List ℕ)) : Type 0 where
-  pub answer : Answer
-  pub is_answer : IsAnswer rows answer
-  pub part : AppendsPart old new (text_of_answer answer)
+-- what was written, by the result, where these records were found to keep the rules and `text` is what the view shows
+-- of their exchanges: with a verdict the text and the verdict's line; at a refusal of the capture the text, and these
+-- records are all those before its row; where the writer failed a first part of the text, or of the text and the right
+-- verdict's line; at want of memory the text
+abbrev pub Written : Hands → Rows → List LineByte → List ℕ → Result Verdict JudgeError → Option (List ℕ) → Option (List ℕ) → Type 0
+Written hands rows items text (Ok v) old new = IsVerdictAfter items v × Appends old new (text ++ line_of v)
+Written hands rows items text (Err (error.Capture e)) old new = IsAfter items e × Appends old new text
+Written hands rows items text (Err error.Write) old new =
+    AppendsPart old new text ⊎ ((v : Verdict) × IsAnswer hands rows (judged v) × IsVerdictAfter items v × AppendsPart old new (text ++ line_of v))
+Written hands rows items text (Err error.OutOfMemory) old new = Appends old new text
+
+-- the rows that a judging speaks of, its answer for them, the first of their records, which it found to keep the rules,
+-- and what it wrote. The rows are those of the text, where the reader tells its bytes; else they are what it gave
+pub record Told (which : View) (hands : Hands) (known : Option Rows) (result : Result Verdict JudgeError) (old new : Option (List ℕ)) : Type 0 where
+  pub rows : Rows
+  pub is_known : IfSome known (λ all. rows ≡ all)
+  pub answer : IfSome (answer_of result) (IsTheAnswer hands rows)
+  pub items : List LineByte
+  pub start : IsStartOf items rows.records
+  pub exchanges : List Exchange
+  pub tail : List LineByte
+  pub cut : Cut items exchanges tail
+  pub run : HasRun hands exchanges
+  pub text : List ℕ
+  pub explained : IsExplained which hands exchanges text
+  pub written : Written hands rows items text result old new

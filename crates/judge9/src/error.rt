@@ -8,14 +8,15 @@ use thiserror::Error;
 #[derive(Debug, Drop, PartialEq, Eq, Error)]
 pub enum JudgeError {
     /// The capture can't be read to its end: a row is bad, or the reader failed or was interrupted. The
-    /// error says which, and at which row. Its kind is never `OutOfMemory`. Nothing was written.
+    /// error says which, and at which row. Its kind is never `OutOfMemory`. What was written is the lines of the
+    /// exchanges before that row, where an explanation was asked for, and no verdict.
     #[error("{0}")]
     Capture(CaptureError),
-    /// The writer failed, was interrupted, or took no byte. What it took until then is a first part of the
-    /// verdict's line.
+    /// The writer failed, was interrupted, or took no byte. What it took until then is a first part of the report.
     #[error("the report can't be written")]
     Write,
-    /// A growth of memory was refused. Nothing was written.
+    /// A growth of memory was refused. What was written is whole lines of the first exchanges, where an explanation
+    /// was asked for, and no verdict.
     #[error("out of memory")]
     OutOfMemory,
 }

@@ -1,36 +1,46 @@
-//! Judges a capture as it is read: one turn reads a row and feeds its record to the pairer.
-ghost use Rattle.std.specs.Prelude.{◌≡◌, ◌≢◌, IfSome, IfOk, IfErr, IsTrue};
-ghost use Rattle.capture9.specs.Error.{is_of_text};
+//! Judges a capture as it is read: one turn reads a row, feeds its record to the pairer, and where that makes an
+//! exchange whole lets the tracker observe it and tells its line.
+ghost use Rattle.std.specs.Prelude.{◌≡◌, ◌≢◌, ◌↔◌, IfSome, IfErr, option_map};
 ghost use Rattle.capture9.specs.declared.records.Standing.{Standing};
 ghost use Rattle.capture9.specs.Rows.{rows_of};
-ghost use Rattle.judge9.specs.Judging.{CanBeRefusal, CanBeResult, IsAnswer, IsOkBefore, IsTheAnswer, StoppedBefore, answer_of};
-ghost use Rattle.judge9.specs.Judging.Answer.{judged, unreadable};
-ghost use Rattle.judge9.specs.Report.{Wrote, WrotePart};
+ghost use Rattle.judge9.specs.Judging.{CanBeResult, IsTheAnswer, StoppedBefore, answer_of};
+ghost use Rattle.judge9.specs.Report.{Told, line_of};
 ghost use Rattle.judge9.specs.Verdict.{CanBeVerdict};
-ghost use Rattle.judge9.specs.Working.{Tells};
+ghost use Rattle.judge9.specs.Working.{Explains, IsSame, Judges, Puts};
+ghost use Rattle.track9.specs.declared.state.State.{State as AState};
+ghost use Rattle.track9.specs.State.{IsFirst};
+ghost use Rattle.track9.specs.Tracker.{Possible};
 
 use crate::error::JudgeError;
-use crate::report::{put_all, verdict_line};
+use crate::explanation::put_exchange_line;
 use crate::verdict::{Verdict, View};
-use block9::{Pairer, Step};
+use crate::verdict_line::put_verdict_line;
+use crate::writing::put_all;
+use block9::{Exchange, Pairer, Reason, Step};
 use capture9::{CaptureError, CaptureKind, Records};
 use std::alloc::Global;
 use std::io::{Read, Write};
+use tc25::SpanSet;
+use track9::{Hands, Tracker};
 
-/// Judges the capture that the reader gives, and writes the line of the verdict.
+/// Judges the capture that the reader gives, and writes the report that the view asks for.
 ///
 /// It reads row by row, up to the end, the first bad row or the first record that breaks a rule, and keeps no
-/// list of records. The line is written last, and the writer is not flushed.
+/// list of records. With `View::Explain` each exchange has a line, written in one piece once the exchange is whole; the
+/// line of the verdict is written last. The writer is not flushed.
+///
+/// `hands` says whether somebody may have touched the deck's panel: with `Hands::Allowed` the deck has more runs.
 ///
 /// Where the reader tells its bytes, they are the text, and the result is the one that is right for it:
 ///
-/// * `Ok(Yes)` exactly where no row of the text is bad and all its records keep the rules. It counts the
-///   records, the whole exchanges that they are cut into, and the open records after the last of these.
-/// * `Ok(No)` at record n with reason r exactly where the first n - 1 records keep the rules, the first n do
-///   not, and r is the first rule, in the order in which they count, that record n breaks. Rows after it have
-///   no part in this, not even bad ones.
+/// * `Ok(Yes)` exactly where no row of the text is bad, all its records keep the rules of blocks, pairing and timing,
+///   and some run of the deck gives exactly the replies of its exchanges. It counts the records, the whole exchanges
+///   that they are cut into, and the open records after the last of these.
+/// * `Ok(No)` at record n with reason r exactly where the first n - 1 records do so, the first n do not, and r is the
+///   first rule, in the order in which they count, that record n breaks. Rows after it have no part in this, not even
+///   bad ones.
 /// * `Err(Capture(e))` with a fault of the text exactly where e is the fault of its first bad row, or of the
-///   header, and all records before that row keep the rules.
+///   header, and all records before that row do so.
 ///
 /// The other results come where something outside the text fails:
 ///
@@ -38,94 +48,159 @@ use std::io::{Read, Write};
 ///   `e.row`, or the header at 0. All records before that row keep the rules, and behind row 0 the text has
 ///   its header.
 /// * `Err(Write)` where the writer fails, is interrupted or takes no byte. No call is tried again.
-/// * `Err(OutOfMemory)` where a growth of memory is refused, for a row or for the line. That is never told as
-///   a `Capture`.
+/// * `Err(OutOfMemory)` where a growth of memory is refused, for a row, for the deck's states or for a line. That is
+///   never told as a `Capture`.
 ///
 /// No contract can say that reader, writer and memory do not fail: that these three come only then is tested.
 ///
-/// A verdict is answered where its line was written whole. On `Err(Write)` a first part of a verdict's line was
-/// written, and where the reader tells its bytes it is the line of the right verdict. On every other `Err`
-/// nothing was written.
+/// What was written is, with a verdict, the lines of all exchanges before the end or the break, where the view asks for
+/// them, and the line of the verdict. On `Err(Capture)` it is the lines of all exchanges before the row. On
+/// `Err(OutOfMemory)` it is the lines of the first exchanges, and on `Err(Write)` a first part of these, or of a whole
+/// report.
 ///
-/// Where the reader does not tell its bytes, as standard input does not, this much still holds:
+/// Where the reader does not tell its bytes, as standard input and files do not, all this still holds of some rows, and:
 ///
 /// * A yes has counts that a capture can have: at most 4,000,000 records, of which a whole exchange has 6 to 36
 ///   and the open tail at most 35.
-/// * A no is at record 1 to 4,000,000, and for a reason of pairing: never `NoRun`.
+/// * A no is at record 1 to 4,000,000.
 /// * A fault of the text is at row 0 exactly where it is the header's, at row 4,000,001 exactly where that is a
 ///   row too many, and else between; a read fault is at row 4,000,001 at most. No `Capture` has the kind
 ///   `OutOfMemory`.
-/// * Where the writer tells its bytes, the line of the verdict that is answered was written. On `Err(Write)` it
-///   was a first part of a line of such a yes or such a no, and on every other `Err` nothing.
 pub fn judge<R: Read + Drop, W: Write>(
     alloc: Global,
     reader: R,
     writer: &mut W,
     view: View,
+    hands: Hands,
 ) -> Result<Verdict, JudgeError>
     ensures answer { IfSome (R.remaining reader)
-        (λ text. IfSome (answer_of result) (IsTheAnswer (rows_of text))) }
-    ensures wrote { Wrote result (W.contents writer.old) (W.contents writer.new) }
-    ensures part { result ≡ Err JudgeError.Write → IfSome (R.remaining reader)
-        (λ text. WrotePart (rows_of text) (W.contents writer.old) (W.contents writer.new)) }
+        (λ text. IfSome (answer_of result) (IsTheAnswer hands (rows_of text))) }
+    ensures told { Told view hands (option_map rows_of (R.remaining reader)) result
+        (W.contents writer.old) (W.contents writer.new) }
     ensures stopped { IfSome (R.remaining reader)
-        (λ text. IfErr result (StoppedBefore (rows_of text))) }
+        (λ text. IfErr result (StoppedBefore hands (rows_of text))) }
     ensures kind { (e : CaptureError) → result ≡ Err (JudgeError.Capture e)
         → e.kind ≢ CaptureKind.OutOfMemory }
     ensures can_be { CanBeResult result }
 {
-    // The one view there is: the line of the verdict alone.
-    let View::Verdict = view;
+    let Ok(mut tracker) = Tracker::<SpanSet>::new(alloc, hands) else {
+        return Err(JudgeError::OutOfMemory);
+    };
     let mut rows = Records::new(alloc, reader);
-    match judge_rows(&mut rows) {
-        Ok(verdict) => tell(alloc, writer, verdict),
-        Err(e) => Err(JudgeError::from(e)),
-    }
+    let mut line = Vec::new(alloc);
+    judge_rows(&mut rows, &mut tracker, &mut line, writer, view, hands)
 }
 
-/// Writes the line of the verdict and answers the verdict, or why the line was not written whole.
-fn tell<W: Write>(alloc: Global, writer: &mut W, verdict: Verdict) -> Result<Verdict, JudgeError>
-    ensures { Tells verdict result (W.contents writer.old) (W.contents writer.new) }
-{
-    let line = verdict_line(alloc, verdict).map_err(|_| JudgeError::OutOfMemory)?;
-    put_all(writer, line.as_bytes()).map_err(|_| JudgeError::Write)?;
-    Ok(verdict)
-}
-
-/// The verdict on all the rows that are to come, or the refusal that ends them: its row is the first that was
-/// not judged.
-fn judge_rows<R: Read + Drop>(rows: &mut Records<R>) -> Result<Verdict, CaptureError>
+/// Judges all the rows that are to come and tells of them. `line` is room for a line, whose content is not kept.
+fn judge_rows<R: Read + Drop, W: Write>(
+    rows: &mut Records<R>,
+    tracker: &mut Tracker<SpanSet>,
+    line: &mut Vec<u8>,
+    writer: &mut W,
+    view: View,
+    hands: Hands,
+) -> Result<Verdict, JudgeError>
     requires first { rows.old.given ≡ 0 }
     requires reading { rows.old.standing ≡ Standing.Reading }
-    ensures verdict { IfSome rows.old.rows
-        (λ all. IfOk result (λ v. IsAnswer all (judged v))) }
-    ensures fault { IfSome rows.old.rows
-        (λ all. IfErr result (λ e. IsTrue (is_of_text e.kind) → IsAnswer all (unreadable e))) }
-    ensures before { IfSome rows.old.rows
-        (λ all. IfErr result (λ e. IsOkBefore all e)) }
-    ensures can_be_verdict { IfOk result CanBeVerdict }
-    ensures can_be_refusal { IfErr result CanBeRefusal }
+    requires states { (s : AState) → Possible tracker.old.states s ↔ IsFirst hands s }
+    requires hands { tracker.old.hands ≡ hands }
+    ensures { Judges view hands rows.old.rows result (W.contents writer.old) (W.contents writer.new) }
 {
     let mut pairer = Pairer::new();
     let mut records = 0u32;
     let mut exchanges = 0u32;
-    'rows: while let Some(line_byte) = rows.next()? {
+    'rows: loop {
+        let line_byte = match rows.next() {
+            Ok(Some(line_byte)) => line_byte,
+            Ok(None) => break 'rows,
+            Err(e) => return Err(JudgeError::from(e)),
+        };
         records += 1;
-        match pairer.feed(line_byte) {
-            Ok(Step::Waiting) => {}
-            Ok(Step::Command) => {}
-            Ok(Step::Exchange(_)) => exchanges += 1,
-            Err(reason) => {
-                return Ok(Verdict::No {
-                    at: records,
-                    reason,
-                });
-            }
+        let exchange = match pairer.feed(line_byte) {
+            Ok(Step::Waiting) => continue 'rows,
+            Ok(Step::Command) => continue 'rows,
+            Ok(Step::Exchange(exchange)) => exchange,
+            Err(reason) => return tell_no(line, writer, records, reason),
+        };
+        match tracker.observe(&exchange.command, &exchange.reply) {
+            Ok(true) => exchanges += 1,
+            Ok(false) => return tell_no(line, writer, records, Reason::NoRun),
+            Err(_) => return Err(JudgeError::OutOfMemory),
+        }
+        if let Err(e) = explain(line, writer, view, hands, records, &exchange, tracker) {
+            return Err(e);
         }
     }
-    Ok(Verdict::Yes {
-        records,
-        exchanges,
-        tail: pairer.tail_len() as u32,
-    })
+    let tail = pairer.tail_len() as u32;
+    tell(
+        line,
+        writer,
+        Verdict::Yes {
+            records,
+            exchanges,
+            tail,
+        },
+    )
+}
+
+/// Writes the line of the verdict and answers the verdict, or why the line was not written whole.
+fn tell<W: Write>(
+    line: &mut Vec<u8>,
+    writer: &mut W,
+    verdict: Verdict,
+) -> Result<Verdict, JudgeError>
+    ensures same { IsSame verdict result }
+    ensures puts { Puts (line_of verdict) result (W.contents writer.old) (W.contents writer.new) }
+{
+    line.clear();
+    let Ok(()) = put_verdict_line(line, verdict) else {
+        return Err(JudgeError::OutOfMemory);
+    };
+    let Ok(()) = put_all(writer, line.as_slice()) else {
+        return Err(JudgeError::Write);
+    };
+    Ok(verdict)
+}
+
+/// Writes the line of a no at the record of this number and answers it, as `tell` does.
+fn tell_no<W: Write>(
+    line: &mut Vec<u8>,
+    writer: &mut W,
+    at: u32,
+    reason: Reason,
+) -> Result<Verdict, JudgeError>
+    ensures same { IsSame (Verdict.No at reason) result }
+    ensures puts { Puts (line_of (Verdict.No at reason)) result (W.contents writer.old) (W.contents writer.new) }
+{
+    tell(line, writer, Verdict::No { at, reason })
+}
+
+/// Writes what the view shows of an exchange, whose reply ends with the record of this number, after the tracker
+/// observed it: for a verdict alone nothing, else its line.
+fn explain<W: Write>(
+    line: &mut Vec<u8>,
+    writer: &mut W,
+    view: View,
+    hands: Hands,
+    number: u32,
+    exchange: &Exchange,
+    tracker: &Tracker<SpanSet>,
+) -> Result<(), JudgeError>
+    requires { (s : AState) × Possible tracker.now.states s }
+    ensures { Explains view hands number exchange.now (Possible tracker.now.states) result (W.contents writer.old) (W.contents writer.new) }
+{
+    match view {
+        View::Verdict => Ok(()),
+        View::Explain => {
+            let knowledge = tracker.knowledge();
+            line.clear();
+            let Ok(()) = put_exchange_line(line, hands, number, exchange, &knowledge) else {
+                return Err(JudgeError::OutOfMemory);
+            };
+            let Ok(()) = put_all(writer, line.as_slice()) else {
+                return Err(JudgeError::Write);
+            };
+            Ok(())
+        }
+    }
 }

@@ -1,15 +1,21 @@
 //! The laws of the definitions that contracts cite, each the contract of a function that does nothing: what
 //! carries a verdict from a record to the next.
-ghost use Rattle.std.specs.Prelude.{◌≡◌, ◌≤◌, ◌↔◌, List, [], ◌∷◌, ◌++◌};
-ghost use Rattle.block9.specs.Exchange.{Cut};
+ghost use Rattle.std.specs.Prelude.{◌≡◌, ◌≤◌, ◌↔◌, ℕ, List, [], ◌∷◌, ◌++◌, Option, Some, Result};
+ghost use Rattle.block9.specs.Exchange.{Cut, IsKept};
 ghost use Rattle.block9.specs.Line.{last_time};
+ghost use Rattle.block9.specs.Reason.{IsReason};
 ghost use Rattle.block9.specs.declared.pairer.Exchange.{Exchange};
 ghost use Rattle.capture9.specs.Rows.{Rows};
 ghost use Rattle.judge9.specs.Judging.{Answer, IsAnswer};
+ghost use Rattle.judge9.specs.Report.{AppendsPart, IsText, Told};
 ghost use Rattle.judge9.specs.Verdict.{Breaks, IsOk};
+ghost use Rattle.track9.specs.Run.{HasRun};
 
+use crate::error::JudgeError;
+use crate::verdict::{Verdict, View};
 use block9::Reason;
 use capture9::LineByte;
+use track9::Hands;
 
 /// A list of records has at most one cut into exchanges and a tail.
 pub fn one_cut()
@@ -19,28 +25,36 @@ pub fn one_cut()
 
 /// Records that keep the rules together with a next one keep them without it.
 pub fn prefix_is_ok()
-    ensures { (records : List LineByte) (next : LineByte) → IsOk (records ++ next ∷ []) → IsOk records }
+    ensures { (hands : Hands) (records : List LineByte) (next : LineByte) → IsOk hands (records ++ next ∷ []) → IsOk hands records }
 {}
 
-/// Whether the next record breaks a rule depends on the tail of the records alone, and so does the reason.
+/// Whether the next record breaks a rule of blocks, pairing or timing depends on the tail of the records alone, and
+/// where it does, so does the reason.
 pub fn tail_decides()
-    ensures is_ok { (records : List LineByte) (exchanges : List Exchange) (tail : List LineByte) (next : LineByte)
-        → Cut records exchanges tail → (IsOk (records ++ next ∷ []) ↔ IsOk (tail ++ next ∷ [])) }
-    ensures reason { (records : List LineByte) (exchanges : List Exchange) (tail : List LineByte)
-        → Cut records exchanges tail
-        → (next : LineByte) (reason : Reason) → (Breaks records next reason ↔ Breaks tail next reason) }
+    ensures kept { (records : List LineByte) (exchanges : List Exchange) (tail : List LineByte) (next : LineByte)
+        → Cut records exchanges tail → (IsKept (records ++ next ∷ []) ↔ IsKept (tail ++ next ∷ [])) }
+    ensures reason { (hands : Hands) (records : List LineByte) (exchanges : List Exchange) (tail : List LineByte)
+        → Cut records exchanges tail → HasRun hands exchanges → (next : LineByte) → ¬ IsKept (records ++ next ∷ [])
+        → (reason : Reason) → (Breaks hands records next reason ↔ IsReason tail next reason) }
 {}
 
 /// Where records keep the rules, and with a next one that is not earlier they do not, some reason applies; and
 /// never more than one does.
 pub fn some_reason_applies()
-    ensures some { (records : List LineByte) (next : LineByte) → IsOk records → last_time records ≤ next.time_us
-        → ¬ IsOk (records ++ next ∷ []) → (reason : Reason) × Breaks records next reason }
-    ensures one { (records : List LineByte) (next : LineByte) (reason other : Reason)
-        → Breaks records next reason → Breaks records next other → reason ≡ other }
+    ensures some { (hands : Hands) (records : List LineByte) (next : LineByte) → IsOk hands records → last_time records ≤ next.time_us
+        → ¬ IsOk hands (records ++ next ∷ []) → (reason : Reason) × Breaks hands records next reason }
+    ensures one { (hands : Hands) (records : List LineByte) (next : LineByte) (reason other : Reason)
+        → Breaks hands records next reason → Breaks hands records next other → reason ≡ other }
 {}
 
 /// At most one answer is right for a text.
 pub fn one_answer()
-    ensures { (rows : Rows) (answer other : Answer) → IsAnswer rows answer → IsAnswer rows other → answer ≡ other }
+    ensures { (hands : Hands) (rows : Rows) (answer other : Answer) → IsAnswer hands rows answer → IsAnswer hands rows other → answer ≡ other }
+{}
+
+/// Whatever the result, what was written is a first part of the whole text of the report.
+pub fn first_part_of_the_text()
+    ensures { (view : View) (hands : Hands) (rows : Rows) (result : Result Verdict JudgeError) (old new : Option (List ℕ))
+        (answer : Answer) (whole : List ℕ) → Told view hands (Some rows) result old new
+        → IsAnswer hands rows answer → IsText view hands rows answer whole → AppendsPart old new whole }
 {}

@@ -5,7 +5,8 @@ use block9::Reason;
 /// The verdict on the records of a capture.
 #[derive(Clone, Copy, Debug, PartialEq, Eq)]
 pub enum Verdict {
-    /// No row is bad, and all records keep the rules. A capture with no record is one of these.
+    /// No row is bad, all records keep the rules, and some run of the deck gives exactly their replies. A capture
+    /// with no record is one of these.
     Yes {
         /// How many records there are.
         records: u32,
@@ -29,4 +30,6 @@ pub enum Verdict {
 pub enum View {
     /// The line of the verdict alone.
     Verdict,
+    /// A line for each exchange, with what is then known of the deck, and the line of the verdict.
+    Explain,
 }

@@ -67,7 +67,7 @@ fn word_of<'a>(kind: CaptureKind) -> &'a str
 #[derive(Clone, Copy, Debug, PartialEq, Eq)]
 pub struct Outcome {
     /// The exit status: 0 yes, 1 no, 3 a capture that can't be read, 4 a reader or a writer that failed or a
-    /// file that can't be opened, 5 want of memory. (2 is kept for words that are no command.)
+    /// file that can't be opened, 5 want of memory. (Words that are no command end with 2, and have no outcome.)
     pub status: u8,
     /// The line on standard error.
     pub line: Line,

@@ -1,33 +1,10 @@
-//! Readable captures, and their verdicts.
+//! Readable captures, and their verdicts by the rules of pairing.
 
 use super::readers::Plays;
-use super::{HEADER, PLAY, answer_and_text};
+use super::{PLAY, answer_and_text, capture};
 use crate::Verdict;
 use block9::Reason;
-use std::alloc::{AllocError, Global};
-use std::fmt::Write;
 use std::test::Fail;
-
-/// The text of a capture whose records are 400 microseconds apart: wire letters, each before the bytes that
-/// it brings.
-fn capture(alloc: Global, blocks: &str) -> Result<String, AllocError> {
-    let mut text = String::from_str(alloc, HEADER)?;
-    let mut time = 0u32;
-    let mut is_deck = false;
-    for word in blocks.split_whitespace() {
-        if word == "C" || word == "D" {
-            is_deck = word == "D";
-            continue;
-        }
-        time = time.saturating_add(400);
-        if is_deck {
-            writeln!(text, "{time},D,{word}")?;
-        } else {
-            writeln!(text, "{time},C,{word}")?;
-        }
-    }
-    Ok(text)
-}
 
 #[test]
 fn each_kind_of_verdict(rt: HostRuntime) -> Result<(), Fail> {
@@ -73,7 +50,7 @@ fn each_kind_of_verdict(rt: HostRuntime) -> Result<(), Fail> {
             "no at record 11: P7 invalid time in a reply\n",
         ),
     ] {
-        let text = capture(rt.alloc(), blocks)?;
+        let text = capture(rt.alloc(), &[blocks])?;
         let (_, written) = answer_and_text(rt.alloc(), text.as_bytes());
         assert_eq!(rt; written.as_slice(), line.as_bytes(), "at {blocks}");
     }
@@ -117,7 +94,7 @@ fn verdicts_as_values(rt: HostRuntime) -> Result<(), Fail> {
         tail: 0,
     };
     assert!(rt; yes == Ok(whole));
-    let text = capture(rt.alloc(), "C 20 01 21 D 10 01 11 C 20 01 22")?;
+    let text = capture(rt.alloc(), &["C 20 01 21 D 10 01 11 C 20 01 22"])?;
     let (no, _) = answer_and_text(rt.alloc(), text.as_bytes());
     let broken = Verdict::No {
         at: 9,

@@ -1,11 +1,14 @@
 //! Texts that can't be read, and readers and writers that fail.
 
+use super::explained::{FAST_FORWARD, FAST_FORWARD_LINES};
 use super::readers::{Cut, Plays, Repeated};
 use super::writers::{Narrow, Then};
-use super::{HEADER, PLAY, WRONG_SUM, answer_and_text};
+use super::{HEADER, PLAY, WRONG_SUM, answer_and_text, capture, report};
 use crate::{JudgeError, Verdict, View, judge};
 use block9::Reason;
 use capture9::{CaptureError, CaptureKind};
+use std::test::Fail;
+use track9::Hands;
 
 /// The refusal of a capture.
 fn refused(kind: CaptureKind, row: u32) -> Result<Verdict, JudgeError> {
@@ -101,15 +104,62 @@ fn writers_that_stop(rt: HostRuntime) {
     for room in 0..line.len() {
         for then in [Then::Fail, Then::Interrupt, Then::TakeNone] {
             let mut writer = Narrow::new(rt.alloc(), room, then);
-            let answer = judge(rt.alloc(), PLAY.as_bytes(), &mut writer, View::Verdict);
+            let answer = judge(
+                rt.alloc(),
+                PLAY.as_bytes(),
+                &mut writer,
+                View::Verdict,
+                Hands::None,
+            );
             assert!(rt; answer == Err(JudgeError::Write));
             assert_eq!(rt; writer.into_taken().as_slice(), &line[..room]);
         }
     }
     let mut writer = Narrow::new(rt.alloc(), line.len(), Then::Fail);
-    let answer = judge(rt.alloc(), PLAY.as_bytes(), &mut writer, View::Verdict);
+    let answer = judge(
+        rt.alloc(),
+        PLAY.as_bytes(),
+        &mut writer,
+        View::Verdict,
+        Hands::None,
+    );
     assert!(rt; answer.is_ok());
     assert_eq!(rt; writer.into_taken().as_slice(), line.as_slice());
+}
+
+#[test]
+fn lines_before_a_reader_fails(rt: HostRuntime) {
+    let more =
+        "time_us,wire,byte\n400,C,20\n800,C,01\n1200,C,21\n1600,D,10\n2000,D,01\n2400,D,11\n2800,C";
+    let reader = Cut::new(more, more.len());
+    let (answer, written) = report(rt.alloc(), reader, View::Explain, Hands::None);
+    assert!(rt; answer == refused(CaptureKind::Read, 7));
+    let line =
+        b"record 6: PLAY -> ACK, delay 400, goal unknown, shown unknown, in unknown, out unknown, local unknown, ain unknown, aout unknown\n";
+    assert_eq!(rt; written.as_slice(), line.as_slice());
+    let reader = Cut::new(PLAY, 52);
+    let (answer, written) = report(rt.alloc(), reader, View::Explain, Hands::None);
+    assert!(rt; answer == refused(CaptureKind::Read, 4));
+    assert!(rt; written.is_empty());
+}
+
+#[test]
+fn writers_that_stop_in_an_explanation(rt: HostRuntime) -> Result<(), Fail> {
+    let text = capture(rt.alloc(), &FAST_FORWARD)?;
+    let lines = FAST_FORWARD_LINES.as_bytes();
+    for room in 0..lines.len() {
+        let mut writer = Narrow::new(rt.alloc(), room, Then::Fail);
+        let answer = judge(
+            rt.alloc(),
+            text.as_bytes(),
+            &mut writer,
+            View::Explain,
+            Hands::None,
+        );
+        assert!(rt; answer == Err(JudgeError::Write));
+        assert_eq!(rt; writer.into_taken().as_slice(), &lines[..room]);
+    }
+    Ok(())
 }
 
 #[test]

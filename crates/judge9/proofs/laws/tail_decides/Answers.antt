@@ -1,9 +1,9 @@
 use Rattle.block9.proofs.CutLemmas.{kept_by_tail, tail_by_kept}
-use Rattle.judge9.proofs.LawLemmas.{breaks-tail, tail-breaks}
+use Rattle.judge9.proofs.ReasonLemmas.{breaks_tail, tail_breaks}
 use Rattle.judge9.proofs.laws.tail_decides.Goals as goal
 
 pub returns : goal.returns
 returns c = record {
-  is_ok = λ p es t r cut. (tail_by_kept p es t r cut, kept_by_tail p es t r cut);
-  reason = λ p es t cut r x. (breaks-tail p es t r x cut, tail-breaks p es t r x cut);
+  kept = λ p es t r cut. (tail_by_kept p es t r cut, kept_by_tail p es t r cut);
+  reason = λ h p es t cut run r broken x. (breaks_tail h p es t r x cut broken, tail_breaks h p es t r x cut run broken);
 }

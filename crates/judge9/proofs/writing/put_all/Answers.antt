@@ -2,7 +2,7 @@ use Rattle.std.proofs.Common.{◌≡◌, ◌+◌, ◌-◌, ◌≤◌, ◌∙◌,
 use Rattle.std.proofs.lemmas.List.{drop-take, length-drop, take-take, take_rest}
 use Rattle.std.proofs.KnownBytes.{Appends-trans}
 use Rattle.std.specs.Io.KnownBytes.{Appends}
-use Rattle.judge9.proofs.report.put_all.Goals as goal
+use Rattle.judge9.proofs.writing.put_all.Goals as goal
 
 -- a first part, and a first part of the rest
 taken : (i n : ℕ) (bs : List ℕ) → take i bs ++ take n (take (length bs - i) (drop i bs)) ≡ take (i + n) bs

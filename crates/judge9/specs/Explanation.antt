@@ -1,0 +1,111 @@
+-- The line that explains an exchange: what was asked and answered, and what is known of the deck after it.
+use Rattle.std.specs.Prelude.{ℕ, ◌/◌, ◌%◌, ◌==◌, if◌then◌else◌, Bool, true, false, List, [], ◌∷◌, ◌++◌, unwrap_or, slice_index, bit_and, codes}
+use Rattle.std.specs.Fmt.{decimal}
+use Rattle.tc25.specs.Day.{text_of}
+use Rattle.block9.specs.declared.block.Block.{Block}
+use Rattle.block9.specs.declared.pairer.Exchange.{Exchange}
+use Rattle.block9.specs.Block.{first_datum, head_of}
+use Rattle.block9.specs.Command.{acknowledged, is_nak, name_of}
+use Rattle.block9.specs.Nak.{nak_bits}
+use Rattle.track9.specs.declared.knowledge.Known.{Known}
+use Rattle.track9.specs.declared.knowledge.Known.TheVariants as known
+use Rattle.track9.specs.declared.knowledge.KnownEntry.{KnownEntry}
+use Rattle.track9.specs.declared.knowledge.KnownEntry.TheVariants as entry
+use Rattle.track9.specs.declared.knowledge.Knowledge.{Knowledge}
+use Rattle.track9.specs.declared.mode.Mode.{Mode}
+use Rattle.track9.specs.declared.state.Hands.{Hands}
+use Rattle.track9.specs.declared.state.Hands.TheVariants as hands
+use Rattle.track9.specs.Mode.{name_of as name_of_mode}
+
+-- ---- bytes
+
+-- a hexadecimal digit, in upper case
+abbrev pub hex_digit : ℕ → ℕ
+hex_digit n = slice_index (codes "0123456789ABCDEF") n
+
+-- a byte as two hexadecimal digits
+abbrev pub hex_byte : ℕ → List ℕ
+hex_byte n = hex_digit (n / 16 % 16) ∷ hex_digit (n % 16) ∷ []
+
+-- the first two bytes of a block, as in 51 20
+unfoldable pub text_of_head : Block → List ℕ
+text_of_head b = hex_byte (head_of b / 256) ++ codes " " ++ hex_byte (head_of b % 256)
+
+-- ---- what was asked, and what was answered
+
+-- the name of a command, and the first two bytes of one that is not listed
+unfoldable pub text_of_command : Exchange → List ℕ
+text_of_command e = unwrap_or (name_of e.command) (text_of_head e.block)
+
+-- the bit is set in the byte
+abbrev pub has_bit : ℕ → ℕ → Bool
+has_bit byte bit = bit_and byte bit == bit
+
+-- the names of the bits that are set, in the order of the table: `before` stands before the first, and a plus sign before each other
+abbrev pub names_after : List ℕ → ℕ → List (List ℕ × ℕ) → List ℕ
+names_after before byte [] = []
+names_after before byte (row ∷ rows) =
+    if has_bit byte row.1 then before ++ row.0 ++ names_after (codes "+") byte rows else names_after before byte rows
+
+-- a NAK with this byte of reasons, as in NAK 14 checksum+parity; a bit without a name is not told
+unfoldable pub text_of_nak : ℕ → List ℕ
+text_of_nak byte = codes "NAK " ++ hex_byte byte ++ names_after (codes " ") byte nak_bits
+
+-- a reply: an acknowledgement, a NAK with its reasons, or the first two bytes of what was sent
+unfoldable pub text_of_reply : Block → List ℕ
+text_of_reply reply =
+    if acknowledged reply then codes "ACK"
+    else (if is_nak reply then text_of_nak (first_datum reply) else text_of_head reply)
+
+-- ---- what is known of the deck
+
+-- a mode on which all possible states agree
+unfoldable pub text_of_mode : Known Mode → List ℕ
+text_of_mode (known.Is mode) = name_of_mode mode
+text_of_mode known.Unknown = codes "unknown"
+
+-- a register: clear, set at a time on which all possible states agree, set at one that is not known
+unfoldable pub text_of_register : KnownEntry → List ℕ
+text_of_register entry.Clear = codes "clear"
+text_of_register (entry.At time) = text_of time
+text_of_register entry.SetSomewhere = codes "set"
+text_of_register entry.Unknown = codes "unknown"
+
+-- one of two words, by a fact on which all possible states agree
+abbrev pub word_of : List ℕ → List ℕ → Known Bool → List ℕ
+word_of if_so if_not (known.Is true) = if_so
+word_of if_so if_not (known.Is false) = if_not
+word_of if_so if_not known.Unknown = codes "unknown"
+
+-- whether the deck is in local
+unfoldable pub text_of_local : Known Bool → List ℕ
+text_of_local = word_of (codes "yes") (codes "no")
+
+-- whether the panel is on; nothing is told of it where hands are not allowed
+unfoldable pub text_of_panel : Hands → Known Bool → List ℕ
+text_of_panel hands.None panel = []
+text_of_panel hands.Allowed panel = codes ", panel " ++ word_of (codes "on") (codes "off") panel
+
+-- what is known, field by field
+unfoldable pub text_of_knowledge : Hands → Knowledge → List ℕ
+text_of_knowledge h k =
+    (codes "goal " ++ text_of_mode k.goal)
+    ++ (codes ", shown " ++ text_of_mode k.shown)
+    ++ (codes ", in " ++ text_of_register k.ins)
+    ++ (codes ", out " ++ text_of_register k.outs)
+    ++ (codes ", local " ++ text_of_local k.local)
+    ++ (codes ", ain " ++ text_of_register k.ains)
+    ++ (codes ", aout " ++ text_of_register k.aouts)
+    ++ text_of_panel h k.panel
+
+-- ---- the line
+
+-- the line of an exchange, by the number of its reply's last record and what is known after it
+unfoldable pub line_of_exchange : Hands → ℕ → Exchange → Knowledge → List ℕ
+line_of_exchange h at e k =
+    (codes "record " ++ decimal at)
+    ++ (codes ": " ++ text_of_command e)
+    ++ (codes " -> " ++ text_of_reply e.reply)
+    ++ (codes ", delay " ++ decimal e.delay_us)
+    ++ (codes ", " ++ text_of_knowledge h k)
+    ++ codes "\n"

@@ -1,0 +1,58 @@
+//! A judging whose report goes through a buffer, and the flush after it.
+ghost use Rattle.std.specs.Prelude.{◌≡◌, ◌≢◌, Err, IfSome, IfErr, option_map};
+ghost use Rattle.capture9.specs.Rows.{rows_of};
+ghost use Rattle.judge9.specs.Judging.{CanBeResult, IsTheAnswer, StoppedBefore, answer_of};
+ghost use Rattle.judge9.specs.Report.{Told};
+ghost use Rattle.ninecheck.specs.Output.{contents_behind, held_contents};
+ghost use Rattle.ninecheck.specs.Judging.{EndsAs, HandsOn};
+
+use crate::buffered::Buffered;
+use capture9::{CaptureError, CaptureKind};
+use judge9::{JudgeError, Verdict, View, judge};
+use std::alloc::Global;
+use std::io::{Read, Write};
+use track9::Hands;
+
+/// Judges the capture that the reader gives, and hands the whole report on to the writer behind the buffer.
+///
+/// The result is that of `judge` where the writer took all that `judge` wrote. Else it is `Err(Write)`, and the
+/// writer has a first part of that; what the buffer still holds is not written. After a write that failed, that was
+/// interrupted or that took no byte, none is tried again.
+pub fn judge_and_flush<R: Read + Drop, W: Write + Drop>(
+    alloc: Global,
+    reader: R,
+    out: &mut Buffered<W>,
+    view: View,
+    hands: Hands,
+) -> Result<Verdict, JudgeError>
+    ensures answer { IfSome (R.remaining reader)
+        (λ text. IfSome (answer_of result) (IsTheAnswer hands (rows_of text))) }
+    ensures told { EndsAs (λ judged all. Told view hands (option_map rows_of (R.remaining reader)) judged
+        (held_contents W.contents out.old) all)
+        result (contents_behind W.contents out.new) }
+    ensures stopped { IfSome (R.remaining reader)
+        (λ text. IfErr result (StoppedBefore hands (rows_of text))) }
+    ensures kind { (e : CaptureError) → result ≡ Err (JudgeError.Capture e)
+        → e.kind ≢ CaptureKind.OutOfMemory }
+    ensures can_be { CanBeResult result }
+{
+    let judged = judge(alloc, reader, out, view, hands);
+    ended(out, judged)
+}
+
+/// The end of a judging that answered this: all is handed on, unless a write failed already.
+fn ended<W: Write + Drop>(
+    out: &mut Buffered<W>,
+    judged: Result<Verdict, JudgeError>,
+) -> Result<Verdict, JudgeError>
+    ensures { HandsOn judged (held_contents W.contents out.old)
+        result (contents_behind W.contents out.new) }
+{
+    if let Err(JudgeError::Write) = judged {
+        return Err(JudgeError::Write);
+    }
+    match out.flush() {
+        Ok(()) => judged,
+        Err(_) => Err(JudgeError::Write),
+    }
+}

@@ -1,0 +1,34 @@
+//! The task that the words of the command line give, and why they give none.
+
+use clap::Error;
+use track9::Hands;
+
+/// What is to be done with a capture.
+#[derive(Clone, Copy, Debug, PartialEq, Eq)]
+pub enum Verb {
+    /// Answer the verdict alone: the subcommand `check`.
+    Check,
+    /// Tell each exchange before the verdict: the subcommand `explain`.
+    Explain,
+}
+
+/// What the words of the command line ask for.
+#[derive(Debug, Drop, PartialEq, Eq)]
+pub struct Task {
+    /// What is to be done.
+    pub verb: Verb,
+    /// The file that holds the capture; standard input where there is none.
+    pub file: Option<String>,
+    /// Whether somebody may have touched the deck's panel during the capture.
+    pub hands: Hands,
+}
+
+/// Why the words give no task.
+#[derive(Debug, Drop)]
+pub enum WordsFault {
+    /// The words are no command, or they ask for help. The `Display` of the error, where there is one, is the
+    /// text for the user.
+    Usage(Option<Error>),
+    /// A growth of memory was refused.
+    NoMemory,
+}

@@ -1,0 +1,109 @@
+#!/usr/bin/env bash
+# Runs the built program with each of its reads, and each of its writes to standard output, failing in turn.
+# The last line is 'N passed, M failed', where a way to fail counts once.
+set -u
+cd "$(dirname "$0")/.." || exit 1
+program=${NINECHECK:-$PWD/crates/ninecheck/out/ninecheck}
+
+work=$(mktemp -d)
+trap 'rm -rf "$work"' EXIT
+cc -shared -fPIC -O2 -o "$work/fail_call.so" tests/fail_call.c -ldl || exit 1
+passed=0
+failed=0
+
+# PLAY and its reply, 1,000 times: more than the buffer holds, where each exchange has a line.
+{
+    echo 'time_us,wire,byte'
+    awk 'BEGIN { split("C,20 C,01 C,21 D,10 D,01 D,11", row, " ")
+        for (k = 1; k <= 6000; k++) print 400 * k "," row[(k - 1) % 6 + 1] }'
+} > "$work/long.csv"
+
+# run VERB FILE CALL N HOW: the program with call N failing. Leaves its status and its streams, and in $reads and
+# $writes how often it called.
+run() {
+    rm -f "$work/calls"
+    CALLS="$work/calls" CALL=$3 FAIL_AT=$4 FAIL_HOW=$5 LD_PRELOAD="$work/fail_call.so" \
+        "$program" "$1" "$2" > "$work/out" 2> "$work/err"
+    status=$?
+    read -r reads writes < "$work/calls"
+}
+
+# has_begun: what was written is a first part of what is right.
+has_begun() {
+    cmp -s -n "$(wc -c < "$work/out")" "$work/out" "$work/whole"
+}
+
+# is_right: the answer is right, whole, and nothing is said beside it.
+is_right() {
+    [ "$status" = 0 ] && cmp -s "$work/out" "$work/whole" && [ ! -s "$work/err" ]
+}
+
+# is_write_fault: the program ended with the write that failed, and has written a first part and not the whole.
+is_write_fault() {
+    [ "$status" = 4 ] && [ "$(cat "$work/err")" = 'write fault' ] && [ "$writes" = "$at" ] &&
+        has_begun && ! cmp -s "$work/out" "$work/whole"
+}
+
+# is_read_fault: the program ended with the read that failed, at some row of the text, and wrote no verdict.
+is_read_fault() {
+    [ "$status" = 4 ] && grep -qxE 'read fault at row [0-9]+' "$work/err" && [ "$reads" = "$at" ] &&
+        has_begun && ! grep -q '^yes\|^no' "$work/out"
+}
+
+# try VERB FILE CALL HOW CONDITION: each such call failing in turn, with what has to hold then.
+try() {
+    local verb=$1 file=$2 call=$3 how=$4 condition=$5 count
+    run "$verb" "$file" none 0 none
+    cp "$work/out" "$work/whole"
+    count=$reads
+    [ "$call" = read ] || count=$writes
+    if ! is_right || [ "$count" = 0 ]; then
+        failed=$((failed + 1))
+        echo "FAILED $verb $(basename "$file") as it is: status $status, reads $reads, writes $writes"
+        return
+    fi
+    for at in $(seq "$count"); do
+        run "$verb" "$file" "$call" "$at" "$how"
+        if ! "$condition"; then
+            failed=$((failed + 1))
+            echo "FAILED $verb $(basename "$file"), $call $at $how: status $status, calls $reads $writes"
+            cat "$work/err"
+            return
+        fi
+    done
+    passed=$((passed + 1))
+    echo "$verb $(basename "$file"): right with each of $count calls of $call: $how"
+}
+
+for verb in check explain; do
+    for file in examples/play.csv "$work/long.csv"; do
+        for how in EIO EINTR ENOSPC zero; do
+            try "$verb" "$file" write "$how" is_write_fault
+        done
+        try "$verb" "$file" write short is_right
+        for how in EIO EINTR; do
+            try "$verb" "$file" read "$how" is_read_fault
+        done
+        try "$verb" "$file" read short is_right
+    done
+done
+
+# expect_row N WANT: the row that is named where read N of PLAY fails.
+expect_row() {
+    run check examples/play.csv read "$1" EIO
+    if [ "$status" = 4 ] && [ "$(cat "$work/err")" = "read fault at row $2" ] && [ ! -s "$work/out" ]; then
+        passed=$((passed + 1))
+    else
+        failed=$((failed + 1))
+        echo "FAILED read $1 of PLAY: status $status: $(cat "$work/err")"
+    fi
+}
+
+# The first read fails in the header; the last, which finds the end, comes after the six rows.
+run check examples/play.csv none 0 none
+last=$reads
+expect_row 1 0
+expect_row "$last" 7
+
+echo "$passed passed, $failed failed"
+[ "$failed" = 0 ]
