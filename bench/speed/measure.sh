@@ -1,7 +1,9 @@
 #!/usr/bin/env bash
-# How long the program takes on 4,000,000 records, as a ratio to a loop that only reads the same rows with
-# csv into one record; each is run five times in turn, and the best time counts. It also says the greatest
-# resident memory. Not part of the gate. The program is the one that the gate or ./ninecheck built.
+# How long the program takes on 4,000,000 records, as ratios: `check` to a loop that only reads the same rows with
+# csv into one record, and `explain` into a file to `check`; on a capture of PLAY and its acknowledgement, and on one of
+# mixed traffic (status, time and register senses, presets, shifts). All are run five times in turn, and the best time
+# counts. It also says the greatest resident memory. Not part of the gate. The program is the one that the gate or
+# ./ninecheck built.
 set -u
 top=$(cd "$(dirname "$0")/../.." && pwd)
 program=${NINECHECK:-$top/crates/ninecheck/out/ninecheck}
@@ -18,32 +20,75 @@ echo 'time_us,wire,byte' > "$work/crates/read_rows/stdin"
 reader=$work/crates/read_rows/out/read_rows
 [ -x "$reader" ] || { cat "$work/log"; echo "the reading loop could not be built"; exit 1; }
 
-capture=$work/capture.csv
-{
-    echo 'time_us,wire,byte'
-    awk 'BEGIN { split("C,20 C,01 C,21 D,10 D,01 D,11", row, " ")
-        for (k = 1; k <= 4000000; k++) print 400 * k "," row[(k - 1) % 6 + 1] }'
-} > "$capture"
-
-python3 - "$program" "$reader" "$capture" <<'PY'
+python3 - "$program" "$reader" "$work" <<'PY'
 import subprocess, sys, time
-program, reader, capture = sys.argv[1:]
-def seconds(path):
-    with open(capture, 'rb') as text:
+program, reader, work = sys.argv[1:]
+RECORDS = 4000000
+
+def block(head, code, *data):
+    body = [head * 16 + len(data), code, *data]
+    return body + [sum(body) % 256]
+
+def bcd(n):
+    return n // 10 * 16 + n % 10
+
+def time_bytes(frames):
+    seconds = frames // 25
+    return [bcd(frames % 25), bcd(seconds % 60), bcd(seconds // 60 % 60), bcd(seconds // 3600 % 24)]
+
+ACK = block(1, 0x01)
+PLAY = [(block(2, 0x01), ACK)]
+
+# What an editor asks and sets while it looks for an edit; the deck is not in local.
+def mixed(turn):
+    at = time_bytes(turn * 7 % 2160000)
+    shifted = time_bytes((turn * 7 + 1) % 2160000)
+    yield block(6, 0x20, 0x04), block(7, 0x20, 0x00, 0x20, 0x00, 0x01)
+    yield block(6, 0x0C, 0x01), block(7, 0x04, *at)
+    yield block(4, 0x14, *at), ACK
+    yield block(6, 0x10), block(7, 0x10, *at)
+    yield block(4, 0x18), ACK
+    yield block(6, 0x10), block(7, 0x10, *shifted)
+
+def write(path, exchanges):
+    now = records = turn = 0
+    with open(path, 'w') as text:
+        text.write('time_us,wire,byte\n')
+        while True:
+            for asked, answered in exchanges(turn):
+                for wire, bytes_sent in (('C', asked), ('D', answered)):
+                    for byte in bytes_sent:
+                        if records == RECORDS:
+                            return
+                        now += 400
+                        records += 1
+                        text.write('%d,%s,%02X\n' % (now, wire, byte))
+            turn += 1
+
+def seconds(words, capture, out):
+    with open(capture, 'rb') as text, open(out, 'wb') as to:
         start = time.perf_counter()
-        subprocess.run([path], stdin=text, stdout=subprocess.DEVNULL, check=True)
+        subprocess.run(words, stdin=text, stdout=to, check=True)
         return time.perf_counter() - start
-def peak(path):
+
+def peak(words, capture):
     high = 0
     with open(capture, 'rb') as text:
-        child = subprocess.Popen([path], stdin=text, stdout=subprocess.DEVNULL)
+        child = subprocess.Popen(words, stdin=text, stdout=subprocess.DEVNULL)
         while child.poll() is None:
             with open(f'/proc/{child.pid}/status') as status:
                 high = max([high] + [int(line.split()[1]) for line in status if line.startswith('VmHWM')])
             time.sleep(0.01)
     return high
-runs = [(seconds(program), seconds(reader)) for _ in range(5)]
-judged = min(judge for judge, _ in runs)
-read = min(reading for _, reading in runs)
-print(f'judging {judged:.3f} s, reading {read:.3f} s, ratio {judged / read:.2f}, resident memory {peak(program)} kB')
+
+for name, exchanges in (('PLAY and ACK', lambda turn: PLAY), ('mixed traffic', mixed)):
+    capture = f'{work}/capture.csv'
+    write(capture, exchanges)
+    check, explain = [program, 'check'], [program, 'explain']
+    runs = [(seconds(check, capture, '/dev/null'), seconds([reader], capture, '/dev/null'),
+             seconds(explain, capture, f'{work}/lines')) for _ in range(5)]
+    judged, read, told = (min(column) for column in zip(*runs))
+    print(f'{name}: check {judged:.3f} s, reading {read:.3f} s, ratio {judged / read:.2f}; '
+          f'explain {told:.3f} s, ratio to check {told / judged:.2f}; '
+          f'resident memory {peak(check, capture)} kB, {peak(explain, capture)} kB')
 PY
