@@ -5,7 +5,7 @@
 # The last line is 'N passed, M failed', where a test counts once, and so do the words of a program.
 set -u
 cd "$(dirname "$0")/.." || exit 1
-tests=${TRACK9_TESTS:-$PWD/crates/track9/out/track9_tests}
+tests=${TRACK9_TESTS:-$PWD/crates/track9_tests/out/track9_tests_tests}
 program=${NINECHECK:-$PWD/crates/ninecheck/out/ninecheck}
 
 work=$(mktemp -d)

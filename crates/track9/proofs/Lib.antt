@@ -1,3 +1,5 @@
+pub mod AskedLemmas
+pub mod BeforeLemmas
 pub mod ChangeLemmas
 pub mod DriftLemmas
 pub mod EffectLemmas

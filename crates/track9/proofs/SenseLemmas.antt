@@ -50,7 +50,7 @@ sense_reached r bytes l pn p =
 abbrev pub StatusOf : ℕ → Block → State → State → Type 0
 StatusOf asked reply s t = ShowsStatus s asked reply × (t ≡ s)
 
-masked_has : (mask : ModeSet) (p : Pairs) (g m : Mode) → has_pair (masked mask p) g m ≡ (has_pair p g m && has mask.0 m)
+pub masked_has : (mask : ModeSet) (p : Pairs) (g m : Mode) → has_pair (masked mask p) g m ≡ (has_pair p g m && has mask.0 m)
 masked_has mask p g m = ap (λ (x : ModeSet). has x.0 m) (shown_by_goal (λ f. both (shown_with p f) mask) g) ∙ has-and (shown_with p g).0 mask.0 m
 
 -- the factors that agree with the modes and with datum 3

@@ -53,14 +53,14 @@ panel_by h e on v w allowed same new has =
 -- ---- senses
 
 -- a command that asks for something of the state has no effect
-sense_effect : (c : Command) (r : Register) → sense_of c ≡ sense.Register r → effect_of c ≡ effect.Nothing
+pub sense_effect : (c : Command) (r : Register) → sense_of c ≡ sense.Register r → effect_of c ≡ effect.Nothing
 sense_effect command.InDataSense r e = refl
 sense_effect command.OutDataSense r e = refl
 sense_effect command.AudioInDataSense r e = refl
 sense_effect command.AudioOutDataSense r e = refl
 sense_effect _ r e = cc
 
-status_effect : (c : Command) (asked : ℕ) → sense_of c ≡ sense.Status asked → effect_of c ≡ effect.Nothing
+pub status_effect : (c : Command) (asked : ℕ) → sense_of c ≡ sense.Status asked → effect_of c ≡ effect.Nothing
 status_effect (command.StatusSense a) asked e = refl
 status_effect _ asked e = cc
 

@@ -44,7 +44,7 @@ pub enum Effect {
 
 impl Effect {
     ghost use Rattle.std.specs.Prelude.{◌≡◌};
-    ghost use Rattle.track9.specs.Effect.{effect_of};
+    ghost use Rattle.track9.specs.Effect.{effect_of, may_ignore};
 
     /// What a command does where it is acknowledged.
     pub fn of(command: &Command) -> Effect
@@ -105,5 +105,14 @@ impl Effect {
             },
             _ => Effect::Nothing,
         }
+    }
+    /// Whether a deck in local may also leave it undone.
+    pub(crate) fn may_ignore(&self) -> bool
+        ensures { result ≡ may_ignore self.now }
+    {
+        matches!(
+            self,
+            Effect::Go(_) | Effect::KeepOrStop | Effect::Change(_, _)
+        )
     }
 }

@@ -4,6 +4,7 @@
 //! some run of the deck that gives these replies could have left it.
 #![tactic(auto)]
 
+mod asked;
 mod effect;
 mod knowledge;
 pub mod laws;
@@ -18,8 +19,6 @@ mod sense;
 mod state;
 mod states;
 mod status;
-#[cfg(test)]
-mod tests;
 mod tracker;
 
 pub use effect::{Change, Effect};

@@ -1,7 +1,11 @@
 //! Sets of pairs of a goal and a shown mode.
-ghost use Rattle.std.specs.Prelude.{◌≡◌};
-ghost use Rattle.track9.specs.Tracker.{shown_with};
+ghost use Rattle.std.specs.Prelude.{◌≡◌, IfNone, IfSome, true};
+ghost use Rattle.track9.specs.Drift.{PairReaches};
+ghost use Rattle.track9.specs.ModeSet.{has};
+ghost use Rattle.track9.specs.Tracker.{has_pair, shown_with};
+ghost use Rattle.track9.specs.Working.Asked.{IsPairOf, PairRunsTo};
 ghost use Rattle.track9.specs.Working.Pairs.{all_pairs, drifted, drifted_with, goes, gone, gone_with, goal_if_shown, goals_of, is_some, joined, masked, no_pairs, some_pair};
+ghost use Rattle.track9.specs.declared.mode.Mode.{Mode as AMode};
 
 use crate::mode::Mode;
 use crate::mode_set::ModeSet;
@@ -9,6 +13,13 @@ use crate::mode_set::ModeSet;
 /// The modes that may be shown with each goal, in the order of the modes.
 #[derive(Clone, Copy, Debug, PartialEq, Eq)]
 pub(crate) struct Pairs([ModeSet; 10]);
+
+/// A goal and a shown mode.
+#[derive(Clone, Copy, Debug, PartialEq, Eq)]
+pub(crate) struct Pair {
+    pub(crate) goal: Mode,
+    pub(crate) shown: Mode,
+}
 
 impl Pairs {
     /// No pair.
@@ -114,6 +125,44 @@ impl Pairs {
             ModeSet::NONE
         };
         kept.or(halted)
+    }
+
+    /// A pair from which a drift of the mechanics reaches one of these goals with one of these modes shown: None
+    /// exactly where there is none.
+    pub(crate) fn origin(&self, goals: ModeSet, shown: ModeSet) -> Option<Pair>
+        ensures some { IfSome result (λ p. IsPairOf self.now p × PairRunsTo goals shown p.goal p.shown) }
+        ensures none { IfNone result (¬ ((f n : AMode) × (has_pair self.now f n ≡ true) × PairRunsTo goals shown f n)) }
+    {
+        let reached = self.drifted().masked(shown);
+        let goals = reached.goals().and(goals);
+        if !goals.is_some() {
+            return None;
+        }
+        let goal = goals.first();
+        Some(self.source(goal, reached.shown(goal).first()))
+    }
+
+    /// A pair from which a drift of the mechanics reaches this one. There is one.
+    fn source(&self, goal: Mode, shown: Mode) -> Pair
+        requires { has (drifted_with self.now goal).0 shown ≡ true }
+        ensures { IsPairOf self.now result × PairReaches result.goal result.shown goal shown }
+    {
+        let kept = self.shown(goal);
+        if kept.has(shown) {
+            return Pair { goal, shown };
+        }
+        let on_the_way = ModeSet::just(goal).or(ModeSet::on_the_way(goal));
+        if kept.is_some() && on_the_way.has(shown) {
+            return Pair {
+                goal,
+                shown: kept.first(),
+            };
+        }
+        let goal = self.goals().first();
+        Pair {
+            goal,
+            shown: self.shown(goal).first(),
+        }
     }
 
     /// The pairs with this goal in place of theirs.

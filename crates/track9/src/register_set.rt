@@ -1,9 +1,11 @@
 //! Sets of entries of one register.
-ghost use Rattle.std.specs.Prelude.{◌≡◌, IfOk, OnErr, OnOk, true};
+ghost use Rattle.std.specs.Prelude.{◌≡◌, ◌↔◌, IfNone, IfOk, IfSome, IsTrue, OnErr, OnOk, true};
 ghost use Rattle.tc25.specs.Times.{BelowDay, span_count};
 ghost use Rattle.track9.specs.Tracker.{Allows};
+ghost use Rattle.track9.specs.Working.Asked.{Is};
 ghost use Rattle.track9.specs.Working.Knowing.{KnowsOf};
 ghost use Rattle.track9.specs.Working.Entries.{agreeing, all_entries, changed, no_entries, said, some_entry, widened};
+ghost use Rattle.track9.specs.declared.state.Entry.{Entry as AEntry};
 
 use crate::effect::Change;
 use crate::knowledge::KnownEntry;
@@ -87,6 +89,33 @@ impl<S: TimeSet> RegisterSet<S> {
         match self.times.least() {
             Some(time) => Entry::At(time),
             None => Entry::Clear,
+        }
+    }
+
+    /// An entry that is asked for, or some entry where none is: None exactly where there is none.
+    pub(crate) fn pick(&self, asked: &Option<Entry>) -> Option<Entry>
+        ensures some { IfSome result (λ e. Allows self.now e × Is asked.now e) }
+        ensures none { IfNone result (¬ ((e : AEntry) × Allows self.now e × Is asked.now e)) }
+    {
+        match asked {
+            Some(entry) => { if self.has(entry) { Some(*entry) } else { None } }
+            None => {
+                if self.is_some() {
+                    Some(self.first())
+                } else {
+                    None
+                }
+            }
+        }
+    }
+
+    /// Whether this is one of the entries.
+    fn has(&self, entry: &Entry) -> bool
+        ensures { IsTrue result ↔ Allows self.now entry.now }
+    {
+        match entry {
+            Entry::Clear => self.may_clear,
+            Entry::At(time) => self.times.contains(*time),
         }
     }
 

@@ -1,4 +1,7 @@
 //! The states of a deck.
+ghost use Rattle.std.specs.Prelude.{◌≡◌};
+ghost use Rattle.track9.specs.State.{entry_of};
+
 use crate::mode::Mode;
 use tc25::TimeCode;
 
@@ -52,4 +55,18 @@ pub struct State {
     pub local: bool,
     /// Whether the panel is on, so that a hand may change anything. Never, where hands are not allowed.
     pub panel: bool,
+}
+
+impl State {
+    /// What a register holds.
+    pub(crate) fn entry(&self, register: Register) -> &Entry
+        ensures { result.now ≡ entry_of register self.entry.now }
+    {
+        match register {
+            Register::RegIn => &self.ins,
+            Register::RegOut => &self.outs,
+            Register::RegAudioIn => &self.ains,
+            Register::RegAudioOut => &self.aouts,
+        }
+    }
 }

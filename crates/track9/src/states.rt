@@ -21,8 +21,10 @@ use std::marker::Model;
 use std::mem;
 use tc25::{SpanSet, TimeCode, TimeSet};
 
+mod before;
 mod knowing;
 mod member;
+mod shows;
 mod step;
 
 /// The states in which the deck may be.

@@ -120,6 +120,15 @@ impl<S: TimeSet> Tracker<S> {
         self.states.member()
     }
 
+    /// A possible state from which a drift and a step of the deck, with this reply to this command, lead to the target, or
+    /// `None` exactly where there is none. Which one it is of several is not said. Takes no memory.
+    pub fn before(&self, command: &Command, reply: &Block, target: &State) -> Option<State>
+        ensures some { IfSome result (λ s. Possible self.now.states s × Exchanges self.now.hands command.now reply.now s target.now) }
+        ensures none { IfNone result (¬ ((s : AState) × Possible self.now.states s × Exchanges self.now.hands command.now reply.now s target.now)) }
+    {
+        self.states.before(self.hands, command, reply, target)
+    }
+
     /// What all possible states agree on, field by field. There has to be one (`remains`). Takes no memory.
     pub fn knowledge(&self) -> Knowledge
         requires { (s : AState) × Possible self.now.states s }

@@ -31,7 +31,7 @@ impl<S: TimeSet> States<S> {
 }
 
 /// Some state of a part, with these values of local and of panel: none where the part has none.
-fn state_in<S: TimeSet>(part: &Part<S>, local: bool, panel: bool) -> Option<State>
+pub(crate) fn state_in<S: TimeSet>(part: &Part<S>, local: bool, panel: bool) -> Option<State>
     requires { Whole part.now }
     ensures some { IfSome result (HasState part.now local panel) }
     ensures none { IfNone result (is_live part.now ≡ false) }

@@ -1,0 +1,274 @@
+-- A state that an exchange leads to another one from: drifts to a pattern of states, and whole steps.
+use Rattle.std.proofs.Common.{◌≡◌, ◌⊎◌, inl, inr, ◌||◌, Bool, true, false, Option, Some, None, IfNone, IfSome, ℕ, List, ◌↔◌, refl, sym, ap, ◌∙◌, subst}
+use Rattle.std.proofs.lemmas.Bool.{and_from, and_parts, eq-eqb, false≢true, or_left, or_right}
+use Rattle.tc25.specs.Day.{ReadsAs, time_of}
+use Rattle.tc25.proofs.DayLemmas.{ReadsAs-from_time_of, time_of-from_ReadsAs}
+use Rattle.block9.specs.declared.block.Block.{Block}
+use Rattle.block9.specs.declared.command.Command.{Command}
+use Rattle.block9.specs.Command.{is_nak}
+use Rattle.track9.specs.declared.asked.Asked.{Asked}
+use Rattle.track9.specs.declared.effect.Effect.TheVariants as effect
+use Rattle.track9.specs.declared.mode.Mode.{Mode}
+use Rattle.track9.specs.declared.mode.Mode.TheVariants.{Stop}
+use Rattle.track9.specs.declared.mode_set.ModeSet.{ModeSet}
+use Rattle.track9.specs.declared.pairs.Pairs.{Pairs}
+use Rattle.track9.specs.declared.sense.Sense.{Sense}
+use Rattle.track9.specs.declared.sense.Sense.TheVariants as sense
+use Rattle.track9.specs.declared.state.Entry.{Entry}
+use Rattle.track9.specs.declared.state.Hands.{Hands}
+use Rattle.track9.specs.declared.state.Register.{Register}
+use Rattle.track9.specs.declared.state.Register.TheVariants.{RegIn, RegOut, RegAudioIn, RegAudioOut}
+use Rattle.track9.specs.declared.state.State.{State}
+use Rattle.track9.specs.Drift.{Drift, DriftsTo, KeepsRest, PairReaches}
+use Rattle.track9.specs.Effect.{Does, effect_of}
+use Rattle.track9.specs.Mode.{index_of, is_mode, is_one_of, on_the_way}
+use Rattle.track9.specs.ModeSet.{has}
+use Rattle.track9.specs.Shows.{Agrees, Shows, sense_of}
+use Rattle.track9.specs.State.{IsState, entry_of}
+use Rattle.track9.specs.Step.{Exchanges, Step, done, ignored, refused}
+use Rattle.track9.specs.Tracker.{Allows, PartStates, Possible, StateSet, entries_of, has_pair, part_of, shown_with}
+use Rattle.track9.specs.Working.Asked.{Fits, Is, IsAsked, IsUndone, LeadsTo, PairRunsTo, RunsTo, asked_before, asked_of, just_state}
+use Rattle.track9.specs.Working.Pairs.{both, drifted, drifted_with, goals_of, is_some, masked}
+use Rattle.track9.specs.Working.Parts.{HasState}
+use Rattle.track9.specs.Working.States.{AreBelow, IsHandled, is_panel_live}
+use Rattle.track9.proofs.AskedLemmas.{fits_just, fits_self, found_from, found_none, found_to, none_some, some_same}
+use Rattle.track9.proofs.DriftLemmas.{drift_from_pairs, pairs_from_drift, same_entries}
+use Rattle.track9.proofs.KnownModes.{goal_to}
+use Rattle.track9.proofs.MemberLemmas.{some_goal, state_there}
+use Rattle.track9.proofs.ModeLemmas.{has-and}
+use Rattle.track9.proofs.PairLemmas.{drifted_from, drifted_to, mode_some, pairs_some}
+use Rattle.track9.proofs.PartLemmas.{same_entry, shown_by_goal}
+use Rattle.track9.proofs.ReachLemmas.{impossible}
+use Rattle.track9.proofs.SenseLemmas.{masked_has}
+use Rattle.track9.proofs.SetDriftLemmas.{is_allowed, panel_live, state_is}
+use Rattle.track9.proofs.StepLemmas.{sense_effect, status_effect}
+
+-- ---- pairs
+
+-- where a pair was reached there is a goal
+pub source_goal : (p : Pairs) (g m : Mode) → has (drifted_with p g).0 m ≡ true → is_some (goals_of p) ≡ true
+source_goal p g m h = let w = drifted_from p g m h in some_goal p (pairs_some p w.0 w.1 w.2)
+
+-- what was reached with no pair of its goal is STOP
+pub source_halted : (p : Pairs) (g m : Mode) → has (drifted_with p g).0 m ≡ true → has (shown_with p g).0 m ≡ false
+    → ((is_some (shown_with p g) ≡ false) ⊎ ((is_mode m g || is_one_of (on_the_way g) m) ≡ false)) → (g ≡ Stop) × (m ≡ Stop)
+source_halted p g m h other way = let w = drifted_from p g m h in by w.0 w.1 w.2 w.3
+  where
+    no_way : (f n : Mode) → has_pair p f n ≡ true → g ≡ f → (is_mode m g || is_one_of (on_the_way g) m) ≡ true → (g ≡ Stop) × (m ≡ Stop)
+    no_way f n pair same there = elim way [
+      | inl none ↦ absurd (false≢true (sym none ∙ mode_some (shown_with p g) n (subst (λ f. has_pair p f n ≡ true) (sym same) pair)))
+      | inr none ↦ absurd (false≢true (sym none ∙ there))
+    ]
+
+    by : (f n : Mode) → has_pair p f n ≡ true → PairReaches f n g m → (g ≡ Stop) × (m ≡ Stop)
+    by f n pair (inl (same, inl stays)) =
+        absurd (false≢true (sym other ∙ subst (λ f. has_pair p f m ≡ true) (sym same) (subst (λ n. has_pair p f n ≡ true) (sym stays) pair)))
+    by f n pair (inl (same, inr (inl at_goal))) =
+        no_way f n pair same (or_left (is_mode m g) _ (eq-eqb (index_of m) (index_of g) (ap index_of (at_goal ∙ sym same))))
+    by f n pair (inl (same, inr (inr on_way))) =
+        no_way f n pair same (or_right (is_mode m g) _ (subst (λ f. is_one_of (on_the_way f) m ≡ true) (sym same) on_way))
+    by f n pair (inr stop) = stop
+
+-- the pairs that are asked for among those that are reached
+
+pub reached_parts : (shown : ModeSet) (p : Pairs) (g m : Mode) → has_pair (masked shown (drifted p)) g m ≡ true → (has (drifted_with p g).0 m ≡ true) × (has shown.0 m ≡ true)
+reached_parts shown p g m h =
+    let w = and_parts (has_pair (drifted p) g m) (has shown.0 m) (sym (masked_has shown (drifted p) g m) ∙ h) in
+    (subst (λ (x : ModeSet). has x.0 m ≡ true) (shown_by_goal (drifted_with p) g) w.0, w.1)
+
+reached_there : (shown : ModeSet) (p : Pairs) (g m : Mode) → has (drifted_with p g).0 m ≡ true → has shown.0 m ≡ true → has_pair (masked shown (drifted p)) g m ≡ true
+reached_there shown p g m h k =
+    masked_has shown (drifted p) g m
+    ∙ and_from (has_pair (drifted p) g m) (has shown.0 m) (subst (λ (x : ModeSet). has x.0 m ≡ true) (sym (shown_by_goal (drifted_with p) g)) h) k
+
+pub origin_there : (p : Pairs) (goals shown : ModeSet) → ((f n : Mode) × (has_pair p f n ≡ true) × PairRunsTo goals shown f n) → is_some (both (goals_of (masked shown (drifted p))) goals) ≡ true
+origin_there p goals shown (f, n, pair, (g, m, goal, mode, reaches)) =
+    let found = goal_to (masked shown (drifted p)) g m (reached_there shown p g m (drifted_to p f n g m pair reaches) mode) in
+    mode_some (both (goals_of (masked shown (drifted p))) goals) g (has-and (goals_of (masked shown (drifted p))).0 goals.0 g ∙ and_from _ _ found goal)
+
+-- ---- a part
+
+pub if_none_so : {A P : Type 0} (o : Option A) → P → IfNone o P
+if_none_so None h = h
+if_none_so (Some x) h = tt
+
+pub if_some_so : {A : Type 0} {P Q : A → Type 0} (o : Option A) → ((x : A) → P x → Q x) → IfSome o P → IfSome o Q
+if_some_so None f h = tt
+if_some_so (Some x) f h = f x h
+
+-- a drift of the mechanics keeps the registers
+kept_entry : (r : Register) (s d : State) → KeepsRest s d → entry_of r d ≡ entry_of r s
+kept_entry r s d kept = ap (entry_of r) kept ∙ same_entry r s d.goal d.shown
+
+pub no_entry_runs : (r : Register) (p : PartStates) (a : Asked) (l pn : Bool) → (((e : Entry) × Allows (entries_of r p) e × Is (asked_of r a) e) → ⊥) → ((s : State) × HasState p l pn s × RunsTo a s) → ⊥
+no_entry_runs r p a l pn none (s, there, (d, kept, reaches, fits)) =
+    none (entry_of r s, there.inside.registers r, subst (λ e. Is (asked_of r a) e) (kept_entry r s d kept) (fits.registers r))
+
+pub runs_there : (p : PartStates) (a : Asked) (f n : Mode) (x y z w : Entry) (l : Bool) → has_pair p.pairs f n ≡ true → PairRunsTo a.goals a.shown f n
+    → Allows p.ins x × Is a.ins x → Allows p.outs y × Is a.outs y → Allows p.ains z × Is a.ains z → Allows p.aouts w × Is a.aouts w → Is a.local l → Is a.panel false
+    → HasState p l false (record { goal = f; shown = n; ins = x; outs = y; ains = z; aouts = w; local = l; panel = false })
+    × RunsTo a (record { goal = f; shown = n; ins = x; outs = y; ains = z; aouts = w; local = l; panel = false })
+runs_there p a f n x y z w l pair (g, m, goal, mode, reaches) i o ai ao local panel =
+    let d : State = record { goal = g; shown = m; ins = x; outs = y; ains = z; aouts = w; local = l; panel = false } in (
+      state_there p f n x y z w l false pair i.0 o.0 ai.0 ao.0,
+      (d, refl, reaches, record { goal = goal; shown = mode; registers = each d i.1 o.1 ai.1 ao.1; local = local; panel = panel }),
+    )
+  where
+    each : (d : State) → Is a.ins d.ins → Is a.outs d.outs → Is a.ains d.ains → Is a.aouts d.aouts → (r : Register) → Is (asked_of r a) (entry_of r d)
+    each d i o ai ao RegIn = i
+    each d i o ai ao RegOut = o
+    each d i o ai ao RegAudioIn = ai
+    each d i o ai ao RegAudioOut = ao
+
+-- ---- a set of states
+
+pub runs_lead : (h : Hands) (a : Asked) (s : State) → RunsTo a s → LeadsTo h a s
+runs_lead h a s (d, kept, reaches, fits) = (d, drift_from_pairs h s d (inl (kept, reaches)), fits)
+
+-- a hand makes any state with the panel on
+pub hand_leads : (h : Hands) (v : StateSet) (a : Asked) (s : State) → IsHandled h v → IsAsked a → Is a.panel true → Possible v s → s.panel ≡ true → LeadsTo h a s
+hand_leads h v a s handled (d, valid, fits) asked there on =
+    let e : State = record d { panel = true } in
+    (e, drift_from_pairs h s e (inr (is_allowed h v handled (panel_live v s on there), on, refl, same d valid)), record { goal = fits.goal; shown = fits.shown; registers = each d fits; local = fits.local; panel = asked })
+  where
+    same : (d : State) → IsState d → IsState (record d { panel = true })
+    same d valid RegIn = valid RegIn
+    same d valid RegOut = valid RegOut
+    same d valid RegAudioIn = valid RegAudioIn
+    same d valid RegAudioOut = valid RegAudioOut
+
+    each : (d : State) → Fits a d → (r : Register) → Is (asked_of r a) (entry_of r (record d { panel = true }))
+    each d fits RegIn = fits.registers RegIn
+    each d fits RegOut = fits.registers RegOut
+    each d fits RegAudioIn = fits.registers RegAudioIn
+    each d fits RegAudioOut = fits.registers RegAudioOut
+
+abbrev pub NoneRuns : PartStates → Bool → Asked → Type 0
+NoneRuns p l a = ((s : State) × HasState p l false s × RunsTo a s) → ⊥
+
+pub no_origin : (h : Hands) (v : StateSet) (a : Asked) → (Is a.panel true → is_panel_live v ≡ false) → NoneRuns v.remote false a → NoneRuns v.local true a → ((s : State) × Possible v s × LeadsTo h a s) → ⊥
+no_origin h v a dead remote local (s, there, (d, drift, fits)) = by (pairs_from_drift h s d drift)
+  where
+    on : s.panel ≡ true → d.panel ≡ true → ⊥
+    on before after = false≢true (sym (dead (subst (Is a.panel) after fits.panel)) ∙ panel_live v s before there)
+
+    off : (l : Bool) → s.local ≡ l → s.panel ≡ false → RunsTo a s → ⊥
+    off false e f runs = remote (s, record { inside = impossible v s false false e f there; local = e; panel = f }, runs)
+    off true e f runs = local (s, record { inside = impossible v s true false e f there; local = e; panel = f }, runs)
+
+    kept : (pn : Bool) → s.panel ≡ pn → KeepsRest s d → PairReaches s.goal s.shown d.goal d.shown → ⊥
+    kept true e rest reaches = on e (ap (λ (u : State). u.panel) rest ∙ e)
+    kept false e rest reaches = off s.local refl e (d, rest, reaches, fits)
+
+    by : DriftsTo h s d → ⊥
+    by (inl (rest, reaches)) = kept s.panel refl rest reaches
+    by (inr (allowed, before, after, valid)) = on before after
+
+-- ---- steps
+
+-- a time that was read is the one that the bytes read as
+pub reads_time : (bytes : List ℕ) (read t : ℕ) → time_of bytes ≡ Some read → (read ≡ t) ↔ ReadsAs bytes t
+reads_time bytes read t found = (
+  λ same. ReadsAs-from_time_of bytes t (found ∙ ap Some same),
+  λ reads. some_same (sym found ∙ time_of-from_ReadsAs bytes t reads),
+)
+
+pub reads_none : (bytes : List ℕ) (t : ℕ) → time_of bytes ≡ None → ReadsAs bytes t → ⊥
+reads_none bytes t found reads = none_some (sym found ∙ time_of-from_ReadsAs bytes t reads)
+
+-- a reply that agrees with the state before agrees with the one after, and the other way round
+shows_after : (h : Hands) (c : Command) (reply : Block) (d t : State) → Does h (effect_of c) d t → Shows d c reply → Shows t c reply
+shows_after h c reply d t does shows = by (sense_of c) refl shows
+  where
+    same : effect_of c ≡ effect.Nothing → t ≡ d
+    same none = subst (λ e. Does h e d t) none does
+
+    by : (q : Sense) → sense_of c ≡ q → Agrees q d reply → Agrees q t reply
+    by (sense.Register r) e a = subst (λ u. Agrees (sense.Register r) u reply) (sym (same (sense_effect c r e))) a
+    by (sense.Status asked) e a = subst (λ u. Agrees (sense.Status asked) u reply) (sym (same (status_effect c asked e))) a
+    by sense.Nothing e a = tt
+
+shows_before : (h : Hands) (c : Command) (reply : Block) (d t : State) → Does h (effect_of c) d t → Shows t c reply → Shows d c reply
+shows_before h c reply d t does shows = by (sense_of c) refl shows
+  where
+    same : effect_of c ≡ effect.Nothing → t ≡ d
+    same none = subst (λ e. Does h e d t) none does
+
+    by : (q : Sense) → sense_of c ≡ q → Agrees q t reply → Agrees q d reply
+    by (sense.Register r) e a = subst (λ u. Agrees (sense.Register r) u reply) (same (sense_effect c r e)) a
+    by (sense.Status asked) e a = subst (λ u. Agrees (sense.Status asked) u reply) (same (status_effect c asked e)) a
+    by sense.Nothing e a = tt
+
+-- a drift leads from states of the day to such states
+drift_state : (h : Hands) (v : StateSet) (s d : State) → AreBelow v → Possible v s → Drift h s d → IsState d
+drift_state h v s d below there drift = by (pairs_from_drift h s d drift)
+  where
+    by : DriftsTo h s d → IsState d
+    by (inl (rest, reaches)) = same_entries s d rest (state_is (part_of v s.local s.panel) s (below s.local s.panel) there)
+    by (inr (allowed, before, after, valid)) = valid
+
+-- ---- whole exchanges
+
+pub nak_leads : (h : Hands) (c : Command) (reply : Block) (s t : State) → is_nak reply ≡ true → LeadsTo h (just_state t) s → Exchanges h c reply s t
+nak_leads h c reply s t nak (d, drift, fits) = (d, drift, refused nak (sym (fits_just t d fits)))
+
+pub nak_back : (h : Hands) (c : Command) (reply : Block) (s t : State) → is_nak reply ≡ true → Exchanges h c reply s t → LeadsTo h (just_state t) s
+nak_back h c reply s t nak (d, drift, step) = (d, drift, by step)
+  where
+    same : t ≡ d → Fits (just_state t) d
+    same e = subst (λ u. Fits (just_state u) d) (sym e) (fits_self d)
+
+    by : Step h c reply d t → Fits (just_state t) d
+    by (refused was e) = same e
+    by (done was shows does) = absurd (false≢true (sym was ∙ nak))
+    by (ignored was shows may local e) = absurd (false≢true (sym was ∙ nak))
+
+pub undone_leads : (h : Hands) (c : Command) (reply : Block) (s t : State) → is_nak reply ≡ false → Shows t c reply → IsUndone (effect_of c) t → LeadsTo h (just_state t) s → Exchanges h c reply s t
+undone_leads h c reply s t nak shows (may, local) (d, drift, fits) =
+    let e = fits_just t d fits in
+    (d, drift, ignored nak (subst (λ u. Shows u c reply) (sym e) shows) may (ap (λ (u : State). u.local) e ∙ local) (sym e))
+
+pub asked_leads : (h : Hands) (c : Command) (reply : Block) (s t : State) (a : Asked) → is_nak reply ≡ false → Shows t c reply → IsState t → asked_before h (effect_of c) t ≡ Some a → LeadsTo h a s → Exchanges h c reply s t
+asked_leads h c reply s t a nak shows valid found (d, drift, fits) =
+    let does = found_from h (effect_of c) t d a valid found fits in (d, drift, done nak (shows_before h c reply d t does shows) does)
+
+-- the reply agrees with the state after
+pub exchange_shows : (h : Hands) (c : Command) (reply : Block) (s t : State) → is_nak reply ≡ false → Exchanges h c reply s t → Shows t c reply
+exchange_shows h c reply s t nak (d, drift, step) = by step
+  where
+    by : Step h c reply d t → Shows t c reply
+    by (refused was e) = absurd (false≢true (sym nak ∙ was))
+    by (done was shows does) = shows_after h c reply d t does shows
+    by (ignored was shows may local e) = subst (λ u. Shows u c reply) (sym e) shows
+
+-- no state leads to the target by a pattern that was found
+NoneLeads : Hands → StateSet → Option Asked → Type 0
+NoneLeads h v None = Unit {0}
+NoneLeads h v (Some a) = ((s : State) × Possible v s × LeadsTo h a s) → ⊥
+
+no_exchange : (h : Hands) (c : Command) (reply : Block) (v : StateSet) (t : State) (o : Option Asked) → is_nak reply ≡ false → AreBelow v
+    → (((s : State) × Possible v s × IsUndone (effect_of c) t × LeadsTo h (just_state t) s) → ⊥) → asked_before h (effect_of c) t ≡ o → NoneLeads h v o
+    → ((s : State) × Possible v s × Exchanges h c reply s t) → ⊥
+unfolding NoneLeads
+no_exchange h c reply v t o nak below undone found none (s, there, (d, drift, step)) = by step
+  where
+    asked : (o : Option Asked) → asked_before h (effect_of c) t ≡ o → NoneLeads h v o → Does h (effect_of c) d t → ⊥
+    asked None found none does = found_none h (effect_of c) t d (drift_state h v s d below there drift) found does
+    asked (Some a) found none does = none (s, there, (d, drift, found_to h (effect_of c) t d a (drift_state h v s d below there drift) found does))
+
+    by : Step h c reply d t → ⊥
+    by (refused was e) = false≢true (sym nak ∙ was)
+    by (done was shows does) = asked o found none does
+    by (ignored was shows may local e) =
+        undone (s, there, (may, ap (λ (u : State). u.local) e ∙ local), (d, drift, subst (λ u. Fits (just_state u) d) (sym e) (fits_self d)))
+
+pub none_found : (h : Hands) (c : Command) (reply : Block) (v : StateSet) (t : State) → is_nak reply ≡ false → AreBelow v
+    → (((s : State) × Possible v s × IsUndone (effect_of c) t × LeadsTo h (just_state t) s) → ⊥) → asked_before h (effect_of c) t ≡ None → ((s : State) × Possible v s × Exchanges h c reply s t) → ⊥
+unfolding NoneLeads
+none_found h c reply v t nak below undone found w = no_exchange h c reply v t None nak below undone found tt w
+
+pub none_leads : (h : Hands) (c : Command) (reply : Block) (v : StateSet) (t : State) (a : Asked) → is_nak reply ≡ false → AreBelow v
+    → (((s : State) × Possible v s × IsUndone (effect_of c) t × LeadsTo h (just_state t) s) → ⊥) → asked_before h (effect_of c) t ≡ Some a → (((s : State) × Possible v s × LeadsTo h a s) → ⊥)
+    → ((s : State) × Possible v s × Exchanges h c reply s t) → ⊥
+unfolding NoneLeads
+none_leads h c reply v t a nak below undone found none w = no_exchange h c reply v t (Some a) nak below undone found none w

@@ -1,0 +1,137 @@
+-- Which states an effect may have led from: a pattern of fields, each fixed or free.
+use Rattle.std.specs.Prelude.{◌≡◌, ◌==◌, if◌then◌else◌, Bool, true, false, ⊤, Option, Some, None, option_map}
+use Rattle.tc25.specs.Day.{next_frame, prev_frame}
+use Rattle.track9.specs.declared.asked.Asked.{Asked}
+use Rattle.track9.specs.declared.effect.Change.{Change}
+use Rattle.track9.specs.declared.effect.Change.TheVariants.{SetSomewhere, SetAt, Next, Prev, Reset, Recall}
+use Rattle.track9.specs.declared.effect.Effect.{Effect}
+use Rattle.track9.specs.declared.effect.Effect.TheVariants as effect
+use Rattle.track9.specs.declared.mode.Mode.{Mode}
+use Rattle.track9.specs.declared.mode.Mode.TheVariants as mode
+use Rattle.track9.specs.declared.pairs.Pair.{Pair}
+use Rattle.track9.specs.declared.pairs.Pairs.{Pairs}
+use Rattle.track9.specs.declared.mode_set.ModeSet.{ModeSet}
+use Rattle.track9.specs.declared.state.Entry.{Entry}
+use Rattle.track9.specs.declared.state.Entry.TheVariants.{Clear, At}
+use Rattle.track9.specs.declared.state.Hands.{Hands}
+use Rattle.track9.specs.declared.state.Hands.TheVariants as hands
+use Rattle.track9.specs.declared.state.Register.{Register}
+use Rattle.track9.specs.declared.state.Register.TheVariants.{RegIn, RegOut, RegAudioIn, RegAudioOut}
+use Rattle.track9.specs.declared.state.State.{State}
+use Rattle.track9.specs.Drift.{Drift, KeepsRest, PairReaches}
+use Rattle.track9.specs.Effect.{moved_entry, may_ignore}
+use Rattle.track9.specs.Mode.{is_mode}
+use Rattle.track9.specs.ModeSet.{bit_of, has}
+use Rattle.track9.specs.State.{IsState, entry_of}
+use Rattle.track9.specs.Tracker.{has_pair}
+use Rattle.track9.specs.Working.Pairs.{modes}
+
+-- nothing is asked for, or this
+abbrev pub Is : {A : Type 0} → Option A → A → Type 0
+Is None x = ⊤
+Is (Some y) x = x ≡ y
+
+-- the entry of a register that is asked for
+abbrev pub asked_of : Register → Asked → Option Entry
+asked_of RegIn a = a.ins
+asked_of RegOut a = a.outs
+asked_of RegAudioIn a = a.ains
+asked_of RegAudioOut a = a.aouts
+
+abbrev pub with_asked : Register → Option Entry → Asked → Asked
+with_asked RegIn o a = record a { ins = o }
+with_asked RegOut o a = record a { outs = o }
+with_asked RegAudioIn o a = record a { ains = o }
+with_asked RegAudioOut o a = record a { aouts = o }
+
+-- a state is one of those that are asked for
+pub record Fits (a : Asked) (d : State) : Type 0 where
+  pub goal : has a.goals.0 d.goal ≡ true
+  pub shown : has a.shown.0 d.shown ≡ true
+  pub registers : (r : Register) → Is (asked_of r a) (entry_of r d)
+  pub local : Is a.local d.local
+  pub panel : Is a.panel d.panel
+
+-- the state alone
+abbrev pub just_state : State → Asked
+just_state t = record {
+  goals = modes (bit_of t.goal);
+  shown = modes (bit_of t.shown);
+  ins = Some t.ins;
+  outs = Some t.outs;
+  ains = Some t.ains;
+  aouts = Some t.aouts;
+  local = Some t.local;
+  panel = Some t.panel;
+}
+
+-- ---- before an effect
+
+-- what an entry was that has become this one: nothing where it can't have, and then which one, or any
+abbrev pub entry_before : Change → Entry → Option (Option Entry)
+entry_before SetSomewhere Clear = None
+entry_before SetSomewhere (At t) = Some None
+entry_before (SetAt u) Clear = None
+entry_before (SetAt u) (At t) = if t == u then Some None else None
+entry_before Next e = Some (Some (moved_entry prev_frame e))
+entry_before Prev e = Some (Some (moved_entry next_frame e))
+entry_before Reset Clear = Some None
+entry_before Reset (At t) = None
+entry_before Recall e = Some None
+
+-- the same, with any goal
+abbrev pub any_goal : State → Asked
+any_goal t = record (just_state t) { goals = modes 0x3FF }
+
+-- two facts are one
+abbrev pub same_fact : Bool → Bool → Bool
+same_fact true b = b
+same_fact false true = false
+same_fact false false = true
+
+-- any registers
+abbrev pub any_registers : Asked → Asked
+any_registers a = record a { ins = None; outs = None; ains = None; aouts = None }
+
+-- any tape: goal, shown mode and registers
+abbrev pub any_tape : Asked → Asked
+any_tape a = record (any_registers a) { goals = modes 0x3FF; shown = modes 0x3FF }
+
+-- the states that the effect leads to this one from
+abbrev pub asked_before : Hands → Effect → State → Option Asked
+asked_before h effect.Nothing t = Some (just_state t)
+asked_before h (effect.Go g) t = if is_mode t.goal g then Some (any_goal t) else None
+asked_before h effect.KeepOrStop t = Some (if is_mode t.goal mode.Stop then any_goal t else just_state t)
+asked_before h (effect.Change r c) t = option_map (λ o. with_asked r o (just_state t)) (entry_before c (entry_of r t))
+asked_before hands.None (effect.Panel on) t = Some (just_state t)
+asked_before hands.Allowed (effect.Panel on) t = if same_fact t.panel on then Some (record (just_state t) { panel = None }) else None
+asked_before h effect.ForgetTape t = Some (any_tape (just_state t))
+asked_before h effect.ForgetRegisters t = Some (any_registers (just_state t))
+asked_before hands.None effect.ForgetAll t = Some (record (any_tape (just_state t)) { local = None })
+asked_before hands.Allowed effect.ForgetAll t = Some (record (any_tape (just_state t)) { local = None; panel = None })
+
+-- a deck in this state may have left the effect undone
+abbrev pub IsUndone : Effect → State → Type 0
+IsUndone e t = (may_ignore e ≡ true) × (t.local ≡ true)
+
+-- ---- a drift before
+
+-- a drift leads from the state to one of those that are asked for
+abbrev pub LeadsTo : Hands → Asked → State → Type 0
+LeadsTo h a s = (d : State) × Drift h s d × Fits a d
+
+-- a drift of the mechanics does
+abbrev pub RunsTo : Asked → State → Type 0
+RunsTo a s = (d : State) × KeepsRest s d × PairReaches s.goal s.shown d.goal d.shown × Fits a d
+
+-- a state of the day is asked for
+abbrev pub IsAsked : Asked → Type 0
+IsAsked a = (d : State) × IsState d × Fits a d
+
+-- a pair from which a drift of the mechanics reaches one of these goals with one of these modes shown
+abbrev pub PairRunsTo : ModeSet → ModeSet → Mode → Mode → Type 0
+PairRunsTo goals shown f n = (g m : Mode) × (has goals.0 g ≡ true) × (has shown.0 m ≡ true) × PairReaches f n g m
+
+-- the pair is one of these
+abbrev pub IsPairOf : Pairs → Pair → Type 0
+IsPairOf pairs p = has_pair pairs p.goal p.shown ≡ true

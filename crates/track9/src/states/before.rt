@@ -1,0 +1,148 @@
+//! A state that an exchange leads to another one from.
+//!
+//! What leads to the target by the step alone is a pattern of states, or two of them; and whether a drift leads to
+//! one of a pattern is asked factor by factor, so that no set is copied.
+ghost use Rattle.std.specs.Prelude.{◌≡◌, IfNone, IfSome, false, true};
+ghost use Rattle.track9.specs.State.{IsEntry, IsState};
+ghost use Rattle.track9.specs.Step.{Exchanges};
+ghost use Rattle.track9.specs.Tracker.{Possible};
+ghost use Rattle.track9.specs.Working.Asked.{Is, IsAsked, IsUndone, LeadsTo, RunsTo, just_state};
+ghost use Rattle.track9.specs.Working.Parts.{HasState};
+ghost use Rattle.track9.specs.Working.States.{AreWhole, IsHandled, is_panel_live};
+ghost use Rattle.track9.specs.declared.state.State.{State as AState};
+
+use crate::asked::{Asked, is_asked};
+use crate::effect::Effect;
+use crate::part::Part;
+use crate::reply::is_nak;
+use crate::state::{Entry, Hands, Register, State};
+use crate::states::States;
+use crate::states::member::state_in;
+use crate::states::shows::shows;
+use block9::{Block, Command};
+use tc25::TimeSet;
+
+impl<S: TimeSet> States<S> {
+    /// A state from which the exchange leads to the target: None exactly where there is none. Takes no memory.
+    pub(crate) fn before(
+        &self,
+        hands: Hands,
+        command: &Command,
+        reply: &Block,
+        target: &State,
+    ) -> Option<State>
+        requires whole { AreWhole self.now }
+        requires handled { IsHandled hands self.now }
+        ensures some { IfSome result (λ s. Possible self.now s × Exchanges hands command.now reply.now s target.now) }
+        ensures none { IfNone result (¬ ((s : AState) × Possible self.now s × Exchanges hands command.now reply.now s target.now)) }
+    {
+        self.below_day();
+        is_state(target);
+        if is_nak(reply) {
+            return self.origin(hands, &Asked::just(target));
+        }
+        if !shows(target, command, reply) {
+            return None;
+        }
+        let effect = Effect::of(command);
+        if let Some(state) = self.undone_origin(hands, &effect, target) {
+            return Some(state);
+        }
+        let asked = Asked::before(hands, &effect, target)?;
+        self.origin(hands, &asked)
+    }
+
+    /// A state from which a drift leads to the target, where a deck in local may leave the effect undone.
+    fn undone_origin(&self, hands: Hands, effect: &Effect, target: &State) -> Option<State>
+        requires whole { AreWhole self.now }
+        requires handled { IsHandled hands self.now }
+        requires target { IsState target.now }
+        ensures some { IfSome result (λ s. Possible self.now s × IsUndone effect.now target.now × LeadsTo hands (just_state target.now) s) }
+        ensures none { IfNone result (¬ ((s : AState) × Possible self.now s × IsUndone effect.now target.now × LeadsTo hands (just_state target.now) s)) }
+    {
+        let may_ignore = effect.may_ignore();
+        if !may_ignore || !target.local {
+            return None;
+        }
+        self.origin(hands, &Asked::just(target))
+    }
+
+    /// A state from which a drift leads to one of those that are asked for: None exactly where there is none.
+    fn origin(&self, hands: Hands, asked: &Asked) -> Option<State>
+        requires whole { AreWhole self.now }
+        requires handled { IsHandled hands self.now }
+        requires asked { IsAsked asked.now }
+        ensures some { IfSome result (λ s. Possible self.now s × LeadsTo hands asked.now s) }
+        ensures none { IfNone result (¬ ((s : AState) × Possible self.now s × LeadsTo hands asked.now s)) }
+    {
+        if let Some(state) = self.panel_origin(asked) {
+            return Some(state);
+        }
+        if let Some(state) = origin_in(&self.remote, asked, false) {
+            return Some(state);
+        }
+        origin_in(&self.local, asked, true)
+    }
+
+    /// Some state with the panel on, where one with the panel on is asked for: a hand makes any such state of it.
+    fn panel_origin(&self, asked: &Asked) -> Option<State>
+        requires { AreWhole self.now }
+        ensures some { IfSome result (λ s. Possible self.now s × (s.panel ≡ true) × Is asked.now.panel true) }
+        ensures none { IfNone result (Is asked.now.panel true → is_panel_live self.now ≡ false) }
+    {
+        let is_asked = is_asked(asked.panel, true);
+        if !is_asked {
+            return None;
+        }
+        if let Some(state) = state_in(&self.remote_panel, false, true) {
+            return Some(state);
+        }
+        state_in(&self.local_panel, true, true)
+    }
+}
+
+/// A state of a part, with this value of local and the panel off, from which a drift of the mechanics leads to one of
+/// those that are asked for: None exactly where there is none.
+fn origin_in<S: TimeSet>(part: &Part<S>, asked: &Asked, local: bool) -> Option<State>
+    ensures some { IfSome result (λ s. HasState part.now local false s × RunsTo asked.now s) }
+    ensures none { IfNone result (¬ ((s : AState) × HasState part.now local false s × RunsTo asked.now s)) }
+{
+    let fits_local = is_asked(asked.local, local);
+    let fits_panel = is_asked(asked.panel, false);
+    if !fits_local || !fits_panel {
+        return None;
+    }
+    let pair = part.pairs().origin(asked.goals, asked.shown)?;
+    Some(State {
+        goal: pair.goal,
+        shown: pair.shown,
+        ins: part.entries(Register::RegIn).pick(&asked.ins)?,
+        outs: part.entries(Register::RegOut).pick(&asked.outs)?,
+        ains: part.entries(Register::RegAudioIn).pick(&asked.ains)?,
+        aouts: part.entries(Register::RegAudioOut).pick(&asked.aouts)?,
+        local,
+        panel: false,
+    })
+}
+
+/// A state's times are times of the day. Does nothing.
+fn is_state(state: &State)
+    ensures { IsState state.now }
+{
+    is_entry(&state.ins);
+    is_entry(&state.outs);
+    is_entry(&state.ains);
+    is_entry(&state.aouts);
+}
+
+/// A time is a time of the day. Does nothing.
+fn is_entry(entry: &Entry)
+    ensures { IsEntry entry.now }
+{
+    match entry {
+        Entry::Clear => {}
+        Entry::At(time) => {
+            let _ = time.frames();
+        }
+    }
+}

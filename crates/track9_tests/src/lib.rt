@@ -1,0 +1,8 @@
+//! Tests of the deck machine of `track9`, by its public calls alone.
+//!
+//! They stand in a crate of their own, so that the machine is proved, and its must-fail edits are tried, without
+//! waiting for them. Nothing but tests is here.
+#![tactic(auto)]
+
+#[cfg(test)]
+mod tests;

@@ -1,0 +1,96 @@
+//! Where in a day of three frames the registers may be, so that no shift leaves it.
+
+use crate::tests::plain_deck::{change_of, sensed_by};
+use block9::{Block, Command, NakBits};
+use tc25::TimeCode;
+use track9::{Change, Register};
+
+/// The first and the last place of the times at which a register may be Set, where these are not all times.
+type Places = Option<(usize, usize)>;
+
+/// The places of each register's times in a day of three frames.
+#[derive(Drop)]
+pub(super) struct Edges {
+    times: [TimeCode; 3],
+    places: [Places; 4],
+}
+
+impl Edges {
+    /// Each register may be Set at any time.
+    pub(super) fn new(times: [TimeCode; 3]) -> Edges {
+        Edges {
+            times,
+            places: [None; 4],
+        }
+    }
+
+    fn place(&self, time: TimeCode) -> usize {
+        self.times
+            .iter()
+            .position(|other| *other == time)
+            .unwrap_or(0)
+    }
+
+    fn places(&self, register: Register) -> Places {
+        self.places.get(register as usize).copied().flatten()
+    }
+
+    fn put(&mut self, register: Register, places: Places) {
+        if let Some(old) = self.places.get_mut(register as usize) {
+            *old = places;
+        }
+    }
+
+    /// Whether a change leaves a register within the day.
+    fn allow_change(&self, register: Register, change: &Change) -> bool {
+        match (change, self.places(register)) {
+            (Change::Next, Some((_, last))) => last < 2,
+            (Change::Prev, Some((first, _))) => first > 0,
+            _ => true,
+        }
+    }
+
+    /// Whether a command changes and asks for no register but these, and leaves each within the day.
+    pub(super) fn allow(&self, command: &Command, registers: &[Register]) -> bool {
+        if let Some((register, change)) = change_of(command) {
+            return registers.contains(&register) && self.allow_change(register, &change);
+        }
+        match sensed_by(command) {
+            Some((_, register)) => registers.contains(&register),
+            None => true,
+        }
+    }
+
+    /// The places after a change, which a deck in local may have left.
+    fn changed(&self, register: Register, change: &Change) -> Places {
+        let old = self.places(register);
+        match change {
+            Change::SetSomewhere | Change::Recall => None,
+            Change::SetAt(time) => {
+                let place = self.place(*time);
+                let (first, last) = old.unwrap_or((place, place));
+                Some((place.min(first), place.max(last)))
+            }
+            Change::Next => old.map(|(first, last)| (first, last.saturating_add(1))),
+            Change::Prev => old.map(|(first, last)| (first.saturating_sub(1), last)),
+            Change::Reset => old,
+        }
+    }
+
+    /// Follows an exchange.
+    pub(super) fn follow(&mut self, command: &Command, reply: &Block) {
+        if NakBits::of(reply).is_some() {
+            return;
+        }
+        if let Some((register, change)) = change_of(command) {
+            self.put(register, self.changed(register, &change));
+        }
+        if let Some((_, register)) = sensed_by(command) {
+            let place = reply.time().map(|time| self.place(time));
+            self.put(register, place.map(|place| (place, place)));
+        }
+        if matches!(command, Command::Unlisted { group } if *group != 6) {
+            self.places = [None; 4];
+        }
+    }
+}

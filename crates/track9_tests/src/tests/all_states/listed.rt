@@ -1,0 +1,350 @@
+//! A deck of which each state stands in a list, with whether it is possible.
+
+use crate::tests::drawn::Draw;
+use crate::tests::plain_deck::{
+    Day, FORGETTABLE, MODES, PlainState, Small, WAYS, done, forgets, is_free_in_local, shows,
+    small_of, time_of,
+};
+use block9::{Block, Command, NakBits};
+use std::alloc::{AllocError, Global};
+use std::mem;
+use tc25::TimeCode;
+use track9::{Hands, Knowledge, Known, KnownEntry, Register};
+
+/// Every state of a deck with these registers whose day has three frames, and which of them are possible.
+#[derive(Drop)]
+pub(super) struct ListedDeck {
+    times: [TimeCode; 3],
+    registers: &'static [Register],
+    hands: Hands,
+    states: Vec<PlainState>,
+    possible: Vec<bool>,
+    alloc: Global,
+}
+
+/// How many states there are with two registers: two values of panel and of local, ten goals and shown modes, four entries
+/// of each register. With fewer there are fewer.
+const MOST_STATES: usize = 6_400;
+
+/// A number's last digit to a base, which is taken off.
+fn take_digit(number: &mut usize, base: usize) -> usize {
+    let digit = number.checked_rem(base).unwrap_or(0);
+    *number = number.checked_div(base).unwrap_or(0);
+    digit
+}
+
+/// Puts a digit to a base at the end of a number.
+fn put_digit(number: &mut usize, base: usize, digit: usize) {
+    *number = number.wrapping_mul(base).wrapping_add(digit);
+}
+
+/// The state at a place of the list: None from their number on.
+fn state_at(times: &[TimeCode], registers: &[Register], place: usize) -> Option<PlainState> {
+    let mut rest = place;
+    let panel = take_digit(&mut rest, 2) == 1;
+    let local = take_digit(&mut rest, 2) == 1;
+    let goal = *MODES.get(take_digit(&mut rest, 10))?;
+    let shown = *MODES.get(take_digit(&mut rest, 10))?;
+    let mut held = [None; 4];
+    for register in registers {
+        if let Some(time) = held.get_mut(*register as usize) {
+            *time = times.get(take_digit(&mut rest, 4)).copied();
+        }
+    }
+    if rest > 0 {
+        return None;
+    }
+    Some(PlainState {
+        goal,
+        shown,
+        times: held,
+        local,
+        panel,
+    })
+}
+
+/// The digit of a register: of a time its place in the day, and of Clear the one after.
+fn digit_of(times: &[TimeCode], held: Option<TimeCode>) -> usize {
+    let mut found = times.len();
+    for (place, time) in times.iter().enumerate() {
+        if held == Some(*time) {
+            found = place;
+        }
+    }
+    found
+}
+
+/// The place of a state in the list.
+fn place_of(times: &[TimeCode], registers: &[Register], state: &PlainState) -> usize {
+    let mut place = 0;
+    for register in registers.iter().rev() {
+        put_digit(&mut place, 4, digit_of(times, time_of(state, *register)));
+    }
+    put_digit(&mut place, 10, state.shown as usize);
+    put_digit(&mut place, 10, state.goal as usize);
+    put_digit(&mut place, 2, usize::from(state.local));
+    put_digit(&mut place, 2, usize::from(state.panel));
+    place
+}
+
+/// Every state, in the order of their places.
+fn every_state(
+    alloc: Global,
+    times: &[TimeCode],
+    registers: &[Register],
+) -> Result<Vec<PlainState>, AllocError> {
+    let mut states = Vec::new(alloc);
+    for place in 0..MOST_STATES {
+        if let Some(state) = state_at(times, registers, place) {
+            states.push(state)?;
+        }
+    }
+    Ok(states)
+}
+
+/// For each state whether the deck may be in it at first.
+fn first_possible(
+    alloc: Global,
+    hands: Hands,
+    states: &[PlainState],
+) -> Result<Vec<bool>, AllocError> {
+    let mut possible = Vec::new(alloc);
+    for state in states {
+        possible.push(hands == Hands::Allowed || !state.panel)?;
+    }
+    Ok(possible)
+}
+
+/// What is known of a field, where a further state has this value.
+fn joined<T: PartialEq + Copy>(known: Known<T>, value: T) -> Known<T> {
+    match known {
+        Known::Is(same) if same == value => Known::Is(same),
+        _ => Known::Unknown,
+    }
+}
+
+/// What is known of a register, where a further state holds this.
+fn joined_entry(known: &KnownEntry, held: Option<TimeCode>) -> KnownEntry {
+    match (known, held) {
+        (KnownEntry::Clear, None) => KnownEntry::Clear,
+        (KnownEntry::At(time), Some(other)) if *time == other => KnownEntry::At(other),
+        (KnownEntry::At(_) | KnownEntry::SetSomewhere, Some(_)) => KnownEntry::SetSomewhere,
+        _ => KnownEntry::Unknown,
+    }
+}
+
+/// What is known of a register of a deck in this state.
+fn known_entry(state: &PlainState, register: Register) -> KnownEntry {
+    match time_of(state, register) {
+        None => KnownEntry::Clear,
+        Some(time) => KnownEntry::At(time),
+    }
+}
+
+/// What is known of a deck in this state.
+fn known_state(state: &PlainState) -> Knowledge {
+    Knowledge {
+        goal: Known::Is(state.goal),
+        shown: Known::Is(state.shown),
+        ins: known_entry(state, Register::RegIn),
+        outs: known_entry(state, Register::RegOut),
+        ains: known_entry(state, Register::RegAudioIn),
+        aouts: known_entry(state, Register::RegAudioOut),
+        local: Known::Is(state.local),
+        panel: Known::Is(state.panel),
+    }
+}
+
+/// What is known where a further state is possible.
+fn joined_state(before: &Knowledge, state: &PlainState) -> Knowledge {
+    Knowledge {
+        goal: joined(before.goal, state.goal),
+        shown: joined(before.shown, state.shown),
+        ins: joined_entry(&before.ins, time_of(state, Register::RegIn)),
+        outs: joined_entry(&before.outs, time_of(state, Register::RegOut)),
+        ains: joined_entry(&before.ains, time_of(state, Register::RegAudioIn)),
+        aouts: joined_entry(&before.aouts, time_of(state, Register::RegAudioOut)),
+        local: joined(before.local, state.local),
+        panel: joined(before.panel, state.panel),
+    }
+}
+
+impl ListedDeck {
+    /// Every state is possible, but for the panel where nobody touches it.
+    pub(super) fn new(
+        alloc: Global,
+        hands: Hands,
+        times: [TimeCode; 3],
+        registers: &'static [Register],
+    ) -> Result<ListedDeck, AllocError> {
+        let states = every_state(alloc, &times, registers)?;
+        let possible = first_possible(alloc, hands, states.as_slice())?;
+        Ok(ListedDeck {
+            times,
+            registers,
+            hands,
+            states,
+            possible,
+            alloc,
+        })
+    }
+
+    /// The state at a place, if it is possible.
+    fn possible_at(&self, place: usize) -> Option<PlainState> {
+        if self.possible.get(place).copied().unwrap_or(false) {
+            self.states.get(place).copied()
+        } else {
+            None
+        }
+    }
+
+    /// A possible state that is drawn, if there is one, or now and then any state.
+    pub(super) fn drawn_state(&self, draw: &mut Draw) -> Option<PlainState> {
+        let count = self.states.len();
+        let first = draw.below(u32::try_from(count).unwrap_or(0)) as usize;
+        if draw.one_in(12) {
+            return self.states.get(first).copied();
+        }
+        for place in (first..count).chain(0..first) {
+            if let Some(state) = self.possible_at(place) {
+                return Some(state);
+            }
+        }
+        None
+    }
+
+    /// What a hand does where one may: any state with the panel on.
+    fn touch(&mut self) {
+        let is_panel_on = (0..self.states.len()).any(|place| match self.possible_at(place) {
+            Some(state) => state.panel,
+            None => false,
+        });
+        if self.hands == Hands::Allowed && is_panel_on {
+            for (state, possible) in self.states.iter().zip(self.possible.iter_mut()) {
+                *possible = *possible || state.panel;
+            }
+        }
+    }
+
+    /// The states after a small step, one for each way in which it can be done, are put into a list; those that are new
+    /// there are also added to `reached`.
+    fn put_after(
+        &self,
+        after: &mut [bool],
+        reached: &mut Vec<PlainState>,
+        state: &PlainState,
+        small: &Small,
+    ) -> Result<(), AllocError> {
+        let day = Day {
+            times: &self.times,
+            is_round: true,
+        };
+        for way in 0..WAYS {
+            let Some(next) = done(&day, state, small, way) else {
+                return Ok(());
+            };
+            if put(after, place_of(&self.times, self.registers, &next)) {
+                reached.push(next)?;
+            }
+        }
+        Ok(())
+    }
+
+    /// The states that are possible.
+    fn possible_states(&self) -> Result<Vec<PlainState>, AllocError> {
+        let mut found = Vec::new(self.alloc);
+        for place in 0..self.states.len() {
+            if let Some(state) = self.possible_at(place) {
+                found.push(state)?;
+            }
+        }
+        Ok(found)
+    }
+
+    /// Moves from each state that is possible, and from each that a move leads to.
+    fn drift(&mut self) -> Result<(), AllocError> {
+        self.touch();
+        let mut reached = self.possible_states()?;
+        let mut after = self.possible.clone()?;
+        for place in 0..self.states.len() {
+            if let Some(state) = reached.get(place).copied() {
+                self.put_after(&mut after, &mut reached, &state, &Small::Move)?;
+            }
+        }
+        self.possible = after;
+        Ok(())
+    }
+
+    /// Does a small step in each of its ways; a deck in local may leave it.
+    fn step(&mut self, small: &Small, is_free: bool) -> Result<(), AllocError> {
+        let mut after = vec![in self.alloc; false; self.states.len()]?;
+        let mut reached = Vec::new(self.alloc);
+        for place in 0..self.states.len() {
+            if let Some(state) = self.possible_at(place) {
+                self.put_after(&mut after, &mut reached, &state, small)?;
+                if is_free && state.local {
+                    put(&mut after, place);
+                }
+            }
+        }
+        self.possible = after;
+        Ok(())
+    }
+
+    /// Keeps the states that may give this reply.
+    fn keep(&mut self, command: &Command, reply: &Block) {
+        for (state, possible) in self.states.iter().zip(self.possible.iter_mut()) {
+            *possible = *possible && shows(state, command, reply);
+        }
+    }
+
+    /// Forgets what the command makes the deck forget.
+    fn forget(&mut self, command: &Command) -> Result<(), AllocError> {
+        for small in FORGETTABLE.iter() {
+            let is_had = match small {
+                Small::Change(register, _) => self.registers.contains(register),
+                _ => true,
+            };
+            if is_had && forgets(command, self.hands, small) {
+                self.step(small, false)?;
+            }
+        }
+        Ok(())
+    }
+
+    /// Takes the next exchange.
+    pub(super) fn observe(&mut self, command: &Command, reply: &Block) -> Result<(), AllocError> {
+        self.drift()?;
+        if NakBits::of(reply).is_some() {
+            return Ok(());
+        }
+        self.keep(command, reply);
+        let small = small_of(command, self.hands);
+        if small != Small::Nothing {
+            self.step(&small, is_free_in_local(command))?;
+        }
+        self.forget(command)
+    }
+
+    /// What all possible states agree on, if there is one.
+    pub(super) fn knowledge(&self) -> Option<Knowledge> {
+        let mut known = None;
+        for place in 0..self.states.len() {
+            if let Some(state) = self.possible_at(place) {
+                known = Some(match known {
+                    Some(before) => joined_state(&before, &state),
+                    None => known_state(&state),
+                });
+            }
+        }
+        known
+    }
+}
+
+/// Puts a state into a list, and answers whether it is new.
+fn put(possible: &mut [bool], place: usize) -> bool {
+    match possible.get_mut(place) {
+        Some(old) => !mem::replace(old, true),
+        None => false,
+    }
+}

@@ -1,0 +1,208 @@
+//! A state before an exchange: the only one there is, none where the target can't be reached, and one at each exchange
+//! of a run.
+
+use super::member::ONE_STATE;
+use super::sent::*;
+use super::*;
+use std::alloc::Global;
+use std::test::Fail;
+use tc25::{ListSet, SpanSet, TimeCode};
+use track9::{Entry, Mode, State};
+
+const IN_SHIFT_REFUSED: Sent = (&[0x40, 0x18, 0x58], NAK);
+
+/// An exchange, and a target that differs from the only state before it in goal, shown mode and IN.
+struct Row {
+    sent: Sent,
+    goal: Mode,
+    shown: Mode,
+    in_frames: u32,
+    is_reached: bool,
+}
+
+const ROWS: &[Row] = &[
+    Row {
+        sent: IN_SHIFTED_ON,
+        goal: Mode::Play,
+        shown: Mode::Play,
+        in_frames: 900_001,
+        is_reached: true,
+    },
+    // A deck in remote does what it acknowledges.
+    Row {
+        sent: IN_SHIFTED_ON,
+        goal: Mode::Play,
+        shown: Mode::Play,
+        in_frames: 900_000,
+        is_reached: false,
+    },
+    Row {
+        sent: IN_SHIFT_REFUSED,
+        goal: Mode::Play,
+        shown: Mode::Play,
+        in_frames: 900_001,
+        is_reached: false,
+    },
+    Row {
+        sent: IN_SHIFT_REFUSED,
+        goal: Mode::Play,
+        shown: Mode::Stop,
+        in_frames: 900_000,
+        is_reached: true,
+    },
+    // The end of the tape.
+    Row {
+        sent: SHOWS_STOP,
+        goal: Mode::Stop,
+        shown: Mode::Stop,
+        in_frames: 900_000,
+        is_reached: true,
+    },
+    Row {
+        sent: SHOWS_STOP,
+        goal: Mode::Play,
+        shown: Mode::Play,
+        in_frames: 900_000,
+        is_reached: false,
+    },
+    Row {
+        sent: RECORDED,
+        goal: Mode::Rec,
+        shown: Mode::Play,
+        in_frames: 900_000,
+        is_reached: true,
+    },
+    Row {
+        sent: RECORDED,
+        goal: Mode::Play,
+        shown: Mode::Play,
+        in_frames: 900_000,
+        is_reached: false,
+    },
+    Row {
+        sent: SENSED_10,
+        goal: Mode::Play,
+        shown: Mode::Play,
+        in_frames: 900_000,
+        is_reached: true,
+    },
+    Row {
+        sent: SENSED_11,
+        goal: Mode::Play,
+        shown: Mode::Play,
+        in_frames: 900_000,
+        is_reached: false,
+    },
+];
+
+/// Runs of which each exchange but the first has states before it.
+const RUNS: &[(Hands, &[Sent])] = &[
+    (Hands::None, ONE_STATE),
+    (
+        Hands::None,
+        &[
+            LOCAL,
+            PRESET_10,
+            IN_SHIFTED_ON,
+            SENSED_10,
+            RECORDED,
+            SHOWS_STOP,
+            UNLISTED_2,
+        ],
+    ),
+    (
+        Hands::Allowed,
+        &[
+            PANEL_OFF,
+            REMOTE,
+            PRESET_10,
+            PANEL_ON,
+            SENSED_11,
+            PANEL_OFF,
+            IN_ENTERED,
+            STOOD_BY,
+            UNLISTED_0,
+            IN_RECALLED,
+            NONE_SET,
+        ],
+    ),
+];
+
+fn state(rt: &impl Abort, goal: Mode, shown: Mode, in_frames: u32) -> State {
+    let ten = TimeCode::from_frames(900_000).expect(rt, "a time");
+    let ins = TimeCode::from_frames(in_frames).expect(rt, "a time");
+    State {
+        goal,
+        shown,
+        ins: Entry::At(ins),
+        outs: Entry::Clear,
+        ains: Entry::At(ten),
+        aouts: Entry::Clear,
+        local: false,
+        panel: false,
+    }
+}
+
+fn tell_row<S: TimeSet>(rt: &impl Abort, tracker: &Tracker<S>, row: &Row) {
+    let target = state(rt, row.goal, row.shown, row.in_frames);
+    let (command, reply) = exchange(rt, row.sent);
+    let before = tracker.before(&command, &reply, &target);
+    if row.is_reached {
+        let only = state(rt, Mode::Play, Mode::Play, 900_000);
+        assert_eq!(rt; before, Some(only), "{target:?}");
+    } else {
+        assert_eq!(rt; before, None, "{target:?}");
+    }
+}
+
+fn tell_rows<S: TimeSet>(rt: &impl Abort, alloc: Global) -> Result<(), AllocError> {
+    let mut tracker: Tracker<S> = Tracker::new(alloc, Hands::None)?;
+    take_all(rt, &mut tracker, ONE_STATE)?;
+    for row in ROWS {
+        tell_row(rt, &tracker, row);
+    }
+    Ok(())
+}
+
+/// Goes back from a state after the exchanges to one before them.
+fn go_back<S: TimeSet>(
+    rt: &impl Abort,
+    alloc: Global,
+    hands: Hands,
+    exchanges: &[Sent],
+) -> Result<(), AllocError> {
+    let mut tracker: Tracker<S> = Tracker::new(alloc, hands)?;
+    let mut earlier: Vec<Tracker<S>> = Vec::new(alloc);
+    for sent in exchanges {
+        earlier.push(tracker.snapshot()?)?;
+        assert!(rt; take(rt, &mut tracker, *sent)?, "{exchanges:?}");
+    }
+    let mut target = tracker.member().expect(rt, "a state");
+    for (tracker, sent) in earlier.iter().rev().zip(exchanges.iter().rev()) {
+        let (command, reply) = exchange(rt, *sent);
+        target = tracker
+            .before(&command, &reply, &target)
+            .expect(rt, "a state before");
+    }
+    Ok(())
+}
+
+fn tell_all<S: TimeSet>(rt: &impl Abort, alloc: Global) -> Result<(), AllocError> {
+    tell_rows::<S>(rt, alloc)?;
+    for (hands, exchanges) in RUNS {
+        go_back::<S>(rt, alloc, *hands, exchanges)?;
+    }
+    Ok(())
+}
+
+#[test]
+fn lists(rt: HostRuntime) -> Result<(), Fail> {
+    tell_all::<ListSet>(&rt, rt.alloc())?;
+    Ok(())
+}
+
+#[test]
+fn spans(rt: HostRuntime) -> Result<(), Fail> {
+    tell_all::<SpanSet>(&rt, rt.alloc())?;
+    Ok(())
+}

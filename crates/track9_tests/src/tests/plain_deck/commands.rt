@@ -1,0 +1,115 @@
+//! What each command does to a deck, in small steps.
+
+use super::Small;
+use block9::Command;
+use track9::{Change, Hands, Mode, Register};
+
+/// The register that a command changes, and how.
+pub(in crate::tests) fn change_of(command: &Command) -> Option<(Register, Change)> {
+    let change = match command {
+        Command::InEntry => (Register::RegIn, Change::SetSomewhere),
+        Command::OutEntry => (Register::RegOut, Change::SetSomewhere),
+        Command::AudioInEntry => (Register::RegAudioIn, Change::SetSomewhere),
+        Command::AudioOutEntry => (Register::RegAudioOut, Change::SetSomewhere),
+        Command::InDataPreset { time } => (Register::RegIn, Change::SetAt(*time)),
+        Command::OutDataPreset { time } => (Register::RegOut, Change::SetAt(*time)),
+        Command::AudioInDataPreset { time } => (Register::RegAudioIn, Change::SetAt(*time)),
+        Command::AudioOutDataPreset { time } => (Register::RegAudioOut, Change::SetAt(*time)),
+        Command::InShiftPlus => (Register::RegIn, Change::Next),
+        Command::InShiftMinus => (Register::RegIn, Change::Prev),
+        Command::OutShiftPlus => (Register::RegOut, Change::Next),
+        Command::OutShiftMinus => (Register::RegOut, Change::Prev),
+        Command::AudioInShiftPlus => (Register::RegAudioIn, Change::Next),
+        Command::AudioInShiftMinus => (Register::RegAudioIn, Change::Prev),
+        Command::AudioOutShiftPlus => (Register::RegAudioOut, Change::Next),
+        Command::AudioOutShiftMinus => (Register::RegAudioOut, Change::Prev),
+        Command::InFlagReset => (Register::RegIn, Change::Reset),
+        Command::OutFlagReset => (Register::RegOut, Change::Reset),
+        Command::AudioInFlagReset => (Register::RegAudioIn, Change::Reset),
+        Command::AudioOutFlagReset => (Register::RegAudioOut, Change::Reset),
+        Command::InRecall => (Register::RegIn, Change::Recall),
+        Command::OutRecall => (Register::RegOut, Change::Recall),
+        Command::AudioInRecall => (Register::RegAudioIn, Change::Recall),
+        Command::AudioOutRecall => (Register::RegAudioOut, Change::Recall),
+        _ => return None,
+    };
+    Some(change)
+}
+
+/// The code of the reply to a register's sense, and the register.
+pub(in crate::tests) fn sensed_by(command: &Command) -> Option<(u8, Register)> {
+    match command {
+        Command::InDataSense => Some((0x10, Register::RegIn)),
+        Command::OutDataSense => Some((0x11, Register::RegOut)),
+        Command::AudioInDataSense => Some((0x12, Register::RegAudioIn)),
+        Command::AudioOutDataSense => Some((0x13, Register::RegAudioOut)),
+        _ => None,
+    }
+}
+
+/// The goal that a transport command gives, where it gives one.
+fn goal_of(command: &Command) -> Option<Mode> {
+    let goal = match command {
+        Command::Stop => Mode::Stop,
+        Command::Play | Command::SyncPlay => Mode::Play,
+        Command::Record => Mode::Rec,
+        Command::Eject => Mode::Eject,
+        Command::FastForward => Mode::FastForward,
+        Command::Rewind => Mode::Rewind,
+        Command::JogForward | Command::JogReverse => Mode::Jog,
+        Command::VarForward | Command::VarReverse => Mode::Var,
+        Command::ShuttleForward | Command::ShuttleReverse => Mode::Shuttle,
+        Command::Preroll | Command::CueUpWithData { .. } => Mode::Cued,
+        _ => return None,
+    };
+    Some(goal)
+}
+
+/// What may be forgotten.
+pub(in crate::tests) const FORGETTABLE: [Small; 8] = [
+    Small::AnyGoal,
+    Small::AnyShown,
+    Small::Change(Register::RegIn, Change::Recall),
+    Small::Change(Register::RegOut, Change::Recall),
+    Small::Change(Register::RegAudioIn, Change::Recall),
+    Small::Change(Register::RegAudioOut, Change::Recall),
+    Small::AnyLocal,
+    Small::AnyPanel,
+];
+
+/// What a listed command does where it is done.
+pub(in crate::tests) fn small_of(command: &Command, hands: Hands) -> Small {
+    if let Some((register, change)) = change_of(command) {
+        return Small::Change(register, change);
+    }
+    if let Some(goal) = goal_of(command) {
+        return Small::Go(goal);
+    }
+    match command {
+        Command::StandbyOff | Command::StandbyOn => Small::GoOrKeep(Mode::Stop),
+        Command::LocalEnable if hands == Hands::Allowed => Small::Panel(true),
+        Command::LocalDisable if hands == Hands::Allowed => Small::Panel(false),
+        _ => Small::Nothing,
+    }
+}
+
+/// Whether a command, which is then not listed, makes the deck forget this.
+pub(in crate::tests) fn forgets(command: &Command, hands: Hands, forgotten: &Small) -> bool {
+    match (command, forgotten) {
+        (Command::Unlisted { group: 6 }, _) => false,
+        (Command::Unlisted { .. }, Small::Change(_, _)) => true,
+        (Command::Unlisted { group: 4 }, _) => false,
+        (Command::Unlisted { .. }, Small::AnyGoal | Small::AnyShown) => true,
+        (Command::Unlisted { group: 2 }, _) => false,
+        (Command::Unlisted { .. }, Small::AnyPanel) => hands == Hands::Allowed,
+        (Command::Unlisted { .. }, _) => true,
+        _ => false,
+    }
+}
+
+/// Whether a deck in local may leave a command undone: a transport command, or one that changes a register.
+pub(in crate::tests) fn is_free_in_local(command: &Command) -> bool {
+    goal_of(command).is_some()
+        || change_of(command).is_some()
+        || matches!(command, Command::StandbyOff | Command::StandbyOn)
+}

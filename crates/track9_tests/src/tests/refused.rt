@@ -1,0 +1,144 @@
+//! Growths of memory that may be refused: `tests/growths.sh` runs these tests with each growth refused in turn.
+//!
+//! Where none is refused they only show the answers that the other tests show.
+
+use super::counted::ROWS;
+use super::rows::{AUDIO, FORGOTTEN, HANDS, REGISTERS, SHIFTS, TRANSPORT};
+use super::sent::Sent;
+use super::{exchange, known, observe};
+use std::alloc::{AllocError, Global};
+use std::process::Abort;
+use std::test::Fail;
+use tc25::{ListSet, SpanSet, TimeSet};
+use track9::{Hands, Knowledge, Register, Tracker};
+
+/// Spans and presets of each register.
+type Counts = [(usize, u32); 4];
+
+/// A set of times, and what a tracker over it counts.
+trait Counted: TimeSet {
+    fn counts(tracker: &Tracker<Self>) -> Counts;
+}
+
+impl Counted for ListSet {
+    fn counts(_tracker: &Tracker<ListSet>) -> Counts {
+        [(0, 0); 4]
+    }
+}
+
+impl Counted for SpanSet {
+    fn counts(tracker: &Tracker<SpanSet>) -> Counts {
+        [
+            Register::RegIn,
+            Register::RegOut,
+            Register::RegAudioIn,
+            Register::RegAudioOut,
+        ]
+        .map(|register| (tracker.spans(register), tracker.presets(register)))
+    }
+}
+
+/// All that a tracker answers.
+fn answers<S: Counted>(rt: &impl Abort, tracker: &Tracker<S>) -> (Option<Knowledge>, Counts) {
+    let knowledge = if tracker.remains() {
+        Some(known(rt, tracker))
+    } else {
+        None
+    };
+    (knowledge, S::counts(tracker))
+}
+
+/// Takes an exchange. Where memory is refused all answers are as before, and the same call again gives an answer.
+fn take<S: Counted>(
+    rt: &impl Abort,
+    tracker: &mut Tracker<S>,
+    sent: Sent,
+) -> Result<bool, AllocError> {
+    let before = answers(rt, tracker);
+    let (command, reply) = exchange(rt, sent);
+    match observe(rt, tracker, &command, &reply) {
+        Ok(remains) => Ok(remains),
+        Err(_) => {
+            assert_eq!(rt; answers(rt, tracker), before, "{sent:?}");
+            observe(rt, tracker, &command, &reply)
+        }
+    }
+}
+
+/// A tracker, at the second try where memory is refused at the first.
+fn tracker<S: Counted>(alloc: Global, hands: Hands) -> Result<Tracker<S>, AllocError> {
+    match Tracker::new(alloc, hands) {
+        Ok(tracker) => Ok(tracker),
+        Err(_) => Tracker::new(alloc, hands),
+    }
+}
+
+/// Takes exchanges, whether or not a state remains after the last.
+fn judge<S: Counted>(
+    rt: &impl Abort,
+    tracker: &mut Tracker<S>,
+    exchanges: &[Sent],
+    remains: bool,
+) -> Result<(), AllocError> {
+    let (last, before) = exchanges.split_last().expect(rt, "an exchange");
+    for sent in before {
+        assert!(rt; take(rt, tracker, *sent)?, "{exchanges:?}");
+    }
+    assert_eq!(rt; take(rt, tracker, *last)?, remains, "{exchanges:?}");
+    Ok(())
+}
+
+fn judge_from_first<S: Counted>(
+    rt: &impl Abort,
+    alloc: Global,
+    hands: Hands,
+    exchanges: &[Sent],
+    remains: bool,
+) -> Result<(), AllocError> {
+    let mut tracker: Tracker<S> = tracker(alloc, hands)?;
+    judge(rt, &mut tracker, exchanges, remains)
+}
+
+fn judge_all<S: Counted>(rt: &impl Abort, alloc: Global) -> Result<(), AllocError> {
+    for rows in [REGISTERS, SHIFTS, TRANSPORT, FORGOTTEN, AUDIO] {
+        for (exchanges, remains) in rows {
+            judge_from_first::<S>(rt, alloc, Hands::None, exchanges, *remains)?;
+        }
+    }
+    for (exchanges, untouched, touched) in HANDS {
+        judge_from_first::<S>(rt, alloc, Hands::None, exchanges, *untouched)?;
+        judge_from_first::<S>(rt, alloc, Hands::Allowed, exchanges, *touched)?;
+    }
+    Ok(())
+}
+
+#[test]
+fn lists(rt: HostRuntime) -> Result<(), Fail> {
+    judge_all::<ListSet>(&rt, rt.alloc())?;
+    Ok(())
+}
+
+#[test]
+fn spans(rt: HostRuntime) -> Result<(), Fail> {
+    judge_all::<SpanSet>(&rt, rt.alloc())?;
+    Ok(())
+}
+
+/// Takes exchanges, and counts what they left.
+fn count_after(rt: &impl Abort, alloc: Global, exchanges: &[Sent]) -> Result<Counts, AllocError> {
+    let mut tracker: Tracker<SpanSet> = tracker(alloc, Hands::None)?;
+    if !exchanges.is_empty() {
+        judge(rt, &mut tracker, exchanges, true)?;
+    }
+    Ok(SpanSet::counts(&tracker))
+}
+
+#[test]
+fn counts(rt: HostRuntime) -> Result<(), Fail> {
+    for (exchanges, in_spans, in_presets, audio_spans, audio_presets) in ROWS {
+        let [ins, _, ains, _] = count_after(&rt, rt.alloc(), exchanges)?;
+        assert_eq!(rt; ins, (*in_spans, *in_presets), "{exchanges:?}");
+        assert_eq!(rt; ains, (*audio_spans, *audio_presets), "{exchanges:?}");
+    }
+    Ok(())
+}

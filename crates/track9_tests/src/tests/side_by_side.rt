@@ -1,0 +1,226 @@
+//! Both kinds of sets of times beside each other, on exchanges that are drawn with a deck that gives most of them.
+
+use super::drawn::{Draw, command, moved, reply};
+use super::plain_deck::{
+    Day, FORGETTABLE, MODES, PlainState, REGISTERS, Small, WAYS, done, forgets, is_free_in_local,
+    small_of,
+};
+use super::{known, observe};
+use block9::{Block, Command, NakBits};
+use std::alloc::{AllocError, Global};
+use std::process::Abort;
+use std::test::Fail;
+use tc25::{ListSet, SpanSet, TimeCode};
+use track9::{Hands, Mode, Tracker};
+
+/// Frames round midnight and noon, some of them neighbours.
+const FRAMES: [u32; 12] = [
+    0, 1, 2, 4, 1_079_998, 1_079_999, 1_080_000, 1_080_003, 2_159_995, 2_159_997, 2_159_998,
+    2_159_999,
+];
+
+/// A deck, and the exchanges that are drawn with it.
+#[derive(Drop)]
+struct Run {
+    draw: Draw,
+    times: [TimeCode; 12],
+    hands: Hands,
+    state: PlainState,
+}
+
+fn drawn_mode(draw: &mut Draw) -> Mode {
+    let place = draw.below(10) as usize;
+    MODES.get(place).copied().unwrap_or(Mode::Stop)
+}
+
+/// Any state, with the panel on where it says so.
+fn drawn_state(draw: &mut Draw, times: &[TimeCode], panel: bool) -> PlainState {
+    let mut held = [None; 4];
+    for time in held.iter_mut() {
+        let drawn = draw.time(times);
+        *time = if draw.one_in(3) { None } else { Some(drawn) };
+    }
+    PlainState {
+        goal: drawn_mode(draw),
+        shown: drawn_mode(draw),
+        times: held,
+        local: draw.one_in(2),
+        panel,
+    }
+}
+
+impl Run {
+    fn new(hands: Hands, seed: u32) -> Run {
+        let times = FRAMES.map(|frame| TimeCode::from_frames(frame).unwrap_or_default());
+        let mut draw = Draw::new(seed);
+        let state = drawn_state(&mut draw, &times, hands == Hands::Allowed);
+        Run {
+            draw,
+            times,
+            hands,
+            state,
+        }
+    }
+
+    /// A command, and a reply after a drift. Now and then another deck gives it.
+    fn exchange(&mut self, rt: &impl Abort) -> (Command, Block) {
+        let command = command(&mut self.draw, &self.times);
+        let is_touched = self.hands == Hands::Allowed && self.state.panel && self.draw.one_in(4);
+        if is_touched || self.draw.one_in(256) {
+            self.state = drawn_state(&mut self.draw, &self.times, self.state.panel);
+        }
+        let day = Day {
+            times: &self.times,
+            is_round: false,
+        };
+        self.state = moved(&mut self.draw, &day, &self.state);
+        let reply = reply(rt, &mut self.draw, &self.state, &command, &self.times);
+        (command, reply)
+    }
+
+    /// Does a small step, in a way that is drawn.
+    fn step(&mut self, small: &Small) {
+        let day = Day {
+            times: &self.times,
+            is_round: false,
+        };
+        let way = self.draw.below(WAYS as u32) as usize;
+        let after = match done(&day, &self.state, small, way) {
+            Some(after) => Some(after),
+            None => done(&day, &self.state, small, 0),
+        };
+        if let Some(after) = after {
+            self.state = after;
+        }
+    }
+
+    /// Whether the command is left undone: it was not acknowledged, or the deck is in local.
+    fn leaves(&mut self, command: &Command, reply: &Block) -> bool {
+        let is_left = self.draw.one_in(2);
+        NakBits::of(reply).is_some() || (is_left && self.state.local && is_free_in_local(command))
+    }
+
+    /// Forgets what the command makes it forget.
+    fn forget(&mut self, command: &Command) {
+        for small in FORGETTABLE.iter() {
+            if forgets(command, self.hands, small) {
+                self.step(small);
+            }
+        }
+    }
+
+    /// Does what the command does, in ways that are drawn.
+    fn follow(&mut self, command: &Command, reply: &Block) {
+        if !self.leaves(command, reply) {
+            self.step(&small_of(command, self.hands));
+            self.forget(command);
+        }
+    }
+}
+
+/// How much was compared.
+#[derive(Drop)]
+struct Tally {
+    /// Exchanges that left a state.
+    left: u32,
+    /// The most spans of a register.
+    spans: usize,
+}
+
+impl Tally {
+    /// Counts the spans of each register, which are at most two more than its presets.
+    fn count(&mut self, rt: &impl Abort, tracker: &Tracker<SpanSet>) {
+        self.left = self.left.saturating_add(1);
+        for register in REGISTERS {
+            let spans = tracker.spans(register);
+            let most = u64::from(tracker.presets(register)) + 2;
+            assert!(rt; spans as u64 <= most, "{register:?}");
+            self.spans = self.spans.max(spans);
+        }
+    }
+}
+
+/// Both trackers take an exchange and answer the same: whether a state remains.
+fn agree(
+    rt: &impl Abort,
+    lists: &mut Tracker<ListSet>,
+    spans: &mut Tracker<SpanSet>,
+    command: &Command,
+    reply: &Block,
+) -> Result<bool, AllocError> {
+    let remains = observe(rt, spans, command, reply)?;
+    let listed = observe(rt, lists, command, reply)?;
+    assert_eq!(rt; listed, remains, "{command:?} {reply:?}");
+    assert_eq!(rt; spans.remains(), remains, "{command:?} {reply:?}");
+    assert_eq!(rt; lists.remains(), remains, "{command:?} {reply:?}");
+    if remains {
+        let known_by_spans = known(rt, spans);
+        let known_by_lists = known(rt, lists);
+        assert_eq!(rt; known_by_spans, known_by_lists, "{command:?} {reply:?}");
+    }
+    Ok(remains)
+}
+
+/// Both take the exchanges of a run, until no state remains.
+fn agree_on(
+    rt: &impl Abort,
+    lists: &mut Tracker<ListSet>,
+    spans: &mut Tracker<SpanSet>,
+    run: &mut Run,
+    tally: &mut Tally,
+) -> Result<(), AllocError> {
+    for _ in 0..200 {
+        let (command, reply) = run.exchange(rt);
+        if !agree(rt, lists, spans, &command, &reply)? {
+            return Ok(());
+        }
+        tally.count(rt, spans);
+        run.follow(&command, &reply);
+    }
+    Ok(())
+}
+
+fn agree_beside_lists(
+    rt: &impl Abort,
+    alloc: Global,
+    lists: &mut Tracker<ListSet>,
+    run: &mut Run,
+    tally: &mut Tally,
+) -> Result<(), AllocError> {
+    let mut spans: Tracker<SpanSet> = Tracker::new(alloc, run.hands)?;
+    agree_on(rt, lists, &mut spans, run, tally)
+}
+
+fn agree_from_first(
+    rt: &impl Abort,
+    alloc: Global,
+    run: &mut Run,
+    tally: &mut Tally,
+) -> Result<(), AllocError> {
+    let mut lists: Tracker<ListSet> = Tracker::new(alloc, run.hands)?;
+    agree_beside_lists(rt, alloc, &mut lists, run, tally)
+}
+
+/// Takes runs that differ.
+fn agree_on_runs(rt: &impl Abort, alloc: Global, hands: Hands) -> Result<(), AllocError> {
+    let mut tally = Tally { left: 0, spans: 0 };
+    for seed in 0..30 {
+        agree_from_first(rt, alloc, &mut Run::new(hands, seed), &mut tally)?;
+    }
+    // The draws have to leave states, and some with times that lie apart.
+    assert!(rt; tally.left >= 2_000, "{} exchanges", tally.left);
+    assert!(rt; tally.spans >= 3, "{} spans", tally.spans);
+    Ok(())
+}
+
+#[test]
+fn untouched(rt: HostRuntime) -> Result<(), Fail> {
+    agree_on_runs(&rt, rt.alloc(), Hands::None)?;
+    Ok(())
+}
+
+#[test]
+fn with_hands(rt: HostRuntime) -> Result<(), Fail> {
+    agree_on_runs(&rt, rt.alloc(), Hands::Allowed)?;
+    Ok(())
+}
