@@ -24,7 +24,8 @@ use Rattle.judge9.specs.Working.{IsSame, Judges, Puts}
 use Rattle.judge9.proofs.CutSteps.{cut-exchange}
 use Rattle.judge9.proofs.LimitLemmas.{can_be-no, judges-told}
 use Rattle.judge9.proofs.ReasonLemmas.{no_run_first, tail_breaks}
-use Rattle.judge9.proofs.RunSteps.{Follows, no_run}
+use Rattle.judge9.proofs.RunSteps.{no_run}
+use Rattle.judge9.specs.Working.Trail.{Follows}
 use Rattle.judge9.proofs.SoFar.{SoFar}
 use Rattle.judge9.proofs.TellLemmas.{told-no}
 

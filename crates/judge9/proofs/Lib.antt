@@ -4,10 +4,15 @@ pub mod LineSteps
 pub mod SoFar
 pub mod SoFarSteps
 pub mod Seen
+pub mod TrailSteps
+pub mod RunJudging
 pub mod LawLemmas
 pub mod TellLemmas
 pub mod LimitLemmas
 pub mod ReasonLemmas
 pub mod BreakLemmas
 pub mod PieceLemmas
+pub mod WriteLemmas
+pub mod RunLines
 pub mod TextLemmas
+pub mod RunSearch

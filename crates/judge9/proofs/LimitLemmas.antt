@@ -112,7 +112,7 @@ stopped-refusal which hands (Some rows) progress given paired tracked old now n 
 
 -- ---- all that the result tells, at each end
 
-each_row : (rows : Option Rows) (P : Rows → Type 0) → ((all : Rows) → P all) → IfSome rows P
+pub each_row : (rows : Option Rows) (P : Rows → Type 0) → ((all : Rows) → P all) → IfSome rows P
 each_row None P f = tt
 each_row (Some all) P f = f all
 

@@ -13,6 +13,7 @@ use Rattle.track9.specs.State.{IsFirst, IsState}
 use Rattle.track9.specs.Step.{AreReached, Exchanges}
 use Rattle.track9.specs.Tracker.{Possible, Tracked}
 use Rattle.track9.proofs.RunLemmas.{ends_more, ends_none, some_end}
+use Rattle.judge9.specs.Working.Trail.{Follows}
 
 -- ---- runs
 
@@ -39,11 +40,6 @@ run_less h es e r =
     (some_end h es).0 (before.0, before.1)
 
 -- ---- a tracker that follows
-
--- a tracker keeps exactly the states that the runs of these exchanges end in
-pub record Follows (h : Hands) (es : List Exchange) (t : Tracked) : Type 0 where
-  pub states : (s : State) → Possible t.states s ↔ Ends h es s
-  pub hands : t.hands ≡ h
 
 pub follows-start : (h : Hands) (t : Tracked) → ((s : State) → Possible t.states s ↔ IsFirst h s) → t.hands ≡ h → Follows h [] t
 follows-start h t states same = record { states = λ s. (λ p. (ends_none h s).1 ((states s).0 p), λ e. (states s).1 ((ends_none h s).0 e)); hands = same }

@@ -14,7 +14,7 @@ use Rattle.track9.specs.Run.{HasRun}
 use Rattle.track9.specs.Tracker.{Tracked}
 use Rattle.judge9.specs.declared.verdict.View.{View}
 use Rattle.judge9.specs.Report.{IsExplained}
-use Rattle.judge9.proofs.RunSteps.{Follows}
+use Rattle.judge9.specs.Working.Trail.{Follows}
 
 -- these records were read, and the rest of the rows is still to come
 abbrev pub WereRead : Option Rows → List LineByte → Option Rows → Type 0

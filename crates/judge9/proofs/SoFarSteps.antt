@@ -23,7 +23,8 @@ use Rattle.judge9.specs.Report.{IsExplained}
 use Rattle.judge9.specs.Working.{IsLineOf}
 use Rattle.judge9.proofs.CutSteps.{cut-step, exchanges_after}
 use Rattle.judge9.proofs.LineSteps.{cut_len, explained_more, line_same, total}
-use Rattle.judge9.proofs.RunSteps.{Follows, run_start}
+use Rattle.judge9.proofs.RunSteps.{run_start}
+use Rattle.judge9.specs.Working.Trail.{Follows}
 use Rattle.judge9.proofs.SoFar.{SoFar, WereRead}
 
 -- a row more was read
@@ -51,7 +52,7 @@ pub cut-after : (p : List LineByte) (es : List Exchange) (r : LineByte) (s : Ste
 cut-after p es r s paired next cut takes =
     subst (λ (l : List LineByte). Cut (p ++ r ∷ []) (exchanges_after es s) l) (sym takes.tail) (cut-step p es paired.tail r s cut takes.does)
 
-later : {R : Type 0} (progress after : Progress R) (paired next : Paired) (r : LineByte) (s : Step) → GivesRecord progress r after → Takes paired r s next → (x : ℕ) → next.last_time ≡ Some x → x ≤ after.last_time
+pub later : {R : Type 0} (progress after : Progress R) (paired next : Paired) (r : LineByte) (s : Step) → GivesRecord progress r after → Takes paired r s next → (x : ℕ) → next.last_time ≡ Some x → x ≤ after.last_time
 later progress after paired next r s given takes x e =
     let same : Some x ≡ Some r.time_us = sym e ∙ takes.last_time in
     let t : x ≡ r.time_us = cc in
@@ -59,7 +60,7 @@ later progress after paired next r s given takes x e =
     omega arith
 
 -- after a row that ends no exchange
-pub so_far-open : {R : Type 0} (which : View) (hands : Hands) (rows : Option Rows) (progress after : Progress R) (paired next : Paired) (tracked : Tracked) (old now : Option (List ℕ)) (r : LineByte) (s : Step) (n m : ℕ) → ((es : List Exchange) → exchanges_after es s ≡ es)
+unfoldable pub so_far-open : {R : Type 0} (which : View) (hands : Hands) (rows : Option Rows) (progress after : Progress R) (paired next : Paired) (tracked : Tracked) (old now : Option (List ℕ)) (r : LineByte) (s : Step) (n m : ℕ) → ((es : List Exchange) → exchanges_after es s ≡ es)
     → SoFar which hands rows progress paired tracked old now n m → GivesRecord progress r after → Takes paired r s next → SoFar which hands rows after next tracked old now (n + 1) m
 so_far-open which hands rows progress after paired next tracked old now r s n m same h given takes = record {
   items = h.items ++ r ∷ [];
@@ -99,7 +100,7 @@ shown-more which hands rows progress paired next tracked seen old now r e n m li
     (at_exchange which hands rows progress paired next tracked old now r e n m h takes)
 
 -- after a row that ends an exchange, which the tracker has seen and whose line was written
-pub so_far-exchange : {R : Type 0} (which : View) (hands : Hands) (rows : Option Rows) (progress after : Progress R) (paired next : Paired) (tracked seen : Tracked) (old now new : Option (List ℕ)) (r : LineByte) (e : Exchange) (n m : ℕ) (line : List ℕ) → (h : SoFar which hands rows progress paired tracked old now n m)
+unfoldable pub so_far-exchange : {R : Type 0} (which : View) (hands : Hands) (rows : Option Rows) (progress after : Progress R) (paired next : Paired) (tracked seen : Tracked) (old now new : Option (List ℕ)) (r : LineByte) (e : Exchange) (n m : ℕ) (line : List ℕ) → (h : SoFar which hands rows progress paired tracked old now n m)
     → GivesRecord progress r after → Takes paired r (step.Exchange e) next → Follows hands (h.cut_exchanges ++ e ∷ []) seen → HasRun hands (h.cut_exchanges ++ e ∷ []) → IsLineOf which hands (n + 1) e (Possible seen.states) line
     → Appends now new line → SoFar which hands rows after next seen old new (n + 1) (m + 1)
 so_far-exchange which hands rows progress after paired next tracked seen old now new r e n m line h given takes follows run is wrote = record {
@@ -128,7 +129,7 @@ explained-start view.Verdict hands = refl
 explained-start view.Explain hands = refl
 
 -- before the first row
-pub so_far-start : {R : Type 0} (which : View) (hands : Hands) (progress : Progress R) (paired : Paired) (tracked : Tracked) (now : Option (List ℕ)) → progress.given ≡ 0 → progress.standing ≡ Reading → paired ≡ record { tail = []; last_time = None; reason = None } → Follows hands [] tracked
+unfoldable pub so_far-start : {R : Type 0} (which : View) (hands : Hands) (progress : Progress R) (paired : Paired) (tracked : Tracked) (now : Option (List ℕ)) → progress.given ≡ 0 → progress.standing ≡ Reading → paired ≡ record { tail = []; last_time = None; reason = None } → Follows hands [] tracked
     → SoFar which hands progress.rows progress paired tracked now now 0 0
 so_far-start which hands progress paired tracked now given reading new follows = record {
   items = [];

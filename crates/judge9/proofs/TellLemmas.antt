@@ -35,7 +35,8 @@ use Rattle.judge9.specs.Report.{IsVerdictAfter, Told, Written, line_of}
 use Rattle.judge9.specs.Working.{Explains, IsSame, Puts}
 use Rattle.judge9.proofs.LawLemmas.{answer_once}
 use Rattle.judge9.proofs.LineSteps.{none_after, part_after}
-use Rattle.judge9.proofs.RunSteps.{Follows, run_start}
+use Rattle.judge9.proofs.RunSteps.{run_start}
+use Rattle.judge9.specs.Working.Trail.{Follows}
 use Rattle.judge9.proofs.Seen.{Seen, rest_has, seen}
 use Rattle.judge9.proofs.SoFar.{SoFar}
 use Rattle.judge9.proofs.SoFarSteps.{cut-after, explained-start, read-more, shown-more}
@@ -74,19 +75,19 @@ pub refused : (P : JudgeError → Type 0) (e : CaptureError) (x : JudgeError) �
 refused P e x same whole memory = subst P (sym same) (refusal_cases P e.kind e whole memory)
 
 -- the records of the rows are those read and the rest
-records_are : {rows left : Option Rows} {items : List LineByte} {mine : Rows} (s : Seen rows left items mine) → s.all.records ≡ items ++ s.rest.records
+pub records_are : {rows left : Option Rows} {items : List LineByte} {mine : Rows} (s : Seen rows left items mine) → s.all.records ≡ items ++ s.rest.records
 records_are s = ap (λ (x : Rows). x.records) s.whole
 
-fault_is : {rows left : Option Rows} {items : List LineByte} {mine : Rows} (s : Seen rows left items mine) → s.all.fault ≡ s.rest.fault
+pub fault_is : {rows left : Option Rows} {items : List LineByte} {mine : Rows} (s : Seen rows left items mine) → s.all.fault ≡ s.rest.fault
 fault_is s = ap (λ (x : Rows). x.fault) s.whole
 
-starts : {rows left : Option Rows} {items : List LineByte} {mine : Rows} (s : Seen rows left items mine) → IsStartOf items s.all.records
+pub starts : {rows left : Option Rows} {items : List LineByte} {mine : Rows} (s : Seen rows left items mine) → IsStartOf items s.all.records
 starts s = (s.rest.records, records_are s)
 
 -- what is told after the records so far, of these rows
-after : {R : Type 0} (which : View) (hands : Hands) (rows : Option Rows) (progress : Progress R) (paired : Paired) (tracked : Tracked) (old now new : Option (List ℕ)) (n m : ℕ) (h : SoFar which hands rows progress paired tracked old now n m) (all : Rows) (r : Result Verdict JudgeError) → IfSome rows (λ a. all ≡ a) → IsStartOf h.items all.records
+unfoldable pub told_after : {R : Type 0} (which : View) (hands : Hands) (rows : Option Rows) (progress : Progress R) (paired : Paired) (tracked : Tracked) (old now new : Option (List ℕ)) (n m : ℕ) (h : SoFar which hands rows progress paired tracked old now n m) (all : Rows) (r : Result Verdict JudgeError) → IfSome rows (λ a. all ≡ a) → IsStartOf h.items all.records
     → IfSome (answer_of r) (IsTheAnswer hands all) → Written hands all h.items h.text r old new → Told which hands rows r old new
-after which hands rows progress paired tracked old now new n m h all r is_known start answer written = record {
+told_after which hands rows progress paired tracked old now new n m h all r is_known start answer written = record {
   rows = all;
   is_known = is_known;
   answer = answer;
@@ -102,20 +103,20 @@ after which hands rows progress paired tracked old now new n m h all r is_known 
 }
 
 -- a verdict that is told
-told-verdict : {R : Type 0} (which : View) (hands : Hands) (rows : Option Rows) (progress : Progress R) (paired : Paired) (tracked : Tracked) (old now new : Option (List ℕ)) (n m : ℕ) (h : SoFar which hands rows progress paired tracked old now n m) (all : Rows) (v : Verdict) (r : Result Verdict JudgeError) → IfSome rows (λ a. all ≡ a) → IsStartOf h.items all.records
+unfoldable pub told-verdict : {R : Type 0} (which : View) (hands : Hands) (rows : Option Rows) (progress : Progress R) (paired : Paired) (tracked : Tracked) (old now new : Option (List ℕ)) (n m : ℕ) (h : SoFar which hands rows progress paired tracked old now n m) (all : Rows) (v : Verdict) (r : Result Verdict JudgeError) → IfSome rows (λ a. all ≡ a) → IsStartOf h.items all.records
     → IsAnswer hands all (judged v) → IsVerdictAfter h.items v → IsSame v r → Puts (line_of v) r now new → Told which hands rows r old new
 told-verdict which hands rows progress paired tracked old now new n m h all v (Ok w) is_known start is follows same puts =
-    after which hands rows progress paired tracked old now new n m h all (Ok w) is_known start
+    told_after which hands rows progress paired tracked old now new n m h all (Ok w) is_known start
     (subst (λ (x : Verdict). IsTheAnswer hands all (judged x)) (sym same) (the_answer hands all (judged v) is))
     (subst (λ (x : Verdict). IsVerdictAfter h.items x × Appends old new (h.text ++ line_of x)) (sym same) (follows, Appends-trans old now new h.text (line_of v) h.wrote puts))
 told-verdict which hands rows progress paired tracked old now new n m h all v (Err (error.Capture e)) is_known start is follows same puts = absurd puts
 told-verdict which hands rows progress paired tracked old now new n m h all v (Err error.Write) is_known start is follows same puts =
-    after which hands rows progress paired tracked old now new n m h all (Err error.Write) is_known start tt (inr (v, is, follows, part_after old now new h.text (line_of v) h.wrote puts))
+    told_after which hands rows progress paired tracked old now new n m h all (Err error.Write) is_known start tt (inr (v, is, follows, part_after old now new h.text (line_of v) h.wrote puts))
 told-verdict which hands rows progress paired tracked old now new n m h all v (Err error.OutOfMemory) is_known start is follows same puts =
-    after which hands rows progress paired tracked old now new n m h all (Err error.OutOfMemory) is_known start tt (none_after old now new h.text h.wrote puts)
+    told_after which hands rows progress paired tracked old now new n m h all (Err error.OutOfMemory) is_known start tt (none_after old now new h.text h.wrote puts)
 
 -- at the end of the rows
-pub told-yes : {R : Type 0} (which : View) (hands : Hands) (rows : Option Rows) (progress ended : Progress R) (paired : Paired) (tracked : Tracked) (old now new : Option (List ℕ)) (n m : ℕ) (r : Result Verdict JudgeError) → (h : SoFar which hands rows progress paired tracked old now n m) → GivesEnd progress ended
+unfoldable pub told-yes : {R : Type 0} (which : View) (hands : Hands) (rows : Option Rows) (progress ended : Progress R) (paired : Paired) (tracked : Tracked) (old now new : Option (List ℕ)) (n m : ℕ) (r : Result Verdict JudgeError) → (h : SoFar which hands rows progress paired tracked old now n m) → GivesEnd progress ended
     → IsSame (Yes n m (length paired.tail)) r → Puts (line_of (Yes n m (length paired.tail))) r now new → Told which hands rows r old new
 told-yes which hands rows progress ended paired tracked old now new n m r h end same puts =
     told-verdict which hands rows progress paired tracked old now new n m h s.all (Yes n m (length paired.tail)) r s.is_known (starts s) (fault_is s ∙ ap (λ (x : Rows). x.fault) left, counts) h.number same puts
@@ -159,13 +160,13 @@ told-no which hands rows progress given paired tracked old now new n m next reas
 pub told-memory : {R : Type 0} (which : View) (hands : Hands) (rows : Option Rows) (progress : Progress R) (paired : Paired) (tracked : Tracked) (old now : Option (List ℕ)) (n m : ℕ) → SoFar which hands rows progress paired tracked old now n m → Told which hands rows (Err error.OutOfMemory) old now
 told-memory which hands rows progress paired tracked old now n m h =
     let s = seen rows progress.rows h.items no_rows h.read in
-    after which hands rows progress paired tracked old now now n m h s.all (Err error.OutOfMemory) s.is_known (starts s) tt h.wrote
+    told_after which hands rows progress paired tracked old now now n m h s.all (Err error.OutOfMemory) s.is_known (starts s) tt h.wrote
 
 -- at a refusal of the capture
 pub told-refusal : {R : Type 0} (which : View) (hands : Hands) (rows : Option Rows) (progress given : Progress R) (paired : Paired) (tracked : Tracked) (old now : Option (List ℕ)) (n m : ℕ) (e : CaptureError) (x : JudgeError) → SoFar which hands rows progress paired tracked old now n m → GivesRefusal progress e given → x ≡ refusal_of e → Told which hands rows (Err x) old now
 told-refusal which hands rows progress given paired tracked old now n m e x h refusal same =
     refused (λ y. Told which hands rows (Err y) old now) e x same
-    (after which hands rows progress paired tracked old now now n m h s.all (Err (error.Capture e)) s.is_known (starts s) (answer_of-capture e (IsTheAnswer hands s.all) (λ t. the_answer hands s.all (unreadable e) (is t)))
+    (told_after which hands rows progress paired tracked old now now n m h s.all (Err (error.Capture e)) s.is_known (starts s) (answer_of-capture e (IsTheAnswer hands s.all) (λ t. the_answer hands s.all (unreadable e) (is t)))
     (refused-after progress given e h.items refusal (h.given ∙ h.number), h.wrote))
     (told-memory which hands rows progress paired tracked old now n m h)
   where
@@ -186,7 +187,7 @@ pub told-line : {R : Type 0} (which : View) (hands : Hands) (rows : Option Rows)
 told-line which hands rows progress given paired next tracked observed old now new n m r e (error.Capture c) h gives takes follows run line = absurd line.puts
 told-line which hands rows progress given paired next tracked observed old now new n m r e error.OutOfMemory h gives takes follows run line =
     let s = seen rows progress.rows h.items no_rows h.read in
-    after which hands rows progress paired tracked old now new n m h s.all (Err error.OutOfMemory) s.is_known (starts s) tt (none_after old now new h.text h.wrote line.puts)
+    told_after which hands rows progress paired tracked old now new n m h s.all (Err error.OutOfMemory) s.is_known (starts s) tt (none_after old now new h.text h.wrote line.puts)
 told-line which hands rows progress given paired next tracked observed old now new n m r e error.Write h gives takes follows run line =
     let s = seen rows given.rows (h.items ++ r ∷ []) no_rows (read-more rows progress.rows given.rows h.items r h.read gives.rows) in
     record {

@@ -1,0 +1,40 @@
+-- What a result of a judging with a run tells: a verdict, and where it is a yes a run of the deck.
+use Rattle.std.specs.Prelude.{◌≡◌, ⊤, List, length, Option, Result, Ok, Err}
+use Rattle.std.specs.Option.{IfSome}
+use Rattle.std.specs.Result.{IfOk}
+use Rattle.capture9.specs.declared.line_byte.LineByte.{LineByte}
+use Rattle.capture9.specs.Rows.{Rows}
+use Rattle.block9.specs.Exchange.{Cut}
+use Rattle.track9.specs.declared.state.Hands.{Hands}
+use Rattle.judge9.specs.declared.error.JudgeError.{JudgeError}
+use Rattle.judge9.specs.declared.run_verdict.RunVerdict.{RunVerdict}
+use Rattle.judge9.specs.declared.run_verdict.RunVerdict.TheVariants as run
+use Rattle.judge9.specs.declared.verdict.Verdict.{Verdict}
+use Rattle.judge9.specs.declared.verdict.Verdict.TheVariants as verdict
+use Rattle.judge9.specs.Judging.{IsTheAnswer, answer_of}
+use Rattle.judge9.specs.Run.{IsRun}
+
+-- the verdict alone, with the number of the exchanges
+abbrev pub verdict_of : RunVerdict → Verdict
+verdict_of (run.Yes records tail exchanges states) = verdict.Yes records (length exchanges.items) tail
+verdict_of (run.No at reason) = verdict.No at reason
+
+-- the result of a judging without the run
+abbrev pub judged_of : Result RunVerdict JudgeError → Result Verdict JudgeError
+judged_of (Ok v) = Ok (verdict_of v)
+judged_of (Err e) = Err e
+
+-- on a yes the exchanges are those that the records are cut into, and the states are those after each of them in some
+-- run of the deck
+abbrev pub HasItsRun : Hands → Rows → RunVerdict → Type 0
+HasItsRun hands rows (run.Yes records tail exchanges states) =
+    ((left : List LineByte) × Cut rows.records exchanges.items left) × IsRun hands exchanges.items states.items
+HasItsRun hands rows (run.No at reason) = ⊤
+
+-- the rows that a judging speaks of, with its answer for them and its run. The rows are those of the text, where the
+-- reader tells its bytes; else they are what it gave
+pub record IsJudgedRun (hands : Hands) (known : Option Rows) (result : Result RunVerdict JudgeError) : Type 0 where
+  pub rows : Rows
+  pub is_known : IfSome known (λ all. rows ≡ all)
+  pub answer : IfSome (answer_of (judged_of result)) (IsTheAnswer hands rows)
+  pub run : IfOk result (HasItsRun hands rows)

@@ -1,0 +1,115 @@
+//! Judges a capture and keeps its trail, so that a yes is handed out with a run of the deck.
+ghost use Rattle.std.specs.Prelude.{◌≡◌, ◌≢◌, ◌↔◌, IfSome, IfErr, option_map};
+ghost use Rattle.capture9.specs.declared.records.Standing.{Standing};
+ghost use Rattle.capture9.specs.Rows.{rows_of};
+ghost use Rattle.judge9.specs.Judging.{CanBeResult, IsTheAnswer, StoppedBefore, answer_of};
+ghost use Rattle.judge9.specs.RunVerdict.{IsJudgedRun, judged_of};
+ghost use Rattle.judge9.specs.Working.Trail.{JudgesRun};
+ghost use Rattle.track9.specs.declared.state.State.{State as AState};
+ghost use Rattle.track9.specs.State.{IsFirst};
+ghost use Rattle.track9.specs.Tracker.{Possible};
+
+use crate::error::JudgeError;
+use crate::run_verdict::RunVerdict;
+use crate::trail::Trail;
+use block9::{Pairer, Reason, Step};
+use capture9::{CaptureError, CaptureKind, Records};
+use std::alloc::Global;
+use std::io::Read;
+use tc25::SpanSet;
+use track9::{Hands, Tracker};
+
+/// Judges the capture that the reader gives, as [`judge`](crate::judge) does, and hands out a yes with a run of the
+/// deck: the exchanges, and a state of the deck after each of them, such that some first state, drifts and steps of
+/// the deck lead through all of them and give exactly the replies. Which of several runs it is, is not said.
+///
+/// It writes nothing, and keeps all exchanges, their states and for each 256th exchange what was possible before it.
+///
+/// Where the reader tells its bytes, the verdict, its counts and the refusals of the text are those that
+/// [`judge`](crate::judge) gives, and the exchanges are those that the records are cut into. Errors come as there, but
+/// for `Err(Write)`, which never comes:
+///
+/// * `Err(Capture(e))` with a fault of the text exactly where e is the fault of its first bad row, or of the header,
+///   and all records before that row keep the rules; of the kind `Read` where the reader fails or is interrupted at
+///   row `e.row`.
+/// * `Err(OutOfMemory)` where a growth of memory is refused.
+pub fn judge_with_run<R: Read + Drop>(
+    alloc: Global,
+    reader: R,
+    hands: Hands,
+) -> Result<RunVerdict, JudgeError>
+    ensures answer { IfSome (R.remaining reader)
+        (λ text. IfSome (answer_of (judged_of result)) (IsTheAnswer hands (rows_of text))) }
+    ensures run { IsJudgedRun hands (option_map rows_of (R.remaining reader)) result }
+    ensures stopped { IfSome (R.remaining reader)
+        (λ text. IfErr result (StoppedBefore hands (rows_of text))) }
+    ensures kind { (e : CaptureError) → result ≡ Err (JudgeError.Capture e)
+        → e.kind ≢ CaptureKind.OutOfMemory }
+    ensures write { result ≢ Err JudgeError.Write }
+    ensures can_be { CanBeResult (judged_of result) }
+{
+    let Ok(mut tracker) = Tracker::<SpanSet>::new(alloc, hands) else {
+        return Err(JudgeError::OutOfMemory);
+    };
+    let mut rows = Records::new(alloc, reader);
+    judge_rows(alloc, &mut rows, &mut tracker, hands)
+}
+
+/// Judges all the rows that are to come and finds a run where the verdict is a yes.
+fn judge_rows<R: Read + Drop>(
+    alloc: Global,
+    rows: &mut Records<R>,
+    tracker: &mut Tracker<SpanSet>,
+    hands: Hands,
+) -> Result<RunVerdict, JudgeError>
+    requires first { rows.old.given ≡ 0 }
+    requires reading { rows.old.standing ≡ Standing.Reading }
+    requires states { (s : AState) → Possible tracker.old.states s ↔ IsFirst hands s }
+    requires hands { tracker.old.hands ≡ hands }
+    ensures { JudgesRun hands rows.old.rows result }
+{
+    let mut pairer = Pairer::new();
+    let mut trail = Trail::new(alloc);
+    let mut records = 0u32;
+    'rows: loop {
+        let line_byte = match rows.next() {
+            Ok(Some(line_byte)) => line_byte,
+            Ok(None) => break 'rows,
+            Err(e) => return Err(JudgeError::from(e)),
+        };
+        records += 1;
+        let exchange = match pairer.feed(line_byte) {
+            Ok(Step::Waiting) => continue 'rows,
+            Ok(Step::Command) => continue 'rows,
+            Ok(Step::Exchange(exchange)) => exchange,
+            Err(reason) => return Ok(RunVerdict::No {
+                at: records,
+                reason,
+            }),
+        };
+        let Ok(()) = trail.mark(tracker) else {
+            return Err(JudgeError::OutOfMemory);
+        };
+        match tracker.observe(&exchange.command, &exchange.reply) {
+            Ok(true) => {}
+            Ok(false) => return Ok(RunVerdict::No {
+                at: records,
+                reason: Reason::NoRun,
+            }),
+            Err(_) => return Err(JudgeError::OutOfMemory),
+        }
+        let Ok(()) = trail.push(exchange) else {
+            return Err(JudgeError::OutOfMemory);
+        };
+    }
+    let tail = pairer.tail_len() as u32;
+    let Ok(states) = trail.states(alloc, tracker) else {
+        return Err(JudgeError::OutOfMemory);
+    };
+    Ok(RunVerdict::Yes {
+        records,
+        tail,
+        exchanges: trail.into_exchanges(),
+        states,
+    })
+}

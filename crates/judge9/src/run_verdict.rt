@@ -1,0 +1,27 @@
+//! What is answered to a capture where a run of the deck is asked for.
+
+use block9::{Exchange, Reason};
+use track9::State;
+
+/// The verdict on the records of a capture, and where it is a yes a run of the deck that gives its replies.
+#[derive(Debug, Drop, PartialEq, Eq)]
+pub enum RunVerdict {
+    /// No row is bad, all records keep the rules, and the deck of this run gives exactly their replies.
+    Yes {
+        /// How many records there are.
+        records: u32,
+        /// How many records come after the last whole exchange, at most 35.
+        tail: u32,
+        /// The whole exchanges that the records hold.
+        exchanges: Vec<Exchange>,
+        /// A run of the deck: one state after each exchange, in their order.
+        states: Vec<State>,
+    },
+    /// A record breaks a rule. Later rows were not judged, and may be bad.
+    No {
+        /// The number of the first record that does, counted from 1: its data row.
+        at: u32,
+        /// The rule that it breaks, and the first of them where it breaks several.
+        reason: Reason,
+    },
+}

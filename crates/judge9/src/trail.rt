@@ -1,0 +1,185 @@
+//! The trail of a judging: what is kept of it so that a run of the deck can be found once the verdict is a yes.
+//!
+//! A run is found backwards: from a state in which the deck can be at the end, through the exchanges, to one before the
+//! first of them. That needs the states that were possible before each exchange. Kept are those before every 256th
+//! alone; those between are made again, stretch by stretch, while going back.
+ghost use Rattle.std.specs.Prelude.{◌≡◌, ◌<◌, ◌≤◌, ◌*◌, ◌++◌, [], ◌∷◌, IfOk, OnOk, length, take};
+ghost use Rattle.judge9.specs.Run.{IsRun};
+ghost use Rattle.judge9.specs.Working.Trail.{Follows, GoesBack, IsTrail, Leads};
+ghost use Rattle.track9.specs.Run.{Ends};
+ghost use Rattle.track9.specs.State.{IsFirst};
+ghost use Rattle.track9.specs.Step.{AreReached, Exchanges};
+ghost use Rattle.track9.specs.Tracker.{Possible};
+ghost use Rattle.track9.specs.declared.state.Hands.{Hands as AHands};
+ghost use Rattle.track9.specs.declared.state.State.{State as AState};
+
+use block9::Exchange;
+use std::alloc::{AllocError, Global};
+use tc25::SpanSet;
+use track9::{State, Tracker};
+
+/// How many exchanges a stretch has.
+const STRETCH: usize = 256;
+
+/// The exchanges so far, and a tracker before each stretch of them.
+#[derive(Drop)]
+pub(crate) struct Trail {
+    exchanges: Vec<Exchange>,
+    trackers: Vec<Tracker<SpanSet>>,
+}
+
+impl Trail {
+    /// The trail of no exchange.
+    pub(crate) fn new(alloc: Global) -> Trail
+        ensures exchanges { result.exchanges.items ≡ [] }
+        ensures trackers { result.trackers.items ≡ [] }
+    {
+        Trail {
+            exchanges: Vec::new(alloc),
+            trackers: Vec::new(alloc),
+        }
+    }
+
+    /// Keeps the tracker before the next exchange, where that begins a stretch.
+    pub(crate) fn mark(&mut self, tracker: &Tracker<SpanSet>) -> Result<(), AllocError>
+        requires trail { IsTrail tracker.now.hands self.old.exchanges.items self.old.trackers.items }
+        requires keeps { Follows tracker.now.hands self.old.exchanges.items tracker.now }
+        ensures same { OnOk result (self.new.exchanges ≡ self.old.exchanges) }
+        ensures trail { OnOk result (IsTrail tracker.now.hands self.new.exchanges.items self.new.trackers.items) }
+        ensures room { OnOk result (length self.new.exchanges.items < length self.new.trackers.items * 256) }
+    {
+        if self.exchanges.len() / STRETCH == self.trackers.len() {
+            let tracker = tracker.snapshot()?;
+            self.trackers.push(tracker)?;
+        }
+        Ok(())
+    }
+
+    /// Keeps the exchange that comes next.
+    pub(crate) fn push(&mut self, exchange: Exchange) -> Result<(), AllocError>
+        requires room { length self.old.exchanges.items < length self.old.trackers.items * 256 }
+        ensures exchanges { OnOk result (self.new.exchanges.items ≡ self.old.exchanges.items ++ exchange ∷ []) }
+        ensures trackers { OnOk result (self.new.trackers ≡ self.old.trackers) }
+        ensures trail { OnOk result ((h : AHands) → IsTrail h self.old.exchanges.items self.old.trackers.items
+            → IsTrail h self.new.exchanges.items self.new.trackers.items) }
+    {
+        self.exchanges.push(exchange)?;
+        Ok(())
+    }
+
+    /// The states after each exchange in a run that ends in some state of this tracker.
+    pub(crate) fn states(
+        &self,
+        alloc: Global,
+        end: &Tracker<SpanSet>,
+    ) -> Result<Vec<State>, AllocError>
+        requires trail { IsTrail end.now.hands self.now.exchanges.items self.now.trackers.items }
+        requires follows { Follows end.now.hands self.now.exchanges.items end.now }
+        requires some { (s : AState) × Possible end.now.states s }
+        ensures { IfOk result (λ states. IsRun end.now.hands self.now.exchanges.items states.items) }
+    {
+        let mut states = Vec::new(alloc);
+        match go_back_from(end, &self.trackers, &self.exchanges, &mut states) {
+            Ok(_) => {}
+            Err(error) => return Err(error),
+        }
+        states.reverse();
+        Ok(states)
+    }
+
+    /// The exchanges.
+    pub(crate) fn into_exchanges(self) -> Vec<Exchange>
+        ensures { result ≡ self.exchanges }
+    {
+        self.exchanges
+    }
+}
+
+/// Goes back from some state of the tracker `end` through all exchanges to a state before the first of them. The states
+/// after each exchange are put behind `states`, the last one first.
+fn go_back_from(
+    end: &Tracker<SpanSet>,
+    trackers: &[Tracker<SpanSet>],
+    exchanges: &[Exchange],
+    states: &mut Vec<State>,
+) -> Result<State, AllocError>
+    requires trail { IsTrail end.now.hands exchanges.now trackers.now }
+    requires follows { Follows end.now.hands exchanges.now end.now }
+    requires some { (s : AState) × Possible end.now.states s }
+    ensures { IfOk result (λ s. (t : AState) × GoesBack end.now.hands (IsFirst end.now.hands) exchanges.now t states.old.items states.new.items s) }
+{
+    let Some(state) = end.member() else {
+        unreachable!();
+    };
+    go_back(trackers, exchanges, exchanges.len(), state, states)
+}
+
+/// Goes back from `end` through the first exchanges, as many as `at` says, to a state before the first of them. The
+/// states after each exchange are put behind `states`, the last one first.
+fn go_back(
+    trackers: &[Tracker<SpanSet>],
+    exchanges: &[Exchange],
+    at: usize,
+    end: State,
+    states: &mut Vec<State>,
+) -> Result<State, AllocError>
+    requires place { at ≤ length exchanges.now }
+    requires trail { (h : AHands) × IsTrail h exchanges.now trackers.now × Ends h (take at exchanges.now) end }
+    ensures { IfOk result (λ s. (h : AHands) → IsTrail h exchanges.now trackers.now → Ends h (take at exchanges.now) end
+        → GoesBack h (IsFirst h) (take at exchanges.now) end states.old.items states.new.items s) }
+{
+    let Some(last) = at.checked_sub(1) else {
+        return Ok(end);
+    };
+    let stretch = last / STRETCH;
+    let first = stretch * STRETCH;
+    let state = go_back_through(&trackers[stretch], &exchanges[first..at], end, states)?;
+    go_back(trackers, exchanges, first, state, states)
+}
+
+/// The same through the exchanges of a stretch, to one of the states that the tracker before it keeps. It calls itself
+/// once for each exchange, so a stretch is short.
+fn go_back_through(
+    before: &Tracker<SpanSet>,
+    exchanges: &[Exchange],
+    end: State,
+    states: &mut Vec<State>,
+) -> Result<State, AllocError>
+    requires { Leads before.now.hands (Possible before.now.states) exchanges.now end }
+    ensures { IfOk result (GoesBack before.now.hands (Possible before.now.states) exchanges.now end states.old.items states.new.items) }
+{
+    let Some((exchange, rest)) = exchanges.split_first() else {
+        return Ok(end);
+    };
+    let after = observed(before, exchange)?;
+    let state = go_back_through(&after, rest, end, states)?;
+    step_back(before, exchange, state, states)
+}
+
+/// The tracker after an exchange.
+fn observed(before: &Tracker<SpanSet>, exchange: &Exchange) -> Result<Tracker<SpanSet>, AllocError>
+    ensures reached { IfOk result (λ t. AreReached (Possible before.now.states) (Exchanges before.now.hands exchange.now.command exchange.now.reply) (Possible t.states)) }
+    ensures hands { IfOk result (λ t. t.hands ≡ before.now.hands) }
+{
+    let mut after = before.snapshot()?;
+    after.observe(&exchange.command, &exchange.reply)?;
+    Ok(after)
+}
+
+/// Puts the state after an exchange behind the others, and answers one that it may come from.
+fn step_back(
+    before: &Tracker<SpanSet>,
+    exchange: &Exchange,
+    state: State,
+    states: &mut Vec<State>,
+) -> Result<State, AllocError>
+    requires { (s : AState) × Possible before.now.states s × Exchanges before.now.hands exchange.now.command exchange.now.reply s state }
+    ensures from { IfOk result (λ s. Possible before.now.states s × Exchanges before.now.hands exchange.now.command exchange.now.reply s state) }
+    ensures put { OnOk result (states.new.items ≡ states.old.items ++ state ∷ []) }
+{
+    let Some(earlier) = before.before(&exchange.command, &exchange.reply, &state) else {
+        unreachable!();
+    };
+    states.push(state)?;
+    Ok(earlier)
+}

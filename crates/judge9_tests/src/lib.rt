@@ -1,0 +1,8 @@
+//! Tests of the runs that `judge9` hands out, checks and writes, by its public calls alone.
+//!
+//! They stand in a crate of their own, so that judging is proved, and its must-fail edits are tried, without waiting
+//! for them. Nothing but tests is here.
+#![tactic(auto)]
+
+#[cfg(test)]
+mod tests;

@@ -1,0 +1,116 @@
+//! Captures and the runs that are handed out with a yes, with values from the protocol's rules, by hand.
+mod changed;
+mod drawn;
+mod long;
+mod parts;
+mod run_lines;
+mod runs;
+mod tables;
+mod worked;
+mod writers;
+
+use changed::refuse_changes;
+use judge9::{RunVerdict, Verdict, View, is_run, judge, judge_with_run};
+use std::alloc::{AllocError, Global};
+use std::fmt::Write;
+use std::process::Abort;
+use track9::Hands;
+use writers::Narrow;
+
+/// The text of a capture whose records are 400 microseconds apart.
+#[derive(Drop)]
+struct Tap {
+    text: String,
+    time: u32,
+    is_deck: bool,
+}
+
+impl Tap {
+    /// A capture without records.
+    fn new(alloc: Global) -> Result<Tap, AllocError> {
+        Ok(Tap {
+            text: String::from_str(alloc, "time_us,wire,byte\n")?,
+            time: 0,
+            is_deck: false,
+        })
+    }
+
+    /// Puts blocks to the end: wire letters, each before the bytes that it brings.
+    fn put(&mut self, blocks: &str) -> Result<(), AllocError> {
+        for word in blocks.split_whitespace() {
+            if word == "C" || word == "D" {
+                self.is_deck = word == "D";
+                continue;
+            }
+            self.time = self.time.saturating_add(400);
+            let (time, wire) = (self.time, if self.is_deck { "D" } else { "C" });
+            writeln!(self.text, "{time},{wire},{word}")?;
+        }
+        Ok(())
+    }
+}
+
+/// The text of a capture of these exchanges.
+fn capture(alloc: Global, parts: &[&str]) -> Result<String, AllocError> {
+    let mut tap = Tap::new(alloc)?;
+    for part in parts {
+        tap.put(part)?;
+    }
+    Ok(tap.text)
+}
+
+/// Judges a capture with a run. The verdict has to be that of `judge`, and where it is a yes, the run has to be one,
+/// and none after changes that no run has. Answers whether it is a yes.
+fn tell(rt: &impl Abort, alloc: Global, text: &str, hands: Hands) -> Result<bool, AllocError> {
+    let run = judge_with_run(alloc, text.as_bytes(), hands).expect(rt, "a verdict");
+    tell_verdict(rt, alloc, text, hands, &run);
+    tell_run(rt, alloc, hands, &run)
+}
+
+/// Compares the verdict with that of `judge`.
+fn tell_verdict(rt: &impl Abort, alloc: Global, text: &str, hands: Hands, run: &RunVerdict) {
+    let mut writer = Narrow::roomy(alloc);
+    let verdict = judge(alloc, text.as_bytes(), &mut writer, View::Verdict, hands);
+    assert!(rt; verdict == Ok(verdict_of(run)), "{text}");
+}
+
+/// The verdict alone.
+fn verdict_of(run: &RunVerdict) -> Verdict {
+    match run {
+        RunVerdict::Yes {
+            records,
+            tail,
+            exchanges,
+            ..
+        } => Verdict::Yes {
+            records: *records,
+            exchanges: u32::try_from(exchanges.len()).unwrap_or(u32::MAX),
+            tail: *tail,
+        },
+        RunVerdict::No { at, reason } => Verdict::No {
+            at: *at,
+            reason: *reason,
+        },
+    }
+}
+
+/// Asks for a second opinion on a run, and on the same with changes. Answers whether there is one.
+fn tell_run(
+    rt: &impl Abort,
+    alloc: Global,
+    hands: Hands,
+    run: &RunVerdict,
+) -> Result<bool, AllocError> {
+    let RunVerdict::Yes {
+        exchanges,
+        states,
+        ..
+    } = run
+    else {
+        return Ok(false);
+    };
+    let (exchanges, states) = (exchanges.as_slice(), states.as_slice());
+    assert!(rt; is_run(exchanges, states, hands), "{exchanges:?}");
+    refuse_changes(rt, alloc, hands, exchanges, states)?;
+    Ok(true)
+}

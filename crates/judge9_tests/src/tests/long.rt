@@ -1,0 +1,88 @@
+//! Captures of more exchanges than the 256 that the way back takes at a time.
+
+use super::parts::*;
+use super::{Tap, tell};
+use std::alloc::{AllocError, Global};
+use std::process::Abort;
+use std::test::Fail;
+use track9::Hands;
+
+/// A deck in remote does what it acknowledges.
+const TURN: [&str; 8] = [
+    REMOTE,
+    PRESET_10,
+    SHIFT_MORE,
+    IN_10_NEXT,
+    FAST_FORWARD,
+    SHOWS_FF,
+    PLAY,
+    SHOWS_STOP,
+];
+
+/// IN DATA SENSE, answered with 10:00:06:00 and with 10:00:24:00: 150 and 600 frames after 10:00:00:00.
+const IN_150_ON: &str = "C 60 10 70 D 74 10 00 06 00 10 9A";
+
+const IN_600_ON: &str = "C 60 10 70 D 74 10 00 24 00 10 B8";
+
+/// A capture of that many exchanges of a deck in remote.
+fn turns(alloc: Global, exchanges: usize) -> Result<String, AllocError> {
+    let mut tap = Tap::new(alloc)?;
+    for part in TURN.iter().cycle().take(exchanges) {
+        tap.put(part)?;
+    }
+    Ok(tap.text)
+}
+
+/// A capture of a deck in local whose IN point is at 10:00:00:00, is shifted 597 times, and is then told.
+fn shifts(alloc: Global, told: &str) -> Result<String, AllocError> {
+    let mut tap = Tap::new(alloc)?;
+    tap.put(IN_SET_LOCAL)?;
+    tap.put(IN_10)?;
+    for _ in 0..597 {
+        tap.put(SHIFT_MORE)?;
+    }
+    tap.put(told)?;
+    Ok(tap.text)
+}
+
+fn tell_turns(
+    rt: &impl Abort,
+    alloc: Global,
+    exchanges: usize,
+    hands: Hands,
+) -> Result<(), AllocError> {
+    let text = turns(alloc, exchanges)?;
+    assert!(rt;
+        tell(rt, alloc, text.as_str(), hands)?,
+        "{exchanges} exchanges"
+    );
+    Ok(())
+}
+
+fn tell_shifts(
+    rt: &impl Abort,
+    alloc: Global,
+    told: &str,
+    expected: bool,
+) -> Result<(), AllocError> {
+    let text = shifts(alloc, told)?;
+    assert_eq!(rt; tell(rt, alloc, text.as_str(), Hands::None)?, expected);
+    Ok(())
+}
+
+#[test]
+fn in_remote(rt: HostRuntime) -> Result<(), Fail> {
+    for exchanges in [255, 256, 257, 512, 513, 600] {
+        tell_turns(&rt, rt.alloc(), exchanges, Hands::None)?;
+        tell_turns(&rt, rt.alloc(), exchanges, Hands::Allowed)?;
+    }
+    Ok(())
+}
+
+/// A run does 150 of the shifts and leaves the others undone.
+#[test]
+fn in_local(rt: HostRuntime) -> Result<(), Fail> {
+    tell_shifts(&rt, rt.alloc(), IN_150_ON, true)?;
+    tell_shifts(&rt, rt.alloc(), IN_600_ON, false)?;
+    Ok(())
+}
