@@ -44,10 +44,11 @@ is_write_fault() {
         has_begun && ! cmp -s "$work/out" "$work/whole"
 }
 
-# is_read_fault: the program ended with the read that failed, at some row of the text, and wrote no verdict.
+# is_read_fault: the program ended with the read that failed, at some row of the text, and wrote no verdict, and of a
+# run nothing.
 is_read_fault() {
     [ "$status" = 4 ] && grep -qxE 'read fault at row [0-9]+' "$work/err" && [ "$reads" = "$at" ] &&
-        has_begun && ! grep -q '^yes\|^no' "$work/out"
+        has_begun && ! grep -q '^yes\|^no' "$work/out" && { [ "$verb" != run ] || [ ! -s "$work/out" ]; }
 }
 
 # try VERB FILE CALL HOW CONDITION: each such call failing in turn, with what has to hold then.
@@ -75,7 +76,7 @@ try() {
     echo "$verb $(basename "$file"): right with each of $count calls of $call: $how"
 }
 
-for verb in check explain; do
+for verb in check explain run; do
     for file in examples/play.csv "$work/long.csv"; do
         for how in EIO EINTR ENOSPC zero; do
             try "$verb" "$file" write "$how" is_write_fault

@@ -55,12 +55,14 @@ refuses() {
     count=$(cat "$work/count" 2> /dev/null || echo none)
 }
 
-# is_answer: the run did what is right, or told that it is out of memory and wrote a first part of what is right.
+# is_answer WORDS...: the program did what is right, or told that it is out of memory and wrote a first part of what is
+# right; of a run it writes nothing then.
 is_answer() {
     if [ "$status" = "$right" ]; then
         cmp -s "$work/out" "$work/right_out" && cmp -s "$work/err" "$work/right_err"
     else
         [ "$status" = 5 ] && [ "$(cat "$work/err")" = 'out of memory' ] &&
+            { [ "$1" != run ] || [ ! -s "$work/out" ]; } &&
             cmp -s -n "$(wc -c < "$work/out")" "$work/out" "$work/right_out"
     fi
 }
@@ -76,7 +78,7 @@ try_words() {
     while :; do
         n=$((n + 1))
         refuses "$n" "$@"
-        if ! is_answer || [ "$count" = none ]; then
+        if ! is_answer "$@" || [ "$count" = none ]; then
             failed=$((failed + 1))
             echo "FAILED '$*' with growth $n refused: status $status, growths $count"
             cat "$work/out" "$work/err"
@@ -105,15 +107,27 @@ try_words 4 check absent.csv
 try_words 2 frob
 try_words 0 explain examples/fast-forward.csv
 try_words 1 explain examples/disputed-in-point.csv
+try_words 0 run examples/fast-forward.csv
+try_words 0 run --hands
+try_words 1 run examples/disputed-in-point.csv
+try_words 3 run examples/bad-byte.csv
 
-# try_blocks STATUS WORD BLOCKS: the same on records 400 microseconds apart: wire letters, each before the bytes that
+# PLAY and its reply once more than a stretch of a run's way back has exchanges.
+{
+    echo 'time_us,wire,byte'
+    awk 'BEGIN { split("C,20 C,01 C,21 D,10 D,01 D,11", row, " ")
+        for (k = 1; k <= 6 * 257; k++) print 400 * k "," row[(k - 1) % 6 + 1] }'
+} > "$work/stretches.csv"
+try_words 0 run "$work/stretches.csv"
+
+# try_blocks STATUS WORDS BLOCKS: the same on records 400 microseconds apart: wire letters, each before the bytes that
 # it brings.
 try_blocks() {
     {
         echo 'time_us,wire,byte'
         echo "$3" | tr -s ' ' '\n' | awk '/^[CD]$/ { wire = $0; next } { time += 400; print time "," wire "," $0 }'
     } > "$work/blocks.csv"
-    try_words "$1" "$2" "$work/blocks.csv"
+    try_words "$1" $2 "$work/blocks.csv"
 }
 
 ack='D 10 01 11'
@@ -127,6 +141,11 @@ try_blocks 1 check "$remote $entry C 60 10 70 D 74 10 00 00 00 05 89 C 60 10 70 
 try_blocks 0 check "$remote C 44 14 24 59 59 23 51 $ack C 40 18 58 $ack C 60 10 70 D 74 10 00 00 00 00 84"
 try_blocks 0 explain "$local_at_10 C 40 18 58 $ack C 40 18 58 $ack C 40 18 58 $ack C 60 10 70 D 74 10 02 00 00 10 96"
 try_blocks 1 check "$local_at_10 C 40 19 59 $ack C 60 10 70 D 74 10 01 00 00 10 95"
+# Runs that are found backwards: of shifts that a deck in local may do, and of a point that only a hand can have moved.
+try_blocks 0 run "$local_at_10 C 40 18 58 $ack C 40 18 58 $ack C 40 18 58 $ack C 60 10 70 D 74 10 02 00 00 10 96"
+moved="$remote C 44 14 00 00 00 10 68 $ack C 60 10 70 D 74 10 00 00 00 11 95"
+try_blocks 1 run "$moved"
+try_blocks 0 'run --hands' "$moved"
 
 echo "$passed passed, $failed failed"
 [ "$failed" = 0 ]

@@ -178,6 +178,37 @@ explained 'explain with a file that breaks a rule' 1 'no at record 3: B2 wrong s
 run explain < examples/wrong-header.csv
 expect 'explain of a text that is no capture' 3 '' 'unreadable at row 0: header'
 
+# run ends so too, and writes a line for each exchange before that of a yes (tests/run.sh has the lines).
+ran() {
+    local name=$1 lines=$2
+    shift 2
+    if [ "$(wc -l < "$work/out")" = "$lines" ]; then
+        explained "$name" "$@"
+    else
+        expect "$name, $lines lines" "$@"
+    fi
+}
+run run examples/play.csv < /dev/null
+ran 'run with a file' 2 0 "$yes" ''
+run run --hands examples/play.csv < /dev/null
+ran 'run with the option before the file' 2 0 "$yes" ''
+run run examples/play.csv --hands < /dev/null
+ran 'run with the option behind the file' 2 0 "$yes" ''
+run run < examples/play.csv
+ran 'run on standard input' 2 0 "$yes" ''
+run run --hands < examples/play.csv
+ran 'run with the option on standard input' 2 0 "$yes" ''
+run run < examples/header-only.csv
+expect 'run of a header alone' 0 'yes: records 0, exchanges 0, open 0' ''
+run run < examples/second-reply.csv
+expect 'run of a capture that breaks a rule' 1 'no at record 7: P1 reply without a command' ''
+run run examples/disputed-in-point.csv < /dev/null
+expect 'run with a file of which no run remains' 1 'no at record 28: M1 no run remains' ''
+run run examples/bad-byte.csv < /dev/null
+expect 'run with a file that has a bad row' 3 '' 'unreadable at row 7: byte'
+run run < examples/wrong-header.csv
+expect 'run of a text that is no capture' 3 '' 'unreadable at row 0: header'
+
 # Words that are no command, and words that ask for help: status 2, and a line that the text on this stream has.
 while IFS='|' read -r stream words line; do
     run $words < examples/play.csv
@@ -190,7 +221,12 @@ err||error: 'ninecheck' requires a subcommand but one was not provided
 err|frob|error: unrecognized subcommand 'frob'
 err|chec|  tip: a similar subcommand exists: 'check'
 err|check.csv|error: unrecognized subcommand 'check.csv'
+err|runs|  tip: a similar subcommand exists: 'run'
 err|check a b|error: unexpected argument 'b' found
+err|run a b|error: unexpected argument 'b' found
+err|run --hands --hands|error: the argument '--hands' cannot be used multiple times
+err|run --hand|  tip: a similar argument exists: '--hands'
+err|--hands run|error: unexpected argument '--hands' found
 err|check --hands --hands|error: the argument '--hands' cannot be used multiple times
 err|check --hands=yes|error: unexpected value 'yes' for '--hands' found; no more were expected
 err|check --hand|  tip: a similar argument exists: '--hands'
@@ -202,7 +238,14 @@ out|help|Usage: ninecheck <COMMAND>
 out|check --help|Usage: ninecheck check [OPTIONS] [FILE]
 out|explain -h|Usage: ninecheck explain [OPTIONS] [FILE]
 out|help explain|Usage: ninecheck explain [OPTIONS] [FILE]
+out|run --help|Usage: ninecheck run [OPTIONS] [FILE]
+out|help run|Usage: ninecheck run [OPTIONS] [FILE]
 END
+run --help < /dev/null
+sed -n '/^Commands:/,/^$/s/^  \([a-z]*\) .*/\1/p' "$work/out" | tr '\n' ' ' > "$work/text"
+judged=$(cat "$work/text")
+echo "$judged" > "$work/out"
+expect 'the subcommands that the help lists' 2 'check explain run help ' ''
 run "$(printf '\377')" < examples/play.csv
 expect 'a word that is not UTF-8' 2 '' 'error: a word of the command line is not UTF-8'
 
@@ -231,6 +274,10 @@ chmod 000 "$work/others/play.csv"
 $as "$work/others/ninecheck" check "$work/others/play.csv" > "$work/out" 2> "$work/err" < /dev/null
 status=$?
 expect 'a file that may not be read' 4 '' 'cannot open'
+run run . < examples/play.csv
+expect 'run of a directory' 4 '' 'read fault at row 0'
+run run "$work/absent.csv" < examples/play.csv
+expect 'run of an absent file' 4 '' 'cannot open'
 
 # Streams that fail.
 run_on .
@@ -241,20 +288,22 @@ expect 'a directory as input' 4 '' 'read fault at row 0'
 )
 status=$?
 expect 'a row without end' 5 '' 'out of memory'
-"$program" check < examples/play.csv > /dev/full 2> "$work/err"
-status=$?
-: > "$work/out"
-expect 'a full device' 4 '' 'write fault'
-"$program" check < examples/play.csv >&- 2> "$work/err"
-status=$?
-expect 'a closed output' 4 '' 'write fault'
-{
-    sleep 1
-    "$program" check < examples/play.csv 2> "$work/err"
-    echo $? > "$work/status"
-} | true
-status=$(cat "$work/status")
-expect 'a closed pipe' 4 '' 'write fault'
+for verb in check run; do
+    "$program" $verb < examples/play.csv > /dev/full 2> "$work/err"
+    status=$?
+    : > "$work/out"
+    expect "a full device, $verb" 4 '' 'write fault'
+    "$program" $verb < examples/play.csv >&- 2> "$work/err"
+    status=$?
+    expect "a closed output, $verb" 4 '' 'write fault'
+    {
+        sleep 1
+        "$program" $verb < examples/play.csv 2> "$work/err"
+        echo $? > "$work/status"
+    } | true
+    status=$(cat "$work/status")
+    expect "a closed pipe, $verb" 4 '' 'write fault'
+done
 "$program" check < examples/wrong-header.csv > "$work/out" 2>&-
 status=$?
 : > "$work/err"

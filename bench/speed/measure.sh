@@ -1,9 +1,9 @@
 #!/usr/bin/env bash
 # How long the program takes on 4,000,000 records, as ratios: `check` to a loop that only reads the same rows with
-# csv into one record, and `explain` into a file to `check`; on a capture of PLAY and its acknowledgement, and on one of
-# mixed traffic (status, time and register senses, presets, shifts). All are run five times in turn, and the best time
-# counts. It also says the greatest resident memory. Not part of the gate. The program is the one that the gate or
-# ./ninecheck built.
+# csv into one record, and `explain` and `run` into a file to `check`; on a capture of PLAY and its acknowledgement, and
+# on one of mixed traffic (status, time and register senses, presets, shifts). All are run five times in turn, and the
+# best time counts. It also says the greatest resident memory. Not part of the gate. The program is the one that the
+# gate or ./ninecheck built.
 set -u
 top=$(cd "$(dirname "$0")/../.." && pwd)
 program=${NINECHECK:-$top/crates/ninecheck/out/ninecheck}
@@ -84,11 +84,12 @@ def peak(words, capture):
 for name, exchanges in (('PLAY and ACK', lambda turn: PLAY), ('mixed traffic', mixed)):
     capture = f'{work}/capture.csv'
     write(capture, exchanges)
-    check, explain = [program, 'check'], [program, 'explain']
+    check, explain, run = [program, 'check'], [program, 'explain'], [program, 'run']
     runs = [(seconds(check, capture, '/dev/null'), seconds([reader], capture, '/dev/null'),
-             seconds(explain, capture, f'{work}/lines')) for _ in range(5)]
-    judged, read, told = (min(column) for column in zip(*runs))
+             seconds(explain, capture, f'{work}/lines'), seconds(run, capture, f'{work}/lines')) for _ in range(5)]
+    judged, read, told, found = (min(column) for column in zip(*runs))
     print(f'{name}: check {judged:.3f} s, reading {read:.3f} s, ratio {judged / read:.2f}; '
           f'explain {told:.3f} s, ratio to check {told / judged:.2f}; '
-          f'resident memory {peak(check, capture)} kB, {peak(explain, capture)} kB')
+          f'run {found:.3f} s, ratio to check {found / judged:.2f}; '
+          f'resident memory {peak(check, capture)} kB, {peak(explain, capture)} kB, {peak(run, capture)} kB')
 PY

@@ -3,12 +3,14 @@ ghost use Rattle.std.specs.Prelude.{◌≡◌, ◌≢◌, Err, IfSome, IfErr, op
 ghost use Rattle.capture9.specs.Rows.{rows_of};
 ghost use Rattle.judge9.specs.Judging.{CanBeResult, IsTheAnswer, StoppedBefore, answer_of};
 ghost use Rattle.judge9.specs.Report.{Told};
+ghost use Rattle.judge9.specs.RunVerdict.{judged_of, verdict_of};
+ghost use Rattle.judge9.specs.Verdict.{CanBeVerdict};
 ghost use Rattle.ninecheck.specs.Output.{contents_behind, held_contents};
-ghost use Rattle.ninecheck.specs.Judging.{EndsAs, HandsOn};
+ghost use Rattle.ninecheck.specs.Judging.{EndsAs, HandsOn, TellsRun, WritesRun};
 
 use crate::buffered::Buffered;
 use capture9::{CaptureError, CaptureKind};
-use judge9::{JudgeError, Verdict, View, judge};
+use judge9::{JudgeError, RunVerdict, Verdict, View, judge, judge_with_run, write_run};
 use std::alloc::Global;
 use std::io::{Read, Write};
 use track9::Hands;
@@ -38,6 +40,71 @@ pub fn judge_and_flush<R: Read + Drop, W: Write + Drop>(
 {
     let judged = judge(alloc, reader, out, view, hands);
     ended(out, judged)
+}
+
+/// Judges the capture that the reader gives, and hands the text of a run on to the writer behind the buffer.
+///
+/// What is written is the text of the run that `judge_with_run` answered, and nothing where it answered none. The result
+/// is its verdict, or its refusal, where the writer took all of that. Else it is `Err(Write)`, and the writer has a
+/// first part of the text; what the buffer still holds is not written. After a write that failed, that was interrupted
+/// or that took no byte, none is tried again.
+pub fn judge_with_run_and_flush<R: Read + Drop, W: Write + Drop>(
+    alloc: Global,
+    reader: R,
+    out: &mut Buffered<W>,
+    hands: Hands,
+) -> Result<Verdict, JudgeError>
+    ensures answer { IfSome (R.remaining reader)
+        (λ text. IfSome (answer_of result) (IsTheAnswer hands (rows_of text))) }
+    ensures told { EndsAs (TellsRun hands (option_map rows_of (R.remaining reader))
+        (held_contents W.contents out.old))
+        result (contents_behind W.contents out.new) }
+    ensures stopped { IfSome (R.remaining reader)
+        (λ text. IfErr result (StoppedBefore hands (rows_of text))) }
+    ensures kind { (e : CaptureError) → result ≡ Err (JudgeError.Capture e)
+        → e.kind ≢ CaptureKind.OutOfMemory }
+    ensures can_be { CanBeResult result }
+{
+    let found = judge_with_run(alloc, reader, hands);
+    let judged = tell_run(out, found, hands);
+    ended(out, judged)
+}
+
+/// Writes the text of a run where there is one, and answers its verdict.
+fn tell_run<W: Write>(
+    writer: &mut W,
+    found: Result<RunVerdict, JudgeError>,
+    hands: Hands,
+) -> Result<Verdict, JudgeError>
+    requires { CanBeResult (judged_of found) }
+    ensures { WritesRun hands found result (W.contents writer.old) (W.contents writer.new) }
+{
+    let run = found?;
+    write_run(writer, &run, hands)?;
+    Ok(verdict_of(&run))
+}
+
+/// The verdict of a run, with the number of its exchanges.
+fn verdict_of(run: &RunVerdict) -> Verdict
+    requires { CanBeVerdict (verdict_of run.now) }
+    ensures { result ≡ verdict_of run.now }
+{
+    match run {
+        RunVerdict::Yes {
+            records,
+            tail,
+            exchanges,
+            ..
+        } => Verdict::Yes {
+            records: *records,
+            exchanges: exchanges.len() as u32,
+            tail: *tail,
+        },
+        RunVerdict::No { at, reason } => Verdict::No {
+            at: *at,
+            reason: *reason,
+        },
+    }
 }
 
 /// The end of a judging that answered this: all is handed on, unless a write failed already.

@@ -15,7 +15,7 @@ mod words;
 
 use crate::buffered::Buffered;
 use crate::ending::{Line, Outcome};
-use crate::judging::judge_and_flush;
+use crate::judging::{judge_and_flush, judge_with_run_and_flush};
 use crate::source::Source;
 use crate::status::outcome;
 use crate::task::{Task, Verb, WordsFault};
@@ -67,10 +67,6 @@ fn tell_usage(rt: &HostRuntime, text: Option<clap::Error>) {
 
 /// Opens the capture, judges it and hands the report on.
 fn run(rt: &HostRuntime, task: &Task) -> Outcome {
-    let view = match task.verb {
-        Verb::Check => View::Verdict,
-        Verb::Explain => View::Explain,
-    };
     let source = match &task.file {
         None => Source::Standard(rt.reader()),
         Some(name) => match fs::open(rt, name.as_str()) {
@@ -81,7 +77,13 @@ fn run(rt: &HostRuntime, task: &Task) -> Outcome {
     let Ok(mut out) = Buffered::new(rt.alloc(), io::writer(rt)) else {
         return Outcome::new(5, Line::NoMemory);
     };
-    outcome(&judge_and_flush(rt.alloc(), source, &mut out, view, task.hands))
+    let (alloc, hands) = (rt.alloc(), task.hands);
+    let judged = match task.verb {
+        Verb::Check => judge_and_flush(alloc, source, &mut out, View::Verdict, hands),
+        Verb::Explain => judge_and_flush(alloc, source, &mut out, View::Explain, hands),
+        Verb::Run => judge_with_run_and_flush(alloc, source, &mut out, hands),
+    };
+    outcome(&judged)
 }
 
 /// The end where the file was not opened.

@@ -10,6 +10,8 @@ pub enum Verb {
     Check,
     /// Tell each exchange before the verdict: the subcommand `explain`.
     Explain,
+    /// Hand out a run of the deck before the verdict: the subcommand `run`.
+    Run,
 }
 
 /// What the words of the command line ask for.

@@ -28,8 +28,10 @@ fn whole<'a>(alloc: Global) -> Result<Command<'a>, AllocError>
 {
     let check = subcommand(alloc, Verb::Check)?;
     let explain = subcommand(alloc, Verb::Explain)?;
+    let run = subcommand(alloc, Verb::Run)?;
     let command = above(alloc)?.subcommand(check)?;
     let command = command.subcommand(explain)?;
+    let command = command.subcommand(run)?;
     Ok(command)
 }
 
@@ -68,6 +70,7 @@ fn name_of<'a>(verb: Verb) -> &'a str
     match verb {
         Verb::Check => "check",
         Verb::Explain => "explain",
+        Verb::Run => "run",
     }
 }
 
@@ -78,5 +81,7 @@ fn about<'a>(verb: Verb) -> &'a str {
             "Say whether the capture keeps the protocol, or which record is the first that does not",
         Verb::Explain =>
             "The same, with a line for each exchange before it: command, reply, and what is known of the deck",
+        Verb::Run =>
+            "Hand out one run of the deck that explains the replies: the deck's state after each exchange",
     }
 }

@@ -14,7 +14,7 @@ use track9::Hands;
 
 /// The task that these words give: those of the command line after the program's own name.
 ///
-/// The words are `check` or `explain`, and with it at most one file and, before or after the file, at most once
+/// The words are `check`, `explain` or `run`, and with it at most one file and, before or after the file, at most once
 /// `--hands`; what they may look like beside this is `clap`'s own definition.
 ///
 /// * `Ok(task)` only where the definition takes the words. The task has the subcommand, the file and the option
@@ -65,6 +65,8 @@ fn verb_of(name: &str) -> Option<Verb>
         Some(Verb::Check)
     } else if name == "explain" {
         Some(Verb::Explain)
+    } else if name == "run" {
+        Some(Verb::Run)
     } else {
         None
     }

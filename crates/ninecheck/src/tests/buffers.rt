@@ -1,8 +1,9 @@
 //! What a buffer hands on, to a writer that takes a byte a call.
 
 use crate::buffered::Buffered;
-use crate::judging::judge_and_flush;
-use judge9::{JudgeError, View};
+use crate::judging::{judge_and_flush, judge_with_run_and_flush};
+use capture9::{CaptureError, CaptureKind};
+use judge9::{JudgeError, Verdict, View};
 use std::alloc::Global;
 use std::io::{self, Write};
 use track9::Hands;
@@ -75,6 +76,47 @@ fn a_flush_that_fails_is_a_write_fault(rt: HostRuntime) {
         assert_eq!(rt; writer.taken.as_slice(), &YES.as_bytes()[..room]);
         assert_eq!(rt; writer.failures, 1);
     }
+}
+
+#[test]
+fn a_run_is_handed_on_or_a_first_part_of_it(rt: HostRuntime) {
+    let mut writer = Narrow::new(rt.alloc(), usize::MAX);
+    let mut out = Buffered::new(rt.alloc(), &mut writer).expect(&rt, "memory");
+    let answer = judge_with_run_and_flush(rt.alloc(), PLAY.as_bytes(), &mut out, Hands::None);
+    let yes = Verdict::Yes {
+        records: 6,
+        exchanges: 1,
+        tail: 0,
+    };
+    assert!(rt; answer == Ok(yes));
+    drop(out);
+    let whole = writer.taken.as_slice();
+    assert!(rt; whole.starts_with(b"record 6: goal "));
+    assert!(rt; whole.ends_with(YES.as_bytes()));
+    for room in 0..whole.len() {
+        let mut writer = Narrow::new(rt.alloc(), room);
+        let mut out = Buffered::new(rt.alloc(), &mut writer).expect(&rt, "memory");
+        let answer = judge_with_run_and_flush(rt.alloc(), PLAY.as_bytes(), &mut out, Hands::None);
+        assert!(rt; answer == Err(JudgeError::Write));
+        drop(out);
+        assert_eq!(rt; writer.taken.as_slice(), &whole[..room]);
+        assert_eq!(rt; writer.failures, 1);
+    }
+}
+
+#[test]
+fn nothing_is_written_of_a_run_of_a_bad_capture(rt: HostRuntime) {
+    let mut writer = Narrow::new(rt.alloc(), usize::MAX);
+    let mut out = Buffered::new(rt.alloc(), &mut writer).expect(&rt, "memory");
+    let text = "time_us,wire,byte\n400,C,20\n800,X,01\n";
+    let answer = judge_with_run_and_flush(rt.alloc(), text.as_bytes(), &mut out, Hands::None);
+    let refusal = CaptureError {
+        kind: CaptureKind::Wire,
+        row: 2,
+    };
+    assert!(rt; answer == Err(JudgeError::Capture(refusal)));
+    drop(out);
+    assert!(rt; writer.taken.is_empty());
 }
 
 #[test]

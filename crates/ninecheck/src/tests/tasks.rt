@@ -86,6 +86,16 @@ fn words_that_are_a_command(rt: HostRuntime) {
             allowed
         )
     );
+    assert!(rt; asks(alloc, &["run"], Verb::Run, None, none));
+    assert!(rt;
+        asks(
+            alloc,
+            &["run", "f.csv", "--hands"],
+            Verb::Run,
+            Some("f.csv"),
+            allowed
+        )
+    );
     assert!(rt; asks(alloc, &["check", "-"], check, Some("-"), none));
     assert!(rt; asks(alloc, &["check", "check"], check, Some("check"), none));
     assert!(rt; asks(alloc, &["check", "help"], check, Some("help"), none));
@@ -103,6 +113,8 @@ fn words_that_are_none(rt: HostRuntime) {
     assert!(rt; are_refused(alloc, &["f.csv"]));
     assert!(rt; are_refused(alloc, &["--hands"]));
     assert!(rt; are_refused(alloc, &["--hands", "check"]));
+    assert!(rt; are_refused(alloc, &["runs"]));
+    assert!(rt; are_refused(alloc, &["run", "a", "b"]));
     assert!(rt; are_refused(alloc, &["check", "a", "b"]));
     assert!(rt; are_refused(alloc, &["check", "--hands", "--hands"]));
     assert!(rt; are_refused(alloc, &["check", "--hands=yes"]));

@@ -1,0 +1,250 @@
+#!/usr/bin/env bash
+# Runs the built program's `run`. Which of several runs it hands out is not promised, so each line is held to its form,
+# and to what `explain` says is known after the same exchange. The last line is 'N passed, M failed'.
+set -u
+cd "$(dirname "$0")/.." || exit 1
+program=${NINECHECK:-$PWD/crates/ninecheck/out/ninecheck}
+
+work=$(mktemp -d)
+trap 'rm -rf "$work"' EXIT
+passed=0
+failed=0
+
+# What stands for blocks: an acknowledgement; a status reply that the deck is not in local, and one that it is; a
+# preset of IN to 10:00:00:00; a deck in local whose IN point is 10:00:00:00; a shift of IN by a frame.
+ack='D 10 01 11'
+remote='C 61 20 01 82 D 71 20 00 91'
+local='C 61 20 01 82 D 71 20 01 92'
+preset="C 44 14 00 00 00 10 68 $ack"
+local_at_10='C 61 20 04 85 D 74 20 01 20 00 01 B6 C 60 10 70 D 74 10 00 00 00 10 94'
+shift="C 40 18 58 $ack"
+
+# The forms of what a line holds.
+mode='(STOP|PLAY|REC|FF|REW|SHUTTLE|JOG|VAR|CUED|EJECT)'
+time='([01][0-9]|2[0-3]):[0-5][0-9]:[0-5][0-9]:([01][0-9]|2[0-4])'
+register="(clear|$time)"
+
+# line_form RECORD GOAL SHOWN IN OUT LOCAL: the form of a line with these, but for the panel.
+line_form() {
+    echo "record $1: goal $2, shown $3, in $4, out $5, local $6, ain $register, aout $register"
+}
+any_line=$(line_form '[0-9]+' "$mode" "$mode" "$register" "$register" '(yes|no)')
+
+# capture_of RECORDS: makes $work/capture.csv of records 400 microseconds apart: wire letters, each before the bytes
+# that it brings.
+capture_of() {
+    {
+        echo 'time_us,wire,byte'
+        echo "$1" | tr -s ' ' '\n' |
+            awk '/^$/ { next } /^[CD]$/ { wire = $0; next } { time += 400; print time "," wire "," $0 }'
+    } > "$work/capture.csv"
+}
+
+# run FILE [WORDS...]: the program's run on this capture. Its text is left in $work/out.
+run() {
+    "$program" run "$@" > "$work/out" 2> "$work/err" < /dev/null
+    status=$?
+}
+
+# judge NAME CONDITION...: counts whether this command succeeds.
+judge() {
+    local name=$1
+    shift
+    if "$@"; then
+        passed=$((passed + 1))
+    else
+        failed=$((failed + 1))
+        echo "FAILED $name: status $status"
+        head -n 12 "$work/out" "$work/err"
+    fi
+}
+
+# is_text STATUS TEXT ERROR: the whole text and the whole of standard error, each without its last line feed.
+is_text() {
+    : > "$work/want"
+    : > "$work/want_err"
+    [ -z "$2" ] || printf '%s\n' "$2" > "$work/want"
+    [ -z "$3" ] || printf '%s\n' "$3" > "$work/want_err"
+    [ "$status" = "$1" ] && cmp -s "$work/out" "$work/want" && cmp -s "$work/err" "$work/want_err"
+}
+
+# has_line N FORM: line N of the text has this form.
+has_line() {
+    sed -n "$1p" "$work/out" | grep -qxE -- "$2"
+}
+
+# has_lines N: the text has so many lines.
+has_lines() {
+    [ "$(wc -l < "$work/out")" = "$1" ]
+}
+
+# agrees: each line of a run is of its form, with this at its end, and names the record of the line of the explanation
+# in $work/explained, and each field that is known there; the last line is the same.
+agrees() {
+    sed '$d' "$work/out" | { ! grep -vxE -- "$any_line$1"; } &&
+        sed -E 's/^(record [0-9]+: ).*, delay [0-9]+, /\1/' "$work/explained" |
+        paste -d '\n' - "$work/out" | awk -F ', ' '
+            NR % 2 == 1 { split($0, known, ", "); fields = NF; whole = $0; next }
+            fields == 3 { if ($0 != whole) exit 1; next }
+            fields != NF { exit 1 }
+            {
+                for (field = 1; field <= NF; field++) {
+                    name = known[field]
+                    sub(/ [^ ]+$/, "", name)
+                    if (index($field, name " ") != 1) exit 1
+                    if (known[field] == name " unknown") continue
+                    if (known[field] == name " set" && $field != name " clear") continue
+                    if (known[field] != $field) exit 1
+                }
+            }'
+}
+
+# is_run FILE [WORDS...]: a yes, with a run that agrees with the explanation.
+is_run() {
+    local panel=
+    case " $* " in *' --hands '*) panel=', panel (on|off)' ;; esac
+    "$program" explain "$@" > "$work/explained" < /dev/null && run "$@" &&
+        [ "$status" = 0 ] && [ ! -s "$work/err" ] && has_lines "$(wc -l < "$work/explained")" && agrees "$panel"
+}
+
+# The examples: a run where the answer is a yes, else the verdict's line alone, or nothing.
+while IFS='|' read -r file want_status want_out want_err; do
+    case "$file" in '#'* | '') continue ;; esac
+    run "examples/$file"
+    if [ "$want_status" = 0 ]; then
+        judge "examples/$file" is_run "examples/$file"
+        judge "examples/$file with hands" is_run "examples/$file" --hands
+        judge "examples/$file, its last line" [ "$(tail -n 1 "$work/out")" = "$want_out" ]
+    else
+        judge "examples/$file" is_text "$want_status" "$want_out" "$want_err"
+    fi
+done < examples/ANSWERS
+
+# The end of the tape, line by line: in FF the deck falls to STOP between two replies, or does not stop before it has
+# the goal PLAY; its registers stay as they are.
+run examples/fast-forward.csv
+judge 'five exchanges, the lines' has_lines 6
+judge 'five exchanges, the first line' has_line 1 "$(line_form 8 "$mode" "$mode" "$register" "$register" no)"
+judge 'five exchanges, the second line' has_line 2 "$(line_form 14 FF "$mode" "$register" "$register" no)"
+judge 'five exchanges, the third line' has_line 3 "$(line_form 23 FF FF "$register" "$register" no)"
+judge 'five exchanges, the fourth line' has_line 4 "$(line_form 29 PLAY '(FF|STOP)' "$register" "$register" no)"
+judge 'five exchanges, the fifth line' has_line 5 "$(line_form 38 '(PLAY|STOP)' STOP "$register" "$register" no)"
+judge 'five exchanges, the last line' has_line 6 'yes: records 38, exchanges 5, open 0'
+judge 'five exchanges, the registers' [ "$(sed -n 's/^record.*, in /in /p' "$work/out" | sort -u | wc -l)" = 1 ]
+run examples/fast-forward.csv --hands
+judge 'five exchanges with hands, the records' \
+    [ "$(sed -n 's/^record \([0-9]*\): .*, panel o[nf]*$/\1/p' "$work/out" | tr '\n' ' ')" = '8 14 23 29 38 ' ]
+judge 'five exchanges with hands, the panel' has_line 3 \
+    "$(line_form 23 FF FF "$register" "$register" '(yes|no)'), panel (on|off)"
+
+# No exchange, and records that break a rule after one: the verdict's line alone.
+capture_of ''
+run "$work/capture.csv"
+judge 'no record' is_text 0 'yes: records 0, exchanges 0, open 0' ''
+capture_of 'C 20 01'
+run "$work/capture.csv" --hands
+judge 'an open command' is_text 0 'yes: records 2, exchanges 0, open 2' ''
+capture_of "C 20 01 21 $ack C 20 01 22"
+run "$work/capture.csv"
+judge 'a wrong sum after an exchange' is_text 1 'no at record 9: B2 wrong sum' ''
+capture_of "$remote C 40 10 50 $ack C 60 10 70 D 74 10 00 00 00 05 89 C 60 10 70 D 74 10 01 00 00 05 8A"
+run "$work/capture.csv"
+judge 'no run remains' is_text 1 'no at record 34: M1 no run remains' ''
+
+# A bad row, also after an exchange: nothing is written of a run.
+capture_of "C 20 01 21 $ack"
+echo '2800,C,G1' >> "$work/capture.csv"
+run "$work/capture.csv"
+judge 'a bad row' is_text 3 '' 'unreadable at row 7: byte'
+
+# Two of three shifts of a local deck are done: which, is not known before the register is sensed.
+capture_of "$local_at_10 $shift $shift $shift C 60 10 70 D 74 10 02 00 00 10 96"
+judge 'shifts of a local deck' is_run "$work/capture.csv"
+at='10:00:00:0'
+judge 'shifts, the register sensed' has_line 2 "$(line_form 21 "$mode" "$mode" "${at}0" clear yes)"
+judge 'shifts, the first' has_line 3 "$(line_form 27 "$mode" "$mode" "${at}[01]" clear yes)"
+judge 'shifts, the second' has_line 4 "$(line_form 33 "$mode" "$mode" "${at}[12]" clear yes)"
+judge 'shifts, the third' has_line 5 "$(line_form 39 "$mode" "$mode" "${at}2" clear yes)"
+judge 'shifts, the register sensed again' has_line 6 "$(line_form 49 "$mode" "$mode" "${at}2" clear yes)"
+
+# The dispute, which needs a hand: it moves the IN point while the panel is on.
+capture_of "C 00 0C 0C $ack $remote $preset C 00 1D 1D $ack C 60 10 70 D 74 10 00 00 00 11 95"
+run "$work/capture.csv"
+judge 'the dispute without hands' is_text 1 'no at record 40: M1 no run remains' ''
+judge 'the dispute with hands' is_run "$work/capture.csv" --hands
+judge 'the dispute, the preset' has_line 3 \
+    "$(line_form 24 "$mode" "$mode" 10:00:00:00 "$register" no), panel off"
+judge 'the dispute, the panel' has_line 4 \
+    "$(line_form 30 "$mode" "$mode" 10:00:00:00 "$register" no), panel on"
+judge 'the dispute, the hand' has_line 5 \
+    "$(line_form 40 "$mode" "$mode" 11:00:00:00 "$register" '(yes|no)'), panel on"
+
+# What may be left undone, refused, forgotten or captured, and what only one view can tell.
+while IFS='|' read -r name records; do
+    capture_of "$records"
+    judge "$name" is_run "$work/capture.csv"
+    judge "$name, with hands" is_run "$work/capture.csv" --hands
+done <<END
+a refusal with two bits|C 20 01 21 D 11 12 14 37
+a command that is not listed|C 20 40 60 $ack
+a capture of IN that is sensed twice|C 40 10 50 $ack C 60 10 70 D 74 10 00 00 00 05 89 C 60 10 70 D 74 10 00 00 00 05 89
+a refused preset|$remote $preset C 44 14 00 00 00 11 69 D 11 12 01 24 C 60 10 70 D 74 10 00 00 00 10 94
+an audio preset|$remote C 44 16 00 00 00 10 6A $ack C 60 12 72 D 74 12 00 00 00 10 96
+a refused LOCAL DISABLE|C 00 0C 0C D 11 12 01 24
+a deck in local|$local
+a preset that a deck in local ignores|$local_at_10 C 44 14 00 00 00 11 69 $ack C 60 10 70 D 74 10 00 00 00 10 94
+a shift over midnight|$remote C 44 14 24 59 59 23 51 $ack $shift C 60 10 70 D 74 10 00 00 00 00 84
+END
+
+# Longer than several stretches of exchanges: in turn a preset, a shift and a sense, of a deck in local that does every
+# second preset and every third shift.
+awk 'function send(wire, bytes, n, k, byte) {
+        n = split(bytes, byte, " ")
+        for (k = 1; k <= n; k++) print (now += 400) "," wire "," byte[k]
+    }
+    function bcd(n) { return int(n / 10) * 16 + n % 10 }
+    function block(head, code, at) {
+        second = bcd(int(at / 25) % 60)
+        minute = bcd(int(at / 1500) % 60)
+        return sprintf("%02X %02X %02X %02X %02X 10 %02X", head, code, bcd(at % 25), second, minute,
+            (head + code + bcd(at % 25) + second + minute + 16) % 256)
+    }
+    BEGIN {
+        print "time_us,wire,byte"
+        send("C", "61 20 01 82"); send("D", "71 20 01 92")
+        send("C", "60 10 70"); send("D", block(116, 16, held = 0))
+        for (turn = 1; turn <= 2000; turn++) {
+            send("C", block(68, 20, turn * 3)); send("D", "10 01 11")
+            if (turn % 2 == 0) held = turn * 3
+            send("C", "40 18 58"); send("D", "10 01 11")
+            if (turn % 3 == 0) held++
+            if (turn % 5 == 0) { send("C", "60 10 70"); send("D", block(116, 16, held)) }
+        }
+    }' > "$work/long.csv"
+judge 'many stretches' is_run "$work/long.csv"
+judge 'many stretches, the lines' has_lines 4403
+judge 'many stretches, with hands' is_run "$work/long.csv" --hands
+
+# A pipe that closes while a long text is written ends the program, with one line on standard error.
+{
+    echo 'time_us,wire,byte'
+    awk 'BEGIN { split("C,20 C,01 C,21 D,10 D,01 D,11", row, " ")
+        for (k = 1; k <= 600000; k++) print 400 * k "," row[(k - 1) % 6 + 1] }'
+} > "$work/long.csv"
+{
+    "$program" run "$work/long.csv" 2> "$work/err"
+    echo $? > "$work/status"
+} | head -n 1 > "$work/out"
+status=$(cat "$work/status")
+judge 'a closed pipe, the status' [ "$status" = 4 ]
+judge 'a closed pipe, the line on standard error' [ "$(cat "$work/err")" = 'write fault' ]
+judge 'a closed pipe, the first line' has_lines 1
+run "$work/long.csv"
+judge 'a long text, the status' [ "$status" = 0 ]
+judge 'a long text, its lines' has_lines 100001
+in_order=$(awk -F '[ :]' '/^record/ && $2 == 6 * NR { n++ } END { print n }' "$work/out")
+judge 'a long text, the records' [ "$in_order" = 100000 ]
+judge 'a long text, the last line' has_line 100001 'yes: records 600000, exchanges 100000, open 0'
+
+echo "$passed passed, $failed failed"
+[ "$failed" = 0 ]
