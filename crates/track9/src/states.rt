@@ -3,7 +3,7 @@
 //! A step that may need memory first makes aside what all parts but one get; then it changes the one part whose sets may be
 //! large in place, as the last thing that can fail; and then it puts the rest in place. So a refused step
 //! changes nothing, and no large set is copied.
-ghost use Rattle.std.specs.Prelude.{◌≡◌, Bool, IfOk, OnErr, OnOk, IsOk, max, false, if◌then◌else◌};
+ghost use Rattle.std.specs.Prelude.{◌≡◌, Bool, IfOk, None, OnErr, OnOk, IsOk, max, false, if◌then◌else◌};
 ghost use Rattle.tc25.specs.Times.{BelowDay, span_count};
 ghost use Rattle.track9.specs.Tracker.{entries_of, part_of};
 ghost use Rattle.track9.specs.Working.Parts.{all_states, no_states, put_part};
@@ -140,12 +140,32 @@ impl<S: TimeSet> States<S> {
         Ok(replaced)
     }
 
+    /// A drift where no state has the panel on: of the mechanics alone. Takes no memory. Gives back the pairs of remote
+    /// and of local that it replaced.
+    pub(crate) fn drift_panel_off(&mut self) -> (Pairs, Pairs)
+        requires { is_panel_live self.old ≡ false }
+        ensures drifted { self.new ≡ after_drift self.old }
+        ensures replaced { undone result.0 result.1 None (after_drift self.old) ≡ self.old }
+    {
+        let replaced = (self.remote.pairs(), self.local.pairs());
+        self.remote.drift();
+        self.local.drift();
+        replaced
+    }
+
+    /// Puts back the pairs of remote and of local that a drift replaced.
+    pub(crate) fn undo_panel_off(&mut self, remote: Pairs, local: Pairs)
+        ensures { self.new ≡ undone remote local None self.old }
+    {
+        self.remote.put_pairs(remote);
+        self.local.put_pairs(local);
+    }
+
     /// Puts back what a drift replaced.
     pub(crate) fn undo(&mut self, replaced: Replaced<S>)
         ensures { self.new ≡ undone replaced.remote replaced.local replaced.panel self.old }
     {
-        self.remote.put_pairs(replaced.remote);
-        self.local.put_pairs(replaced.local);
+        self.undo_panel_off(replaced.remote, replaced.local);
         if let Some((remote, local)) = replaced.panel {
             self.remote_panel = remote;
             self.local_panel = local;

@@ -1,8 +1,8 @@
 //! What a step does to a set of states: by what its reply shows, and by its command's effect.
-ghost use Rattle.std.specs.Prelude.{◌≡◌, IsOk, IsTrue, OnErr, OnOk};
+ghost use Rattle.std.specs.Prelude.{◌≡◌, IsOk, IsTrue, OnErr, OnOk, false};
 ghost use Rattle.track9.specs.Frugal.{is_frugal, is_frugal_effect};
 ghost use Rattle.track9.specs.Working.Parts.{agrees_local};
-ghost use Rattle.track9.specs.Working.States.{AreWhole, Follows, HasEffect, IsHandled, IsSettled, ReadsStatus, StepsTo};
+ghost use Rattle.track9.specs.Working.States.{AreWhole, Follows, HasEffect, IsHandled, IsSettled, ReadsStatus, StepsTo, is_panel_live};
 
 use crate::effect::Effect;
 use crate::mode::Mode;
@@ -31,11 +31,41 @@ impl<S: TimeSet> States<S> {
         ensures frugal { hands ≡ Hands.None → IsTrue (is_frugal command.now reply.now) → IsOk result }
     {
         self.below_day();
+        if !self.is_panel_live() {
+            return self.exchange_panel_off(alloc, hands, command, reply);
+        }
         let replaced = self.drift(alloc)?;
         match self.step(alloc, hands, command, reply) {
             Ok(()) => Ok(()),
             Err(error) => {
                 self.undo(replaced);
+                Err(error)
+            }
+        }
+    }
+
+    /// The same where no state has the panel on, as always where hands are not allowed: the drift then replaces no part,
+    /// and nothing as large as a part is kept to put back.
+    fn exchange_panel_off(
+        &mut self,
+        alloc: Global,
+        hands: Hands,
+        command: &Command,
+        reply: &Block,
+    ) -> Result<(), AllocError>
+        requires whole { AreWhole self.old }
+        requires handled { IsHandled hands self.old }
+        requires off { is_panel_live self.old ≡ false }
+        ensures ok { OnOk result (Follows hands command.now reply.now self.old self.new) }
+        ensures err { OnErr result (self.new ≡ self.old) }
+        ensures frugal { IsTrue (is_frugal command.now reply.now) → IsOk result }
+    {
+        self.below_day();
+        let (remote, local) = self.drift_panel_off();
+        match self.step(alloc, hands, command, reply) {
+            Ok(()) => Ok(()),
+            Err(error) => {
+                self.undo_panel_off(remote, local);
                 Err(error)
             }
         }
