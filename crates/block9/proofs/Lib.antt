@@ -6,6 +6,7 @@ pub mod TailLemmas
 pub mod CutLemmas
 pub mod StepLemmas
 pub mod MeaningLemmas
+pub mod FeedLemmas
 pub mod OrderLemmas
 pub mod HoldsLemmas
 pub mod KeptLemmas

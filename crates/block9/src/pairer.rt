@@ -5,7 +5,7 @@ ghost use Rattle.block9.specs.Exchange.{IsTail, tail_after};
 ghost use Rattle.block9.specs.Line.{block_len, bytes_of, last_time};
 ghost use Rattle.block9.specs.Working.Body.{block_of};
 ghost use Rattle.block9.specs.Working.Held.{Means};
-ghost use Rattle.block9.specs.Working.ReadOff.{Closes, IsReadAs, meaning_after, step_of};
+ghost use Rattle.block9.specs.Working.ReadOff.{Closes, IsReadAs, IsTurn, meaning_after, step_of};
 ghost use Rattle.block9.specs.Working.Table.{early_fault, pairing, place_of, reply_fault};
 
 use crate::block::{Block, sum_of};
@@ -101,30 +101,57 @@ fn exchange_of(
     })
 }
 
-/// What the record does after the tail, or the first rule that it breaks. `meaning`: what the tail's command
-/// means, once it is whole.
-fn answer(tail: &[LineByte], meaning: Option<Command>, line_byte: LineByte) -> Result<Taken, Reason>
-    requires tail { IsTail tail.now }
-    requires means { Means tail.now meaning }
+/// Whether the record is the last one of the block that it goes on with, or the first rule that it breaks before its
+/// block is whole. `place`: where the tail stands.
+#[inline(always)]
+fn turn_at(place: Place, tail: &[LineByte], line_byte: LineByte) -> Result<bool, Reason>
+    requires place { place ≡ place_of tail.now }
     requires later { last_time tail.now ≤ line_byte.time_us }
+    ensures ok { IfOk result (λ ends. IsTurn tail.now line_byte ends) }
+    ensures err { IfErr result (λ reason. pairing tail.now line_byte ≡ Some reason) }
+{
+    if let Some(reason) = early_fault(place, tail, line_byte) {
+        return Err(reason);
+    }
+    Ok(ends_block(place.open_in(tail)))
+}
+
+/// The same at whatever place the tail stands. Each place has a call of its own, which is compiled for it alone: most
+/// records neither begin nor end a block, and are done after this.
+fn turn(tail: &[LineByte], line_byte: LineByte) -> Result<bool, Reason>
+    requires { last_time tail.now ≤ line_byte.time_us }
+    ensures ok { IfOk result (λ ends. IsTurn tail.now line_byte ends) }
+    ensures err { IfErr result (λ reason. pairing tail.now line_byte ≡ Some reason) }
+{
+    match Place::of(tail) {
+        Place::Idle => turn_at(Place::Idle, tail, line_byte),
+        Place::InCommand => turn_at(Place::InCommand, tail, line_byte),
+        Place::AfterCommand => turn_at(Place::AfterCommand, tail, line_byte),
+        Place::InReply => turn_at(Place::InReply, tail, line_byte),
+    }
+}
+
+/// What the last record of a block does, where it breaks no rule before its block is whole, or the first rule that it
+/// breaks. `meaning`: what the tail's command means, once it is whole.
+fn answer(
+    tail: &[LineByte],
+    meaning: &Option<Command>,
+    line_byte: LineByte,
+) -> Result<Taken, Reason>
+    requires tail { IsTail tail.now }
+    requires means { Means tail.now meaning.now }
+    requires ends { IsTurn tail.now line_byte true }
     ensures ok { IfOk result (λ taken. (pairing tail.now line_byte ≡ None) × IsReadAs tail.now taken) }
     ensures err { IfErr result (λ reason. pairing tail.now line_byte ≡ Some reason) }
 {
     let place = Place::of(tail);
-    if let Some(reason) = early_fault(place, tail, line_byte) {
-        return Err(reason);
-    }
-    let current = place.open_in(tail);
-    if !ends_block(current) {
-        return Ok(Taken::Waiting);
-    }
-    let body = bytes_of(current);
+    let body = bytes_of(place.open_in(tail));
     if sum_of(body.as_slice()) != line_byte.byte {
         return Err(Reason::WrongSum);
     }
     let block = Block::of_body(body.as_slice());
     if place == Place::InReply {
-        return exchange_of(tail, meaning, block).map(Taken::Exchange);
+        return exchange_of(tail, *meaning, block).map(Taken::Exchange);
     }
     match Command::of(&block) {
         Some(command) => Ok(Taken::Command(command)),
@@ -161,6 +188,15 @@ fn advance(
             Step::Exchange(exchange)
         }
     }
+}
+
+/// Keeps the reason why a record was refused, and answers it.
+fn refuse(kept: &mut Option<Reason>, reason: Reason) -> Reason
+    ensures same { result ≡ reason }
+    ensures kept { kept.new ≡ Some reason }
+{
+    *kept = Some(reason);
+    reason
 }
 
 /// Pairs commands with replies, one record at a time.
@@ -226,12 +262,16 @@ impl Pairer {
             return Err(reason);
         }
         self.last_time = Some(line_byte.time_us);
-        match answer(self.tail.as_slice(), self.meaning, line_byte) {
-            Ok(taken) => Ok(advance(&mut self.tail, &mut self.meaning, line_byte, taken)),
-            Err(reason) => {
-                self.reason = Some(reason);
-                Err(reason)
+        match turn(self.tail.as_slice(), line_byte) {
+            Ok(true) => match answer(self.tail.as_slice(), &self.meaning, line_byte) {
+                Ok(taken) => Ok(advance(&mut self.tail, &mut self.meaning, line_byte, taken)),
+                Err(reason) => Err(refuse(&mut self.reason, reason)),
+            },
+            Ok(false) => {
+                let waiting = Taken::Waiting;
+                Ok(advance(&mut self.tail, &mut self.meaning, line_byte, waiting))
             }
+            Err(reason) => Err(refuse(&mut self.reason, reason)),
         }
     }
 

@@ -1,6 +1,6 @@
 -- What a record that breaks no rule does, as it is read off a tail. Private functions alone cite this; `feed`
 -- promises the `Does` of specs/Exchange.antt.
-use Rattle.std.specs.Prelude.{◌≡◌, ◌+◌, ◌-◌, true, false, Option, Some, None, List, take, drop}
+use Rattle.std.specs.Prelude.{◌≡◌, ◌+◌, ◌-◌, Bool, true, false, Option, Some, None, List, take, drop}
 use Rattle.capture9.specs.declared.line_byte.LineByte.{LineByte}
 use Rattle.block9.specs.declared.command.Command.{Command}
 use Rattle.block9.specs.declared.place.Place.TheVariants.{InCommand, InReply}
@@ -12,7 +12,7 @@ use Rattle.block9.specs.declared.pairer.Taken.TheVariants as taken
 use Rattle.block9.specs.Command.{command_of}
 use Rattle.block9.specs.Line.{block_len, bytes_of, first_time, last_time}
 use Rattle.block9.specs.Working.Body.{block_of}
-use Rattle.block9.specs.Working.Table.{ends_block, open_at, place_of}
+use Rattle.block9.specs.Working.Table.{early_fault, ends_block, open_at, place_of}
 
 -- an exchange that the open records and one more are, as they are read
 pub record Closes (tail : List LineByte) (e : Exchange) : Type 0 where
@@ -27,6 +27,10 @@ IsReadAs tail taken.Waiting = ends_block (open_at (place_of tail) tail) ≡ fals
 IsReadAs tail (taken.Command c) =
     (ends_block (open_at (place_of tail) tail) ≡ true) × (place_of tail ≡ InCommand) × (command_of (block_of (bytes_of tail)) ≡ Some c)
 IsReadAs tail (taken.Exchange e) = (ends_block (open_at (place_of tail) tail) ≡ true) × (place_of tail ≡ InReply) × Closes tail e
+
+-- a record that breaks no rule before its block is whole, and whether it is the last one of its block
+abbrev pub IsTurn : List LineByte → LineByte → Bool → Type 0
+IsTurn tail r ends = (early_fault (place_of tail) tail r ≡ None) × (ends ≡ ends_block (open_at (place_of tail) tail))
 
 -- the step that a caller is told
 abbrev pub step_of : Taken → Step
