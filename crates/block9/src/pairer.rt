@@ -251,6 +251,7 @@ impl Pairer {
     /// them.
     ///
     /// The rules are the protocol manual's; where it leaves a choice, this profile favours the deck.
+    #[inline(always)] // two loops over records call it, and else it would be inlined in neither
     pub fn feed(&mut self, line_byte: LineByte) -> Result<Step, Reason>
         requires { ForSome self.old.last_time (λ before. before ≤ line_byte.time_us) }
         ensures takes { self.old.reason ≡ None → IfOk result (λ step. Takes self.old line_byte step self.new) }

@@ -98,6 +98,7 @@ impl<R: Read + Drop> Records<R> {
     /// After the end it gives None each time, and after a refusal the same refusal each time, and reads
     /// no more. As a call asks `csv` for one record, and for the header before the first, these are
     /// 4,000,002 at most, a row too many included.
+    #[inline(always)] // two loops over records call it, and else it would be inlined in neither
     pub fn next(&mut self) -> Result<Option<LineByte>, CaptureError>
         ensures given { IfOk result (λ o. IfSome o (λ r. GivesRecord self.old r self.new)) }
         ensures ended { IfOk result (λ o. IfNone o (GivesEnd self.old self.new)) }
