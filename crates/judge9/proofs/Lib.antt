@@ -15,4 +15,3 @@ pub mod PieceLemmas
 pub mod WriteLemmas
 pub mod RunLines
 pub mod TextLemmas
-pub mod RunSearch

@@ -28,7 +28,7 @@ use Rattle.judge9.specs.declared.run_verdict.RunVerdict.TheVariants as run
 use Rattle.judge9.specs.declared.verdict.Verdict.TheVariants.{Yes, No}
 use Rattle.judge9.specs.declared.verdict.View.TheVariants as view
 use Rattle.judge9.specs.Error.{refusal_of}
-use Rattle.judge9.specs.Run.{IsRun}
+use Rattle.run9.specs.Run.{IsRun}
 use Rattle.judge9.specs.RunVerdict.{HasItsRun, IsJudgedRun}
 use Rattle.judge9.specs.Verdict.{CanBeVerdict}
 use Rattle.judge9.specs.Working.Trail.{Follows, IsTrail, JudgesRun}

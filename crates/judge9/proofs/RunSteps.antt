@@ -1,36 +1,17 @@
 -- Runs of the deck, and the states that a tracker keeps, from one exchange to the next.
-use Rattle.std.proofs.Common.{◌≡◌, ◌↔◌, IsTrue, Bool, false, List, [], ◌∷◌, ◌++◌, refl, sym, subst, ◌∙◌}
+use Rattle.std.proofs.Common.{◌≡◌, ◌↔◌, IsTrue, Bool, false, List, [], ◌∷◌, ◌++◌, sym, subst, ◌∙◌}
 use Rattle.std.proofs.lemmas.Bool.{false≢true}
 use Rattle.block9.specs.declared.pairer.Exchange.{Exchange}
-use Rattle.track9.specs.declared.mode.Mode.TheVariants.{Stop}
-use Rattle.track9.specs.declared.state.Entry.TheVariants.{Clear}
 use Rattle.track9.specs.declared.state.Hands.{Hands}
-use Rattle.track9.specs.declared.state.Hands.TheVariants as hands
-use Rattle.track9.specs.declared.state.Register.TheVariants.{RegIn, RegOut, RegAudioIn, RegAudioOut}
 use Rattle.track9.specs.declared.state.State.{State}
 use Rattle.track9.specs.Run.{Ends, HasRun}
-use Rattle.track9.specs.State.{IsFirst, IsState}
+use Rattle.track9.specs.State.{IsFirst}
 use Rattle.track9.specs.Step.{AreReached, Exchanges}
 use Rattle.track9.specs.Tracker.{Possible, Tracked}
 use Rattle.track9.proofs.RunLemmas.{ends_more, ends_none, some_end}
 use Rattle.judge9.specs.Working.Trail.{Follows}
 
 -- ---- runs
-
--- a stopped deck with nothing set
-abbrev stopped : State
-stopped = record { goal = Stop; shown = Stop; ins = Clear; outs = Clear; ains = Clear; aouts = Clear; local = false; panel = false }
-
-is_state : IsState stopped
-is_state RegIn = tt
-is_state RegOut = tt
-is_state RegAudioIn = tt
-is_state RegAudioOut = tt
-
--- no exchange has a run
-pub run_start : (h : Hands) → HasRun h []
-run_start hands.None = record { first = stopped; is_first = (is_state, refl); after = []; is_run = tt }
-run_start hands.Allowed = record { first = stopped; is_first = is_state; after = []; is_run = tt }
 
 -- a run of exchanges is one of those before the last
 pub run_less : (h : Hands) (es : List Exchange) (e : Exchange) → HasRun h (es ++ e ∷ []) → HasRun h es

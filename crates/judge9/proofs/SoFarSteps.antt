@@ -23,7 +23,7 @@ use Rattle.judge9.specs.Report.{IsExplained}
 use Rattle.judge9.specs.Working.{IsLineOf}
 use Rattle.judge9.proofs.CutSteps.{cut-step, exchanges_after}
 use Rattle.judge9.proofs.LineSteps.{cut_len, explained_more, line_same, total}
-use Rattle.judge9.proofs.RunSteps.{run_start}
+use Rattle.run9.proofs.RunSearch.{run_start}
 use Rattle.judge9.specs.Working.Trail.{Follows}
 use Rattle.judge9.proofs.SoFar.{SoFar, WereRead}
 

@@ -35,7 +35,7 @@ use Rattle.judge9.specs.Report.{IsVerdictAfter, Told, Written, line_of}
 use Rattle.judge9.specs.Working.{Explains, IsSame, Puts}
 use Rattle.judge9.proofs.LawLemmas.{answer_once}
 use Rattle.judge9.proofs.LineSteps.{none_after, part_after}
-use Rattle.judge9.proofs.RunSteps.{run_start}
+use Rattle.run9.proofs.RunSearch.{run_start}
 use Rattle.judge9.specs.Working.Trail.{Follows}
 use Rattle.judge9.proofs.Seen.{Seen, rest_has, seen}
 use Rattle.judge9.proofs.SoFar.{SoFar}

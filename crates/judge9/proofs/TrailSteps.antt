@@ -9,7 +9,7 @@ use Rattle.track9.specs.State.{IsFirst}
 use Rattle.track9.specs.Step.{AreReached, Exchanges}
 use Rattle.track9.specs.Tracker.{Possible, Tracked}
 use Rattle.track9.proofs.RunLemmas.{ends_more}
-use Rattle.judge9.specs.Run.{IsRun}
+use Rattle.run9.specs.Run.{IsRun}
 use Rattle.judge9.specs.Working.Trail.{Follows, GoesBack, IsTrail, Leads}
 
 -- ---- where exchanges lead

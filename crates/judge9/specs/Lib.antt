@@ -3,7 +3,6 @@ pub mod Judging
 pub mod Error
 pub mod Explanation
 pub mod Report
-pub mod Run
 pub mod RunVerdict
 pub mod RunText
 pub mod Working

@@ -12,7 +12,7 @@ use Rattle.judge9.specs.declared.run_verdict.RunVerdict.TheVariants as run
 use Rattle.judge9.specs.declared.verdict.Verdict.{Verdict}
 use Rattle.judge9.specs.declared.verdict.Verdict.TheVariants as verdict
 use Rattle.judge9.specs.Judging.{IsTheAnswer, answer_of}
-use Rattle.judge9.specs.Run.{IsRun}
+use Rattle.run9.specs.Run.{IsRun}
 
 -- the verdict alone, with the number of the exchanges
 abbrev pub verdict_of : RunVerdict → Verdict

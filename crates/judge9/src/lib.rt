@@ -2,8 +2,8 @@
 //!
 //! [`judge`] reads the records from a text, feeds them to a pairer, lets a tracker observe each exchange, and writes the
 //! report: where an explanation is asked for a line for each exchange, and the line of the verdict. The module [`laws`]
-//! states what holds of the definitions that its contract cites. [`is_run`] says whether states that are given are those
-//! of a run, one state at a time and without a tracker.
+//! states what holds of the definitions that its contract cites. [`judge_with_run`] hands a run of the deck out with a yes,
+//! [`write_run`] writes it, and `is_run` of the crate `run9` says whether it is one.
 #![tactic(auto)]
 
 mod error;
@@ -11,7 +11,6 @@ mod explanation;
 mod judging;
 pub mod laws;
 mod pieces;
-mod run;
 mod run_judging;
 mod run_text;
 mod run_verdict;
@@ -24,8 +23,8 @@ mod writing;
 
 pub use error::JudgeError;
 pub use judging::judge;
-pub use run::is_run;
 pub use run_judging::judge_with_run;
 pub use run_text::write_run;
 pub use run_verdict::RunVerdict;
+pub use run9::is_run;
 pub use verdict::{Verdict, View};

@@ -4,7 +4,7 @@
 //! first of them. That needs the states that were possible before each exchange. Kept are those before every 256th
 //! alone; those between are made again, stretch by stretch, while going back.
 ghost use Rattle.std.specs.Prelude.{◌≡◌, ◌<◌, ◌≤◌, ◌*◌, ◌++◌, [], ◌∷◌, IfOk, OnOk, length, take};
-ghost use Rattle.judge9.specs.Run.{IsRun};
+ghost use Rattle.run9.specs.Run.{IsRun};
 ghost use Rattle.judge9.specs.Working.Trail.{Follows, GoesBack, IsTrail, Leads};
 ghost use Rattle.track9.specs.Run.{Ends};
 ghost use Rattle.track9.specs.State.{IsFirst};

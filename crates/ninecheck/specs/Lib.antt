@@ -1,7 +1,6 @@
 pub mod Word
 pub mod Text
 pub mod Outcome
-pub mod Words
 pub mod Output
 pub mod Judging
 pub mod Source

@@ -7,22 +7,18 @@ mod ending;
 mod judging;
 mod source;
 mod status;
-mod task;
 #[cfg(test)]
 mod tests;
-mod usage;
-mod words;
 
 use crate::buffered::Buffered;
 use crate::ending::{Line, Outcome};
 use crate::judging::{judge_and_flush, judge_with_run_and_flush};
 use crate::source::Source;
 use crate::status::outcome;
-use crate::task::{Task, Verb, WordsFault};
-use crate::words::read_words;
 use judge9::View;
 use std::process::ExitCode;
 use std::{env, fs, io};
+use words9::{Task, Verb, WordsFault, read_words};
 
 fn main(rt: HostRuntime) -> ExitCode {
     let task = match arguments(&rt) {

@@ -3,10 +3,11 @@
 //! A step that may need memory first makes aside what all parts but one get; then it changes the one part whose sets may be
 //! large in place, as the last thing that can fail; and then it puts the rest in place. So a refused step
 //! changes nothing, and no large set is copied.
-ghost use Rattle.std.specs.Prelude.{◌≡◌, Bool, IfOk, None, OnErr, OnOk, IsOk, max, false, if◌then◌else◌};
+ghost use Rattle.std.specs.Prelude.{◌≡◌, Bool, IfOk, None, OnErr, OnOk, IsOk, max, false, true, if◌then◌else◌};
 ghost use Rattle.tc25.specs.Times.{BelowDay, span_count};
 ghost use Rattle.track9.specs.Tracker.{entries_of, part_of};
-ghost use Rattle.track9.specs.Working.Parts.{all_states, no_states, put_part};
+ghost use Rattle.track9.specs.Working.Parts.{all_states, aside, changed_entries, forgotten_part, no_states, put_part};
+ghost use Rattle.track9.specs.Working.Entries.{agreeing};
 ghost use Rattle.track9.specs.Working.States.{after_change, after_drift, after_forgetting_all, after_forgetting_registers, after_forgetting_tape, after_goal, after_panel, after_sense, after_status, first_states, is_panel_live, some_state, undone};
 ghost use Rattle.track9.specs.declared.state.Register.{Register as ARegister};
 
@@ -15,6 +16,7 @@ use crate::mode::Mode;
 use crate::mode_set::ModeSet;
 use crate::pairs::Pairs;
 use crate::part::Part;
+use crate::register_set::RegisterSet;
 use crate::state::{Hands, Register};
 use std::alloc::{AllocError, Global};
 use std::marker::Model;
@@ -68,11 +70,13 @@ impl<S: TimeSet> States<S> {
         ensures { IfOk result (λ v. v ≡ first_states hands) }
     {
         let is_allowed = hands == Hands::Allowed;
+        let (remote, local) = all_or_none(alloc, true)?;
+        let (remote_panel, local_panel) = all_or_none(alloc, is_allowed)?;
         Ok(States {
-            remote: Part::all(alloc)?,
-            local: Part::all(alloc)?,
-            remote_panel: all_or_none(alloc, is_allowed)?,
-            local_panel: all_or_none(alloc, is_allowed)?,
+            remote,
+            local,
+            remote_panel,
+            local_panel,
         })
     }
 
@@ -80,11 +84,13 @@ impl<S: TimeSet> States<S> {
     pub(crate) fn copy(&self) -> Result<States<S>, AllocError>
         ensures { IfOk result (λ v. v ≡ self.now) }
     {
+        let (remote, local) = copies(&self.remote, &self.local)?;
+        let (remote_panel, local_panel) = copies(&self.remote_panel, &self.local_panel)?;
         Ok(States {
-            remote: self.remote.copy()?,
-            local: self.local.copy()?,
-            remote_panel: self.remote_panel.copy()?,
-            local_panel: self.local_panel.copy()?,
+            remote,
+            local,
+            remote_panel,
+            local_panel,
         })
     }
 
@@ -121,11 +127,10 @@ impl<S: TimeSet> States<S> {
         ensures frugal { is_panel_live self.old ≡ false → IsOk result }
     {
         let panel = if self.is_panel_live() {
-            let remote = Part::all(alloc)?;
-            let local = Part::all(alloc)?;
+            let (any_remote, any_local) = all_or_none(alloc, true)?;
             Some((
-                mem::replace(&mut self.remote_panel, remote),
-                mem::replace(&mut self.local_panel, local),
+                mem::replace(&mut self.remote_panel, any_remote),
+                mem::replace(&mut self.local_panel, any_local),
             ))
         } else {
             None
@@ -193,12 +198,13 @@ impl<S: TimeSet> States<S> {
         ensures err { OnErr result (self.new ≡ self.old) }
     {
         let remote = self.remote.change_aside(alloc, false, register, change)?;
-        let remote_panel = self
-            .remote_panel
-            .change_aside(alloc, false, register, change)?;
-        let local_panel = self
-            .local_panel
-            .change_aside(alloc, true, register, change)?;
+        let (remote_panel, local_panel) = changes_aside(
+            alloc,
+            register,
+            change,
+            &self.remote_panel,
+            &self.local_panel,
+        )?;
         self.local.widen(alloc, register, change)?;
         self.remote.put_aside(register, remote);
         self.remote_panel.put_aside(register, remote_panel);
@@ -216,10 +222,14 @@ impl<S: TimeSet> States<S> {
         ensures ok { OnOk result (self.new ≡ after_sense register time.now self.old) }
         ensures err { OnErr result (self.new ≡ self.old) }
     {
-        let remote = self.remote.sense_aside(alloc, register, time)?;
-        let local = self.local.sense_aside(alloc, register, time)?;
-        let remote_panel = self.remote_panel.sense_aside(alloc, register, time)?;
-        let local_panel = self.local_panel.sense_aside(alloc, register, time)?;
+        let (remote, local) = senses_aside(alloc, register, time, &self.remote, &self.local)?;
+        let (remote_panel, local_panel) = senses_aside(
+            alloc,
+            register,
+            time,
+            &self.remote_panel,
+            &self.local_panel,
+        )?;
         self.remote.put_settled(alloc, register, remote);
         self.local.put_settled(alloc, register, local);
         self.remote_panel.put_settled(alloc, register, remote_panel);
@@ -251,22 +261,16 @@ impl<S: TimeSet> States<S> {
     pub(crate) fn switch_panel(&mut self, alloc: Global, on: bool)
         ensures { self.new ≡ after_panel on self.old }
     {
-        let is_panel_live = self.is_panel_live();
-        let remote = mem::replace(&mut self.remote, Part::none(alloc));
-        let local = mem::replace(&mut self.local, Part::none(alloc));
-        let remote_panel = mem::replace(&mut self.remote_panel, Part::none(alloc));
-        let local_panel = mem::replace(&mut self.local_panel, Part::none(alloc));
-        let (remote, local) = if is_panel_live {
-            (remote_panel, local_panel)
-        } else {
-            (remote, local)
-        };
+        if self.is_panel_live() != on {
+            mem::swap(&mut self.remote, &mut self.remote_panel);
+            mem::swap(&mut self.local, &mut self.local_panel);
+        }
         if on {
-            self.remote_panel = remote;
-            self.local_panel = local;
+            self.remote = Part::none(alloc);
+            self.local = Part::none(alloc);
         } else {
-            self.remote = remote;
-            self.local = local;
+            self.remote_panel = Part::none(alloc);
+            self.local_panel = Part::none(alloc);
         }
     }
 
@@ -275,11 +279,9 @@ impl<S: TimeSet> States<S> {
         ensures ok { OnOk result (self.new ≡ after_forgetting_tape self.old) }
         ensures err { OnErr result (self.new ≡ self.old) }
     {
-        let remote = self.remote.forget_tape_aside(alloc)?;
-        let local = self.local.forget_tape_aside(alloc)?;
-        let remote_panel = self.remote_panel.forget_tape_aside(alloc)?;
-        let local_panel = self.local_panel.forget_tape_aside(alloc)?;
-        self.put_parts(remote, local, remote_panel, local_panel);
+        let off = tape_aside(alloc, &self.remote, &self.local)?;
+        let on = tape_aside(alloc, &self.remote_panel, &self.local_panel)?;
+        self.put_parts(off, on);
         Ok(())
     }
 
@@ -288,11 +290,9 @@ impl<S: TimeSet> States<S> {
         ensures ok { OnOk result (self.new ≡ after_forgetting_registers self.old) }
         ensures err { OnErr result (self.new ≡ self.old) }
     {
-        let remote = self.remote.forget_registers_aside(alloc)?;
-        let local = self.local.forget_registers_aside(alloc)?;
-        let remote_panel = self.remote_panel.forget_registers_aside(alloc)?;
-        let local_panel = self.local_panel.forget_registers_aside(alloc)?;
-        self.put_parts(remote, local, remote_panel, local_panel);
+        let off = registers_aside(alloc, &self.remote, &self.local)?;
+        let on = registers_aside(alloc, &self.remote_panel, &self.local_panel)?;
+        self.put_parts(off, on);
         Ok(())
     }
 
@@ -307,25 +307,21 @@ impl<S: TimeSet> States<S> {
         Ok(())
     }
 
-    /// Puts parts in place that were made aside.
-    fn put_parts(
-        &mut self,
-        remote: Option<Part<S>>,
-        local: Option<Part<S>>,
-        remote_panel: Option<Part<S>>,
-        local_panel: Option<Part<S>>,
-    )
+    /// Puts parts in place that were made aside: those with the panel off, and those with the panel on.
+    fn put_parts(&mut self, off: TwoAside<S>, on: TwoAside<S>)
         ensures { self.new ≡ record {
-          remote = put_part remote self.old.remote;
-          local = put_part local self.old.local;
-          remote_panel = put_part remote_panel self.old.remote_panel;
-          local_panel = put_part local_panel self.old.local_panel;
+          remote = put_part off.0 self.old.remote;
+          local = put_part off.1 self.old.local;
+          remote_panel = put_part on.0 self.old.remote_panel;
+          local_panel = put_part on.1 self.old.local_panel;
         } }
     {
+        let (remote, local) = off;
         self.remote.put_part(remote);
         self.local.put_part(local);
-        self.remote_panel.put_part(remote_panel);
-        self.local_panel.put_part(local_panel);
+        let (remote, local) = on;
+        self.remote_panel.put_part(remote);
+        self.local_panel.put_part(local);
     }
 }
 
@@ -343,13 +339,84 @@ impl States<SpanSet> {
     }
 }
 
-/// Every state, or none.
-fn all_or_none<S: TimeSet>(alloc: Global, all: bool) -> Result<Part<S>, AllocError>
-    ensures { IfOk result (λ p. p ≡ (if all then all_states else no_states)) }
+/// Parts of remote and of local that were made aside, where there is a state.
+type TwoAside<S> = (Option<Part<S>>, Option<Part<S>>);
+
+/// Every state, or none, of remote and of local.
+fn all_or_none<S: TimeSet>(alloc: Global, all: bool) -> Result<(Part<S>, Part<S>), AllocError>
+    ensures { IfOk result (λ parts. (parts.0 ≡ (if all then all_states else no_states))
+        × (parts.1 ≡ (if all then all_states else no_states))) }
 {
-    if all {
-        Part::all(alloc)
-    } else {
-        Ok(Part::none(alloc))
+    if !all {
+        return Ok((Part::none(alloc), Part::none(alloc)));
     }
+    let remote = Part::all(alloc)?;
+    Ok((remote, Part::all(alloc)?))
+}
+
+/// Equal parts.
+fn copies<S: TimeSet>(remote: &Part<S>, local: &Part<S>) -> Result<(Part<S>, Part<S>), AllocError>
+    ensures { IfOk result (λ parts. (parts.0 ≡ remote.now) × (parts.1 ≡ local.now)) }
+{
+    let remote = remote.copy()?;
+    Ok((remote, local.copy()?))
+}
+
+/// Every state aside, for each part that has one.
+fn tape_aside<S: TimeSet>(
+    alloc: Global,
+    remote: &Part<S>,
+    local: &Part<S>,
+) -> Result<TwoAside<S>, AllocError>
+    ensures { IfOk result (λ parts. (parts.0 ≡ aside remote.now all_states)
+        × (parts.1 ≡ aside local.now all_states)) }
+{
+    let remote = remote.forget_tape_aside(alloc)?;
+    Ok((remote, local.forget_tape_aside(alloc)?))
+}
+
+/// The pairs of each part with any entries aside, where it has a state.
+fn registers_aside<S: TimeSet>(
+    alloc: Global,
+    remote: &Part<S>,
+    local: &Part<S>,
+) -> Result<TwoAside<S>, AllocError>
+    ensures { IfOk result (λ parts. (parts.0 ≡ aside remote.now (forgotten_part remote.now))
+        × (parts.1 ≡ aside local.now (forgotten_part local.now))) }
+{
+    let remote = remote.forget_registers_aside(alloc)?;
+    Ok((remote, local.forget_registers_aside(alloc)?))
+}
+
+/// Entries of a register, of remote and of local, that were made aside, where there is a state.
+type TwoEntries<S> = (Option<RegisterSet<S>>, Option<RegisterSet<S>>);
+
+/// What becomes of a register's entries, or may in local, in sets of their own.
+fn changes_aside<S: TimeSet>(
+    alloc: Global,
+    register: Register,
+    change: &Change,
+    remote: &Part<S>,
+    local: &Part<S>,
+) -> Result<TwoEntries<S>, AllocError>
+    ensures { IfOk result (λ sets. (sets.0 ≡ aside remote.now (changed_entries false change.now (entries_of register remote.now)))
+        × (sets.1 ≡ aside local.now (changed_entries true change.now (entries_of register local.now)))) }
+{
+    let remote = remote.change_aside(alloc, false, register, change)?;
+    Ok((remote, local.change_aside(alloc, true, register, change)?))
+}
+
+/// The entries of a register that agree with a time that was read, in sets of their own.
+fn senses_aside<S: TimeSet>(
+    alloc: Global,
+    register: Register,
+    time: &Option<TimeCode>,
+    remote: &Part<S>,
+    local: &Part<S>,
+) -> Result<TwoEntries<S>, AllocError>
+    ensures { IfOk result (λ sets. (sets.0 ≡ aside remote.now (agreeing time.now (entries_of register remote.now)))
+        × (sets.1 ≡ aside local.now (agreeing time.now (entries_of register local.now)))) }
+{
+    let remote = remote.sense_aside(alloc, register, time)?;
+    Ok((remote, local.sense_aside(alloc, register, time)?))
 }

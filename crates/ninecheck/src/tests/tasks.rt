@@ -1,9 +1,8 @@
 //! What words ask for.
 
-use crate::task::{Task, Verb, WordsFault};
-use crate::words::read_words;
 use std::alloc::{AllocError, Global};
 use track9::Hands;
+use words9::{Task, Verb, WordsFault, read_words};
 
 /// The task of these words.
 fn task_of(alloc: Global, words: &[&str]) -> Result<Task, WordsFault> {

@@ -1,0 +1,12 @@
+//! The words of the program's command line: which subcommands there are, and the task that the words give.
+//!
+//! `clap` reads the words. They stand in a crate of their own, so that what `clap` costs to prove is paid beside
+//! judging and not after it.
+#![tactic(auto)]
+
+mod task;
+mod usage;
+mod words;
+
+pub use task::{Task, Verb, WordsFault};
+pub use words::read_words;

@@ -1,0 +1,91 @@
+//! The program's subcommands, their words and their lines of help, as `clap` is told them.
+ghost use Rattle.std.specs.Prelude.{◌≡◌, IfOk, false, map};
+ghost use Rattle.std.specs.String.{string_bytes};
+ghost use Rattle.clap.specs.Words.{FailsBy, app_of, fault_of, subcommand_of, subcommand_rows_of, with_subcommand};
+ghost use Rattle.clap.specs.declared.builder.command.Command.TheViews.{out-Command as fields_of};
+ghost use Rattle.words9.specs.Words.{app_for, name_of, program, top};
+
+use crate::task::Verb;
+use clap::{Arg, ArgAction, ArgMatches, Command, Error};
+use std::alloc::{AllocError, Global};
+
+/// The program's name in its lines of help.
+const NAME: &str = "ninecheck";
+
+/// What `clap` makes of these words: the subcommand with its own words, or the first thing that is wrong.
+pub(crate) fn parsed<'a>(alloc: Global, words: &'a [String]) -> Result<ArgMatches<'a>, Error>
+    ensures matches { IfOk result (λ m.
+        subcommand_rows_of m ≡ subcommand_of program (map (λ s. string_bytes s) words.entry.now)) }
+    ensures kinds { FailsBy (fault_of program (map (λ s. string_bytes s) words.entry.now)) result }
+{
+    let command = whole(alloc)?;
+    command.try_get_matches_from(words)
+}
+
+/// The program with its subcommands.
+fn whole<'a>(alloc: Global) -> Result<Command<'a>, AllocError>
+    ensures { IfOk result (λ c. app_of c ≡ program) }
+{
+    let command = with_verb(alloc, above(alloc)?, Verb::Check)?;
+    let command = with_verb(alloc, command, Verb::Explain)?;
+    with_verb(alloc, command, Verb::Run)
+}
+
+/// A command with the subcommand of a verb.
+fn with_verb<'a>(alloc: Global, command: Command<'a>, verb: Verb) -> Result<Command<'a>, AllocError>
+    ensures { IfOk result (λ c. app_of c ≡ with_subcommand (app_of command.entry) (app_for verb).top) }
+{
+    let subcommand = subcommand(alloc, verb)?;
+    command.subcommand(subcommand)
+}
+
+/// The program without its subcommands.
+fn above<'a>(alloc: Global) -> Result<Command<'a>, AllocError>
+    ensures { IfOk result (λ c. app_of c ≡ top) }
+{
+    let command = Command::new(alloc, NAME)
+        .about("Checks a capture of the Sony 9-pin remote protocol (RS-422)")
+        .no_binary_name(true)
+        .subcommand_required(true);
+    command.bin_name(NAME)
+}
+
+/// A subcommand with its file and its option.
+fn subcommand<'a>(alloc: Global, verb: Verb) -> Result<Command<'a>, AllocError>
+    ensures app { IfOk result (λ c. app_of c ≡ app_for verb) }
+    ensures local { IfOk result (λ c. (fields_of c).has_globals ≡ false) }
+{
+    let file = Arg::new(alloc, "FILE").help(
+        "The capture of both wires of the RS-422 line, as CSV; standard input where it is left out",
+    );
+    let hands = Arg::new(alloc, "hands")
+        .long("hands")
+        .action(ArgAction::SetTrue)
+        .help("Somebody may have touched the deck's panel during the capture");
+    let command = Command::new(alloc, name_of(verb)).about(about(verb));
+    let command = command.arg(file)?.arg(hands)?;
+    Ok(command)
+}
+
+/// A verb's word.
+fn name_of<'a>(verb: Verb) -> &'a str
+    ensures { result.now ≡ name_of verb }
+{
+    match verb {
+        Verb::Check => "check",
+        Verb::Explain => "explain",
+        Verb::Run => "run",
+    }
+}
+
+/// A verb's line of help.
+fn about<'a>(verb: Verb) -> &'a str {
+    match verb {
+        Verb::Check =>
+            "Say whether the capture keeps the protocol, or which record is the first that does not",
+        Verb::Explain =>
+            "The same, with a line for each exchange before it: command, reply, and what is known of the deck",
+        Verb::Run =>
+            "Hand out one run of the deck that explains the replies: the deck's state after each exchange",
+    }
+}

@@ -1,0 +1,94 @@
+//! From the words of the command line to a task.
+ghost use Rattle.std.specs.Prelude.{◌≡◌, ◌≢◌, IfOk, MatchOption, Option, Err, codes, map, option_map};
+ghost use Rattle.std.specs.String.{string_bytes};
+ghost use Rattle.clap.specs.Words.{first_of, found_of, kind_of, rows_of};
+ghost use Rattle.clap.specs.declared.error.Error.{Error as ClapError};
+ghost use Rattle.words9.specs.Words.{IsTaskOf, IsNoTask, is_on, name_of};
+
+use crate::task::{Task, Verb, WordsFault};
+use crate::usage::parsed;
+use clap::error::ErrorKind;
+use clap::{ArgMatches, Error};
+use std::alloc::{AllocError, Global};
+use track9::Hands;
+
+/// The task that these words give: those of the command line after the program's own name.
+///
+/// The words are `check`, `explain` or `run`, and with it at most one file and, before or after the file, at most once
+/// `--hands`; what they may look like beside this is `clap`'s own definition.
+///
+/// * `Ok(task)` only where the definition takes the words. The task has the subcommand, the file and the option
+///   that it gives for them.
+/// * `Err(Usage)` only where it does not take them. Words that ask for help are not taken.
+/// * `Err(NoMemory)` where a growth of memory is refused.
+pub fn read_words(alloc: Global, words: Vec<String>) -> Result<Task, WordsFault>
+    ensures task { IfOk result (IsTaskOf (map (λ s. string_bytes s) words.items)) }
+    ensures usage { (e : Option ClapError) → result ≡ Err (WordsFault.Usage e)
+        → IsNoTask (map (λ s. string_bytes s) words.items) }
+{
+    let matches = match parsed(alloc, words.as_slice()) {
+        Ok(matches) => matches,
+        Err(e) => return Err(fault_of(e)),
+    };
+    let Some((name, found)) = matches.subcommand() else {
+        return Err(WordsFault::Usage(None));
+    };
+    let Some(verb) = verb_of(name) else {
+        return Err(WordsFault::Usage(None));
+    };
+    let Ok(file) = file_of(alloc, found) else {
+        return Err(WordsFault::NoMemory);
+    };
+    let hands = if has_hands(found) {
+        Hands::Allowed
+    } else {
+        Hands::None
+    };
+    Ok(Task { verb, file, hands })
+}
+
+/// The fault of words that `clap` refuses.
+fn fault_of(e: Error) -> WordsFault
+    ensures { (o : Option ClapError) → result ≡ WordsFault.Usage o → kind_of e ≢ ErrorKind.OutOfMemory }
+{
+    match e.kind() {
+        ErrorKind::OutOfMemory => WordsFault::NoMemory,
+        _ => WordsFault::Usage(Some(e)),
+    }
+}
+
+/// The verb that a subcommand's name stands for.
+fn verb_of(name: &str) -> Option<Verb>
+    ensures { MatchOption result ((v : Verb) → name.now ≢ name_of v) (λ v. name.now ≡ name_of v) }
+{
+    if name == "check" {
+        Some(Verb::Check)
+    } else if name == "explain" {
+        Some(Verb::Explain)
+    } else if name == "run" {
+        Some(Verb::Run)
+    } else {
+        None
+    }
+}
+
+/// The file that the subcommand was given.
+fn file_of(alloc: Global, found: &ArgMatches<'_>) -> Result<Option<String>, AllocError>
+    ensures { IfOk result (λ file. option_map string_bytes file
+        ≡ first_of (codes "FILE") (rows_of (found_of found.now))) }
+{
+    match found.get_str("FILE") {
+        Some(name) => Ok(Some(String::from_str(alloc, name)?)),
+        None => Ok(None),
+    }
+}
+
+/// Whether the subcommand was given its option.
+fn has_hands(found: &ArgMatches<'_>) -> bool
+    ensures { result ≡ is_on (first_of (codes "hands") (rows_of (found_of found.now))) }
+{
+    match found.get_str("hands") {
+        Some(text) => text == "true",
+        None => false,
+    }
+}
