@@ -1,10 +1,11 @@
 #!/usr/bin/env bash
-# How long the program takes on 4,000,000 records, as ratios: `check` to a loop that only reads the same rows with
-# csv into one record, and `explain` and `run` into a file to `check`; on a capture of PLAY and its acknowledgement, and
-# on one of mixed traffic (status, time and register senses, presets, shifts). All are run five times in turn, and the
-# best time counts. It also says the greatest resident memory. Not part of the gate. The program is the one that the
-# gate or ./ninecheck built.
+# How much processor time the program takes on 4,000,000 records, as ratios: `check` to a loop that only reads the same
+# rows with csv into one record, and `explain` and `run` into a file to `check`; on a capture of PLAY and its
+# acknowledgement, and on one of mixed traffic (status, time and register senses, presets, shifts). All are run in turn,
+# fifteen times or as often as the first word says, and the best time of each counts. It also says the greatest resident
+# memory. Not part of the gate. The program is the one that the gate or ./ninecheck built.
 set -u
+turns=${1:-15}
 top=$(cd "$(dirname "$0")/../.." && pwd)
 program=${NINECHECK:-$top/crates/ninecheck/out/ninecheck}
 [ -x "$program" ] || { echo "build the program first: ./ninecheck < examples/play.csv"; exit 1; }
@@ -20,9 +21,9 @@ echo 'time_us,wire,byte' > "$work/crates/read_rows/stdin"
 reader=$work/crates/read_rows/out/read_rows
 [ -x "$reader" ] || { cat "$work/log"; echo "the reading loop could not be built"; exit 1; }
 
-python3 - "$program" "$reader" "$work" <<'PY'
-import subprocess, sys, time
-program, reader, work = sys.argv[1:]
+python3 - "$program" "$reader" "$work" "$turns" <<'PY'
+import os, subprocess, sys, time
+program, reader, work, turns = sys.argv[1:]
 RECORDS = 4000000
 
 def block(head, code, *data):
@@ -65,11 +66,15 @@ def write(path, exchanges):
                         text.write('%d,%s,%02X\n' % (now, wire, byte))
             turn += 1
 
+# Processor time, of the program and of the system for it: how long it waits for a processor does not count.
 def seconds(words, capture, out):
     with open(capture, 'rb') as text, open(out, 'wb') as to:
-        start = time.perf_counter()
-        subprocess.run(words, stdin=text, stdout=to, check=True)
-        return time.perf_counter() - start
+        child = subprocess.Popen(words, stdin=text, stdout=to)
+        _, status, used = os.wait4(child.pid, 0)
+        child.returncode = status
+        if status != 0:
+            sys.exit(f'{words}: status {status}')
+        return used.ru_utime + used.ru_stime
 
 def peak(words, capture):
     high = 0
@@ -86,7 +91,7 @@ for name, exchanges in (('PLAY and ACK', lambda turn: PLAY), ('mixed traffic', m
     write(capture, exchanges)
     check, explain, run = [program, 'check'], [program, 'explain'], [program, 'run']
     runs = [(seconds(check, capture, '/dev/null'), seconds([reader], capture, '/dev/null'),
-             seconds(explain, capture, f'{work}/lines'), seconds(run, capture, f'{work}/lines')) for _ in range(5)]
+             seconds(explain, capture, f'{work}/lines'), seconds(run, capture, f'{work}/lines')) for _ in range(int(turns))]
     judged, read, told, found = (min(column) for column in zip(*runs))
     print(f'{name}: check {judged:.3f} s, reading {read:.3f} s, ratio {judged / read:.2f}; '
           f'explain {told:.3f} s, ratio to check {told / judged:.2f}; '
