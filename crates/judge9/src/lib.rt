@@ -14,8 +14,6 @@ mod pieces;
 mod run_judging;
 mod run_text;
 mod run_verdict;
-#[cfg(test)]
-mod tests;
 mod trail;
 mod verdict;
 mod verdict_line;

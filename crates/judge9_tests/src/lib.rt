@@ -1,4 +1,4 @@
-//! Tests of the runs that `judge9` hands out, checks and writes, by its public calls alone.
+//! Tests of what `judge9` answers and writes, and of the runs that it hands out and checks, by its public calls alone.
 //!
 //! They stand in a crate of their own, so that judging is proved, and its must-fail edits are tried, without waiting
 //! for them. Nothing but tests is here.

@@ -1,19 +1,28 @@
-//! Captures and the runs that are handed out with a yes, with values from the protocol's rules, by hand.
+//! Captures and what is answered to them, with values from the protocol's rules, by hand.
+mod captures;
 mod changed;
+mod deck;
 mod drawn;
+mod explained;
+mod hostile;
+mod lines;
 mod long;
 mod parts;
+mod readers;
 mod run_lines;
 mod runs;
-mod tables;
+mod texts;
 mod worked;
 mod writers;
 
 use changed::refuse_changes;
-use judge9::{RunVerdict, Verdict, View, is_run, judge, judge_with_run};
+use judge9::{JudgeError, RunVerdict, Verdict, View, is_run, judge, judge_with_run};
 use std::alloc::{AllocError, Global};
 use std::fmt::Write;
+use std::io::Read;
 use std::process::Abort;
+use std::test::Fail;
+use texts::HEADER;
 use track9::Hands;
 use writers::Narrow;
 
@@ -29,7 +38,7 @@ impl Tap {
     /// A capture without records.
     fn new(alloc: Global) -> Result<Tap, AllocError> {
         Ok(Tap {
-            text: String::from_str(alloc, "time_us,wire,byte\n")?,
+            text: String::from_str(alloc, HEADER)?,
             time: 0,
             is_deck: false,
         })
@@ -59,6 +68,67 @@ fn capture(alloc: Global, parts: &[&str]) -> Result<String, AllocError> {
     Ok(tap.text)
 }
 
+/// What is answered, and what is written, where a verdict is asked for and nobody touches the panel.
+fn answer_and_text<R: Read + Drop>(
+    alloc: Global,
+    reader: R,
+) -> (Result<Verdict, JudgeError>, Vec<u8>) {
+    report(alloc, reader, View::Verdict, Hands::None)
+}
+
+/// What is answered, and what is written.
+fn report<R: Read + Drop>(
+    alloc: Global,
+    reader: R,
+    view: View,
+    hands: Hands,
+) -> (Result<Verdict, JudgeError>, Vec<u8>) {
+    let mut writer = Narrow::roomy(alloc);
+    let answer = judge(alloc, reader, &mut writer, view, hands);
+    (answer, writer.into_taken())
+}
+
+/// Compares all that is written of a capture with these lines, and tells its run. Answers whether it is a yes.
+fn tell_lines(
+    rt: &impl Abort,
+    alloc: Global,
+    text: &str,
+    view: View,
+    hands: Hands,
+    lines: &str,
+) -> Result<bool, AllocError> {
+    let (_, written) = report(alloc, text.as_bytes(), view, hands);
+    assert_eq!(rt; written.as_slice(), lines.as_bytes(), "{text}");
+    tell(rt, alloc, text, hands)
+}
+
+/// Explains a capture of these exchanges, compares all that is written, and tells its run.
+fn tell_explained(
+    rt: &impl Abort,
+    alloc: Global,
+    hands: Hands,
+    parts: &[&str],
+    lines: &str,
+) -> Result<(), Fail> {
+    let text = capture(alloc, parts)?;
+    tell_lines(rt, alloc, text.as_str(), View::Explain, hands, lines)?;
+    Ok(())
+}
+
+/// Compares the line of the verdict on a capture, where nobody touches the panel, and tells its run. What a deck gives
+/// that nobody touches, one gives too that somebody may touch.
+fn tell_untouched(
+    rt: &impl Abort,
+    alloc: Global,
+    text: &str,
+    line: &str,
+) -> Result<(), AllocError> {
+    if tell_lines(rt, alloc, text, View::Verdict, Hands::None, line)? {
+        tell_lines(rt, alloc, text, View::Verdict, Hands::Allowed, line)?;
+    }
+    Ok(())
+}
+
 /// Judges a capture with a run. The verdict has to be that of `judge`, and where it is a yes, the run has to be one,
 /// and none after changes that no run has. Answers whether it is a yes.
 fn tell(rt: &impl Abort, alloc: Global, text: &str, hands: Hands) -> Result<bool, AllocError> {
@@ -69,8 +139,7 @@ fn tell(rt: &impl Abort, alloc: Global, text: &str, hands: Hands) -> Result<bool
 
 /// Compares the verdict with that of `judge`.
 fn tell_verdict(rt: &impl Abort, alloc: Global, text: &str, hands: Hands, run: &RunVerdict) {
-    let mut writer = Narrow::roomy(alloc);
-    let verdict = judge(alloc, text.as_bytes(), &mut writer, View::Verdict, hands);
+    let (verdict, _) = report(alloc, text.as_bytes(), View::Verdict, hands);
     assert!(rt; verdict == Ok(verdict_of(run)), "{text}");
 }
 

@@ -2,6 +2,7 @@
 
 use super::capture;
 use super::parts::*;
+use super::texts::PLAYED_AND_BAD;
 use block9::Reason;
 use capture9::{CaptureError, CaptureKind};
 use judge9::{JudgeError, RunVerdict, is_run, judge_with_run};
@@ -9,13 +10,6 @@ use std::alloc::{AllocError, Global};
 use std::process::Abort;
 use std::test::Fail;
 use track9::{Hands, Mode, State};
-
-/// FAST FORWARD and PLAY, and the mode after each.
-const WOUND_AND_PLAYED: &[&str] = &[REMOTE, FAST_FORWARD, SHOWS_FF, PLAY, SHOWS_STOP];
-
-/// PLAY and its acknowledgement, and a row whose byte is none.
-const BAD_ROW: &str =
-    "time_us,wire,byte\n400,C,20\n800,C,01\n1200,C,21\n1600,D,10\n2000,D,01\n2400,D,11\n2800,C,G1\n";
 
 /// What is answered to a capture of a deck that nobody touches.
 fn answer(rt: &impl Abort, alloc: Global, parts: &[&str]) -> Result<RunVerdict, AllocError> {
@@ -59,7 +53,7 @@ fn tell_modes(rt: &impl Abort, states: &[State]) {
 
 #[test]
 fn wound_and_played(rt: HostRuntime) -> Result<(), Fail> {
-    let mut run = answer(&rt, rt.alloc(), WOUND_AND_PLAYED)?;
+    let mut run = answer(&rt, rt.alloc(), &WOUND_AND_PLAYED)?;
     tell_wound_and_played(&rt, &mut run);
     Ok(())
 }
@@ -79,7 +73,7 @@ fn an_open_command_alone(rt: HostRuntime) -> Result<(), Fail> {
 
 #[test]
 fn a_bad_row(rt: HostRuntime) {
-    let answer = judge_with_run(rt.alloc(), BAD_ROW.as_bytes(), Hands::None);
+    let answer = judge_with_run(rt.alloc(), PLAYED_AND_BAD.as_bytes(), Hands::None);
     let fault = CaptureError {
         kind: CaptureKind::Byte,
         row: 7,

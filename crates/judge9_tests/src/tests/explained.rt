@@ -1,24 +1,14 @@
 //! Explanations: a line for each exchange, and the verdict.
 
-use super::deck::{AUDIO_IN_10, AUDIO_PRESET_10, DISABLE, PRESET_10, REMOTE};
-use super::{capture, report};
-use crate::View;
-use std::alloc::Global;
-use std::process::Abort;
+use super::parts::*;
+use super::{report, tell_explained};
+use judge9::View;
 use std::test::Fail;
 use track9::Hands;
 
-/// FAST FWD and PLAY in a remote deck, each with the mode that it shows then.
-pub(super) const FAST_FORWARD: [&str; 5] = [
-    REMOTE,
-    "C 20 10 30 D 10 01 11",
-    "C 61 20 12 93 D 72 20 04 00 96",
-    "C 20 01 21 D 10 01 11",
-    "C 61 20 12 93 D 72 20 20 00 B2",
-];
-
-/// What is told of it. The last goal is unknown: the deck may have reached PLAY and fallen to STOP in one drift.
-pub(super) const FAST_FORWARD_LINES: &str = "\
+/// What is told of a deck that winds on and plays. The last goal is unknown: the deck may have reached PLAY and fallen to
+/// STOP in one drift.
+pub(super) const WOUND_AND_PLAYED_LINES: &str = "\
 record 8: STATUS SENSE -> 71 20, delay 400, goal unknown, shown unknown, in unknown, out unknown, local no, ain unknown, aout unknown
 record 14: FAST FWD -> ACK, delay 400, goal FF, shown unknown, in unknown, out unknown, local no, ain unknown, aout unknown
 record 23: STATUS SENSE -> 72 20, delay 400, goal FF, shown FF, in unknown, out unknown, local no, ain unknown, aout unknown
@@ -27,38 +17,24 @@ record 38: STATUS SENSE -> 72 20, delay 400, goal unknown, shown STOP, in unknow
 yes: records 38, exchanges 5, open 0
 ";
 
-/// Explains a capture, and compares all that was written.
-fn agrees(
-    rt: &impl Abort,
-    alloc: Global,
-    hands: Hands,
-    parts: &[&str],
-    lines: &str,
-) -> Result<(), Fail> {
-    let text = capture(alloc, parts)?;
-    let (_, written) = report(alloc, text.as_bytes(), View::Explain, hands);
-    assert_eq!(rt; written.as_slice(), lines.as_bytes());
-    Ok(())
-}
-
 #[test]
 fn each_exchange_has_its_line(rt: HostRuntime) -> Result<(), Fail> {
-    agrees(
+    tell_explained(
         &rt,
         rt.alloc(),
         Hands::None,
-        &FAST_FORWARD,
-        FAST_FORWARD_LINES,
+        &WOUND_AND_PLAYED,
+        WOUND_AND_PLAYED_LINES,
     )
 }
 
 #[test]
 fn a_command_that_is_not_listed(rt: HostRuntime) -> Result<(), Fail> {
-    agrees(
+    tell_explained(
         &rt,
         rt.alloc(),
         Hands::None,
-        &["C 20 40 60 D 10 01 11"],
+        &[UNLISTED],
         "\
 record 6: 20 40 -> ACK, delay 400, goal unknown, shown unknown, in unknown, out unknown, local unknown, ain unknown, aout unknown
 yes: records 6, exchanges 1, open 0
@@ -68,12 +44,11 @@ yes: records 6, exchanges 1, open 0
 
 #[test]
 fn a_register_that_may_be_clear(rt: HostRuntime) -> Result<(), Fail> {
-    let sense = "C 60 10 70 D 74 10 00 00 00 05 89";
-    agrees(
+    tell_explained(
         &rt,
         rt.alloc(),
         Hands::None,
-        &["C 40 10 50 D 10 01 11", sense, sense],
+        &[IN_ENTRY, IN_05, IN_05],
         "\
 record 6: IN ENTRY -> ACK, delay 400, goal unknown, shown unknown, in unknown, out unknown, local unknown, ain unknown, aout unknown
 record 16: IN DATA SENSE -> 74 10, delay 400, goal unknown, shown unknown, in unknown, out unknown, local unknown, ain unknown, aout unknown
@@ -85,17 +60,11 @@ yes: records 26, exchanges 3, open 0
 
 #[test]
 fn no_line_for_the_exchange_that_breaks(rt: HostRuntime) -> Result<(), Fail> {
-    let parts = [
-        REMOTE,
-        PRESET_10,
-        "C 44 14 00 00 00 11 69 D 11 12 01 24",
-        "C 60 10 70 D 74 10 00 00 00 11 95",
-    ];
-    agrees(
+    tell_explained(
         &rt,
         rt.alloc(),
         Hands::None,
-        &parts,
+        &[REMOTE, PRESET_10, REFUSED_11, IN_11],
         "\
 record 8: STATUS SENSE -> 71 20, delay 400, goal unknown, shown unknown, in unknown, out unknown, local no, ain unknown, aout unknown
 record 18: IN DATA PRESET -> ACK, delay 400, goal unknown, shown unknown, in 10:00:00:00, out unknown, local no, ain unknown, aout unknown
@@ -107,29 +76,33 @@ no at record 39: M1 no run remains
 
 #[test]
 fn a_register_that_is_set_somewhere(rt: HostRuntime) -> Result<(), Fail> {
-    let shift = "C 40 18 58 D 10 01 11";
-    let parts = [
-        "C 61 20 04 85 D 74 20 01 20 00 01 B6",
-        "C 60 10 70 D 74 10 00 00 00 10 94",
-        shift,
-    ];
-    agrees(
+    tell_explained(
         &rt,
         rt.alloc(),
         Hands::None,
-        &parts,
+        &[
+            IN_SET_LOCAL,
+            IN_10,
+            SHIFT_MORE,
+            SHIFT_MORE,
+            SHIFT_MORE,
+            IN_10_TWO_ON,
+        ],
         "\
 record 11: STATUS SENSE -> 74 20, delay 400, goal unknown, shown STOP, in set, out clear, local yes, ain clear, aout clear
 record 21: IN DATA SENSE -> 74 10, delay 400, goal unknown, shown unknown, in 10:00:00:00, out clear, local yes, ain clear, aout clear
 record 27: IN SHIFT + -> ACK, delay 400, goal unknown, shown unknown, in set, out clear, local yes, ain clear, aout clear
-yes: records 27, exchanges 3, open 0
+record 33: IN SHIFT + -> ACK, delay 400, goal unknown, shown unknown, in set, out clear, local yes, ain clear, aout clear
+record 39: IN SHIFT + -> ACK, delay 400, goal unknown, shown unknown, in set, out clear, local yes, ain clear, aout clear
+record 49: IN DATA SENSE -> 74 10, delay 400, goal unknown, shown unknown, in 10:00:00:02, out clear, local yes, ain clear, aout clear
+yes: records 49, exchanges 6, open 0
 ",
     )
 }
 
 #[test]
 fn an_audio_register(rt: HostRuntime) -> Result<(), Fail> {
-    agrees(
+    tell_explained(
         &rt,
         rt.alloc(),
         Hands::None,
@@ -155,12 +128,11 @@ fn a_bad_row_has_the_lines_before_it_and_no_verdict(rt: HostRuntime) {
 
 #[test]
 fn the_panel_is_told_where_hands_are_allowed(rt: HostRuntime) -> Result<(), Fail> {
-    let sense = "C 60 10 70 D 74 10 00 00 00 11 95";
-    agrees(
+    tell_explained(
         &rt,
         rt.alloc(),
         Hands::Allowed,
-        &[DISABLE, REMOTE, PRESET_10, "C 00 1D 1D D 10 01 11", sense],
+        &[DISABLE, REMOTE, PRESET_10, ENABLE, IN_11],
         "\
 record 6: LOCAL DISABLE -> ACK, delay 400, goal unknown, shown unknown, in unknown, out unknown, local unknown, ain unknown, aout unknown, panel off
 record 14: STATUS SENSE -> 71 20, delay 400, goal unknown, shown unknown, in unknown, out unknown, local no, ain unknown, aout unknown, panel off
@@ -170,7 +142,7 @@ record 40: IN DATA SENSE -> 74 10, delay 400, goal unknown, shown unknown, in un
 yes: records 40, exchanges 5, open 0
 ",
     )?;
-    agrees(
+    tell_explained(
         &rt,
         rt.alloc(),
         Hands::Allowed,

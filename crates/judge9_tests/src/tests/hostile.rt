@@ -1,12 +1,14 @@
 //! Texts that can't be read, and readers and writers that fail.
 
-use super::explained::{FAST_FORWARD, FAST_FORWARD_LINES};
+use super::explained::WOUND_AND_PLAYED_LINES;
+use super::parts::WOUND_AND_PLAYED;
 use super::readers::{Cut, Plays, Repeated};
+use super::texts::{HEADER, PLAYED, PLAYED_AND_BAD, PLAYED_AND_CUT, WRONG_SUM};
 use super::writers::{Narrow, Then};
-use super::{HEADER, PLAY, WRONG_SUM, answer_and_text, capture, report};
-use crate::{JudgeError, Verdict, View, judge};
+use super::{answer_and_text, capture, report};
 use block9::Reason;
 use capture9::{CaptureError, CaptureKind};
+use judge9::{JudgeError, Verdict, View, judge};
 use std::test::Fail;
 use track9::Hands;
 
@@ -32,11 +34,7 @@ fn each_kind_of_unreadable_text(rt: HostRuntime) {
             1,
         ),
         (b"time_us,wire,byte\n400,c,20\n", CaptureKind::Wire, 1),
-        (
-            b"time_us,wire,byte\n400,C,20\n800,C,01\n1200,C,21\n1600,D,10\n2000,D,01\n2400,D,11\n2800,C,G1\n",
-            CaptureKind::Byte,
-            7,
-        ),
+        (PLAYED_AND_BAD.as_bytes(), CaptureKind::Byte, 7),
         (
             b"time_us,wire,byte\n800,C,20\n400,C,01\n",
             CaptureKind::Backwards,
@@ -71,9 +69,11 @@ fn no_row_is_read_after_the_break(rt: HostRuntime) {
 #[test]
 fn readers_that_fail(rt: HostRuntime) {
     // At once; inside row 4; after row 6, inside row 7.
-    let more =
-        "time_us,wire,byte\n400,C,20\n800,C,01\n1200,C,21\n1600,D,10\n2000,D,01\n2400,D,11\n2800,C";
-    for (text, left, row) in [(PLAY, 0, 0), (PLAY, 52, 4), (more, more.len(), 7)] {
+    for (text, left, row) in [
+        (PLAYED, 0, 0),
+        (PLAYED, 52, 4),
+        (PLAYED_AND_CUT, PLAYED_AND_CUT.len(), 7),
+    ] {
         let (answer, written) = answer_and_text(rt.alloc(), Cut::new(text, left));
         assert!(rt; answer == refused(CaptureKind::Read, row), "at row {row}");
         assert!(rt; written.is_empty());
@@ -106,7 +106,7 @@ fn writers_that_stop(rt: HostRuntime) {
             let mut writer = Narrow::new(rt.alloc(), room, then);
             let answer = judge(
                 rt.alloc(),
-                PLAY.as_bytes(),
+                PLAYED.as_bytes(),
                 &mut writer,
                 View::Verdict,
                 Hands::None,
@@ -118,7 +118,7 @@ fn writers_that_stop(rt: HostRuntime) {
     let mut writer = Narrow::new(rt.alloc(), line.len(), Then::Fail);
     let answer = judge(
         rt.alloc(),
-        PLAY.as_bytes(),
+        PLAYED.as_bytes(),
         &mut writer,
         View::Verdict,
         Hands::None,
@@ -129,15 +129,13 @@ fn writers_that_stop(rt: HostRuntime) {
 
 #[test]
 fn lines_before_a_reader_fails(rt: HostRuntime) {
-    let more =
-        "time_us,wire,byte\n400,C,20\n800,C,01\n1200,C,21\n1600,D,10\n2000,D,01\n2400,D,11\n2800,C";
-    let reader = Cut::new(more, more.len());
+    let reader = Cut::new(PLAYED_AND_CUT, PLAYED_AND_CUT.len());
     let (answer, written) = report(rt.alloc(), reader, View::Explain, Hands::None);
     assert!(rt; answer == refused(CaptureKind::Read, 7));
     let line =
         b"record 6: PLAY -> ACK, delay 400, goal unknown, shown unknown, in unknown, out unknown, local unknown, ain unknown, aout unknown\n";
     assert_eq!(rt; written.as_slice(), line.as_slice());
-    let reader = Cut::new(PLAY, 52);
+    let reader = Cut::new(PLAYED, 52);
     let (answer, written) = report(rt.alloc(), reader, View::Explain, Hands::None);
     assert!(rt; answer == refused(CaptureKind::Read, 4));
     assert!(rt; written.is_empty());
@@ -145,8 +143,8 @@ fn lines_before_a_reader_fails(rt: HostRuntime) {
 
 #[test]
 fn writers_that_stop_in_an_explanation(rt: HostRuntime) -> Result<(), Fail> {
-    let text = capture(rt.alloc(), &FAST_FORWARD)?;
-    let lines = FAST_FORWARD_LINES.as_bytes();
+    let text = capture(rt.alloc(), &WOUND_AND_PLAYED)?;
+    let lines = WOUND_AND_PLAYED_LINES.as_bytes();
     for room in 0..lines.len() {
         let mut writer = Narrow::new(rt.alloc(), room, Then::Fail);
         let answer = judge(
