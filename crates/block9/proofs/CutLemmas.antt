@@ -27,10 +27,6 @@ last_apart t c d r e some =
     let same = same_from_push t (c ++ front) r parts.0 whole in
     (front, parts.1 ∙ ap (λ (x : LineByte). front ++ x ∷ []) (sym same.1), same.0)
 
--- the first record of a list stays the first
-pub first_time-push : (a : LineByte) (rest : List LineByte) (r : LineByte) → first_time ((a ∷ rest) ++ r ∷ []) ≡ first_time (a ∷ rest)
-first_time-push a rest r = refl
-
 -- a tail without its last record is a tail, and the record broke no rule
 pub tail_less : (t : List LineByte) (r : LineByte) → IsTail (t ++ r ∷ []) → IsTail t × (pairing t r ≡ None)
 tail_less t r (nothing e) = absurd (let n = length_push t r in let m : length (t ++ r ∷ []) ≡ 0 = ap length e in omega arith)

@@ -262,13 +262,6 @@ reason_table t r x tail later h =
 pub none_holds : (t : List LineByte) (r : LineByte) → pairing t r ≡ None → (y : Reason) → Holds y t r → ⊥
 none_holds t r h y k = let f = found y t r k in let both : None ≡ Some f.reason = sym h ∙ f.found in cc
 
-pub holds_none : (t : List LineByte) (r : LineByte) → IsTail t → last_time t ≤ r.time_us → ((y : Reason) → Holds y t r → ⊥) → pairing t r ≡ None
-holds_none t r tail later none = by (pairing t r) refl
-  where
-    by : (o : Option Reason) → pairing t r ≡ o → pairing t r ≡ None
-    by None e = e
-    by (Some x) e = absurd (none x (table_holds t r x tail later e))
-
 -- ---- what the crates above cite
 
 -- at most one reason

@@ -15,11 +15,6 @@ spelled_parts bytes body last b e h =
     let same = same_from_push body (body_of b) last (sum (body_of b) % 256) (sym e ∙ h.spelled) in
     (same.0, same.1 ∙ ap (λ (xs : List ℕ). sum xs % 256) (sym same.0))
 
-pub not_alone : (bytes body : List ℕ) (last : ℕ) (b : Block) → bytes ≡ body ++ last ∷ [] → length body ≡ 0 → Spells bytes b → ⊥
-not_alone bytes body last b e n h =
-    let same : length body ≡ length (body_of b) = ap length (spelled_parts bytes body last b e h).0 in
-    absurd (omega arith)
-
 pub spelled_len : (bytes body : List ℕ) (last first : ℕ) (b : Block) → bytes ≡ body ++ last ∷ [] → Some first ≡ slice_get body 0 → Spells bytes b → length body ≡ first % 16 + 2
 spelled_len bytes [] last first b e f h = cc
 spelled_len bytes (a ∷ body) last first b e f h =

@@ -1,8 +1,7 @@
 -- Where the judging of a text stands that keeps its trail, and what it tells at each of its ends.
-use Rattle.std.proofs.Common.{◌≡◌, ◌≢◌, ◌∙◌, IsTrue, ◌↔◌, Bool, true, false, ℕ, ◌+◌, List, [], ◌∷◌, ◌++◌, length, Option, Some, None, Result, Ok, Err, refl, sym, ap, subst, arith}
-use Rattle.std.proofs.lemmas.List.{append-nil, length_push}
+use Rattle.std.proofs.Common.{◌≡◌, ◌≢◌, ◌∙◌, IsTrue, ◌↔◌, Bool, false, ℕ, ◌+◌, List, [], ◌∷◌, ◌++◌, length, Option, None, Result, Ok, Err, refl, sym, ap, subst}
+use Rattle.std.proofs.lemmas.List.{append-nil}
 use Rattle.std.specs.Bool.{⊤}
-use Rattle.std.specs.Option.{IfSome}
 use Rattle.capture9.specs.declared.error.CaptureError.{CaptureError}
 use Rattle.capture9.specs.declared.line_byte.LineByte.{LineByte}
 use Rattle.capture9.specs.Records.{GivesEnd, GivesRecord, GivesRefusal, Progress}
@@ -29,7 +28,7 @@ use Rattle.judge9.specs.declared.verdict.Verdict.TheVariants.{Yes, No}
 use Rattle.judge9.specs.declared.verdict.View.TheVariants as view
 use Rattle.judge9.specs.Error.{refusal_of}
 use Rattle.run9.specs.Run.{IsRun}
-use Rattle.judge9.specs.RunVerdict.{HasItsRun, IsJudgedRun}
+use Rattle.judge9.specs.RunVerdict.{IsJudgedRun}
 use Rattle.judge9.specs.Verdict.{CanBeVerdict}
 use Rattle.judge9.specs.Working.Trail.{Follows, IsTrail, JudgesRun}
 use Rattle.judge9.proofs.BreakLemmas.{judges-break, judges-no_run}
@@ -78,11 +77,6 @@ with-exchange hands rows progress after paired next tracked observed es more tra
   same = ap (λ (l : List Exchange). l ++ e ∷ []) w.same ∙ sym pushed;
   trail = trail;
 }
-
--- the tracker follows the exchanges of the trail
-pub with_follows : {R : Type 0} (hands : Hands) (rows : Option Rows) (progress : Progress R) (paired : Paired) (tracked : Tracked) (es : List Exchange) (trackers : List Tracked) (n : ℕ) → WithTrail hands rows progress paired tracked es trackers n → Follows tracked.hands es tracked
-with_follows hands rows progress paired tracked es trackers n w =
-    subst (λ (h : Hands). Follows h es tracked) (sym w.so_far.follows.hands) (subst (λ (l : List Exchange). Follows hands l tracked) w.same w.so_far.follows)
 
 pub with_state : {R : Type 0} (hands : Hands) (rows : Option Rows) (progress : Progress R) (paired : Paired) (tracked : Tracked) (es : List Exchange) (trackers : List Tracked) (n : ℕ) → WithTrail hands rows progress paired tracked es trackers n → (s : State) × Possible tracked.states s
 with_state hands rows progress paired tracked es trackers n w =
@@ -156,6 +150,3 @@ pub run-nothing : (hands : Hands) (rows : Option Rows) → IsJudgedRun hands row
 run-nothing hands rows =
     let told = told-nothing view.Verdict hands rows None in
     record { rows = told.rows; is_known = told.is_known; answer = tt; run = tt }
-
-pub run_told : (hands : Hands) (rows : Option Rows) (r : Result RunVerdict JudgeError) → JudgesRun hands rows r → IsJudgedRun hands rows r
-run_told hands rows r j = record { rows = j.judges.told.rows; is_known = j.judges.told.is_known; answer = j.judges.told.answer; run = j.run }

@@ -1,6 +1,6 @@
 -- The lines of a run, written one after another.
 use Rattle.std.proofs.Common.{◌≡◌, ◌⊎◌, inl, inr, ℕ, ◌+◌, ◌∙◌, List, [], ◌∷◌, ◌++◌, Option, refl, sym, ap, subst, append_assoc}
-use Rattle.std.proofs.KnownBytes.{Appends-nil, Appends-trans}
+use Rattle.std.proofs.KnownBytes.{Appends-trans}
 use Rattle.std.proofs.lemmas.List.{append-nil}
 use Rattle.std.specs.Io.KnownBytes.{Appends}
 use Rattle.block9.specs.declared.pairer.Exchange.{Exchange}
@@ -16,14 +16,6 @@ pub record LinesSoFar (hands : Hands) (exchanges : List Exchange) (states : List
   pub text : List ℕ
   pub written : Appends old now text
   pub rest : lines_of_run hands 0 exchanges states ≡ text ++ lines_of_run hands at es ss
-
--- before the first
-pub lines-start : (hands : Hands) (exchanges es : List Exchange) (states ss : List State) (old : Option (List ℕ)) → es ≡ exchanges → ss ≡ states → LinesSoFar hands exchanges states es ss 0 old old
-lines-start hands exchanges es states ss old first second = record {
-  text = [];
-  written = Appends-nil old;
-  rest = ap (λ l. lines_of_run hands 0 l states) (sym first) ∙ ap (λ l. lines_of_run hands 0 es l) (sym second);
-}
 
 -- the text is what was written, the next line and what comes after it
 split-next : (hands : Hands) (exchanges left es : List Exchange) (states later ss : List State) (e : Exchange) (s : State) (at n : ℕ) (old now : Option (List ℕ)) → (h : LinesSoFar hands exchanges states left later at old now)

@@ -1,6 +1,6 @@
 -- The way back from the end of a capture to a run of the deck, stretch by stretch.
-use Rattle.std.proofs.Common.{◌≡◌, ◌↔◌, ◌⊎◌, inl, inr, ℕ, ◌+◌, ◌*◌, ◌<◌, ◌≤◌, ◌∙◌, List, [], ◌∷◌, ◌++◌, length, reverse, take, drop, slice_range, ◌-◌, Option, Some, Result, Ok, Err, IfOk, OnOk, zero, suc, slice_get, refl, sym, ap, subst, arith}
-use Rattle.std.proofs.lemmas.List.{append_assoc, append-nil, drop-take, length_push, reverse-append, reverse-reverse, take-append-drop, take-append-le, take_all, take-take}
+use Rattle.std.proofs.Common.{◌≡◌, ◌⊎◌, inl, inr, ℕ, ◌+◌, ◌*◌, ◌<◌, ◌≤◌, ◌∙◌, List, [], ◌∷◌, ◌++◌, length, reverse, take, drop, slice_range, ◌-◌, Some, Result, Ok, Err, IfOk, OnOk, zero, suc, slice_get, refl, sym, ap, subst, arith}
+use Rattle.std.proofs.lemmas.List.{append_assoc, append-nil, drop-take, length_push, reverse-append, take-append-drop, take-append-le, take_all, take-take}
 use Rattle.block9.specs.declared.pairer.Exchange.{Exchange}
 use Rattle.track9.specs.declared.state.Hands.{Hands}
 use Rattle.track9.specs.declared.state.State.{State}
@@ -9,7 +9,6 @@ use Rattle.track9.specs.State.{IsFirst}
 use Rattle.track9.specs.Step.{AreReached, Exchanges}
 use Rattle.track9.specs.Tracker.{Possible, Tracked}
 use Rattle.track9.proofs.RunLemmas.{ends_more}
-use Rattle.run9.specs.Run.{IsRun}
 use Rattle.judge9.specs.Working.Trail.{Follows, GoesBack, IsTrail, Leads}
 
 -- ---- where exchanges lead
@@ -46,9 +45,6 @@ last_joined s (t ∷ ts) us = last_joined t ts us
 
 -- ---- going back
 
-pub back-none : (h : Hands) (X : State → Type 0) (end : State) (old : List State) → X end → GoesBack h X [] end old old end
-back-none h X end old x = record { from = x; after = []; is_run = tt; is_end = refl; put = sym (append-nil old) }
-
 -- through one exchange more
 pub back-more : (h : Hands) (X Y : State → Type 0) (e : Exchange) (es : List Exchange) (end u s : State) (old mid new : List State) → GoesBack h Y es end old mid u → X s → Exchanges h e.command e.reply s u → new ≡ mid ++ u ∷ [] → GoesBack h X (e ∷ es) end old new s
 back-more h X Y e es end u s old mid new g x goes put = record {
@@ -72,12 +68,6 @@ back-joined h X Y es fs end s r old mid new g b = record {
   is_end = last_joined r b.after g.after ∙ ap (λ (x : State). last_state x g.after) b.is_end ∙ g.is_end;
   put = b.put ∙ ap (λ (l : List State). l ++ reverse b.after) g.put ∙ append_assoc old (reverse g.after) (reverse b.after) ∙ ap (λ (l : List State). old ++ l) (sym (reverse-append b.after g.after));
 }
-
--- what was put is a run, the last state first
-pub back_is_run : (h : Hands) (es : List Exchange) (end s : State) (new : List State) → GoesBack h (IsFirst h) es end [] new s → IsRun h es (reverse new)
-back_is_run h es end s new g =
-    let same : reverse new ≡ g.after = ap reverse g.put ∙ reverse-reverse g.after in
-    (s, g.from, subst (λ (l : List State). IsRunFrom h s es l) (sym same) g.is_run)
 
 -- ---- the trail
 

@@ -23,20 +23,13 @@ use Rattle.track9.proofs.GoalLemmas.{GoesFor, goal_reached}
 use Rattle.track9.proofs.PanelLemmas.{panel_reached}
 use Rattle.track9.proofs.PartLemmas.{put_local, put_panel, read_put}
 use Rattle.track9.specs.Working.Codes.{is_allowed}
-use Rattle.track9.proofs.ReachLemmas.{Keeps, ReachedIn, by_mapped_parts, by_parts, in_live, reached_as, reached_by, reached_same}
+use Rattle.track9.proofs.ReachLemmas.{Keeps, ReachedIn, by_mapped_parts, by_parts, in_live, reached_as, reached_by}
 use Rattle.track9.proofs.WholeLemmas.{whole_all, whole_change, whole_forgotten, whole_goal, whole_if, whole_live, whole_mapped, whole_none, whole_of}
 
 -- ---- none
 
 never : {P : Type 0} → false ≡ true → P
 never h = absurd (false≢true h)
-
-pub has_none : (h : Hands) (v : StateSet) → AreWhole v → HasEffect h effect.Nothing v v
-has_none h v whole = record {
-  reached = reached_by (Possible v) (Possible v) (λ s t. t ≡ s) (DoesOrNot h effect.Nothing) (λ s t e. inl e) (λ s t d. elim d [ inl e ↦ e | inr (may, local, e) ↦ e ]) (reached_same (Possible v));
-  whole = whole;
-  few = λ n few. few;
-}
 
 -- ---- goals
 
@@ -150,13 +143,6 @@ has_change h r c v whole below after = record {
 }
 
 -- ---- the panel
-
-pub has_no_panel : (on : Bool) (v : StateSet) → AreWhole v → HasEffect hands.None (effect.Panel on) v v
-has_no_panel on v whole = record {
-  reached = reached_by (Possible v) (Possible v) (λ s t. t ≡ s) (DoesOrNot hands.None (effect.Panel on)) (λ s t e. inl e) (λ s t d. elim d [ inl e ↦ e | inr (may, local, e) ↦ e ]) (reached_same (Possible v));
-  whole = whole;
-  few = λ n few. few;
-}
 
 panel_whole : (on : Bool) (v : StateSet) → AreWhole v → AreWhole (after_panel on v)
 panel_whole true v whole = record {

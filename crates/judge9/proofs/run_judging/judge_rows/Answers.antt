@@ -4,7 +4,7 @@ use Rattle.track9.specs.declared.state.Hands.{Hands}
 use Rattle.judge9.specs.declared.run_verdict.RunVerdict.TheVariants as run
 use Rattle.block9.specs.declared.pairer.Exchange.{Exchange}
 use Rattle.judge9.specs.Working.Trail.{IsTrail, JudgesRun}
-use Rattle.judge9.proofs.RunJudging.{run-break, run-memory, run-no_run, run-refusal, run-yes, with-exchange, with-open, with-start, with_follows, with_state}
+use Rattle.judge9.proofs.RunJudging.{run-break, run-memory, run-no_run, run-refusal, run-yes, with-exchange, with-open, with-start, with_state}
 use Rattle.judge9.proofs.RunSteps.{follows-more, follows-start, run_remains}
 use Rattle.judge9.proofs.run_judging.judge_rows.Goals as goal
 

@@ -1,4 +1,4 @@
-use Rattle.std.proofs.Common.{◌≡◌, ◌*◌, ◌/◌, ◌<◌, ◌≤◌, length, Some, slice_get, refl, arith}
+use Rattle.std.proofs.Common.{◌*◌, ◌/◌, ◌<◌, length, refl, arith}
 use Rattle.std.proofs.lemmas.Option.{slice_get_read}
 use Rattle.judge9.proofs.TrailSteps.{back_by, stretch_from, stretch_leads}
 use Rattle.judge9.proofs.trail.+go_back.Goals as goal

@@ -1,4 +1,4 @@
-use Rattle.std.proofs.Common.{◌≡◌, ◌∷◌, ◌<◌, List, IfOk, length, ap, sym, subst, arith}
+use Rattle.std.proofs.Common.{◌≡◌, ◌∷◌, List, IfOk, length, ap, sym, subst, arith}
 use Rattle.block9.specs.declared.pairer.Exchange.{Exchange}
 use Rattle.track9.specs.declared.state.Hands.{Hands}
 use Rattle.track9.specs.Tracker.{Possible}
