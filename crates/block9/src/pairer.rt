@@ -118,6 +118,7 @@ fn turn_at(place: Place, tail: &[LineByte], line_byte: LineByte) -> Result<bool,
 
 /// The same at whatever place the tail stands. Each place has a call of its own, which is compiled for it alone: most
 /// records neither begin nor end a block, and are done after this.
+#[inline(always)]
 fn turn(tail: &[LineByte], line_byte: LineByte) -> Result<bool, Reason>
     requires { last_time tail.now ≤ line_byte.time_us }
     ensures ok { IfOk result (λ ends. IsTurn tail.now line_byte ends) }

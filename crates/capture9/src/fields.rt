@@ -54,6 +54,7 @@ pub(crate) fn is_header(row: &ByteRecord) -> bool
 
 /// The record of the data row with this number, after a row of the time `before`, or the first rule
 /// that the row breaks.
+#[inline(always)] // else each record is handed on through memory
 pub(crate) fn read_row(number: u32, before: u64, row: &ByteRecord) -> Result<LineByte, CaptureKind>
     ensures { result ≡ row_of number before (fields_of row.now) }
 {

@@ -142,6 +142,7 @@ impl<R: Read + Drop> Records<R> {
     }
 
     /// Reads the next CSV record, which is a data row.
+    #[inline(always)] // else each record is handed on through memory
     fn read_row(&mut self) -> Result<Option<LineByte>, CaptureError>
         requires reading { self.old.standing ≡ Standing.Reading }
         requires headed { self.old.is_headed ≡ true }
