@@ -155,42 +155,75 @@ fn tell_row<S: TimeSet>(rt: &impl Abort, tracker: &Tracker<S>, row: &Row) {
     }
 }
 
-fn tell_rows<S: TimeSet>(rt: &impl Abort, alloc: Global) -> Result<(), AllocError> {
-    let mut tracker: Tracker<S> = Tracker::new(alloc, Hands::None)?;
-    take_all(rt, &mut tracker, ONE_STATE)?;
+fn tell_rows<S: TimeSet>(rt: &impl Abort, tracker: &mut Tracker<S>) -> Result<(), AllocError> {
+    take_all(rt, tracker, ONE_STATE)?;
     for row in ROWS {
-        tell_row(rt, &tracker, row);
+        tell_row(rt, tracker, row);
     }
     Ok(())
 }
 
-/// Goes back from a state after the exchanges to one before them.
-fn go_back<S: TimeSet>(
+fn tell_rows_from_first<S: TimeSet>(rt: &impl Abort, alloc: Global) -> Result<(), AllocError> {
+    let mut tracker: Tracker<S> = Tracker::new(alloc, Hands::None)?;
+    tell_rows(rt, &mut tracker)
+}
+
+/// Takes an exchange, and keeps a snapshot of what was before it.
+fn keep<S: TimeSet>(
     rt: &impl Abort,
-    alloc: Global,
-    hands: Hands,
-    exchanges: &[Sent],
+    tracker: &mut Tracker<S>,
+    earlier: &mut Vec<Tracker<S>>,
+    sent: Sent,
 ) -> Result<(), AllocError> {
-    let mut tracker: Tracker<S> = Tracker::new(alloc, hands)?;
-    let mut earlier: Vec<Tracker<S>> = Vec::new(alloc);
-    for sent in exchanges {
-        earlier.push(tracker.snapshot()?)?;
-        assert!(rt; take(rt, &mut tracker, *sent)?, "{exchanges:?}");
-    }
-    let mut target = tracker.member().expect(rt, "a state");
+    earlier.push(tracker.snapshot()?)?;
+    assert!(rt; take(rt, tracker, sent)?, "{sent:?}");
+    Ok(())
+}
+
+/// Goes back by the snapshots from a state after the exchanges to one before them.
+fn follow_back<S: TimeSet>(
+    rt: &impl Abort,
+    earlier: &[Tracker<S>],
+    exchanges: &[Sent],
+    last: State,
+) {
+    let mut target = last;
     for (tracker, sent) in earlier.iter().rev().zip(exchanges.iter().rev()) {
         let (command, reply) = exchange(rt, *sent);
         target = tracker
             .before(&command, &reply, &target)
             .expect(rt, "a state before");
     }
+}
+
+fn go_back<S: TimeSet>(
+    rt: &impl Abort,
+    tracker: &mut Tracker<S>,
+    earlier: &mut Vec<Tracker<S>>,
+    exchanges: &[Sent],
+) -> Result<(), AllocError> {
+    for sent in exchanges {
+        keep(rt, tracker, earlier, *sent)?;
+    }
+    let last = tracker.member().expect(rt, "a state");
+    follow_back(rt, earlier.as_slice(), exchanges, last);
     Ok(())
 }
 
+fn go_back_to_first<S: TimeSet>(
+    rt: &impl Abort,
+    alloc: Global,
+    hands: Hands,
+    exchanges: &[Sent],
+) -> Result<(), AllocError> {
+    let mut tracker: Tracker<S> = Tracker::new(alloc, hands)?;
+    go_back(rt, &mut tracker, &mut Vec::new(alloc), exchanges)
+}
+
 fn tell_all<S: TimeSet>(rt: &impl Abort, alloc: Global) -> Result<(), AllocError> {
-    tell_rows::<S>(rt, alloc)?;
+    tell_rows_from_first::<S>(rt, alloc)?;
     for (hands, exchanges) in RUNS {
-        go_back::<S>(rt, alloc, *hands, exchanges)?;
+        go_back_to_first::<S>(rt, alloc, *hands, exchanges)?;
     }
     Ok(())
 }

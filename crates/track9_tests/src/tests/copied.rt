@@ -124,14 +124,25 @@ fn spans(rt: HostRuntime) -> Result<(), Fail> {
 }
 
 /// A snapshot has the counts of its time.
+fn tell_counts(
+    rt: &impl Abort,
+    tracker: &mut Tracker<SpanSet>,
+    snapshot: &Tracker<SpanSet>,
+) -> Result<(), AllocError> {
+    assert!(rt; take(rt, tracker, PRESET_11)?);
+    let presets = (
+        tracker.presets(Register::RegIn),
+        snapshot.presets(Register::RegIn),
+    );
+    assert_eq!(rt; presets, (2, 1));
+    assert_eq!(rt; snapshot.spans(Register::RegIn), 1);
+    Ok(())
+}
+
 fn copy_counts(rt: &impl Abort, tracker: &mut Tracker<SpanSet>) -> Result<(), AllocError> {
     take_all(rt, tracker, &[REMOTE, PRESET_10])?;
     let snapshot = tracker.snapshot()?;
-    assert!(rt; take(rt, tracker, PRESET_11)?);
-    assert_eq!(rt; tracker.presets(Register::RegIn), 2);
-    assert_eq!(rt; snapshot.presets(Register::RegIn), 1);
-    assert_eq!(rt; snapshot.spans(Register::RegIn), 1);
-    Ok(())
+    tell_counts(rt, tracker, &snapshot)
 }
 
 fn copy_counts_from_first(rt: &impl Abort, alloc: Global) -> Result<(), AllocError> {

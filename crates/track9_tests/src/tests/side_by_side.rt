@@ -150,9 +150,9 @@ fn agree(
 ) -> Result<bool, AllocError> {
     let remains = observe(rt, spans, command, reply)?;
     let listed = observe(rt, lists, command, reply)?;
-    assert_eq!(rt; listed, remains, "{command:?} {reply:?}");
-    assert_eq!(rt; spans.remains(), remains, "{command:?} {reply:?}");
-    assert_eq!(rt; lists.remains(), remains, "{command:?} {reply:?}");
+    let answers = (listed, spans.remains(), lists.remains());
+    let same = (remains, remains, remains);
+    assert_eq!(rt; answers, same, "{command:?} {reply:?}");
     if remains {
         let known_by_spans = known(rt, spans);
         let known_by_lists = known(rt, lists);
