@@ -94,9 +94,9 @@ fn agree(
 ) -> Result<bool, AllocError> {
     let remains = observe(rt, tracker, command, reply)?;
     deck.observe(command, reply)?;
-    assert_eq!(rt; tracker.remains(), remains, "{command:?} {reply:?}");
     let listed = deck.knowledge();
-    assert_eq!(rt; listed.is_some(), remains, "{command:?} {reply:?}");
+    let answers = (tracker.remains(), listed.is_some());
+    assert_eq!(rt; answers, (remains, remains), "{command:?} {reply:?}");
     if let Some(listed) = listed {
         let tracked = known_of(rt, tracker, registers);
         assert_eq!(rt; tracked, listed, "{command:?} {reply:?}");

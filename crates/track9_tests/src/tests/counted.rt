@@ -71,16 +71,8 @@ fn count(
 ) -> Result<(), AllocError> {
     take_all(rt, tracker, exchanges)?;
     for (register, spans, presets) in counts {
-        assert_eq!(rt;
-            tracker.spans(*register),
-            *spans,
-            "{register:?} {exchanges:?}"
-        );
-        assert_eq!(rt;
-            tracker.presets(*register),
-            *presets,
-            "{register:?} {exchanges:?}"
-        );
+        let counted = (tracker.spans(*register), tracker.presets(*register));
+        assert_eq!(rt; counted, (*spans, *presets), "{register:?} {exchanges:?}");
     }
     Ok(())
 }

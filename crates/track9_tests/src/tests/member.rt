@@ -81,10 +81,9 @@ fn tell_row<S: TimeSet>(
 ) -> Result<(), AllocError> {
     take_all(rt, tracker, row.exchanges)?;
     let state = tracker.member().expect(rt, "a state");
-    assert_eq!(rt; state.shown, row.shown, "{:?}", row.exchanges);
-    assert_eq!(rt; is_set(&state.ins), row.is_in_set, "{:?}", row.exchanges);
-    assert_eq!(rt; state.local, row.local, "{:?}", row.exchanges);
-    assert_eq!(rt; state.panel, row.panel, "{:?}", row.exchanges);
+    let told = (state.shown, is_set(&state.ins), state.local, state.panel);
+    let wanted = (row.shown, row.is_in_set, row.local, row.panel);
+    assert_eq!(rt; told, wanted, "{:?}", row.exchanges);
     Ok(())
 }
 
@@ -122,8 +121,8 @@ fn tell_only_and_none<S: TimeSet>(
         panel: false,
     };
     assert_eq!(rt; tracker.member(), Some(only));
-    assert!(rt; !take(rt, tracker, LOCAL)?);
-    assert_eq!(rt; tracker.member(), None);
+    let remains = take(rt, tracker, LOCAL)?;
+    assert_eq!(rt; (remains, tracker.member()), (false, None));
     Ok(())
 }
 

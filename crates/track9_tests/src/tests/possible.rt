@@ -27,8 +27,8 @@ fn judge<S: TimeSet>(
     assert!(rt; tracker.remains());
     let (last, before) = exchanges.split_last().expect(rt, "an exchange");
     take_all(rt, tracker, before)?;
-    assert_eq!(rt; take(rt, tracker, *last)?, remains, "{exchanges:?}");
-    assert_eq!(rt; tracker.remains(), remains, "{exchanges:?}");
+    let answers = (take(rt, tracker, *last)?, tracker.remains());
+    assert_eq!(rt; answers, (remains, remains), "{exchanges:?}");
     if !remains {
         stay_without(rt, tracker)?;
     }

@@ -125,12 +125,20 @@ fn spans(rt: HostRuntime) -> Result<(), Fail> {
 }
 
 /// Takes exchanges, and counts what they left.
+fn count_left(
+    rt: &impl Abort,
+    tracker: &mut Tracker<SpanSet>,
+    exchanges: &[Sent],
+) -> Result<Counts, AllocError> {
+    if !exchanges.is_empty() {
+        judge(rt, tracker, exchanges, true)?;
+    }
+    Ok(SpanSet::counts(tracker))
+}
+
 fn count_after(rt: &impl Abort, alloc: Global, exchanges: &[Sent]) -> Result<Counts, AllocError> {
     let mut tracker: Tracker<SpanSet> = tracker(alloc, Hands::None)?;
-    if !exchanges.is_empty() {
-        judge(rt, &mut tracker, exchanges, true)?;
-    }
-    Ok(SpanSet::counts(&tracker))
+    count_left(rt, &mut tracker, exchanges)
 }
 
 #[test]
