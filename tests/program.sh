@@ -324,7 +324,7 @@ cp ninecheck "$work/tree/ninecheck"
 echo 'a capture' > "$work/tree/crates/ninecheck/stdin"
 printf '#!/bin/sh\necho "not proved"\nexit 1\n' > "$work/bin/rt"
 chmod +x "$work/bin/rt"
-building='ninecheck: proving and building, which takes a few minutes'
+building='ninecheck: proving and building it first, which can take half an hour'
 PATH="$work/bin:$PATH" "$work/tree/ninecheck" < examples/play.csv > "$work/out" 2> "$work/err"
 status=$?
 expect 'a build that fails' 125 '' "$building
