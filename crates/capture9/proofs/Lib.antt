@@ -5,3 +5,4 @@ pub mod FieldFacts
 pub mod LawFacts
 pub mod RecordsFacts
 pub mod RowFacts
+pub mod RuleFacts

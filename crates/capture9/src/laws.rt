@@ -4,6 +4,7 @@ ghost use Rattle.std.specs.List.{All};
 ghost use Rattle.std.specs.List.Sorted.{IsNonDecreasingBy};
 ghost use Rattle.capture9.specs.Error.{IsAfter, is_of_text};
 ghost use Rattle.capture9.specs.Fields.{is_header};
+ghost use Rattle.capture9.specs.RowRules.{HasFirstPart};
 ghost use Rattle.capture9.specs.Rows.{HasHeader, rows_of};
 ghost use Rattle.csv.specs.Reading.{default_config, records, strip_bom};
 
@@ -30,4 +31,12 @@ pub fn fault_of_a_text()
         → IsTrue (is_of_text e.kind) }
     ensures place { (text : List ℕ) (e : CaptureError) → (rows_of text).fault ≡ Some e
         → IsAfter (rows_of text).records e }
+{}
+
+/// Behind its header a text holds the records that its longest first part of good rows spells, one each. Where a row
+/// is left, the text's fault is the first rule in order that this row breaks, and else there is none.
+pub fn longest_first_part()
+    ensures { (text : List ℕ) (header : List (List ℕ)) (rows : List (List (List ℕ)))
+        → records default_config (strip_bom text) ≡ header ∷ rows → is_header header ≡ true
+        → HasFirstPart rows (rows_of text) }
 {}

@@ -1,0 +1,7 @@
+-- What holds of every list of CSV records holds of those of a text.
+use Rattle.csv.specs.Reading.{default_config, records, strip_bom}
+use Rattle.capture9.proofs.RuleFacts.{first-part}
+use Rattle.capture9.proofs.laws.longest_first_part.Goals as goal
+
+pub returns : goal.returns
+returns c = λ text header rows same good. first-part header rows (records default_config (strip_bom text)) same good

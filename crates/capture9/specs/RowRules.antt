@@ -1,0 +1,72 @@
+-- The rules of a data row, each on its own, and the first rows of a text that keep them.
+use Rattle.std.specs.Prelude.{◌≡◌, ◌≢◌, ℕ, ◌+◌, ◌<◌, List, [], ◌∷◌, ◌++◌, length, All, Option, Some, None}
+use Rattle.capture9.specs.declared.error.CaptureError.{CaptureError}
+use Rattle.capture9.specs.declared.error.CaptureKind.{CaptureKind}
+use Rattle.capture9.specs.declared.error.CaptureKind.TheVariants as kind
+use Rattle.capture9.specs.declared.line_byte.LineByte.{LineByte}
+use Rattle.capture9.specs.Fields.{byte_of, time_of, wire_of}
+use Rattle.capture9.specs.Rows.{Rows}
+
+-- the fields are a time, a wire and a byte of which this holds
+abbrev pub AreThree : (List ℕ → List ℕ → List ℕ → Type 0) → List (List ℕ) → Type 0
+AreThree P (time ∷ wire ∷ byte ∷ []) = P time wire byte
+AreThree P fields = ⊥
+
+-- the row with this number and these fields, after a row of this time (0 before the first), breaks the rule whose
+-- breach is told as this kind
+abbrev pub RowBreaks : CaptureKind → ℕ → ℕ → List (List ℕ) → Type 0
+RowBreaks kind.TooMany number before fields = 4000000 < number
+RowBreaks kind.Fields number before fields = length fields ≢ 3
+RowBreaks kind.Time number before fields = AreThree (λ time wire byte. time_of time ≡ None) fields
+RowBreaks kind.Wire number before fields = AreThree (λ time wire byte. wire_of wire ≡ None) fields
+RowBreaks kind.Byte number before fields = AreThree (λ time wire byte. byte_of byte ≡ None) fields
+RowBreaks kind.Backwards number before fields =
+    AreThree (λ time wire byte. (told : ℕ) × (time_of time ≡ Some told) × (told < before)) fields
+RowBreaks kind.Header number before fields = ⊥
+RowBreaks kind.Read number before fields = ⊥
+RowBreaks kind.OutOfMemory number before fields = ⊥
+
+-- the order in which the rules of a row count
+abbrev pub row_kinds : List CaptureKind
+row_kinds = kind.TooMany ∷ kind.Fields ∷ kind.Time ∷ kind.Wire ∷ kind.Byte ∷ kind.Backwards ∷ []
+
+-- P holds of this one of the kinds, and of none before it
+pub record IsFirstOf (P : CaptureKind → Type 0) (kinds : List CaptureKind) (k : CaptureKind) : Type 0 where
+  pub before : List CaptureKind
+  pub after : List CaptureKind
+  pub split : kinds ≡ before ++ k ∷ after
+  pub holds : P k
+  pub none_before : All (λ j. ¬ (P j)) before
+
+-- the fields spell this record
+abbrev pub Spell : List (List ℕ) → LineByte → Type 0
+Spell fields r =
+    AreThree (λ time wire byte. (time_of time ≡ Some r.time_us) × (wire_of wire ≡ Some r.wire) × (byte_of byte ≡ Some r.byte)) fields
+
+-- the time of the last of these records, and this one where there is none
+abbrev pub last_time : ℕ → List LineByte → ℕ
+last_time before [] = before
+last_time before (r ∷ rest) = last_time r.time_us rest
+
+-- these rows, from this number on and after a row of this time, spell these records one each, and none breaks a rule
+abbrev pub AreGood : ℕ → ℕ → List (List (List ℕ)) → List LineByte → Type 0
+AreGood number before [] items = items ≡ []
+AreGood number before (fields ∷ rows) [] = ⊥
+AreGood number before (fields ∷ rows) (r ∷ items) =
+    Spell fields r × ((k : CaptureKind) → ¬ (RowBreaks k number before fields)) × AreGood (number + 1) r.time_us rows items
+
+-- no row is left, and there is no fault; or the first that is left breaks a rule, and the fault is the first in order
+-- that it breaks
+abbrev pub AreLeft : ℕ → ℕ → List (List (List ℕ)) → Option CaptureError → Type 0
+AreLeft number before [] fault = fault ≡ None
+AreLeft number before (fields ∷ rows) fault =
+    (k : CaptureKind) × IsFirstOf (λ j. RowBreaks j number before fields) row_kinds k × (fault ≡ Some (record { kind = k; row = number }))
+
+-- the data rows of a text hold this: the records of the longest first part of good rows, and the fault of the row
+-- after it
+pub record HasFirstPart (rows : List (List (List ℕ))) (held : Rows) : Type 0 where
+  pub good : List (List (List ℕ))
+  pub left : List (List (List ℕ))
+  pub split : rows ≡ good ++ left
+  pub are_good : AreGood 1 0 good held.records
+  pub are_left : AreLeft (length good + 1) (last_time 0 held.records) left held.fault
