@@ -36,7 +36,7 @@ next_falls cfg s fields field (c ∷ rest) p e =
         record { falls = inl (rw (← left) (omega arith)) }
     by false q e more = more (rw q at e)
 
-none_at_start : (cfg : Config) (n : ℕ) → records_from cfg n st.StartRecord [] ≡ []
+pub none_at_start : (cfg : Config) (n : ℕ) → records_from cfg n st.StartRecord [] ≡ []
 unfolding records_from next_record
 none_at_start cfg zero = refl
 none_at_start cfg (suc n) = refl
@@ -61,7 +61,7 @@ enough_turns cfg (suc n) (suc m) s bytes h k = by (next_record cfg s [] [] bytes
         ] in
         rw e (ap (λ t. p.0 ∷ t) rest)
 
-records_at-some : (s : State) (bytes : List ℕ) (p : Read) → next_record default_config s [] [] bytes ≡ Some p
+pub records_at-some : (s : State) (bytes : List ℕ) (p : Read) → next_record default_config s [] [] bytes ≡ Some p
     → records_at s bytes ≡ p.0 ∷ records_at p.1 p.2
 unfolding records_from
 records_at-some s bytes p e =

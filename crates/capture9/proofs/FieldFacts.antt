@@ -8,7 +8,7 @@ use Rattle.std.specs.Str.{all_ascii_digits}
 use Rattle.capture9.specs.Fields.{decimal_value, time_of}
 
 -- what a decimal digit counts
-digit_value-digit : (c : ℕ) → is_ascii_digit c ≡ true → digit_value c ≡ c - 48
+pub digit_value-digit : (c : ℕ) → is_ascii_digit c ≡ true → digit_value c ≡ c - 48
 digit_value-digit c h = grind (arith, nat_tests)
 
 digit-le : (c : ℕ) → is_ascii_digit c ≡ true → c - 48 ≤ 9

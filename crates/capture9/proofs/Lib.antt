@@ -6,3 +6,5 @@ pub mod LawFacts
 pub mod RecordsFacts
 pub mod RowFacts
 pub mod RuleFacts
+pub mod SomeTextFacts
+pub mod TextFacts

@@ -5,4 +5,5 @@ pub mod Fields
 pub mod Records
 pub mod RowRules
 pub mod Rows
+pub mod SomeText
 pub mod Working

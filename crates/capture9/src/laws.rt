@@ -5,7 +5,8 @@ ghost use Rattle.std.specs.List.Sorted.{IsNonDecreasingBy};
 ghost use Rattle.capture9.specs.Error.{IsAfter, is_of_text};
 ghost use Rattle.capture9.specs.Fields.{is_header};
 ghost use Rattle.capture9.specs.RowRules.{HasFirstPart};
-ghost use Rattle.capture9.specs.Rows.{HasHeader, rows_of};
+ghost use Rattle.capture9.specs.Rows.{HasHeader, Rows, rows_of};
+ghost use Rattle.capture9.specs.SomeText.{CanBeRows};
 ghost use Rattle.csv.specs.Reading.{default_config, records, strip_bom};
 
 use crate::error::CaptureError;
@@ -39,4 +40,11 @@ pub fn longest_first_part()
     ensures { (text : List ℕ) (header : List (List ℕ)) (rows : List (List (List ℕ)))
         → records default_config (strip_bom text) ≡ header ∷ rows → is_header header ≡ true
         → HasFirstPart rows (rows_of text) }
+{}
+
+/// The rows of a text are a list of records that keeps the limits, with no fault or one that can follow it, and each
+/// such list is that of some text.
+pub fn rows_of_some_text()
+    ensures each_text { (text : List ℕ) → CanBeRows (rows_of text) }
+    ensures some_text { (rows : Rows) → CanBeRows rows → (text : List ℕ) × (rows_of text ≡ rows) }
 {}

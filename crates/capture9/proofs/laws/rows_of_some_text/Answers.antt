@@ -1,0 +1,11 @@
+-- What holds of every list of CSV records holds of those of a text.
+use Rattle.csv.specs.Reading.{default_config, records, strip_bom}
+use Rattle.capture9.proofs.SomeTextFacts.{can-be}
+use Rattle.capture9.proofs.TextFacts.{some-text}
+use Rattle.capture9.proofs.laws.rows_of_some_text.Goals as goal
+
+pub returns-clause-each_text : goal.returns-clause-each_text
+returns-clause-each_text c = λ text. can-be (records default_config (strip_bom text))
+
+pub returns-clause-some_text : goal.returns-clause-some_text
+returns-clause-some_text c = some-text
