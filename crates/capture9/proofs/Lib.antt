@@ -2,6 +2,7 @@ pub mod CaptureFacts
 pub mod ColumnFacts
 pub mod CsvFacts
 pub mod FieldFacts
+pub mod GivenFacts
 pub mod LawFacts
 pub mod RecordsFacts
 pub mod RowFacts

@@ -1,9 +1,10 @@
 -- What the reading of one CSV record does to a `Records`, as its callers see it.
-use Rattle.std.proofs.Common.{◌≡◌, ◌⊎◌, ◌≤◌, ◌+◌, ◌∙◌, inl, inr, sym, ℕ, List, [], ◌∷◌, length, Bool, true, false, Option, Some, None, Ok, Err, refl, arith, option_map}
+use Rattle.std.proofs.Common.{◌≡◌, ◌⊎◌, ◌<◌, ◌≤◌, ◌+◌, ◌∙◌, inl, inr, sym, ℕ, List, [], ◌∷◌, length, Bool, true, false, Option, Some, None, Ok, Err, refl, ap, arith, option_map}
 use Rattle.std.specs.Prelude.{IfSome, IsTrue}
 use Rattle.csv.specs.declared.reader.Reader.{Reader}
 use Rattle.capture9.specs.declared.error.CaptureError.{CaptureError}
 use Rattle.capture9.specs.declared.error.CaptureKind.{CaptureKind}
+use Rattle.capture9.specs.declared.error.CaptureKind.TheVariants as kind
 use Rattle.capture9.specs.declared.line_byte.LineByte.{LineByte}
 use Rattle.capture9.specs.declared.records.Standing.{Standing}
 use Rattle.capture9.specs.declared.records.Standing.TheVariants as standing
@@ -13,6 +14,7 @@ use Rattle.capture9.specs.Records.{GivesRecord, GivesRefusal, IsPlaced, Progress
 use Rattle.capture9.specs.Rows.{HasHeader, Rows, bad_row, row_of, rows_from}
 use Rattle.capture9.specs.Working.{HoldsInRecords, PassesHeader, TakesFields, rows_to_come, unread_rows}
 use Rattle.capture9.proofs.RowFacts.{at-its-row, row_of-err, row_of-ok, rows_from-has_header}
+use Rattle.capture9.proofs.SomeTextFacts.{row-backwards, row-byte}
 
 -- how callers see a `Records` with these fields, these CSV records unread, and this reader
 abbrev pub progress_of : {R : Type 0} → Standing → Bool → ℕ → ℕ → Option (List (List (List ℕ))) → R → Progress R
@@ -53,6 +55,7 @@ gives-record source left s headed given last_time unread after fields r reads pa
       is_headed = refl;
       in_order = known.in_order;
       in_range = known.in_range;
+      is_byte = row-byte (given + 1) last_time fields r good;
       last_time = refl;
       has_header = past-header given last_time unread;
       rows = takes-row given last_time unread after fields r read good;
@@ -62,10 +65,11 @@ gives-record source left s headed given last_time unread after fields r reads pa
 pub record IsRowFault (given last_time : ℕ) (unread : Option (List (List (List ℕ)))) (k : CaptureKind) : Type 0 where
   pub fault : IsTrue (is_of_text k) → IfSome unread (λ rows. rows_from (given + 1) last_time rows ≡ bad_row k (given + 1))
   pub at_its_row : IsTrue (is_of_text k) → IsAtItsRow (record { kind = k; row = given + 1 })
+  pub backwards : k ≡ kind.Backwards → 0 < last_time
 
 -- a fault that is not of the text
 pub not-of-text : (given last_time : ℕ) (unread : Option (List (List (List ℕ)))) (k : CaptureKind) → is_of_text k ≡ false → IsRowFault given last_time unread k
-not-of-text given last_time unread k e = record { fault = λ h. cc; at_its_row = λ h. cc }
+not-of-text given last_time unread k e = record { fault = λ h. cc; at_its_row = λ h. cc; backwards = λ h. let other : is_of_text k ≡ true = ap is_of_text h in cc }
 
 first-bad : (given last_time : ℕ) (unread after : Option (List (List (List ℕ)))) (fields : List (List ℕ)) (k : CaptureKind)
     → IfSome unread (λ rows. TakesFields rows true fields after) → row_of (given + 1) last_time fields ≡ Err k
@@ -80,6 +84,7 @@ pub bad-first : (given last_time : ℕ) (unread after : Option (List (List (List
 bad-first given last_time unread after fields k within read bad = record {
   fault = λ h. first-bad given last_time unread after fields k read bad;
   at_its_row = λ h. at-its-row (given + 1) k (omega arith) (omega arith) (row_of-err (given + 1) last_time fields k bad);
+  backwards = row-backwards (given + 1) last_time fields k bad;
 }
 
 mapped : (given last_time : ℕ) (unread : Option (List (List (List ℕ)))) (bad : Rows)
@@ -103,6 +108,7 @@ refuses-row source left s new headed given last_time unread after k e reads past
       stays_headed = λ h. refl;
       has_header = λ h. past-header given last_time unread;
       fault = λ h. mapped given last_time unread _ (wrong.fault h);
+      backwards = λ h. wrong.backwards;
       rows = refl;
     })
 
@@ -134,6 +140,7 @@ refuses-again source s headed given last_time unread e refused placed =
       stays_headed = λ h. h;
       has_header = λ h. tt;
       fault = λ h. tt;
+      backwards = λ h. cc;
       rows = refl;
     })
 

@@ -1,5 +1,5 @@
 -- The rows of each text are rows that some text can hold.
-use Rattle.std.proofs.Common.{◌≡◌, ◌≢◌, ◌<◌, ◌≤◌, ◌+◌, ◌*◌, ◌∙◌, ℕ, List, [], ◌∷◌, length, All, Bool, true, false, Option, Some, None, IfSome, refl, ap, subst, arith}
+use Rattle.std.proofs.Common.{◌≡◌, ◌≢◌, ◌<◌, ◌≤◌, ◌+◌, ◌*◌, ◌∙◌, ℕ, List, [], ◌∷◌, length, All, Bool, true, false, Option, Some, None, IfSome, Result, Ok, Err, refl, ap, subst, arith}
 use Rattle.std.specs.Prelude.{IsTrue, if◌then◌else◌}
 use Rattle.std.specs.Char.{digit_value, is_digit}
 use Rattle.std.proofs.lemmas.Bool.Decides.{nat_tests}
@@ -12,10 +12,10 @@ use Rattle.capture9.specs.declared.line_byte.LineByte.{LineByte}
 use Rattle.capture9.specs.Error.{IsAtItsRow, is_of_text}
 use Rattle.capture9.specs.Fields.{byte_of, hex_digit_of, is_header, pair_value}
 use Rattle.capture9.specs.RowRules.{AreGood, AreLeft, IsFirstOf, RowBreaks, Spell, last_time, row_kinds}
-use Rattle.capture9.specs.Rows.{Rows, bad_row, headed_rows, rows_from}
+use Rattle.capture9.specs.Rows.{Rows, bad_row, headed_rows, row_of, rows_from}
 use Rattle.capture9.specs.SomeText.{CanBeRows, CanFollow, IsNextRow}
 use Rattle.capture9.proofs.LawFacts.{HoldsFrom, holds-from}
-use Rattle.capture9.proofs.RuleFacts.{HasPartFrom, part-from}
+use Rattle.capture9.proofs.RuleFacts.{HasPartFrom, IsRead, part-from, row-read}
 
 hex-lt : (c d : ℕ) → hex_digit_of c ≡ Some d → d < 16
 hex-lt c d e = by (is_digit c 16) refl e
@@ -56,7 +56,19 @@ earlier (a ∷ b ∷ []) number before h = absurd h
 earlier (a ∷ b ∷ c ∷ []) number before h = let low = h.2 in omega arith
 earlier (a ∷ b ∷ c ∷ d ∷ rest) number before h = absurd h
 
+-- the byte of a record that was read
+pub row-byte : (number before : ℕ) (fields : List (List ℕ)) (r : LineByte) → row_of number before fields ≡ Ok r → r.byte < 256
+row-byte number before fields r e =
+    let P : Result LineByte CaptureKind → Type 0 = IsRead number before fields in
+    spell-byte fields r (subst P e (row-read number before fields)).0
+
 -- a time below the one before comes only after a time above 0
+pub row-backwards : (number before : ℕ) (fields : List (List ℕ)) (k : CaptureKind) → row_of number before fields ≡ Err k → k ≡ kind.Backwards → 0 < before
+row-backwards number before fields k e is =
+    let P : Result LineByte CaptureKind → Type 0 = IsRead number before fields in
+    let Q : CaptureKind → Type 0 = λ j. RowBreaks j number before fields in
+    earlier fields number before (subst Q is (subst P e (row-read number before fields)).holds)
+
 left-backwards : (number before : ℕ) (left : List (List (List ℕ))) (fault : Option CaptureError) (e : CaptureError) → AreLeft number before left fault → fault ≡ Some e → e.kind ≡ kind.Backwards → 0 < before
 left-backwards number before [] fault e h same is = cc
 left-backwards number before (fields ∷ rest) fault e h same is =

@@ -19,7 +19,7 @@ use Rattle.capture9.specs.declared.line_byte.Wire.TheVariants.{Controller, Deck}
 use Rattle.capture9.specs.Fields.{byte_of, decimal_value, hex_digit_of, time_of, wire_of}
 use Rattle.capture9.specs.RowRules.{last_time}
 use Rattle.capture9.specs.Rows.{Rows, bad_row, no_rows, row_of, rows_from, rows_of}
-use Rattle.capture9.specs.SomeText.{CanBeRows, CanFollow, IsNextRow}
+use Rattle.capture9.specs.SomeText.{CanBeRows, CanFollow, IsNextRow, IsOfSomeText}
 use Rattle.capture9.specs.Working.{records_at}
 use Rattle.capture9.proofs.CsvFacts.{none_at_start, records_at-some}
 use Rattle.capture9.proofs.FieldFacts.{digit_value-digit}
@@ -228,5 +228,5 @@ text-of items (Some e) h = by e.kind items e.row h
     by kind.Read items row h = absurd h.fault
     by kind.OutOfMemory items row h = absurd h.fault
 
-pub some-text : (rows : Rows) → CanBeRows rows → (text : List ℕ) × (rows_of text ≡ rows)
+pub some-text : (rows : Rows) → CanBeRows rows → IsOfSomeText rows
 some-text rows h = text-of rows.records rows.fault h

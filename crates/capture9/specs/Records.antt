@@ -1,6 +1,7 @@
 -- A `Records` as its callers see it: what is still to come, and what a call of `next` does to it.
 use Rattle.std.specs.Prelude.{◌≡◌, ℕ, ◌+◌, ◌^◌, ◌<◌, ◌≤◌, ◌⊎◌, Bool, true, false, IsTrue, Option, Some, None, IfSome, if◌then◌else◌, ⊤}
 use Rattle.capture9.specs.declared.error.CaptureError.{CaptureError}
+use Rattle.capture9.specs.declared.error.CaptureKind.TheVariants as kind
 use Rattle.capture9.specs.declared.line_byte.LineByte.{LineByte}
 use Rattle.capture9.specs.declared.records.Standing.{Standing}
 use Rattle.capture9.specs.declared.records.Standing.TheVariants as standing
@@ -36,6 +37,7 @@ pub record GivesRecord {R : Type 0} (old : Progress R) (r : LineByte) (new : Pro
   pub is_headed : new.is_headed ≡ true
   pub in_order : old.last_time ≤ r.time_us
   pub in_range : r.time_us < 10 ^ 15
+  pub is_byte : r.byte < 256
   pub last_time : new.last_time ≡ r.time_us
   pub has_header : IfSome old.rows HasHeader
   pub rows : TakesRecord old.rows r new.rows
@@ -67,4 +69,6 @@ pub record GivesRefusal {R : Type 0} (old : Progress R) (e : CaptureError) (new 
   pub has_header : new.is_headed ≡ true → IfSome old.rows HasHeader
   -- a fault of the text is the one that was to come
   pub fault : IsTrue (is_of_text e.kind) → IfSome old.rows (λ rows. rows ≡ bad_row e.kind e.row)
+  -- a row is told as backwards only behind a time above 0
+  pub backwards : old.standing ≡ standing.Reading → e.kind ≡ kind.Backwards → 0 < old.last_time
   pub rows : new.rows ≡ None

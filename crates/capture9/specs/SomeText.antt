@@ -5,7 +5,7 @@ use Rattle.capture9.specs.declared.error.CaptureKind.{CaptureKind}
 use Rattle.capture9.specs.declared.error.CaptureKind.TheVariants as kind
 use Rattle.capture9.specs.declared.line_byte.LineByte.{LineByte}
 use Rattle.capture9.specs.RowRules.{last_time}
-use Rattle.capture9.specs.Rows.{Rows}
+use Rattle.capture9.specs.Rows.{Rows, rows_of}
 
 -- the row after these records, which is not yet one too many
 abbrev pub IsNextRow : List LineByte → ℕ → Type 0
@@ -30,3 +30,7 @@ pub record CanBeRows (rows : Rows) : Type 0 where
   pub in_range : All (λ r. r.time_us < 10 ^ 15) rows.records
   pub bytes : All (λ r. r.byte < 256) rows.records
   pub fault : IfSome rows.fault (λ e. CanFollow e.kind rows.records e.row)
+
+-- some text holds exactly these rows
+abbrev pub IsOfSomeText : Rows → Type 0
+IsOfSomeText rows = (text : List ℕ) × (rows_of text ≡ rows)

@@ -6,7 +6,7 @@ ghost use Rattle.capture9.specs.Error.{IsAfter, is_of_text};
 ghost use Rattle.capture9.specs.Fields.{is_header};
 ghost use Rattle.capture9.specs.RowRules.{HasFirstPart};
 ghost use Rattle.capture9.specs.Rows.{HasHeader, Rows, rows_of};
-ghost use Rattle.capture9.specs.SomeText.{CanBeRows};
+ghost use Rattle.capture9.specs.SomeText.{CanBeRows, IsOfSomeText};
 ghost use Rattle.csv.specs.Reading.{default_config, records, strip_bom};
 
 use crate::error::CaptureError;
@@ -46,5 +46,5 @@ pub fn longest_first_part()
 /// such list is that of some text.
 pub fn rows_of_some_text()
     ensures each_text { (text : List ℕ) → CanBeRows (rows_of text) }
-    ensures some_text { (rows : Rows) → CanBeRows rows → (text : List ℕ) × (rows_of text ≡ rows) }
+    ensures some_text { (rows : Rows) → CanBeRows rows → IsOfSomeText rows }
 {}

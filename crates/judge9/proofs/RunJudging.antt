@@ -48,12 +48,12 @@ pub record WithTrail {R : Type 0} (hands : Hands) (rows : Option Rows) (progress
   pub same : so_far.cut_exchanges ≡ es
   pub trail : IsTrail hands es trackers
 
-pub with-start : {R : Type 0} (hands : Hands) (progress : Progress R) (paired : Paired) (tracked : Tracked) (es : List Exchange) (trackers : List Tracked) → progress.given ≡ 0 → progress.standing ≡ Reading → paired ≡ record { tail = []; last_time = None; reason = None } → Follows hands [] tracked → es ≡ [] → trackers ≡ []
+pub with-start : {R : Type 0} (hands : Hands) (progress : Progress R) (paired : Paired) (tracked : Tracked) (es : List Exchange) (trackers : List Tracked) → progress.given ≡ 0 → progress.last_time ≡ 0 → progress.standing ≡ Reading → paired ≡ record { tail = []; last_time = None; reason = None } → Follows hands [] tracked → es ≡ [] → trackers ≡ []
     → WithTrail hands progress.rows progress paired tracked es trackers 0
 unfolding so_far-start
-with-start hands progress paired tracked es trackers given reading new follows none no_trackers = record {
+with-start hands progress paired tracked es trackers given first reading new follows none no_trackers = record {
   count = 0;
-  so_far = so_far-start view.Verdict hands progress paired tracked None given reading new follows;
+  so_far = so_far-start view.Verdict hands progress paired tracked None given first reading new follows;
   same = sym none;
   trail = subst (λ (l : List Exchange). IsTrail hands l trackers) (sym none) (subst (λ (l : List Tracked). IsTrail hands [] l) (sym no_trackers) (trail-start hands));
 }
@@ -149,4 +149,4 @@ run-yes hands rows progress ended paired tracked es trackers n exchanges states 
 pub run-nothing : (hands : Hands) (rows : Option Rows) → IsJudgedRun hands rows (Err error.OutOfMemory)
 run-nothing hands rows =
     let told = told-nothing view.Verdict hands rows None in
-    record { rows = told.rows; is_known = told.is_known; answer = tt; run = tt }
+    record { rows = told.rows; is_known = told.is_known; of_a_text = told.of_a_text; answer = tt; run = tt }

@@ -6,6 +6,7 @@ use Rattle.capture9.specs.declared.line_byte.LineByte.{LineByte}
 use Rattle.capture9.specs.declared.records.Standing.TheVariants.{Reading}
 use Rattle.capture9.specs.Records.{Progress}
 use Rattle.capture9.specs.Rows.{Rows}
+use Rattle.capture9.proofs.GivenFacts.{AreGiven}
 use Rattle.block9.specs.declared.pairer.Exchange.{Exchange}
 use Rattle.block9.specs.Exchange.{Cut}
 use Rattle.block9.specs.Pairer.{Paired}
@@ -41,3 +42,4 @@ pub record SoFar {R : Type 0} (view : View) (hands : Hands) (rows : Option Rows)
   pub no_reason : paired.reason ≡ None
   pub in_order : ForSome paired.last_time (λ time. time ≤ progress.last_time)
   pub read : WereRead rows items progress.rows
+  pub are_given : AreGiven items progress

@@ -8,6 +8,7 @@ use Rattle.capture9.specs.declared.error.CaptureError.{CaptureError}
 use Rattle.capture9.specs.Records.{GivesRecord, Progress, TakesRecord}
 use Rattle.capture9.specs.declared.records.Standing.TheVariants.{Reading}
 use Rattle.capture9.specs.Rows.{Rows}
+use Rattle.capture9.proofs.GivenFacts.{given-more, given-none}
 use Rattle.block9.specs.declared.pairer.Exchange.{Exchange}
 use Rattle.block9.specs.declared.pairer.Step.{Step}
 use Rattle.block9.specs.declared.pairer.Step.TheVariants as step
@@ -80,6 +81,7 @@ so_far-open which hands rows progress after paired next tracked old now r s n m 
   no_reason = takes.reason;
   in_order = λ x e. later progress after paired next r s given takes x e;
   read = read-more rows progress.rows after.rows h.items r h.read given.rows;
+  are_given = given-more h.items progress after r h.are_given given;
 }
 
 -- the number of an exchange's last record
@@ -121,6 +123,7 @@ so_far-exchange which hands rows progress after paired next tracked seen old now
   no_reason = takes.reason;
   in_order = λ x e'. later progress after paired next r (step.Exchange e) given takes x e';
   read = read-more rows progress.rows after.rows h.items r h.read given.rows;
+  are_given = given-more h.items progress after r h.are_given given;
 }
 
 -- nothing is shown before the first exchange
@@ -129,9 +132,9 @@ explained-start view.Verdict hands = refl
 explained-start view.Explain hands = refl
 
 -- before the first row
-unfoldable pub so_far-start : {R : Type 0} (which : View) (hands : Hands) (progress : Progress R) (paired : Paired) (tracked : Tracked) (now : Option (List ℕ)) → progress.given ≡ 0 → progress.standing ≡ Reading → paired ≡ record { tail = []; last_time = None; reason = None } → Follows hands [] tracked
+unfoldable pub so_far-start : {R : Type 0} (which : View) (hands : Hands) (progress : Progress R) (paired : Paired) (tracked : Tracked) (now : Option (List ℕ)) → progress.given ≡ 0 → progress.last_time ≡ 0 → progress.standing ≡ Reading → paired ≡ record { tail = []; last_time = None; reason = None } → Follows hands [] tracked
     → SoFar which hands progress.rows progress paired tracked now now 0 0
-so_far-start which hands progress paired tracked now given reading new follows = record {
+so_far-start which hands progress paired tracked now given first reading new follows = record {
   items = [];
   cut_exchanges = [];
   cut = (ap (λ (p : Paired). p.tail) (sym new), nothing (ap (λ (p : Paired). p.tail) new));
@@ -149,6 +152,7 @@ so_far-start which hands progress paired tracked now given reading new follows =
   no_reason = ap (λ (p : Paired). p.reason) new;
   in_order = λ x e. let none : None ≡ Some x = ap (λ (p : Paired). p.last_time) (sym new) ∙ e in cc;
   read = start progress.rows;
+  are_given = given-none progress given first;
 }
   where
     start : (rows : Option Rows) → WereRead rows [] rows

@@ -2,7 +2,7 @@
 use Rattle.std.proofs.Common.{◌≡◌, inl, inr, IsTrue, if◌then◌else◌, Bool, true, false, ℕ, ◌+◌, ◌∙◌, List, [], ◌∷◌, ◌++◌, length, Option, Some, None, Result, Ok, Err, refl, sym, ap, subst, arith}
 use Rattle.std.proofs.lemmas.List.{append_assoc, append-nil}
 use Rattle.std.proofs.KnownBytes.{Appends-nil, Appends-trans}
-use Rattle.std.specs.Option.{IfSome, option_map}
+use Rattle.std.specs.Option.{IfNone, IfSome, option_map}
 use Rattle.std.specs.Io.KnownBytes.{Appends}
 use Rattle.capture9.specs.declared.error.CaptureError.{CaptureError}
 use Rattle.capture9.specs.declared.error.CaptureKind.{CaptureKind}
@@ -12,7 +12,10 @@ use Rattle.capture9.specs.Capture.{IsStartOf}
 use Rattle.capture9.specs.Error.{is_of_text}
 use Rattle.capture9.specs.Records.{GivesEnd, GivesRecord, GivesRefusal, Progress}
 use Rattle.capture9.specs.Rows.{Rows, bad_row, no_rows, rows_of}
+use Rattle.capture9.specs.SomeText.{CanBeRows, IsOfSomeText}
+use Rattle.capture9.proofs.GivenFacts.{given-more, given-refused, no_rows-can_be}
 use Rattle.capture9.proofs.RecordsFacts.{refused-after}
+use Rattle.capture9.proofs.TextFacts.{some-text}
 use Rattle.block9.specs.declared.pairer.Exchange.{Exchange}
 use Rattle.block9.specs.declared.pairer.Step.TheVariants as step
 use Rattle.block9.specs.declared.reason.Reason.{Reason}
@@ -37,7 +40,7 @@ use Rattle.judge9.proofs.LawLemmas.{answer_once}
 use Rattle.judge9.proofs.LineSteps.{none_after, part_after}
 use Rattle.run9.proofs.RunSearch.{run_start}
 use Rattle.judge9.specs.Working.Trail.{Follows}
-use Rattle.judge9.proofs.Seen.{Seen, rest_has, seen}
+use Rattle.judge9.proofs.Seen.{Seen, given_of_some_text, rest_has, seen}
 use Rattle.judge9.proofs.SoFar.{SoFar}
 use Rattle.judge9.proofs.SoFarSteps.{cut-after, explained-start, read-more, shown-more}
 
@@ -85,11 +88,12 @@ pub starts : {rows left : Option Rows} {items : List LineByte} {mine : Rows} (s 
 starts s = (s.rest.records, records_are s)
 
 -- what is told after the records so far, of these rows
-unfoldable pub told_after : {R : Type 0} (which : View) (hands : Hands) (rows : Option Rows) (progress : Progress R) (paired : Paired) (tracked : Tracked) (old now new : Option (List ℕ)) (n m : ℕ) (h : SoFar which hands rows progress paired tracked old now n m) (all : Rows) (r : Result Verdict JudgeError) → IfSome rows (λ a. all ≡ a) → IsStartOf h.items all.records
+unfoldable pub told_after : {R : Type 0} (which : View) (hands : Hands) (rows : Option Rows) (progress : Progress R) (paired : Paired) (tracked : Tracked) (old now new : Option (List ℕ)) (n m : ℕ) (h : SoFar which hands rows progress paired tracked old now n m) (all : Rows) (r : Result Verdict JudgeError) → IfSome rows (λ a. all ≡ a) → IfNone rows (IsOfSomeText all) → IsStartOf h.items all.records
     → IfSome (answer_of r) (IsTheAnswer hands all) → Written hands all h.items h.text r old new → Told which hands rows r old new
-told_after which hands rows progress paired tracked old now new n m h all r is_known start answer written = record {
+told_after which hands rows progress paired tracked old now new n m h all r is_known of_a_text start answer written = record {
   rows = all;
   is_known = is_known;
+  of_a_text = of_a_text;
   answer = answer;
   items = h.items;
   start = start;
@@ -103,23 +107,23 @@ told_after which hands rows progress paired tracked old now new n m h all r is_k
 }
 
 -- a verdict that is told
-unfoldable pub told-verdict : {R : Type 0} (which : View) (hands : Hands) (rows : Option Rows) (progress : Progress R) (paired : Paired) (tracked : Tracked) (old now new : Option (List ℕ)) (n m : ℕ) (h : SoFar which hands rows progress paired tracked old now n m) (all : Rows) (v : Verdict) (r : Result Verdict JudgeError) → IfSome rows (λ a. all ≡ a) → IsStartOf h.items all.records
+unfoldable pub told-verdict : {R : Type 0} (which : View) (hands : Hands) (rows : Option Rows) (progress : Progress R) (paired : Paired) (tracked : Tracked) (old now new : Option (List ℕ)) (n m : ℕ) (h : SoFar which hands rows progress paired tracked old now n m) (all : Rows) (v : Verdict) (r : Result Verdict JudgeError) → IfSome rows (λ a. all ≡ a) → IfNone rows (IsOfSomeText all) → IsStartOf h.items all.records
     → IsAnswer hands all (judged v) → IsVerdictAfter h.items v → IsSame v r → Puts (line_of v) r now new → Told which hands rows r old new
-told-verdict which hands rows progress paired tracked old now new n m h all v (Ok w) is_known start is follows same puts =
-    told_after which hands rows progress paired tracked old now new n m h all (Ok w) is_known start
+told-verdict which hands rows progress paired tracked old now new n m h all v (Ok w) is_known of_a_text start is follows same puts =
+    told_after which hands rows progress paired tracked old now new n m h all (Ok w) is_known of_a_text start
     (subst (λ (x : Verdict). IsTheAnswer hands all (judged x)) (sym same) (the_answer hands all (judged v) is))
     (subst (λ (x : Verdict). IsVerdictAfter h.items x × Appends old new (h.text ++ line_of x)) (sym same) (follows, Appends-trans old now new h.text (line_of v) h.wrote puts))
-told-verdict which hands rows progress paired tracked old now new n m h all v (Err (error.Capture e)) is_known start is follows same puts = absurd puts
-told-verdict which hands rows progress paired tracked old now new n m h all v (Err error.Write) is_known start is follows same puts =
-    told_after which hands rows progress paired tracked old now new n m h all (Err error.Write) is_known start tt (inr (v, is, follows, part_after old now new h.text (line_of v) h.wrote puts))
-told-verdict which hands rows progress paired tracked old now new n m h all v (Err error.OutOfMemory) is_known start is follows same puts =
-    told_after which hands rows progress paired tracked old now new n m h all (Err error.OutOfMemory) is_known start tt (none_after old now new h.text h.wrote puts)
+told-verdict which hands rows progress paired tracked old now new n m h all v (Err (error.Capture e)) is_known of_a_text start is follows same puts = absurd puts
+told-verdict which hands rows progress paired tracked old now new n m h all v (Err error.Write) is_known of_a_text start is follows same puts =
+    told_after which hands rows progress paired tracked old now new n m h all (Err error.Write) is_known of_a_text start tt (inr (v, is, follows, part_after old now new h.text (line_of v) h.wrote puts))
+told-verdict which hands rows progress paired tracked old now new n m h all v (Err error.OutOfMemory) is_known of_a_text start is follows same puts =
+    told_after which hands rows progress paired tracked old now new n m h all (Err error.OutOfMemory) is_known of_a_text start tt (none_after old now new h.text h.wrote puts)
 
 -- at the end of the rows
 unfoldable pub told-yes : {R : Type 0} (which : View) (hands : Hands) (rows : Option Rows) (progress ended : Progress R) (paired : Paired) (tracked : Tracked) (old now new : Option (List ℕ)) (n m : ℕ) (r : Result Verdict JudgeError) → (h : SoFar which hands rows progress paired tracked old now n m) → GivesEnd progress ended
     → IsSame (Yes n m (length paired.tail)) r → Puts (line_of (Yes n m (length paired.tail))) r now new → Told which hands rows r old new
 told-yes which hands rows progress ended paired tracked old now new n m r h end same puts =
-    told-verdict which hands rows progress paired tracked old now new n m h s.all (Yes n m (length paired.tail)) r s.is_known (starts s) (fault_is s ∙ ap (λ (x : Rows). x.fault) left, counts) h.number same puts
+    told-verdict which hands rows progress paired tracked old now new n m h s.all (Yes n m (length paired.tail)) r s.is_known (given_of_some_text s refl h.are_given.can_be) (starts s) (fault_is s ∙ ap (λ (x : Rows). x.fault) left, counts) h.number same puts
   where
     s : Seen rows progress.rows h.items no_rows
     s = seen rows progress.rows h.items no_rows h.read
@@ -145,7 +149,7 @@ told-yes which hands rows progress ended paired tracked old now new n m r h end 
 pub told-no : {R : Type 0} (which : View) (hands : Hands) (rows : Option Rows) (progress given : Progress R) (paired : Paired) (tracked : Tracked) (old now new : Option (List ℕ)) (n m : ℕ) (next : LineByte) (reason : Reason) (r : Result Verdict JudgeError) → (h : SoFar which hands rows progress paired tracked old now n m) → GivesRecord progress next given → Breaks hands h.items next reason
     → IsSame (No (n + 1) reason) r → Puts (line_of (No (n + 1) reason)) r now new → Told which hands rows r old new
 told-no which hands rows progress given paired tracked old now new n m next reason r h gives breaks same puts =
-    told-verdict which hands rows progress paired tracked old now new n m h s.all (No (n + 1) reason) r s.is_known (next ∷ s.rest.records, split) is (let e = h.number in omega arith) same puts
+    told-verdict which hands rows progress paired tracked old now new n m h s.all (No (n + 1) reason) r s.is_known (given_of_some_text s refl (given-more h.items progress given next h.are_given gives).can_be) (next ∷ s.rest.records, split) is (let e = h.number in omega arith) same puts
   where
     s : Seen rows given.rows (h.items ++ next ∷ []) no_rows
     s = seen rows given.rows (h.items ++ next ∷ []) no_rows (read-more rows progress.rows given.rows h.items next h.read gives.rows)
@@ -160,22 +164,38 @@ told-no which hands rows progress given paired tracked old now new n m next reas
 pub told-memory : {R : Type 0} (which : View) (hands : Hands) (rows : Option Rows) (progress : Progress R) (paired : Paired) (tracked : Tracked) (old now : Option (List ℕ)) (n m : ℕ) → SoFar which hands rows progress paired tracked old now n m → Told which hands rows (Err error.OutOfMemory) old now
 told-memory which hands rows progress paired tracked old now n m h =
     let s = seen rows progress.rows h.items no_rows h.read in
-    told_after which hands rows progress paired tracked old now now n m h s.all (Err error.OutOfMemory) s.is_known (starts s) tt h.wrote
+    told_after which hands rows progress paired tracked old now now n m h s.all (Err error.OutOfMemory) s.is_known (given_of_some_text s refl h.are_given.can_be) (starts s) tt h.wrote
 
 -- at a refusal of the capture
 pub told-refusal : {R : Type 0} (which : View) (hands : Hands) (rows : Option Rows) (progress given : Progress R) (paired : Paired) (tracked : Tracked) (old now : Option (List ℕ)) (n m : ℕ) (e : CaptureError) (x : JudgeError) → SoFar which hands rows progress paired tracked old now n m → GivesRefusal progress e given → x ≡ refusal_of e → Told which hands rows (Err x) old now
 told-refusal which hands rows progress given paired tracked old now n m e x h refusal same =
     refused (λ y. Told which hands rows (Err y) old now) e x same
-    (told_after which hands rows progress paired tracked old now now n m h s.all (Err (error.Capture e)) s.is_known (starts s) (answer_of-capture e (IsTheAnswer hands s.all) (λ t. the_answer hands s.all (unreadable e) (is t)))
+    (told_after which hands rows progress paired tracked old now now n m h s.all (Err (error.Capture e)) s.is_known of_a_text (starts s) (answer_of-capture e (IsTheAnswer hands s.all) (λ t. the_answer hands s.all (unreadable e) (is t)))
     (refused-after progress given e h.items refusal (h.given ∙ h.number), h.wrote))
     (told-memory which hands rows progress paired tracked old now n m h)
   where
-    s : Seen rows progress.rows h.items (bad_row e.kind e.row)
-    s = seen rows progress.rows h.items (bad_row e.kind e.row) h.read
+    -- what a refusal leaves where nothing is known of the rows: the bad row, where it is a fault of the text
+    mine : Bool → Rows
+    mine true = bad_row e.kind e.row
+    mine false = no_rows
+
+    s : Seen rows progress.rows h.items (mine (is_of_text e.kind))
+    s = seen rows progress.rows h.items (mine (is_of_text e.kind)) h.read
+
+    no_records : (b : Bool) → (mine b).records ≡ []
+    no_records true = refl
+    no_records false = refl
+
+    can : (b : Bool) → is_of_text e.kind ≡ b → CanBeRows (record { records = h.items; fault = (mine b).fault })
+    can true t = given-refused h.items progress given e h.are_given h.is_reading refusal t
+    can false t = h.are_given.can_be
+
+    of_a_text : IfNone rows (IsOfSomeText s.all)
+    of_a_text = given_of_some_text s (no_records (is_of_text e.kind)) (can (is_of_text e.kind) refl)
 
     is : IsTrue (is_of_text e.kind) → IsAnswer hands s.all (unreadable e)
     is t =
-        let left : s.rest ≡ bad_row e.kind e.row = rest_has (λ rest. rest ≡ bad_row e.kind e.row) s refl (refusal.fault t) in
+        let left : s.rest ≡ bad_row e.kind e.row = rest_has (λ rest. rest ≡ bad_row e.kind e.row) s (ap mine t) (refusal.fault t) in
         let records : s.all.records ≡ h.items = records_are s ∙ ap (λ (x : Rows). h.items ++ x.records) left ∙ append-nil h.items in (
           fault_is s ∙ ap (λ (x : Rows). x.fault) left,
           record { exchanges = h.cut_exchanges; tail = paired.tail; cut = subst (λ (l : List LineByte). Cut l h.cut_exchanges paired.tail) (sym records) h.cut; run = h.run },
@@ -187,12 +207,13 @@ pub told-line : {R : Type 0} (which : View) (hands : Hands) (rows : Option Rows)
 told-line which hands rows progress given paired next tracked observed old now new n m r e (error.Capture c) h gives takes follows run line = absurd line.puts
 told-line which hands rows progress given paired next tracked observed old now new n m r e error.OutOfMemory h gives takes follows run line =
     let s = seen rows progress.rows h.items no_rows h.read in
-    told_after which hands rows progress paired tracked old now new n m h s.all (Err error.OutOfMemory) s.is_known (starts s) tt (none_after old now new h.text h.wrote line.puts)
+    told_after which hands rows progress paired tracked old now new n m h s.all (Err error.OutOfMemory) s.is_known (given_of_some_text s refl h.are_given.can_be) (starts s) tt (none_after old now new h.text h.wrote line.puts)
 told-line which hands rows progress given paired next tracked observed old now new n m r e error.Write h gives takes follows run line =
     let s = seen rows given.rows (h.items ++ r ∷ []) no_rows (read-more rows progress.rows given.rows h.items r h.read gives.rows) in
     record {
       rows = s.all;
       is_known = s.is_known;
+      of_a_text = given_of_some_text s refl (given-more h.items progress given r h.are_given gives).can_be;
       answer = tt;
       items = h.items ++ r ∷ [];
       start = starts s;
@@ -213,6 +234,7 @@ told-nothing which hands rows old = by rows
     by None = record {
       rows = no_rows;
       is_known = tt;
+      of_a_text = some-text no_rows no_rows-can_be;
       answer = tt;
       items = [];
       start = (no_rows.records, refl);
@@ -227,6 +249,7 @@ told-nothing which hands rows old = by rows
     by (Some all) = record {
       rows = all;
       is_known = refl;
+      of_a_text = tt;
       answer = tt;
       items = [];
       start = (all.records, refl);

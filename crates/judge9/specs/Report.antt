@@ -1,12 +1,13 @@
 -- The text of a report, and how much of it was written.
 use Rattle.std.specs.Prelude.{◌≡◌, ◌⊎◌, ℕ, ◌+◌, ◌-◌, ◌≤◌, List, [], ◌∷◌, ◌++◌, codes, length, take, Option, Result, Ok, Err}
-use Rattle.std.specs.Option.{IfSome}
+use Rattle.std.specs.Option.{IfNone, IfSome}
 use Rattle.std.specs.Io.KnownBytes.{Appends}
 use Rattle.std.specs.Fmt.{decimal}
 use Rattle.capture9.specs.declared.line_byte.LineByte.{LineByte}
 use Rattle.capture9.specs.Capture.{IsStartOf}
 use Rattle.capture9.specs.Error.{IsAfter}
 use Rattle.capture9.specs.Rows.{Rows}
+use Rattle.capture9.specs.SomeText.{IsOfSomeText}
 use Rattle.block9.specs.declared.pairer.Exchange.{Exchange}
 use Rattle.block9.specs.Block.{spelling}
 use Rattle.block9.specs.Exchange.{Cut}
@@ -91,10 +92,12 @@ Written hands rows items text (Err error.Write) old new =
 Written hands rows items text (Err error.OutOfMemory) old new = Appends old new text
 
 -- the rows that a judging speaks of, its answer for them, the first of their records, which it found to keep the rules,
--- and what it wrote. The rows are those of the text, where the reader tells its bytes; else they are what it gave
+-- and what it wrote. The rows are those of the text, where the reader tells its bytes; else they are what it gave, and
+-- are those of some text
 pub record Told (which : View) (hands : Hands) (known : Option Rows) (result : Result Verdict JudgeError) (old new : Option (List ℕ)) : Type 0 where
   pub rows : Rows
   pub is_known : IfSome known (λ all. rows ≡ all)
+  pub of_a_text : IfNone known (IsOfSomeText rows)
   pub answer : IfSome (answer_of result) (IsTheAnswer hands rows)
   pub items : List LineByte
   pub start : IsStartOf items rows.records

@@ -1,9 +1,10 @@
 -- What a result of a judging with a run tells: a verdict, and where it is a yes a run of the deck.
 use Rattle.std.specs.Prelude.{◌≡◌, ⊤, List, length, Option, Result, Ok, Err}
-use Rattle.std.specs.Option.{IfSome}
+use Rattle.std.specs.Option.{IfNone, IfSome}
 use Rattle.std.specs.Result.{IfOk}
 use Rattle.capture9.specs.declared.line_byte.LineByte.{LineByte}
 use Rattle.capture9.specs.Rows.{Rows}
+use Rattle.capture9.specs.SomeText.{IsOfSomeText}
 use Rattle.block9.specs.Exchange.{Cut}
 use Rattle.track9.specs.declared.state.Hands.{Hands}
 use Rattle.judge9.specs.declared.error.JudgeError.{JudgeError}
@@ -32,9 +33,10 @@ HasItsRun hands rows (run.Yes records tail exchanges states) =
 HasItsRun hands rows (run.No at reason) = ⊤
 
 -- the rows that a judging speaks of, with its answer for them and its run. The rows are those of the text, where the
--- reader tells its bytes; else they are what it gave
+-- reader tells its bytes; else they are what it gave, and are those of some text
 pub record IsJudgedRun (hands : Hands) (known : Option Rows) (result : Result RunVerdict JudgeError) : Type 0 where
   pub rows : Rows
   pub is_known : IfSome known (λ all. rows ≡ all)
+  pub of_a_text : IfNone known (IsOfSomeText rows)
   pub answer : IfSome (answer_of (judged_of result)) (IsTheAnswer hands rows)
   pub run : IfOk result (HasItsRun hands rows)

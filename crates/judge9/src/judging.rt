@@ -58,7 +58,8 @@ use track9::{Hands, Tracker};
 /// `Err(OutOfMemory)` it is the lines of the first exchanges, and on `Err(Write)` a first part of these, or of a whole
 /// report.
 ///
-/// Where the reader does not tell its bytes, as standard input and files do not, all this still holds of some rows, and:
+/// Where the reader does not tell its bytes, as standard input and files do not, all this still holds of the rows of some
+/// text, and:
 ///
 /// * A yes has counts that a capture can have: at most 4,000,000 records, of which a whole exchange has 6 to 36
 ///   and the open tail at most 35.
@@ -101,6 +102,7 @@ fn judge_rows<R: Read + Drop, W: Write>(
     hands: Hands,
 ) -> Result<Verdict, JudgeError>
     requires first { rows.old.given ≡ 0 }
+    requires fresh { rows.old.last_time ≡ 0 }
     requires reading { rows.old.standing ≡ Standing.Reading }
     requires states { (s : AState) → Possible tracker.old.states s ↔ IsFirst hands s }
     requires hands { tracker.old.hands ≡ hands }

@@ -63,6 +63,7 @@ fn judge_rows<R: Read + Drop>(
     hands: Hands,
 ) -> Result<RunVerdict, JudgeError>
     requires first { rows.old.given ≡ 0 }
+    requires fresh { rows.old.last_time ≡ 0 }
     requires reading { rows.old.standing ≡ Standing.Reading }
     requires states { (s : AState) → Possible tracker.old.states s ↔ IsFirst hands s }
     requires hands { tracker.old.hands ≡ hands }

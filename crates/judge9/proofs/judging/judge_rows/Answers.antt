@@ -8,7 +8,7 @@ use Rattle.judge9.proofs.judging.judge_rows.Goals as goal
 
 pub rows-init : goal.rows-init
 rows-init g c =
-    so_far-start c.args.view c.args.hands c.args.rows.now c.new-pairer.result c.args.tracker.now _ c.requires.first c.requires.reading c.new-pairer.ensures
+    so_far-start c.args.view c.args.hands c.args.rows.now c.new-pairer.result c.args.tracker.now _ c.requires.first c.requires.fresh c.requires.reading c.new-pairer.ensures
     (follows-start c.args.hands c.args.tracker.now c.requires.states c.requires.hands)
 
 pub returns-in-Err : goal.returns-in-Err

@@ -10,7 +10,7 @@ use Rattle.judge9.proofs.run_judging.judge_rows.Goals as goal
 
 pub rows-init : goal.rows-init
 rows-init g c =
-    with-start c.args.hands c.args.rows.now c.new-pairer.result c.args.tracker.now c.new-trail.result.exchanges.items c.new-trail.result.trackers.items c.requires.first c.requires.reading c.new-pairer.ensures
+    with-start c.args.hands c.args.rows.now c.new-pairer.result c.args.tracker.now c.new-trail.result.exchanges.items c.new-trail.result.trackers.items c.requires.first c.requires.fresh c.requires.reading c.new-pairer.ensures
     (follows-start c.args.hands c.args.tracker.now c.requires.states c.requires.hands) c.new-trail.ensures.exchanges c.new-trail.ensures.trackers
 
 pub returns-in-Err : goal.returns-in-Err
