@@ -33,12 +33,13 @@ impl Read for Cut<'_> {
     }
 }
 
-/// Gives a head, and then one line so many times.
+/// Gives a head, and then one line a read so many times, and counts how often it was asked.
 #[derive(Drop)]
 pub(crate) struct Repeated<'a> {
     rest: &'a [u8],
     line: &'a [u8],
     times: u64,
+    reads: u32,
 }
 
 impl<'a> Repeated<'a> {
@@ -47,42 +48,23 @@ impl<'a> Repeated<'a> {
             rest: head,
             line,
             times,
+            reads: 0,
         }
+    }
+
+    /// How often it was asked.
+    pub(crate) fn reads(&self) -> u32 {
+        self.reads
     }
 }
 
 impl Read for Repeated<'_> {
     fn read(&mut self, buf: &mut [u8]) -> io::Result<usize> {
+        self.reads = self.reads.saturating_add(1);
         if self.rest.is_empty() && self.times > 0 {
             self.times -= 1;
             self.rest = self.line;
         }
         self.rest.read(buf)
-    }
-}
-
-/// Gives its text a few bytes at a time, and counts how often it was asked.
-#[derive(Drop)]
-pub(crate) struct Counting<'a> {
-    text: &'a [u8],
-    reads: usize,
-}
-
-impl<'a> Counting<'a> {
-    pub(crate) fn new(text: &'a [u8]) -> Self {
-        Counting { text, reads: 0 }
-    }
-
-    /// How often it was asked.
-    pub(crate) fn reads(&self) -> usize {
-        self.reads
-    }
-}
-
-impl Read for Counting<'_> {
-    fn read(&mut self, buf: &mut [u8]) -> io::Result<usize> {
-        self.reads = self.reads.saturating_add(1);
-        let most = buf.len().min(4);
-        self.text.read(&mut buf[..most])
     }
 }

@@ -1,6 +1,6 @@
 //! Texts and what is read of them, by hand.
 
-use crate::readers::{Counting, Cut, Repeated};
+use crate::readers::{Cut, Repeated};
 use crate::{CaptureError, CaptureKind, LineByte, Records, Wire, read_capture};
 use std::alloc::Global;
 
@@ -259,6 +259,7 @@ fn readers_that_fail(rt: HostRuntime) {
     // of it of 76.
     for (given, row) in [
         (0, 0),
+        (1, 0),
         (17, 0),
         (18, 1),
         (26, 1),
@@ -329,9 +330,8 @@ fn four_million_records_and_no_more(rt: HostRuntime) {
     }
 }
 
-/// How often a reader of this text is asked in so many calls of `next`.
-fn reads_in(alloc: Global, text: &[u8], calls: u32) -> usize {
-    let mut reader = Counting::new(text);
+/// How often a reader is asked in so many calls of `next`.
+fn reads_in(alloc: Global, mut reader: Repeated<'_>, calls: u32) -> u32 {
     let mut records = Records::new(alloc, &mut reader);
     for _ in 0..calls {
         let _ = records.next();
@@ -341,15 +341,93 @@ fn reads_in(alloc: Global, text: &[u8], calls: u32) -> usize {
 }
 
 #[test]
-fn nothing_more_is_read_once_it_has_ended(rt: HostRuntime) {
-    let refused =
-        b"time_us,wire,byte\n800,C,20\n400,C,01\n800,C,21\n1200,D,10\n1600,D,01\n".as_slice();
-    assert_eq!(rt; reads_in(rt.alloc(), SIX, 0), 0);
-    assert_eq!(rt; reads_in(rt.alloc(), SIX, 7), reads_in(rt.alloc(), SIX, 20));
-    assert_eq!(rt;
-        reads_in(rt.alloc(), refused, 2),
-        reads_in(rt.alloc(), refused, 20)
-    );
+fn a_call_reads_one_row_and_none_behind_the_last(rt: HostRuntime) {
+    // The reader gives a row a read, and the header in two: `csv` asks for its first byte alone, which may begin a
+    // byte order mark. So one read more in a call would be one CSV record more.
+    let good = b"2400,C,20\n".as_slice();
+    let bad = b"400,C,01\n".as_slice();
+    for (head, line, times, calls, reads) in [
+        (HEADER, good, 6, 0, 0),
+        (HEADER, good, 6, 1, 3),
+        (HEADER, good, 6, 6, 8),
+        // The end is one more read, which gives no byte.
+        (HEADER, good, 6, 7, 9),
+        (HEADER, good, 6, 8, 9),
+        (HEADER, good, 6, 20, 9),
+        (HEADER, good, 0, 1, 3),
+        (HEADER, good, 0, 20, 3),
+        // Row 7 is below the time of row 6, which came with the head.
+        (SIX, bad, 9, 6, 2),
+        (SIX, bad, 9, 7, 3),
+        (SIX, bad, 9, 20, 3),
+        // The first record is no header.
+        (good, good, 9, 1, 2),
+        (good, good, 9, 20, 2),
+        // The text is empty.
+        (b"".as_slice(), good, 0, 1, 2),
+        (b"".as_slice(), good, 0, 20, 2),
+    ] {
+        let asked = reads_in(rt.alloc(), Repeated::new(head, line, times), calls);
+        assert_eq!(rt; asked, reads, "{calls} calls, {times} rows");
+    }
+}
+
+#[test]
+fn four_million_rows_and_one_more_are_read(rt: HostRuntime) {
+    // Two reads for the header, and one a row; of a text of 4,000,000 rows the last one gives no byte.
+    for (rows, calls, reads) in [
+        (4_000_000, 4_000_001, 4_000_003),
+        (u64::MAX, 4_000_000, 4_000_002),
+        (u64::MAX, 4_000_001, 4_000_003),
+        (u64::MAX, 4_000_020, 4_000_003),
+    ] {
+        let reader = Repeated::new(HEADER, b"400,C,20\n", rows);
+        assert_eq!(rt; reads_in(rt.alloc(), reader, calls), reads, "{calls} calls");
+    }
+}
+
+/// Writes the row at which memory was refused, or `whole` where it was not: `tests/refusals.sh` reads it.
+fn tell(rt: &HostRuntime, refused: Option<CaptureError>) {
+    let _ = match refused {
+        Some(refused) => println!(rt; "refused at row {}", refused.row),
+        None => println!(rt; "whole"),
+    };
+}
+
+/// A want of memory, if it is one.
+fn refused(fault: Option<CaptureError>) -> Option<CaptureError> {
+    fault.filter(|fault| fault.kind == CaptureKind::OutOfMemory)
+}
+
+#[test]
+fn a_growth_refused_while_csv_reads(rt: HostRuntime) {
+    // Row 1 is longer than the header, so that `csv` asks for more room at each. It is no record.
+    let text =
+        b"time_us,wire,byte\n1234567890123456789012345678901234567890123456789012345678901234567890\n";
+    let mut records = Records::new(rt.alloc(), text.as_slice());
+    let first = records.next();
+    let memory = refused(first.err());
+    if memory.is_none() {
+        assert_eq!(rt; first, Err(error(CaptureKind::Fields, 1)));
+    }
+    assert_eq!(rt; records.next(), first);
+    tell(&rt, memory);
+}
+
+#[test]
+fn a_growth_refused_while_a_record_is_kept(rt: HostRuntime) {
+    let capture = read_capture(rt.alloc(), b"time_us,wire,byte\n400,C,20\n".as_slice());
+    let memory = refused(capture.fault);
+    if memory.is_none() {
+        assert_eq!(rt; capture.fault, None);
+        assert_eq!(rt;
+            capture.rows.as_slice(),
+            [from_controller(400, 0x20)].as_slice()
+        );
+    } else {
+        assert!(rt; capture.rows.is_empty());
+    }
+    tell(&rt, memory);
 }
 
 #[test]
