@@ -1,1 +1,2 @@
 mod BufferLemmas
+mod ProgramLemmas

@@ -4,3 +4,5 @@ pub mod Outcome
 pub mod Output
 pub mod Judging
 pub mod Source
+pub mod Status
+pub mod Program

@@ -1,8 +1,8 @@
 //! A writer behind a buffer that tries no failed write again, and writes nothing when it is dropped.
-ghost use Rattle.std.specs.Prelude.{◌≡◌, ◌-◌, ◌≤◌, [], length, drop, take, IfOk, OnOk, vec_capacity, vec_len};
+ghost use Rattle.std.specs.Prelude.{◌≡◌, ◌-◌, ◌≤◌, [], length, drop, take, IfErr, IfOk, OnOk, vec_capacity, vec_len};
 ghost use Rattle.std.specs.Io.KnownBytes.{Appends};
 
-use std::alloc::{AllocError, Global};
+use std::alloc::Global;
 use std::io::{self, Write};
 
 /// How many bytes a buffer holds.
@@ -21,13 +21,24 @@ impl<W: Write + Drop> Buffered<W> {
     ghost use Rattle.std.specs.Io.KnownBytes.{Keeps};
     ghost use Rattle.ninecheck.specs.Output.{contents_behind, held_contents};
 
-    /// A buffer that holds nothing, before this writer. An error comes where memory is refused.
-    pub fn new(alloc: Global, to: W) -> Result<Buffered<W>, AllocError>
+    /// A buffer that holds nothing, before this writer. The writer comes back where memory is refused.
+    pub fn new(alloc: Global, to: W) -> Result<Buffered<W>, W>
         ensures empty { IfOk result (λ b. b.held.items ≡ []) }
-        ensures behind { IfOk result (λ b. contents_behind W.contents b ≡ W.contents to) }
+        ensures behind { IfOk result (λ b. b.to ≡ to) }
+        ensures refused { IfErr result (λ w. w ≡ to) }
     {
-        let held = Vec::with_capacity(alloc, CAPACITY)?;
-        Ok(Buffered { to, held })
+        match Vec::with_capacity(alloc, CAPACITY) {
+            Ok(held) => Ok(Buffered { to, held }),
+            Err(_) => Err(to),
+        }
+    }
+
+    /// The writer, without the bytes that are still held.
+    pub fn into_writer(self) -> W
+        ensures { W.contents result ≡ contents_behind W.contents self }
+    {
+        let Buffered { to, .. } = self;
+        to
     }
 
     /// Hands on what is held. After an error, what was not taken is still held.

@@ -3,6 +3,7 @@ ghost use Rattle.std.specs.Prelude.{◌≡◌};
 ghost use Rattle.ninecheck.specs.Word.{word_of};
 
 use capture9::{CaptureError, CaptureKind};
+use clap::Error;
 use std::fmt;
 
 /// The line on standard error, which its `Display` writes without a line feed.
@@ -63,7 +64,7 @@ fn word_of<'a>(kind: CaptureKind) -> &'a str
     }
 }
 
-/// How the program ends.
+/// How the program ends where its words are a command.
 #[derive(Clone, Copy, Debug, PartialEq, Eq)]
 pub struct Outcome {
     /// The exit status: 0 yes, 1 no, 3 a capture that can't be read, 4 a reader or a writer that failed or a
@@ -81,5 +82,30 @@ impl Outcome {
         ensures { result ≡ record { status = status; line = line } }
     {
         Outcome { status, line }
+    }
+}
+
+/// How the program ends.
+#[derive(Debug, Drop)]
+pub enum End {
+    /// The words are no command, or they ask for help. The `Display` of the error, where there is one, is the text for
+    /// the user; there is none where a word is not UTF-8.
+    Usage(Option<Error>),
+    /// A status, and a line on standard error.
+    Told(Outcome),
+}
+
+impl End {
+    ghost use Rattle.std.specs.Prelude.{◌≡◌};
+    ghost use Rattle.ninecheck.specs.Status.{status_of};
+
+    /// The exit status: 2 where the words are no command, and else that of the outcome.
+    pub fn status(&self) -> u8
+        ensures { result ≡ status_of self.now }
+    {
+        match self {
+            End::Usage(_) => 2,
+            End::Told(outcome) => outcome.status,
+        }
     }
 }

@@ -112,8 +112,10 @@ fn ended<W: Write + Drop>(
     out: &mut Buffered<W>,
     judged: Result<Verdict, JudgeError>,
 ) -> Result<Verdict, JudgeError>
-    ensures { HandsOn judged (held_contents W.contents out.old)
+    ensures handed_on { HandsOn judged (held_contents W.contents out.old)
         result (contents_behind W.contents out.new) }
+    // After a write that failed there is neither a write nor a flush.
+    ensures left_alone { judged ≡ Err JudgeError.Write → out.new ≡ out.old }
 {
     if let Err(JudgeError::Write) = judged {
         return Err(JudgeError::Write);

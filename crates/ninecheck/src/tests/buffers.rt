@@ -2,10 +2,11 @@
 
 use crate::buffered::Buffered;
 use crate::judging::{judge_and_flush, judge_with_run_and_flush};
+use crate::tests::writers::Narrow;
 use capture9::{CaptureError, CaptureKind};
 use judge9::{JudgeError, Verdict, View};
-use std::alloc::Global;
-use std::io::{self, Write};
+use std::alloc::{AllocError, Global};
+use std::io::Write;
 use track9::Hands;
 
 /// PLAY and its acknowledgement.
@@ -15,121 +16,146 @@ const PLAY: &str =
 /// What is answered to it.
 const YES: &str = "yes: records 6, exchanges 1, open 0\n";
 
-/// Takes a byte a call until its room is taken, and fails then. It counts the calls that failed.
-#[derive(Drop)]
-struct Narrow {
-    taken: Vec<u8>,
-    room: usize,
-    failures: usize,
+/// The answer of a judging, with no hands, before this writer; and the writer after it.
+fn judged(
+    alloc: Global,
+    text: &str,
+    view: View,
+    writer: Narrow,
+) -> Option<(Result<Verdict, JudgeError>, Narrow)> {
+    let mut out = Buffered::new(alloc, writer).ok()?;
+    let answer = judge_and_flush(alloc, text.as_bytes(), &mut out, view, Hands::None);
+    Some((answer, out.into_writer()))
 }
 
-impl Narrow {
-    fn new(alloc: Global, room: usize) -> Self {
-        Narrow {
-            taken: Vec::new(alloc),
-            room,
-            failures: 0,
-        }
-    }
-}
-
-impl Write for Narrow {
-    fn write(&mut self, bytes: &[u8]) -> io::Result<usize> {
-        if self.taken.len() >= self.room {
-            self.failures = self.failures.saturating_add(1);
-            return Err(io::Error::from(io::ErrorKind::Interrupted));
-        }
-        match bytes.first() {
-            Some(byte) => {
-                self.taken.push(*byte)?;
-                Ok(1)
-            }
-            None => Ok(0),
-        }
-    }
-
-    fn flush(&mut self) -> io::Result<()> {
-        Ok(())
-    }
+/// The same of a judging with a run.
+fn judged_with_run(
+    alloc: Global,
+    text: &str,
+    writer: Narrow,
+) -> Option<(Result<Verdict, JudgeError>, Narrow)> {
+    let mut out = Buffered::new(alloc, writer).ok()?;
+    let answer = judge_with_run_and_flush(alloc, text.as_bytes(), &mut out, Hands::None);
+    Some((answer, out.into_writer()))
 }
 
 #[test]
 fn the_report_is_handed_on(rt: HostRuntime) {
-    let mut writer = Narrow::new(rt.alloc(), usize::MAX);
-    let mut out = Buffered::new(rt.alloc(), &mut writer).expect(&rt, "memory");
-    let view = View::Verdict;
-    let answer = judge_and_flush(rt.alloc(), PLAY.as_bytes(), &mut out, view, Hands::None);
+    let writer = Narrow::new(rt.alloc(), usize::MAX);
+    let found = judged(rt.alloc(), PLAY, View::Verdict, writer);
+    let (answer, writer) = found.expect(&rt, "memory");
     assert!(rt; answer.is_ok());
-    drop(out);
     assert_eq!(rt; writer.taken.as_slice(), YES.as_bytes());
+    assert_eq!(rt; writer.flushes, 1);
 }
 
 #[test]
-fn a_flush_that_fails_is_a_write_fault(rt: HostRuntime) {
+fn a_write_that_fails_is_a_write_fault(rt: HostRuntime) {
     for room in 0..YES.len() {
-        let mut writer = Narrow::new(rt.alloc(), room);
-        let mut out = Buffered::new(rt.alloc(), &mut writer).expect(&rt, "memory");
-        let view = View::Verdict;
-        let answer = judge_and_flush(rt.alloc(), PLAY.as_bytes(), &mut out, view, Hands::None);
+        let writer = Narrow::new(rt.alloc(), room);
+        let found = judged(rt.alloc(), PLAY, View::Verdict, writer);
+        let (answer, writer) = found.expect(&rt, "memory");
         assert!(rt; answer == Err(JudgeError::Write));
-        drop(out);
         assert_eq!(rt; writer.taken.as_slice(), &YES.as_bytes()[..room]);
-        assert_eq!(rt; writer.failures, 1);
+        assert_eq!(rt; (writer.failures, writer.flushes), (1, 0));
     }
 }
 
 #[test]
 fn a_run_is_handed_on_or_a_first_part_of_it(rt: HostRuntime) {
-    let mut writer = Narrow::new(rt.alloc(), usize::MAX);
-    let mut out = Buffered::new(rt.alloc(), &mut writer).expect(&rt, "memory");
-    let answer = judge_with_run_and_flush(rt.alloc(), PLAY.as_bytes(), &mut out, Hands::None);
+    let writer = Narrow::new(rt.alloc(), usize::MAX);
+    let (answer, writer) = judged_with_run(rt.alloc(), PLAY, writer).expect(&rt, "memory");
     let yes = Verdict::Yes {
         records: 6,
         exchanges: 1,
         tail: 0,
     };
     assert!(rt; answer == Ok(yes));
-    drop(out);
+    assert_eq!(rt; writer.flushes, 1);
     let whole = writer.taken.as_slice();
     assert!(rt; whole.starts_with(b"record 6: goal "));
     assert!(rt; whole.ends_with(YES.as_bytes()));
     for room in 0..whole.len() {
-        let mut writer = Narrow::new(rt.alloc(), room);
-        let mut out = Buffered::new(rt.alloc(), &mut writer).expect(&rt, "memory");
-        let answer = judge_with_run_and_flush(rt.alloc(), PLAY.as_bytes(), &mut out, Hands::None);
+        let writer = Narrow::new(rt.alloc(), room);
+        let (answer, writer) = judged_with_run(rt.alloc(), PLAY, writer).expect(&rt, "memory");
         assert!(rt; answer == Err(JudgeError::Write));
-        drop(out);
         assert_eq!(rt; writer.taken.as_slice(), &whole[..room]);
-        assert_eq!(rt; writer.failures, 1);
+        assert_eq!(rt; (writer.failures, writer.flushes), (1, 0));
+    }
+}
+
+#[test]
+fn a_flush_that_fails_is_a_write_fault(rt: HostRuntime) {
+    for view in [View::Verdict, View::Explain] {
+        let writer = Narrow::that_fails_to_flush(rt.alloc());
+        let found = judged(rt.alloc(), PLAY, view, writer);
+        let (answer, writer) = found.expect(&rt, "memory");
+        assert!(rt; answer == Err(JudgeError::Write));
+        assert!(rt; writer.taken.ends_with(YES.as_bytes()));
+        assert_eq!(rt; writer.flushes, 1);
+    }
+    let writer = Narrow::that_fails_to_flush(rt.alloc());
+    let (answer, writer) = judged_with_run(rt.alloc(), PLAY, writer).expect(&rt, "memory");
+    assert!(rt; answer == Err(JudgeError::Write));
+    assert!(rt; writer.taken.ends_with(YES.as_bytes()));
+    assert_eq!(rt; writer.flushes, 1);
+}
+
+/// PLAY and its acknowledgement 200 times.
+fn many_exchanges(alloc: Global) -> Result<String, AllocError> {
+    let records = ["C,20", "C,01", "C,21", "D,10", "D,01", "D,11"];
+    let mut text = String::from_str(alloc, "time_us,wire,byte\n")?;
+    for at in 0..1200u16 {
+        let (time, record) = (u32::from(at) * 400, records[usize::from(at % 6)]);
+        text.push_str(format!(in alloc; "{time},{record}\n")?.as_str())?;
+    }
+    Ok(text)
+}
+
+#[test]
+fn nothing_is_written_after_a_write_that_failed(rt: HostRuntime) {
+    let text = many_exchanges(rt.alloc()).expect(&rt, "memory");
+    let writer = Narrow::new(rt.alloc(), usize::MAX);
+    let found = judged(rt.alloc(), text.as_str(), View::Explain, writer);
+    let (answer, writer) = found.expect(&rt, "memory");
+    assert!(rt; answer.is_ok());
+    let whole = writer.taken.as_slice();
+    assert!(rt; whole.len() > 20_000);
+    for room in [0, 1, 8191, 8192, 8193, 16_384, 20_000] {
+        let writer = Narrow::new(rt.alloc(), room);
+        let found = judged(rt.alloc(), text.as_str(), View::Explain, writer);
+        let (answer, writer) = found.expect(&rt, "memory");
+        assert!(rt; answer == Err(JudgeError::Write));
+        assert_eq!(rt; writer.taken.as_slice(), &whole[..room]);
+        assert_eq!(rt; (writer.failures, writer.flushes), (1, 0));
     }
 }
 
 #[test]
 fn nothing_is_written_of_a_run_of_a_bad_capture(rt: HostRuntime) {
-    let mut writer = Narrow::new(rt.alloc(), usize::MAX);
-    let mut out = Buffered::new(rt.alloc(), &mut writer).expect(&rt, "memory");
     let text = "time_us,wire,byte\n400,C,20\n800,X,01\n";
-    let answer = judge_with_run_and_flush(rt.alloc(), text.as_bytes(), &mut out, Hands::None);
+    let writer = Narrow::new(rt.alloc(), usize::MAX);
+    let (answer, writer) = judged_with_run(rt.alloc(), text, writer).expect(&rt, "memory");
     let refusal = CaptureError {
         kind: CaptureKind::Wire,
         row: 2,
     };
     assert!(rt; answer == Err(JudgeError::Capture(refusal)));
-    drop(out);
     assert!(rt; writer.taken.is_empty());
 }
 
 #[test]
 fn more_than_the_buffer_holds(rt: HostRuntime) {
-    let mut writer = Narrow::new(rt.alloc(), usize::MAX);
-    let mut out = Buffered::new(rt.alloc(), &mut writer).expect(&rt, "memory");
+    let writer = Narrow::new(rt.alloc(), usize::MAX);
+    let found = Buffered::new(rt.alloc(), writer).ok();
+    let mut out = found.expect(&rt, "memory");
     for _ in 0..5 {
         for digit in b"0123456789" {
             out.write_all(&[*digit; 400]).expect(&rt, "room");
         }
     }
     out.flush().expect(&rt, "room");
-    drop(out);
+    let writer = out.into_writer();
     assert_eq!(rt; writer.taken.len(), 20_000);
     for (at, byte) in writer.taken.iter().enumerate() {
         assert_eq!(rt; *byte, b"0123456789"[at / 400 % 10]);
@@ -139,8 +165,10 @@ fn more_than_the_buffer_holds(rt: HostRuntime) {
 #[test]
 fn a_dropped_buffer_writes_nothing(rt: HostRuntime) {
     let mut writer = Narrow::new(rt.alloc(), usize::MAX);
-    let mut out = Buffered::new(rt.alloc(), &mut writer).expect(&rt, "memory");
-    out.write_all(b"held").expect(&rt, "room");
-    drop(out);
+    let is_held = match Buffered::new(rt.alloc(), &mut writer) {
+        Ok(mut out) => out.write_all(b"held").is_ok(),
+        Err(_) => false,
+    };
+    assert!(rt; is_held);
     assert!(rt; writer.taken.is_empty());
 }

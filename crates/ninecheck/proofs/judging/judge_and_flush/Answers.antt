@@ -5,5 +5,5 @@ returns-clause-told g c = record {
   judged = c.judge-judged.result;
   all = _;
   is_judged = c.judge-judged.ensures.told;
-  hands_on = c.ended.ensures;
+  hands_on = c.ended.ensures.handed_on;
 }

@@ -1,0 +1,158 @@
+//! The program from its words to its end, over readers and writers that are made here.
+
+use crate::ending::{End, Line, Outcome};
+use crate::program::run_program;
+use crate::tests::writers::Narrow;
+use std::alloc::{AllocError, Global};
+use std::io;
+use words9::WordsFault;
+
+/// PLAY and its acknowledgement.
+const PLAY: &str =
+    "time_us,wire,byte\n400,C,20\n800,C,01\n1200,C,21\n1600,D,10\n2000,D,01\n2400,D,11\n";
+
+/// What is answered to it.
+const YES: &str = "yes: records 6, exchanges 1, open 0\n";
+
+/// A status reply that the deck is not in local, and then one that it is: somebody has switched it.
+const SWITCHED: &str = "time_us,wire,byte\n\
+    400,C,61\n800,C,20\n1200,C,01\n1600,C,82\n2000,D,71\n2400,D,20\n2800,D,00\n3200,D,91\n\
+    3600,C,61\n4000,C,20\n4400,C,01\n4800,C,82\n5200,D,71\n5600,D,20\n6000,D,01\n6400,D,92\n";
+
+/// The words of a command line.
+fn words_of(alloc: Global, words: &[&str]) -> Result<Vec<String>, AllocError> {
+    let mut all = Vec::new(alloc);
+    for word in words {
+        all.push(String::from_str(alloc, word)?)?;
+    }
+    Ok(all)
+}
+
+/// What stands for the files: `switched.csv`, and PLAY on standard input. Nothing else can be opened.
+fn opened<'a>(file: Option<String>) -> io::Result<&'a [u8]> {
+    match file {
+        None => Ok(PLAY.as_bytes()),
+        Some(name) => match name.as_str() {
+            "switched.csv" => Ok(SWITCHED.as_bytes()),
+            "" => Err(io::Error::from(io::ErrorKind::OutOfMemory)),
+            _ => Err(io::Error::from(io::ErrorKind::NotFound)),
+        },
+    }
+}
+
+/// The end of the program on these words, before this writer.
+fn end_on(rt: &HostRuntime, words: &[&str], writer: Narrow) -> (End, Narrow) {
+    let words = words_of(rt.alloc(), words).map_err(|_| WordsFault::NoMemory);
+    run_program(rt.alloc(), words, |file| opened(file), writer)
+}
+
+/// Whether the program ends so.
+fn is_told(end: &End, status: u8, line: Line) -> bool {
+    match end {
+        End::Usage(_) => false,
+        End::Told(outcome) => { end.status() == status && *outcome == Outcome { status, line } }
+    }
+}
+
+#[test]
+fn the_task_of_the_words_is_carried_out(rt: HostRuntime) {
+    let (yes, no) = (
+        "yes: records 16, exchanges 2, open 0\n",
+        "no at record 16: M1 no run remains\n",
+    );
+    let table: [(&[&str], u8, &str, &str); 9] = [
+        (&["check"], 0, YES, YES),
+        (&["check", "--hands"], 0, YES, YES),
+        (&["check", "switched.csv"], 1, no, no),
+        (&["check", "switched.csv", "--hands"], 0, yes, yes),
+        (&["explain"], 0, "record 6: PLAY -> ACK, ", YES),
+        (
+            &["explain", "switched.csv"],
+            1,
+            "record 8: STATUS SENSE -> ",
+            no,
+        ),
+        (
+            &["explain", "--hands", "switched.csv"],
+            0,
+            "record 8: STATUS SENSE -> ",
+            yes,
+        ),
+        (&["run"], 0, "record 6: goal PLAY, ", YES),
+        (
+            &["run", "--hands", "switched.csv"],
+            0,
+            "record 8: goal ",
+            yes,
+        ),
+    ];
+    for (words, status, start, last) in &table {
+        let (end, writer) = end_on(&rt, *words, Narrow::new(rt.alloc(), usize::MAX));
+        assert!(rt; is_told(&end, *status, Line::NoLine));
+        assert!(rt; writer.taken.starts_with(start.as_bytes()));
+        assert!(rt; writer.taken.ends_with(last.as_bytes()));
+        assert_eq!(rt; writer.flushes, 1);
+    }
+}
+
+#[test]
+fn words_that_are_no_command_end_with_2(rt: HostRuntime) {
+    let table: [&[&str]; 4] = [
+        &[],
+        &["frob"],
+        &["check", "--hands", "--hands"],
+        &["--help"],
+    ];
+    for words in &table {
+        let (end, writer) = end_on(&rt, *words, Narrow::new(rt.alloc(), usize::MAX));
+        assert_eq!(rt; end.status(), 2);
+        assert!(rt; matches!(&end, End::Usage(Some(_))));
+        assert!(rt; writer.taken.is_empty());
+        assert_eq!(rt; writer.flushes, 0);
+    }
+}
+
+#[test]
+fn there_may_be_no_words(rt: HostRuntime) {
+    let writer = Narrow::new(rt.alloc(), usize::MAX);
+    let words = Err(WordsFault::Usage(None));
+    let (end, writer) = run_program(rt.alloc(), words, |file| opened(file), writer);
+    assert_eq!(rt; end.status(), 2);
+    assert!(rt; matches!(&end, End::Usage(None)));
+    let words = Err(WordsFault::NoMemory);
+    let (end, writer) = run_program(rt.alloc(), words, |file| opened(file), writer);
+    assert!(rt; is_told(&end, 5, Line::NoMemory));
+    assert!(rt; writer.taken.is_empty());
+}
+
+#[test]
+fn a_file_that_is_not_opened(rt: HostRuntime) {
+    for verb in ["check", "explain", "run"] {
+        let (end, writer) = end_on(
+            &rt,
+            &[verb, "absent.csv"],
+            Narrow::new(rt.alloc(), usize::MAX),
+        );
+        assert!(rt; is_told(&end, 4, Line::CannotOpen));
+        assert!(rt; writer.taken.is_empty());
+        let (end, writer) = end_on(&rt, &[verb, ""], Narrow::new(rt.alloc(), usize::MAX));
+        assert!(rt; is_told(&end, 5, Line::NoMemory));
+        assert!(rt; writer.taken.is_empty());
+    }
+}
+
+#[test]
+fn a_writer_that_fails(rt: HostRuntime) {
+    for verb in ["check", "explain", "run"] {
+        let (end, writer) = end_on(&rt, &[verb], Narrow::new(rt.alloc(), 4));
+        assert!(rt; is_told(&end, 4, Line::WriteFault));
+        assert_eq!(rt;
+            (writer.taken.len(), writer.failures, writer.flushes),
+            (4, 1, 0)
+        );
+        let (end, writer) = end_on(&rt, &[verb], Narrow::that_fails_to_flush(rt.alloc()));
+        assert!(rt; is_told(&end, 4, Line::WriteFault));
+        assert!(rt; writer.taken.ends_with(YES.as_bytes()));
+        assert_eq!(rt; writer.flushes, 1);
+    }
+}

@@ -1,0 +1,64 @@
+//! A writer that takes a byte a call, and fails when it is told to.
+
+use std::alloc::Global;
+use std::io::{self, Write};
+
+/// Takes a byte a call until its room is taken, and fails then. Its flush fails where it is told so. It counts the
+/// writes that failed, and the flushes.
+#[derive(Drop)]
+pub struct Narrow {
+    pub taken: Vec<u8>,
+    room: usize,
+    can_flush: bool,
+    pub failures: usize,
+    pub flushes: usize,
+}
+
+impl Narrow {
+    /// A writer with this room, whose flush does not fail.
+    pub fn new(alloc: Global, room: usize) -> Self {
+        Narrow {
+            taken: Vec::new(alloc),
+            room,
+            can_flush: true,
+            failures: 0,
+            flushes: 0,
+        }
+    }
+
+    /// A writer that takes all, and whose flush fails.
+    pub fn that_fails_to_flush(alloc: Global) -> Self {
+        Narrow {
+            taken: Vec::new(alloc),
+            room: usize::MAX,
+            can_flush: false,
+            failures: 0,
+            flushes: 0,
+        }
+    }
+}
+
+impl Write for Narrow {
+    fn write(&mut self, bytes: &[u8]) -> io::Result<usize> {
+        if self.taken.len() >= self.room {
+            self.failures = self.failures.saturating_add(1);
+            return Err(io::Error::from(io::ErrorKind::Interrupted));
+        }
+        match bytes.first() {
+            Some(byte) => {
+                self.taken.push(*byte)?;
+                Ok(1)
+            }
+            None => Ok(0),
+        }
+    }
+
+    fn flush(&mut self) -> io::Result<()> {
+        self.flushes = self.flushes.saturating_add(1);
+        if self.can_flush {
+            Ok(())
+        } else {
+            Err(io::Error::from(io::ErrorKind::Other))
+        }
+    }
+}
