@@ -6,6 +6,7 @@ mod copied;
 mod counted;
 mod drawn;
 mod member;
+mod none_left;
 mod plain_deck;
 mod possible;
 mod refused;
