@@ -8,6 +8,7 @@ mod hostile;
 mod lines;
 mod long;
 mod parts;
+mod read_faults;
 mod readers;
 mod run_lines;
 mod runs;

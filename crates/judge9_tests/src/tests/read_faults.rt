@@ -1,0 +1,59 @@
+//! Readers that fail: the row that is told is the one after the records that they gave.
+
+use super::readers::Cut;
+use super::report;
+use super::texts::PLAYED_AND_CUT;
+use capture9::{CaptureError, CaptureKind};
+use judge9::{JudgeError, View, judge_with_run};
+use std::alloc::Global;
+use std::process::Abort;
+use track9::Hands;
+
+/// The fewest and the most bytes that a reader gives before it fails, and the row that is then told. The header has 18
+/// bytes, the first two rows have 9 each, the four after them 10 each, and the text ends inside row 7.
+const FAULTS: [(usize, usize, u32); 8] = [
+    (0, 17, 0),
+    (18, 26, 1),
+    (27, 35, 2),
+    (36, 45, 3),
+    (46, 55, 4),
+    (56, 65, 5),
+    (66, 75, 6),
+    (76, 82, 7),
+];
+
+/// The fault of a reader, at a row.
+fn fault(row: u32) -> JudgeError {
+    JudgeError::Capture(CaptureError {
+        kind: CaptureKind::Read,
+        row,
+    })
+}
+
+/// Compares what is answered to a reader that fails after so many bytes with the fault at this row.
+fn tell_fault(rt: &impl Abort, alloc: Global, hands: Hands, given: usize, row: u32) {
+    for view in [View::Verdict, View::Explain] {
+        let (answer, _) = report(alloc, Cut::new(PLAYED_AND_CUT, given), view, hands);
+        assert!(rt; answer == Err(fault(row)), "{view:?} after {given} bytes");
+    }
+    let run = judge_with_run(alloc, Cut::new(PLAYED_AND_CUT, given), hands);
+    assert!(rt; run.err() == Some(fault(row)), "a run after {given} bytes");
+}
+
+fn tell_faults(rt: &impl Abort, alloc: Global, hands: Hands) {
+    for (fewest, most, row) in FAULTS {
+        for given in fewest..=most {
+            tell_fault(rt, alloc, hands, given, row);
+        }
+    }
+}
+
+#[test]
+fn untouched(rt: HostRuntime) {
+    tell_faults(&rt, rt.alloc(), Hands::None);
+}
+
+#[test]
+fn touched(rt: HostRuntime) {
+    tell_faults(&rt, rt.alloc(), Hands::Allowed);
+}
