@@ -17,11 +17,11 @@ import shutil
 import subprocess
 import sys
 
-# The parts, in the order of the page: the crate of each function, and its name.
+# The parts, in the order of the page: the crate of each function, and its name, with its type before a method's.
 PARTS = [
     [("judge9", "judge")],
     [("judge9", "judge_with_run"), ("run9", "is_run"), ("judge9", "write_run")],
-    [("words9", "read_words"), ("ninecheck", "judge_and_flush"), ("ninecheck", "judge_with_run_and_flush"), ("ninecheck", "outcome")],
+    [("ninecheck", "run_program"), ("ninecheck", "End::status"), ("ninecheck", "Line::fmt")],
 ]
 PAGE, SECTION = "docs/ARCHITECTURE.md", "## What the theorem says"
 # What may stand before the name that a definition defines.
@@ -155,18 +155,32 @@ class Sources:
             elif head in uses.modules and rest and rest[0]:
                 yield self.target(uses.modules[head], rest[0])
 
-    def from_function(self, crate, name):
-        """What the signature and the clauses of a function name."""
+    def contract(self, crate, name):
+        """The contract of a function with its signature, and of a method's `impl` the ghost lines too; and the names that
+        the file has until then."""
+        owner, _, method = name.rpartition("::")
         for text in self.code[crate]:
-            found = re.search(rf"^(?:pub |pub\(crate\) )?fn {name}\b.*?^\{{", text, re.S | re.M)
-            if found:
-                uses = Uses()
-                for line in text[: found.start()].splitlines():
-                    if line.startswith("ghost use "):
-                        uses.add(line)
-                types = re.findall(r"(?<![\w.])[A-Z]\w*", found[0])
-                return [*self.named(found[0], uses), *(self.type_named(crate, it) for it in types if it not in uses.names)]
+            blocks = [(text, 0)]
+            if owner:
+                blocks = [(it[0], it.start()) for it in re.finditer(rf"^impl\b[^\n]*\b{owner} \{{.*?^\}}", text, re.S | re.M)]
+            for block, start in blocks:
+                indent = "    " if owner else ""
+                found = re.search(rf"^{indent}(?:pub |pub\(crate\) )?fn {method}\b.*?\{{$", block, re.S | re.M)
+                if found:
+                    uses = Uses()
+                    for line in text[: start + found.start()].splitlines():
+                        if line.strip().startswith("ghost use "):
+                            uses.add(line)
+                    ghosts = re.findall(r"^    ghost \w+ = .*$", block, re.M) if owner else []
+                    return "\n".join([found[0], *ghosts]), uses
         sys.exit(f"no function {name} in crates/{crate}/src")
+
+    def from_function(self, crate, name):
+        """What the signature and the clauses of a function name, and its own type."""
+        text, uses = self.contract(crate, name)
+        owner, _, _ = name.rpartition("::")
+        types = re.findall(r"(?<![\w.])[A-Z]\w*", text)
+        return [*self.named(text, uses), *(self.type_named(crate, it) for it in [owner, *types] if it not in uses.names)]
 
     def from_node(self, node):
         kind, place, name = node
