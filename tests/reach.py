@@ -20,7 +20,7 @@ import sys
 # The parts, in the order of the page: the crate of each function, and its name, with its type before a method's.
 PARTS = [
     [("judge9", "judge")],
-    [("judge9", "judge_with_run"), ("run9", "is_run"), ("judge9", "write_run")],
+    [("judge9", "judge_with_run"), ("deck9", "is_run"), ("judge9", "write_run")],
     [("ninecheck", "run_program"), ("ninecheck", "End::status"), ("ninecheck", "Line::fmt")],
 ]
 PAGE, SECTION = "docs/ARCHITECTURE.md", "## What the theorem says"

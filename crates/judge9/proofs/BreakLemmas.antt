@@ -10,9 +10,9 @@ use Rattle.block9.specs.declared.reason.Reason.{Reason}
 use Rattle.block9.specs.declared.reason.Reason.TheVariants.{NoRun}
 use Rattle.block9.specs.Pairer.{Paired, Refuses, Takes}
 use Rattle.block9.proofs.CutLemmas.{cut_once, exchange_less, tail_by_kept}
-use Rattle.track9.specs.declared.state.Hands.{Hands}
-use Rattle.track9.specs.declared.state.State.{State}
-use Rattle.track9.specs.Run.{HasRun}
+use Rattle.deck9.specs.declared.state.Hands.{Hands}
+use Rattle.deck9.specs.declared.state.State.{State}
+use Rattle.deck9.specs.Run.{HasRun}
 use Rattle.track9.specs.Tracker.{Possible, Tracked}
 use Rattle.judge9.specs.declared.error.JudgeError.{JudgeError}
 use Rattle.judge9.specs.declared.verdict.Verdict.{Verdict}

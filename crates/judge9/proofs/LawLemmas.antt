@@ -11,8 +11,8 @@ use Rattle.block9.specs.Reason.{IsFirst, order}
 use Rattle.block9.proofs.LineLemmas.{same_parts}
 use Rattle.block9.proofs.OrderLemmas.{first_once}
 use Rattle.block9.proofs.CutLemmas.{cut_once, kept_less, tail_by_kept}
-use Rattle.track9.specs.declared.state.Hands.{Hands}
-use Rattle.track9.specs.Run.{HasRun}
+use Rattle.deck9.specs.declared.state.Hands.{Hands}
+use Rattle.deck9.specs.Run.{HasRun}
 use Rattle.judge9.specs.declared.verdict.Verdict.TheVariants as verdict
 use Rattle.judge9.specs.Verdict.{Applies, IsOk, Breaks, IsFirstBreak, AreCounts}
 use Rattle.judge9.specs.Judging.{Answer, IsAnswer}

@@ -27,7 +27,7 @@ use Rattle.judge9.proofs.LawLemmas.{cut_tail}
 use Rattle.judge9.proofs.SoFar.{SoFar}
 use Rattle.judge9.proofs.TellLemmas.{refused, told-refusal}
 use Rattle.judge9.specs.Working.{IsSame, Judges, Puts}
-use Rattle.track9.specs.declared.state.Hands.{Hands}
+use Rattle.deck9.specs.declared.state.Hands.{Hands}
 use Rattle.track9.specs.Tracker.{Tracked}
 
 -- an exchange has 6 to 36 records

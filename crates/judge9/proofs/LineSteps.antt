@@ -15,12 +15,12 @@ use Rattle.track9.specs.declared.knowledge.Known.TheVariants as known
 use Rattle.track9.specs.declared.knowledge.KnownEntry.{KnownEntry}
 use Rattle.track9.specs.declared.knowledge.KnownEntry.TheVariants as entry
 use Rattle.track9.specs.declared.knowledge.Knowledge.{Knowledge}
-use Rattle.track9.specs.declared.state.Hands.{Hands}
-use Rattle.track9.specs.declared.state.Register.{Register}
-use Rattle.track9.specs.declared.state.Register.TheVariants.{RegIn, RegOut, RegAudioIn, RegAudioOut}
-use Rattle.track9.specs.declared.state.State.{State}
+use Rattle.deck9.specs.declared.state.Hands.{Hands}
+use Rattle.deck9.specs.declared.state.Register.{Register}
+use Rattle.deck9.specs.declared.state.Register.TheVariants.{RegIn, RegOut, RegAudioIn, RegAudioOut}
+use Rattle.deck9.specs.declared.state.State.{State}
 use Rattle.track9.specs.Knowledge.{IsKnowledge, IsKnown, IsKnownEntry}
-use Rattle.track9.specs.Run.{Ends}
+use Rattle.deck9.specs.Run.{Ends}
 use Rattle.judge9.specs.declared.verdict.View.{View}
 use Rattle.judge9.specs.declared.verdict.View.TheVariants as view
 use Rattle.judge9.specs.Explanation.{line_of_exchange}

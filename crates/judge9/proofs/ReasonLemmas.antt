@@ -14,8 +14,8 @@ use Rattle.block9.proofs.KeptLemmas.{quiet_kept}
 use Rattle.block9.proofs.OrderLemmas.{first_before_last, first_holds, last_is_first, rank, rank_low, rank_once}
 use Rattle.block9.proofs.ReasonLemmas as block
 use Rattle.block9.proofs.TailLemmas.{last_time-append}
-use Rattle.track9.specs.declared.state.Hands.{Hands}
-use Rattle.track9.specs.Run.{HasRun}
+use Rattle.deck9.specs.declared.state.Hands.{Hands}
+use Rattle.deck9.specs.Run.{HasRun}
 use Rattle.judge9.specs.Verdict.{Applies, IsOk, Breaks}
 use Rattle.judge9.proofs.CutSteps.{Grows, cut-exchange, cut-tail, kept_grows}
 use Rattle.judge9.proofs.LawLemmas.{cut_tail, kept_of}

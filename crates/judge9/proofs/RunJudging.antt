@@ -15,11 +15,11 @@ use Rattle.block9.specs.declared.reason.Reason.{Reason}
 use Rattle.block9.specs.declared.reason.Reason.TheVariants.{NoRun}
 use Rattle.block9.specs.Exchange.{Cut}
 use Rattle.block9.specs.Pairer.{Paired, Refuses, Takes}
-use Rattle.track9.specs.declared.state.Hands.{Hands}
-use Rattle.track9.specs.declared.state.State.{State}
-use Rattle.track9.specs.Run.{HasRun}
+use Rattle.deck9.specs.declared.state.Hands.{Hands}
+use Rattle.deck9.specs.declared.state.State.{State}
+use Rattle.deck9.specs.Run.{HasRun}
 use Rattle.track9.specs.Tracker.{Possible, Tracked}
-use Rattle.track9.proofs.RunLemmas.{some_end}
+use Rattle.deck9.proofs.RunLemmas.{some_end}
 use Rattle.judge9.specs.declared.error.JudgeError.{JudgeError}
 use Rattle.judge9.specs.declared.error.JudgeError.TheVariants as error
 use Rattle.judge9.specs.declared.run_verdict.RunVerdict.{RunVerdict}
@@ -27,7 +27,7 @@ use Rattle.judge9.specs.declared.run_verdict.RunVerdict.TheVariants as run
 use Rattle.judge9.specs.declared.verdict.Verdict.TheVariants.{Yes, No}
 use Rattle.judge9.specs.declared.verdict.View.TheVariants as view
 use Rattle.judge9.specs.Error.{refusal_of}
-use Rattle.run9.specs.Run.{IsRun}
+use Rattle.deck9.specs.Run.{IsRun}
 use Rattle.judge9.specs.RunVerdict.{IsJudgedRun}
 use Rattle.judge9.specs.Verdict.{CanBeVerdict}
 use Rattle.judge9.specs.Working.Trail.{Follows, IsTrail, JudgesRun}

@@ -4,8 +4,8 @@ use Rattle.std.proofs.KnownBytes.{Appends-trans}
 use Rattle.std.proofs.lemmas.List.{append-nil}
 use Rattle.std.specs.Io.KnownBytes.{Appends}
 use Rattle.block9.specs.declared.pairer.Exchange.{Exchange}
-use Rattle.track9.specs.declared.state.Hands.{Hands}
-use Rattle.track9.specs.declared.state.State.{State}
+use Rattle.deck9.specs.declared.state.Hands.{Hands}
+use Rattle.deck9.specs.declared.state.State.{State}
 use Rattle.judge9.specs.Report.{AppendsPart, records_of}
 use Rattle.judge9.specs.RunText.{line_of_state, lines_of_run}
 use Rattle.judge9.proofs.LineSteps.{part_after}

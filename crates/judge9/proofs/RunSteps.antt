@@ -2,13 +2,13 @@
 use Rattle.std.proofs.Common.{◌≡◌, ◌↔◌, IsTrue, Bool, false, List, [], ◌∷◌, ◌++◌, sym, subst, ◌∙◌}
 use Rattle.std.proofs.lemmas.Bool.{false≢true}
 use Rattle.block9.specs.declared.pairer.Exchange.{Exchange}
-use Rattle.track9.specs.declared.state.Hands.{Hands}
-use Rattle.track9.specs.declared.state.State.{State}
-use Rattle.track9.specs.Run.{Ends, HasRun}
-use Rattle.track9.specs.State.{IsFirst}
-use Rattle.track9.specs.Step.{AreReached, Exchanges}
+use Rattle.deck9.specs.declared.state.Hands.{Hands}
+use Rattle.deck9.specs.declared.state.State.{State}
+use Rattle.deck9.specs.Run.{Ends, HasRun}
+use Rattle.deck9.specs.State.{IsFirst}
+use Rattle.deck9.specs.Step.{AreReached, Exchanges}
 use Rattle.track9.specs.Tracker.{Possible, Tracked}
-use Rattle.track9.proofs.RunLemmas.{ends_more, ends_none, some_end}
+use Rattle.deck9.proofs.RunLemmas.{ends_more, ends_none, some_end}
 use Rattle.judge9.specs.Working.Trail.{Follows}
 
 -- ---- runs

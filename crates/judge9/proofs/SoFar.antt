@@ -10,8 +10,8 @@ use Rattle.capture9.proofs.GivenFacts.{AreGiven}
 use Rattle.block9.specs.declared.pairer.Exchange.{Exchange}
 use Rattle.block9.specs.Exchange.{Cut}
 use Rattle.block9.specs.Pairer.{Paired}
-use Rattle.track9.specs.declared.state.Hands.{Hands}
-use Rattle.track9.specs.Run.{HasRun}
+use Rattle.deck9.specs.declared.state.Hands.{Hands}
+use Rattle.deck9.specs.Run.{HasRun}
 use Rattle.track9.specs.Tracker.{Tracked}
 use Rattle.judge9.specs.declared.verdict.View.{View}
 use Rattle.judge9.specs.Report.{IsExplained}

@@ -15,8 +15,8 @@ use Rattle.block9.specs.declared.pairer.Step.TheVariants as step
 use Rattle.block9.specs.Exchange.{Cut}
 use Rattle.block9.specs.Exchange.IsTail.{nothing}
 use Rattle.block9.specs.Pairer.{Paired, Takes}
-use Rattle.track9.specs.declared.state.Hands.{Hands}
-use Rattle.track9.specs.Run.{Ends, HasRun}
+use Rattle.deck9.specs.declared.state.Hands.{Hands}
+use Rattle.deck9.specs.Run.{Ends, HasRun}
 use Rattle.track9.specs.Tracker.{Possible, Tracked}
 use Rattle.judge9.specs.declared.verdict.View.{View}
 use Rattle.judge9.specs.declared.verdict.View.TheVariants as view
@@ -24,7 +24,7 @@ use Rattle.judge9.specs.Report.{IsExplained}
 use Rattle.judge9.specs.Working.{IsLineOf}
 use Rattle.judge9.proofs.CutSteps.{cut-step, exchanges_after}
 use Rattle.judge9.proofs.LineSteps.{cut_len, explained_more, line_same, total}
-use Rattle.run9.proofs.RunSearch.{run_start}
+use Rattle.deck9.proofs.RunSearch.{run_start}
 use Rattle.judge9.specs.Working.Trail.{Follows}
 use Rattle.judge9.proofs.SoFar.{SoFar, WereRead}
 

@@ -22,8 +22,8 @@ use Rattle.block9.specs.declared.reason.Reason.{Reason}
 use Rattle.block9.specs.Exchange.{Cut}
 use Rattle.block9.specs.Exchange.IsTail.{nothing}
 use Rattle.block9.specs.Pairer.{Paired, Takes}
-use Rattle.track9.specs.declared.state.Hands.{Hands}
-use Rattle.track9.specs.Run.{HasRun}
+use Rattle.deck9.specs.declared.state.Hands.{Hands}
+use Rattle.deck9.specs.Run.{HasRun}
 use Rattle.track9.specs.Tracker.{Possible, Tracked}
 use Rattle.judge9.specs.declared.error.JudgeError.{JudgeError}
 use Rattle.judge9.specs.declared.error.JudgeError.TheVariants as error
@@ -38,7 +38,7 @@ use Rattle.judge9.specs.Report.{IsVerdictAfter, Told, Written, line_of}
 use Rattle.judge9.specs.Working.{Explains, IsSame, Puts}
 use Rattle.judge9.proofs.LawLemmas.{answer_once}
 use Rattle.judge9.proofs.LineSteps.{none_after, part_after}
-use Rattle.run9.proofs.RunSearch.{run_start}
+use Rattle.deck9.proofs.RunSearch.{run_start}
 use Rattle.judge9.specs.Working.Trail.{Follows}
 use Rattle.judge9.proofs.Seen.{Seen, given_of_some_text, rest_has, seen}
 use Rattle.judge9.proofs.SoFar.{SoFar}

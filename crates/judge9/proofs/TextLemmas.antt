@@ -11,8 +11,8 @@ use Rattle.block9.specs.declared.pairer.Exchange.{Exchange}
 use Rattle.block9.specs.declared.reason.Reason.{Reason}
 use Rattle.block9.specs.Exchange.{Cut, IsKept}
 use Rattle.block9.proofs.CutLemmas.{cut_once, kept_less, tail_by_kept}
-use Rattle.track9.specs.declared.state.Hands.{Hands}
-use Rattle.track9.specs.Run.{HasRun}
+use Rattle.deck9.specs.declared.state.Hands.{Hands}
+use Rattle.deck9.specs.Run.{HasRun}
 use Rattle.track9.proofs.OneKnowledge.{known_of_ends}
 use Rattle.judge9.specs.declared.error.JudgeError.{JudgeError}
 use Rattle.judge9.specs.declared.error.JudgeError.TheVariants as error

@@ -2,13 +2,13 @@
 use Rattle.std.proofs.Common.{◌≡◌, ◌⊎◌, inl, inr, ℕ, ◌+◌, ◌*◌, ◌<◌, ◌≤◌, ◌∙◌, List, [], ◌∷◌, ◌++◌, length, reverse, take, drop, slice_range, ◌-◌, Some, Result, Ok, Err, IfOk, OnOk, zero, suc, slice_get, refl, sym, ap, subst, arith}
 use Rattle.std.proofs.lemmas.List.{append_assoc, append-nil, drop-take, length_push, reverse-append, take-append-drop, take-append-le, take_all, take-take}
 use Rattle.block9.specs.declared.pairer.Exchange.{Exchange}
-use Rattle.track9.specs.declared.state.Hands.{Hands}
-use Rattle.track9.specs.declared.state.State.{State}
-use Rattle.track9.specs.Run.{Ends, IsRunFrom, last_state}
-use Rattle.track9.specs.State.{IsFirst}
-use Rattle.track9.specs.Step.{AreReached, Exchanges}
+use Rattle.deck9.specs.declared.state.Hands.{Hands}
+use Rattle.deck9.specs.declared.state.State.{State}
+use Rattle.deck9.specs.Run.{Ends, IsRunFrom, last_state}
+use Rattle.deck9.specs.State.{IsFirst}
+use Rattle.deck9.specs.Step.{AreReached, Exchanges}
 use Rattle.track9.specs.Tracker.{Possible, Tracked}
-use Rattle.track9.proofs.RunLemmas.{ends_more}
+use Rattle.deck9.proofs.RunLemmas.{ends_more}
 use Rattle.judge9.specs.Working.Trail.{Follows, GoesBack, IsTrail, Leads}
 
 -- ---- where exchanges lead

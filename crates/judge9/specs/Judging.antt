@@ -7,7 +7,7 @@ use Rattle.capture9.specs.declared.line_byte.LineByte.{LineByte}
 use Rattle.capture9.specs.Capture.{IsStartOf}
 use Rattle.capture9.specs.Error.{IsAfter, IsAtItsRow, is_of_text}
 use Rattle.capture9.specs.Rows.{HasHeader, Rows}
-use Rattle.track9.specs.declared.state.Hands.{Hands}
+use Rattle.deck9.specs.declared.state.Hands.{Hands}
 use Rattle.judge9.specs.declared.error.JudgeError.{JudgeError}
 use Rattle.judge9.specs.declared.error.JudgeError.TheVariants as error
 use Rattle.judge9.specs.declared.verdict.Verdict.{Verdict}

@@ -13,9 +13,9 @@ use Rattle.block9.specs.Block.{spelling}
 use Rattle.block9.specs.Exchange.{Cut}
 use Rattle.block9.specs.Reason.{name_of, text_of}
 use Rattle.track9.specs.declared.knowledge.Knowledge.{Knowledge}
-use Rattle.track9.specs.declared.state.Hands.{Hands}
+use Rattle.deck9.specs.declared.state.Hands.{Hands}
 use Rattle.track9.specs.Knowledge.{IsKnowledge}
-use Rattle.track9.specs.Run.{Ends, HasRun}
+use Rattle.deck9.specs.Run.{Ends, HasRun}
 use Rattle.judge9.specs.declared.error.JudgeError.{JudgeError}
 use Rattle.judge9.specs.declared.error.JudgeError.TheVariants as error
 use Rattle.judge9.specs.declared.verdict.Verdict.{Verdict}

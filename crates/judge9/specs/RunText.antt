@@ -6,10 +6,10 @@ use Rattle.track9.specs.declared.knowledge.Known.TheVariants as known
 use Rattle.track9.specs.declared.knowledge.KnownEntry.{KnownEntry}
 use Rattle.track9.specs.declared.knowledge.KnownEntry.TheVariants as entry
 use Rattle.track9.specs.declared.knowledge.Knowledge.{Knowledge}
-use Rattle.track9.specs.declared.state.Entry.{Entry}
-use Rattle.track9.specs.declared.state.Entry.TheVariants.{Clear, At}
-use Rattle.track9.specs.declared.state.Hands.{Hands}
-use Rattle.track9.specs.declared.state.State.{State}
+use Rattle.deck9.specs.declared.state.Entry.{Entry}
+use Rattle.deck9.specs.declared.state.Entry.TheVariants.{Clear, At}
+use Rattle.deck9.specs.declared.state.Hands.{Hands}
+use Rattle.deck9.specs.declared.state.State.{State}
 use Rattle.judge9.specs.declared.run_verdict.RunVerdict.{RunVerdict}
 use Rattle.judge9.specs.declared.run_verdict.RunVerdict.TheVariants as run
 use Rattle.judge9.specs.declared.verdict.Verdict.TheVariants as verdict

@@ -6,14 +6,14 @@ use Rattle.capture9.specs.declared.line_byte.LineByte.{LineByte}
 use Rattle.capture9.specs.Rows.{Rows}
 use Rattle.capture9.specs.SomeText.{IsOfSomeText}
 use Rattle.block9.specs.Exchange.{Cut}
-use Rattle.track9.specs.declared.state.Hands.{Hands}
+use Rattle.deck9.specs.declared.state.Hands.{Hands}
 use Rattle.judge9.specs.declared.error.JudgeError.{JudgeError}
 use Rattle.judge9.specs.declared.run_verdict.RunVerdict.{RunVerdict}
 use Rattle.judge9.specs.declared.run_verdict.RunVerdict.TheVariants as run
 use Rattle.judge9.specs.declared.verdict.Verdict.{Verdict}
 use Rattle.judge9.specs.declared.verdict.Verdict.TheVariants as verdict
 use Rattle.judge9.specs.Judging.{IsTheAnswer, answer_of}
-use Rattle.run9.specs.Run.{IsRun}
+use Rattle.deck9.specs.Run.{IsRun}
 
 -- the verdict alone, with the number of the exchanges
 abbrev pub verdict_of : RunVerdict → Verdict

@@ -6,8 +6,8 @@ use Rattle.block9.specs.declared.reason.Reason.{Reason}
 use Rattle.block9.specs.declared.reason.Reason.TheVariants.{NoRun}
 use Rattle.block9.specs.Exchange.{Cut, IsExchange}
 use Rattle.block9.specs.Reason.{Holds, IsFirst, order}
-use Rattle.track9.specs.declared.state.Hands.{Hands}
-use Rattle.track9.specs.Run.{HasRun}
+use Rattle.deck9.specs.declared.state.Hands.{Hands}
+use Rattle.deck9.specs.Run.{HasRun}
 use Rattle.judge9.specs.declared.verdict.Verdict.{Verdict}
 use Rattle.judge9.specs.declared.verdict.Verdict.TheVariants.{Yes, No}
 

@@ -9,8 +9,8 @@ use Rattle.capture9.specs.declared.error.CaptureKind.TheVariants as kind
 use Rattle.capture9.specs.Rows.{Rows}
 use Rattle.block9.specs.declared.pairer.Exchange.{Exchange}
 use Rattle.track9.specs.declared.knowledge.Knowledge.{Knowledge}
-use Rattle.track9.specs.declared.state.Hands.{Hands}
-use Rattle.track9.specs.declared.state.State.{State}
+use Rattle.deck9.specs.declared.state.Hands.{Hands}
+use Rattle.deck9.specs.declared.state.State.{State}
 use Rattle.track9.specs.Knowledge.{IsKnowledge}
 use Rattle.judge9.specs.declared.error.JudgeError.{JudgeError}
 use Rattle.judge9.specs.declared.error.JudgeError.TheVariants as error

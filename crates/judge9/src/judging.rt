@@ -7,8 +7,8 @@ ghost use Rattle.judge9.specs.Judging.{CanBeResult, IsTheAnswer, StoppedBefore, 
 ghost use Rattle.judge9.specs.Report.{Told, line_of};
 ghost use Rattle.judge9.specs.Verdict.{CanBeVerdict};
 ghost use Rattle.judge9.specs.Working.{Explains, IsSame, Judges, Puts};
-ghost use Rattle.track9.specs.declared.state.State.{State as AState};
-ghost use Rattle.track9.specs.State.{IsFirst};
+ghost use Rattle.deck9.specs.declared.state.State.{State as AState};
+ghost use Rattle.deck9.specs.State.{IsFirst};
 ghost use Rattle.track9.specs.Tracker.{Possible};
 
 use crate::error::JudgeError;
@@ -18,10 +18,11 @@ use crate::verdict_line::put_verdict_line;
 use crate::writing::put_all;
 use block9::{Exchange, Pairer, Reason, Step};
 use capture9::{CaptureError, CaptureKind, Records};
+use deck9::Hands;
 use std::alloc::Global;
 use std::io::{Read, Write};
 use tc25::SpanSet;
-use track9::{Hands, Tracker};
+use track9::Tracker;
 
 /// Judges the capture that the reader gives, and writes the report that the view asks for.
 ///

@@ -9,13 +9,13 @@ ghost use Rattle.capture9.specs.Rows.{Rows};
 ghost use Rattle.judge9.specs.Judging.{Answer, IsAnswer};
 ghost use Rattle.judge9.specs.Report.{AppendsPart, IsText, Told};
 ghost use Rattle.judge9.specs.Verdict.{Breaks, IsOk};
-ghost use Rattle.track9.specs.Run.{HasRun};
+ghost use Rattle.deck9.specs.Run.{HasRun};
 
 use crate::error::JudgeError;
 use crate::verdict::{Verdict, View};
 use block9::Reason;
 use capture9::LineByte;
-use track9::Hands;
+use deck9::Hands;
 
 /// A list of records has at most one cut into exchanges and a tail.
 pub fn one_cut()

@@ -3,7 +3,7 @@
 //! [`judge`] reads the records from a text, feeds them to a pairer, lets a tracker observe each exchange, and writes the
 //! report: where an explanation is asked for a line for each exchange, and the line of the verdict. The module [`laws`]
 //! states what holds of the definitions that its contract cites. [`judge_with_run`] hands a run of the deck out with a yes,
-//! [`write_run`] writes it, and `is_run` of the crate `run9` says whether it is one.
+//! [`write_run`] writes it, and `is_run` of the crate `deck9` says whether it is one.
 #![tactic(auto)]
 
 mod error;
@@ -19,10 +19,10 @@ mod verdict;
 mod verdict_line;
 mod writing;
 
+pub use deck9::is_run;
 pub use error::JudgeError;
 pub use judging::judge;
 pub use run_judging::judge_with_run;
 pub use run_text::write_run;
 pub use run_verdict::RunVerdict;
-pub use run9::is_run;
 pub use verdict::{Verdict, View};

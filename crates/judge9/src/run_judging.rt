@@ -5,8 +5,8 @@ ghost use Rattle.capture9.specs.Rows.{rows_of};
 ghost use Rattle.judge9.specs.Judging.{CanBeResult, IsTheAnswer, StoppedBefore, answer_of};
 ghost use Rattle.judge9.specs.RunVerdict.{IsJudgedRun, judged_of};
 ghost use Rattle.judge9.specs.Working.Trail.{JudgesRun};
-ghost use Rattle.track9.specs.declared.state.State.{State as AState};
-ghost use Rattle.track9.specs.State.{IsFirst};
+ghost use Rattle.deck9.specs.declared.state.State.{State as AState};
+ghost use Rattle.deck9.specs.State.{IsFirst};
 ghost use Rattle.track9.specs.Tracker.{Possible};
 
 use crate::error::JudgeError;
@@ -14,10 +14,11 @@ use crate::run_verdict::RunVerdict;
 use crate::trail::Trail;
 use block9::{Pairer, Reason, Step};
 use capture9::{CaptureError, CaptureKind, Records};
+use deck9::Hands;
 use std::alloc::Global;
 use std::io::Read;
 use tc25::SpanSet;
-use track9::{Hands, Tracker};
+use track9::Tracker;
 
 /// Judges the capture that the reader gives, as [`judge`](crate::judge) does, and hands out a yes with a run of the
 /// deck: the exchanges, and a state of the deck after each of them, such that some first state, drifts and steps of

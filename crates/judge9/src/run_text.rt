@@ -13,10 +13,10 @@ use crate::error::JudgeError;
 use crate::run_verdict::RunVerdict;
 use crate::writing::WriteFault;
 use block9::{Exchange, Reason};
+use deck9::{Hands, State};
 use state_line::write_state_line;
 use std::io::Write;
 use straight::{write_count, write_text, write_word};
-use track9::{Hands, State};
 
 /// Writes the text of a run: for a yes a line for each exchange, with the number of its last record and the state after
 /// it, and then the line of the verdict; for a no that line alone.

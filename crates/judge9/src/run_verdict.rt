@@ -1,7 +1,7 @@
 //! What is answered to a capture where a run of the deck is asked for.
 
 use block9::{Exchange, Reason};
-use track9::State;
+use deck9::State;
 
 /// The verdict on the records of a capture, and where it is a yes a run of the deck that gives its replies.
 #[derive(Debug, Drop, PartialEq, Eq)]

@@ -4,19 +4,20 @@
 //! first of them. That needs the states that were possible before each exchange. Kept are those before every 256th
 //! alone; those between are made again, stretch by stretch, while going back.
 ghost use Rattle.std.specs.Prelude.{◌≡◌, ◌<◌, ◌≤◌, ◌*◌, ◌++◌, [], ◌∷◌, IfOk, OnOk, length, take};
-ghost use Rattle.run9.specs.Run.{IsRun};
+ghost use Rattle.deck9.specs.Run.{IsRun};
 ghost use Rattle.judge9.specs.Working.Trail.{Follows, GoesBack, IsTrail, Leads};
-ghost use Rattle.track9.specs.Run.{Ends};
-ghost use Rattle.track9.specs.State.{IsFirst};
-ghost use Rattle.track9.specs.Step.{AreReached, Exchanges};
+ghost use Rattle.deck9.specs.Run.{Ends};
+ghost use Rattle.deck9.specs.State.{IsFirst};
+ghost use Rattle.deck9.specs.Step.{AreReached, Exchanges};
 ghost use Rattle.track9.specs.Tracker.{Possible};
-ghost use Rattle.track9.specs.declared.state.Hands.{Hands as AHands};
-ghost use Rattle.track9.specs.declared.state.State.{State as AState};
+ghost use Rattle.deck9.specs.declared.state.Hands.{Hands as AHands};
+ghost use Rattle.deck9.specs.declared.state.State.{State as AState};
 
 use block9::Exchange;
+use deck9::State;
 use std::alloc::{AllocError, Global};
 use tc25::SpanSet;
-use track9::{State, Tracker};
+use track9::Tracker;
 
 /// How many exchanges a stretch has.
 const STRETCH: usize = 256;

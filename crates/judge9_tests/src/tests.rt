@@ -17,6 +17,7 @@ mod worked;
 mod writers;
 
 use changed::refuse_changes;
+use deck9::Hands;
 use judge9::{JudgeError, RunVerdict, Verdict, View, is_run, judge, judge_with_run};
 use std::alloc::{AllocError, Global};
 use std::fmt::Write;
@@ -24,7 +25,6 @@ use std::io::Read;
 use std::process::Abort;
 use std::test::Fail;
 use texts::HEADER;
-use track9::Hands;
 use writers::Narrow;
 
 /// The text of a capture whose records are 400 microseconds apart.

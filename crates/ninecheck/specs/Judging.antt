@@ -2,7 +2,7 @@
 use Rattle.std.specs.Prelude.{◌≡◌, ◌⊎◌, ℕ, List, Option, Result, Ok, Err}
 use Rattle.std.specs.Io.KnownBytes.{Appends, Keeps}
 use Rattle.capture9.specs.Rows.{Rows}
-use Rattle.track9.specs.declared.state.Hands.{Hands}
+use Rattle.deck9.specs.declared.state.Hands.{Hands}
 use Rattle.judge9.specs.declared.error.JudgeError.{JudgeError}
 use Rattle.judge9.specs.declared.error.JudgeError.TheVariants as error
 use Rattle.judge9.specs.declared.run_verdict.RunVerdict.{RunVerdict}

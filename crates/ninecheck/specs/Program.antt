@@ -10,7 +10,7 @@ use Rattle.std.specs.declared.io.ErrorKind.TheVariants.{OutOfMemory}
 use Rattle.capture9.specs.declared.error.CaptureError.{CaptureError}
 use Rattle.capture9.specs.declared.error.CaptureKind.TheVariants as kind
 use Rattle.capture9.specs.Rows.{Rows, rows_of}
-use Rattle.track9.specs.declared.state.Hands.{Hands}
+use Rattle.deck9.specs.declared.state.Hands.{Hands}
 use Rattle.judge9.specs.declared.error.JudgeError.{JudgeError}
 use Rattle.judge9.specs.declared.error.JudgeError.TheVariants as error
 use Rattle.judge9.specs.declared.verdict.Verdict.{Verdict}

@@ -10,10 +10,10 @@ ghost use Rattle.ninecheck.specs.Judging.{EndsAs, HandsOn, TellsRun, WritesRun};
 
 use crate::buffered::Buffered;
 use capture9::{CaptureError, CaptureKind};
+use deck9::Hands;
 use judge9::{JudgeError, RunVerdict, Verdict, View, judge, judge_with_run, write_run};
 use std::alloc::Global;
 use std::io::{Read, Write};
-use track9::Hands;
 
 /// Judges the capture that the reader gives, and hands the whole report on to the writer behind the buffer.
 ///

@@ -7,10 +7,10 @@ use crate::buffered::Buffered;
 use crate::ending::{End, Line, Outcome};
 use crate::judging::{judge_and_flush, judge_with_run_and_flush};
 use crate::status::outcome;
+use deck9::Hands;
 use judge9::{JudgeError, Verdict, View};
 use std::alloc::Global;
 use std::io::{self, Read, Write};
-use track9::Hands;
 use words9::{Task, Verb, WordsFault, read_words};
 
 /// The program from its words, or from why there are none, to its end: reads the task, opens its capture, judges that

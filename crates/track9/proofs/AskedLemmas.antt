@@ -4,25 +4,26 @@ use Rattle.std.proofs.lemmas.Bool.{eqb-true, eq-eqb, false≢true}
 use Rattle.std.proofs.lemmas.Bool.Decides.{nat_tests}
 use Rattle.tc25.specs.Day.{day, next_frame, prev_frame}
 use Rattle.track9.specs.declared.asked.Asked.{Asked}
-use Rattle.track9.specs.declared.effect.Change.{Change}
-use Rattle.track9.specs.declared.effect.Change.TheVariants.{SetSomewhere, SetAt, Next, Prev, Reset, Recall}
-use Rattle.track9.specs.declared.effect.Effect.{Effect}
-use Rattle.track9.specs.declared.effect.Effect.TheVariants as effect
-use Rattle.track9.specs.declared.mode.Mode.{Mode}
-use Rattle.track9.specs.declared.mode.Mode.TheVariants as mode
-use Rattle.track9.specs.declared.state.Entry.{Entry}
-use Rattle.track9.specs.declared.state.Entry.TheVariants.{Clear, At}
-use Rattle.track9.specs.declared.state.Hands.{Hands}
-use Rattle.track9.specs.declared.state.Hands.TheVariants as hands
-use Rattle.track9.specs.declared.state.Register.{Register}
-use Rattle.track9.specs.declared.state.Register.TheVariants.{RegIn, RegOut, RegAudioIn, RegAudioOut}
-use Rattle.track9.specs.declared.state.State.{State}
-use Rattle.track9.specs.Effect.{Becomes, Does, moved_entry}
-use Rattle.track9.specs.Mode.{index_of, is_mode}
+use Rattle.deck9.specs.declared.effect.Change.{Change}
+use Rattle.deck9.specs.declared.effect.Change.TheVariants.{SetSomewhere, SetAt, Next, Prev, Reset, Recall}
+use Rattle.deck9.specs.declared.effect.Effect.{Effect}
+use Rattle.deck9.specs.declared.effect.Effect.TheVariants as effect
+use Rattle.deck9.specs.declared.mode.Mode.{Mode}
+use Rattle.deck9.specs.declared.mode.Mode.TheVariants as mode
+use Rattle.deck9.specs.declared.state.Entry.{Entry}
+use Rattle.deck9.specs.declared.state.Entry.TheVariants.{Clear, At}
+use Rattle.deck9.specs.declared.state.Hands.{Hands}
+use Rattle.deck9.specs.declared.state.Hands.TheVariants as hands
+use Rattle.deck9.specs.declared.state.Register.{Register}
+use Rattle.deck9.specs.declared.state.Register.TheVariants.{RegIn, RegOut, RegAudioIn, RegAudioOut}
+use Rattle.deck9.specs.declared.state.State.{State}
+use Rattle.deck9.specs.Effect.{Becomes, Does, moved_entry}
+use Rattle.deck9.specs.Mode.{index_of, is_mode}
 use Rattle.track9.specs.ModeSet.{bit_of, has}
-use Rattle.track9.specs.State.{IsEntry, IsState, entry_of, with_entry}
+use Rattle.deck9.specs.State.{IsEntry, IsState, entry_of, with_entry}
 use Rattle.track9.specs.Working.Asked.{Fits, Is, IsAsked, any_goal, any_registers, any_tape, asked_before, asked_of, entry_before, just_state, same_fact, with_asked}
-use Rattle.track9.proofs.PairLemmas.{all_has, is_mode-same, just_mode, mode_just}
+use Rattle.deck9.proofs.ModeLemmas.{is_mode-same}
+use Rattle.track9.proofs.PairLemmas.{all_has, just_mode, mode_just}
 use Rattle.track9.proofs.PartLemmas.{entry_put, put_there}
 
 -- ---- states by their fields

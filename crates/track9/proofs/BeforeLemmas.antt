@@ -7,32 +7,32 @@ use Rattle.block9.specs.declared.block.Block.{Block}
 use Rattle.block9.specs.declared.command.Command.{Command}
 use Rattle.block9.specs.Command.{is_nak}
 use Rattle.track9.specs.declared.asked.Asked.{Asked}
-use Rattle.track9.specs.declared.effect.Effect.TheVariants as effect
-use Rattle.track9.specs.declared.mode.Mode.{Mode}
-use Rattle.track9.specs.declared.mode.Mode.TheVariants.{Stop}
+use Rattle.deck9.specs.declared.effect.Effect.TheVariants as effect
+use Rattle.deck9.specs.declared.mode.Mode.{Mode}
+use Rattle.deck9.specs.declared.mode.Mode.TheVariants.{Stop}
 use Rattle.track9.specs.declared.mode_set.ModeSet.{ModeSet}
 use Rattle.track9.specs.declared.pairs.Pairs.{Pairs}
-use Rattle.track9.specs.declared.sense.Sense.{Sense}
-use Rattle.track9.specs.declared.sense.Sense.TheVariants as sense
-use Rattle.track9.specs.declared.state.Entry.{Entry}
-use Rattle.track9.specs.declared.state.Hands.{Hands}
-use Rattle.track9.specs.declared.state.Register.{Register}
-use Rattle.track9.specs.declared.state.Register.TheVariants.{RegIn, RegOut, RegAudioIn, RegAudioOut}
-use Rattle.track9.specs.declared.state.State.{State}
-use Rattle.track9.specs.Drift.{Drift, DriftsTo, KeepsRest, PairReaches}
-use Rattle.track9.specs.Effect.{Does, effect_of}
-use Rattle.track9.specs.Mode.{index_of, is_mode, is_one_of, on_the_way}
+use Rattle.deck9.specs.declared.sense.Sense.{Sense}
+use Rattle.deck9.specs.declared.sense.Sense.TheVariants as sense
+use Rattle.deck9.specs.declared.state.Entry.{Entry}
+use Rattle.deck9.specs.declared.state.Hands.{Hands}
+use Rattle.deck9.specs.declared.state.Register.{Register}
+use Rattle.deck9.specs.declared.state.Register.TheVariants.{RegIn, RegOut, RegAudioIn, RegAudioOut}
+use Rattle.deck9.specs.declared.state.State.{State}
+use Rattle.deck9.specs.Drift.{Drift, DriftsTo, KeepsRest, PairReaches}
+use Rattle.deck9.specs.Effect.{Does, effect_of}
+use Rattle.deck9.specs.Mode.{index_of, is_mode, is_one_of, on_the_way}
 use Rattle.track9.specs.ModeSet.{has}
-use Rattle.track9.specs.Shows.{Agrees, Shows, sense_of}
-use Rattle.track9.specs.State.{IsState, entry_of}
-use Rattle.track9.specs.Step.{Exchanges, Step, done, ignored, refused}
+use Rattle.deck9.specs.Shows.{Agrees, Shows, sense_of}
+use Rattle.deck9.specs.State.{IsState, entry_of}
+use Rattle.deck9.specs.Step.{Exchanges, Step, done, ignored, refused}
 use Rattle.track9.specs.Tracker.{Allows, PartStates, Possible, StateSet, entries_of, has_pair, part_of, shown_with}
 use Rattle.track9.specs.Working.Asked.{Fits, Is, IsAsked, IsUndone, LeadsTo, PairRunsTo, RunsTo, asked_before, asked_of, just_state}
 use Rattle.track9.specs.Working.Pairs.{both, drifted, drifted_with, goals_of, is_some, masked}
 use Rattle.track9.specs.Working.Parts.{HasState}
 use Rattle.track9.specs.Working.States.{AreBelow, IsHandled, is_panel_live}
 use Rattle.track9.proofs.AskedLemmas.{fits_just, fits_self, found_from, found_none, found_to, none_some, some_same}
-use Rattle.track9.proofs.DriftLemmas.{drift_from_pairs, pairs_from_drift, same_entries}
+use Rattle.deck9.proofs.DriftLemmas.{drift_from_pairs, pairs_from_drift, same_entries}
 use Rattle.track9.proofs.KnownModes.{goal_to}
 use Rattle.track9.proofs.MemberLemmas.{some_goal, state_there}
 use Rattle.track9.proofs.ModeLemmas.{has-and}

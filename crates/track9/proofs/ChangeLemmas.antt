@@ -2,12 +2,12 @@
 use Rattle.std.proofs.Common.{◌≡◌, ◌⊎◌, inl, inr, Bool, true, false, refl, sym, ◌∙◌, subst}
 use Rattle.std.proofs.lemmas.Bool.{false≢true}
 use Rattle.tc25.specs.Times.{BelowDay}
-use Rattle.track9.specs.declared.effect.Change.{Change}
-use Rattle.track9.specs.declared.state.Entry.{Entry}
-use Rattle.track9.specs.declared.state.Register.{Register}
-use Rattle.track9.specs.declared.state.State.{State}
-use Rattle.track9.specs.Effect.{Becomes}
-use Rattle.track9.specs.State.{entry_of, with_entry}
+use Rattle.deck9.specs.declared.effect.Change.{Change}
+use Rattle.deck9.specs.declared.state.Entry.{Entry}
+use Rattle.deck9.specs.declared.state.Register.{Register}
+use Rattle.deck9.specs.declared.state.State.{State}
+use Rattle.deck9.specs.Effect.{Becomes}
+use Rattle.deck9.specs.State.{entry_of, with_entry}
 use Rattle.track9.specs.Tracker.{Allows, InPart, PartStates, entries_of}
 use Rattle.track9.specs.Working.Parts.{Whole, changed_entries, changed_part, is_live, with_entries}
 use Rattle.track9.proofs.EntryLemmas.{changed_from, changed_to, some_allowed, widened_from, widened_same, widened_to}

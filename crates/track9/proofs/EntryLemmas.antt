@@ -12,13 +12,13 @@ use Rattle.tc25.proofs.DayLemmas.{ReadsAs-from_time_of, time_of-from_ReadsAs}
 use Rattle.tc25.specs.Times.{Times, every_time, just, image, BelowDay}
 use Rattle.tc25.specs.Working.TimesWhere.{contains-every_time}
 use Rattle.tc25.proofs.TimesLemmas.{same_times, contains-just, contains-insert_nat, contains-items_nat, image_from, image_to}
-use Rattle.track9.specs.declared.state.Entry.{Entry}
-use Rattle.track9.specs.declared.state.Entry.TheVariants.{Clear, At}
-use Rattle.track9.specs.declared.effect.Change.{Change}
-use Rattle.track9.specs.declared.effect.Change.TheVariants.{SetSomewhere, SetAt, Next, Prev, Reset, Recall}
-use Rattle.track9.specs.Effect.{Becomes, moved_entry}
-use Rattle.track9.specs.Shows.{Says, Tells}
-use Rattle.track9.specs.State.{is_set}
+use Rattle.deck9.specs.declared.state.Entry.{Entry}
+use Rattle.deck9.specs.declared.state.Entry.TheVariants.{Clear, At}
+use Rattle.deck9.specs.declared.effect.Change.{Change}
+use Rattle.deck9.specs.declared.effect.Change.TheVariants.{SetSomewhere, SetAt, Next, Prev, Reset, Recall}
+use Rattle.deck9.specs.Effect.{Becomes, moved_entry}
+use Rattle.deck9.specs.Shows.{Says, Tells}
+use Rattle.deck9.specs.State.{is_set}
 use Rattle.track9.specs.Tracker.{Allows, Entries}
 use Rattle.track9.specs.Working.Parts.{bit_in}
 use Rattle.track9.specs.Working.Entries.{agreeing, changed, is_nil, no_entries, said, some_entry, widened}

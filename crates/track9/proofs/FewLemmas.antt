@@ -3,13 +3,13 @@ use Rattle.std.proofs.Common.{◌≡◌, ℕ, ◌≤◌, ◌+◌, Bool, true, fa
 use Rattle.std.specs.FinSet as set
 use Rattle.tc25.specs.Times.{BelowDay, Times, begin_count, every_time, just}
 use Rattle.tc25.proofs.CountLemmas.{begin_count-empty, begin_count-every_time, begin_count-insert, begin_count-just, begin_count-next, begin_count-prev, begin_count-span_count, begin_count-widened_next, begin_count-widened_prev, span_count-in_day}
-use Rattle.track9.specs.declared.effect.Change.{Change}
-use Rattle.track9.specs.declared.effect.Change.TheVariants.{SetSomewhere, SetAt, Next, Prev, Reset, Recall}
-use Rattle.track9.specs.declared.effect.Effect.{Effect}
-use Rattle.track9.specs.declared.effect.Effect.TheVariants as effect
+use Rattle.deck9.specs.declared.effect.Change.{Change}
+use Rattle.deck9.specs.declared.effect.Change.TheVariants.{SetSomewhere, SetAt, Next, Prev, Reset, Recall}
+use Rattle.deck9.specs.declared.effect.Effect.{Effect}
+use Rattle.deck9.specs.declared.effect.Effect.TheVariants as effect
 use Rattle.track9.specs.declared.presets.Presets.{Presets}
-use Rattle.track9.specs.declared.state.Register.{Register}
-use Rattle.track9.specs.declared.state.Register.TheVariants.{RegIn, RegOut, RegAudioIn, RegAudioOut}
+use Rattle.deck9.specs.declared.state.Register.{Register}
+use Rattle.deck9.specs.declared.state.Register.TheVariants.{RegIn, RegOut, RegAudioIn, RegAudioOut}
 use Rattle.track9.specs.Presets.{count_of, one_more, with_one}
 use Rattle.track9.specs.Tracker.{Entries, PartStates, StateSet, entries_of, part_of}
 use Rattle.track9.specs.Working.Entries.{agreeing, changed, said, widened}

@@ -1,13 +1,13 @@
 -- What is forgotten: states of a part, and of all parts.
 use Rattle.std.proofs.Common.{◌≡◌, inl, inr, ◌||◌, Bool, true, false, if◌then◌else◌, refl, sym, ◌∙◌, subst}
 use Rattle.std.proofs.lemmas.Bool.{false≢true, or_cases, or_left, or_right}
-use Rattle.track9.specs.declared.effect.Effect.TheVariants as effect
-use Rattle.track9.specs.declared.state.Hands.{Hands}
-use Rattle.track9.specs.declared.state.Hands.TheVariants as hands
-use Rattle.track9.specs.declared.state.State.{State}
-use Rattle.track9.specs.Effect.{Does}
-use Rattle.track9.specs.State.{IsFirst}
-use Rattle.track9.specs.Step.{AreReached}
+use Rattle.deck9.specs.declared.effect.Effect.TheVariants as effect
+use Rattle.deck9.specs.declared.state.Hands.{Hands}
+use Rattle.deck9.specs.declared.state.Hands.TheVariants as hands
+use Rattle.deck9.specs.declared.state.State.{State}
+use Rattle.deck9.specs.Effect.{Does}
+use Rattle.deck9.specs.State.{IsFirst}
+use Rattle.deck9.specs.Step.{AreReached}
 use Rattle.track9.specs.Tracker.{InPart, PartStates, Possible, StateSet, has_pair, part_of}
 use Rattle.track9.specs.Working.Codes.{is_allowed}
 use Rattle.track9.specs.Working.Parts.{Whole, all_states, forgotten_part, is_live, no_states}

@@ -1,16 +1,17 @@
 -- A new goal: what it makes of the states of a part.
 use Rattle.std.proofs.Common.{◌≡◌, ◌⊎◌, inl, inr, Bool, true, false, if◌then◌else◌, refl, sym, ap, ◌∙◌, subst}
 use Rattle.std.proofs.lemmas.Bool.{eq-eqb, false≢true}
-use Rattle.track9.specs.declared.mode.Mode.{Mode}
+use Rattle.deck9.specs.declared.mode.Mode.{Mode}
 use Rattle.track9.specs.declared.mode_set.ModeSet.{ModeSet}
 use Rattle.track9.specs.declared.pairs.Pairs.{Pairs}
-use Rattle.track9.specs.declared.state.State.{State}
-use Rattle.track9.specs.Mode.{index_of, is_mode}
+use Rattle.deck9.specs.declared.state.State.{State}
+use Rattle.deck9.specs.Mode.{index_of, is_mode}
 use Rattle.track9.specs.ModeSet.{has}
 use Rattle.track9.specs.Tracker.{InPart, PartStates, has_pair, shown_with}
 use Rattle.track9.specs.Working.Pairs.{either, goes, gone, gone_with, joined, modes}
 use Rattle.track9.specs.Working.Parts.{gone_pairs, gone_part}
-use Rattle.track9.proofs.PairLemmas.{goes_from, goes_to, is_mode-same, left2, nothing_has, or2, right2}
+use Rattle.deck9.proofs.ModeLemmas.{is_mode-same}
+use Rattle.track9.proofs.PairLemmas.{goes_from, goes_to, left2, nothing_has, or2, right2}
 use Rattle.track9.proofs.PartLemmas.{in_pairs, pairs_registers, shown_by_goal}
 use Rattle.track9.proofs.ReachLemmas.{ReachedIn}
 

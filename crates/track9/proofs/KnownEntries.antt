@@ -9,12 +9,12 @@ use Rattle.tc25.proofs.CountLemmas.{contains-remove_nat}
 use Rattle.tc25.proofs.TimesLemmas.{contains-just, same_times}
 use Rattle.track9.specs.declared.knowledge.KnownEntry.{KnownEntry}
 use Rattle.track9.specs.declared.knowledge.KnownEntry.TheVariants as entry
-use Rattle.track9.specs.declared.state.Entry.{Entry}
-use Rattle.track9.specs.declared.state.Entry.TheVariants.{Clear, At}
-use Rattle.track9.specs.declared.state.Register.{Register}
-use Rattle.track9.specs.declared.state.State.{State}
+use Rattle.deck9.specs.declared.state.Entry.{Entry}
+use Rattle.deck9.specs.declared.state.Entry.TheVariants.{Clear, At}
+use Rattle.deck9.specs.declared.state.Register.{Register}
+use Rattle.deck9.specs.declared.state.State.{State}
 use Rattle.track9.specs.Knowledge.{IsKnownEntry}
-use Rattle.track9.specs.State.{entry_of, is_set, with_entry}
+use Rattle.deck9.specs.State.{entry_of, is_set, with_entry}
 use Rattle.track9.specs.Tracker.{Allows, Entries, InPart, Possible, StateSet, entries_of, part_of}
 use Rattle.track9.specs.Working.Entries.{is_nil, some_entry}
 use Rattle.track9.specs.Working.Knowing.{KnowsOf, PartKnows, join_options, joined_known}

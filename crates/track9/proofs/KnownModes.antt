@@ -7,13 +7,13 @@ use Rattle.std.specs.Int.{bit_at}
 use Rattle.tc25.proofs.TimesLemmas.{same_test}
 use Rattle.track9.specs.declared.knowledge.Known.{Known}
 use Rattle.track9.specs.declared.knowledge.Known.TheVariants as known
-use Rattle.track9.specs.declared.mode.Mode.{Mode}
-use Rattle.track9.specs.declared.mode.Mode.TheVariants.{Stop, Play, Rec, FastForward, Rewind, Shuttle, Jog, Var, Cued, Eject}
+use Rattle.deck9.specs.declared.mode.Mode.{Mode}
+use Rattle.deck9.specs.declared.mode.Mode.TheVariants.{Stop, Play, Rec, FastForward, Rewind, Shuttle, Jog, Var, Cued, Eject}
 use Rattle.track9.specs.declared.mode_set.ModeSet.{ModeSet}
 use Rattle.track9.specs.declared.pairs.Pairs.{Pairs}
-use Rattle.track9.specs.declared.state.State.{State}
+use Rattle.deck9.specs.declared.state.State.{State}
 use Rattle.track9.specs.Knowledge.{IsKnown}
-use Rattle.track9.specs.Mode.{index_of, is_mode}
+use Rattle.deck9.specs.Mode.{index_of, is_mode}
 use Rattle.track9.specs.ModeSet.{bit_of, has}
 use Rattle.track9.specs.Tracker.{Possible, StateSet, has_pair, part_of, shown_with}
 use Rattle.track9.specs.Working.Knowing.{KnowsModes, goals_in, known_fact, shown_in}
@@ -22,7 +22,8 @@ use Rattle.track9.specs.Working.Parts.{is_live}
 use Rattle.track9.specs.Working.States.{AreWhole, is_panel_live, some_state}
 use Rattle.track9.proofs.ForgetLemmas.{live_some}
 use Rattle.track9.proofs.ModeLemmas.{has-and, has-bit}
-use Rattle.track9.proofs.PairLemmas.{all_has, all_modes, find_mode, goes_from, goes_to, index-mode_of, is_mode-same, just_mode, left2, mode_just, mode_of, mode_some, none_of, nothing_has, or2, right2, some_mode, ten_bits}
+use Rattle.deck9.proofs.ModeLemmas.{index-mode_of, is_mode-same, mode_of}
+use Rattle.track9.proofs.PairLemmas.{all_has, all_modes, find_mode, goes_from, goes_to, just_mode, left2, mode_just, mode_some, none_of, nothing_has, or2, right2, some_mode, ten_bits}
 use Rattle.track9.proofs.PartLemmas.{a_state, in_pairs, shown_by_goal, state_live}
 use Rattle.track9.proofs.ReachLemmas.{impossible, possible}
 use Rattle.track9.proofs.WholeLemmas.{whole_of}

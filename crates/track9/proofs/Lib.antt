@@ -1,7 +1,6 @@
 pub mod AskedLemmas
 pub mod BeforeLemmas
 pub mod ChangeLemmas
-pub mod DriftLemmas
 pub mod EffectLemmas
 pub mod EntryLemmas
 pub mod FewLemmas
@@ -16,7 +15,6 @@ pub mod PairLemmas
 pub mod PanelLemmas
 pub mod PartLemmas
 pub mod ReachLemmas
-pub mod RunLemmas
 pub mod SenseLemmas
 pub mod SetDriftLemmas
 pub mod StepLemmas

@@ -7,17 +7,17 @@ use Rattle.track9.specs.declared.knowledge.Known.TheVariants as known
 use Rattle.track9.specs.declared.knowledge.KnownEntry.{KnownEntry}
 use Rattle.track9.specs.declared.knowledge.KnownEntry.TheVariants as entry
 use Rattle.track9.specs.declared.knowledge.Knowledge.{Knowledge}
-use Rattle.track9.specs.declared.mode.Mode.{Mode}
-use Rattle.track9.specs.declared.state.Entry.{Entry}
-use Rattle.track9.specs.declared.state.Entry.TheVariants.{Clear, At}
-use Rattle.track9.specs.declared.state.Hands.{Hands}
-use Rattle.track9.specs.declared.state.Register.{Register}
-use Rattle.track9.specs.declared.state.Register.TheVariants.{RegIn, RegOut, RegAudioIn, RegAudioOut}
-use Rattle.track9.specs.declared.state.State.{State}
+use Rattle.deck9.specs.declared.mode.Mode.{Mode}
+use Rattle.deck9.specs.declared.state.Entry.{Entry}
+use Rattle.deck9.specs.declared.state.Entry.TheVariants.{Clear, At}
+use Rattle.deck9.specs.declared.state.Hands.{Hands}
+use Rattle.deck9.specs.declared.state.Register.{Register}
+use Rattle.deck9.specs.declared.state.Register.TheVariants.{RegIn, RegOut, RegAudioIn, RegAudioOut}
+use Rattle.deck9.specs.declared.state.State.{State}
 use Rattle.track9.specs.Knowledge.{IsKnowledge, IsKnown, IsKnownEntry}
-use Rattle.track9.specs.Run.{Ends, HasRun}
-use Rattle.track9.specs.State.{entry_of, is_set}
-use Rattle.track9.proofs.RunLemmas.{some_end}
+use Rattle.deck9.specs.Run.{Ends, HasRun}
+use Rattle.deck9.specs.State.{entry_of, is_set}
+use Rattle.deck9.proofs.RunLemmas.{some_end}
 
 known_once : {A : Type 0} (X : State → Type 0) (field : State → A) (a b : Known A) → ((s : State) × X s) → IsKnown X field a → IsKnown X field b → a ≡ b
 known_once X field (known.Is v) (known.Is w) some h k = ap known.Is (sym (h some.0 some.1) ∙ k some.0 some.1)

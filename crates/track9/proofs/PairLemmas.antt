@@ -5,52 +5,19 @@ use Rattle.std.proofs.lemmas.Bool.Decides.{nat_tests}
 use Rattle.std.proofs.lemmas.Nat.{and_mask, pow_pos}
 use Rattle.std.proofs.lemmas.Nat.Bits.{same_from_bits_below, bit_at-pow_other, bit_at-zero, bit_at-lt}
 use Rattle.std.specs.Int.{bit_at}
-use Rattle.track9.specs.declared.mode.Mode.{Mode}
-use Rattle.track9.specs.declared.mode.Mode.TheVariants.{Stop, Play, Rec, FastForward, Rewind, Shuttle, Jog, Var, Cued, Eject}
+use Rattle.deck9.specs.declared.mode.Mode.{Mode}
+use Rattle.deck9.specs.declared.mode.Mode.TheVariants.{Stop, Play, Rec, FastForward, Rewind, Shuttle, Jog, Var, Cued, Eject}
 use Rattle.track9.specs.declared.mode_set.ModeSet.{ModeSet}
 use Rattle.track9.specs.declared.pairs.Pairs.{Pairs}
-use Rattle.track9.specs.Drift.{PairReaches}
-use Rattle.track9.specs.Mode.{index_of, is_mode, is_one_of, on_the_way}
+use Rattle.deck9.specs.Drift.{PairReaches}
+use Rattle.deck9.specs.Mode.{index_of, is_mode, is_one_of, on_the_way}
 use Rattle.track9.specs.ModeSet.{bit_of, has}
 use Rattle.track9.specs.Tracker.{has_pair, shown_with}
 use Rattle.track9.specs.Working.Pairs.{drifted_with, either, goes, halted, is_some, kept_goal, modes, way}
+use Rattle.deck9.proofs.ModeLemmas.{index-mode_of, is_mode-same, mode_of, same_mode}
 use Rattle.track9.proofs.ModeLemmas.{has-or, has-and, has-bit}
 
 -- ---- one mode
-
-abbrev pub mode_of : ℕ → Mode
-mode_of n = if n == 0 then Stop else (if n == 1 then Play else (if n == 2 then Rec else (if n == 3 then FastForward else (if n == 4 then Rewind else (if n == 5 then Shuttle else (if n == 6 then Jog else (if n == 7 then Var else (if n == 8 then Cued else (Eject)))))))))
-
-pub mode_of-index : (m : Mode) → mode_of (index_of m) ≡ m
-mode_of-index Stop = refl
-mode_of-index Play = refl
-mode_of-index Rec = refl
-mode_of-index FastForward = refl
-mode_of-index Rewind = refl
-mode_of-index Shuttle = refl
-mode_of-index Jog = refl
-mode_of-index Var = refl
-mode_of-index Cued = refl
-mode_of-index Eject = refl
-
-pub index-mode_of : (n : ℕ) → n < 10 → index_of (mode_of n) ≡ n
-index-mode_of zero h = refl
-index-mode_of (suc zero) h = refl
-index-mode_of (suc (suc zero)) h = refl
-index-mode_of (suc (suc (suc zero))) h = refl
-index-mode_of (suc (suc (suc (suc zero)))) h = refl
-index-mode_of (suc (suc (suc (suc (suc zero))))) h = refl
-index-mode_of (suc (suc (suc (suc (suc (suc zero)))))) h = refl
-index-mode_of (suc (suc (suc (suc (suc (suc (suc zero))))))) h = refl
-index-mode_of (suc (suc (suc (suc (suc (suc (suc (suc zero)))))))) h = refl
-index-mode_of (suc (suc (suc (suc (suc (suc (suc (suc (suc zero))))))))) h = refl
-index-mode_of (suc (suc (suc (suc (suc (suc (suc (suc (suc (suc r)))))))))) h = absurd (omega (arith, h))
-
-pub same_mode : (a b : Mode) → index_of a ≡ index_of b → a ≡ b
-same_mode a b h = sym (mode_of-index a) ∙ ap mode_of h ∙ mode_of-index b
-
-pub is_mode-same : (a b : Mode) → is_mode a b ≡ true → a ≡ b
-is_mode-same a b h = same_mode a b (eqb-true (index_of a) (index_of b) h)
 
 -- the bit of a mode is its own
 pub just_mode : (g m : Mode) → has (bit_of g) m ≡ true → m ≡ g

@@ -1,11 +1,11 @@
 -- The panel is switched on or off.
 use Rattle.std.proofs.Common.{◌≡◌, ◌⊎◌, inl, inr, Bool, true, false, if◌then◌else◌, refl, sym, ap, ◌∙◌, subst}
 use Rattle.std.proofs.lemmas.Bool.{false≢true}
-use Rattle.track9.specs.declared.state.Register.{Register}
-use Rattle.track9.specs.declared.state.Register.TheVariants.{RegIn, RegOut, RegAudioIn, RegAudioOut}
-use Rattle.track9.specs.declared.state.State.{State}
-use Rattle.track9.specs.State.{entry_of}
-use Rattle.track9.specs.Step.{AreReached}
+use Rattle.deck9.specs.declared.state.Register.{Register}
+use Rattle.deck9.specs.declared.state.Register.TheVariants.{RegIn, RegOut, RegAudioIn, RegAudioOut}
+use Rattle.deck9.specs.declared.state.State.{State}
+use Rattle.deck9.specs.State.{entry_of}
+use Rattle.deck9.specs.Step.{AreReached}
 use Rattle.track9.specs.Tracker.{Allows, InPart, PartStates, Possible, StateSet, entries_of, part_of}
 use Rattle.track9.specs.Working.Parts.{all_states, no_states}
 use Rattle.track9.specs.Working.States.{AreBelow, IsSettled, after_drift, after_panel, is_panel_live}

@@ -1,7 +1,7 @@
 -- Steps that keep local and panel: what they reach in a set of states, part by part.
 use Rattle.std.proofs.Common.{◌≡◌, Bool, true, false, if◌then◌else◌, refl, sym, subst}
-use Rattle.track9.specs.declared.state.State.{State}
-use Rattle.track9.specs.Step.{AreReached}
+use Rattle.deck9.specs.declared.state.State.{State}
+use Rattle.deck9.specs.Step.{AreReached}
 use Rattle.track9.specs.Tracker.{InPart, PartStates, Possible, StateSet, part_of}
 use Rattle.track9.specs.Working.Parts.{is_live}
 use Rattle.track9.specs.Working.States.{map_parts}

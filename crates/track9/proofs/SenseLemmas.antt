@@ -3,15 +3,15 @@ use Rattle.std.proofs.Common.{◌≡◌, ◌&&◌, ℕ, List, Bool, true, false,
 use Rattle.std.proofs.lemmas.Bool.{and_from, and_parts}
 use Rattle.tc25.specs.Day.{time_of}
 use Rattle.block9.specs.declared.block.Block.{Block}
-use Rattle.track9.specs.declared.mode.Mode.{Mode}
+use Rattle.deck9.specs.declared.mode.Mode.{Mode}
 use Rattle.track9.specs.declared.mode_set.ModeSet.{ModeSet}
 use Rattle.track9.specs.declared.pairs.Pairs.{Pairs}
-use Rattle.track9.specs.declared.state.Register.{Register}
-use Rattle.track9.specs.declared.state.Register.TheVariants.{RegIn, RegOut, RegAudioIn, RegAudioOut}
-use Rattle.track9.specs.declared.state.State.{State}
+use Rattle.deck9.specs.declared.state.Register.{Register}
+use Rattle.deck9.specs.declared.state.Register.TheVariants.{RegIn, RegOut, RegAudioIn, RegAudioOut}
+use Rattle.deck9.specs.declared.state.State.{State}
 use Rattle.track9.specs.ModeSet.{has}
-use Rattle.track9.specs.Shows.{Says, ShowsStatus, Tells, datum, may_show}
-use Rattle.track9.specs.State.{entry_of, is_set}
+use Rattle.deck9.specs.Shows.{Says, ShowsStatus, Tells, datum, may_show}
+use Rattle.deck9.specs.State.{entry_of, is_set}
 use Rattle.track9.specs.Tracker.{Allows, InPart, PartStates, entries_of, has_pair, shown_with}
 use Rattle.track9.specs.Working.Entries.{agreeing, said}
 use Rattle.track9.specs.Working.Pairs.{both, masked}

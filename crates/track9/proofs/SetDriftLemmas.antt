@@ -3,21 +3,21 @@ use Rattle.std.proofs.Common.{◌≡◌, inl, inr, ◌||◌, Bool, true, false, 
 use Rattle.std.proofs.lemmas.Bool.{false≢true, or_cases, or_left, or_right}
 use Rattle.tc25.specs.Times.{BelowDay}
 use Rattle.track9.specs.declared.mode_set.ModeSet.{ModeSet}
-use Rattle.track9.specs.declared.state.Entry.{Entry}
-use Rattle.track9.specs.declared.state.Entry.TheVariants.{Clear, At}
-use Rattle.track9.specs.declared.state.Hands.{Hands}
-use Rattle.track9.specs.declared.state.Hands.TheVariants as hands
-use Rattle.track9.specs.declared.state.Register.{Register}
-use Rattle.track9.specs.declared.state.State.{State}
-use Rattle.track9.specs.Drift.{Drift, DriftsTo, KeepsRest, PairReaches}
+use Rattle.deck9.specs.declared.state.Entry.{Entry}
+use Rattle.deck9.specs.declared.state.Entry.TheVariants.{Clear, At}
+use Rattle.deck9.specs.declared.state.Hands.{Hands}
+use Rattle.deck9.specs.declared.state.Hands.TheVariants as hands
+use Rattle.deck9.specs.declared.state.Register.{Register}
+use Rattle.deck9.specs.declared.state.State.{State}
+use Rattle.deck9.specs.Drift.{Drift, DriftsTo, KeepsRest, PairReaches}
 use Rattle.track9.specs.ModeSet.{has}
-use Rattle.track9.specs.State.{IsEntry, IsState, entry_of}
-use Rattle.track9.specs.Step.{AreReached}
+use Rattle.deck9.specs.State.{IsEntry, IsState, entry_of}
+use Rattle.deck9.specs.Step.{AreReached}
 use Rattle.track9.specs.Tracker.{Allows, Entries, InPart, PartStates, Possible, StateSet, entries_of, part_of}
 use Rattle.track9.specs.Working.Pairs.{drifted, drifted_with}
 use Rattle.track9.specs.Working.Parts.{all_states, drifted_part, is_live}
 use Rattle.track9.specs.Working.States.{AreBelow, AreWhole, IsHandled, after_drift, is_panel_live}
-use Rattle.track9.proofs.DriftLemmas.{drift_from_pairs, pairs_from_drift, same_entries}
+use Rattle.deck9.proofs.DriftLemmas.{drift_from_pairs, pairs_from_drift, same_entries}
 use Rattle.track9.proofs.PairLemmas.{drifted_from, drifted_to}
 use Rattle.track9.proofs.PartLemmas.{a_state, all_in, in_all, in_pairs, not_live, pairs_registers, shown_by_goal, state_live}
 use Rattle.track9.proofs.ReachLemmas.{impossible, possible}

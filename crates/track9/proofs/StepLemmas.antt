@@ -6,26 +6,26 @@ use Rattle.block9.specs.declared.block.Block.{Block}
 use Rattle.block9.specs.declared.command.Command.{Command}
 use Rattle.block9.specs.declared.command.Command.TheVariants as command
 use Rattle.block9.specs.Command.{is_nak}
-use Rattle.track9.specs.declared.effect.Change.{Change}
-use Rattle.track9.specs.declared.effect.Effect.{Effect}
-use Rattle.track9.specs.declared.effect.Effect.TheVariants as effect
-use Rattle.track9.specs.declared.mode.Mode.{Mode}
+use Rattle.deck9.specs.declared.effect.Change.{Change}
+use Rattle.deck9.specs.declared.effect.Effect.{Effect}
+use Rattle.deck9.specs.declared.effect.Effect.TheVariants as effect
+use Rattle.deck9.specs.declared.mode.Mode.{Mode}
 use Rattle.track9.specs.declared.mode_set.ModeSet.{ModeSet}
 use Rattle.track9.specs.declared.presets.Presets.{Presets}
-use Rattle.track9.specs.declared.sense.Sense.{Sense}
-use Rattle.track9.specs.declared.sense.Sense.TheVariants as sense
-use Rattle.track9.specs.declared.state.Hands.{Hands}
-use Rattle.track9.specs.declared.state.Hands.TheVariants as hands
-use Rattle.track9.specs.declared.state.Register.{Register}
-use Rattle.track9.specs.declared.state.Register.TheVariants.{RegIn, RegOut, RegAudioIn, RegAudioOut}
-use Rattle.track9.specs.declared.state.State.{State}
+use Rattle.deck9.specs.declared.sense.Sense.{Sense}
+use Rattle.deck9.specs.declared.sense.Sense.TheVariants as sense
+use Rattle.deck9.specs.declared.state.Hands.{Hands}
+use Rattle.deck9.specs.declared.state.Hands.TheVariants as hands
+use Rattle.deck9.specs.declared.state.Register.{Register}
+use Rattle.deck9.specs.declared.state.Register.TheVariants.{RegIn, RegOut, RegAudioIn, RegAudioOut}
+use Rattle.deck9.specs.declared.state.State.{State}
 use Rattle.track9.specs.declared.states.LocalFits.{LocalFits}
-use Rattle.track9.specs.Drift.{Drift}
-use Rattle.track9.specs.Effect.{Does, effect_of}
+use Rattle.deck9.specs.Drift.{Drift}
+use Rattle.deck9.specs.Effect.{Does, effect_of}
 use Rattle.track9.specs.ModeSet.{has}
 use Rattle.track9.specs.Presets.{presets_after, with_command}
-use Rattle.track9.specs.Shows.{Agrees, Says, datum, may_show, sense_of}
-use Rattle.track9.specs.Step.{AreReached, Step, done, ignored, refused}
+use Rattle.deck9.specs.Shows.{Agrees, Says, datum, may_show, sense_of}
+use Rattle.deck9.specs.Step.{AreReached, Step, done, ignored, refused}
 use Rattle.track9.specs.Tracker.{PartStates, Possible, StateSet, entries_of, part_of}
 use Rattle.track9.specs.Working.Entries.{agreeing}
 use Rattle.track9.specs.Working.Parts.{Whole, agrees_local, all_states, bit_in, drifted_part, is_live, put_settled, sensed_part, shown_part, status_part, with_entries}

@@ -10,14 +10,14 @@ use Rattle.block9.specs.declared.block.Block.{Block}
 use Rattle.block9.specs.declared.command.Command.{Command}
 use Rattle.block9.specs.Command.{is_nak}
 use Rattle.track9.specs.declared.presets.Presets.{Presets}
-use Rattle.track9.specs.declared.state.Entry.TheVariants.{At}
-use Rattle.track9.specs.declared.state.Hands.{Hands}
-use Rattle.track9.specs.declared.state.Hands.TheVariants as hands
-use Rattle.track9.specs.declared.state.Register.{Register}
-use Rattle.track9.specs.declared.state.State.{State}
+use Rattle.deck9.specs.declared.state.Entry.TheVariants.{At}
+use Rattle.deck9.specs.declared.state.Hands.{Hands}
+use Rattle.deck9.specs.declared.state.Hands.TheVariants as hands
+use Rattle.deck9.specs.declared.state.Register.{Register}
+use Rattle.deck9.specs.declared.state.State.{State}
 use Rattle.track9.specs.Presets.{AreTimes, IsSpanCount, count_of, presets_after, with_command}
-use Rattle.track9.specs.State.{IsFirst, entry_of, with_entry}
-use Rattle.track9.specs.Step.{AreReached, Exchanges}
+use Rattle.deck9.specs.State.{IsFirst, entry_of, with_entry}
+use Rattle.deck9.specs.Step.{AreReached, Exchanges}
 use Rattle.track9.specs.Tracker.{Allows, InPart, Possible, StateSet, Tracked, entries_of, part_of}
 use Rattle.track9.specs.Working.Parts.{is_live}
 use Rattle.track9.specs.Working.States.{AreFew, AreWhole, Follows, IsKept, first_states, is_panel_live, some_state}

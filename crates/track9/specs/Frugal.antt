@@ -3,12 +3,12 @@ use Rattle.std.specs.Prelude.{◌||◌, ◌&&◌, Bool, true, false}
 use Rattle.block9.specs.declared.block.Block.{Block}
 use Rattle.block9.specs.declared.command.Command.{Command}
 use Rattle.block9.specs.Command.{is_nak}
-use Rattle.track9.specs.declared.effect.Effect.{Effect}
-use Rattle.track9.specs.declared.effect.Effect.TheVariants as effect
-use Rattle.track9.specs.declared.sense.Sense.{Sense}
-use Rattle.track9.specs.declared.sense.Sense.TheVariants as sense
-use Rattle.track9.specs.Effect.{effect_of}
-use Rattle.track9.specs.Shows.{sense_of}
+use Rattle.deck9.specs.declared.effect.Effect.{Effect}
+use Rattle.deck9.specs.declared.effect.Effect.TheVariants as effect
+use Rattle.deck9.specs.declared.sense.Sense.{Sense}
+use Rattle.deck9.specs.declared.sense.Sense.TheVariants as sense
+use Rattle.deck9.specs.Effect.{effect_of}
+use Rattle.deck9.specs.Shows.{sense_of}
 
 -- an effect on goal, shown mode and panel alone
 abbrev pub is_frugal_effect : Effect → Bool

@@ -1,13 +1,6 @@
-pub mod Drift
-pub mod Effect
 pub mod Frugal
 pub mod Knowledge
-pub mod Mode
 pub mod ModeSet
 pub mod Presets
-pub mod Run
-pub mod Shows
-pub mod State
-pub mod Step
 pub mod Tracker
 pub mod Working

@@ -1,8 +1,8 @@
 -- A set of modes: a bit for each, in the order of the modes.
 use Rattle.std.specs.Prelude.{ℕ, ◌^◌, ◌==◌, Bool, bit_and, List, [], ◌∷◌}
-use Rattle.track9.specs.declared.mode.Mode.{Mode}
-use Rattle.track9.specs.declared.mode.Mode.TheVariants.{Stop, Play, Rec, FastForward, Rewind, Shuttle, Jog, Var, Cued, Eject}
-use Rattle.track9.specs.Mode.{index_of, name_of}
+use Rattle.deck9.specs.declared.mode.Mode.{Mode}
+use Rattle.deck9.specs.declared.mode.Mode.TheVariants.{Stop, Play, Rec, FastForward, Rewind, Shuttle, Jog, Var, Cued, Eject}
+use Rattle.deck9.specs.Mode.{index_of, name_of}
 
 -- the bit of a mode
 abbrev pub bit_of : Mode → ℕ

@@ -7,11 +7,11 @@ use Rattle.block9.specs.declared.command.Command.{Command}
 use Rattle.block9.specs.declared.command.Command.TheVariants as command
 use Rattle.block9.specs.Command.{is_nak}
 use Rattle.track9.specs.declared.presets.Presets.{Presets}
-use Rattle.track9.specs.declared.state.Entry.TheVariants.{At}
-use Rattle.track9.specs.declared.state.Register.{Register}
-use Rattle.track9.specs.declared.state.Register.TheVariants.{RegIn, RegOut, RegAudioIn, RegAudioOut}
-use Rattle.track9.specs.declared.state.State.{State}
-use Rattle.track9.specs.State.{entry_of}
+use Rattle.deck9.specs.declared.state.Entry.TheVariants.{At}
+use Rattle.deck9.specs.declared.state.Register.{Register}
+use Rattle.deck9.specs.declared.state.Register.TheVariants.{RegIn, RegOut, RegAudioIn, RegAudioOut}
+use Rattle.deck9.specs.declared.state.State.{State}
+use Rattle.deck9.specs.State.{entry_of}
 
 -- how many presets to a register were counted
 abbrev pub count_of : Register → Presets → ℕ

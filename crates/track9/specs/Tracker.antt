@@ -3,19 +3,19 @@
 use Rattle.std.specs.Prelude.{◌≡◌, Bool, true, false, slice_index_or}
 use Rattle.std.specs.FinSet as set
 use Rattle.tc25.specs.Times.{Times}
-use Rattle.track9.specs.declared.mode.Mode.{Mode}
+use Rattle.deck9.specs.declared.mode.Mode.{Mode}
 use Rattle.track9.specs.declared.mode_set.ModeSet.{ModeSet}
 use Rattle.track9.specs.declared.pairs.Pairs.{Pairs}
 use Rattle.track9.specs.declared.presets.Presets.{Presets}
-use Rattle.track9.specs.declared.state.Entry.{Entry}
-use Rattle.track9.specs.declared.state.Entry.TheVariants.{Clear, At}
-use Rattle.track9.specs.declared.state.Hands.{Hands}
-use Rattle.track9.specs.declared.state.Register.{Register}
-use Rattle.track9.specs.declared.state.Register.TheVariants.{RegIn, RegOut, RegAudioIn, RegAudioOut}
-use Rattle.track9.specs.declared.state.State.{State}
-use Rattle.track9.specs.Mode.{index_of}
+use Rattle.deck9.specs.declared.state.Entry.{Entry}
+use Rattle.deck9.specs.declared.state.Entry.TheVariants.{Clear, At}
+use Rattle.deck9.specs.declared.state.Hands.{Hands}
+use Rattle.deck9.specs.declared.state.Register.{Register}
+use Rattle.deck9.specs.declared.state.Register.TheVariants.{RegIn, RegOut, RegAudioIn, RegAudioOut}
+use Rattle.deck9.specs.declared.state.State.{State}
+use Rattle.deck9.specs.Mode.{index_of}
 use Rattle.track9.specs.ModeSet.{has}
-use Rattle.track9.specs.State.{entry_of}
+use Rattle.deck9.specs.State.{entry_of}
 
 -- the entries that a register may have: whether it may be Clear, and the times at which it may be Set
 pub record Entries : Type 0 where

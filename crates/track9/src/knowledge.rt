@@ -1,5 +1,5 @@
 //! What is known of the deck: that on which all possible states agree.
-use crate::mode::Mode;
+use deck9::Mode;
 use tc25::TimeCode;
 
 /// What is known of a field.

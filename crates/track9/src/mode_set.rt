@@ -1,8 +1,8 @@
 //! Sets of modes.
 
 use crate::knowledge::Known;
-use crate::mode::Mode;
 use bitflags::{Flag, Flags};
+use deck9::Mode;
 
 /// A set of modes, a bit for each.
 #[derive(Clone, Copy, Debug, PartialEq, Eq)]
@@ -10,11 +10,11 @@ pub struct ModeSet(u16);
 
 impl ModeSet {
     ghost use Rattle.std.specs.Prelude.{◌≡◌, ◌&&◌, ◌||◌, true, false};
-    ghost use Rattle.track9.specs.Mode.{is_mode, is_one_of, on_the_way};
+    ghost use Rattle.deck9.specs.Mode.{is_mode, is_one_of, on_the_way};
     ghost use Rattle.track9.specs.ModeSet.{bit_of, has};
     ghost use Rattle.track9.specs.Working.Knowing.{KnowsModes};
     ghost use Rattle.track9.specs.Working.Pairs.{both, either, is_some, modes, way};
-    ghost use Rattle.track9.specs.declared.mode.Mode.{Mode as AMode};
+    ghost use Rattle.deck9.specs.declared.mode.Mode.{Mode as AMode};
 
     /// No mode.
     pub(crate) const NONE: ModeSet = ModeSet(0);

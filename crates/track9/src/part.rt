@@ -5,15 +5,13 @@ ghost use Rattle.track9.specs.Tracker.{entries_of};
 ghost use Rattle.track9.specs.Working.Entries.{agreeing};
 ghost use Rattle.track9.specs.Working.Knowing.{PartKnows};
 ghost use Rattle.track9.specs.Working.Parts.{Whole, all_states, aside, bit_in, changed_entries, changed_part, drifted_part, forgotten_part, gone_part, is_live, no_states, put_aside, put_part, put_settled, settled, shown_part, status_part, where_live, with_entries, with_pairs};
-ghost use Rattle.track9.specs.declared.state.Register.{Register as ARegister};
+ghost use Rattle.deck9.specs.declared.state.Register.{Register as ARegister};
 
-use crate::effect::Change;
 use crate::knowledge::KnownEntry;
-use crate::mode::Mode;
 use crate::mode_set::ModeSet;
 use crate::pairs::Pairs;
 use crate::register_set::RegisterSet;
-use crate::state::Register;
+use deck9::{Change, Mode, Register};
 use std::alloc::{AllocError, Global};
 use std::marker::Model;
 use tc25::{SpanSet, TimeCode, TimeSet};

@@ -3,8 +3,8 @@ ghost use Rattle.std.specs.Prelude.{◌≡◌};
 ghost use Rattle.track9.specs.Presets.{count_of, presets_after, with_command};
 
 use crate::reply::is_nak;
-use crate::state::Register;
 use block9::{Block, Command};
+use deck9::Register;
 
 /// The number of data presets to each register.
 #[derive(Clone, Copy, Debug, Default, PartialEq, Eq)]

@@ -5,11 +5,10 @@ ghost use Rattle.track9.specs.Tracker.{Allows};
 ghost use Rattle.track9.specs.Working.Asked.{Is};
 ghost use Rattle.track9.specs.Working.Knowing.{KnowsOf};
 ghost use Rattle.track9.specs.Working.Entries.{agreeing, all_entries, changed, no_entries, said, some_entry, widened};
-ghost use Rattle.track9.specs.declared.state.Entry.{Entry as AEntry};
+ghost use Rattle.deck9.specs.declared.state.Entry.{Entry as AEntry};
 
-use crate::effect::Change;
 use crate::knowledge::KnownEntry;
-use crate::state::Entry;
+use deck9::{Change, Entry};
 use std::alloc::{AllocError, Global};
 use std::marker::Model;
 use tc25::{SpanSet, TimeCode, TimeSet};

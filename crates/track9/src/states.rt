@@ -9,15 +9,13 @@ ghost use Rattle.track9.specs.Tracker.{entries_of, part_of};
 ghost use Rattle.track9.specs.Working.Parts.{all_states, aside, changed_entries, forgotten_part, no_states, put_part};
 ghost use Rattle.track9.specs.Working.Entries.{agreeing};
 ghost use Rattle.track9.specs.Working.States.{after_change, after_drift, after_forgetting_all, after_forgetting_registers, after_forgetting_tape, after_goal, after_panel, after_sense, after_status, first_states, is_panel_live, some_state, undone};
-ghost use Rattle.track9.specs.declared.state.Register.{Register as ARegister};
+ghost use Rattle.deck9.specs.declared.state.Register.{Register as ARegister};
 
-use crate::effect::Change;
-use crate::mode::Mode;
 use crate::mode_set::ModeSet;
 use crate::pairs::Pairs;
 use crate::part::Part;
 use crate::register_set::RegisterSet;
-use crate::state::{Hands, Register};
+use deck9::{Change, Hands, Mode, Register};
 use std::alloc::{AllocError, Global};
 use std::marker::Model;
 use std::mem;
@@ -26,7 +24,6 @@ use tc25::{SpanSet, TimeCode, TimeSet};
 mod before;
 mod knowing;
 mod member;
-mod shows;
 mod step;
 
 /// The states in which the deck may be.

@@ -3,17 +3,17 @@ ghost use Rattle.std.specs.Prelude.{◌≡◌, ◌↔◌, ◌≤◌, ◌+◌, If
 ghost use Rattle.track9.specs.Frugal.{is_frugal};
 ghost use Rattle.track9.specs.Knowledge.{IsKnowledge};
 ghost use Rattle.track9.specs.Presets.{IsSpanCount, count_of, presets_after};
-ghost use Rattle.track9.specs.State.{IsFirst};
-ghost use Rattle.track9.specs.Step.{AreReached, Exchanges};
+ghost use Rattle.deck9.specs.State.{IsFirst};
+ghost use Rattle.deck9.specs.Step.{AreReached, Exchanges};
 ghost use Rattle.track9.specs.Tracker.{Possible};
-ghost use Rattle.track9.specs.declared.state.Register.{Register as ARegister};
-ghost use Rattle.track9.specs.declared.state.State.{State as AState};
+ghost use Rattle.deck9.specs.declared.state.Register.{Register as ARegister};
+ghost use Rattle.deck9.specs.declared.state.State.{State as AState};
 
 use crate::knowledge::Knowledge;
 use crate::presets::Presets;
-use crate::state::{Hands, Register, State};
 use crate::states::States;
 use block9::{Block, Command};
+use deck9::{Hands, Register, State};
 use std::alloc::{AllocError, Global};
 use std::marker::Model;
 use tc25::{SpanSet, TimeSet};

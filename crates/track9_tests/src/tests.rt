@@ -15,11 +15,12 @@ mod sent;
 mod side_by_side;
 
 use block9::{Block, Command, reply_time_valid};
+use deck9::Hands;
 use sent::Sent;
 use std::alloc::AllocError;
 use std::process::Abort;
 use tc25::TimeSet;
-use track9::{Hands, Knowledge, Tracker};
+use track9::{Knowledge, Tracker};
 
 /// The command and the reply that these bytes spell.
 fn exchange(rt: &impl Abort, sent: Sent) -> (Command, Block) {

@@ -4,7 +4,7 @@ use Rattle.std.specs.Str.{bytes_eq}
 use Rattle.std.specs.String.{string_bytes}
 use Rattle.clap.specs.Words.{App, Row, Rule, Text, fault_of, first_of, new_app, new_rule, subcommand_of, with_rule, with_subcommand}
 use Rattle.clap.specs.declared.builder.action.ArgAction.TheVariants.{SetTrue}
-use Rattle.track9.specs.declared.state.Hands.TheVariants as hands
+use Rattle.deck9.specs.declared.state.Hands.TheVariants as hands
 use Rattle.words9.specs.declared.task.Task.{Task}
 use Rattle.words9.specs.declared.task.Verb.{Verb}
 use Rattle.words9.specs.declared.task.Verb.TheVariants as verb

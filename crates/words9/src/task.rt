@@ -1,7 +1,7 @@
 //! The task that the words of the command line give, and why they give none.
 
 use clap::Error;
-use track9::Hands;
+use deck9::Hands;
 
 /// What is to be done with a capture.
 #[derive(Clone, Copy, Debug, PartialEq, Eq)]

@@ -9,8 +9,8 @@ use crate::task::{Task, Verb, WordsFault};
 use crate::usage::parsed;
 use clap::error::ErrorKind;
 use clap::{ArgMatches, Error};
+use deck9::Hands;
 use std::alloc::{AllocError, Global};
-use track9::Hands;
 
 /// The task that these words give: those of the command line after the program's own name.
 ///

@@ -7,8 +7,8 @@ ghost use Rattle.track9.specs.declared.knowledge.Known.TheVariants as known;
 
 use super::straight::{write_count, write_text, write_word};
 use crate::writing::{WriteFault, put_all};
+use deck9::{Entry, Hands, Mode, State};
 use std::io::Write;
-use track9::{Entry, Hands, Mode, State};
 
 /// Writes the line of an exchange whose reply ends with the record of this number: the state after it, field by
 /// field, and of the panel only where hands are allowed.

@@ -23,6 +23,7 @@ mod told;
 use super::capture;
 use super::parts::*;
 use block9::Exchange;
+use deck9::{Hands, Register, State};
 use done::{cleared, redirected, replaced, set_again, switched, touched};
 use entries::REGISTERS;
 use judge9::{RunVerdict, is_run, judge_with_run};
@@ -34,7 +35,6 @@ use std::alloc::{AllocError, Global};
 use std::process::Abort;
 use std::test::Fail;
 use told::{recounted, relocated, retold, shown_against_datum_1, shown_against_datum_2};
-use track9::{Hands, Register, State};
 
 /// A state of a run, with what leads to it and away from it.
 #[derive(Clone, Copy)]

@@ -2,11 +2,11 @@
 
 use super::parts::*;
 use super::{capture, tell_lines, tell_untouched};
+use deck9::Hands;
 use judge9::View;
 use std::alloc::Global;
 use std::process::Abort;
 use std::test::Fail;
-use track9::Hands;
 
 /// Exchanges, and what is written of them where nobody touches the panel.
 type Row<'a> = (&'a [&'a str], &'a str);

@@ -2,10 +2,10 @@
 
 use super::parts::*;
 use super::{Tap, tell};
+use deck9::Hands;
 use std::alloc::{AllocError, Global};
 use std::process::Abort;
 use std::test::Fail;
-use track9::Hands;
 
 /// How many captures are drawn for each of hands.
 const CAPTURES: u32 = 1_000;

@@ -2,9 +2,9 @@
 
 use super::parts::*;
 use super::{report, tell_explained};
+use deck9::Hands;
 use judge9::View;
 use std::test::Fail;
-use track9::Hands;
 
 /// What is told of a deck that winds on and plays. The last goal is unknown: the deck may have reached PLAY and fallen to
 /// STOP in one drift.

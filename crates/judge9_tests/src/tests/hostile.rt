@@ -8,9 +8,9 @@ use super::writers::{Narrow, Then};
 use super::{answer_and_text, capture, report};
 use block9::Reason;
 use capture9::{CaptureError, CaptureKind};
+use deck9::Hands;
 use judge9::{JudgeError, Verdict, View, judge};
 use std::test::Fail;
-use track9::Hands;
 
 /// The refusal of a capture.
 fn refused(kind: CaptureKind, row: u32) -> Result<Verdict, JudgeError> {

@@ -2,8 +2,8 @@
 
 use super::parts::*;
 use super::tell_explained;
+use deck9::Hands;
 use std::test::Fail;
-use track9::Hands;
 
 /// How the line of an exchange ends where nothing is known.
 const NOTHING: &str =

@@ -2,10 +2,10 @@
 
 use super::parts::*;
 use super::{Tap, tell};
+use deck9::Hands;
 use std::alloc::{AllocError, Global};
 use std::process::Abort;
 use std::test::Fail;
-use track9::Hands;
 
 /// A deck in remote does what it acknowledges.
 const TURN: [&str; 8] = [

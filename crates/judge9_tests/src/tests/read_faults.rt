@@ -4,10 +4,10 @@ use super::readers::Cut;
 use super::report;
 use super::texts::PLAYED_AND_CUT;
 use capture9::{CaptureError, CaptureKind};
+use deck9::Hands;
 use judge9::{JudgeError, View, judge_with_run};
 use std::alloc::Global;
 use std::process::Abort;
-use track9::Hands;
 
 /// The fewest and the most bytes that a reader gives before it fails, and the row that is then told. The header has 18
 /// bytes, the first two rows have 9 each, the four after them 10 each, and the text ends inside row 7.

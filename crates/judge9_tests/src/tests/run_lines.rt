@@ -2,12 +2,12 @@
 
 use super::writers::{Narrow, Then};
 use block9::{Block, Command, Exchange, Reason};
+use deck9::{Entry, Hands, Mode, State};
 use judge9::{JudgeError, RunVerdict, write_run};
 use std::alloc::Global;
 use std::process::Abort;
 use std::test::Fail;
 use tc25::TimeCode;
-use track9::{Entry, Hands, Mode, State};
 
 /// The run of `played`, told without the panel.
 const PLAYED: &str =

@@ -1,12 +1,12 @@
 //! Exchanges, and states that a deck may or may not have after each of them.
 
 use block9::{Block, Command, Exchange};
+use deck9::{Entry, Hands, Mode, State};
 use judge9::is_run;
 use std::alloc::{AllocError, Global};
 use std::process::Abort;
 use std::test::Fail;
 use tc25::TimeCode;
-use track9::{Entry, Hands, Mode, State};
 
 /// The bytes of a command and of its reply.
 type Sent<'a> = (&'a [u8], &'a [u8]);

@@ -5,11 +5,11 @@ use super::parts::*;
 use super::texts::PLAYED_AND_BAD;
 use block9::Reason;
 use capture9::{CaptureError, CaptureKind};
+use deck9::{Hands, Mode, State};
 use judge9::{JudgeError, RunVerdict, is_run, judge_with_run};
 use std::alloc::{AllocError, Global};
 use std::process::Abort;
 use std::test::Fail;
-use track9::{Hands, Mode, State};
 
 /// What is answered to a capture of a deck that nobody touches.
 fn answer(rt: &impl Abort, alloc: Global, parts: &[&str]) -> Result<RunVerdict, AllocError> {

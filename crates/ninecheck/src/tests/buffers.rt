@@ -4,10 +4,10 @@ use crate::buffered::Buffered;
 use crate::judging::{judge_and_flush, judge_with_run_and_flush};
 use crate::tests::writers::Narrow;
 use capture9::{CaptureError, CaptureKind};
+use deck9::Hands;
 use judge9::{JudgeError, Verdict, View};
 use std::alloc::{AllocError, Global};
 use std::io::Write;
-use track9::Hands;
 
 /// PLAY and its acknowledgement.
 const PLAY: &str =

@@ -1,7 +1,7 @@
 //! What words ask for.
 
+use deck9::Hands;
 use std::alloc::{AllocError, Global};
-use track9::Hands;
 use words9::{Task, Verb, WordsFault, read_words};
 
 /// The task of these words.

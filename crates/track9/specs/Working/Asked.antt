@@ -2,27 +2,27 @@
 use Rattle.std.specs.Prelude.{◌≡◌, ◌==◌, if◌then◌else◌, Bool, true, false, ⊤, Option, Some, None, option_map}
 use Rattle.tc25.specs.Day.{next_frame, prev_frame}
 use Rattle.track9.specs.declared.asked.Asked.{Asked}
-use Rattle.track9.specs.declared.effect.Change.{Change}
-use Rattle.track9.specs.declared.effect.Change.TheVariants.{SetSomewhere, SetAt, Next, Prev, Reset, Recall}
-use Rattle.track9.specs.declared.effect.Effect.{Effect}
-use Rattle.track9.specs.declared.effect.Effect.TheVariants as effect
-use Rattle.track9.specs.declared.mode.Mode.{Mode}
-use Rattle.track9.specs.declared.mode.Mode.TheVariants as mode
+use Rattle.deck9.specs.declared.effect.Change.{Change}
+use Rattle.deck9.specs.declared.effect.Change.TheVariants.{SetSomewhere, SetAt, Next, Prev, Reset, Recall}
+use Rattle.deck9.specs.declared.effect.Effect.{Effect}
+use Rattle.deck9.specs.declared.effect.Effect.TheVariants as effect
+use Rattle.deck9.specs.declared.mode.Mode.{Mode}
+use Rattle.deck9.specs.declared.mode.Mode.TheVariants as mode
 use Rattle.track9.specs.declared.pairs.Pair.{Pair}
 use Rattle.track9.specs.declared.pairs.Pairs.{Pairs}
 use Rattle.track9.specs.declared.mode_set.ModeSet.{ModeSet}
-use Rattle.track9.specs.declared.state.Entry.{Entry}
-use Rattle.track9.specs.declared.state.Entry.TheVariants.{Clear, At}
-use Rattle.track9.specs.declared.state.Hands.{Hands}
-use Rattle.track9.specs.declared.state.Hands.TheVariants as hands
-use Rattle.track9.specs.declared.state.Register.{Register}
-use Rattle.track9.specs.declared.state.Register.TheVariants.{RegIn, RegOut, RegAudioIn, RegAudioOut}
-use Rattle.track9.specs.declared.state.State.{State}
-use Rattle.track9.specs.Drift.{Drift, KeepsRest, PairReaches}
-use Rattle.track9.specs.Effect.{moved_entry, may_ignore}
-use Rattle.track9.specs.Mode.{is_mode}
+use Rattle.deck9.specs.declared.state.Entry.{Entry}
+use Rattle.deck9.specs.declared.state.Entry.TheVariants.{Clear, At}
+use Rattle.deck9.specs.declared.state.Hands.{Hands}
+use Rattle.deck9.specs.declared.state.Hands.TheVariants as hands
+use Rattle.deck9.specs.declared.state.Register.{Register}
+use Rattle.deck9.specs.declared.state.Register.TheVariants.{RegIn, RegOut, RegAudioIn, RegAudioOut}
+use Rattle.deck9.specs.declared.state.State.{State}
+use Rattle.deck9.specs.Drift.{Drift, KeepsRest, PairReaches}
+use Rattle.deck9.specs.Effect.{moved_entry, may_ignore}
+use Rattle.deck9.specs.Mode.{is_mode}
 use Rattle.track9.specs.ModeSet.{bit_of, has}
-use Rattle.track9.specs.State.{IsState, entry_of}
+use Rattle.deck9.specs.State.{IsState, entry_of}
 use Rattle.track9.specs.Tracker.{has_pair}
 use Rattle.track9.specs.Working.Pairs.{modes}
 

@@ -6,8 +6,8 @@ use Rattle.tc25.specs.Times.{Times}
 use Rattle.track9.specs.declared.mode_set.ModeSet.{ModeSet}
 use Rattle.track9.specs.declared.pairs.Pairs.{Pairs}
 use Rattle.track9.specs.declared.presets.Presets.{Presets}
-use Rattle.track9.specs.declared.state.Hands.{Hands}
-use Rattle.track9.specs.declared.state.Hands.TheVariants as hands
+use Rattle.deck9.specs.declared.state.Hands.{Hands}
+use Rattle.deck9.specs.declared.state.Hands.TheVariants as hands
 use Rattle.track9.specs.Tracker.{Entries, PartStates, StateSet, Tracked}
 
 abbrev pub entries_code : Coded Entries

@@ -3,8 +3,8 @@ use Rattle.std.specs.Prelude.{ℕ, ◌||◌, not, if◌then◌else◌, Bool, tru
 use Rattle.std.specs.FinSet as set
 use Rattle.tc25.specs.Day.{next_frame, prev_frame}
 use Rattle.tc25.specs.Times.{Times, every_time, just, image}
-use Rattle.track9.specs.declared.effect.Change.{Change}
-use Rattle.track9.specs.declared.effect.Change.TheVariants.{SetSomewhere, SetAt, Next, Prev, Reset, Recall}
+use Rattle.deck9.specs.declared.effect.Change.{Change}
+use Rattle.deck9.specs.declared.effect.Change.TheVariants.{SetSomewhere, SetAt, Next, Prev, Reset, Recall}
 use Rattle.track9.specs.Tracker.{Entries}
 
 abbrev pub entries : Bool → Times → Entries

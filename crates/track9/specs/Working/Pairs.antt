@@ -1,10 +1,10 @@
 -- How pairs of a goal and a shown mode change.
 use Rattle.std.specs.Prelude.{◌==◌, ◌&&◌, not, if◌then◌else◌, Bool, [], ◌∷◌, bit_and, bit_or, ℕ}
-use Rattle.track9.specs.declared.mode.Mode.{Mode}
-use Rattle.track9.specs.declared.mode.Mode.TheVariants.{Stop, Play, Rec, FastForward, Rewind, Shuttle, Jog, Var, Cued, Eject}
+use Rattle.deck9.specs.declared.mode.Mode.{Mode}
+use Rattle.deck9.specs.declared.mode.Mode.TheVariants.{Stop, Play, Rec, FastForward, Rewind, Shuttle, Jog, Var, Cued, Eject}
 use Rattle.track9.specs.declared.mode_set.ModeSet.{ModeSet}
 use Rattle.track9.specs.declared.pairs.Pairs.{Pairs}
-use Rattle.track9.specs.Mode.{is_mode}
+use Rattle.deck9.specs.Mode.{is_mode}
 use Rattle.track9.specs.ModeSet.{bit_of}
 use Rattle.track9.specs.Tracker.{shown_with}
 

@@ -3,23 +3,23 @@ use Rattle.std.specs.Prelude.{ℕ, ◌≡◌, ◌≤◌, ◌+◌, ◌⊎◌, ◌
 use Rattle.tc25.specs.Times.{BelowDay, begin_count}
 use Rattle.block9.specs.declared.block.Block.{Block}
 use Rattle.block9.specs.declared.command.Command.{Command}
-use Rattle.track9.specs.declared.effect.Change.{Change}
-use Rattle.track9.specs.declared.effect.Change.TheVariants.{SetAt}
-use Rattle.track9.specs.declared.effect.Effect.{Effect}
-use Rattle.track9.specs.declared.effect.Effect.TheVariants as effect
-use Rattle.track9.specs.declared.mode.Mode.{Mode}
+use Rattle.deck9.specs.declared.effect.Change.{Change}
+use Rattle.deck9.specs.declared.effect.Change.TheVariants.{SetAt}
+use Rattle.deck9.specs.declared.effect.Effect.{Effect}
+use Rattle.deck9.specs.declared.effect.Effect.TheVariants as effect
+use Rattle.deck9.specs.declared.mode.Mode.{Mode}
 use Rattle.track9.specs.declared.mode_set.ModeSet.{ModeSet}
 use Rattle.track9.specs.declared.pairs.Pairs.{Pairs}
-use Rattle.track9.specs.declared.state.Hands.{Hands}
-use Rattle.track9.specs.declared.state.Hands.TheVariants as hands
+use Rattle.deck9.specs.declared.state.Hands.{Hands}
+use Rattle.deck9.specs.declared.state.Hands.TheVariants as hands
 use Rattle.track9.specs.declared.presets.Presets.{Presets}
-use Rattle.track9.specs.declared.state.Register.{Register}
-use Rattle.track9.specs.declared.state.State.{State}
+use Rattle.deck9.specs.declared.state.Register.{Register}
+use Rattle.deck9.specs.declared.state.State.{State}
 use Rattle.track9.specs.declared.states.LocalFits.{LocalFits}
-use Rattle.track9.specs.Effect.{Does, may_ignore}
+use Rattle.deck9.specs.Effect.{Does, may_ignore}
 use Rattle.track9.specs.Presets.{count_of, presets_after, with_one}
-use Rattle.track9.specs.Shows.{ShowsStatus}
-use Rattle.track9.specs.Step.{AreReached, Exchanges, Step}
+use Rattle.deck9.specs.Shows.{ShowsStatus}
+use Rattle.deck9.specs.Step.{AreReached, Exchanges, Step}
 use Rattle.track9.specs.Tracker.{PartStates, Possible, StateSet, entries_of, part_of}
 use Rattle.track9.specs.Working.Codes.{is_allowed}
 use Rattle.track9.specs.Working.Entries.{agreeing}

@@ -3,23 +3,21 @@
 //! What leads to the target by the step alone is a pattern of states, or two of them; and whether a drift leads to
 //! one of a pattern is asked factor by factor, so that no set is copied.
 ghost use Rattle.std.specs.Prelude.{◌≡◌, IfNone, IfSome, false, true};
-ghost use Rattle.track9.specs.State.{IsEntry, IsState};
-ghost use Rattle.track9.specs.Step.{Exchanges};
+ghost use Rattle.deck9.specs.State.{IsEntry, IsState};
+ghost use Rattle.deck9.specs.Step.{Exchanges};
 ghost use Rattle.track9.specs.Tracker.{Possible};
 ghost use Rattle.track9.specs.Working.Asked.{Is, IsAsked, IsUndone, LeadsTo, RunsTo, just_state};
 ghost use Rattle.track9.specs.Working.Parts.{HasState};
 ghost use Rattle.track9.specs.Working.States.{AreWhole, IsHandled, is_panel_live};
-ghost use Rattle.track9.specs.declared.state.State.{State as AState};
+ghost use Rattle.deck9.specs.declared.state.State.{State as AState};
 
 use crate::asked::{Asked, is_asked};
-use crate::effect::Effect;
 use crate::part::Part;
 use crate::reply::is_nak;
-use crate::state::{Entry, Hands, Register, State};
 use crate::states::States;
 use crate::states::member::state_in;
-use crate::states::shows::shows;
 use block9::{Block, Command};
+use deck9::{Effect, Entry, Hands, Register, State};
 use tc25::TimeSet;
 
 impl<S: TimeSet> States<S> {
@@ -41,7 +39,7 @@ impl<S: TimeSet> States<S> {
         if is_nak(reply) {
             return self.origin(hands, &Asked::just(target));
         }
-        if !shows(target, command, reply) {
+        if !target.shows(command, reply) {
             return None;
         }
         let effect = Effect::of(command);

@@ -5,13 +5,12 @@ ghost use Rattle.track9.specs.Tracker.{Possible};
 ghost use Rattle.track9.specs.Working.Knowing.{goals_in, join_options, known_fact, shown_in};
 ghost use Rattle.track9.specs.Working.Parts.{is_live};
 ghost use Rattle.track9.specs.Working.States.{AreWhole, some_state};
-ghost use Rattle.track9.specs.declared.state.State.{State as AState};
+ghost use Rattle.deck9.specs.declared.state.State.{State as AState};
 
 use crate::knowledge::{Known, KnownEntry};
-use crate::mode::Mode;
 use crate::mode_set::ModeSet;
-use crate::state::Register;
 use crate::states::States;
+use deck9::{Mode, Register};
 use tc25::TimeSet;
 
 impl<S: TimeSet> States<S> {

@@ -3,11 +3,11 @@ ghost use Rattle.std.specs.Prelude.{◌≡◌, IfNone, IfSome, false, true};
 ghost use Rattle.track9.specs.Tracker.{Possible};
 ghost use Rattle.track9.specs.Working.Parts.{HasState, Whole, is_live};
 ghost use Rattle.track9.specs.Working.States.{AreWhole};
-ghost use Rattle.track9.specs.declared.state.State.{State as AState};
+ghost use Rattle.deck9.specs.declared.state.State.{State as AState};
 
 use crate::part::Part;
-use crate::state::{Register, State};
 use crate::states::States;
+use deck9::{Register, State};
 use tc25::TimeSet;
 
 impl<S: TimeSet> States<S> {

@@ -4,14 +4,11 @@ ghost use Rattle.track9.specs.Frugal.{is_frugal, is_frugal_effect};
 ghost use Rattle.track9.specs.Working.Parts.{agrees_local};
 ghost use Rattle.track9.specs.Working.States.{AreWhole, Follows, HasEffect, IsHandled, IsSettled, ReadsStatus, StepsTo, is_panel_live};
 
-use crate::effect::Effect;
-use crate::mode::Mode;
 use crate::reply::is_nak;
-use crate::sense::Sense;
-use crate::state::Hands;
 use crate::states::{LocalFits, States};
-use crate::status::{datum, modes_shown};
+use crate::status::modes_shown;
 use block9::{Block, Command};
+use deck9::{Effect, Hands, Mode, Sense, status_datum};
 use std::alloc::{AllocError, Global};
 use tc25::TimeSet;
 
@@ -110,13 +107,13 @@ impl<S: TimeSet> States<S> {
         requires { AreWhole self.old }
         ensures { ReadsStatus asked reply.now self.old self.new }
     {
-        let said = datum(asked, reply, 0);
+        let said = status_datum(asked, reply, 0);
         let agrees = LocalFits {
             remote: agrees_local(false, said),
             local: agrees_local(true, said),
         };
-        let shown = modes_shown(datum(asked, reply, 1), datum(asked, reply, 2));
-        self.keep_status(alloc, agrees, shown, datum(asked, reply, 3));
+        let shown = modes_shown(status_datum(asked, reply, 1), status_datum(asked, reply, 2));
+        self.keep_status(alloc, agrees, shown, status_datum(asked, reply, 3));
     }
 
     /// The states after an effect, which a deck in local may leave undone.

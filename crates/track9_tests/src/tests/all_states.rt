@@ -11,13 +11,14 @@ use super::drawn::{Draw, command, moved, reply};
 use super::plain_deck::Day;
 use super::{known, observe};
 use block9::{Block, Command};
+use deck9::{Hands, Register};
 use edges::Edges;
 use listed::ListedDeck;
 use std::alloc::{AllocError, Global};
 use std::process::Abort;
 use std::test::Fail;
 use tc25::{SpanSet, TimeCode};
-use track9::{Hands, Knowledge, KnownEntry, Register, Tracker};
+use track9::{Knowledge, KnownEntry, Tracker};
 
 /// What is drawn, and the registers' places in the day that follow from it.
 #[derive(Drop)]

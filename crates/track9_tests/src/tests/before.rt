@@ -4,10 +4,10 @@
 use super::member::ONE_STATE;
 use super::sent::*;
 use super::*;
+use deck9::{Entry, Mode, State};
 use std::alloc::Global;
 use std::test::Fail;
 use tc25::{ListSet, SpanSet, TimeCode};
-use track9::{Entry, Mode, State};
 
 const IN_SHIFT_REFUSED: Sent = (&[0x40, 0x18, 0x58], NAK);
 

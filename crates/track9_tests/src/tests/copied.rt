@@ -2,10 +2,10 @@
 
 use super::sent::*;
 use super::*;
+use deck9::Register;
 use std::alloc::Global;
 use std::test::Fail;
 use tc25::{ListSet, SpanSet};
-use track9::Register;
 
 /// Exchanges before a snapshot, exchanges that the tracker takes after it, and one that the snapshot takes with
 /// whether a state then remains there.

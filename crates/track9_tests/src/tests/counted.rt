@@ -2,10 +2,10 @@
 
 use super::sent::*;
 use super::*;
+use deck9::Register;
 use std::alloc::Global;
 use std::test::Fail;
 use tc25::SpanSet;
-use track9::Register;
 
 /// Exchanges, and then the spans and the presets of IN, and those of audio IN.
 pub(super) type Row = (&'static [Sent], usize, u32, usize, u32);

@@ -2,10 +2,10 @@
 
 use super::sent::*;
 use super::*;
+use deck9::{Entry, Mode, State};
 use std::alloc::Global;
 use std::test::Fail;
 use tc25::{ListSet, SpanSet, TimeCode};
-use track9::{Entry, Mode, State};
 
 const OUT_RESET: Sent = (&[0x40, 0x21, 0x61], ACK);
 

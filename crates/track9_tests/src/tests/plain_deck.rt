@@ -5,9 +5,9 @@ mod commands;
 mod replies;
 
 pub(super) use commands::{FORGETTABLE, change_of, forgets, is_free_in_local, sensed_by, small_of};
+use deck9::{Change, Mode, Register};
 pub(super) use replies::{datum_of, shows};
 use tc25::TimeCode;
-use track9::{Change, Mode, Register};
 
 pub(super) const MODES: [Mode; 10] = [
     Mode::Stop,

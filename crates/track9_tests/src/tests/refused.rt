@@ -6,11 +6,12 @@ use super::counted::ROWS;
 use super::rows::{AUDIO, FORGOTTEN, HANDS, REGISTERS, SHIFTS, TRANSPORT};
 use super::sent::Sent;
 use super::{exchange, known, observe};
+use deck9::{Hands, Register};
 use std::alloc::{AllocError, Global};
 use std::process::Abort;
 use std::test::Fail;
 use tc25::{ListSet, SpanSet, TimeSet};
-use track9::{Hands, Knowledge, Register, Tracker};
+use track9::{Knowledge, Tracker};
 
 /// Spans and presets of each register.
 type Counts = [(usize, u32); 4];

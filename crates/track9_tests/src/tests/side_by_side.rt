@@ -7,11 +7,12 @@ use super::plain_deck::{
 };
 use super::{known, observe};
 use block9::{Block, Command, NakBits};
+use deck9::{Hands, Mode};
 use std::alloc::{AllocError, Global};
 use std::process::Abort;
 use std::test::Fail;
 use tc25::{ListSet, SpanSet, TimeCode};
-use track9::{Hands, Mode, Tracker};
+use track9::Tracker;
 
 /// Frames round midnight and noon, some of them neighbours.
 const FRAMES: [u32; 12] = [

@@ -1,6 +1,6 @@
 use Rattle.std.proofs.Common.{◌∙◌, ◌∷◌, ◌++◌, [], ℕ, Ok, ap, arith, refl, sym, subst}
 use Rattle.std.specs.Global.{Vec}
-use Rattle.track9.specs.declared.state.Hands.{Hands}
+use Rattle.deck9.specs.declared.state.Hands.{Hands}
 use Rattle.judge9.specs.declared.run_verdict.RunVerdict.TheVariants as run
 use Rattle.block9.specs.declared.pairer.Exchange.{Exchange}
 use Rattle.judge9.specs.Working.Trail.{IsTrail, JudgesRun}

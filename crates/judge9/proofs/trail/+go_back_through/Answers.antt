@@ -1,6 +1,6 @@
 use Rattle.std.proofs.Common.{◌≡◌, ◌∷◌, List, IfOk, length, ap, sym, subst, arith}
 use Rattle.block9.specs.declared.pairer.Exchange.{Exchange}
-use Rattle.track9.specs.declared.state.Hands.{Hands}
+use Rattle.deck9.specs.declared.state.Hands.{Hands}
 use Rattle.track9.specs.Tracker.{Possible}
 use Rattle.judge9.specs.Working.Trail.{GoesBack, Leads}
 use Rattle.judge9.proofs.TrailSteps.{back_put, leads_after}

@@ -1,8 +1,8 @@
 //! What commands do, and which fields an exchange keeps.
 
 use block9::{Command, Exchange};
+use deck9::{Mode, Register};
 use tc25::TimeCode;
-use track9::{Mode, Register};
 
 /// What a command does to a register.
 #[derive(Clone, Copy, PartialEq, Eq)]

@@ -3,8 +3,8 @@
 use super::Place;
 use super::commands::{Deed, deed_to, goal_of, is_refused, switches_panel};
 use super::entries::{entry_of, one_on, with_entry};
+use deck9::{Entry, Hands, Mode, Register, State};
 use tc25::TimeCode;
-use track9::{Entry, Hands, Mode, Register, State};
 
 /// The panel is on, though nobody touches it.
 pub(super) fn touched(place: &Place) -> Option<State> {

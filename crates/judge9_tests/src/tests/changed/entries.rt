@@ -1,7 +1,7 @@
 //! What registers hold, and other entries.
 
+use deck9::{Entry, Register, State};
 use tc25::TimeCode;
-use track9::{Entry, Register, State};
 
 /// All registers.
 pub(super) const REGISTERS: [Register; 4] = [

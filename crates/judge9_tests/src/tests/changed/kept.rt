@@ -7,7 +7,7 @@ use super::commands::{
 };
 use super::entries::{entry_of, far_from, turned_entry, with_entry};
 use block9::Exchange;
-use track9::{Hands, Mode, Register, State};
+use deck9::{Hands, Mode, Register, State};
 
 /// The state before, if its panel was off.
 fn untouched_before<'a>(place: &Place<'a>) -> Option<&'a State> {

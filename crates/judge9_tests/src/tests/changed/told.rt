@@ -3,8 +3,8 @@
 use super::Place;
 use super::entries::{entry_of, turned_entry, with_entry};
 use block9::{Command, Exchange};
+use deck9::{Entry, Mode, Register, State};
 use tc25::TimeCode;
-use track9::{Entry, Mode, Register, State};
 
 /// The status datum with this number, if a reply told it.
 fn datum(exchange: &Exchange, number: u8) -> Option<u8> {

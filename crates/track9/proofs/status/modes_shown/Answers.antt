@@ -1,6 +1,13 @@
-use Rattle.std.proofs.Common.{◌∙◌, sym}
+use Rattle.std.proofs.Common.{◌≡◌, ◌∙◌, arith, sym}
 use Rattle.std.proofs.lemmas.List.Folds.{list_any_more}
+use Rattle.deck9.specs.Shows.{may_show}
+use Rattle.track9.proofs.ModeLemmas.{has_every}
 use Rattle.track9.proofs.status.modes_shown.Goals as goal
 
-pub loop-line-preserved : goal.loop-line-preserved
-loop-line-preserved c = λ m. c.or-modes.ensures.has m ∙ rw (c.loop-line.invariant m, c.shown_by.ensures m) (sym (list_any_more _ _ c.loop-line.line-index _ c.loop-line-test.true))
+pub loop-mode-preserved : goal.loop-mode-preserved
+loop-mode-preserved c = λ m. c.or-modes.ensures.has m ∙ rw (c.loop-mode.invariant m, c.shown_by.ensures m) (sym (list_any_more _ _ c.loop-mode.mode-index _ c.loop-mode-test.true))
+
+pub returns : goal.returns
+returns c =
+    let whole : c.loop-mode.mode-index ≡ 10 = omega (arith, c.loop-mode.auto.mode-index-end, c.loop-mode-test.false) in
+    λ m. c.loop-mode.invariant m ∙ rw whole (has_every (may_show c.args.datum1 c.args.datum2) m)

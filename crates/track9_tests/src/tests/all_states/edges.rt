@@ -2,8 +2,8 @@
 
 use crate::tests::plain_deck::{change_of, sensed_by};
 use block9::{Block, Command, NakBits};
+use deck9::{Change, Register};
 use tc25::TimeCode;
-use track9::{Change, Register};
 
 /// The first and the last place of the times at which a register may be Set, where these are not all times.
 type Places = Option<(usize, usize)>;

@@ -2,7 +2,7 @@
 
 use super::Small;
 use block9::Command;
-use track9::{Change, Hands, Mode, Register};
+use deck9::{Change, Hands, Mode, Register};
 
 /// The register that a command changes, and how.
 pub(in crate::tests) fn change_of(command: &Command) -> Option<(Register, Change)> {

@@ -3,7 +3,7 @@
 use super::commands::sensed_by;
 use super::{PlainState, time_of};
 use block9::{Block, Command};
-use track9::{Mode, Register};
+use deck9::{Mode, Register};
 
 /// A mode, the bits of status datum 1 that are set and those that are clear, and the same of datum 2.
 type Line = (Mode, [u8; 4]);

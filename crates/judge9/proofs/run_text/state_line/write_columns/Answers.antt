@@ -1,8 +1,8 @@
 use Rattle.std.proofs.Common.{ℕ, List, [], ◌∷◌, ◌++◌, codes, drop}
 use Rattle.std.proofs.KnownBytes.{Appends-trans}
 use Rattle.track9.specs.declared.knowledge.Known.TheVariants as known
-use Rattle.track9.specs.declared.state.Hands.{Hands}
-use Rattle.track9.specs.declared.state.State.{State}
+use Rattle.deck9.specs.declared.state.Hands.{Hands}
+use Rattle.deck9.specs.declared.state.State.{State}
 use Rattle.judge9.specs.Explanation.{text_of_knowledge, text_of_local, text_of_mode, text_of_panel, text_of_register}
 use Rattle.judge9.specs.RunText.{known_entry}
 use Rattle.judge9.proofs.LineSteps.{part_after}

@@ -1,7 +1,7 @@
 use Rattle.std.proofs.Common.{ℕ, List, [], ◌∷◌, codes, drop}
 use Rattle.std.proofs.KnownBytes.{Appends-trans}
-use Rattle.track9.specs.declared.state.Hands.{Hands}
-use Rattle.track9.specs.declared.state.State.{State}
+use Rattle.deck9.specs.declared.state.Hands.{Hands}
+use Rattle.deck9.specs.declared.state.State.{State}
 use Rattle.judge9.specs.Explanation.{text_of_knowledge}
 use Rattle.judge9.specs.RunText.{known_state, line_of_state}
 use Rattle.judge9.proofs.LineSteps.{part_after}

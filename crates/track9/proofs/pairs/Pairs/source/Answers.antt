@@ -1,6 +1,6 @@
 use Rattle.std.proofs.Common.{◌≡◌, ◌||◌, inl, inr, true, false, ◌∙◌, sym, subst}
 use Rattle.track9.specs.declared.mode_set.ModeSet.{ModeSet}
-use Rattle.track9.specs.Mode.{is_one_of, on_the_way}
+use Rattle.deck9.specs.Mode.{is_one_of, on_the_way}
 use Rattle.track9.specs.ModeSet.{has}
 use Rattle.track9.specs.Working.Pairs.{is_some}
 use Rattle.track9.proofs.BeforeLemmas.{source_goal, source_halted}

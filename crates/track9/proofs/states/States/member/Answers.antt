@@ -1,5 +1,5 @@
 use Rattle.std.proofs.Common.{subst}
-use Rattle.track9.specs.declared.state.State.{State}
+use Rattle.deck9.specs.declared.state.State.{State}
 use Rattle.track9.specs.Tracker.{Possible, StateSet}
 use Rattle.track9.proofs.MemberLemmas.{if_none, no_member}
 use Rattle.track9.proofs.states.States.member.Goals as goal

@@ -6,6 +6,6 @@ use Rattle.track9.proofs.states.States.read_status.Goals as goal
 pub returns : goal.returns
 returns g c =
     reads_status c.args.asked c.args.reply.now (record { remote = c.agrees_local.result; local = c.agrees_local-2.result }) c.modes_shown-shown.result c.args.self.now c.keep_status.new.self
-    (c.agrees_local.ensures ∙ ap (agrees_local false) c.datum-said.ensures)
-    (c.agrees_local-2.ensures ∙ ap (agrees_local true) c.datum-said.ensures)
-    c.datum.result c.datum-2.result c.datum-3.result c.datum.ensures c.datum-2.ensures c.modes_shown-shown.ensures c.datum-3.ensures c.keep_status.ensures c.requires
+    (c.agrees_local.ensures ∙ ap (agrees_local false) c.status_datum-said.ensures)
+    (c.agrees_local-2.ensures ∙ ap (agrees_local true) c.status_datum-said.ensures)
+    c.status_datum.result c.status_datum-2.result c.status_datum-3.result c.status_datum.ensures c.status_datum-2.ensures c.modes_shown-shown.ensures c.status_datum-3.ensures c.keep_status.ensures c.requires

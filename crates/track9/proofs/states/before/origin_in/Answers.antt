@@ -1,7 +1,7 @@
 use Rattle.std.proofs.Common.{◌≡◌, true, false, subst}
 use Rattle.track9.specs.declared.pairs.Pairs.{Pairs}
-use Rattle.track9.specs.declared.state.Entry.{Entry}
-use Rattle.track9.specs.declared.state.Register.TheVariants.{RegIn, RegOut, RegAudioIn, RegAudioOut}
+use Rattle.deck9.specs.declared.state.Entry.{Entry}
+use Rattle.deck9.specs.declared.state.Register.TheVariants.{RegIn, RegOut, RegAudioIn, RegAudioOut}
 use Rattle.track9.specs.Tracker.{Allows, has_pair}
 use Rattle.track9.specs.Working.Asked.{Is}
 use Rattle.track9.proofs.BeforeLemmas.{if_none_so, no_entry_runs, runs_there}

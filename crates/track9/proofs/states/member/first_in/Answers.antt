@@ -1,6 +1,6 @@
 use Rattle.std.proofs.Common.{◌≡◌, true, ◌∙◌, sym, subst}
 use Rattle.track9.specs.declared.mode_set.ModeSet.{ModeSet}
-use Rattle.track9.specs.declared.state.Register.TheVariants.{RegIn, RegOut, RegAudioIn, RegAudioOut}
+use Rattle.deck9.specs.declared.state.Register.TheVariants.{RegIn, RegOut, RegAudioIn, RegAudioOut}
 use Rattle.track9.specs.ModeSet.{has}
 use Rattle.track9.specs.Tracker.{Allows, has_pair}
 use Rattle.track9.specs.Working.Entries.{some_entry}

@@ -1,5 +1,5 @@
 use Rattle.std.proofs.Common.{◌↔◌, IsTrue, subst}
-use Rattle.track9.specs.declared.state.State.{State}
+use Rattle.deck9.specs.declared.state.State.{State}
 use Rattle.track9.specs.Tracker.{Possible, Tracked}
 use Rattle.track9.proofs.TrackerLemmas.{remains_where}
 use Rattle.track9.proofs.tracker.Tracker.remains.Goals as goal

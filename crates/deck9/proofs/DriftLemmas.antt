@@ -1,0 +1,69 @@
+-- A drift reaches four pairs.
+use Rattle.std.proofs.Common.{◌≡◌, ◌⊎◌, inl, inr, true, List, [], ◌∷◌, refl, sym, ap, ◌∙◌, subst}
+use Rattle.deck9.specs.Drift.{Drift, DriftsTo, Move, Moves, PairReaches, arrives, halts, handled, passes}
+use Rattle.deck9.specs.Mode.{is_one_of, on_the_way}
+use Rattle.deck9.specs.State.{IsEntry, IsState, entry_of}
+use Rattle.deck9.specs.declared.mode.Mode.{Mode}
+use Rattle.deck9.specs.declared.mode.Mode.TheVariants.{Stop, Play, Rec, FastForward, Rewind, Shuttle, Jog, Var, Cued, Eject}
+use Rattle.deck9.specs.declared.state.State.{State}
+use Rattle.deck9.specs.declared.state.Register.{Register}
+use Rattle.deck9.specs.declared.state.Register.TheVariants.{RegIn, RegOut, RegAudioIn, RegAudioOut}
+use Rattle.deck9.specs.declared.state.Hands.{Hands}
+
+-- the four pairs, with one move before
+first_pairs : (g m n g' m' : Mode) → ((n ≡ g) ⊎ (is_one_of (on_the_way g) n ≡ true)) → PairReaches g n g' m' → PairReaches g m g' m'
+first_pairs g m n g' m' step (inr stop) = inr stop
+first_pairs g m n g' m' step (inl (same, inl stays)) = inl (same, elim step [ inl e ↦ inr (inl (stays ∙ e)) | inr e ↦ inr (inr (rw stays e)) ])
+first_pairs g m n g' m' step (inl (same, inr rest)) = inl (same, inr rest)
+
+stop_way : (m : Mode) → is_one_of (on_the_way Stop) m ≡ true → m ≡ Stop
+stop_way Stop h = refl
+stop_way Play h = cc
+stop_way Rec h = cc
+stop_way FastForward h = cc
+stop_way Rewind h = cc
+stop_way Shuttle h = cc
+stop_way Jog h = cc
+stop_way Var h = cc
+stop_way Cued h = cc
+stop_way Eject h = cc
+
+from_stop : (g m g' m' : Mode) → PairReaches Stop Stop g' m' → PairReaches g m g' m'
+from_stop g m g' m' (inr stop) = inr stop
+from_stop g m g' m' (inl (same, inl e)) = inr (same, e)
+from_stop g m g' m' (inl (same, inr (inl e))) = inr (same, e)
+from_stop g m g' m' (inl (same, inr (inr e))) = inr (same, stop_way m' e)
+
+carry : (h : Hands) (s t : State) (n : Mode) → ((n ≡ s.goal) ⊎ (is_one_of (on_the_way s.goal) n ≡ true)) → DriftsTo h (record s { shown = n }) t → DriftsTo h s t
+carry h s t n step (inl p) = inl (p.0, first_pairs s.goal s.shown n t.goal t.shown step p.1)
+carry h s t n step (inr p) = inr p
+
+pub same_entries : (u t : State) → t ≡ record u { goal = t.goal; shown = t.shown } → IsState u → IsState t
+same_entries u t e h = λ r. subst (λ (v : State). IsEntry (entry_of r v)) (sym e) (at r)
+  where
+    at : (r : Register) → IsEntry (entry_of r (record u { goal = t.goal; shown = t.shown }))
+    at RegIn = h RegIn
+    at RegOut = h RegOut
+    at RegAudioIn = h RegAudioIn
+    at RegAudioOut = h RegAudioOut
+
+-- one move before a drift
+before : (h : Hands) (s u t : State) → Move h s u → DriftsTo h u t → DriftsTo h s t
+before h s u t (arrives e) d = carry h s t s.goal (inl refl) (subst (λ v. DriftsTo h v t) e d)
+before h s u t (passes m way e) d = carry h s t m (inr way) (subst (λ v. DriftsTo h v t) e d)
+before h s u t (halts at_goal e) d = elim (subst (λ v. DriftsTo h v t) e d) [ inl p ↦ inl (p.0, from_stop s.goal s.shown t.goal t.shown p.1) | inr p ↦ inr p ]
+before h s u t (handled allowed on still valid) d = elim d [ inl p ↦ inr (allowed, on, ap (λ (v : State). v.panel) p.0 ∙ still, same_entries u t p.0 valid) | inr p ↦ inr (allowed, on, p.2, p.3) ]
+
+pub pairs_from_moves : (h : Hands) (us : List State) (s t : State) → Moves h s us t → DriftsTo h s t
+pairs_from_moves h [] s t e = inl (rw e refl, inl (ap (λ (v : State). v.goal) e, inl (ap (λ (v : State). v.shown) e)))
+pairs_from_moves h (u ∷ us) s t m = before h s u t m.0 (pairs_from_moves h us u t m.1)
+
+pub pairs_from_drift : (h : Hands) (s t : State) → Drift h s t → DriftsTo h s t
+pairs_from_drift h s t d = pairs_from_moves h d.0 s t d.1
+
+pub drift_from_pairs : (h : Hands) (s t : State) → DriftsTo h s t → Drift h s t
+drift_from_pairs h s t (inl (keeps, inl (same, inl shown))) = ([], keeps ∙ rw (same, shown) refl)
+drift_from_pairs h s t (inl (keeps, inl (same, inr (inl shown)))) = (t ∷ [], (arrives (keeps ∙ rw (same, shown) refl), refl))
+drift_from_pairs h s t (inl (keeps, inl (same, inr (inr way)))) = (t ∷ [], (passes t.shown way (keeps ∙ rw same refl), refl))
+drift_from_pairs h s t (inl (keeps, inr (stop, shown))) = (record s { shown = s.goal } ∷ t ∷ [], (arrives refl, (halts refl (keeps ∙ rw (stop, shown) refl), refl)))
+drift_from_pairs h s t (inr (allowed, on, still, valid)) = (t ∷ [], (handled allowed on still valid, refl))

@@ -1,0 +1,8 @@
+use Rattle.std.specs.Iterator.Adapters.{zip_first, zip_second}
+use Rattle.std.specs.Slice.Iter.{iter_rest}
+use Rattle.deck9.proofs.RunSearch.{GoesOn}
+use Rattle.deck9.proofs.run.goes_on.Given as goal
+
+-- what is asked of all exchanges is asked of those that are left, from the state before them
+abbrev pub invariant-loop-exchange : goal.invariant-loop-exchange
+invariant-loop-exchange l = GoesOn l.hands l.first l.exchanges l.states l.before (iter_rest (zip_first l.exchange-iterator)) (iter_rest (zip_second l.exchange-iterator))

@@ -1,0 +1,43 @@
+-- How a deck changes by itself between two exchanges.
+use Rattle.std.specs.Prelude.{◌≡◌, ◌⊎◌, true, List, [], ◌∷◌}
+use Rattle.deck9.specs.declared.mode.Mode.{Mode}
+use Rattle.deck9.specs.declared.mode.Mode.TheVariants.{Stop}
+use Rattle.deck9.specs.declared.state.Hands.{Hands}
+use Rattle.deck9.specs.declared.state.Hands.TheVariants as hands
+use Rattle.deck9.specs.declared.state.State.{State}
+use Rattle.deck9.specs.Mode.{is_one_of, on_the_way}
+use Rattle.deck9.specs.State.{IsState}
+
+-- one move of the mechanics, or of a hand on the panel
+pub data Move (h : Hands) (s t : State) : Type 0 where
+  -- the shown mode becomes the goal
+  arrives : t ≡ record s { shown = s.goal } → Move h s t
+  -- the shown mode becomes one on the way to the goal, also after the goal was shown
+  passes : (m : Mode) → is_one_of (on_the_way s.goal) m ≡ true → t ≡ record s { shown = m } → Move h s t
+  -- where the goal is shown, both become STOP: the end of the tape, or a cassette put in
+  halts : s.shown ≡ s.goal → t ≡ record s { goal = Stop; shown = Stop } → Move h s t
+  -- where hands are allowed and the panel is on, a hand does anything but switch the panel off
+  handled : h ≡ hands.Allowed → s.panel ≡ true → t.panel ≡ true → IsState t → Move h s t
+
+-- from s to t by way of these states, each by a move from the one before
+abbrev pub Moves : Hands → State → List State → State → Type 0
+Moves h s [] t = t ≡ s
+Moves h s (u ∷ us) t = Move h s u × Moves h u us t
+
+-- any finite number of moves, none included
+abbrev pub Drift : Hands → State → State → Type 0
+Drift h s t = (us : List State) × Moves h s us t
+
+-- ---- what a drift comes to: a law, and no further rule
+
+-- from the goal g and the shown mode m to others: g with m, g with g, g with a mode on the way to g, STOP with STOP
+abbrev pub PairReaches : Mode → Mode → Mode → Mode → Type 0
+PairReaches g m g' m' = ((g' ≡ g) × ((m' ≡ m) ⊎ (m' ≡ g) ⊎ (is_one_of (on_the_way g) m' ≡ true))) ⊎ ((g' ≡ Stop) × (m' ≡ Stop))
+
+-- nothing but goal and shown mode differs
+abbrev pub KeepsRest : State → State → Type 0
+KeepsRest s t = t ≡ record s { goal = t.goal; shown = t.shown }
+
+-- one of four pairs, or what a hand did
+abbrev pub DriftsTo : Hands → State → State → Type 0
+DriftsTo h s t = (KeepsRest s t × PairReaches s.goal s.shown t.goal t.shown) ⊎ ((h ≡ hands.Allowed) × (s.panel ≡ true) × (t.panel ≡ true) × IsState t)

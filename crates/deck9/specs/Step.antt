@@ -1,0 +1,27 @@
+-- What an exchange does: a drift, and then a step.
+use Rattle.std.specs.Prelude.{◌≡◌, true, false}
+use Rattle.block9.specs.declared.block.Block.{Block}
+use Rattle.block9.specs.declared.command.Command.{Command}
+use Rattle.block9.specs.Command.{is_nak}
+use Rattle.deck9.specs.declared.state.Hands.{Hands}
+use Rattle.deck9.specs.declared.state.State.{State}
+use Rattle.deck9.specs.Drift.{Drift}
+use Rattle.deck9.specs.Effect.{Does, effect_of, may_ignore}
+use Rattle.deck9.specs.Shows.{Shows}
+
+-- what the deck does with a command that it gives this reply to
+pub data Step (h : Hands) (command : Command) (reply : Block) (s t : State) : Type 0 where
+  -- not acknowledged, whatever the reasons: the state stays
+  refused : is_nak reply ≡ true → t ≡ s → Step h command reply s t
+  -- the reply agrees with the state, and the command has its effect
+  done : is_nak reply ≡ false → Shows s command reply → Does h (effect_of command) s t → Step h command reply s t
+  -- a deck in local leaves a listed transport or preset command undone
+  ignored : is_nak reply ≡ false → Shows s command reply → may_ignore (effect_of command) ≡ true → s.local ≡ true → t ≡ s → Step h command reply s t
+
+-- the deck drifts, and then does the step
+abbrev pub Exchanges : Hands → Command → Block → State → State → Type 0
+Exchanges h command reply s t = (d : State) × Drift h s d × Step h command reply d t
+
+-- the new states are exactly those that a step leads to from one of the old
+abbrev pub AreReached : (State → Type 0) → (State → State → Type 0) → (State → Type 0) → Type 0
+AreReached old Goes new = ((t : State) → new t → (s : State) × old s × Goes s t) × ((s t : State) → old s → Goes s t → new t)

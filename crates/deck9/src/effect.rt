@@ -1,0 +1,119 @@
+//! What each command does to the deck.
+use crate::mode::Mode;
+use crate::state::Register;
+use block9::Command;
+use tc25::TimeCode;
+
+/// What becomes of a register.
+#[derive(Clone, Copy, Debug, PartialEq, Eq)]
+pub enum Change {
+    /// Set, at any time: the deck takes its own time, which nobody knows.
+    SetSomewhere,
+    /// Set at this time.
+    SetAt(TimeCode),
+    /// Where it is Set, the next frame, round the day.
+    Next,
+    /// Where it is Set, the frame before, round the day.
+    Prev,
+    /// Clear.
+    Reset,
+    /// Anything: an earlier entry, which nobody knows.
+    Recall,
+}
+
+/// What a command does to the deck. The effects are this profile's choice.
+#[derive(Clone, Copy, Debug, PartialEq, Eq)]
+pub enum Effect {
+    /// Nothing.
+    Nothing,
+    /// The goal becomes this mode; the shown mode follows by drift.
+    Go(Mode),
+    /// The goal is kept, or becomes STOP.
+    KeepOrStop,
+    /// A register changes.
+    Change(Register, Change),
+    /// The panel is switched on or off, where hands are allowed.
+    Panel(bool),
+    /// Goal, shown mode and registers become anything.
+    ForgetTape,
+    /// The registers become anything.
+    ForgetRegisters,
+    /// Everything becomes anything, the panel only where hands are allowed.
+    ForgetAll,
+}
+
+impl Effect {
+    ghost use Rattle.std.specs.Prelude.{◌≡◌};
+    ghost use Rattle.deck9.specs.Effect.{effect_of, may_ignore};
+
+    /// What a command does where it is acknowledged.
+    pub fn of(command: &Command) -> Effect
+        ensures { result ≡ effect_of command.now }
+    {
+        match command {
+            Command::Stop => Effect::Go(Mode::Stop),
+            Command::Play | Command::SyncPlay => Effect::Go(Mode::Play),
+            Command::Record => Effect::Go(Mode::Rec),
+            Command::StandbyOff | Command::StandbyOn => Effect::KeepOrStop,
+            Command::Eject => Effect::Go(Mode::Eject),
+            Command::FastForward => Effect::Go(Mode::FastForward),
+            Command::JogForward | Command::JogReverse => Effect::Go(Mode::Jog),
+            Command::VarForward | Command::VarReverse => Effect::Go(Mode::Var),
+            Command::ShuttleForward | Command::ShuttleReverse => Effect::Go(Mode::Shuttle),
+            Command::Rewind => Effect::Go(Mode::Rewind),
+            Command::Preroll | Command::CueUpWithData { .. } => Effect::Go(Mode::Cued),
+            Command::InEntry => Effect::Change(Register::RegIn, Change::SetSomewhere),
+            Command::OutEntry => Effect::Change(Register::RegOut, Change::SetSomewhere),
+            Command::AudioInEntry => Effect::Change(Register::RegAudioIn, Change::SetSomewhere),
+            Command::AudioOutEntry => Effect::Change(Register::RegAudioOut, Change::SetSomewhere),
+            Command::InDataPreset { time } => Effect::Change(Register::RegIn, Change::SetAt(*time)),
+            Command::OutDataPreset { time } => Effect::Change(
+                Register::RegOut,
+                Change::SetAt(*time),
+            ),
+            Command::AudioInDataPreset { time } => Effect::Change(
+                Register::RegAudioIn,
+                Change::SetAt(*time),
+            ),
+            Command::AudioOutDataPreset { time } => Effect::Change(
+                Register::RegAudioOut,
+                Change::SetAt(*time),
+            ),
+            Command::InShiftPlus => Effect::Change(Register::RegIn, Change::Next),
+            Command::InShiftMinus => Effect::Change(Register::RegIn, Change::Prev),
+            Command::OutShiftPlus => Effect::Change(Register::RegOut, Change::Next),
+            Command::OutShiftMinus => Effect::Change(Register::RegOut, Change::Prev),
+            Command::AudioInShiftPlus => Effect::Change(Register::RegAudioIn, Change::Next),
+            Command::AudioInShiftMinus => Effect::Change(Register::RegAudioIn, Change::Prev),
+            Command::AudioOutShiftPlus => Effect::Change(Register::RegAudioOut, Change::Next),
+            Command::AudioOutShiftMinus => Effect::Change(Register::RegAudioOut, Change::Prev),
+            Command::InFlagReset => Effect::Change(Register::RegIn, Change::Reset),
+            Command::OutFlagReset => Effect::Change(Register::RegOut, Change::Reset),
+            Command::AudioInFlagReset => Effect::Change(Register::RegAudioIn, Change::Reset),
+            Command::AudioOutFlagReset => Effect::Change(Register::RegAudioOut, Change::Reset),
+            Command::InRecall => Effect::Change(Register::RegIn, Change::Recall),
+            Command::OutRecall => Effect::Change(Register::RegOut, Change::Recall),
+            Command::AudioInRecall => Effect::Change(Register::RegAudioIn, Change::Recall),
+            Command::AudioOutRecall => Effect::Change(Register::RegAudioOut, Change::Recall),
+            Command::LocalEnable => Effect::Panel(true),
+            Command::LocalDisable => Effect::Panel(false),
+            Command::Unlisted { group } => match *group {
+                2 => Effect::ForgetTape,
+                4 => Effect::ForgetRegisters,
+                6 => Effect::Nothing,
+                _ => Effect::ForgetAll,
+            },
+            _ => Effect::Nothing,
+        }
+    }
+
+    /// Whether a deck in local may also leave it undone.
+    pub fn may_ignore(&self) -> bool
+        ensures { result ≡ may_ignore self.now }
+    {
+        matches!(
+            self,
+            Effect::Go(_) | Effect::KeepOrStop | Effect::Change(_, _)
+        )
+    }
+}

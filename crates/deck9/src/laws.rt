@@ -1,0 +1,48 @@
+//! The laws of the deck, each the contract of a function that does nothing: that the definitions of drifts, steps and runs
+//! mean what was meant.
+ghost use Rattle.std.specs.Prelude.{◌≡◌, ◌↔◌, true, List, [], ◌∷◌, ◌++◌};
+ghost use Rattle.block9.specs.Command.{is_nak};
+ghost use Rattle.block9.specs.declared.block.Block.{Block};
+ghost use Rattle.block9.specs.declared.command.Command.{Command};
+ghost use Rattle.block9.specs.declared.pairer.Exchange.{Exchange};
+ghost use Rattle.deck9.specs.Drift.{Drift, DriftsTo};
+ghost use Rattle.deck9.specs.Run.{Ends, HasRun};
+ghost use Rattle.deck9.specs.State.{IsFirst};
+ghost use Rattle.deck9.specs.Step.{AreReached, Exchanges, Step};
+
+use crate::state::{Hands, State};
+
+/// A deck need not drift, and a drift after a drift is one.
+pub fn drifts_join()
+    ensures none { (h : Hands) (s : State) → Drift h s s }
+    ensures more { (h : Hands) (s t u : State) → Drift h s t → Drift h t u → Drift h s u }
+{}
+
+/// A drift, any finite number of moves, comes to one of four pairs of goal and shown mode, or where hands are
+/// allowed and the panel is on, to any state with the panel on.
+pub fn drift_is_four_pairs()
+    ensures { (h : Hands) (s t : State) → Drift h s t ↔ DriftsTo h s t }
+{}
+
+/// A NAK, whatever its reasons and whatever was asked, leaves the state as it is, and nothing else does it leave.
+pub fn a_nak_changes_nothing()
+    ensures { (h : Hands) (command : Command) (reply : Block) (s t : State) → is_nak reply ≡ true → (Step h command reply s t ↔ (t ≡ s)) }
+{}
+
+/// Replies that a deck can give that nobody touches, a deck can give too that somebody may touch.
+pub fn hands_explain_no_less()
+    ensures { (es : List Exchange) → HasRun Hands.None es → HasRun Hands.Allowed es }
+{}
+
+/// The states that the runs of no exchange end in are the first states; and those of one exchange more are
+/// exactly the ones that it leads to from the states before.
+pub fn states_after_one_more()
+    ensures none { (h : Hands) (s : State) → Ends h [] s ↔ IsFirst h s }
+    ensures more { (h : Hands) (es : List Exchange) (e : Exchange)
+        → AreReached (Ends h es) (Exchanges h e.command e.reply) (Ends h (es ++ e ∷ [])) }
+{}
+
+/// There is a state that runs end in exactly where there is a run.
+pub fn no_state_without_a_run()
+    ensures { (h : Hands) (es : List Exchange) → ((s : State) × Ends h es s) ↔ HasRun h es }
+{}

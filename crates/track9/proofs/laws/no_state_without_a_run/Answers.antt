@@ -1,5 +1,0 @@
-use Rattle.track9.proofs.RunLemmas.{some_end}
-use Rattle.track9.proofs.laws.no_state_without_a_run.Goals as goal
-
-pub returns : goal.returns
-returns c = some_end
