@@ -1,0 +1,49 @@
+# Installs what `.ci/run` or `./ninecheck` built, and makes packages of it. Nothing is proved or built here.
+#
+#   make install [PREFIX=/usr/local] [DESTDIR=]    make uninstall, with the same
+#   make deb     out/ninecheck_VERSION_amd64.deb
+#   make dist    out/ninecheck-VERSION-linux-x86_64.tar.gz
+
+PREFIX ?= /usr/local
+DESTDIR ?=
+VERSION := $(shell cat VERSION)
+PROGRAM := crates/ninecheck/out/ninecheck
+PACKAGE := ninecheck-$(VERSION)-linux-x86_64
+
+to := $(DESTDIR)$(PREFIX)
+completions := $(to)/share/bash-completion/completions/ninecheck \
+	$(to)/share/zsh/site-functions/_ninecheck \
+	$(to)/share/fish/vendor_completions.d/ninecheck.fish
+
+.PHONY: built install uninstall deb dist
+
+built:
+	@test -x $(PROGRAM) || { echo "nothing is built: run ./ninecheck check examples/play.csv first" >&2; exit 1; }
+
+install: built
+	install -D -m 755 ninecheck "$(to)/bin/ninecheck"
+	install -D -m 755 $(PROGRAM) "$(to)/lib/ninecheck/ninecheck"
+	install -D -m 644 -t "$(to)/share/ninecheck/convert" convert/*.awk
+	install -D -m 644 -t "$(to)/share/ninecheck/view" view/*.awk
+	install -D -m 644 -t "$(to)/share/ninecheck/examples" examples/*.csv examples/ANSWERS
+	install -D -m 644 -t "$(to)/share/doc/ninecheck" README.md VERSION docs/*.md
+	install -D -m 644 man/ninecheck.1 "$(to)/share/man/man1/ninecheck.1"
+	install -D -m 644 completions/ninecheck.bash "$(to)/share/bash-completion/completions/ninecheck"
+	install -D -m 644 completions/ninecheck.zsh "$(to)/share/zsh/site-functions/_ninecheck"
+	install -D -m 644 completions/ninecheck.fish "$(to)/share/fish/vendor_completions.d/ninecheck.fish"
+
+uninstall:
+	rm -f "$(to)/bin/ninecheck" "$(to)/share/man/man1/ninecheck.1" $(foreach file,$(completions),"$(file)")
+	rm -rf "$(to)/lib/ninecheck" "$(to)/share/ninecheck" "$(to)/share/doc/ninecheck"
+
+deb: built
+	rm -rf out/deb
+	$(MAKE) --no-print-directory install DESTDIR=out/deb PREFIX=/usr
+	mkdir -p out/deb/DEBIAN
+	sed 's/@VERSION@/$(VERSION)/' debian-control > out/deb/DEBIAN/control
+	dpkg-deb --root-owner-group --build out/deb out/ninecheck_$(VERSION)_amd64.deb
+
+dist: built
+	rm -rf out/dist
+	$(MAKE) --no-print-directory install DESTDIR= PREFIX=out/dist/$(PACKAGE)
+	tar -C out/dist --owner=0 --group=0 -czf out/$(PACKAGE).tar.gz $(PACKAGE)
