@@ -1,0 +1,83 @@
+#!/usr/bin/env bash
+# Runs the built program on what docs/PROFILE.md says of commands that are not listed, and of replies that are P5 here,
+# row by row of its tables. The last line is 'N passed, M failed'.
+set -u
+cd "$(dirname "$0")/.." || exit 1
+program=${NINECHECK:-$PWD/crates/ninecheck/out/ninecheck}
+
+work=$(mktemp -d)
+trap 'rm -rf "$work"' EXIT
+passed=0
+failed=0
+
+# judge NAME CONDITION...: counts whether this command succeeds.
+judge() {
+    local name=$1
+    shift
+    if "$@"; then
+        passed=$((passed + 1))
+    else
+        failed=$((failed + 1))
+        echo "FAILED $name: $(cat "$work/out")"
+    fi
+}
+
+# blocks BLOCKS: a capture of blocks, each a wire and its bytes without the sum, parted by commas; bytes come 400
+# microseconds apart.
+blocks() {
+    echo 'time_us,wire,byte'
+    echo "$1" | tr ',' '\n' | while read -r wire bytes; do
+        sum=0
+        for byte in $bytes; do
+            echo "$wire $byte"
+            sum=$(((sum + 0x$byte) % 256))
+        done
+        printf '%s %02X\n' "$wire" "$sum"
+    done | awk '{ time += 400; print time "," $1 "," $2 }'
+}
+
+# table TITLE: the rows of the first table behind this title, their cells parted by bars without blanks and marks.
+table() {
+    sed -n "/^### $1/,/^##/p" docs/PROFILE.md | grep '^| `' | sed 's/^| //; s/ |$//; s/`//g; s/ | /|/g'
+}
+
+# is_told NAME TEXT: the last exchange's line of the explanation has this text.
+is_told() {
+    judge "$command: $1" grep -q "$2" <(tail -n 2 "$work/out" | head -n 1)
+}
+
+# The deck is in remote, goes for STOP and shows it, and has IN at 10:00:00:00; then comes the command; and then the deck shows REC.
+known='C 61 20 01,D 71 20 00,C 20 00,D 10 01,C 61 20 12,D 72 20 20 00,C 44 14 00 00 00 10,D 10 01'
+recording='C 61 20 12,D 72 20 02 00'
+rows=0
+while IFS='|' read -r command name forgets; do
+    first=${command%% *}
+    data=$(printf "%$((0x$first % 16))s" '' | sed 's/ / 00/g')
+    blocks "$known,C $command$data,D 10 01" | "$program" explain > "$work/out" 2>&1
+    is_told 'its bytes' ": $command -> ACK,"
+    is_told 'remote is kept' ', local no,'
+    case $forgets in
+        nothing) is_told 'IN is kept' ', in 10:00:00:00,' ;;
+        'the registers' | 'the tape and the registers') is_told 'IN is forgotten' ', in unknown,' ;;
+        *) judge "$command: what is forgotten" false ;;
+    esac
+    blocks "$known,C $command$data,D 10 01,$recording" | "$program" check > "$work/out" 2>&1
+    case $forgets in
+        'the tape and the registers') judge "$command: the mode is forgotten" grep -q '^yes' "$work/out" ;;
+        *) judge "$command: the mode is kept" grep -q ': M1 ' "$work/out" ;;
+    esac
+    rows=$((rows + 1))
+done < <(table 'Not listed')
+judge "rows of commands: $rows" [ "$rows" = 25 ]
+
+rows=0
+while IFS='|' read -r command reply what; do
+    blocks "C $command,D $reply" > "$work/capture"
+    "$program" check < "$work/capture" > "$work/out" 2>&1
+    judge "$command answered by $what" grep -q "^no at record $(($(wc -l < "$work/capture") - 1)): P5 " "$work/out"
+    rows=$((rows + 1))
+done < <(table 'Replies that real decks give')
+judge "rows of replies: $rows" [ "$rows" = 6 ]
+
+echo "$passed passed, $failed failed"
+[ "$failed" = 0 ]
