@@ -1,0 +1,31 @@
+# To be sourced by a test that needs tools which the machine may not have. It makes no test of its own, so it stands where
+# the gate does not look for scripts.
+
+# need_tools NAME...: installs those of these tools that are not there, each from the Debian package of its name, and ends
+# the test where that can't be done. Scripts that run side by side wait for one another, so each tool is installed once.
+need_tools() {
+    local missing
+    [ -n "$(missing_tools "$@")" ] || return 0
+    (
+        flock 9 || exit 1
+        missing=$(missing_tools "$@")
+        [ -n "$missing" ] || exit 0
+        export DEBIAN_FRONTEND=noninteractive
+        # shellcheck disable=SC2086
+        apt-get update -qq && apt-get install -y -qq $missing
+    ) 9> "${TMPDIR:-/tmp}/ninecheck-tools-$(id -u).lock" > /dev/null 2>&1
+    missing=$(missing_tools "$@")
+    [ -n "$missing" ] || return 0
+    echo "FAILED not there, and can't be installed: $missing"
+    echo '0 passed, 1 failed'
+    exit 1
+}
+
+# missing_tools NAME...: those of these tools that are not there, parted by blanks.
+missing_tools() {
+    local tool missing=
+    for tool in "$@"; do
+        command -v "$tool" > /dev/null || missing="$missing $tool"
+    done
+    echo "${missing# }"
+}

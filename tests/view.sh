@@ -1,0 +1,362 @@
+#!/usr/bin/env bash
+# Runs the views on stored texts, on damaged ones and on what the built program prints, under each awk, and reads what is
+# made for other programs with jq. The last line is 'N passed, M failed'.
+set -u
+cd "$(dirname "$0")/.." || exit 1
+program=${NINECHECK:-$PWD/crates/ninecheck/out/ninecheck}
+
+. tests/lib/tools.sh
+need_tools mawk gawk busybox jq
+
+work=$(mktemp -d)
+trap 'rm -rf "$work"' EXIT
+# The views' own files are made here, so that it can be seen that none is left.
+export TMPDIR=$work/held
+mkdir "$TMPDIR"
+passed=0
+failed=0
+
+# judge NAME CONDITION...: counts whether this command succeeds.
+judge() {
+    local name=$1
+    shift
+    if "$@"; then
+        passed=$((passed + 1))
+    else
+        failed=$((failed + 1))
+        echo "FAILED $name"
+        head -n 20 "$work/out" "$work/err"
+    fi
+}
+
+# view NAME WORDS: the view on standard input; its streams are left in $work/out and $work/err.
+view() {
+    $awk $2 -f "view/$1" > "$work/out" 2> "$work/err"
+    status=$?
+}
+
+# is_view FILE: the run made this text and said nothing.
+is_view() {
+    [ "$status" = 0 ] && cmp "$work/out" "$1" && [ ! -s "$work/err" ]
+}
+
+# is_refused LINE: the run wrote this line to standard error, and nothing to standard output.
+is_refused() {
+    printf '%s\n' "$1" > "$work/want"
+    [ "$status" = 1 ] && [ ! -s "$work/out" ] && cmp "$work/err" "$work/want"
+}
+
+# text_of WORDS: the text that words of printf stand for, with these put in: @unknown for the end of an exchange's line of
+# which nothing is known, and @state for a state.
+text_of() {
+    local unknown='delay 400, goal unknown, shown unknown, in unknown, out unknown, local unknown'
+    local state='goal STOP, shown PLAY, in clear, out 23:59:59:24, local no, ain clear, aout 00:00:00:00'
+    printf "$1" | sed "s/@unknown/$unknown, ain unknown, aout unknown/; s/@state/$state/"
+}
+
+# The stored texts, each with what a view makes of it.
+stored_texts() {
+    local text view words want
+    while IFS='|' read -r text view words want; do
+        case "$text" in '#'* | '') continue ;; esac
+        view "$view" "$words" < "examples/views/$text"
+        judge "$awk: $view $words on $text" is_view "examples/views/$want"
+    done < examples/views/ANSWERS
+}
+
+# Short texts, and what the views make of them.
+short_texts() {
+    local name view text want
+    while IFS='|' read -r name view text want; do
+        text_of "$text" > "$work/in"
+        text_of "$want" > "$work/want"
+        view "$view.awk" '' < "$work/in"
+        judge "$awk: $view: $name" is_view "$work/want"
+    done <<'END'
+a yes|json|yes: records 6, exchanges 1, open 0\n|{"line":"verdict","verdict":"yes","records":6,"exchanges":1,"open":0}\n
+a no|json|no at record 28: M1 no run remains\n|{"line":"verdict","verdict":"no","record":28,"reason":"M1","text":"no run remains"}\n
+no line feed at the end|json|no at record 3: B2 wrong sum|{"line":"verdict","verdict":"no","record":3,"reason":"B2","text":"wrong sum"}\n
+a state without hands|json|record 6: @state\nyes: records 6, exchanges 1, open 0\n|{"line":"state","record":6,"goal":"STOP","shown":"PLAY","in":"clear","out":"23:59:59:24","local":"no","ain":"clear","aout":"00:00:00:00"}\n{"line":"verdict","verdict":"yes","records":6,"exchanges":1,"open":0}\n
+a name with quotes and a backslash|json|record 6: "A\\B" -> C -> ACK, @unknown\nyes: records 6, exchanges 1, open 0\n|{"line":"exchange","record":6,"command":"\\"A\\\\B\\" -> C","reply":"ACK","delay_us":400,"goal":"unknown","shown":"unknown","in":"unknown","out":"unknown","local":"unknown","ain":"unknown","aout":"unknown"}\n{"line":"verdict","verdict":"yes","records":6,"exchanges":1,"open":0}\n
+a yes alone|digest|yes: records 0, exchanges 0, open 0\n|yes: records 0, exchanges 0, open 0\n
+a command that changes nothing|digest|record 6: PLAY -> ACK, @unknown\nyes: records 7, exchanges 1, open 1\n|record 6: PLAY -> ACK\nyes: records 7, exchanges 1, open 1\n
+a command that is not listed|digest|record 6: 60 40 -> ACK, @unknown\nno at record 7: P1 reply without a command\n|record 6: 60 40 -> ACK\nno at record 7: P1 reply without a command\n
+every question|digest|record 7: AUDIO OUT DATA SENSE -> 74 13, @unknown\nrecord 14: AUDIO IN DATA SENSE -> 74 12, @unknown\nrecord 21: OUT DATA SENSE -> 74 11, @unknown\nrecord 28: IN DATA SENSE -> 74 10, @unknown\nrecord 35: DEVICE TYPE -> 12 11, @unknown\nrecord 43: CURRENT TIME SENSE -> 74 04, @unknown\nrecord 50: STATUS SENSE -> 72 20, @unknown\nyes: records 50, exchanges 7, open 0\n|... 1 AUDIO OUT DATA SENSE, 1 AUDIO IN DATA SENSE, 1 OUT DATA SENSE, 1 IN DATA SENSE, 1 DEVICE TYPE, 1 CURRENT TIME SENSE, 1 STATUS SENSE\nyes: records 50, exchanges 7, open 0\n
+END
+}
+
+# Texts that every view refuses: the line of the message, and what it says.
+bad_texts() {
+    local name line what text view
+    while IFS='|' read -r name line what text; do
+        text_of "$text" > "$work/in"
+        what=$(text_of "$what")
+        for view in digest delays json; do
+            view "$view.awk" '' < "$work/in"
+            judge "$awk: $view: $name" is_refused "$view.awk: line $line: $what"
+        done
+    done <<'END'
+an empty text|0|no verdict: the capture can't be read, or the text was cut short|
+no verdict|1|no verdict: the capture can't be read, or the text was cut short|record 6: PLAY -> ACK, @unknown\n
+an empty line|2|unknown line: |record 6: PLAY -> ACK, @unknown\n\nyes: records 6, exchanges 1, open 0\n
+another text|1|unknown line: time_us,wire,byte|time_us,wire,byte\n400,C,20\n
+a line that was cut short|1|unknown line: record 6: PLAY -> ACK, delay 400, goal un|record 6: PLAY -> ACK, delay 400, goal un
+a line after the verdict|2|a line after the verdict: yes: records 0, exchanges 0, open 0|yes: records 0, exchanges 0, open 0\nyes: records 0, exchanges 0, open 0\n
+a verdict that was cut short|1|unknown line: yes: records 6, exchanges 1, open|yes: records 6, exchanges 1, open
+a yes with a word|1|unknown line: yes: records 6, exchanges one, open 0|yes: records 6, exchanges one, open 0\n
+a no without a reason|1|unknown line: no at record 6|no at record 6\n
+a reason that is none|1|unknown line: no at record 6: M2 no run remains|no at record 6: M2 no run remains\n
+a reason with another text|1|unknown line: no at record 6: M1 wrong sum|no at record 6: M1 wrong sum\n
+a no at no record|1|unknown line: no at record 0: B2 wrong sum|no at record 0: B2 wrong sum\n
+a no at an earlier record|2|a record that does not come after the one before: no at record 6: B2 wrong sum|record 6: PLAY -> ACK, @unknown\nno at record 6: B2 wrong sum\n
+records out of order|2|a record that does not come after the one before: record 9: PLAY -> ACK, @unknown|record 12: PLAY -> ACK, @unknown\nrecord 9: PLAY -> ACK, @unknown\n
+a record that is no number|1|unknown line: record six: PLAY -> ACK, @unknown|record six: PLAY -> ACK, @unknown\n
+no command|1|unknown line: record 6:  -> ACK, @unknown|record 6:  -> ACK, @unknown\n
+a control character in a command|1|unknown line: record 6: PL\tAY -> ACK, @unknown|record 6: PL\tAY -> ACK, @unknown\n
+a reply that is none|1|unknown line: record 6: PLAY -> 741, @unknown|record 6: PLAY -> 741, @unknown\n
+a NAK without its byte|1|unknown line: record 6: PLAY -> NAK, @unknown|record 6: PLAY -> NAK, @unknown\n
+no delay|1|unknown line: record 6: PLAY -> ACK, goal STOP|record 6: PLAY -> ACK, goal STOP\n
+a delay below 0|1|unknown line: record 6: PLAY -> ACK, delay -1, goal STOP|record 6: PLAY -> ACK, delay -1, goal STOP\n
+a mode that is none|1|unknown line: record 6: PLAY -> ACK, delay 400, goal IDLE, shown unknown, in unknown, out unknown, local unknown, ain unknown, aout unknown|record 6: PLAY -> ACK, delay 400, goal IDLE, shown unknown, in unknown, out unknown, local unknown, ain unknown, aout unknown\n
+a time that is none|1|unknown line: record 6: PLAY -> ACK, delay 400, goal STOP, shown unknown, in 10:00:00:25, out unknown, local unknown, ain unknown, aout unknown|record 6: PLAY -> ACK, delay 400, goal STOP, shown unknown, in 10:00:00:25, out unknown, local unknown, ain unknown, aout unknown\n
+fields in another order|1|unknown line: record 6: PLAY -> ACK, delay 400, shown unknown, goal STOP, in unknown, out unknown, local unknown, ain unknown, aout unknown|record 6: PLAY -> ACK, delay 400, shown unknown, goal STOP, in unknown, out unknown, local unknown, ain unknown, aout unknown\n
+one field more|1|unknown line: record 6: PLAY -> ACK, @unknown, panel on, panel on|record 6: PLAY -> ACK, @unknown, panel on, panel on\n
+local that is neither|1|unknown line: record 6: PLAY -> ACK, delay 400, goal STOP, shown unknown, in unknown, out unknown, local on, ain unknown, aout unknown|record 6: PLAY -> ACK, delay 400, goal STOP, shown unknown, in unknown, out unknown, local on, ain unknown, aout unknown\n
+a panel that is neither|1|unknown line: record 6: PLAY -> ACK, @unknown, panel yes|record 6: PLAY -> ACK, @unknown, panel yes\n
+a state that is not known|1|unknown line: record 6: goal STOP, shown PLAY, in set, out clear, local no, ain clear, aout clear|record 6: goal STOP, shown PLAY, in set, out clear, local no, ain clear, aout clear\n
+END
+}
+
+# Explanations that digest and delays refuse, also for the capture beside them: its rows, or - for none.
+bad_explanations() {
+    local name line what rows text words view
+    while IFS='|' read -r name line what rows text; do
+        words=
+        if [ "$rows" != - ]; then
+            words="-v capture=$work/beside.csv"
+            printf "$rows" > "$work/beside.csv"
+        fi
+        [ "$rows" != none ] || rm "$work/beside.csv"
+        text_of "$text" > "$work/in"
+        what=$(text_of "$what")
+        for view in digest delays; do
+            view "$view.awk" "$words" < "$work/in"
+            judge "$awk: $view: $name" is_refused "$view.awk: line $line: ${what/@capture/$work/beside.csv}"
+        done
+    done <<'END'
+a run|1|a line of a run, and not of an explanation: record 6: @state|-|record 6: @state\nyes: records 6, exchanges 1, open 0\n
+a verdict of lines that are not there|1|the verdict counts 1 exchanges, and 0 lines stand before it|-|yes: records 6, exchanges 1, open 0\n
+a line that was left out|2|the verdict counts 2 exchanges, and 1 lines stand before it|-|record 6: PLAY -> ACK, @unknown\nyes: records 12, exchanges 2, open 0\n
+no file of this name|0|the capture can't be opened: @capture|none|yes: records 0, exchanges 0, open 0\n
+an empty file|0|no header of a capture: @capture||yes: records 0, exchanges 0, open 0\n
+another file|0|no header of a capture: @capture|time,wire\n|yes: records 0, exchanges 0, open 0\n
+a capture with more records|1|the capture has not 1 records, as the verdict has: @capture|time_us,wire,byte\n1,C,20\n2,C,01\n3,C,21\n|yes: records 1, exchanges 0, open 1\n
+a capture with fewer records|1|the capture has not 3 records, as the verdict has: @capture|time_us,wire,byte\n1,C,20\n2,C,01\n|yes: records 3, exchanges 0, open 3\n
+a capture that ends before the reason|1|the capture ends before record 3: @capture|time_us,wire,byte\n1,C,20\n2,C,01\n|no at record 3: B2 wrong sum\n
+a row that is no record|1|row 2 of the capture is no record: 2,C,1|time_us,wire,byte\n1,C,20\n2,C,1\n|no at record 2: P4 command inside a reply\n
+END
+}
+
+# What a capture has to be for one view alone.
+bad_captures() {
+    local view
+    view digest.awk '-v capture=examples/play.csv' < examples/views/session.txt
+    judge "$awk: digest: the capture of another explanation" is_refused \
+        'digest.awk: line 1: the capture ends before record 8: examples/play.csv'
+    text_of 'record 3: PLAY -> ACK, @unknown\nyes: records 6, exchanges 1, open 3\n' > "$work/in"
+    view digest.awk '-v capture=examples/play.csv' < "$work/in"
+    judge "$awk: digest: a reply on the other wire" is_refused \
+        'digest.awk: line 1: record 3 of the capture is on the other wire: examples/play.csv'
+    echo 'no at record 4: L1 late reply' > "$work/in"
+    for view in digest delays; do
+        view $view.awk '-v capture=examples/play.csv' < "$work/in"
+        judge "$awk: $view: a reply that is not late" is_refused \
+            "$view.awk: line 1: record 4 of the capture is no late reply: examples/play.csv"
+    done
+    sed 's/delay 9287/delay 9288/' examples/views/session.txt > "$work/in"
+    view delays.awk '' < "$work/in"
+    judge "$awk: delays: a delay above the limit" is_refused \
+        "delays.awk: line 18: a delay above the limit of 9287: $(sed -n 18p "$work/in")"
+}
+
+# Many replies of one command, after 1 to 200 microseconds, and one of another after 700; and a late reply alone.
+more_delays() {
+    awk 'BEGIN {
+        tail = ", goal unknown, shown unknown, in unknown, out unknown, local unknown, ain unknown, aout unknown"
+        for (k = 1; k <= 200; k++) print "record " 6 * k ": PLAY -> ACK, delay " k * 77 % 201 tail
+        print "record 1206: STOP -> ACK, delay 700" tail
+        print "yes: records 1206, exchanges 201, open 0"
+    }' > "$work/in"
+    view delays.awk '' < "$work/in"
+    {
+        echo 'replies  least middle   99th greatest  command'
+        echo '    200      1    100    198      200  PLAY'
+        echo '      1    700    700    700      700  STOP'
+        echo '    201      1    101    199      700  all'
+    } > "$work/want"
+    head -n 4 "$work/out" > "$work/table"
+    judge "$awk: delays: the 99th of a hundred" cmp "$work/table" "$work/want"
+    printf '%s\n' 'no whole exchange' '  limit 9287 |--------------------------------------------------' \
+        '        9288 |late reply at record 4, 1 above the limit' 'no at record 4: L1 late reply' > "$work/want"
+    "$program" explain examples/late-reply.csv > "$work/in"
+    view delays.awk '-v capture=examples/late-reply.csv' < "$work/in"
+    judge "$awk: delays: a late reply alone" is_view "$work/want"
+}
+
+# Two thousand questions with three events among them, the first question one of them, are seven lines.
+polling() {
+    awk 'function send(wire, bytes, n, k, byte) {
+            n = split(bytes, byte, " ")
+            for (k = 1; k <= n; k++) print (now += 400) "," wire "," byte[k]
+        }
+        BEGIN {
+            print "time_us,wire,byte"
+            for (turn = 1; turn <= 1000; turn++) {
+                send("C", "61 20 01 82"); send("D", "71 20 00 91")
+                send("C", "61 0C 01 6E"); send("D", "74 04 00 00 00 10 88")
+                if (turn == 300) { send("C", "44 14 00 00 00 10 68"); send("D", "10 01 11") }
+                if (turn == 760) { send("C", "20 01 21"); send("D", "10 01 11") }
+            }
+        }' > "$work/polling.csv"
+    printf '%s\n' 'record 8, 0.003200 s: STATUS SENSE -> 71 20, local: unknown => no' \
+        '... 300 CURRENT TIME SENSE, 299 STATUS SENSE' \
+        'record 5710, 2.284000 s: IN DATA PRESET -> ACK, in: unknown => 10:00:00:00' \
+        '... 460 STATUS SENSE, 460 CURRENT TIME SENSE' \
+        'record 14456, 5.782400 s: PLAY -> ACK, goal: unknown => PLAY' \
+        '... 240 STATUS SENSE, 240 CURRENT TIME SENSE' \
+        'yes: records 19016, exchanges 2002, open 0' > "$work/want"
+    "$program" explain "$work/polling.csv" > "$work/in"
+    view digest.awk "-v capture=$work/polling.csv" < "$work/in"
+    judge "$awk: digest: two thousand questions" is_view "$work/want"
+}
+
+# Every form of row that the program takes: a byte order mark, quotes, CRLF, empty lines, zeros in front.
+odd_captures() {
+    printf '\357\273\277"time_us",wire,"byte"\r\n\r\n000000000000000,C,20\n"0000000001000",C,01\r\n\n1700,"C",21\n%s' \
+        $'2000,D,10\r\n2600,D,01\r\n\n"9"999,D,11' > "$work/odd.csv"
+    "$program" explain "$work/odd.csv" > "$work/in"
+    view digest.awk "-v capture=$work/odd.csv" < "$work/in"
+    printf '%s\n' 'record 6, 0.009999 s: PLAY -> ACK' 'yes: records 6, exchanges 1, open 0' > "$work/want"
+    judge "$awk: digest: a capture with quotes" is_view "$work/want"
+    printf 'time_us,wire,byte\n000,C,20\n000,C,01\n0,C,21\n0,D,10\n00,D,01\n0000,D,11\n' > "$work/odd.csv"
+    "$program" explain "$work/odd.csv" > "$work/in"
+    view digest.awk "-v capture=$work/odd.csv" < "$work/in"
+    printf '%s\n' 'record 6, 0.000000 s: PLAY -> ACK' 'yes: records 6, exchanges 1, open 0' > "$work/want"
+    judge "$awk: digest: a capture at 0" is_view "$work/want"
+    printf 'time_us,wire,byte\n0,C,20\n0,C,01\n0,C,21\n0,D,10\n0,D,01\n9999,D,11\n999999999999999,C,20\n' > "$work/odd.csv"
+    "$program" explain "$work/odd.csv" > "$work/in"
+    sed 's/9999,D/999999999999999,D/' "$work/odd.csv" > "$work/late.csv"
+    view digest.awk "-v capture=$work/late.csv" < "$work/in"
+    printf '%s\n' 'record 6, 999999999.999999 s: PLAY -> ACK' 'yes: records 7, exchanges 1, open 1' > "$work/want"
+    judge "$awk: digest: a capture of the greatest time" is_view "$work/want"
+    sed 's/$/\r/' examples/views/session.txt > "$work/in"
+    view digest.awk '-v capture=examples/views/session.csv' < "$work/in"
+    judge "$awk: digest: lines that end with CRLF" is_view examples/views/session-digest.txt
+}
+
+# What the program prints of each example: the views take it, and jq reads a JSON object in each line.
+program_texts() {
+    local capture hands verb
+    for capture in examples/*.csv; do
+        for hands in '' --hands; do
+            for verb in check explain run; do
+                "$program" $verb $hands "$capture" > "$work/in" 2> /dev/null
+                [ $? -le 1 ] || continue
+                view json.awk '' < "$work/in"
+                judge "$awk: jq on $verb $hands $capture" is_json
+                [ "$verb" = explain ] || continue
+                view digest.awk "-v capture=$capture" < "$work/in"
+                judge "$awk: digest of $capture $hands" ends_with_verdict
+                view delays.awk "-v capture=$capture" < "$work/in"
+                judge "$awk: delays of $capture $hands" ends_with_verdict
+            done
+        done
+    done
+}
+
+# is_json: each line is one object, with the record or the records of the line that it was made of.
+is_json() {
+    [ "$status" = 0 ] && [ ! -s "$work/err" ] &&
+        jq -R -r 'fromjson | if type == "object" then .record // .records else error end' "$work/out" > "$work/read" &&
+        sed -E 's/^[^0-9]*([0-9]+).*/\1/' "$work/in" | cmp - "$work/read"
+}
+
+ends_with_verdict() {
+    [ "$status" = 0 ] && [ ! -s "$work/err" ] && [ "$(tail -n 1 "$work/out")" = "$(tail -n 1 "$work/in")" ]
+}
+
+# A full device. Under its option --posix gawk does not tell what became of a pipe, so it runs without.
+full_device() {
+    local view
+    for view in digest delays json; do
+        ${awk% --posix} -f view/$view.awk < examples/views/session.txt > /dev/full 2> "$work/err"
+        status=$?
+        judge "$awk: $view: a full device" [ "$status" = 1 ]
+        judge "$awk: $view: the message of a full device" \
+            grep -q "^$view.awk: line 21: the view can't be written$" "$work/err"
+    done
+}
+
+for awk in mawk 'gawk --posix' 'busybox awk'; do
+    stored_texts
+    short_texts
+    bad_texts
+    bad_explanations
+    bad_captures
+    more_delays
+    polling
+    odd_captures
+    program_texts
+    full_device
+    judge "$awk: no file is left" [ -z "$(ls "$TMPDIR")" ]
+done
+
+# The stored explanations are what the program says of the stored captures.
+"$program" explain examples/views/session.csv > "$work/out" 2> "$work/err"
+judge 'the stored explanation of session.csv' cmp "$work/out" examples/views/session.txt
+"$program" explain --hands examples/views/hands.csv > "$work/out" 2> "$work/err"
+judge 'the stored explanation of hands.csv' cmp "$work/out" examples/views/hands.txt
+
+# What a reader of the JSON can tell apart.
+awk=mawk
+view json.awk '' < examples/views/hands.txt
+printf '%s\n' 'string unknown' 'string unknown' 'string set' 'string 10:00:00:00' 'string set' 'string set' 'string set' \
+    'string unknown' 'string unknown' 'null null' > "$work/want"
+jq -r '"\(.in | type) \(.in)"' "$work/out" > "$work/read"
+judge 'jq: the field in' cmp "$work/read" "$work/want"
+judge 'jq: numbers are numbers' [ "$(jq -s 'map(.record // .records, .delay_us // 0) | add' "$work/out")" = $((423 + 9 * 400)) ]
+judge 'jq: the bits of a NAK' [ "$(jq -c 'select(.nak) | [.nak, .bits]' "$work/out" | tr -d '\n')" = \
+    '["14",["checksum","parity"]]["02",[]]' ]
+
+# The page's commands, each with what the page says that it writes.
+page() {
+    awk -v want="$work/page" '
+        /^    \$ / { shown = 1; n++; print substr($0, 7) > (want "." n ".command"); printf "" > (want "." n ".out"); next }
+        /^    / && shown { print substr($0, 5) > (want "." n ".out"); next }
+        { shown = 0 }' docs/VIEWS.md
+}
+page
+commands=0
+mkdir "$work/page"
+ln -s "$PWD/view" "$PWD/examples" "$work/page"
+ln -s "$program" "$work/page/ninecheck"
+for command in "$work"/page.*.command; do
+    (cd "$work/page" && sh "$command" > "$work/out" 2> "$work/err")
+    judge "the page's command $(cat "$command")" cmp "$work/out" "${command%.command}.out"
+    commands=$((commands + 1))
+done
+judge "the page's commands: $commands" [ "$commands" = 6 ]
+
+# What the views have in common is the same in each.
+for view in digest delays json; do
+    sed -n '/^# From here on every view is the same/,$p' view/$view.awk > "$work/$view.every"
+    sed -n '/^# From here on digest.awk and delays.awk are the same/,$p' view/$view.awk > "$work/$view.two"
+done
+judge 'a common end' [ -s "$work/digest.every" ]
+judge 'the same end of delays.awk' cmp "$work/digest.every" "$work/delays.every"
+judge 'the same end of json.awk' cmp "$work/digest.every" "$work/json.every"
+judge 'a longer common end' [ -s "$work/digest.two" ]
+judge 'the same longer end of delays.awk' cmp "$work/digest.two" "$work/delays.two"
+
+echo "$passed passed, $failed failed"
+[ "$failed" = 0 ]
