@@ -1,8 +1,9 @@
-# To be sourced by a test that needs tools which the machine may not have. It makes no test of its own, so it stands where
-# the gate does not look for scripts.
+# To be sourced by a script of tests that needs tools which the machine may not have. It tests nothing itself, so it
+# stands where the gate does not look for scripts.
 
-# need_tools NAME...: installs those of these tools that are not there, each from the Debian package of its name, and ends
-# the test where that can't be done. Scripts that run side by side wait for one another, so each tool is installed once.
+# need_tools NAME...: installs those of these tools that are not there, each from the Debian package of its name, and
+# ends the script where that can't be done. Scripts that run side by side wait for one another, so each tool is
+# installed once.
 need_tools() {
     local missing
     [ -n "$(missing_tools "$@")" ] || return 0
