@@ -73,14 +73,14 @@ expect 'nothing is built' 2 '' 'nothing is built: run ./ninecheck check examples
 
 cp crates/ninecheck/out/ninecheck "$copy/crates/ninecheck/out/ninecheck"
 
-holds 'make install' make -C "$copy" install "DESTDIR=$work/root" PREFIX=/opt/nine
-run_installed 'installed' "$work/root/opt/nine"
-mv "$work/root/opt/nine/lib/ninecheck" "$work/root/opt/nine/lib/away"
+holds 'make install' make -C "$copy" install "DESTDIR=$work/place" PREFIX=/srv/nine
+run_installed 'installed' "$work/place/srv/nine"
+mv "$work/place/srv/nine/lib/ninecheck" "$work/place/srv/nine/lib/away"
 as_nobody ./nine check capture.csv
 expect 'installed without the program' 125 '' 'ninecheck: the program is missing: install it again'
-mv "$work/root/opt/nine/lib/away" "$work/root/opt/nine/lib/ninecheck"
-holds 'make uninstall' make -C "$copy" uninstall "DESTDIR=$work/root" PREFIX=/opt/nine
-find "$work/root" ! -type d > "$work/out"
+mv "$work/place/srv/nine/lib/away" "$work/place/srv/nine/lib/ninecheck"
+holds 'make uninstall' make -C "$copy" uninstall "DESTDIR=$work/place" PREFIX=/srv/nine
+find "$work/place" ! -type d > "$work/out"
 : > "$work/err"
 status=0
 expect 'nothing is left' 0 '' ''
