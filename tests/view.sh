@@ -46,12 +46,14 @@ is_refused() {
     [ "$status" = 1 ] && [ ! -s "$work/out" ] && cmp "$work/err" "$work/want"
 }
 
-# text_of WORDS: the text that words of printf stand for, with these put in: @unknown for the end of an exchange's line of
-# which nothing is known, and @state for a state.
+# text_of WORDS: the text that words of printf stand for, with these put in: @nothing for a deck of which nothing is known,
+# @unknown for the same after a delay of 400, @in VALUE where IN alone is known, and @state for a state.
 text_of() {
-    local unknown='delay 400, goal unknown, shown unknown, in unknown, out unknown, local unknown'
+    local nothing='goal unknown, shown unknown, in unknown, out unknown, local unknown, ain unknown, aout unknown'
     local state='goal STOP, shown PLAY, in clear, out 23:59:59:24, local no, ain clear, aout 00:00:00:00'
-    printf "$1" | sed "s/@unknown/$unknown, ain unknown, aout unknown/; s/@state/$state/"
+    local in_alone=${nothing/in unknown/in \\1}
+    printf "$1" | sed "s/@in \([a-z]*\)/delay 400, $in_alone/; s/@unknown/delay 400, $nothing/; s/@nothing/$nothing/
+        s/@state/$state/"
 }
 
 # The stored texts, each with what a view makes of it.
@@ -81,6 +83,7 @@ a name with quotes and a backslash|json|record 6: "A\\B" -> C -> ACK, @unknown\n
 a yes alone|digest|yes: records 0, exchanges 0, open 0\n|yes: records 0, exchanges 0, open 0\n
 a command that changes nothing|digest|record 6: PLAY -> ACK, @unknown\nyes: records 7, exchanges 1, open 1\n|record 6: PLAY -> ACK\nyes: records 7, exchanges 1, open 1\n
 a command that is not listed|digest|record 6: 60 40 -> ACK, @unknown\nno at record 7: P1 reply without a command\n|record 6: 60 40 -> ACK\nno at record 7: P1 reply without a command\n
+a field that is no longer known is told once for each value|digest|record 8: STATUS SENSE -> 71 20, @in set\nrecord 16: STATUS SENSE -> 71 20, @unknown\nrecord 24: STATUS SENSE -> 71 20, @in set\nrecord 32: DEVICE TYPE -> 12 11, @unknown\nrecord 40: STATUS SENSE -> 71 20, @in clear\nrecord 48: STATUS SENSE -> 71 20, @unknown\nrecord 56: STATUS SENSE -> 71 20, @in clear\nrecord 62: PLAY -> ACK, @unknown\nyes: records 62, exchanges 8, open 0\n|record 8: STATUS SENSE -> 71 20, in: unknown => set\nrecord 16: STATUS SENSE -> 71 20, in: set => unknown\n... 1 STATUS SENSE, 1 DEVICE TYPE\nrecord 40: STATUS SENSE -> 71 20, in: set => clear\nrecord 48: STATUS SENSE -> 71 20, in: clear => unknown\n... 1 STATUS SENSE\nrecord 62: PLAY -> ACK, in: clear => unknown\nyes: records 62, exchanges 8, open 0\n
 every question|digest|record 7: AUDIO OUT DATA SENSE -> 74 13, @unknown\nrecord 14: AUDIO IN DATA SENSE -> 74 12, @unknown\nrecord 21: OUT DATA SENSE -> 74 11, @unknown\nrecord 28: IN DATA SENSE -> 74 10, @unknown\nrecord 35: DEVICE TYPE -> 12 11, @unknown\nrecord 43: CURRENT TIME SENSE -> 74 04, @unknown\nrecord 50: STATUS SENSE -> 72 20, @unknown\nyes: records 50, exchanges 7, open 0\n|... 1 AUDIO OUT DATA SENSE, 1 AUDIO IN DATA SENSE, 1 OUT DATA SENSE, 1 IN DATA SENSE, 1 DEVICE TYPE, 1 CURRENT TIME SENSE, 1 STATUS SENSE\nyes: records 50, exchanges 7, open 0\n
 END
 }
@@ -106,6 +109,7 @@ a verdict that was cut short|1|unknown line: yes: records 6, exchanges 1, open|y
 a yes with a word|1|unknown line: yes: records 6, exchanges one, open 0|yes: records 6, exchanges one, open 0\n
 a no without a reason|1|unknown line: no at record 6|no at record 6\n
 a reason that is none|1|unknown line: no at record 6: M2 no run remains|no at record 6: M2 no run remains\n
+a reason that is none, without a text|1|unknown line: no at record 6: M2 |no at record 6: M2 \n
 a reason with another text|1|unknown line: no at record 6: M1 wrong sum|no at record 6: M1 wrong sum\n
 a no at no record|1|unknown line: no at record 0: B2 wrong sum|no at record 0: B2 wrong sum\n
 a no at an earlier record|2|a record that does not come after the one before: no at record 6: B2 wrong sum|record 6: PLAY -> ACK, @unknown\nno at record 6: B2 wrong sum\n
@@ -115,15 +119,18 @@ no command|1|unknown line: record 6:  -> ACK, @unknown|record 6:  -> ACK, @unkno
 a control character in a command|1|unknown line: record 6: PL\tAY -> ACK, @unknown|record 6: PL\tAY -> ACK, @unknown\n
 a reply that is none|1|unknown line: record 6: PLAY -> 741, @unknown|record 6: PLAY -> 741, @unknown\n
 a NAK without its byte|1|unknown line: record 6: PLAY -> NAK, @unknown|record 6: PLAY -> NAK, @unknown\n
-no delay|1|unknown line: record 6: PLAY -> ACK, goal STOP|record 6: PLAY -> ACK, goal STOP\n
-a delay below 0|1|unknown line: record 6: PLAY -> ACK, delay -1, goal STOP|record 6: PLAY -> ACK, delay -1, goal STOP\n
+no delay|1|unknown line: record 6: PLAY -> ACK, @nothing|record 6: PLAY -> ACK, @nothing\n
+a delay below 0|1|unknown line: record 6: PLAY -> ACK, delay -1, @nothing|record 6: PLAY -> ACK, delay -1, @nothing\n
+a delay with a zero in front|1|unknown line: record 6: PLAY -> ACK, delay 0400, @nothing|record 6: PLAY -> ACK, delay 0400, @nothing\n
 a mode that is none|1|unknown line: record 6: PLAY -> ACK, delay 400, goal IDLE, shown unknown, in unknown, out unknown, local unknown, ain unknown, aout unknown|record 6: PLAY -> ACK, delay 400, goal IDLE, shown unknown, in unknown, out unknown, local unknown, ain unknown, aout unknown\n
 a time that is none|1|unknown line: record 6: PLAY -> ACK, delay 400, goal STOP, shown unknown, in 10:00:00:25, out unknown, local unknown, ain unknown, aout unknown|record 6: PLAY -> ACK, delay 400, goal STOP, shown unknown, in 10:00:00:25, out unknown, local unknown, ain unknown, aout unknown\n
-fields in another order|1|unknown line: record 6: PLAY -> ACK, delay 400, shown unknown, goal STOP, in unknown, out unknown, local unknown, ain unknown, aout unknown|record 6: PLAY -> ACK, delay 400, shown unknown, goal STOP, in unknown, out unknown, local unknown, ain unknown, aout unknown\n
-one field more|1|unknown line: record 6: PLAY -> ACK, @unknown, panel on, panel on|record 6: PLAY -> ACK, @unknown, panel on, panel on\n
+fields in another order|1|unknown line: record 6: PLAY -> ACK, delay 400, goal unknown, shown unknown, in unknown, ain unknown, local unknown, out unknown, aout unknown|record 6: PLAY -> ACK, delay 400, goal unknown, shown unknown, in unknown, ain unknown, local unknown, out unknown, aout unknown\n
+one field less|1|unknown line: record 6: PLAY -> ACK, delay 400, goal unknown, shown unknown, in unknown, out unknown, local unknown, ain unknown|record 6: PLAY -> ACK, delay 400, goal unknown, shown unknown, in unknown, out unknown, local unknown, ain unknown\n
+one field more|1|unknown line: record 6: PLAY -> ACK, @unknown, panel on,  clear|record 6: PLAY -> ACK, @unknown, panel on,  clear\n
 local that is neither|1|unknown line: record 6: PLAY -> ACK, delay 400, goal STOP, shown unknown, in unknown, out unknown, local on, ain unknown, aout unknown|record 6: PLAY -> ACK, delay 400, goal STOP, shown unknown, in unknown, out unknown, local on, ain unknown, aout unknown\n
 a panel that is neither|1|unknown line: record 6: PLAY -> ACK, @unknown, panel yes|record 6: PLAY -> ACK, @unknown, panel yes\n
-a state that is not known|1|unknown line: record 6: goal STOP, shown PLAY, in set, out clear, local no, ain clear, aout clear|record 6: goal STOP, shown PLAY, in set, out clear, local no, ain clear, aout clear\n
+a state with a register that is set|1|unknown line: record 6: goal STOP, shown PLAY, in set, out clear, local no, ain clear, aout clear|record 6: goal STOP, shown PLAY, in set, out clear, local no, ain clear, aout clear\n
+a state with a mode that is not known|1|unknown line: record 6: goal STOP, shown unknown, in clear, out clear, local no, ain clear, aout clear|record 6: goal STOP, shown unknown, in clear, out clear, local no, ain clear, aout clear\n
 END
 }
 
@@ -173,6 +180,10 @@ bad_captures() {
         judge "$awk: $view: a reply that is not late" is_refused \
             "$view.awk: line 1: record 4 of the capture is no late reply: examples/play.csv"
     done
+    sed 's/^10488,/10487,/' examples/late-reply.csv > "$work/beside.csv"
+    view delays.awk "-v capture=$work/beside.csv" < "$work/in"
+    judge "$awk: delays: a reply just in time" is_refused \
+        "delays.awk: line 1: record 4 of the capture is no late reply: $work/beside.csv"
     sed 's/delay 9287/delay 9288/' examples/views/session.txt > "$work/in"
     view delays.awk '' < "$work/in"
     judge "$awk: delays: a delay above the limit" is_refused \
@@ -233,7 +244,7 @@ polling() {
 # Every form of row that the program takes: a byte order mark, quotes, CRLF, empty lines, zeros in front.
 odd_captures() {
     printf '\357\273\277"time_us",wire,"byte"\r\n\r\n000000000000000,C,20\n"0000000001000",C,01\r\n\n1700,"C",21\n%s' \
-        $'2000,D,10\r\n2600,D,01\r\n\n"9"999,D,11' > "$work/odd.csv"
+        $'2000,D,10\r\n2600,D,01\r\n\n"000000009"999,D,11\r\n' > "$work/odd.csv"
     "$program" explain "$work/odd.csv" > "$work/in"
     view digest.awk "-v capture=$work/odd.csv" < "$work/in"
     printf '%s\n' 'record 6, 0.009999 s: PLAY -> ACK' 'yes: records 6, exchanges 1, open 0' > "$work/want"
@@ -254,35 +265,45 @@ odd_captures() {
     judge "$awk: digest: lines that end with CRLF" is_view examples/views/session-digest.txt
 }
 
-# What the program prints of each example: the views take it, and jq reads a JSON object in each line.
+# What the program prints of each example: the views take it, and jq reads a JSON object in each line. Of a capture that
+# can't be read there is no verdict, and they refuse it.
 program_texts() {
-    local capture hands verb
-    for capture in examples/*.csv; do
+    local file want_status rest hands verb
+    while IFS='|' read -r file want_status rest; do
+        case "$file" in '#'* | '') continue ;; esac
         for hands in '' --hands; do
             for verb in check explain run; do
-                "$program" $verb $hands "$capture" > "$work/in" 2> /dev/null
-                [ $? -le 1 ] || continue
+                "$program" $verb $hands "examples/$file" > "$work/in" 2> /dev/null
                 view json.awk '' < "$work/in"
-                judge "$awk: jq on $verb $hands $capture" is_json
+                judge "$awk: json of $verb $hands $file" is_json
                 [ "$verb" = explain ] || continue
-                view digest.awk "-v capture=$capture" < "$work/in"
-                judge "$awk: digest of $capture $hands" ends_with_verdict
-                view delays.awk "-v capture=$capture" < "$work/in"
-                judge "$awk: delays of $capture $hands" ends_with_verdict
+                view digest.awk "-v capture=examples/$file" < "$work/in"
+                judge "$awk: digest of $file $hands" ends_with_verdict
+                view delays.awk "-v capture=examples/$file" < "$work/in"
+                judge "$awk: delays of $file $hands" ends_with_verdict
             done
         done
-    done
+    done < examples/ANSWERS
 }
 
 # is_json: each line is one object, with the record or the records of the line that it was made of.
 is_json() {
-    [ "$status" = 0 ] && [ ! -s "$work/err" ] &&
+    [ "$want_status" -le 1 ] || { is_without_verdict; return; }
+    [ "$status" = 0 ] && [ ! -s "$work/err" ] && [ -s "$work/in" ] &&
         jq -R -r 'fromjson | if type == "object" then .record // .records else error end' "$work/out" > "$work/read" &&
         sed -E 's/^[^0-9]*([0-9]+).*/\1/' "$work/in" | cmp - "$work/read"
 }
 
 ends_with_verdict() {
-    [ "$status" = 0 ] && [ ! -s "$work/err" ] && [ "$(tail -n 1 "$work/out")" = "$(tail -n 1 "$work/in")" ]
+    [ "$want_status" -le 1 ] || { is_without_verdict; return; }
+    [ "$status" = 0 ] && [ ! -s "$work/err" ] && [ "$(tail -n 1 "$work/out")" = "$(tail -n 1 "$work/in")" ] &&
+        [ -s "$work/in" ]
+}
+
+# is_without_verdict: the view refused the text, which has no verdict, or the capture beside it, which has no header.
+is_without_verdict() {
+    [ "$status" = 1 ] && [ ! -s "$work/out" ] && [ "$(wc -l < "$work/err")" = 1 ] &&
+        grep -qE ': (no verdict|no header of a capture): ' "$work/err"
 }
 
 # A full device. Under its option --posix gawk does not tell what became of a pipe, so it runs without.

@@ -123,8 +123,8 @@ function late_delay(    asked_at, answer) {
     return answer
 }
 
-# The time of a record of the capture, in microseconds, where it stands on one of these wires. Records are asked for in
-# order, so no row is kept.
+# The time of a record of the capture, in microseconds and without zeros in front. It has to stand on one of these
+# wires. Records are asked for in order, so no row is kept.
 function time_of(number, wires,    part) {
     while (rows < number + 0) {
         if (!next_row()) refuse("the capture ends before record " number ": " capture)
@@ -134,7 +134,7 @@ function time_of(number, wires,    part) {
     split(row, part, ",")
     if (index(wires, part[2]) == 0) refuse("record " number " of the capture is on the other wire: " capture)
     sub(/^0+/, "", part[1])
-    return part[1] == "" ? "0" : part[1]
+    return part[1]
 }
 
 # Reads the next row that is not empty, and says whether there is one.
