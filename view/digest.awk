@@ -13,9 +13,9 @@
 # refused is counted with its reply. The verdict is the last line.
 #
 # A line tells each field with another value than the one that it was last known to have, and each that was known until
-# this exchange and now is not. A question has no line only because a field is known again as it was, nor because goal
-# or shown is no longer known: a deck that plays may stop at any time, so its mode is known after a STATUS SENSE alone.
-# Of each other field it is told once for each value that it is no longer known.
+# this exchange and now is not. A question gets no line for a field that is known again as it was, and none for goal or
+# shown that is no longer known: a deck that plays may stop at any time, so only after a STATUS SENSE its mode is known.
+# For any other field that is no longer known it gets a line once for each value.
 
 BEGIN {
     view = "digest.awk"
