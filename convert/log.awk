@@ -5,7 +5,8 @@
 #     awk -v controller=COM3 -v deck=COM4 -f convert/log.awk < serial.log > capture.csv
 #
 # The line's time is that of its first byte, cut to whole microseconds; each next byte of the line is taken to
-# come 287 microseconds later, one byte's time on the wire.
+# come 287 microseconds later, one byte's time on the wire. `-v from=SECONDS` and `-v to=SECONDS` leave the bytes before
+# the one and from the other on out.
 
 BEGIN {
     converter = "log.awk"
@@ -21,22 +22,51 @@ NF < 3 { refuse("unknown line: " $0) }
 
 $1 !~ /^[0-9]+(\.[0-9]+)?$/ { refuse("no time in seconds: " $0) }
 
-!($2 in port_wire) { refuse("neither the controller's port nor the deck's: " $0) }
-
 {
     for (k = 3; k <= NF; k++) {
-        if ($k !~ /^[0-9A-Fa-f][0-9A-Fa-f]$/) refuse("no byte of two hexadecimal digits: " $0)
-        keep(microseconds($1) + 287 * (k - 3), port_wire[$2], $k)
+        time = microseconds($1) + 287 * (k - 3)
+        if (inside(time)) keep_field($k, time)
     }
 }
 
-# By the digits, since what awk takes for a number's point depends on the country.
-function microseconds(seconds,    parts) {
-    split(seconds, parts, ".")
-    return number(parts[1] substr(parts[2] "000000", 1, 6))
+function keep_field(byte, time) {
+    if (!($2 in port_wire)) refuse("neither the controller's port nor the deck's: " $0)
+    if (byte !~ /^[0-9A-Fa-f][0-9A-Fa-f]$/) refuse("no byte of two hexadecimal digits: " $0)
+    keep(time, port_wire[$2], byte)
 }
 
 # From here on every converter is the same.
+
+# The stretch to convert, in microseconds of the export's own clock.
+BEGIN {
+    if (!is_seconds(from) || !is_seconds(to)) refuse("-v from=SECONDS or -v to=SECONDS is wrong")
+    if (from != "") from_time = microseconds(from)
+    if (to != "") to_time = microseconds(to)
+    if (from != "" && to != "" && from_time >= to_time) refuse("-v from=SECONDS or -v to=SECONDS is wrong")
+}
+
+# Whether this is a number of seconds, or not given at all.
+function is_seconds(value) {
+    return value == "" || value ~ /^-?[0-9]+(\.[0-9]+)?$/
+}
+
+# Whether a byte of this time is to be converted. What lies outside is passed over, and damage there is no refusal.
+function inside(time) {
+    return (from == "" || time >= from_time) && (to == "" || time < to_time)
+}
+
+# By the digits, since what awk takes for a number's point depends on the country.
+function microseconds(seconds,    sign, power, parts, digits, places, whole, rest) {
+    sign = sub(/^-/, "", seconds) ? -1 : 1
+    split(tolower(seconds), power, "e")
+    split(power[1], parts, ".")
+    digits = parts[1] parts[2]
+    places = length(parts[1]) + power[2] + 6
+    while (length(digits) < places) digits = digits "0"
+    whole = places > 0 ? number(substr(digits, 1, places)) : 0
+    rest = places > 0 ? substr(digits, places + 1) : digits
+    return sign * whole - (sign < 0 && rest ~ /[1-9]/)
+}
 
 # Keeps a byte until the whole export was read, so that a refused export leaves no part of a capture behind.
 function keep(time, wire, byte) {
@@ -84,7 +114,7 @@ END {
     if (refused) exit 1
     count["C"] += 0
     count["D"] += 0
-    if (count["C"] + count["D"] == 0) refuse("no byte in the export")
+    if (count["C"] + count["D"] == 0) refuse("no byte in " (from to == "" ? "the export" : "this stretch of the export"))
     print "time_us,wire,byte" | "cat"
     while (written["C"] < count["C"] || written["D"] < count["D"]) write(next_wire())
     if (close("cat") != 0) refuse("the capture can't be written")

@@ -9,7 +9,8 @@
 #
 # An older export without `Analyzer Name` is one file for each analyzer. Then both are read in one, the
 # controller's first (`cat controller.csv deck.csv`), and no names are needed. Times are cut to whole microseconds;
-# where one is below 0 all are moved by the same whole seconds.
+# where one is below 0 all are moved by the same whole seconds. `-v from=SECONDS` and `-v to=SECONDS`, in times that are not
+# moved, leave the bytes before the one and from the other on out.
 
 BEGIN { converter = "saleae.awk" }
 
@@ -32,13 +33,15 @@ NR == 1 {
 
 fields != titles { refuse("not as many fields as the header: " $0) }
 
+is_time(field[time_at]) && !inside(microseconds(field[time_at])) { next }
+
 field[mark_at] != "" || field[other_mark_at] != "" { refuse("a damaged byte: " $0) }
 
 type_at && field[type_at] != "data" { refuse("a row that is no byte: " $0) }
 
 field[byte_at] !~ /^0x[0-9A-Fa-f][0-9A-Fa-f]$/ { refuse("no byte of the form 0x20: " $0) }
 
-field[time_at] !~ /^-?[0-9]+(\.[0-9]+)?([eE][-+][0-9][0-9]?)?$/ { refuse("no time in seconds: " $0) }
+!is_time(field[time_at]) { refuse("no time in seconds: " $0) }
 
 name_at && !(field[name_at] in analyzer_wire) { refuse("neither the controller's analyzer nor the deck's: " $0) }
 
@@ -49,6 +52,10 @@ name_at && !(field[name_at] in analyzer_wire) { refuse("neither the controller's
 }
 
 END { if (!refused && header != "" && !name_at && wire != "D") refuse("the deck's file is missing") }
+
+function is_time(text) {
+    return text ~ /^-?[0-9]+(\.[0-9]+)?([eE][-+][0-9][0-9]?)?$/
+}
 
 function read_header(    k) {
     titles = fields
@@ -101,6 +108,26 @@ function split_fields(line,    last, comma) {
     return last
 }
 
+# From here on every converter is the same.
+
+# The stretch to convert, in microseconds of the export's own clock.
+BEGIN {
+    if (!is_seconds(from) || !is_seconds(to)) refuse("-v from=SECONDS or -v to=SECONDS is wrong")
+    if (from != "") from_time = microseconds(from)
+    if (to != "") to_time = microseconds(to)
+    if (from != "" && to != "" && from_time >= to_time) refuse("-v from=SECONDS or -v to=SECONDS is wrong")
+}
+
+# Whether this is a number of seconds, or not given at all.
+function is_seconds(value) {
+    return value == "" || value ~ /^-?[0-9]+(\.[0-9]+)?$/
+}
+
+# Whether a byte of this time is to be converted. What lies outside is passed over, and damage there is no refusal.
+function inside(time) {
+    return (from == "" || time >= from_time) && (to == "" || time < to_time)
+}
+
 # By the digits, since what awk takes for a number's point depends on the country.
 function microseconds(seconds,    sign, power, parts, digits, places, whole, rest) {
     sign = sub(/^-/, "", seconds) ? -1 : 1
@@ -113,8 +140,6 @@ function microseconds(seconds,    sign, power, parts, digits, places, whole, res
     rest = places > 0 ? substr(digits, places + 1) : digits
     return sign * whole - (sign < 0 && rest ~ /[1-9]/)
 }
-
-# From here on every converter is the same.
 
 # Keeps a byte until the whole export was read, so that a refused export leaves no part of a capture behind.
 function keep(time, wire, byte) {
@@ -162,7 +187,7 @@ END {
     if (refused) exit 1
     count["C"] += 0
     count["D"] += 0
-    if (count["C"] + count["D"] == 0) refuse("no byte in the export")
+    if (count["C"] + count["D"] == 0) refuse("no byte in " (from to == "" ? "the export" : "this stretch of the export"))
     print "time_us,wire,byte" | "cat"
     while (written["C"] < count["C"] || written["D"] < count["D"]) write(next_wire())
     if (close("cat") != 0) refuse("the capture can't be written")

@@ -4,7 +4,8 @@
 #     awk -v rate=1000000 -f convert/sigrok.awk < export.txt > capture.csv
 #
 # `rate` is the recording's number of samples a second. A byte's time is that of its first sample in the export,
-# which is where the start bit ends, cut to whole microseconds.
+# which is where the start bit ends, cut to whole microseconds. `-v from=SECONDS` and `-v to=SECONDS`, counted from sample 0,
+# leave the bytes before the one and from the other on out.
 
 BEGIN {
     converter = "sigrok.awk"
@@ -13,23 +14,76 @@ BEGIN {
 
 { sub(/\r$/, "") }
 
+/^[0-9]+-[0-9]+ uart-[12]: / {
+    split($1, samples, "-")
+    first_time = sample_time(samples[1])
+    last_time = sample_time(samples[2])
+}
+
 /^[0-9]+-[0-9]+ uart-[12]: [0-9A-Fa-f][0-9A-Fa-f]$/ {
-    keep(microseconds($1), $2 == "uart-1:" ? "C" : "D", $3)
+    byte_time[$2] = first_time
+    if (inside(first_time)) keep(first_time, $2 == "uart-1:" ? "C" : "D", $3)
     next
 }
 
-/^[0-9]+-[0-9]+ uart-[12]: (Parity error|Frame error|Break condition)$/ { refuse("a damaged byte: " $0) }
+/^[0-9]+-[0-9]+ uart-[12]: (Parity error|Frame error)$/ {
+    if (inside(marked_time())) refuse("a damaged byte: " $0)
+    next
+}
+
+/^[0-9]+-[0-9]+ uart-[12]: Break condition$/ {
+    if ((from == "" || last_time > from_time) && (to == "" || first_time < to_time)) refuse("a damaged byte: " $0)
+    next
+}
 
 { refuse("unknown line: " $0) }
 
+# The time of the byte that an error stands at: the parity bit comes eight bits after the first one, and the stop bit nine,
+# 234 microseconds. An error at no byte of the export has its own time.
+function marked_time(    later_by) {
+    later_by = $2 in byte_time ? first_time - byte_time[$2] : -1
+    return later_by >= 0 && later_by < 247 ? byte_time[$2] : first_time
+}
+
 # Whole seconds apart from the rest, so that every product is exact.
-function microseconds(samples,    first, seconds) {
-    first = number(substr(samples, 1, index(samples, "-") - 1))
-    seconds = int(first / rate)
-    return seconds * 1000000 + int((first - seconds * rate) * 1000000 / rate)
+function sample_time(digits,    sample, seconds) {
+    sample = number(digits)
+    seconds = int(sample / rate)
+    return seconds * 1000000 + int((sample - seconds * rate) * 1000000 / rate)
 }
 
 # From here on every converter is the same.
+
+# The stretch to convert, in microseconds of the export's own clock.
+BEGIN {
+    if (!is_seconds(from) || !is_seconds(to)) refuse("-v from=SECONDS or -v to=SECONDS is wrong")
+    if (from != "") from_time = microseconds(from)
+    if (to != "") to_time = microseconds(to)
+    if (from != "" && to != "" && from_time >= to_time) refuse("-v from=SECONDS or -v to=SECONDS is wrong")
+}
+
+# Whether this is a number of seconds, or not given at all.
+function is_seconds(value) {
+    return value == "" || value ~ /^-?[0-9]+(\.[0-9]+)?$/
+}
+
+# Whether a byte of this time is to be converted. What lies outside is passed over, and damage there is no refusal.
+function inside(time) {
+    return (from == "" || time >= from_time) && (to == "" || time < to_time)
+}
+
+# By the digits, since what awk takes for a number's point depends on the country.
+function microseconds(seconds,    sign, power, parts, digits, places, whole, rest) {
+    sign = sub(/^-/, "", seconds) ? -1 : 1
+    split(tolower(seconds), power, "e")
+    split(power[1], parts, ".")
+    digits = parts[1] parts[2]
+    places = length(parts[1]) + power[2] + 6
+    while (length(digits) < places) digits = digits "0"
+    whole = places > 0 ? number(substr(digits, 1, places)) : 0
+    rest = places > 0 ? substr(digits, places + 1) : digits
+    return sign * whole - (sign < 0 && rest ~ /[1-9]/)
+}
 
 # Keeps a byte until the whole export was read, so that a refused export leaves no part of a capture behind.
 function keep(time, wire, byte) {
@@ -77,7 +131,7 @@ END {
     if (refused) exit 1
     count["C"] += 0
     count["D"] += 0
-    if (count["C"] + count["D"] == 0) refuse("no byte in the export")
+    if (count["C"] + count["D"] == 0) refuse("no byte in " (from to == "" ? "the export" : "this stretch of the export"))
     print "time_us,wire,byte" | "cat"
     while (written["C"] < count["C"] || written["D"] < count["D"]) write(next_wire())
     if (close("cat") != 0) refuse("the capture can't be written")

@@ -86,6 +86,18 @@ saleae: an older file without a byte|saleae.awk||Time [s],Value,Parity Error,Fra
 sigrok: zeros in front|sigrok.awk|-v rate=1000000|010-90 uart-1: 20\n|10,C,20\n
 log: zeros in front, and seconds without a point|log.awk|-v controller=A -v deck=B|010 A 20\n0011.0100 A 01\n|10000000,C,20\n11010000,C,01\n
 log: ports that are numbers, and blanks|log.awk|-v controller=1 -v deck=01| 1   1 \t 20 fF\r\n01.0000019 01 10\n|1000000,C,20\n1000001,D,10\n1000287,C,FF\n
+sigrok: from a byte on, up to another|sigrok.awk|-v rate=1000000 -v from=0.000426 -v to=0.002|425-633 uart-1: FF\n426-634 uart-1: 20\n1999-2207 uart-1: 01\n2000-2208 uart-1: FE\n425-633 uart-2: FD\n1626-1834 uart-2: 10\n|426,C,20\n1626,D,10\n1999,C,01\n
+sigrok: from alone, of a recording that begins inside a byte|sigrok.awk|-v rate=1000000 -v from=0.001|5-213 uart-1: 20\n239-265 uart-1: Frame error\n1000-1208 uart-1: 21\n|1000,C,21\n
+sigrok: to alone, and damage later|sigrok.awk|-v rate=1000000 -v to=1|5-213 uart-1: 20\n1000000-1000208 uart-1: 21\n1000208-1000234 uart-1: Parity error\n999740-1000000 uart-2: 10\n1000000-1000300 uart-2: Break condition\n|5,C,20\n999740,D,10\n
+sigrok: the mark of a byte before the stretch stands in it|sigrok.awk|-v rate=1000000 -v from=0.001|900-1108 uart-1: 20\n1108-1134 uart-1: Parity error\n1134-1160 uart-1: Frame error\n1160-1368 uart-1: 21\n|1160,C,21\n
+sigrok: a break up to the stretch|sigrok.awk|-v rate=1000000 -v from=0.001|5-1000 uart-1: Break condition\n1000-1208 uart-1: 21\n|1000,C,21\n
+sigrok: a stretch in samples that are no whole microseconds|sigrok.awk|-v rate=24000000 -v from=0.000002 -v to=0.000003|47-5047 uart-1: FF\n48-5048 uart-1: 20\n71-5071 uart-1: 01\n72-5072 uart-1: FE\n|2,C,20\n2,C,01\n
+saleae: a stretch, with damage before and after|saleae.awk|-v controller=A -v deck=B -v from=1 -v to=2.5|name,type,start_time,duration,data,error\nA,data,0.9999999,1,0x20,framing\nA,data,1.0,1,0x21,\nB,break,0.5,1,,\nB,data,2.4999999,1,0x10,\nB,data,2.5,1,0x11,parity\nC,data,3,1,?,\n|1000000,C,21\n2499999,D,10\n
+saleae: a stretch below 0|saleae.awk|-v controller=A -v deck=B -v from=-1.5 -v to=-0.5|name,type,start_time,duration,data,error\nA,data,-1.5000001,1,0x20,\nA,data,-1.5,1,0x21,\nB,data,-0.5000001,1,0x10,\nB,data,-0.5,1,0x11,\n|500000,C,21\n1499999,D,10\n
+saleae: times below 0 outside of the stretch move nothing|saleae.awk|-v controller=A -v deck=B -v from=0|name,type,start_time,duration,data,error\nA,data,-2,1,0x20,\nB,data,1,1,0x10,\n|1000000,D,10\n
+saleae: a stretch of two older files|saleae.awk|-v from=1.25|Time [s],Value,Parity Error,Framing Error\n1,0x20,,Error\n1.5,0x21,,\nTime [s],Value,Parity Error,Framing Error\n1,0x10,Error,\n1.25,0x11,,\n|1250000,D,11\n1500000,C,21\n
+log: a stretch that begins and ends inside a line|log.awk|-v controller=A -v deck=B -v from=1.000287 -v to=2.0002870|0.5 C 2?\n1 A 2! 01 21\n2 B 10 1!\n2.5 A !!\n|1000287,C,01\n1000574,C,21\n2000000,D,10\n
+log: a stretch in more digits than microseconds, with zeros in front|log.awk|-v controller=A -v deck=B -v from=010.0000019 -v to=011|10 A 20\n10.000001 A 21\n11 A 22\n|10000001,C,21\n
 END
 }
 
@@ -142,6 +154,26 @@ log: another port|log.awk|-v controller=A -v deck=B|2|neither the controller's p
 log: a byte that is marked|log.awk|-v controller=A -v deck=B|2|no byte of two hexadecimal digits: 2 A 01 21! 20|1 A 20\n2 A 01 21! 20\n
 log: a line that begins before the last one's end|log.awk|-v controller=A -v deck=B|2|a time below the one before on this wire: 1.000573 A 21|1 A 20 01 00\n1.000573 A 21\n
 log: seconds since 1970|log.awk|-v controller=A -v deck=B|1|a time of more than fifteen digits: 1700000000.5 A 20|1700000000.5 A 20\n
+sigrok: a beginning that is no number|sigrok.awk|-v rate=1000000 -v from=1s|0|-v from=SECONDS or -v to=SECONDS is wrong|5-213 uart-1: 20\n
+sigrok: an end with a decimal comma|sigrok.awk|-v rate=1000000 -v to=1,5|0|-v from=SECONDS or -v to=SECONDS is wrong|5-213 uart-1: 20\n
+sigrok: a beginning without a digit before the point|sigrok.awk|-v rate=1000000 -v from=.5|0|-v from=SECONDS or -v to=SECONDS is wrong|5-213 uart-1: 20\n
+sigrok: an end with an exponent|sigrok.awk|-v rate=1000000 -v to=1e3|0|-v from=SECONDS or -v to=SECONDS is wrong|5-213 uart-1: 20\n
+sigrok: an end that is the beginning|sigrok.awk|-v rate=1000000 -v from=1 -v to=1.0|0|-v from=SECONDS or -v to=SECONDS is wrong|5-213 uart-1: 20\n
+saleae: an end that is no number|saleae.awk|-v controller=A -v deck=B -v to=end|0|-v from=SECONDS or -v to=SECONDS is wrong|name,type,start_time,duration,data,error\n
+log: a beginning of two numbers|log.awk|-v controller=A -v deck=B -v from=1:30|0|-v from=SECONDS or -v to=SECONDS is wrong|1 A 20\n
+sigrok: no byte in the stretch|sigrok.awk|-v rate=1000000 -v from=1|1|no byte in this stretch of the export|5-213 uart-1: 20\n
+sigrok: damage in the stretch|sigrok.awk|-v rate=1000000 -v from=0.001 -v to=0.002|2|a damaged byte: 1208-1234 uart-1: Parity error|1000-1208 uart-1: 20\n1208-1234 uart-1: Parity error\n
+sigrok: the mark of a byte of the stretch stands after it|sigrok.awk|-v rate=1000000 -v from=0.001 -v to=0.0011|3|a damaged byte: 1234-1260 uart-1: Frame error|1000-1208 uart-1: 20\n1000-1208 uart-2: 20\n1234-1260 uart-1: Frame error\n
+sigrok: an error at no byte, in the stretch|sigrok.awk|-v rate=1000000 -v from=0.001|2|a damaged byte: 1000-1026 uart-1: Frame error|700-908 uart-1: 20\n1000-1026 uart-1: Frame error\n
+sigrok: an error printed after a later byte|sigrok.awk|-v rate=1000000 -v from=0.001 -v to=0.002|3|a damaged byte: 1500-1526 uart-1: Frame error|1000-1208 uart-1: 20\n3000-3208 uart-1: 20\n1500-1526 uart-1: Frame error\n
+sigrok: a break that lasts into the stretch|sigrok.awk|-v rate=1000000 -v from=0.001 -v to=2|1|a damaged byte: 5-1001 uart-1: Break condition|5-1001 uart-1: Break condition\n1100-1308 uart-1: 21\n
+sigrok: a break around the stretch|sigrok.awk|-v rate=1000000 -v from=0.001 -v to=0.002|1|a damaged byte: 5-5000 uart-1: Break condition|5-5000 uart-1: Break condition\n1100-1308 uart-2: 21\n
+sigrok: a line that is not of the form, outside of the stretch|sigrok.awk|-v rate=1000000 -v from=1|1|unknown line: 5-213 uart-1: 2|5-213 uart-1: 2\n
+saleae: damage in the stretch|saleae.awk|-v controller=A -v deck=B -v from=1|3|a damaged byte: A,data,1,1,0x20,parity|name,type,start_time,duration,data,error\nA,data,0,1,0x20,parity\nA,data,1,1,0x20,parity\n
+saleae: no time, with a stretch|saleae.awk|-v controller=A -v deck=B -v from=1|2|no time in seconds: A,data,x,1,0x20,|name,type,start_time,duration,data,error\nA,data,x,1,0x20,\n
+saleae: a row that was cut short, outside of the stretch|saleae.awk|-v controller=A -v deck=B -v to=1|2|not as many fields as the header: A,data,2,1|name,type,start_time,duration,data,error\nA,data,2,1\n
+log: a byte that is marked, in the stretch|log.awk|-v controller=A -v deck=B -v from=1.000287|1|no byte of two hexadecimal digits: 1 A 2! 2?|1 A 2! 2?\n
+log: another port, in the stretch|log.awk|-v controller=A -v deck=B -v from=1.000287|1|neither the controller's port nor the deck's: 1 C 20 01|1 C 20 01\n
 END
 }
 
@@ -174,7 +206,7 @@ while read -r command; do
     judge "the page's command on $export" cmp "$work/capture.csv" "examples/exports/${export%.*}-capture.csv"
     commands=$((commands + 1))
 done < <(sed -n 's/^    \(awk .*examples\/exports.*\)/\1/p' docs/CAPTURE.md)
-judge "the page's commands: $commands" [ "$commands" = 5 ]
+judge "the page's commands: $commands" [ "$commands" = 6 ]
 printf 'time_us,wire,byte\n1,C,21\n2,D,10\n3,D,01\n4,D,11\n5,C,20\n6,C,01\n7,D,10\n8,C,20\n' > "$work/capture.csv"
 printf 'time_us,wire,byte\n5,C,20\n6,C,01\n7,D,10\n8,C,20\n' > "$work/want"
 (cd "$work" && sh -c "$(sed -n 's/^    \(awk -F, .*\)/\1/p' "$OLDPWD/docs/CAPTURE.md")")
