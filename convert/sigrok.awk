@@ -3,7 +3,7 @@
 #
 #     awk -v rate=1000000 -f convert/sigrok.awk < export.txt > capture.csv
 #
-# `rate` is the recording's number of samples a second. A byte's time is that of its first sample in the export,
+# `rate` is the recording's number of samples a second; bytes that are too long or too short by it are refused. A byte's time is that of its first sample in the export,
 # which is where the start bit ends, cut to whole microseconds. `-v from=SECONDS` and `-v to=SECONDS`, counted from sample 0,
 # leave the bytes before the one and from the other on out.
 
@@ -22,7 +22,10 @@ BEGIN {
 
 /^[0-9]+-[0-9]+ uart-[12]: [0-9A-Fa-f][0-9A-Fa-f]$/ {
     byte_time[$2] = first_time
-    if (inside(first_time)) keep(first_time, $2 == "uart-1:" ? "C" : "D", $3)
+    if (inside(first_time)) {
+        check_length(number(samples[2]) - number(samples[1]))
+        keep(first_time, $2 == "uart-1:" ? "C" : "D", $3)
+    }
     next
 }
 
@@ -37,6 +40,17 @@ BEGIN {
 }
 
 { refuse("unknown line: " $0) }
+
+# A byte is drawn over its eight data bits, 8/38400 of a second, 1/4800. Where it is off by more than 2 percent and two samples
+# the times would be wrong by as much.
+function check_length(length_in_samples,    off_by) {
+    off_by = length_in_samples * 4800 - rate
+    if (off_by < 0) off_by = -off_by
+    if (off_by * 50 > rate && off_by > 2 * 4800) {
+        refuse(sprintf("a byte lasts %.0f us where 208 are expected: is the rate wrong?", \
+            int(length_in_samples * 1000000 / rate)))
+    }
+}
 
 # The time of the byte that an error stands at: the parity bit comes eight bits after the first one, and the stop bit nine,
 # 234 microseconds. An error at no byte of the export has its own time.

@@ -67,14 +67,14 @@ good_exports() {
         printf "time_us,wire,byte\n$rows" > "$work/want"
         judge "$awk: $name" is_capture "$work/want"
     done <<'END'
-sigrok: the deck's wire first|sigrok.awk|-v rate=1000000|1626-1835 uart-2: 10\n426-635 uart-1: 20\n|426,C,20\n1626,D,10\n
-sigrok: both wires by turns|sigrok.awk|-v rate=1000000|5-9 uart-1: 20\n7-9 uart-2: 10\n6-9 uart-1: 01\n8-9 uart-2: 01\n|5,C,20\n6,C,01\n7,D,10\n8,D,01\n
-sigrok: both wires at one time|sigrok.awk|-v rate=1000000|5-9 uart-2: 10\n5-9 uart-1: 20\n|5,C,20\n5,D,10\n
-sigrok: one wire alone|sigrok.awk|-v rate=1000000|5-9 uart-2: 10\n|5,D,10\n
-sigrok: times are cut, not rounded|sigrok.awk|-v rate=24000000|47-90 uart-1: 20\n48-90 uart-1: 01\n|1,C,20\n2,C,01\n
-sigrok: a rate below a sample a microsecond|sigrok.awk|-v rate=500000|3-90 uart-1: 20\n|6,C,20\n
-sigrok: a day at 24 million samples a second|sigrok.awk|-v rate=24000000|2073600000023-2073600000099 uart-1: 20\n2073600000024-2073600000099 uart-1: 01\n|86400000000,C,20\n86400000001,C,01\n
-sigrok: CRLF, lower case, no line feed at the end|sigrok.awk|-v rate=1000000|5-9 uart-1: 2a\r\n6-9 uart-1: FF|5,C,2A\n6,C,FF\n
+sigrok: the deck's wire first|sigrok.awk|-v rate=1000000|1626-1834 uart-2: 10\n426-634 uart-1: 20\n|426,C,20\n1626,D,10\n
+sigrok: both wires by turns|sigrok.awk|-v rate=1000000|5-213 uart-1: 20\n7-215 uart-2: 10\n6-214 uart-1: 01\n8-216 uart-2: 01\n|5,C,20\n6,C,01\n7,D,10\n8,D,01\n
+sigrok: both wires at one time|sigrok.awk|-v rate=1000000|5-213 uart-2: 10\n5-213 uart-1: 20\n|5,C,20\n5,D,10\n
+sigrok: one wire alone|sigrok.awk|-v rate=1000000|5-213 uart-2: 10\n|5,D,10\n
+sigrok: times are cut, not rounded|sigrok.awk|-v rate=24000000|47-5047 uart-1: 20\n48-5048 uart-1: 01\n|1,C,20\n2,C,01\n
+sigrok: a rate below a sample a microsecond|sigrok.awk|-v rate=500000|3-107 uart-1: 20\n|6,C,20\n
+sigrok: a day at 24 million samples a second|sigrok.awk|-v rate=24000000|2073600000023-2073600005023 uart-1: 20\n2073600000024-2073600005024 uart-1: 01\n|86400000000,C,20\n86400000001,C,01\n
+sigrok: CRLF, lower case, no line feed at the end|sigrok.awk|-v rate=1000000|5-213 uart-1: 2a\r\n6-214 uart-1: FF|5,C,2A\n6,C,FF\n
 saleae: columns in another order, and one more|saleae.awk|-v controller=A -v deck=B|error,data,note,start_time,name,type\n,0x20,x,0.5,A,data\n|500000,C,20\n
 saleae: a comma and quotes in a name|saleae.awk|-v controller=A,"1" -v deck=B|name,type,start_time,duration,data,error\n"A,""1""",data,1,1,0x20,""\n|1000000,C,20\n
 saleae: names that are numbers|saleae.awk|-v controller=1 -v deck=01|name,type,start_time,duration,data,error\n1,data,1,1,0x20,\n01,data,2,1,0x10,\n|1000000,C,20\n2000000,D,10\n
@@ -83,12 +83,12 @@ saleae: times below 0|saleae.awk|-v controller=A -v deck=B|name,type,start_time,
 saleae: times below 0 on the deck's wire alone|saleae.awk|-v controller=A -v deck=B|name,type,start_time,duration,data,error\nA,data,0.25,1,0x20,\nB,data,-1,1,0x10,\n|0,D,10\n1250000,C,20\n
 saleae: CRLF in two older files|saleae.awk||Time [s],Value,Parity Error,Framing Error\r\n1.5,0x20,,\r\nTime [s],Value,Parity Error,Framing Error\r\n1.25,0x10,,\r\n|1250000,D,10\n1500000,C,20\n
 saleae: an older file without a byte|saleae.awk||Time [s],Value,Parity Error,Framing Error\nTime [s],Value,Parity Error,Framing Error\n1.25,0x10,,\n|1250000,D,10\n
-sigrok: zeros in front|sigrok.awk|-v rate=1000000|010-90 uart-1: 20\n|10,C,20\n
+sigrok: zeros in front|sigrok.awk|-v rate=1000000|010-218 uart-1: 20\n|10,C,20\n
 log: zeros in front, and seconds without a point|log.awk|-v controller=A -v deck=B|010 A 20\n0011.0100 A 01\n|10000000,C,20\n11010000,C,01\n
 log: ports that are numbers, and blanks|log.awk|-v controller=1 -v deck=01| 1   1 \t 20 fF\r\n01.0000019 01 10\n|1000000,C,20\n1000001,D,10\n1000287,C,FF\n
 sigrok: from a byte on, up to another|sigrok.awk|-v rate=1000000 -v from=0.000426 -v to=0.002|425-633 uart-1: FF\n426-634 uart-1: 20\n1999-2207 uart-1: 01\n2000-2208 uart-1: FE\n425-633 uart-2: FD\n1626-1834 uart-2: 10\n|426,C,20\n1626,D,10\n1999,C,01\n
 sigrok: from alone, of a recording that begins inside a byte|sigrok.awk|-v rate=1000000 -v from=0.001|5-213 uart-1: 20\n239-265 uart-1: Frame error\n1000-1208 uart-1: 21\n|1000,C,21\n
-sigrok: to alone, and damage later|sigrok.awk|-v rate=1000000 -v to=1|5-213 uart-1: 20\n1000000-1000208 uart-1: 21\n1000208-1000234 uart-1: Parity error\n999740-1000000 uart-2: 10\n1000000-1000300 uart-2: Break condition\n|5,C,20\n999740,D,10\n
+sigrok: to alone, and damage later|sigrok.awk|-v rate=1000000 -v to=1|5-213 uart-1: 20\n1000000-1000208 uart-1: 21\n1000208-1000234 uart-1: Parity error\n999740-999948 uart-2: 10\n1000000-1000300 uart-2: Break condition\n|5,C,20\n999740,D,10\n
 sigrok: the mark of a byte before the stretch stands in it|sigrok.awk|-v rate=1000000 -v from=0.001|900-1108 uart-1: 20\n1108-1134 uart-1: Parity error\n1134-1160 uart-1: Frame error\n1160-1368 uart-1: 21\n|1160,C,21\n
 sigrok: a break up to the stretch|sigrok.awk|-v rate=1000000 -v from=0.001|5-1000 uart-1: Break condition\n1000-1208 uart-1: 21\n|1000,C,21\n
 sigrok: a stretch in samples that are no whole microseconds|sigrok.awk|-v rate=24000000 -v from=0.000002 -v to=0.000003|47-5047 uart-1: FF\n48-5048 uart-1: 20\n71-5071 uart-1: 01\n72-5072 uart-1: FE\n|2,C,20\n2,C,01\n
@@ -98,6 +98,9 @@ saleae: times below 0 outside of the stretch move nothing|saleae.awk|-v controll
 saleae: a stretch of two older files|saleae.awk|-v from=1.25|Time [s],Value,Parity Error,Framing Error\n1,0x20,,Error\n1.5,0x21,,\nTime [s],Value,Parity Error,Framing Error\n1,0x10,Error,\n1.25,0x11,,\n|1250000,D,11\n1500000,C,21\n
 log: a stretch that begins and ends inside a line|log.awk|-v controller=A -v deck=B -v from=1.000287 -v to=2.0002870|0.5 C 2?\n1 A 2! 01 21\n2 B 10 1!\n2.5 A !!\n|1000287,C,01\n1000574,C,21\n2000000,D,10\n
 log: a stretch in more digits than microseconds, with zeros in front|log.awk|-v controller=A -v deck=B -v from=010.0000019 -v to=011|10 A 20\n10.000001 A 21\n11 A 22\n|10000001,C,21\n
+sigrok: the shortest and the longest byte at a rate|sigrok.awk|-v rate=1000000|1000-1205 uart-1: 20\n2000-2212 uart-1: 01\n|1000,C,20\n2000,C,01\n
+sigrok: two samples off at a low rate|sigrok.awk|-v rate=100000|10-29 uart-1: 20\n40-62 uart-1: 01\n|100,C,20\n400,C,01\n
+sigrok: a byte of another length outside of the stretch|sigrok.awk|-v rate=1000000 -v from=0.001|5-9 uart-1: 20\n1000-1208 uart-1: 01\n|1000,C,01\n
 END
 }
 
@@ -109,18 +112,18 @@ bad_exports() {
         convert "$converter" "$words" < "$work/in"
         judge "$awk: $name" is_refused "$converter: line $line: $what"
     done <<'END'
-sigrok: no rate|sigrok.awk||0|-v rate=SAMPLES_A_SECOND is missing, or wrong|5-9 uart-1: 20\n
-sigrok: a rate with a letter|sigrok.awk|-v rate=1m|0|-v rate=SAMPLES_A_SECOND is missing, or wrong|5-9 uart-1: 20\n
-sigrok: a rate of 0|sigrok.awk|-v rate=0|0|-v rate=SAMPLES_A_SECOND is missing, or wrong|5-9 uart-1: 20\n
+sigrok: no rate|sigrok.awk||0|-v rate=SAMPLES_A_SECOND is missing, or wrong|5-213 uart-1: 20\n
+sigrok: a rate with a letter|sigrok.awk|-v rate=1m|0|-v rate=SAMPLES_A_SECOND is missing, or wrong|5-213 uart-1: 20\n
+sigrok: a rate of 0|sigrok.awk|-v rate=0|0|-v rate=SAMPLES_A_SECOND is missing, or wrong|5-213 uart-1: 20\n
 sigrok: an empty export|sigrok.awk|-v rate=1000000|0|no byte in the export|
-sigrok: an empty line|sigrok.awk|-v rate=1000000|2|unknown line: |5-9 uart-1: 20\n\n6-9 uart-1: 01\n
-sigrok: a parity error|sigrok.awk|-v rate=1000000|2|a damaged byte: 5-9 uart-2: Parity error|5-9 uart-2: 20\n5-9 uart-2: Parity error\n
-sigrok: a framing error|sigrok.awk|-v rate=1000000|2|a damaged byte: 5-9 uart-1: Frame error|5-9 uart-1: 20\n5-9 uart-1: Frame error\n
-sigrok: a broken line|sigrok.awk|-v rate=1000000|2|a damaged byte: 5-9 uart-1: Break condition|5-9 uart-1: 20\n5-9 uart-1: Break condition\n
+sigrok: an empty line|sigrok.awk|-v rate=1000000|2|unknown line: |5-213 uart-1: 20\n\n6-214 uart-1: 01\n
+sigrok: a parity error|sigrok.awk|-v rate=1000000|2|a damaged byte: 5-9 uart-2: Parity error|5-213 uart-2: 20\n5-9 uart-2: Parity error\n
+sigrok: a framing error|sigrok.awk|-v rate=1000000|2|a damaged byte: 5-9 uart-1: Frame error|5-213 uart-1: 20\n5-9 uart-1: Frame error\n
+sigrok: a broken line|sigrok.awk|-v rate=1000000|2|a damaged byte: 5-9 uart-1: Break condition|5-213 uart-1: 20\n5-9 uart-1: Break condition\n
 sigrok: a third decoder|sigrok.awk|-v rate=1000000|1|unknown line: 5-9 uart-3: 20|5-9 uart-3: 20\n
 sigrok: no sample numbers|sigrok.awk|-v rate=1000000|1|unknown line: uart-1: 20|uart-1: 20\n
-sigrok: an export that was cut short|sigrok.awk|-v rate=1000000|2|unknown line: 6-9 uart-1: 0|5-9 uart-1: 20\n6-9 uart-1: 0
-sigrok: a wire that goes back|sigrok.awk|-v rate=1000000|3|a time below the one before on this wire: 5-9 uart-1: 01|6-9 uart-1: 20\n5-9 uart-2: 10\n5-9 uart-1: 01\n
+sigrok: an export that was cut short|sigrok.awk|-v rate=1000000|2|unknown line: 6-9 uart-1: 0|5-213 uart-1: 20\n6-9 uart-1: 0
+sigrok: a wire that goes back|sigrok.awk|-v rate=1000000|3|a time below the one before on this wire: 5-213 uart-1: 01|6-214 uart-1: 20\n5-213 uart-2: 10\n5-213 uart-1: 01\n
 sigrok: a time too great|sigrok.awk|-v rate=1|1|a time of more than fifteen digits: 1000000000-1000000001 uart-1: 20|1000000000-1000000001 uart-1: 20\n
 saleae: an empty export|saleae.awk|-v controller=A -v deck=B|0|no byte in the export|
 saleae: a header alone|saleae.awk|-v controller=A -v deck=B|1|no byte in the export|name,type,start_time,duration,data,error\n
@@ -174,6 +177,14 @@ saleae: no time, with a stretch|saleae.awk|-v controller=A -v deck=B -v from=1|2
 saleae: a row that was cut short, outside of the stretch|saleae.awk|-v controller=A -v deck=B -v to=1|2|not as many fields as the header: A,data,2,1|name,type,start_time,duration,data,error\nA,data,2,1\n
 log: a byte that is marked, in the stretch|log.awk|-v controller=A -v deck=B -v from=1.000287|1|no byte of two hexadecimal digits: 1 A 2! 2?|1 A 2! 2?\n
 log: another port, in the stretch|log.awk|-v controller=A -v deck=B -v from=1.000287|1|neither the controller's port nor the deck's: 1 C 20 01|1 C 20 01\n
+sigrok: twice the rate|sigrok.awk|-v rate=4000000|1|a byte lasts 104 us where 208 are expected: is the rate wrong?|904-1322 uart-1: 20\n
+sigrok: half the rate|sigrok.awk|-v rate=1000000|2|a byte lasts 417 us where 208 are expected: is the rate wrong?|904-1112 uart-2: 20\n904-1321 uart-1: 20\n
+sigrok: a byte that is a sample too short|sigrok.awk|-v rate=1000000|1|a byte lasts 204 us where 208 are expected: is the rate wrong?|1000-1204 uart-1: 20\n
+sigrok: a byte that is a sample too long|sigrok.awk|-v rate=1000000|1|a byte lasts 213 us where 208 are expected: is the rate wrong?|1000-1213 uart-1: 20\n
+sigrok: more than two samples short at a low rate|sigrok.awk|-v rate=100000|1|a byte lasts 180 us where 208 are expected: is the rate wrong?|10-28 uart-1: 20\n
+sigrok: more than two samples long at a low rate|sigrok.awk|-v rate=100000|1|a byte lasts 230 us where 208 are expected: is the rate wrong?|10-33 uart-1: 20\n
+sigrok: a length cut to whole microseconds|sigrok.awk|-v rate=24000000|1|a byte lasts 104 us where 208 are expected: is the rate wrong?|10-2529 uart-1: 20\n
+sigrok: a byte that ends before it begins|sigrok.awk|-v rate=1000000|1|a byte lasts -208 us where 208 are expected: is the rate wrong?|1208-1000 uart-1: 20\n
 END
 }
 
