@@ -1,8 +1,14 @@
-# Makes a capture of a two-port serial log, each line of which has seconds, a port and bytes, parted by blanks:
+# Makes a capture of a two-port serial log, each line of which has a stamp, a port and bytes, parted by blanks:
 #
 #     0.000426 COM3 20 01 21
+#     12:34:56.789012 COM3 20 01 21
+#     2024-03-01 12:34:56.789012 COM3 20 01 21
+#     2024-03-01T12:34:56.789012 COM3 20 01 21
 #
 #     awk -v controller=COM3 -v deck=COM4 -f convert/log.awk < serial.log > capture.csv
+#
+# A stamp is in seconds, a clock or a date and a clock, of one form in the whole log. A clock has three digits or more after
+# the point, and may stand in brackets, with its date. Its times count from the beginning of the first line's day.
 #
 # The line's time is that of its first byte, cut to whole microseconds; each next byte of the line is taken to
 # come 287 microseconds later, one byte's time on the wire. `-v from=SECONDS` and `-v to=SECONDS` leave the bytes before
@@ -14,25 +20,86 @@ BEGIN {
     if (controller "" == deck "") refuse("-v controller and -v deck are the same port")
     port_wire[controller] = "C"
     port_wire[deck] = "D"
+    date_form = "[0-9][0-9][0-9][0-9]-[0-9][0-9]-[0-9][0-9]"
+    clock_form = "[0-9][0-9]:[0-9][0-9]:[0-9][0-9][.][0-9][0-9][0-9]+"
 }
 
-{ sub(/\r$/, "") }
+# A date that a blank parts from its clock is a field of its own.
+{
+    sub(/\r$/, "")
+    port_at = $1 ~ ("^\\[?" date_form "$") ? 3 : 2
+}
 
-NF < 3 { refuse("unknown line: " $0) }
-
-$1 !~ /^[0-9]+(\.[0-9]+)?$/ { refuse("no time in seconds: " $0) }
+NF <= port_at { refuse("unknown line: " $0) }
 
 {
-    for (k = 3; k <= NF; k++) {
-        time = microseconds($1) + 287 * (k - 3)
+    line_time = time_of(port_at == 3 ? $1 "T" $2 : $1)
+    for (k = port_at + 1; k <= NF; k++) {
+        time = line_time + 287 * (k - port_at - 1)
         if (inside(time)) keep_field($k, time)
     }
 }
 
 function keep_field(byte, time) {
-    if (!($2 in port_wire)) refuse("neither the controller's port nor the deck's: " $0)
+    if (!($port_at in port_wire)) refuse("neither the controller's port nor the deck's: " $0)
     if (byte !~ /^[0-9A-Fa-f][0-9A-Fa-f]$/) refuse("no byte of two hexadecimal digits: " $0)
-    keep(time, port_wire[$2], byte)
+    keep(time, port_wire[$port_at], byte)
+}
+
+function time_of(stamp,    form) {
+    if (stamp ~ /^\[.*:.*\]$/) stamp = substr(stamp, 2, length(stamp) - 2)
+    form = form_of(stamp)
+    if (form_before != "" && form != form_before) refuse("a stamp of another form than the line before: " $0)
+    form_before = form
+    if (form == "seconds") return microseconds(stamp)
+    return form == "clock" ? time_of_clock(stamp) : time_of_date(substr(stamp, 1, 10), substr(stamp, 12))
+}
+
+function form_of(stamp) {
+    if (stamp ~ /^[0-9]+(\.[0-9]+)?$/) return "seconds"
+    if (stamp ~ ("^" clock_form "$")) return "clock"
+    if (stamp ~ ("^" date_form "T" clock_form "$")) return "date"
+    refuse((stamp ~ /:/ ? "no clock of the form 12:34:56.789: " : "no time in seconds: ") $0)
+}
+
+# A clock alone tells no day, so that one that falls back has gone past midnight or was set.
+function time_of_clock(clock,    time) {
+    time = since_midnight(clock)
+    if (time < clock_before) refuse("a clock without a date falls back: " $0)
+    clock_before = time
+    return time
+}
+
+function time_of_date(date, clock,    day) {
+    day = day_number(date)
+    if (first_day == "") first_day = day
+    if (day < first_day) refuse("a day before the first line's: " $0)
+    return (day - first_day) * 86400000000 + since_midnight(clock)
+}
+
+function since_midnight(clock,    hours, minutes) {
+    hours = number(substr(clock, 1, 2))
+    minutes = number(substr(clock, 4, 2))
+    if (hours > 23 || minutes > 59 || number(substr(clock, 7, 2)) > 59) refuse("no time of day: " $0)
+    return (hours * 60 + minutes) * 60000000 + microseconds(substr(clock, 7))
+}
+
+# A day's number in the calendar. The year is taken to begin in March, so that the day of a leap year is its last.
+function day_number(date,    year, month, day) {
+    year = number(substr(date, 1, 4))
+    month = number(substr(date, 6, 2))
+    day = number(substr(date, 9, 2))
+    if (month < 1 || month > 12 || day < 1 || day > days_of(month, year)) refuse("no day of the calendar: " $0)
+    if (month < 3) {
+        month += 12
+        year--
+    }
+    return year * 365 + int(year / 4) - int(year / 100) + int(year / 400) + int((153 * month - 457) / 5) + day
+}
+
+function days_of(month, year) {
+    if (month == 2) return year % 4 == 0 && (year % 100 != 0 || year % 400 == 0) ? 29 : 28
+    return month == 4 || month == 6 || month == 9 || month == 11 ? 30 : 31
 }
 
 # From here on every converter is the same.

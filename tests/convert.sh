@@ -101,6 +101,20 @@ log: a stretch in more digits than microseconds, with zeros in front|log.awk|-v 
 sigrok: the shortest and the longest byte at a rate|sigrok.awk|-v rate=1000000|1000-1205 uart-1: 20\n2000-2212 uart-1: 01\n|1000,C,20\n2000,C,01\n
 sigrok: two samples off at a low rate|sigrok.awk|-v rate=100000|10-29 uart-1: 20\n40-62 uart-1: 01\n|100,C,20\n400,C,01\n
 sigrok: a byte of another length outside of the stretch|sigrok.awk|-v rate=1000000 -v from=0.001|5-9 uart-1: 20\n1000-1208 uart-1: 01\n|1000,C,01\n
+log: dates and clocks|log.awk|-v controller=A -v deck=B|2024-03-01 12:34:56.789012 A 20 01\n2024-03-01 12:34:56.7900009 B 10\n|45296789012,C,20\n45296789299,C,01\n45296790000,D,10\n
+log: dates and clocks with a T between, CRLF|log.awk|-v controller=A -v deck=B|2024-03-01T12:34:56.789012 A 20 01\r\n2024-03-01T12:34:56.790 B 10\r\n|45296789012,C,20\n45296789299,C,01\n45296790000,D,10\n
+log: clocks alone, in the order of the log|log.awk|-v controller=A -v deck=B|00:00:00.000 A 20\n00:00:00.000001 A 01\n12:34:56.789012 A 21\n12:34:56.789012 B 10\n23:59:59.999999 B 01\n|0,C,20\n1,C,01\n45296789012,C,21\n45296789012,D,10\n86399999999,D,01\n
+log: clocks in brackets|log.awk|-v controller=A -v deck=B|[12:34:56.789012] A 20 01\n[12:34:57.000] B 10\n|45296789012,C,20\n45296789299,C,01\n45297000000,D,10\n
+log: dates and clocks in brackets|log.awk|-v controller=A -v deck=B|[2024-03-01 12:34:56.789012] A 20\n[2024-03-02T00:00:00.000] B 10\n2024-03-02 00:00:01.000 A 21\n|45296789012,C,20\n86400000000,D,10\n86401000000,C,21\n
+log: past midnight into the 29th of February, and out of it|log.awk|-v controller=A -v deck=B|2024-02-28 23:59:59.999 A 20\n2024-02-29 00:00:00.001 B 10\n2024-03-01 00:00:00.001 B 01\n|86399999000,C,20\n86400001000,D,10\n172800001000,D,01\n
+log: the end of February in a year without a 29th|log.awk|-v controller=A -v deck=B|2023-02-28 23:59:59.999 A 20\n2023-03-01 00:00:00.001 B 10\n|86399999000,C,20\n86400001000,D,10\n
+log: the 29th of February 2000|log.awk|-v controller=A -v deck=B|2000-02-29 00:00:00.000 A 20\n2000-03-01 00:00:00.001 B 10\n|0,C,20\n86400001000,D,10\n
+log: the end of February 2100|log.awk|-v controller=A -v deck=B|2100-02-28 00:00:00.000 A 20\n2100-03-01 00:00:00.001 B 10\n|0,C,20\n86400001000,D,10\n
+log: past the end of a year|log.awk|-v controller=A -v deck=B|2023-12-31 23:59:59.999 A 20\n2024-01-01 00:00:00.001 B 10\n|86399999000,C,20\n86400001000,D,10\n
+log: the last day of each month|log.awk|-v controller=A -v deck=B|2023-01-31 00:00:00.000 A 01\n2023-02-28 00:00:00.000 A 02\n2023-03-31 00:00:00.000 A 03\n2023-04-30 00:00:00.000 A 04\n2023-05-31 00:00:00.000 A 05\n2023-06-30 00:00:00.000 A 06\n2023-07-31 00:00:00.000 A 07\n2023-08-31 00:00:00.000 A 08\n2023-09-30 00:00:00.000 A 09\n2023-10-31 00:00:00.000 A 10\n2023-11-30 00:00:00.000 A 11\n2023-12-31 00:00:00.000 A 12\n|0,C,01\n2419200000000,C,02\n5097600000000,C,03\n7689600000000,C,04\n10368000000000,C,05\n12960000000000,C,06\n15638400000000,C,07\n18316800000000,C,08\n20908800000000,C,09\n23587200000000,C,10\n26179200000000,C,11\n28857600000000,C,12\n
+log: one wire after the other, with dates|log.awk|-v controller=A -v deck=B|2024-03-01 12:00:01.000 B 10\n2024-03-01 12:00:00.000 A 20\n|43200000000,C,20\n43201000000,D,10\n
+log: a stretch of clocks|log.awk|-v controller=A -v deck=B -v from=45296.79 -v to=45297|12:34:56.789 A 2? 21\n12:34:56.790 B 10\n12:34:57.000 A 20\n|45296790000,D,10\n
+log: a stretch past midnight|log.awk|-v controller=A -v deck=B -v from=86400|2024-03-01 23:59:59.999 A 2?\n2024-03-02 00:00:00.000 A 20\n|86400000000,C,20\n
 END
 }
 
@@ -185,6 +199,40 @@ sigrok: more than two samples short at a low rate|sigrok.awk|-v rate=100000|1|a 
 sigrok: more than two samples long at a low rate|sigrok.awk|-v rate=100000|1|a byte lasts 230 us where 208 are expected: is the rate wrong?|10-33 uart-1: 20\n
 sigrok: a length cut to whole microseconds|sigrok.awk|-v rate=24000000|1|a byte lasts 104 us where 208 are expected: is the rate wrong?|10-2529 uart-1: 20\n
 sigrok: a byte that ends before it begins|sigrok.awk|-v rate=1000000|1|a byte lasts -208 us where 208 are expected: is the rate wrong?|1208-1000 uart-1: 20\n
+log: a clock that falls back|log.awk|-v controller=A -v deck=B|2|a clock without a date falls back: 00:00:00.001 A 21|23:59:59.999 A 20\n00:00:00.001 A 21\n
+log: a clock that falls back at the other port|log.awk|-v controller=A -v deck=B|2|a clock without a date falls back: 00:00:00.001 B 10|23:59:59.999 A 20\n00:00:00.001 B 10\n
+log: a clock that falls back after the stretch|log.awk|-v controller=A -v deck=B -v to=43201|2|a clock without a date falls back: 00:00:00.001 B 10|12:00:00.000 A 20\n00:00:00.001 B 10\n
+log: a date that falls back at one port|log.awk|-v controller=A -v deck=B|2|a time below the one before on this wire: 2024-03-01 12:00:00.000 A 21|2024-03-01 12:00:00.001 A 20\n2024-03-01 12:00:00.000 A 21\n
+log: a day before the first line's|log.awk|-v controller=A -v deck=B|2|a day before the first line's: 2024-02-29 23:59:59.999 B 10|2024-03-01 00:00:00.001 A 20\n2024-02-29 23:59:59.999 B 10\n
+log: a date, then a clock alone|log.awk|-v controller=A -v deck=B|2|a stamp of another form than the line before: 12:00:00.000 A 21|2024-03-01 12:00:00.000 A 20\n12:00:00.000 A 21\n
+log: seconds, then a clock|log.awk|-v controller=A -v deck=B|2|a stamp of another form than the line before: 12:00:00.000 A 21|1 A 20\n12:00:00.000 A 21\n
+log: a clock in whole seconds|log.awk|-v controller=A -v deck=B|1|no clock of the form 12:34:56.789: 12:34:56 A 20|12:34:56 A 20\n
+log: a clock in hundredths|log.awk|-v controller=A -v deck=B|1|no clock of the form 12:34:56.789: 12:34:56.78 A 20|12:34:56.78 A 20\n
+log: a clock with a decimal comma|log.awk|-v controller=A -v deck=B|1|no clock of the form 12:34:56.789: 12:34:56,789 A 20|12:34:56,789 A 20\n
+log: a clock with an hour of one digit|log.awk|-v controller=A -v deck=B|1|no clock of the form 12:34:56.789: 9:34:56.789 A 20|9:34:56.789 A 20\n
+log: a bracket that is not closed|log.awk|-v controller=A -v deck=B|1|no clock of the form 12:34:56.789: [12:34:56.789 A 20|[12:34:56.789 A 20\n
+log: a bracket that was not opened|log.awk|-v controller=A -v deck=B|1|no clock of the form 12:34:56.789: 12:34:56.789] A 20|12:34:56.789] A 20\n
+log: a date with its zone|log.awk|-v controller=A -v deck=B|1|no clock of the form 12:34:56.789: 2024-03-01T12:34:56.789Z A 20|2024-03-01T12:34:56.789Z A 20\n
+log: a date with its clock in whole seconds|log.awk|-v controller=A -v deck=B|1|no clock of the form 12:34:56.789: 2024-03-01 12:34:56 A 20|2024-03-01 12:34:56 A 20\n
+log: a date of another order|log.awk|-v controller=A -v deck=B|1|no clock of the form 12:34:56.789: 01.03.2024T12:34:56.789 A 20|01.03.2024T12:34:56.789 A 20\n
+log: seconds in brackets|log.awk|-v controller=A -v deck=B|1|no time in seconds: [1.5] A 20|[1.5] A 20\n
+log: a date without a clock|log.awk|-v controller=A -v deck=B|1|no time in seconds: 2024-03-01 A 20 01|2024-03-01 A 20 01\n
+log: a date and a clock without a byte|log.awk|-v controller=A -v deck=B|1|unknown line: 2024-03-01 12:34:56.789 A|2024-03-01 12:34:56.789 A\n
+log: 24 hours|log.awk|-v controller=A -v deck=B|1|no time of day: 24:00:00.000 A 20|24:00:00.000 A 20\n
+log: 60 minutes|log.awk|-v controller=A -v deck=B|1|no time of day: 12:60:00.000 A 20|12:60:00.000 A 20\n
+log: 60 seconds|log.awk|-v controller=A -v deck=B|1|no time of day: 2024-03-01 12:34:60.000 A 20|2024-03-01 12:34:60.000 A 20\n
+log: a month 0|log.awk|-v controller=A -v deck=B|1|no day of the calendar: 2024-00-01 12:00:00.000 A 20|2024-00-01 12:00:00.000 A 20\n
+log: a month 13|log.awk|-v controller=A -v deck=B|1|no day of the calendar: 2024-13-01 12:00:00.000 A 20|2024-13-01 12:00:00.000 A 20\n
+log: a day 0|log.awk|-v controller=A -v deck=B|1|no day of the calendar: 2024-03-00 12:00:00.000 A 20|2024-03-00 12:00:00.000 A 20\n
+log: the 32nd of a month|log.awk|-v controller=A -v deck=B|1|no day of the calendar: 2024-03-32 12:00:00.000 A 20|2024-03-32 12:00:00.000 A 20\n
+log: the 31st of April|log.awk|-v controller=A -v deck=B|1|no day of the calendar: 2024-04-31 12:00:00.000 A 20|2024-04-31 12:00:00.000 A 20\n
+log: the 31st of June|log.awk|-v controller=A -v deck=B|1|no day of the calendar: 2024-06-31 12:00:00.000 A 20|2024-06-31 12:00:00.000 A 20\n
+log: the 31st of September|log.awk|-v controller=A -v deck=B|1|no day of the calendar: 2024-09-31 12:00:00.000 A 20|2024-09-31 12:00:00.000 A 20\n
+log: the 31st of November|log.awk|-v controller=A -v deck=B|1|no day of the calendar: 2024-11-31 12:00:00.000 A 20|2024-11-31 12:00:00.000 A 20\n
+log: the 30th of February|log.awk|-v controller=A -v deck=B|1|no day of the calendar: 2024-02-30 12:00:00.000 A 20|2024-02-30 12:00:00.000 A 20\n
+log: the 29th of February 2023|log.awk|-v controller=A -v deck=B|1|no day of the calendar: 2023-02-29 12:00:00.000 A 20|2023-02-29 12:00:00.000 A 20\n
+log: the 29th of February 2100|log.awk|-v controller=A -v deck=B|1|no day of the calendar: 2100-02-29 12:00:00.000 A 20|2100-02-29 12:00:00.000 A 20\n
+log: another port, after a date|log.awk|-v controller=A -v deck=B|1|neither the controller's port nor the deck's: 2024-03-01 12:00:00.000 C 20|2024-03-01 12:00:00.000 C 20\n
 END
 }
 
@@ -217,7 +265,7 @@ while read -r command; do
     judge "the page's command on $export" cmp "$work/capture.csv" "examples/exports/${export%.*}-capture.csv"
     commands=$((commands + 1))
 done < <(sed -n 's/^    \(awk .*examples\/exports.*\)/\1/p' docs/CAPTURE.md)
-judge "the page's commands: $commands" [ "$commands" = 6 ]
+judge "the page's commands: $commands" [ "$commands" = 7 ]
 printf 'time_us,wire,byte\n1,C,21\n2,D,10\n3,D,01\n4,D,11\n5,C,20\n6,C,01\n7,D,10\n8,C,20\n' > "$work/capture.csv"
 printf 'time_us,wire,byte\n5,C,20\n6,C,01\n7,D,10\n8,C,20\n' > "$work/want"
 (cd "$work" && sh -c "$(sed -n 's/^    \(awk -F, .*\)/\1/p' "$OLDPWD/docs/CAPTURE.md")")
