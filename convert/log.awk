@@ -20,14 +20,12 @@ BEGIN {
     if (controller "" == deck "") refuse("-v controller and -v deck are the same port")
     port_wire[controller] = "C"
     port_wire[deck] = "D"
-    date_form = "[0-9][0-9][0-9][0-9]-[0-9][0-9]-[0-9][0-9]"
-    clock_form = "[0-9][0-9]:[0-9][0-9]:[0-9][0-9][.][0-9][0-9][0-9]+"
 }
 
 # A date that a blank parts from its clock is a field of its own.
 {
     sub(/\r$/, "")
-    port_at = $1 ~ ("^\\[?" date_form "$") ? 3 : 2
+    port_at = is_date($1) ? 3 : 2
 }
 
 NF <= port_at { refuse("unknown line: " $0) }
@@ -57,9 +55,18 @@ function time_of(stamp,    form) {
 
 function form_of(stamp) {
     if (stamp ~ /^[0-9]+(\.[0-9]+)?$/) return "seconds"
-    if (stamp ~ ("^" clock_form "$")) return "clock"
-    if (stamp ~ ("^" date_form "T" clock_form "$")) return "date"
+    if (is_clock(stamp)) return "clock"
+    if (is_date(substr(stamp, 1, 10)) && substr(stamp, 11, 1) == "T" && is_clock(substr(stamp, 12))) return "date"
     refuse((stamp ~ /:/ ? "no clock of the form 12:34:56.789: " : "no time in seconds: ") $0)
+}
+
+# Whether this is a date; the bracket of its clock may stand before it.
+function is_date(text) {
+    return text ~ /^\[?[0-9][0-9][0-9][0-9]-[0-9][0-9]-[0-9][0-9]$/
+}
+
+function is_clock(text) {
+    return text ~ /^[0-9][0-9]:[0-9][0-9]:[0-9][0-9]\.[0-9][0-9][0-9]+$/
 }
 
 # A clock alone tells no day, so that one that falls back has gone past midnight or was set.

@@ -3,9 +3,9 @@
 #
 #     awk -v rate=1000000 -f convert/sigrok.awk < export.txt > capture.csv
 #
-# `rate` is the recording's number of samples a second; bytes that are too long or too short by it are refused. A byte's time is that of its first sample in the export,
-# which is where the start bit ends, cut to whole microseconds. `-v from=SECONDS` and `-v to=SECONDS`, counted from sample 0,
-# leave the bytes before the one and from the other on out.
+# `rate` is the recording's number of samples a second; bytes that are too long or too short by it are refused. A byte's
+# time is that of its first sample in the export, which is where the start bit ends, cut to whole microseconds.
+# `-v from=SECONDS` and `-v to=SECONDS`, counted from sample 0, leave the bytes before the one and from the other on out.
 
 BEGIN {
     converter = "sigrok.awk"
@@ -41,8 +41,8 @@ BEGIN {
 
 { refuse("unknown line: " $0) }
 
-# A byte is drawn over its eight data bits, 8/38400 of a second, 1/4800. Where it is off by more than 2 percent and two samples
-# the times would be wrong by as much.
+# A byte is drawn over its eight data bits, 8/38400 of a second, which is 1/4800. Where it is off by more than 2 percent
+# and two samples, the rate is wrong, and so would be every time.
 function check_length(length_in_samples,    off_by) {
     off_by = length_in_samples * 4800 - rate
     if (off_by < 0) off_by = -off_by

@@ -211,6 +211,7 @@ log: a clock in hundredths|log.awk|-v controller=A -v deck=B|1|no clock of the f
 log: a clock with a decimal comma|log.awk|-v controller=A -v deck=B|1|no clock of the form 12:34:56.789: 12:34:56,789 A 20|12:34:56,789 A 20\n
 log: a clock with an hour of one digit|log.awk|-v controller=A -v deck=B|1|no clock of the form 12:34:56.789: 9:34:56.789 A 20|9:34:56.789 A 20\n
 log: a bracket that is not closed|log.awk|-v controller=A -v deck=B|1|no clock of the form 12:34:56.789: [12:34:56.789 A 20|[12:34:56.789 A 20\n
+log: a date and a clock with a line between|log.awk|-v controller=A -v deck=B|1|no clock of the form 12:34:56.789: 2024-03-01_12:34:56.789 A 20|2024-03-01_12:34:56.789 A 20\n
 log: a bracket that was not opened|log.awk|-v controller=A -v deck=B|1|no clock of the form 12:34:56.789: 12:34:56.789] A 20|12:34:56.789] A 20\n
 log: a date with its zone|log.awk|-v controller=A -v deck=B|1|no clock of the form 12:34:56.789: 2024-03-01T12:34:56.789Z A 20|2024-03-01T12:34:56.789Z A 20\n
 log: a date with its clock in whole seconds|log.awk|-v controller=A -v deck=B|1|no clock of the form 12:34:56.789: 2024-03-01 12:34:56 A 20|2024-03-01 12:34:56 A 20\n
