@@ -76,7 +76,7 @@ while IFS='|' read -r command reply what; do
     "$program" check < "$work/capture" > "$work/out" 2>&1
     judge "$command answered by $what" grep -q "^no at record $(($(wc -l < "$work/capture") - 1)): P5 " "$work/out"
     rows=$((rows + 1))
-done < <(table 'Replies that real decks give')
+done < <(table 'Forms of replies')
 judge "rows of replies: $rows" [ "$rows" = 6 ]
 
 echo "$passed passed, $failed failed"
