@@ -10,7 +10,7 @@ use Rattle.capture9.specs.declared.error.CaptureKind.{CaptureKind}
 use Rattle.capture9.specs.declared.error.CaptureKind.TheVariants as kind
 use Rattle.capture9.specs.declared.line_byte.LineByte.{LineByte}
 use Rattle.capture9.specs.Error.{IsAfter, IsAtItsRow, is_of_text}
-use Rattle.capture9.specs.Fields.{is_header}
+use Rattle.capture9.specs.Fields.{is_header, most_rows}
 use Rattle.capture9.specs.Rows.{HasHeader, Rows, bad_row, good_row, headed_rows, no_rows, row_of, row_then, rows_from}
 use Rattle.capture9.proofs.RowFacts.{at-its-row, row_of-err, row_of-ok, rows_from-has_header}
 
@@ -22,11 +22,11 @@ pub record IsFaultFrom (number : ℕ) (rows : Rows) (e : CaptureError) : Type 0 
 
 -- rows that begin with this number, after a row of this time
 pub record HoldsFrom (number before : ℕ) (rows : Rows) : Type 0 where
-  pub limit : number ≤ 4000001 → number + length rows.records ≤ 4000001
+  pub limit : number ≤ most_rows + 1 → number + length rows.records ≤ most_rows + 1
   pub after : All (λ r. before ≤ r.time_us) rows.records
   pub in_order : IsNonDecreasingBy (λ r. r.time_us) rows.records
   pub in_range : All (λ r. r.time_us < 10 ^ 15) rows.records
-  pub fault : 1 ≤ number → number ≤ 4000001 → (e : CaptureError) → rows.fault ≡ Some e → IsFaultFrom number rows e
+  pub fault : 1 ≤ number → number ≤ most_rows + 1 → (e : CaptureError) → rows.fault ≡ Some e → IsFaultFrom number rows e
 
 -- a record before others that are not earlier
 rises : (r : LineByte) (rest : List LineByte) → All (λ x. r.time_us ≤ x.time_us) rest → IsNonDecreasingBy (λ x. x.time_us) rest → IsNonDecreasingBy (λ x. x.time_us) (r ∷ rest)
@@ -87,7 +87,7 @@ holds-from number before (fields ∷ rest) = by (row_of number before fields) re
 
 -- the rows of a text
 pub record HoldsInRows (rows : Rows) : Type 0 where
-  pub limit : length rows.records ≤ 4000000
+  pub limit : length rows.records ≤ most_rows
   pub in_order : IsNonDecreasingBy (λ r. r.time_us) rows.records
   pub in_range : All (λ r. r.time_us < 10 ^ 15) rows.records
   pub of_text : (e : CaptureError) → rows.fault ≡ Some e → IsTrue (is_of_text e.kind)

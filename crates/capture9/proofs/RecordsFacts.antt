@@ -9,7 +9,7 @@ use Rattle.capture9.specs.declared.line_byte.LineByte.{LineByte}
 use Rattle.capture9.specs.declared.records.Standing.{Standing}
 use Rattle.capture9.specs.declared.records.Standing.TheVariants as standing
 use Rattle.capture9.specs.Error.{IsAfter, IsAtItsRow, is_of_text}
-use Rattle.capture9.specs.Fields.{is_header}
+use Rattle.capture9.specs.Fields.{is_header, most_rows}
 use Rattle.capture9.specs.Records.{GivesRecord, GivesRefusal, IsPlaced, Progress, TakesRecord}
 use Rattle.capture9.specs.Rows.{HasHeader, Rows, bad_row, row_of, rows_from}
 use Rattle.capture9.specs.Working.{HoldsInRecords, PassesHeader, TakesFields, rows_to_come, unread_rows}
@@ -79,7 +79,7 @@ first-bad given last_time (Some []) after fields k read bad = cc
 first-bad given last_time (Some (first ∷ rest)) after fields k read bad = rw (← read.1, bad) refl
 
 -- a row that breaks a rule
-pub bad-first : (given last_time : ℕ) (unread after : Option (List (List (List ℕ)))) (fields : List (List ℕ)) (k : CaptureKind) → given ≤ 4000000
+pub bad-first : (given last_time : ℕ) (unread after : Option (List (List (List ℕ)))) (fields : List (List ℕ)) (k : CaptureKind) → given ≤ most_rows
     → IfSome unread (λ rows. TakesFields rows true fields after) → row_of (given + 1) last_time fields ≡ Err k → IsRowFault given last_time unread k
 bad-first given last_time unread after fields k within read bad = record {
   fault = λ h. first-bad given last_time unread after fields k read bad;
@@ -114,7 +114,7 @@ refuses-row source left s new headed given last_time unread after k e reads past
 
 -- what stands inside a `Records` that was refused at a row
 pub refused-holds : {R : Type 0} (left : Reader R) (new : Standing) (headed : Bool) (given last_time : ℕ) (k : CaptureKind) (e : CaptureError)
-    → headed ≡ true → given ≤ 4000000 → e ≡ record { kind = k; row = given + 1 } → new ≡ standing.Refused e
+    → headed ≡ true → given ≤ most_rows → e ≡ record { kind = k; row = given + 1 } → new ≡ standing.Refused e
     → (IsTrue (is_of_text k) → IsAtItsRow (record { kind = k; row = given + 1 })) → HoldsInRecords new headed given last_time left
 refused-holds left new headed given last_time k e past within is marked at_its_row =
     rw (past, marked, is) (record {

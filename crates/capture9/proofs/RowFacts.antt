@@ -8,13 +8,13 @@ use Rattle.capture9.specs.declared.error.CaptureKind.TheVariants as kind
 use Rattle.capture9.specs.declared.line_byte.LineByte.{LineByte}
 use Rattle.capture9.specs.declared.line_byte.Wire.{Wire}
 use Rattle.capture9.specs.Error.{IsAtItsRow, is_of_text}
-use Rattle.capture9.specs.Fields.{byte_of, time_of, wire_of}
+use Rattle.capture9.specs.Fields.{byte_of, most_rows, time_of, wire_of}
 use Rattle.capture9.specs.Rows.{HasHeader, fields_record, record_of, row_of, row_then, rows_from}
 use Rattle.capture9.proofs.FieldFacts.{time_of-lt}
 
 -- the record of a good row: in its place, in order and in range
 pub record IsGood (number before : ℕ) (r : LineByte) : Type 0 where
-  pub within : number ≤ 4000000
+  pub within : number ≤ most_rows
   pub in_order : before ≤ r.time_us
   pub in_range : r.time_us < 10 ^ 15
 
@@ -46,9 +46,9 @@ fields_record-ok before (a ∷ b ∷ c ∷ []) r e = record_of-ok before a (time
 fields_record-ok before (a ∷ b ∷ c ∷ d ∷ rest) r e = cc
 
 pub row_of-ok : (number before : ℕ) (fields : List (List ℕ)) (r : LineByte) → row_of number before fields ≡ Ok r → IsGood number before r
-row_of-ok number before fields r e = by (nat_lt 4000000 number) refl e
+row_of-ok number before fields r e = by (nat_lt most_rows number) refl e
   where
-    by : (many : Bool) → nat_lt 4000000 number ≡ many
+    by : (many : Bool) → nat_lt most_rows number ≡ many
         → (if many then Err kind.TooMany else fields_record before fields) ≡ Ok r → IsGood number before r
     by true q same = cc
     by false q same =
@@ -65,7 +65,7 @@ pub record IsFieldKind (k : CaptureKind) : Type 0 where
 pub record IsRowKind (number : ℕ) (k : CaptureKind) : Type 0 where
   pub of_text : IsTrue (is_of_text k)
   pub no_header : k ≢ kind.Header
-  pub too_many : (k ≡ kind.TooMany) ↔ (4000000 < number)
+  pub too_many : (k ≡ kind.TooMany) ↔ (most_rows < number)
 
 record_of-err : (before : ℕ) (time : Option ℕ) (wire : Option Wire) (byte : Option ℕ) (k : CaptureKind) → record_of before time wire byte ≡ Err k → IsFieldKind k
 record_of-err before None wire byte k e = let same : kind.Time ≡ k = cc in rw (← same) (record { of_text = refl; no_header = λ h. cc; no_row = λ h. cc })
@@ -87,17 +87,17 @@ fields_record-err before (a ∷ b ∷ c ∷ d ∷ rest) k e = let same : kind.Fi
 
 -- a row breaks rules of a text, and none of the header
 pub row_of-err : (number before : ℕ) (fields : List (List ℕ)) (k : CaptureKind) → row_of number before fields ≡ Err k → IsRowKind number k
-row_of-err number before fields k e = by (nat_lt 4000000 number) refl e
+row_of-err number before fields k e = by (nat_lt most_rows number) refl e
   where
-    by : (many : Bool) → nat_lt 4000000 number ≡ many
+    by : (many : Bool) → nat_lt most_rows number ≡ many
         → (if many then Err kind.TooMany else fields_record before fields) ≡ Err k → IsRowKind number k
     by true q same =
         let told : kind.TooMany ≡ k = cc in
-        let over : 4000000 < number = grind (arith, nat_tests) in
+        let over : most_rows < number = grind (arith, nat_tests) in
         rw (← told) (record { of_text = refl; no_header = λ h. cc; too_many = (λ h. over, λ h. refl) })
     by false q same =
         let known = fields_record-err before fields k same in
-        let within : number ≤ 4000000 = grind (arith, nat_tests) in
+        let within : number ≤ most_rows = grind (arith, nat_tests) in
         record {
           of_text = known.of_text;
           no_header = known.no_header;
@@ -105,7 +105,7 @@ row_of-err number before fields k e = by (nat_lt 4000000 number) refl e
         }
 
 -- the fault of a row, of which there is one too many at most, is where that kind of fault is
-pub at-its-row : (number : ℕ) (k : CaptureKind) → 1 ≤ number → number ≤ 4000001 → IsRowKind number k → IsAtItsRow (record { kind = k; row = number })
+pub at-its-row : (number : ℕ) (k : CaptureKind) → 1 ≤ number → number ≤ most_rows + 1 → IsRowKind number k → IsAtItsRow (record { kind = k; row = number })
 at-its-row number k low within known = record {
   header = (λ h. absurd (known.no_header h), λ zero. absurd (omega arith));
   too_many = (λ h. let over = known.too_many.0 h in omega arith, λ last. known.too_many.1 (omega arith));

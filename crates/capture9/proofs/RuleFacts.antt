@@ -7,7 +7,7 @@ use Rattle.capture9.specs.declared.error.CaptureKind.{CaptureKind}
 use Rattle.capture9.specs.declared.error.CaptureKind.TheVariants as kind
 use Rattle.capture9.specs.declared.line_byte.LineByte.{LineByte}
 use Rattle.capture9.specs.declared.line_byte.Wire.{Wire}
-use Rattle.capture9.specs.Fields.{byte_of, is_header, time_of, wire_of}
+use Rattle.capture9.specs.Fields.{byte_of, is_header, most_rows, time_of, wire_of}
 use Rattle.capture9.specs.RowRules.{AreGood, AreLeft, HasFirstPart, IsFirstOf, RowBreaks, Spell, last_time, row_kinds}
 use Rattle.capture9.specs.Rows.{Rows, fields_record, headed_rows, record_of, row_of, row_then, rows_from}
 
@@ -24,7 +24,7 @@ one-more number before fields k rest h more = All-cons (λ j. ¬ (RowBreaks j nu
 none-yet : (number before : ℕ) (fields : List (List ℕ)) → All (λ j. ¬ (RowBreaks j number before fields)) []
 none-yet number before fields = All-nil _
 
-fields-broken : (number before : ℕ) (fields : List (List ℕ)) → ¬ (4000000 < number) → ¬ (length fields ≡ 3) → IsFirstOf (λ j. RowBreaks j number before fields) row_kinds kind.Fields
+fields-broken : (number before : ℕ) (fields : List (List ℕ)) → ¬ (most_rows < number) → ¬ (length fields ≡ 3) → IsFirstOf (λ j. RowBreaks j number before fields) row_kinds kind.Fields
 fields-broken number before fields few not_three = record {
   before = kind.TooMany ∷ [];
   after = kind.Time ∷ kind.Wire ∷ kind.Byte ∷ kind.Backwards ∷ [];
@@ -33,7 +33,7 @@ fields-broken number before fields few not_three = record {
   none_before = one-more number before fields kind.TooMany [] few (none-yet number before fields);
 }
 
-record-read : (number before : ℕ) (a b c : List ℕ) (time : Option ℕ) (wire : Option Wire) (byte : Option ℕ) → ¬ (4000000 < number)
+record-read : (number before : ℕ) (a b c : List ℕ) (time : Option ℕ) (wire : Option Wire) (byte : Option ℕ) → ¬ (most_rows < number)
     → time_of a ≡ time → wire_of b ≡ wire → byte_of c ≡ byte → IsRead number before (a ∷ b ∷ c ∷ []) (record_of before time wire byte)
 record-read number before a b c None wire byte few t w y = record {
   before = kind.TooMany ∷ kind.Fields ∷ [];
@@ -105,7 +105,7 @@ record-read number before a b c (Some time) (Some wire) (Some byte) few t w y = 
     }
     by false q = ((t, w, y), none (λ h. let high : before ≤ time = grind (arith, nat_tests) in omega arith))
 
-fields-read : (number before : ℕ) (fields : List (List ℕ)) → ¬ (4000000 < number) → IsRead number before fields (fields_record before fields)
+fields-read : (number before : ℕ) (fields : List (List ℕ)) → ¬ (most_rows < number) → IsRead number before fields (fields_record before fields)
 fields-read number before [] few = fields-broken number before [] few (λ h. absurd (omega arith))
 fields-read number before (a ∷ []) few = fields-broken number before (a ∷ []) few (λ h. absurd (omega arith))
 fields-read number before (a ∷ b ∷ []) few = fields-broken number before (a ∷ b ∷ []) few (λ h. absurd (omega arith))
@@ -113,17 +113,17 @@ fields-read number before (a ∷ b ∷ c ∷ []) few = record-read number before
 fields-read number before (a ∷ b ∷ c ∷ d ∷ rest) few = fields-broken number before (a ∷ b ∷ c ∷ d ∷ rest) few (λ h. absurd (omega arith))
 
 pub row-read : (number before : ℕ) (fields : List (List ℕ)) → IsRead number before fields (row_of number before fields)
-row-read number before fields = by (nat_lt 4000000 number) refl
+row-read number before fields = by (nat_lt most_rows number) refl
   where
-    by : (many : Bool) → nat_lt 4000000 number ≡ many → IsRead number before fields (if many then Err kind.TooMany else fields_record before fields)
+    by : (many : Bool) → nat_lt most_rows number ≡ many → IsRead number before fields (if many then Err kind.TooMany else fields_record before fields)
     by true q = record {
       before = [];
       after = kind.Fields ∷ kind.Time ∷ kind.Wire ∷ kind.Byte ∷ kind.Backwards ∷ [];
       split = refl;
-      holds = let over : 4000000 < number = grind (arith, nat_tests) in over;
+      holds = let over : most_rows < number = grind (arith, nat_tests) in over;
       none_before = none-yet number before fields;
     }
-    by false q = fields-read number before fields (λ h. let within : number ≤ 4000000 = grind (arith, nat_tests) in omega arith)
+    by false q = fields-read number before fields (λ h. let within : number ≤ most_rows = grind (arith, nat_tests) in omega arith)
 
 -- the same of rows from a number on, after a row of this time
 pub record HasPartFrom (number before : ℕ) (rows : List (List (List ℕ))) (held : Rows) : Type 0 where

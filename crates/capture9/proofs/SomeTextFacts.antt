@@ -10,7 +10,7 @@ use Rattle.capture9.specs.declared.error.CaptureKind.{CaptureKind}
 use Rattle.capture9.specs.declared.error.CaptureKind.TheVariants as kind
 use Rattle.capture9.specs.declared.line_byte.LineByte.{LineByte}
 use Rattle.capture9.specs.Error.{IsAtItsRow, is_of_text}
-use Rattle.capture9.specs.Fields.{byte_of, hex_digit_of, is_header, pair_value}
+use Rattle.capture9.specs.Fields.{byte_of, hex_digit_of, is_header, most_rows, pair_value}
 use Rattle.capture9.specs.RowRules.{AreGood, AreLeft, IsFirstOf, RowBreaks, Spell, last_time, row_kinds}
 use Rattle.capture9.specs.Rows.{Rows, bad_row, headed_rows, row_of, rows_from}
 use Rattle.capture9.specs.SomeText.{CanBeRows, CanFollow, IsNextRow}
@@ -80,17 +80,17 @@ left-backwards number before (fields ∷ rest) fault e h same is =
     by : (k : CaptureKind) → k ≡ kind.Backwards → IsFirstOf (λ j. RowBreaks j number before fields) row_kinds k → RowBreaks kind.Backwards number before fields
     by k same h = let P : CaptureKind → Type 0 = λ j. RowBreaks j number before fields in subst P same h.holds
 
-next-row : (k : CaptureKind) (items : List LineByte) (row : ℕ) → IsAtItsRow (record { kind = k; row = row }) → row ≡ length items + 1 → length items ≤ 4000000 → k ≢ kind.TooMany → IsNextRow items row
+next-row : (k : CaptureKind) (items : List LineByte) (row : ℕ) → IsAtItsRow (record { kind = k; row = row }) → row ≡ length items + 1 → length items ≤ most_rows → k ≢ kind.TooMany → IsNextRow items row
 next-row k items row placed place limit other = (place, by)
   where
-    not_last : row ≢ 4000001
+    not_last : row ≢ most_rows + 1
     not_last = λ h. other (placed.too_many.1 h)
 
-    by : row ≤ 4000000
+    by : row ≤ most_rows
     by = omega (arith, not_last)
 
 -- a fault of a data row can follow the records before it
-pub can-follow : (k : CaptureKind) (items : List LineByte) (row : ℕ) → IsTrue (is_of_text k) → IsAtItsRow (record { kind = k; row = row }) → row ≡ length items + 1 → length items ≤ 4000000
+pub can-follow : (k : CaptureKind) (items : List LineByte) (row : ℕ) → IsTrue (is_of_text k) → IsAtItsRow (record { kind = k; row = row }) → row ≡ length items + 1 → length items ≤ most_rows
     → (k ≡ kind.Backwards → 0 < last_time 0 items) → CanFollow k items row
 can-follow kind.Header items row t placed place limit late = absurd (let zero = placed.header.0 refl in omega arith)
 can-follow kind.Fields items row t placed place limit late = next-row kind.Fields items row placed place limit (λ h. cc)
@@ -120,7 +120,7 @@ headed-can-be rows h csv part = record {
   fault = by rows.fault refl;
 }
   where
-    limit : length rows.records ≤ 4000000
+    limit : length rows.records ≤ most_rows
     limit = let low = h.limit (omega arith) in omega arith
 
     by : (fault : Option CaptureError) → rows.fault ≡ fault → IfSome fault (λ e. CanFollow e.kind rows.records e.row)

@@ -16,7 +16,7 @@ use Rattle.capture9.specs.declared.error.CaptureKind.TheVariants as kind
 use Rattle.capture9.specs.declared.line_byte.LineByte.{LineByte}
 use Rattle.capture9.specs.declared.line_byte.Wire.{Wire}
 use Rattle.capture9.specs.declared.line_byte.Wire.TheVariants.{Controller, Deck}
-use Rattle.capture9.specs.Fields.{byte_of, decimal_value, hex_digit_of, time_of, wire_of}
+use Rattle.capture9.specs.Fields.{byte_of, decimal_value, hex_digit_of, most_rows, time_of, wire_of}
 use Rattle.capture9.specs.RowRules.{last_time}
 use Rattle.capture9.specs.Rows.{Rows, bad_row, no_rows, row_of, rows_from, rows_of}
 use Rattle.capture9.specs.SomeText.{CanBeRows, CanFollow, IsNextRow, IsOfSomeText}
@@ -98,9 +98,9 @@ letter-read Deck = refl
 abbrev spelled : LineByte → List (List ℕ)
 spelled r = digits 15 r.time_us ∷ letter r.wire ∷ (hex (r.byte / 16) ∷ hex (r.byte % 16) ∷ []) ∷ []
 
-spelled-read : (number before : ℕ) (r : LineByte) → number ≤ 4000000 → before ≤ r.time_us → r.time_us < 10 ^ 15 → r.byte < 256 → row_of number before (spelled r) ≡ Ok r
+spelled-read : (number before : ℕ) (r : LineByte) → number ≤ most_rows → before ≤ r.time_us → r.time_us < 10 ^ 15 → r.byte < 256 → row_of number before (spelled r) ≡ Ok r
 spelled-read number before r within order range byte =
-    let few : nat_lt 4000000 number ≡ false = grind (arith, nat_tests) in
+    let few : nat_lt most_rows number ≡ false = grind (arith, nat_tests) in
     let late : nat_lt r.time_us before ≡ false = grind (arith, nat_tests) in
     rw (few, time-read r.time_us range, letter-read r.wire, byte-read r.byte byte, late) refl
 
@@ -132,7 +132,7 @@ rises before (r ∷ rest) first order =
     (first r (omega arith), rises r.time_us rest (λ d lt. order 0 1 d (omega arith) (omega arith)) (λ i j d le lt. order (suc i) (suc j) d (omega arith) (omega arith)))
 
 -- the rows of records that keep the limits are read as those records, and then the others
-read-then : (number before : ℕ) (items : List LineByte) (rest : List (List (List ℕ))) (tail : Rows) → number + length items ≤ 4000001 → Rise before items
+read-then : (number before : ℕ) (items : List LineByte) (rest : List (List (List ℕ))) (tail : Rows) → number + length items ≤ most_rows + 1 → Rise before items
     → All (λ r. r.time_us < 10 ^ 15) items → All (λ r. r.byte < 256) items → rows_from (number + length items) (last_time before items) (map read_back rest) ≡ tail
     → rows_from number before (map read_back (rows_then items rest)) ≡ record { records = items ++ tail.records; fault = tail.fault }
 unfolding rows_then
@@ -166,8 +166,8 @@ no-mark rows = refl
 headed-text : (rows : List (List (List ℕ))) → rows_of (rows_text (header ∷ rows)) ≡ rows_from 1 0 (map read_back rows)
 headed-text rows = rw (no-mark rows, records-rows (header ∷ rows)) refl
 
-next-few : (items : List LineByte) (row : ℕ) → IsNextRow items row → nat_lt 4000000 (1 + length items) ≡ false
-next-few items row next = let place = next.0 in let few = next.1 in let low : 1 + length items ≤ 4000000 = omega arith in grind (arith, nat_tests)
+next-few : (items : List LineByte) (row : ℕ) → IsNextRow items row → nat_lt most_rows (1 + length items) ≡ false
+next-few items row next = let place = next.0 in let few = next.1 in let low : 1 + length items ≤ most_rows = omega arith in grind (arith, nat_tests)
 
 next-place : (items : List LineByte) (row : ℕ) → row ≡ length items + 1 → 1 + length items ≡ row
 next-place items row place = omega arith
@@ -187,7 +187,7 @@ bad-read kind.Backwards items row follows other =
 bad-read kind.TooMany items row follows other =
     let full = follows.0 in
     let last = follows.1 in
-    let many : nat_lt 4000000 (1 + length items) ≡ true = let high : 4000000 < 1 + length items = omega arith in grind (arith, nat_tests) in
+    let many : nat_lt most_rows (1 + length items) ≡ true = let high : most_rows < 1 + length items = omega arith in grind (arith, nat_tests) in
     let place : 1 + length items ≡ row = omega arith in
     rw (many, place) refl
 bad-read kind.Read items row follows other = absurd follows

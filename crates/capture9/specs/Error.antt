@@ -4,6 +4,7 @@ use Rattle.capture9.specs.declared.error.CaptureError.{CaptureError}
 use Rattle.capture9.specs.declared.error.CaptureKind.{CaptureKind}
 use Rattle.capture9.specs.declared.error.CaptureKind.TheVariants as kind
 use Rattle.capture9.specs.declared.line_byte.LineByte.{LineByte}
+use Rattle.capture9.specs.Fields.{most_rows}
 
 -- a kind of fault that the text itself has, and not the reader or the memory
 abbrev pub is_of_text : CaptureKind → Bool
@@ -17,11 +18,11 @@ is_of_text kind.TooMany = true
 is_of_text kind.Read = false
 is_of_text kind.OutOfMemory = false
 
--- of the faults that a text itself has the header's is at row 0, that of a row too many at row 4,000,001, and no
+-- of the faults that a text itself has the header's is at row 0, that of a row too many at the first row too many, and no
 -- other at either
 pub record IsAtItsRow (e : CaptureError) : Type 0 where
   pub header : (e.kind ≡ kind.Header) ↔ (e.row ≡ 0)
-  pub too_many : (e.kind ≡ kind.TooMany) ↔ (e.row ≡ 4000001)
+  pub too_many : (e.kind ≡ kind.TooMany) ↔ (e.row ≡ most_rows + 1)
 
 -- where a fault stands that came after these records: at the row after them, or at row 0 while the header was read,
 -- which has no record before it

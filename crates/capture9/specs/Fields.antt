@@ -1,9 +1,13 @@
--- How the fields of a capture's rows are spelled.
+-- How the fields of a capture's rows are spelled, and how many rows there may be.
 use Rattle.std.specs.Prelude.{ℕ, ◌+◌, ◌*◌, ◌^◌, List, [], ◌∷◌, length, Bool, false, ◌&&◌, nat_le, Option, Some, None, codes, if◌then◌else◌}
 use Rattle.std.specs.Char.{digit_value, is_digit}
 use Rattle.std.specs.Str.{all_ascii_digits, bytes_eq}
 use Rattle.capture9.specs.declared.line_byte.Wire.{Wire}
 use Rattle.capture9.specs.declared.line_byte.Wire.TheVariants.{Controller, Deck}
+
+-- the most data rows of a capture
+abbrev pub most_rows : ℕ
+most_rows = 4000000
 
 -- the names of the three columns, as the first record of the text has them
 abbrev pub is_header : List (List ℕ) → Bool

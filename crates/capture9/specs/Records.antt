@@ -6,6 +6,7 @@ use Rattle.capture9.specs.declared.line_byte.LineByte.{LineByte}
 use Rattle.capture9.specs.declared.records.Standing.{Standing}
 use Rattle.capture9.specs.declared.records.Standing.TheVariants as standing
 use Rattle.capture9.specs.Error.{IsAtItsRow, is_of_text}
+use Rattle.capture9.specs.Fields.{most_rows}
 use Rattle.capture9.specs.Rows.{Rows, HasHeader, no_rows, bad_row, good_row}
 
 -- how far a `Records` over a reader has come
@@ -33,7 +34,7 @@ pub record GivesRecord {R : Type 0} (old : Progress R) (r : LineByte) (new : Pro
   pub was_reading : old.standing ≡ standing.Reading
   pub is_reading : new.standing ≡ standing.Reading
   pub given : new.given ≡ old.given + 1
-  pub within : new.given ≤ 4000000
+  pub within : new.given ≤ most_rows
   pub is_headed : new.is_headed ≡ true
   pub in_order : old.last_time ≤ r.time_us
   pub in_range : r.time_us < 10 ^ 15

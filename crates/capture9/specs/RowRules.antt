@@ -4,7 +4,7 @@ use Rattle.capture9.specs.declared.error.CaptureError.{CaptureError}
 use Rattle.capture9.specs.declared.error.CaptureKind.{CaptureKind}
 use Rattle.capture9.specs.declared.error.CaptureKind.TheVariants as kind
 use Rattle.capture9.specs.declared.line_byte.LineByte.{LineByte}
-use Rattle.capture9.specs.Fields.{byte_of, time_of, wire_of}
+use Rattle.capture9.specs.Fields.{byte_of, most_rows, time_of, wire_of}
 use Rattle.capture9.specs.Rows.{Rows}
 
 -- the fields are a time, a wire and a byte of which this holds
@@ -15,7 +15,7 @@ AreThree P fields = ⊥
 -- the row with this number and these fields, after a row of this time (0 before the first), breaks the rule whose
 -- breach is told as this kind
 abbrev pub RowBreaks : CaptureKind → ℕ → ℕ → List (List ℕ) → Type 0
-RowBreaks kind.TooMany number before fields = 4000000 < number
+RowBreaks kind.TooMany number before fields = most_rows < number
 RowBreaks kind.Fields number before fields = length fields ≢ 3
 RowBreaks kind.Time number before fields = AreThree (λ time wire byte. time_of time ≡ None) fields
 RowBreaks kind.Wire number before fields = AreThree (λ time wire byte. wire_of wire ≡ None) fields

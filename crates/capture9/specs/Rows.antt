@@ -6,7 +6,7 @@ use Rattle.capture9.specs.declared.error.CaptureKind.{CaptureKind}
 use Rattle.capture9.specs.declared.error.CaptureKind.TheVariants as kind
 use Rattle.capture9.specs.declared.line_byte.LineByte.{LineByte}
 use Rattle.capture9.specs.declared.line_byte.Wire.{Wire}
-use Rattle.capture9.specs.Fields.{is_header, time_of, wire_of, byte_of}
+use Rattle.capture9.specs.Fields.{is_header, most_rows, time_of, wire_of, byte_of}
 
 -- what a text holds: the records of its good rows, and the fault of the first bad one
 pub record Rows : Type 0 where
@@ -45,7 +45,7 @@ fields_record before _ = Err kind.Fields
 -- the record of the row with this number and these fields, after a row of this time (0 at first), or the
 -- first rule that the row breaks
 abbrev pub row_of : ℕ → ℕ → List (List ℕ) → Result LineByte CaptureKind
-row_of number before fields = if nat_lt 4000000 number then Err kind.TooMany else fields_record before fields
+row_of number before fields = if nat_lt most_rows number then Err kind.TooMany else fields_record before fields
 
 -- what a row and the rows after it hold, which depend on the row's time
 abbrev pub row_then : ℕ → Result LineByte CaptureKind → (ℕ → Rows) → Rows

@@ -8,6 +8,7 @@ use Rattle.csv.specs.declared.reader.Trim.TheVariants as trim
 use Rattle.capture9.specs.declared.error.CaptureError.{CaptureError}
 use Rattle.capture9.specs.declared.records.Standing.{Standing}
 use Rattle.capture9.specs.declared.records.Standing.TheVariants as standing
+use Rattle.capture9.specs.Fields.{most_rows}
 use Rattle.capture9.specs.Records.{IsPlaced, Progress}
 use Rattle.capture9.specs.Rows.{Rows, headed_rows, no_rows, rows_from}
 
@@ -40,7 +41,7 @@ pub record IsPlain {R : Type 0} (r : Reader R) : Type 0 where
 -- what always holds of the fields of a `Records`
 pub record HoldsInRecords {R : Type 0} (s : Standing) (is_headed : Bool) (given last_time : ℕ) (r : Reader R) : Type 0 where
   pub plain : s ≡ standing.Reading → IsPlain r
-  pub within : given ≤ 4000000
+  pub within : given ≤ most_rows
   pub fresh : is_headed ≡ false → (given ≡ 0) × (last_time ≡ 0)
   pub ended : s ≡ standing.Ended → is_headed ≡ true
   pub refused : (e : CaptureError) → s ≡ standing.Refused e → IsPlaced is_headed given e

@@ -4,6 +4,7 @@ ghost use Rattle.std.specs.Prelude.{[], ◌+◌, ◌≡◌, ◌≤◌, length, I
 ghost use Rattle.std.specs.Result.{result_err};
 ghost use Rattle.capture9.specs.Capture.{WasRead};
 ghost use Rattle.capture9.specs.Error.{IsAfter};
+ghost use Rattle.capture9.specs.Fields.{most_rows};
 ghost use Rattle.capture9.specs.Rows.{rows_of};
 
 use crate::error::{CaptureError, CaptureKind};
@@ -29,7 +30,7 @@ pub fn read_capture<R: Read + Drop>(alloc: Global, reader: R) -> Capture
     ensures rows { IfSome (R.remaining reader)
         (λ text. WasRead (rows_of text) result.rows.items result.fault) }
     ensures place { IfSome result.fault (λ e. IsAfter result.rows.items e) }
-    ensures limit { length result.rows.items ≤ 4000000 }
+    ensures limit { length result.rows.items ≤ most_rows }
 {
     let mut records = Records::new(alloc, reader);
     let mut rows = Vec::new(alloc);
@@ -47,7 +48,7 @@ fn read_into<R: Read + Drop>(
     requires none_given { records.old.given ≡ 0 }
     ensures rows { IfSome records.old.rows (λ all. WasRead all rows.new.items (result_err result)) }
     ensures place { IfErr result (λ e. IsAfter rows.new.items e) }
-    ensures limit { length rows.new.items ≤ 4000000 }
+    ensures limit { length rows.new.items ≤ most_rows }
 {
     while let Some(record) = records.next()? {
         if rows.push(record).is_err() {
@@ -59,7 +60,7 @@ fn read_into<R: Read + Drop>(
 
 /// Want of memory at the row after so many.
 fn no_room(held: usize) -> CaptureError
-    requires { held ≤ 4000000 }
+    requires { held ≤ most_rows }
     ensures { result ≡ record { kind = CaptureKind.OutOfMemory; row = held + 1 } }
 {
     CaptureError {

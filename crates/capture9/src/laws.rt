@@ -3,7 +3,7 @@ ghost use Rattle.std.specs.Prelude.{◌≡◌, ◌↔◌, ◌∷◌, true, ℕ, 
 ghost use Rattle.std.specs.List.{All};
 ghost use Rattle.std.specs.List.Sorted.{IsNonDecreasingBy};
 ghost use Rattle.capture9.specs.Error.{IsAfter, is_of_text};
-ghost use Rattle.capture9.specs.Fields.{is_header};
+ghost use Rattle.capture9.specs.Fields.{is_header, most_rows};
 ghost use Rattle.capture9.specs.RowRules.{HasFirstPart};
 ghost use Rattle.capture9.specs.Rows.{HasHeader, Rows, rows_of};
 ghost use Rattle.capture9.specs.SomeText.{CanBeRows, IsOfSomeText};
@@ -20,7 +20,7 @@ pub fn header_of_a_text()
 
 /// A text has at most 4,000,000 records. Their times never fall, and each is below 10^15.
 pub fn records_of_a_text()
-    ensures limit { (text : List ℕ) → length (rows_of text).records ≤ 4000000 }
+    ensures limit { (text : List ℕ) → length (rows_of text).records ≤ most_rows }
     ensures in_order { (text : List ℕ) → IsNonDecreasingBy (λ r. r.time_us) (rows_of text).records }
     ensures in_range { (text : List ℕ) → All (λ r. r.time_us < 10 ^ 15) (rows_of text).records }
 {}

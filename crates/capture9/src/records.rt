@@ -5,6 +5,7 @@ ghost use Rattle.csv.specs.Reading.{error_kind};
 ghost use Rattle.csv.specs.Records.{fields_of};
 ghost use Rattle.csv.specs.declared.error.ErrorKind.TheVariants.{OutOfMemory};
 ghost use Rattle.capture9.specs.Error.{is_of_text};
+ghost use Rattle.capture9.specs.Fields.{most_rows};
 ghost use Rattle.capture9.specs.Working.{IsPlain, PassesHeader, TakesFields, unread_records};
 ghost use Rattle.capture9.specs.Records.{GivesEnd, GivesRecord, GivesRefusal};
 ghost use Rattle.capture9.specs.Rows.{rows_of};
@@ -107,7 +108,7 @@ impl<R: Read + Drop> Records<R> {
             → (result ≡ Ok None) × (self.new ≡ self.old) }
         ensures after_refusal { (e : CaptureError) → self.old.standing ≡ Standing.Refused e
             → (result ≡ Err e) × (self.new ≡ self.old) }
-        ensures within { self.new.given ≤ 4000000 }
+        ensures within { self.new.given ≤ most_rows }
     {
         match self.standing {
             Standing::Reading => {}
@@ -150,7 +151,7 @@ impl<R: Read + Drop> Records<R> {
         ensures ended { IfOk result (λ o. IfNone o (GivesEnd self.old self.new)) }
         ensures refused { IfErr result (λ e. GivesRefusal self.old e self.new) }
         ensures stays_headed { self.new.is_headed ≡ true }
-        ensures within { self.new.given ≤ 4000000 }
+        ensures within { self.new.given ≤ most_rows }
     {
         let number = self.given + 1;
         let outcome = match read_record(&mut self.reader, &mut self.row) {

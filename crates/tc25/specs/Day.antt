@@ -5,13 +5,17 @@ use Rattle.std.specs.Prelude.{ℕ, ◌≡◌, ◌+◌, ◌-◌, ◌*◌, ◌/◌
 abbrev pub day : ℕ
 day = 2160000
 
+-- the last frame of the day
+abbrev pub last_frame : ℕ
+last_frame = 2159999
+
 -- the frame after t; after the last of the day comes frame 0
 abbrev pub next_frame : ℕ → ℕ
-next_frame t = if t == 2159999 then 0 else t + 1
+next_frame t = if t == last_frame then 0 else t + 1
 
 -- the frame before t; before frame 0 comes the last of the day
 abbrev pub prev_frame : ℕ → ℕ
-prev_frame t = if t == 0 then 2159999 else t - 1
+prev_frame t = if t == 0 then last_frame else t - 1
 
 -- ---- the parts of a time
 

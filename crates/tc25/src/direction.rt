@@ -4,7 +4,7 @@ ghost use Rattle.std.specs.Prelude.{◌≡◌, ◌<◌};
 ghost use Rattle.tc25.specs.Day.{day};
 ghost use Rattle.tc25.specs.Working.Moves.{moved, edge_of, entry_of};
 
-use crate::time_code::TimeCode;
+use crate::time_code::{LAST_FRAME, TimeCode};
 
 /// To the next frame or to the frame before, round the day.
 #[derive(Clone, Copy, Debug, PartialEq, Eq)]
@@ -24,7 +24,7 @@ impl Direction {
             Direction::Next => (frame + 1) % TimeCode::FRAMES_IN_DAY,
             Direction::Prev => match frame.checked_sub(1) {
                 Some(before) => before,
-                None => TimeCode::FRAMES_IN_DAY - 1,
+                None => LAST_FRAME,
             },
         }
     }
@@ -34,7 +34,7 @@ impl Direction {
         ensures { result ≡ edge_of self }
     {
         match self {
-            Direction::Next => TimeCode::FRAMES_IN_DAY - 1,
+            Direction::Next => LAST_FRAME,
             Direction::Prev => 0,
         }
     }
@@ -45,7 +45,7 @@ impl Direction {
     {
         match self {
             Direction::Next => 0,
-            Direction::Prev => TimeCode::FRAMES_IN_DAY - 1,
+            Direction::Prev => LAST_FRAME,
         }
     }
 }

@@ -5,7 +5,7 @@ ghost use Rattle.tc25.specs.Day.{day};
 ghost use Rattle.tc25.specs.Working.SpanMoves.{point, shifted_span, widened_span};
 
 use crate::direction::Direction;
-use crate::time_code::TimeCode;
+use crate::time_code::LAST_FRAME;
 
 /// The frames from `first` to `last`, both included.
 #[derive(Clone, Copy, Debug, PartialEq, Eq)]
@@ -13,9 +13,6 @@ pub(crate) struct Span {
     pub(crate) first: u32,
     pub(crate) last: u32,
 }
-
-/// The last frame of the day.
-pub(crate) const LAST_FRAME: u32 = TimeCode::FRAMES_IN_DAY - 1;
 
 impl Span {
     /// The span of one frame.

@@ -3,9 +3,9 @@
 ghost use Rattle.tc25.specs.Spans.{IsCanonical, IsCanonical-prop};
 
 use crate::direction::Direction;
-use crate::span::{LAST_FRAME, Span};
+use crate::span::Span;
 use crate::spans;
-use crate::time_code::TimeCode;
+use crate::time_code::{LAST_FRAME, TimeCode};
 use crate::time_set::TimeSet;
 use std::alloc::{AllocError, Global};
 

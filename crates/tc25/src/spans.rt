@@ -8,7 +8,8 @@ ghost use Rattle.tc25.specs.Spans.{is_covered, IsSpan, IsCanonical};
 ghost use Rattle.tc25.specs.Working.SpanLists.{IsPlace, glue, joined, with_frame, without_edge};
 
 use crate::direction::Direction;
-use crate::span::{LAST_FRAME, Span};
+use crate::span::Span;
+use crate::time_code::LAST_FRAME;
 use std::alloc::AllocError;
 
 /// Whether a frame is in a span of the list.

@@ -5,6 +5,9 @@ ghost use Rattle.tc25.specs.Day.{day, next_frame, prev_frame, bytes_of, ReadsAs,
 
 use std::marker::Model;
 
+/// The last frame of the day.
+pub(crate) const LAST_FRAME: u32 = TimeCode::FRAMES_IN_DAY - 1;
+
 /// A time of day at 25 frames a second: the number of frames since midnight, below 2,160,000.
 ///
 /// A contract sees a `TimeCode` as that number.
@@ -101,7 +104,7 @@ impl TimeCode {
     {
         let before = self.frame.checked_sub(1);
         TimeCode {
-            frame: before.unwrap_or(TimeCode::FRAMES_IN_DAY - 1),
+            frame: before.unwrap_or(LAST_FRAME),
         }
     }
 

@@ -1,6 +1,6 @@
 -- The neighbour of a frame in either direction, and where a direction leads out of the day.
 use Rattle.std.specs.Prelude.{ℕ}
-use Rattle.tc25.specs.Day.{next_frame, prev_frame}
+use Rattle.tc25.specs.Day.{last_frame, next_frame, prev_frame}
 use Rattle.tc25.specs.declared.direction.Direction.{Direction}
 use Rattle.tc25.specs.declared.direction.Direction.TheVariants.{Next, Prev}
 
@@ -16,10 +16,10 @@ moved_from Prev t = next_frame t
 
 -- the frame that leaves the day
 abbrev pub edge_of : Direction → ℕ
-edge_of Next = 2159999
+edge_of Next = last_frame
 edge_of Prev = 0
 
 -- the frame where it comes in again
 abbrev pub entry_of : Direction → ℕ
 entry_of Next = 0
-entry_of Prev = 2159999
+entry_of Prev = last_frame

@@ -1,5 +1,6 @@
 -- What the calls make of lists of spans, and where a frame stands in one. Private functions alone cite this.
 use Rattle.std.specs.Prelude.{ℕ, ◌+◌, ◌≤◌, ◌<◌, ◌==◌, nat_le, nat_lt, if◌then◌else◌, min, max, List, [], ◌∷◌, length, slice_index_or}
+use Rattle.tc25.specs.Day.{last_frame}
 use Rattle.tc25.specs.Working.SpanMoves.{point}
 use Rattle.tc25.specs.declared.direction.Direction.{Direction}
 use Rattle.tc25.specs.declared.direction.Direction.TheVariants.{Next, Prev}
@@ -32,7 +33,7 @@ with_frame f (s ∷ spans) =
 -- the list without a span of the last frame alone
 abbrev pub without_last : List Span → List Span
 without_last [] = []
-without_last (s ∷ []) = if s.first == 2159999 then [] else s ∷ []
+without_last (s ∷ []) = if s.first == last_frame then [] else s ∷ []
 without_last (s ∷ t ∷ spans) = s ∷ without_last (t ∷ spans)
 
 -- the list without a span of the first frame alone

@@ -1,5 +1,6 @@
 -- The list has the records given so far, and the rest of the text's rows is still to come.
 use Rattle.std.proofs.Common.{◌-◌, ◌≡◌, ◌≤◌, [], false, length}
+use Rattle.capture9.specs.Fields.{most_rows}
 use Rattle.capture9.specs.declared.records.Standing.TheVariants as standing
 use Rattle.capture9.proofs.CaptureFacts.{IsReadUpTo}
 use Rattle.capture9.proofs.capture.read_into.Given as goal
@@ -8,10 +9,10 @@ abbrev pub invariant-loop-record : goal.invariant-loop-record
 invariant-loop-record g l = record {
   reading : l.records.standing ≡ standing.Reading;
   given : l.records.given ≡ length l.rows.items;
-  within : l.records.given ≤ 4000000;
+  within : l.records.given ≤ most_rows;
   headed : l.records.is_headed ≡ false → l.rows.items ≡ [];
   rows : IsReadUpTo l.fn.records.rows l.rows.items l.records.rows;
 }
 
 abbrev pub decreases-loop-record : goal.decreases-loop-record
-decreases-loop-record g l = 4000000 - l.records.given
+decreases-loop-record g l = most_rows - l.records.given
