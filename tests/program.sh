@@ -318,19 +318,27 @@ expect 'a closed standard error' 3 '' ''
 status=$?
 expect 'a long pipe' 0 'yes: records 240000, exchanges 40000, open 0' ''
 
-# The script that builds the program where it is not built, with a builder of our own on its path.
-mkdir -p "$work/tree/crates/ninecheck" "$work/bin"
+# The script that builds the program where it is not built, with a builder of our own on its path: it proves each crate
+# after those that it uses, and says which it is at.
+mkdir -p "$work/tree/crates/ninecheck" "$work/tree/crates/low" "$work/tree/crates/high" "$work/bin"
 cp ninecheck "$work/tree/ninecheck"
+printf '# lowest first\nlow: csv\nhigh: low csv\nhigh_tests: low high\nninecheck: low high\n' > "$work/tree/crates.txt"
 echo 'a capture' > "$work/tree/crates/ninecheck/stdin"
-printf '#!/bin/sh\necho "not proved"\nexit 1\n' > "$work/bin/rt"
+printf '#!/bin/sh\n[ "${PWD##*/}" = low ] && exit 0\necho "not proved"\nexit 1\n' > "$work/bin/rt"
 chmod +x "$work/bin/rt"
-building='ninecheck: proving and building it first, which can take half an hour'
+building='ninecheck: proving and building it first, which can take half an hour
+ninecheck: proving low
+ninecheck: proving high'
 PATH="$work/bin:$PATH" "$work/tree/ninecheck" < examples/play.csv > "$work/out" 2> "$work/err"
 status=$?
 expect 'a build that fails' 125 '' "$building
 not proved"
+building="$building
+ninecheck: proving ninecheck
+ninecheck: building the program"
 cat > "$work/bin/rt" <<'END'
 #!/bin/sh
+[ "$1" = run ] || exit 0
 mkdir -p out
 printf '#!/bin/sh\necho "$@"; cat; exit 7\n' > out/ninecheck
 chmod +x out/ninecheck
