@@ -7,7 +7,7 @@ use Rattle.capture9.specs.declared.error.CaptureKind.TheVariants as kind
 use Rattle.capture9.specs.declared.line_byte.LineByte.{LineByte}
 use Rattle.capture9.specs.Records.{GivesRecord, GivesRefusal, IsPlaced, Progress}
 use Rattle.capture9.specs.Rows.{HasHeader, Rows}
-use Rattle.capture9.proofs.RecordsFacts.{refused-after}
+use Rattle.capture9.proofs.RecordsLemmas.{refused-after}
 use Rattle.block9.specs.declared.pairer.Exchange.{Exchange}
 use Rattle.block9.specs.declared.reason.Reason.{Reason}
 use Rattle.block9.specs.Exchange.{Cut, IsExchange}

@@ -4,7 +4,7 @@ use Rattle.std.specs.Option.{IfNone, IfSome}
 use Rattle.capture9.specs.declared.line_byte.LineByte.{LineByte}
 use Rattle.capture9.specs.Rows.{Rows}
 use Rattle.capture9.specs.SomeText.{CanBeRows, IsOfSomeText}
-use Rattle.capture9.proofs.TextFacts.{some-text}
+use Rattle.capture9.proofs.TextLemmas.{some-text}
 use Rattle.judge9.proofs.SoFar.{WereRead}
 
 -- these records were read and the rest is to come; `mine` is the rest where nothing is known of it

@@ -6,7 +6,7 @@ use Rattle.capture9.specs.declared.line_byte.LineByte.{LineByte}
 use Rattle.capture9.specs.declared.records.Standing.TheVariants.{Reading}
 use Rattle.capture9.specs.Records.{Progress}
 use Rattle.capture9.specs.Rows.{Rows}
-use Rattle.capture9.proofs.GivenFacts.{AreGiven}
+use Rattle.capture9.proofs.GivenLemmas.{AreGiven}
 use Rattle.block9.specs.declared.pairer.Exchange.{Exchange}
 use Rattle.block9.specs.Exchange.{Cut}
 use Rattle.block9.specs.Pairer.{Paired}

@@ -8,7 +8,7 @@ use Rattle.capture9.specs.declared.error.CaptureError.{CaptureError}
 use Rattle.capture9.specs.Records.{GivesRecord, Progress, TakesRecord}
 use Rattle.capture9.specs.declared.records.Standing.TheVariants.{Reading}
 use Rattle.capture9.specs.Rows.{Rows}
-use Rattle.capture9.proofs.GivenFacts.{given-more, given-none}
+use Rattle.capture9.proofs.GivenLemmas.{given-more, given-none}
 use Rattle.block9.specs.declared.pairer.Exchange.{Exchange}
 use Rattle.block9.specs.declared.pairer.Step.{Step}
 use Rattle.block9.specs.declared.pairer.Step.TheVariants as step

@@ -13,9 +13,9 @@ use Rattle.capture9.specs.Error.{is_of_text}
 use Rattle.capture9.specs.Records.{GivesEnd, GivesRecord, GivesRefusal, Progress}
 use Rattle.capture9.specs.Rows.{Rows, bad_row, no_rows, rows_of}
 use Rattle.capture9.specs.SomeText.{CanBeRows, IsOfSomeText}
-use Rattle.capture9.proofs.GivenFacts.{given-more, given-refused, no_rows-can_be}
-use Rattle.capture9.proofs.RecordsFacts.{refused-after}
-use Rattle.capture9.proofs.TextFacts.{some-text}
+use Rattle.capture9.proofs.GivenLemmas.{given-more, given-refused, no_rows-can_be}
+use Rattle.capture9.proofs.RecordsLemmas.{refused-after}
+use Rattle.capture9.proofs.TextLemmas.{some-text}
 use Rattle.block9.specs.declared.pairer.Exchange.{Exchange}
 use Rattle.block9.specs.declared.pairer.Step.TheVariants as step
 use Rattle.block9.specs.declared.reason.Reason.{Reason}

@@ -2,7 +2,7 @@
 use Rattle.std.proofs.Common.{◌-◌, ◌≡◌, ◌≤◌, [], false, length}
 use Rattle.capture9.specs.Fields.{most_rows}
 use Rattle.capture9.specs.declared.records.Standing.TheVariants as standing
-use Rattle.capture9.proofs.CaptureFacts.{IsReadUpTo}
+use Rattle.capture9.proofs.CaptureLemmas.{IsReadUpTo}
 use Rattle.capture9.proofs.capture.read_into.Given as goal
 
 abbrev pub invariant-loop-record : goal.invariant-loop-record

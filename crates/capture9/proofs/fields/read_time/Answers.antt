@@ -1,7 +1,7 @@
 -- One digit more: it fits, and the rest of the field still decides.
 use Rattle.std.proofs.Common.{◌≡◌, ◌<◌, true, ◌∙◌, refl, arith, get_or}
 use Rattle.std.specs.Char.{is_ascii_digit}
-use Rattle.capture9.proofs.FieldFacts.{all_ascii_digits-step, decimal_value-step, time-fits, time-lt}
+use Rattle.capture9.proofs.FieldLemmas.{all_ascii_digits-step, decimal_value-step, time-fits, time-lt}
 use Rattle.capture9.proofs.fields.read_time.Goals as goal
 
 pub overflow_mul-time : goal.overflow_mul-time

@@ -1,6 +1,6 @@
 -- A record of three fields has one at each of the places 0, 1 and 2.
 use Rattle.std.proofs.Common.{arith, lit≤}
-use Rattle.capture9.proofs.ColumnFacts.{not-three, three}
+use Rattle.capture9.proofs.ColumnLemmas.{not-three, three}
 use Rattle.capture9.proofs.fields.three_columns.Goals as goal
 
 pub returns-in_err-get : goal.returns-in_err-get

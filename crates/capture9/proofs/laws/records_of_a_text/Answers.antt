@@ -1,6 +1,6 @@
 -- What holds of every list of CSV records holds of those of a text.
 use Rattle.csv.specs.Reading.{default_config, records, strip_bom}
-use Rattle.capture9.proofs.LawFacts.{holds-in-rows}
+use Rattle.capture9.proofs.LawLemmas.{holds-in-rows}
 use Rattle.capture9.proofs.laws.records_of_a_text.Goals as goal
 
 pub returns-clause-limit : goal.returns-clause-limit

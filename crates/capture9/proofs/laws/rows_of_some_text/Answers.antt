@@ -1,7 +1,7 @@
 -- What holds of every list of CSV records holds of those of a text.
 use Rattle.csv.specs.Reading.{default_config, records, strip_bom}
-use Rattle.capture9.proofs.SomeTextFacts.{can-be}
-use Rattle.capture9.proofs.TextFacts.{some-text}
+use Rattle.capture9.proofs.SomeTextLemmas.{can-be}
+use Rattle.capture9.proofs.TextLemmas.{some-text}
 use Rattle.capture9.proofs.laws.rows_of_some_text.Goals as goal
 
 pub returns-clause-each_text : goal.returns-clause-each_text

@@ -1,5 +1,5 @@
 -- What `csv` says of the bytes that are left, said of the CSV records that are left.
-use Rattle.capture9.proofs.CsvFacts.{read-takes}
+use Rattle.capture9.proofs.CsvLemmas.{read-takes}
 use Rattle.capture9.proofs.records.read_record.Goals as goal
 
 pub returns-in-Ok-clause-next : goal.returns-in-Ok-clause-next

@@ -1,7 +1,7 @@
 -- The same refusal again.
 use Rattle.csv.specs.Reading.{reader_source}
 use Rattle.capture9.specs.Working.{unread_records}
-use Rattle.capture9.proofs.RecordsFacts.{refuses-again}
+use Rattle.capture9.proofs.RecordsLemmas.{refuses-again}
 use Rattle.capture9.proofs.records.Records.next.Goals as goal
 
 pub returns-in-Refused-clause-refused : goal.returns-in-Refused-clause-refused

@@ -3,7 +3,7 @@ use Rattle.std.proofs.Common.{◌∙◌, sym}
 use Rattle.csv.specs.Reading.{reader_source}
 use Rattle.csv.specs.Records.{fields_of}
 use Rattle.capture9.specs.Working.{unread_records}
-use Rattle.capture9.proofs.RecordsFacts.{passes-header}
+use Rattle.capture9.proofs.RecordsLemmas.{passes-header}
 use Rattle.capture9.proofs.records.Records.read_header.Goals as goal
 
 pub returns-then-is_header-clause-ok : goal.returns-then-is_header-clause-ok

@@ -4,8 +4,8 @@ use Rattle.csv.specs.Reading.{reader_source}
 use Rattle.csv.specs.Records.{fields_of}
 use Rattle.capture9.specs.Error.{is_of_text}
 use Rattle.capture9.specs.Working.{unread_records}
-use Rattle.capture9.proofs.RecordsFacts.{bad-first, gives-record, not-of-text, refused-holds, refuses-row}
-use Rattle.capture9.proofs.RowFacts.{at-its-row, row_of-err}
+use Rattle.capture9.proofs.RecordsLemmas.{bad-first, gives-record, not-of-text, refused-holds, refuses-row}
+use Rattle.capture9.proofs.RowLemmas.{at-its-row, row_of-err}
 use Rattle.capture9.proofs.records.Records.read_row.Goals as goal
 use Rattle.capture9.proofs.records.Records.read_row.Goals.{in-Ok-true, in-Err}
 

@@ -14,8 +14,8 @@ use Rattle.capture9.specs.Fields.{byte_of, hex_digit_of, is_header, most_rows, p
 use Rattle.capture9.specs.RowRules.{AreGood, AreLeft, IsFirstOf, RowBreaks, Spell, last_time, row_kinds}
 use Rattle.capture9.specs.Rows.{Rows, bad_row, headed_rows, row_of, rows_from}
 use Rattle.capture9.specs.SomeText.{CanBeRows, CanFollow, IsNextRow}
-use Rattle.capture9.proofs.LawFacts.{HoldsFrom, holds-from}
-use Rattle.capture9.proofs.RuleFacts.{HasPartFrom, IsRead, part-from, row-read}
+use Rattle.capture9.proofs.LawLemmas.{HoldsFrom, holds-from}
+use Rattle.capture9.proofs.RuleLemmas.{HasPartFrom, IsRead, part-from, row-read}
 
 hex-lt : (c d : ℕ) → hex_digit_of c ≡ Some d → d < 16
 hex-lt c d e = by (is_digit c 16) refl e

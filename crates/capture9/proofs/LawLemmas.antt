@@ -12,7 +12,7 @@ use Rattle.capture9.specs.declared.line_byte.LineByte.{LineByte}
 use Rattle.capture9.specs.Error.{IsAfter, IsAtItsRow, is_of_text}
 use Rattle.capture9.specs.Fields.{is_header, most_rows}
 use Rattle.capture9.specs.Rows.{HasHeader, Rows, bad_row, good_row, headed_rows, no_rows, row_of, row_then, rows_from}
-use Rattle.capture9.proofs.RowFacts.{at-its-row, row_of-err, row_of-ok, rows_from-has_header}
+use Rattle.capture9.proofs.RowLemmas.{at-its-row, row_of-err, row_of-ok, rows_from-has_header}
 
 -- the fault of rows that begin with this number
 pub record IsFaultFrom (number : ℕ) (rows : Rows) (e : CaptureError) : Type 0 where

@@ -10,7 +10,7 @@ use Rattle.capture9.specs.declared.line_byte.Wire.{Wire}
 use Rattle.capture9.specs.Error.{IsAtItsRow, is_of_text}
 use Rattle.capture9.specs.Fields.{byte_of, most_rows, time_of, wire_of}
 use Rattle.capture9.specs.Rows.{HasHeader, fields_record, record_of, row_of, row_then, rows_from}
-use Rattle.capture9.proofs.FieldFacts.{time_of-lt}
+use Rattle.capture9.proofs.FieldLemmas.{time_of-lt}
 
 -- the record of a good row: in its place, in order and in range
 pub record IsGood (number before : ℕ) (r : LineByte) : Type 0 where

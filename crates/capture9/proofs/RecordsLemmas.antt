@@ -13,8 +13,8 @@ use Rattle.capture9.specs.Fields.{is_header, most_rows}
 use Rattle.capture9.specs.Records.{GivesRecord, GivesRefusal, IsPlaced, Progress, TakesRecord}
 use Rattle.capture9.specs.Rows.{HasHeader, Rows, bad_row, row_of, rows_from}
 use Rattle.capture9.specs.Working.{HoldsInRecords, PassesHeader, TakesFields, rows_to_come, unread_rows}
-use Rattle.capture9.proofs.RowFacts.{at-its-row, row_of-err, row_of-ok, rows_from-has_header}
-use Rattle.capture9.proofs.SomeTextFacts.{row-backwards, row-byte}
+use Rattle.capture9.proofs.RowLemmas.{at-its-row, row_of-err, row_of-ok, rows_from-has_header}
+use Rattle.capture9.proofs.SomeTextLemmas.{row-backwards, row-byte}
 
 -- how callers see a `Records` with these fields, these CSV records unread, and this reader
 abbrev pub progress_of : {R : Type 0} → Standing → Bool → ℕ → ℕ → Option (List (List (List ℕ))) → R → Progress R

@@ -21,8 +21,8 @@ use Rattle.capture9.specs.RowRules.{last_time}
 use Rattle.capture9.specs.Rows.{Rows, bad_row, no_rows, row_of, rows_from, rows_of}
 use Rattle.capture9.specs.SomeText.{CanBeRows, CanFollow, IsNextRow, IsOfSomeText}
 use Rattle.capture9.specs.Working.{records_at}
-use Rattle.capture9.proofs.CsvFacts.{none_at_start, records_at-some}
-use Rattle.capture9.proofs.FieldFacts.{digit_value-digit}
+use Rattle.capture9.proofs.CsvLemmas.{none_at_start, records_at-some}
+use Rattle.capture9.proofs.FieldLemmas.{digit_value-digit}
 
 -- ---- a time of fifteen digits
 

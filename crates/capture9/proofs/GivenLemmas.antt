@@ -13,7 +13,7 @@ use Rattle.capture9.specs.Records.{GivesRecord, GivesRefusal, IsPlaced, Progress
 use Rattle.capture9.specs.RowRules.{last_time}
 use Rattle.capture9.specs.Rows.{no_rows}
 use Rattle.capture9.specs.SomeText.{CanBeRows, CanFollow}
-use Rattle.capture9.proofs.SomeTextFacts.{can-follow}
+use Rattle.capture9.proofs.SomeTextLemmas.{can-follow}
 
 -- these are the records that were given
 pub record AreGiven {R : Type 0} (items : List LineByte) (progress : Progress R) : Type 0 where
