@@ -5,7 +5,7 @@ use Rattle.std.proofs.Math.Nat.{mul-le-mul_right, pow-le-pow_right, pow-suc}
 use Rattle.std.proofs.lemmas.Bool.Decides.{nat_tests}
 use Rattle.std.specs.Char.{digit_value, is_ascii_digit}
 use Rattle.std.specs.Str.{all_ascii_digits}
-use Rattle.capture9.specs.Fields.{decimal_value, time_of}
+use Rattle.capture9.specs.Fields.{decimal_value, time_in}
 
 -- what a decimal digit counts
 pub digit_value-digit : (c : ℕ) → is_ascii_digit c ≡ true → digit_value c ≡ c - 48
@@ -60,8 +60,8 @@ decimal_value-lt (c ∷ rest) h =
     rw pow-suc (omega (arith, decimal_value-lt rest each.1))
 
 -- a time has at most fifteen digits
-pub time_of-lt : (field : List ℕ) (time : ℕ) → time_of field ≡ Some time → time < 10 ^ 15
-time_of-lt field time e =
+pub time_in-lt : (field : List ℕ) (time : ℕ) → time_in field ≡ Some time → time < 10 ^ 15
+time_in-lt field time e =
     by (nat_le 1 (length field)) (nat_le (length field) 15) (all_ascii_digits field) refl refl e
   where
     by : (some few digits : Bool) → nat_le (length field) 15 ≡ few → all_ascii_digits field ≡ digits

@@ -8,9 +8,9 @@ use Rattle.capture9.specs.declared.error.CaptureKind.TheVariants as kind
 use Rattle.capture9.specs.declared.line_byte.LineByte.{LineByte}
 use Rattle.capture9.specs.declared.line_byte.Wire.{Wire}
 use Rattle.capture9.specs.Error.{IsAtItsRow, is_of_text}
-use Rattle.capture9.specs.Fields.{byte_of, most_rows, time_of, wire_of}
+use Rattle.capture9.specs.Fields.{byte_in, most_rows, time_in, wire_in}
 use Rattle.capture9.specs.Rows.{HasHeader, fields_record, record_of, row_of, row_then, rows_from}
-use Rattle.capture9.proofs.FieldLemmas.{time_of-lt}
+use Rattle.capture9.proofs.FieldLemmas.{time_in-lt}
 
 -- the record of a good row: in its place, in order and in range
 pub record IsGood (number before : ℕ) (r : LineByte) : Type 0 where
@@ -23,7 +23,7 @@ pub record IsOrdered (before : ℕ) (r : LineByte) : Type 0 where
   pub in_order : before ≤ r.time_us
   pub in_range : r.time_us < 10 ^ 15
 
-record_of-ok : (before : ℕ) (field : List ℕ) (time : Option ℕ) (wire : Option Wire) (byte : Option ℕ) (r : LineByte) → time_of field ≡ time
+record_of-ok : (before : ℕ) (field : List ℕ) (time : Option ℕ) (wire : Option Wire) (byte : Option ℕ) (r : LineByte) → time_in field ≡ time
     → record_of before time wire byte ≡ Ok r → IsOrdered before r
 record_of-ok before field None wire byte r t e = cc
 record_of-ok before field (Some time) None byte r t e = cc
@@ -36,13 +36,13 @@ record_of-ok before field (Some time) (Some w) (Some b) r t e = by (nat_lt time 
     by false q same =
         let told : r ≡ record { time_us = time; wire = w; byte = b } = cc in
         let order : before ≤ time = grind (arith, nat_tests) in
-        rw told (record { in_order = order; in_range = time_of-lt field time t })
+        rw told (record { in_order = order; in_range = time_in-lt field time t })
 
 fields_record-ok : (before : ℕ) (fields : List (List ℕ)) (r : LineByte) → fields_record before fields ≡ Ok r → IsOrdered before r
 fields_record-ok before [] r e = cc
 fields_record-ok before (a ∷ []) r e = cc
 fields_record-ok before (a ∷ b ∷ []) r e = cc
-fields_record-ok before (a ∷ b ∷ c ∷ []) r e = record_of-ok before a (time_of a) (wire_of b) (byte_of c) r refl e
+fields_record-ok before (a ∷ b ∷ c ∷ []) r e = record_of-ok before a (time_in a) (wire_in b) (byte_in c) r refl e
 fields_record-ok before (a ∷ b ∷ c ∷ d ∷ rest) r e = cc
 
 pub row_of-ok : (number before : ℕ) (fields : List (List ℕ)) (r : LineByte) → row_of number before fields ≡ Ok r → IsGood number before r
@@ -82,7 +82,7 @@ fields_record-err : (before : ℕ) (fields : List (List ℕ)) (k : CaptureKind) 
 fields_record-err before [] k e = let same : kind.Fields ≡ k = cc in rw (← same) (record { of_text = refl; no_header = λ h. cc; no_row = λ h. cc })
 fields_record-err before (a ∷ []) k e = let same : kind.Fields ≡ k = cc in rw (← same) (record { of_text = refl; no_header = λ h. cc; no_row = λ h. cc })
 fields_record-err before (a ∷ b ∷ []) k e = let same : kind.Fields ≡ k = cc in rw (← same) (record { of_text = refl; no_header = λ h. cc; no_row = λ h. cc })
-fields_record-err before (a ∷ b ∷ c ∷ []) k e = record_of-err before (time_of a) (wire_of b) (byte_of c) k e
+fields_record-err before (a ∷ b ∷ c ∷ []) k e = record_of-err before (time_in a) (wire_in b) (byte_in c) k e
 fields_record-err before (a ∷ b ∷ c ∷ d ∷ rest) k e = let same : kind.Fields ≡ k = cc in rw (← same) (record { of_text = refl; no_header = λ h. cc; no_row = λ h. cc })
 
 -- a row breaks rules of a text, and none of the header

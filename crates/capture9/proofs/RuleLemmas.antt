@@ -7,7 +7,7 @@ use Rattle.capture9.specs.declared.error.CaptureKind.{CaptureKind}
 use Rattle.capture9.specs.declared.error.CaptureKind.TheVariants as kind
 use Rattle.capture9.specs.declared.line_byte.LineByte.{LineByte}
 use Rattle.capture9.specs.declared.line_byte.Wire.{Wire}
-use Rattle.capture9.specs.Fields.{byte_of, is_header, most_rows, time_of, wire_of}
+use Rattle.capture9.specs.Fields.{byte_in, is_header, most_rows, time_in, wire_in}
 use Rattle.capture9.specs.RowRules.{AreGood, AreLeft, HasFirstPart, IsFirstOf, RowBreaks, Spell, last_time, row_kinds}
 use Rattle.capture9.specs.Rows.{Rows, fields_record, headed_rows, record_of, row_of, row_then, rows_from}
 
@@ -34,7 +34,7 @@ fields-broken number before fields few not_three = record {
 }
 
 record-read : (number before : ℕ) (a b c : List ℕ) (time : Option ℕ) (wire : Option Wire) (byte : Option ℕ) → ¬ (most_rows < number)
-    → time_of a ≡ time → wire_of b ≡ wire → byte_of c ≡ byte → IsRead number before (a ∷ b ∷ c ∷ []) (record_of before time wire byte)
+    → time_in a ≡ time → wire_in b ≡ wire → byte_in c ≡ byte → IsRead number before (a ∷ b ∷ c ∷ []) (record_of before time wire byte)
 record-read number before a b c None wire byte few t w y = record {
   before = kind.TooMany ∷ kind.Fields ∷ [];
   after = kind.Wire ∷ kind.Byte ∷ kind.Backwards ∷ [];
@@ -109,7 +109,7 @@ fields-read : (number before : ℕ) (fields : List (List ℕ)) → ¬ (most_rows
 fields-read number before [] few = fields-broken number before [] few (λ h. absurd (omega arith))
 fields-read number before (a ∷ []) few = fields-broken number before (a ∷ []) few (λ h. absurd (omega arith))
 fields-read number before (a ∷ b ∷ []) few = fields-broken number before (a ∷ b ∷ []) few (λ h. absurd (omega arith))
-fields-read number before (a ∷ b ∷ c ∷ []) few = record-read number before a b c (time_of a) (wire_of b) (byte_of c) few refl refl refl
+fields-read number before (a ∷ b ∷ c ∷ []) few = record-read number before a b c (time_in a) (wire_in b) (byte_in c) few refl refl refl
 fields-read number before (a ∷ b ∷ c ∷ d ∷ rest) few = fields-broken number before (a ∷ b ∷ c ∷ d ∷ rest) few (λ h. absurd (omega arith))
 
 pub row-read : (number before : ℕ) (fields : List (List ℕ)) → IsRead number before fields (row_of number before fields)

@@ -10,7 +10,7 @@ use Rattle.capture9.specs.declared.error.CaptureKind.{CaptureKind}
 use Rattle.capture9.specs.declared.error.CaptureKind.TheVariants as kind
 use Rattle.capture9.specs.declared.line_byte.LineByte.{LineByte}
 use Rattle.capture9.specs.Error.{IsAtItsRow, is_of_text}
-use Rattle.capture9.specs.Fields.{byte_of, hex_digit_of, is_header, most_rows, pair_value}
+use Rattle.capture9.specs.Fields.{byte_in, hex_digit_of, is_header, most_rows, pair_value}
 use Rattle.capture9.specs.RowRules.{AreGood, AreLeft, IsFirstOf, RowBreaks, Spell, last_time, row_kinds}
 use Rattle.capture9.specs.Rows.{Rows, bad_row, headed_rows, row_of, rows_from}
 use Rattle.capture9.specs.SomeText.{CanBeRows, CanFollow, IsNextRow}
@@ -29,7 +29,7 @@ pair-lt None low b h l e = cc
 pair-lt (Some x) None b h l e = cc
 pair-lt (Some x) (Some y) b h l e = let value : x * 16 + y ≡ b = cc in let p = h x refl in let q = l y refl in omega arith
 
-byte-lt : (field : List ℕ) (b : ℕ) → byte_of field ≡ Some b → b < 256
+byte-lt : (field : List ℕ) (b : ℕ) → byte_in field ≡ Some b → b < 256
 byte-lt [] b e = cc
 byte-lt (x ∷ []) b e = cc
 byte-lt (x ∷ y ∷ []) b e = pair-lt (hex_digit_of x) (hex_digit_of y) b (hex-lt x) (hex-lt y) e

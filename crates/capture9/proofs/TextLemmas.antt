@@ -16,7 +16,7 @@ use Rattle.capture9.specs.declared.error.CaptureKind.TheVariants as kind
 use Rattle.capture9.specs.declared.line_byte.LineByte.{LineByte}
 use Rattle.capture9.specs.declared.line_byte.Wire.{Wire}
 use Rattle.capture9.specs.declared.line_byte.Wire.TheVariants.{Controller, Deck}
-use Rattle.capture9.specs.Fields.{byte_of, decimal_value, hex_digit_of, most_rows, time_of, wire_of}
+use Rattle.capture9.specs.Fields.{byte_in, decimal_value, hex_digit_of, most_rows, time_in, wire_in}
 use Rattle.capture9.specs.RowRules.{last_time}
 use Rattle.capture9.specs.Rows.{Rows, bad_row, no_rows, row_of, rows_from, rows_of}
 use Rattle.capture9.specs.SomeText.{CanBeRows, CanFollow, IsNextRow, IsOfSomeText}
@@ -59,7 +59,7 @@ digits-value (suc n) time h =
     let digit : digit_value (48 + time / 10 ^ n) ≡ time / 10 ^ n = digit_value-digit (48 + time / 10 ^ n) (is-digit (time / 10 ^ n) low) ∙ (let d : 48 + time / 10 ^ n - 48 ≡ time / 10 ^ n = omega arith in d) in
     rw (digit, digits-len n (time % 10 ^ n), digits-value n (time % 10 ^ n) (mod-lt time (pow-positive n))) (div-add-mod' time (10 ^ n))
 
-time-read : (time : ℕ) → time < 10 ^ 15 → time_of (digits 15 time) ≡ Some time
+time-read : (time : ℕ) → time < 10 ^ 15 → time_in (digits 15 time) ≡ Some time
 time-read time h = rw (digits-len 15 time, digits-all 15 time h, digits-value 15 time h) refl
 
 -- ---- two hexadecimal digits
@@ -78,7 +78,7 @@ hex-read d h = by (nat_lt d 10) refl
     by true q = value (48 + d) (grind (arith, nat_tests))
     by false q = value (55 + d) (grind (arith, nat_tests))
 
-byte-read : (b : ℕ) → b < 256 → byte_of (hex (b / 16) ∷ hex (b % 16) ∷ []) ≡ Some b
+byte-read : (b : ℕ) → b < 256 → byte_in (hex (b / 16) ∷ hex (b % 16) ∷ []) ≡ Some b
 byte-read b h =
     let sixteen : 0 < 16 = lit< tt in
     let high : b / 16 < 16 = (div-lt_iff_lt-mul sixteen).1 (omega arith) in
@@ -90,7 +90,7 @@ letter : Wire → List ℕ
 letter Controller = codes "C"
 letter Deck = codes "D"
 
-letter-read : (w : Wire) → wire_of (letter w) ≡ Some w
+letter-read : (w : Wire) → wire_in (letter w) ≡ Some w
 unfolding letter
 letter-read Controller = refl
 letter-read Deck = refl

@@ -21,13 +21,13 @@ decimal_value [] = 0
 decimal_value (digit ∷ rest) = digit_value digit * 10 ^ length rest + decimal_value rest
 
 -- the time that a field tells in microseconds: 1 to 15 decimal digits
-abbrev pub time_of : List ℕ → Option ℕ
-time_of field =
+abbrev pub time_in : List ℕ → Option ℕ
+time_in field =
     if nat_le 1 (length field) && nat_le (length field) 15 && all_ascii_digits field then Some (decimal_value field) else None
 
 -- the wire that a field names: the one letter C or D
-abbrev pub wire_of : List ℕ → Option Wire
-wire_of field =
+abbrev pub wire_in : List ℕ → Option Wire
+wire_in field =
     if bytes_eq field (codes "C") then Some Controller else if bytes_eq field (codes "D") then Some Deck else None
 
 -- the value of a hexadecimal digit, of either case
@@ -40,6 +40,6 @@ pair_value (Some high) (Some low) = Some (high * 16 + low)
 pair_value _ _ = None
 
 -- the byte that a field tells: two hexadecimal digits
-abbrev pub byte_of : List ℕ → Option ℕ
-byte_of (high ∷ low ∷ []) = pair_value (hex_digit_of high) (hex_digit_of low)
-byte_of _ = None
+abbrev pub byte_in : List ℕ → Option ℕ
+byte_in (high ∷ low ∷ []) = pair_value (hex_digit_of high) (hex_digit_of low)
+byte_in _ = None

@@ -4,7 +4,7 @@ use Rattle.capture9.specs.declared.error.CaptureError.{CaptureError}
 use Rattle.capture9.specs.declared.error.CaptureKind.{CaptureKind}
 use Rattle.capture9.specs.declared.error.CaptureKind.TheVariants as kind
 use Rattle.capture9.specs.declared.line_byte.LineByte.{LineByte}
-use Rattle.capture9.specs.Fields.{byte_of, most_rows, time_of, wire_of}
+use Rattle.capture9.specs.Fields.{byte_in, most_rows, time_in, wire_in}
 use Rattle.capture9.specs.Rows.{Rows}
 
 -- the fields are a time, a wire and a byte of which this holds
@@ -17,11 +17,11 @@ AreThree P fields = ⊥
 abbrev pub RowBreaks : CaptureKind → ℕ → ℕ → List (List ℕ) → Type 0
 RowBreaks kind.TooMany number before fields = most_rows < number
 RowBreaks kind.Fields number before fields = length fields ≢ 3
-RowBreaks kind.Time number before fields = AreThree (λ time wire byte. time_of time ≡ None) fields
-RowBreaks kind.Wire number before fields = AreThree (λ time wire byte. wire_of wire ≡ None) fields
-RowBreaks kind.Byte number before fields = AreThree (λ time wire byte. byte_of byte ≡ None) fields
+RowBreaks kind.Time number before fields = AreThree (λ time wire byte. time_in time ≡ None) fields
+RowBreaks kind.Wire number before fields = AreThree (λ time wire byte. wire_in wire ≡ None) fields
+RowBreaks kind.Byte number before fields = AreThree (λ time wire byte. byte_in byte ≡ None) fields
 RowBreaks kind.Backwards number before fields =
-    AreThree (λ time wire byte. (told : ℕ) × (time_of time ≡ Some told) × (told < before)) fields
+    AreThree (λ time wire byte. (told : ℕ) × (time_in time ≡ Some told) × (told < before)) fields
 RowBreaks kind.Header number before fields = ⊥
 RowBreaks kind.Read number before fields = ⊥
 RowBreaks kind.OutOfMemory number before fields = ⊥
@@ -41,7 +41,7 @@ pub record IsFirstOf (P : CaptureKind → Type 0) (kinds : List CaptureKind) (k 
 -- the fields spell this record
 abbrev pub Spell : List (List ℕ) → LineByte → Type 0
 Spell fields r =
-    AreThree (λ time wire byte. (time_of time ≡ Some r.time_us) × (wire_of wire ≡ Some r.wire) × (byte_of byte ≡ Some r.byte)) fields
+    AreThree (λ time wire byte. (time_in time ≡ Some r.time_us) × (wire_in wire ≡ Some r.wire) × (byte_in byte ≡ Some r.byte)) fields
 
 -- the time of the last of these records, and this one where there is none
 abbrev pub last_time : ℕ → List LineByte → ℕ

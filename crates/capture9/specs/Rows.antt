@@ -6,7 +6,7 @@ use Rattle.capture9.specs.declared.error.CaptureKind.{CaptureKind}
 use Rattle.capture9.specs.declared.error.CaptureKind.TheVariants as kind
 use Rattle.capture9.specs.declared.line_byte.LineByte.{LineByte}
 use Rattle.capture9.specs.declared.line_byte.Wire.{Wire}
-use Rattle.capture9.specs.Fields.{is_header, most_rows, time_of, wire_of, byte_of}
+use Rattle.capture9.specs.Fields.{is_header, most_rows, time_in, wire_in, byte_in}
 
 -- what a text holds: the records of its good rows, and the fault of the first bad one
 pub record Rows : Type 0 where
@@ -39,7 +39,7 @@ record_of before (Some time) (Some w) (Some b) =
 
 -- the record of these fields, of which there must be three
 abbrev pub fields_record : ℕ → List (List ℕ) → Result LineByte CaptureKind
-fields_record before (time ∷ wire ∷ byte ∷ []) = record_of before (time_of time) (wire_of wire) (byte_of byte)
+fields_record before (time ∷ wire ∷ byte ∷ []) = record_of before (time_in time) (wire_in wire) (byte_in byte)
 fields_record before _ = Err kind.Fields
 
 -- the record of the row with this number and these fields, after a row of this time (0 at first), or the

@@ -2,7 +2,7 @@
 
 ghost use Rattle.std.specs.Prelude.{◌≡◌, ◌≢◌, ◌∷◌, [], length, MatchOption};
 ghost use Rattle.csv.specs.Records.{fields_of};
-ghost use Rattle.capture9.specs.Fields.{byte_of, hex_digit_of, is_header, time_of, wire_of};
+ghost use Rattle.capture9.specs.Fields.{byte_in, hex_digit_of, is_header, time_in, wire_in};
 ghost use Rattle.capture9.specs.Rows.{row_of};
 
 use crate::error::CaptureKind;
@@ -77,7 +77,7 @@ pub(crate) fn read_row(number: u32, before: u64, row: &ByteRecord) -> Result<Lin
 
 /// The time that a field tells, in microseconds: 1 to 15 decimal digits.
 fn read_time(field: &[u8]) -> Option<u64>
-    ensures { result ≡ time_of field.now }
+    ensures { result ≡ time_in field.now }
 {
     if field.is_empty() || field.len() > MAX_TIME_DIGITS {
         return None;
@@ -94,7 +94,7 @@ fn read_time(field: &[u8]) -> Option<u64>
 
 /// The wire that a field names: `C` or `D`.
 fn read_wire(field: &[u8]) -> Option<Wire>
-    ensures { result ≡ wire_of field.now }
+    ensures { result ≡ wire_in field.now }
 {
     match field {
         b"C" => Some(Wire::Controller),
@@ -105,7 +105,7 @@ fn read_wire(field: &[u8]) -> Option<Wire>
 
 /// The byte that a field tells: two hexadecimal digits, of either case.
 fn read_byte(field: &[u8]) -> Option<u8>
-    ensures { result ≡ byte_of field.now }
+    ensures { result ≡ byte_in field.now }
 {
     match field {
         [high, low] => Some(hex_digit(*high)? * 16 + hex_digit(*low)?),

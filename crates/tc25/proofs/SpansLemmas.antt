@@ -7,7 +7,7 @@ use Rattle.std.specs.List.{insert, remove}
 use Rattle.std.specs.Result.{OnErr}
 use Rattle.std.specs.List.Sorted.{IsNonDecreasingBy}
 use Rattle.tc25.specs.Day.{day, next_frame, prev_frame}
-use Rattle.tc25.specs.Working.Moves.{moved_from, edge_of, entry_of}
+use Rattle.tc25.specs.Working.Moves.{moved_from, edge_of, far_edge_of}
 use Rattle.tc25.specs.Working.SpanMoves.{point, shifted_span, widened_span}
 use Rattle.tc25.specs.Spans.{in_span, is_covered, IsSpan, IsCanonical}
 use Rattle.tc25.specs.Working.SpanLists.{IsPlace, glue, joined, with_frame, without_last, without_first, without_edge}
@@ -387,7 +387,7 @@ canonical_shift Prev (s ∷ xs) c =
           (omega arith, (omega arith, omega arith), canonical_from _ (s.last + 2 - 1) _ (omega arith) (canonical_shift_prev (s.last + 2) xs (omega arith) c.2)))
     ]
 
-pub covered_shift : (d : Direction) (f : ℕ) (xs : List Span) → f < day → IsCanonical 0 xs → is_covered f (map (shifted_span d) (without_edge d xs)) ≡ (not (eqb f (entry_of d)) && is_covered (moved_from d f) xs)
+pub covered_shift : (d : Direction) (f : ℕ) (xs : List Span) → f < day → IsCanonical 0 xs → is_covered f (map (shifted_span d) (without_edge d xs)) ≡ (not (eqb f (far_edge_of d)) && is_covered (moved_from d f) xs)
 covered_shift Next f xs h c = covered_shift_next f 0 xs h c
 covered_shift Prev f [] h c = covered_shift_prev f 1 [] h (omega arith) tt
 covered_shift Prev f (s ∷ xs) h c =
@@ -426,7 +426,7 @@ canonical_widened d low [] c = tt
 canonical_widened d low (s ∷ xs) c =
     canonical_glue (start d low) (widened_span d s) _ (widened_from d low s c.0) (widened_span_is d s c.1) (canonical_from _ _ _ (widened_gap d s) (canonical_widened d (s.last + 2) xs c.2))
 
-in_widened : (d : Direction) (f : ℕ) (s : Span) → f < day → IsSpan s → in_span f (widened_span d s) ≡ (in_span f s || (not (eqb f (entry_of d)) && in_span (moved_from d f) s))
+in_widened : (d : Direction) (f : ℕ) (s : Span) → f < day → IsSpan s → in_span f (widened_span d s) ≡ (in_span f s || (not (eqb f (far_edge_of d)) && in_span (moved_from d f) s))
 in_widened Next f s h span = let a = span.0 in let b = span.1 in grind (arith, nat_tests)
 in_widened Prev f s h span = let a = span.0 in let b = span.1 in grind (arith, nat_tests)
 
@@ -439,8 +439,8 @@ widen_or false false m n true = refl
 widen_or false false m n false = refl
 
 covered_widened : (d : Direction) (f low : ℕ) (xs : List Span) → f < day → IsCanonical low xs
-    → is_covered f (joined (map (widened_span d) xs)) ≡ (is_covered f xs || (not (eqb f (entry_of d)) && is_covered (moved_from d f) xs))
-covered_widened d f low [] h c = sym (and_false (not (eqb f (entry_of d))))
+    → is_covered f (joined (map (widened_span d) xs)) ≡ (is_covered f xs || (not (eqb f (far_edge_of d)) && is_covered (moved_from d f) xs))
+covered_widened d f low [] h c = sym (and_false (not (eqb f (far_edge_of d))))
   where
     and_false : (b : Bool) → (b && false) ≡ false
     and_false true = refl
@@ -448,14 +448,14 @@ covered_widened d f low [] h c = sym (and_false (not (eqb f (entry_of d))))
 covered_widened d f low (s ∷ xs) h c =
     covered_glue f (widened_span d s) _ (widened_span_is d s c.1) (canonical_from _ _ _ (widened_gap d s) (canonical_widened d (s.last + 2) xs c.2))
     ∙ ap (λ b. b || is_covered f (joined (map (widened_span d) xs))) (in_widened d f s h c.1)
-    ∙ ap (λ b. (in_span f s || (not (eqb f (entry_of d)) && in_span (moved_from d f) s)) || b) (covered_widened d f (s.last + 2) xs h c.2)
-    ∙ widen_or (in_span f s) (is_covered f xs) (in_span (moved_from d f) s) (is_covered (moved_from d f) xs) (not (eqb f (entry_of d)))
+    ∙ ap (λ b. (in_span f s || (not (eqb f (far_edge_of d)) && in_span (moved_from d f) s)) || b) (covered_widened d f (s.last + 2) xs h c.2)
+    ∙ widen_or (in_span f s) (is_covered f xs) (in_span (moved_from d f) s) (is_covered (moved_from d f) xs) (not (eqb f (far_edge_of d)))
 
 pub canonical_widen : (d : Direction) (xs : List Span) → IsCanonical 0 xs → IsCanonical 0 (joined (map (widened_span d) xs))
 canonical_widen d xs c = canonical_from 0 (start d 0) _ (omega arith) (canonical_widened d 0 xs c)
 
 pub covered_widen : (d : Direction) (f : ℕ) (xs : List Span) → f < day → IsCanonical 0 xs
-    → is_covered f (joined (map (widened_span d) xs)) ≡ (is_covered f xs || (not (eqb f (entry_of d)) && is_covered (moved_from d f) xs))
+    → is_covered f (joined (map (widened_span d) xs)) ≡ (is_covered f xs || (not (eqb f (far_edge_of d)) && is_covered (moved_from d f) xs))
 covered_widen d f xs h c = covered_widened d f 0 xs h c
 
 -- ---- the span that would leave the day
@@ -496,72 +496,72 @@ without_first-kept (x ∷ xs) d some after = rw (ne_eqb x.last 0 after) refl
 
 -- ---- round the day
 
-moved_from-entry : (d : Direction) → moved_from d (entry_of d) ≡ edge_of d
-moved_from-entry Next = refl
-moved_from-entry Prev = refl
+moved_from-far_edge : (d : Direction) → moved_from d (far_edge_of d) ≡ edge_of d
+moved_from-far_edge Next = refl
+moved_from-far_edge Prev = refl
 
 -- where no frame leaves the day
-pub shift_stays : (d : Direction) (p : ℕ → Bool) (f : ℕ) → p (edge_of d) ≡ false → (not (eqb f (entry_of d)) && p (moved_from d f)) ≡ p (moved_from d f)
+pub shift_stays : (d : Direction) (p : ℕ → Bool) (f : ℕ) → p (edge_of d) ≡ false → (not (eqb f (far_edge_of d)) && p (moved_from d f)) ≡ p (moved_from d f)
 shift_stays d p f none =
-    elim (cases_eq f (entry_of d)) [
-      | inl same ↦ rw (eq-eqb f (entry_of d) same) (sym (ap (λ x. p (moved_from d x)) same ∙ ap p (moved_from-entry d) ∙ none))
-      | inr other ↦ rw (ne_eqb f (entry_of d) other) refl
+    elim (cases_eq f (far_edge_of d)) [
+      | inl same ↦ rw (eq-eqb f (far_edge_of d) same) (sym (ap (λ x. p (moved_from d x)) same ∙ ap p (moved_from-far_edge d) ∙ none))
+      | inr other ↦ rw (ne_eqb f (far_edge_of d) other) refl
     ]
 
 -- where one leaves the day and comes in again
-pub shift_wraps : (d : Direction) (p : ℕ → Bool) (f : ℕ) → p (edge_of d) ≡ true → (eqb f (entry_of d) || (not (eqb f (entry_of d)) && p (moved_from d f))) ≡ p (moved_from d f)
+pub shift_wraps : (d : Direction) (p : ℕ → Bool) (f : ℕ) → p (edge_of d) ≡ true → (eqb f (far_edge_of d) || (not (eqb f (far_edge_of d)) && p (moved_from d f))) ≡ p (moved_from d f)
 shift_wraps d p f some =
-    elim (cases_eq f (entry_of d)) [
-      | inl same ↦ rw (eq-eqb f (entry_of d) same) (sym (ap (λ x. p (moved_from d x)) same ∙ ap p (moved_from-entry d) ∙ some))
-      | inr other ↦ rw (ne_eqb f (entry_of d) other) refl
+    elim (cases_eq f (far_edge_of d)) [
+      | inl same ↦ rw (eq-eqb f (far_edge_of d) same) (sym (ap (λ x. p (moved_from d x)) same ∙ ap p (moved_from-far_edge d) ∙ some))
+      | inr other ↦ rw (ne_eqb f (far_edge_of d) other) refl
     ]
 
-pub widen_stays : (d : Direction) (p : ℕ → Bool) (f : ℕ) → (p (edge_of d) ≡ false) ⊎ (p (entry_of d) ≡ true)
-    → (p f || (not (eqb f (entry_of d)) && p (moved_from d f))) ≡ (p f || p (moved_from d f))
+pub widen_stays : (d : Direction) (p : ℕ → Bool) (f : ℕ) → (p (edge_of d) ≡ false) ⊎ (p (far_edge_of d) ≡ true)
+    → (p f || (not (eqb f (far_edge_of d)) && p (moved_from d f))) ≡ (p f || p (moved_from d f))
 widen_stays d p f (inl none) = ap (λ b. p f || b) (shift_stays d p f none)
 widen_stays d p f (inr there) =
-    elim (cases_eq f (entry_of d)) [
+    elim (cases_eq f (far_edge_of d)) [
       | inl same ↦ rw (ap p same, there) refl
-      | inr other ↦ rw (ne_eqb f (entry_of d) other) refl
+      | inr other ↦ rw (ne_eqb f (far_edge_of d) other) refl
     ]
 
 pub widen_wraps : (d : Direction) (p : ℕ → Bool) (f : ℕ) → p (edge_of d) ≡ true
-    → (eqb f (entry_of d) || (p f || (not (eqb f (entry_of d)) && p (moved_from d f)))) ≡ (p f || p (moved_from d f))
-widen_wraps d p f some = or_swap (eqb f (entry_of d)) (p f) _ ∙ ap (λ b. p f || b) (shift_wraps d p f some)
+    → (eqb f (far_edge_of d) || (p f || (not (eqb f (far_edge_of d)) && p (moved_from d f)))) ≡ (p f || p (moved_from d f))
+widen_wraps d p f some = or_swap (eqb f (far_edge_of d)) (p f) _ ∙ ap (λ b. p f || b) (shift_wraps d p f some)
   where
     or_swap : (x y z : Bool) → (x || (y || z)) ≡ (y || (x || z))
     or_swap true true z = refl
     or_swap true false z = refl
     or_swap false y z = refl
 
-pub entry_in_day : (d : Direction) → entry_of d < day
-entry_in_day Next = omega arith
-entry_in_day Prev = omega arith
+pub far_edge_in_day : (d : Direction) → far_edge_of d < day
+far_edge_in_day Next = omega arith
+far_edge_in_day Prev = omega arith
 
 -- where the frame at which a shift comes in was covered, its neighbour is covered afterwards
-pub neighbour_covered : (d : Direction) (xs : List Span) → IsCanonical 0 xs → is_covered (entry_of d) xs ≡ true
-    → ((f : ℕ) → entry_of d ≤ f + 1 → f ≤ entry_of d + 1 → is_covered f (map (shifted_span d) (without_edge d xs)) ≡ false) → ⊥
+pub neighbour_covered : (d : Direction) (xs : List Span) → IsCanonical 0 xs → is_covered (far_edge_of d) xs ≡ true
+    → ((f : ℕ) → far_edge_of d ≤ f + 1 → f ≤ far_edge_of d + 1 → is_covered f (map (shifted_span d) (without_edge d xs)) ≡ false) → ⊥
 neighbour_covered Next xs c there none =
     false≢true (sym (none 1 (omega arith) (omega arith)) ∙ covered_shift Next 1 xs (omega arith) c ∙ there)
 neighbour_covered Prev xs c there none =
     false≢true (sym (none 2159998 (omega arith) (omega arith)) ∙ covered_shift Prev 2159998 xs (omega arith) c ∙ there)
 
 -- what a shift leaves where a frame left the day and was added where it comes in
-pub shifted_all : (d : Direction) (xs ys zs : List Span) (e : ℕ) → IsCanonical 0 xs → ys ≡ map (shifted_span d) (without_edge d xs) → e ≡ entry_of d → zs ≡ with_frame e ys
+pub shifted_all : (d : Direction) (xs ys zs : List Span) (e : ℕ) → IsCanonical 0 xs → ys ≡ map (shifted_span d) (without_edge d xs) → e ≡ far_edge_of d → zs ≡ with_frame e ys
     → is_covered (edge_of d) xs ≡ true → (f : ℕ) → f < day → is_covered f zs ≡ is_covered (moved_from d f) xs
 shifted_all d xs ys zs e c ys_are e_is zs_are some f h =
     rw (zs_are, ys_are, e_is) (
-    covered_with f 0 (entry_of d) _ (canonical_shift d xs c) (entry_in_day d)
-    ∙ ap (λ b. eqb f (entry_of d) || b) (covered_shift d f xs h c)
+    covered_with f 0 (far_edge_of d) _ (canonical_shift d xs c) (far_edge_in_day d)
+    ∙ ap (λ b. eqb f (far_edge_of d) || b) (covered_shift d f xs h c)
     ∙ shift_wraps d (λ x. is_covered x xs) f some)
 
 -- the same of a widening
-pub widened_all : (d : Direction) (xs ys zs : List Span) (e : ℕ) → IsCanonical 0 xs → ys ≡ joined (map (widened_span d) xs) → e ≡ entry_of d → zs ≡ with_frame e ys
+pub widened_all : (d : Direction) (xs ys zs : List Span) (e : ℕ) → IsCanonical 0 xs → ys ≡ joined (map (widened_span d) xs) → e ≡ far_edge_of d → zs ≡ with_frame e ys
     → is_covered (edge_of d) xs ≡ true → (f : ℕ) → f < day → is_covered f zs ≡ (is_covered f xs || is_covered (moved_from d f) xs)
 widened_all d xs ys zs e c ys_are e_is zs_are some f h =
     rw (zs_are, ys_are, e_is) (
-    covered_with f 0 (entry_of d) _ (canonical_widen d xs c) (entry_in_day d)
-    ∙ ap (λ b. eqb f (entry_of d) || b) (covered_widen d f xs h c)
+    covered_with f 0 (far_edge_of d) _ (canonical_widen d xs c) (far_edge_in_day d)
+    ∙ ap (λ b. eqb f (far_edge_of d) || b) (covered_widen d f xs h c)
     ∙ widen_wraps d (λ x. is_covered x xs) f some)
 
 -- an error that cannot be

@@ -2,7 +2,7 @@
 
 ghost use Rattle.std.specs.Prelude.{◌≡◌, ◌<◌};
 ghost use Rattle.tc25.specs.Day.{day};
-ghost use Rattle.tc25.specs.Working.Moves.{moved, edge_of, entry_of};
+ghost use Rattle.tc25.specs.Working.Moves.{moved, edge_of, far_edge_of};
 
 use crate::time_code::{LAST_FRAME, TimeCode};
 
@@ -39,9 +39,9 @@ impl Direction {
         }
     }
 
-    /// The frame of the day at which the direction comes in again.
-    pub(crate) fn entry(self) -> u32
-        ensures { result ≡ entry_of self }
+    /// The frame of the day at which it comes in again.
+    pub(crate) fn far_edge(self) -> u32
+        ensures { result ≡ far_edge_of self }
     {
         match self {
             Direction::Next => 0,

@@ -95,12 +95,12 @@ pub(crate) fn shift(spans: &mut Vec<Span>, direction: Direction) -> Result<(), A
         shift_within(spans, direction);
         return Ok(());
     }
-    let entry = direction.entry();
-    if !contains(spans, entry) {
+    let far_edge = direction.far_edge();
+    if !contains(spans, far_edge) {
         spans.reserve(1)?;
     }
     shift_within(spans, direction);
-    add(spans, entry)
+    add(spans, far_edge)
 }
 
 /// Adds the neighbour of each frame, round the day.
@@ -110,13 +110,13 @@ pub(crate) fn widen(spans: &mut Vec<Span>, direction: Direction) -> Result<(), A
     ensures ok { OnOk result ((f : ℕ) → f < day → is_covered f spans.new.items ≡ (is_covered f spans.old.items || is_covered (moved_from direction f) spans.old.items)) }
     ensures err { OnErr result (spans.new.items ≡ spans.old.items) }
 {
-    if !contains(spans, direction.edge()) || contains(spans, direction.entry()) {
+    if !contains(spans, direction.edge()) || contains(spans, direction.far_edge()) {
         widen_within(spans, direction);
         return Ok(());
     }
     spans.reserve(1)?;
     widen_within(spans, direction);
-    add(spans, direction.entry())
+    add(spans, direction.far_edge())
 }
 
 /// Moves each frame by one. A frame that would leave the day is let go.

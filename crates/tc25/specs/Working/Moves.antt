@@ -20,6 +20,6 @@ edge_of Next = last_frame
 edge_of Prev = 0
 
 -- the frame where it comes in again
-abbrev pub entry_of : Direction → ℕ
-entry_of Next = 0
-entry_of Prev = last_frame
+abbrev pub far_edge_of : Direction → ℕ
+far_edge_of Next = 0
+far_edge_of Prev = last_frame

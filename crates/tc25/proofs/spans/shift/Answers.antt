@@ -43,7 +43,7 @@ returns-clause-ok c =
     ]
     in
     let ys_are = c.shift_within-2.ensures.shifted ∙ ap (λ x. map (shifted_span d) (without_edge d x)) same in
-    on_ok_weaker c.add.result (λ told. shifted_all d xs _ _ _ c.requires ys_are c.entry-entry.ensures told some) c.add.ensures.ok
+    on_ok_weaker c.add.result (λ told. shifted_all d xs _ _ _ c.requires ys_are c.far_edge-far_edge.ensures told some) c.add.ensures.ok
 
 pub returns-clause-err : goal.returns-clause-err
 returns-clause-err c =
@@ -57,7 +57,7 @@ returns-clause-err c =
           let same = w.in_ok-reserve.ensures.len in
           no_err _ _ c.add.result c.add.ensures.full (λ full. omega arith)
       | else-not-contains-2 w ↦
-          let there = sym (rw (c.entry-entry.ensures, c.deref-2.ensures.value) at c.contains-2.ensures) ∙ w.if-not-contains-2.false in
+          let there = sym (rw (c.far_edge-far_edge.ensures, c.deref-2.ensures.value) at c.contains-2.ensures) ∙ w.if-not-contains-2.false in
           let ys_are = c.shift_within-2.ensures.shifted ∙ rw w.spans-is refl in
-          no_err _ _ c.add.result c.add.ensures.apart (λ none. neighbour_covered d xs c.requires there (rw (c.entry-entry.ensures, ys_are) at none))
+          no_err _ _ c.add.result c.add.ensures.apart (λ none. neighbour_covered d xs c.requires there (rw (c.far_edge-far_edge.ensures, ys_are) at none))
     ]
