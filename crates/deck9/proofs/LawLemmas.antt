@@ -1,8 +1,9 @@
 -- What the definitions of drifts, steps and runs come to.
-use Rattle.std.proofs.Common.{◌≡◌, ◌↔◌, ◌⊎◌, inl, inr, Bool, true, false, List, [], ◌∷◌, ◌++◌, refl, sym, ap, ◌∙◌, subst}
+use Rattle.std.proofs.Common.{◌≡◌, ◌↔◌, inl, inr, ◌==◌, if◌then◌else◌, Bool, true, false, List, [], ◌∷◌, ◌++◌, refl, sym, ap, ◌∙◌, subst}
 use Rattle.std.proofs.lemmas.Bool.{false≢true}
 use Rattle.block9.specs.declared.block.Block.{Block}
 use Rattle.block9.specs.declared.command.Command.{Command}
+use Rattle.block9.specs.declared.command.Command.TheVariants as command
 use Rattle.block9.specs.declared.pairer.Exchange.{Exchange}
 use Rattle.block9.specs.Command.{is_nak}
 use Rattle.deck9.specs.declared.effect.Effect.{Effect}
@@ -16,10 +17,11 @@ use Rattle.deck9.specs.declared.state.Register.{Register}
 use Rattle.deck9.specs.declared.state.Register.TheVariants.{RegIn, RegOut, RegAudioIn, RegAudioOut}
 use Rattle.deck9.specs.declared.state.State.{State}
 use Rattle.deck9.specs.Drift.{Drift, Moves}
-use Rattle.deck9.specs.Effect.{Becomes, Does, effect_of}
+use Rattle.deck9.specs.Effect.{Becomes, Does, effect_of, is_of_goal_or_register}
+use Rattle.deck9.specs.Local.{may_ignore}
 use Rattle.deck9.specs.Run.{HasRun, IsRunFrom}
 use Rattle.deck9.specs.Shows.{Agrees, Tells, sense_of}
-use Rattle.deck9.specs.State.{IsEntry, IsState, entry_of, with_entry}
+use Rattle.deck9.specs.State.{IsEntry, IsState, with_entry}
 use Rattle.deck9.specs.Step.{Exchanges, Step, done, ignored, refused}
 use Rattle.deck9.proofs.DriftLemmas.{drift_from_pairs, pairs_from_drift}
 use Rattle.deck9.proofs.RunSearch.{none_allowed, read_panel}
@@ -105,3 +107,16 @@ pub run_with_hands : (es : List Exchange) → HasRun hands.None es → HasRun ha
 run_with_hands es r =
     let w = run_beside es false r.first r.after r.is_run in
     record { first = with_panel false r.first; is_first = valid_beside false r.first r.is_first.0; after = w.0; is_run = w.1 }
+
+-- ---- local
+
+-- whatever its group, what is not listed makes the deck forget, and is not left undone
+forgets_all : (tape registers nothing : Bool) → is_of_goal_or_register (if tape then effect.ForgetTape else (if registers then effect.ForgetRegisters else (if nothing then effect.Nothing else effect.ForgetAll))) ≡ false
+forgets_all true registers nothing = refl
+forgets_all false true nothing = refl
+forgets_all false false true = refl
+forgets_all false false false = refl
+
+pub ignored_by_effect : (c : Command) → may_ignore c ≡ is_of_goal_or_register (effect_of c)
+ignored_by_effect (command.Unlisted group) = sym (forgets_all (group == 2) (group == 4) (group == 6))
+ignored_by_effect _ = refl

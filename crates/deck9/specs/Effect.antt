@@ -23,7 +23,7 @@ forgotten group =
     else (if group == 4 then effect.ForgetRegisters
     else (if group == 6 then effect.Nothing else effect.ForgetAll))
 
--- the effect of each command; a command that is not named here has none
+-- the effect of each command
 abbrev pub effect_of : Command → Effect
 effect_of command.Stop = effect.Go mode.Stop
 effect_of command.Play = effect.Go mode.Play
@@ -68,8 +68,19 @@ effect_of command.AudioInRecall = effect.Change RegAudioIn Recall
 effect_of command.AudioOutRecall = effect.Change RegAudioOut Recall
 effect_of command.LocalEnable = effect.Panel true
 effect_of command.LocalDisable = effect.Panel false
+effect_of command.DeviceType = effect.Nothing
+effect_of command.EditPreset = effect.Nothing
+effect_of command.PrerollPreset = effect.Nothing
+effect_of command.TimerModeSelect = effect.Nothing
+effect_of command.AutoModeOff = effect.Nothing
+effect_of command.AutoModeOn = effect.Nothing
+effect_of (command.CurrentTimeSense selector) = effect.Nothing
+effect_of command.InDataSense = effect.Nothing
+effect_of command.OutDataSense = effect.Nothing
+effect_of command.AudioInDataSense = effect.Nothing
+effect_of command.AudioOutDataSense = effect.Nothing
+effect_of (command.StatusSense asked) = effect.Nothing
 effect_of (command.Unlisted group) = forgotten group
-effect_of _ = effect.Nothing
 
 -- ---- what an effect may do
 
@@ -100,9 +111,13 @@ Does h effect.ForgetRegisters s t = IsState t × (t.goal ≡ s.goal) × (t.shown
 Does hands.None effect.ForgetAll s t = IsState t × (t.panel ≡ s.panel)
 Does hands.Allowed effect.ForgetAll s t = IsState t
 
--- a listed transport or preset command: a deck in local may also leave it undone
-abbrev pub may_ignore : Effect → Bool
-may_ignore (effect.Go g) = true
-may_ignore effect.KeepOrStop = true
-may_ignore (effect.Change r c) = true
-may_ignore _ = false
+-- the goal changes, or a register does: what a listed transport or preset command does, if it does anything
+abbrev pub is_of_goal_or_register : Effect → Bool
+is_of_goal_or_register effect.Nothing = false
+is_of_goal_or_register (effect.Go g) = true
+is_of_goal_or_register effect.KeepOrStop = true
+is_of_goal_or_register (effect.Change r c) = true
+is_of_goal_or_register (effect.Panel on) = false
+is_of_goal_or_register effect.ForgetTape = false
+is_of_goal_or_register effect.ForgetRegisters = false
+is_of_goal_or_register effect.ForgetAll = false

@@ -21,7 +21,14 @@ name_of Eject = codes "EJECT"
 abbrev pub on_the_way : Mode → List Mode
 on_the_way Rec = Stop ∷ Play ∷ []
 on_the_way Cued = Stop ∷ Play ∷ FastForward ∷ Rewind ∷ Shuttle ∷ Jog ∷ Var ∷ []
-on_the_way _ = Stop ∷ []
+on_the_way Stop = Stop ∷ []
+on_the_way Play = Stop ∷ []
+on_the_way FastForward = Stop ∷ []
+on_the_way Rewind = Stop ∷ []
+on_the_way Shuttle = Stop ∷ []
+on_the_way Jog = Stop ∷ []
+on_the_way Var = Stop ∷ []
+on_the_way Eject = Stop ∷ []
 
 -- the place of a mode in their order
 abbrev pub index_of : Mode → ℕ

@@ -14,14 +14,64 @@ use Rattle.deck9.specs.declared.state.Register.TheVariants.{RegIn, RegOut, RegAu
 use Rattle.deck9.specs.declared.state.State.{State}
 use Rattle.deck9.specs.State.{entry_of, is_set}
 
--- what each command asks for of the state; a command that is not named here asks for nothing of it
+-- what each command asks for of the state
 abbrev pub sense_of : Command → Sense
 sense_of command.InDataSense = sense.Register RegIn
 sense_of command.OutDataSense = sense.Register RegOut
 sense_of command.AudioInDataSense = sense.Register RegAudioIn
 sense_of command.AudioOutDataSense = sense.Register RegAudioOut
 sense_of (command.StatusSense asked) = sense.Status asked
-sense_of _ = sense.Nothing
+sense_of command.LocalDisable = sense.Nothing
+sense_of command.DeviceType = sense.Nothing
+sense_of command.LocalEnable = sense.Nothing
+sense_of command.Stop = sense.Nothing
+sense_of command.Play = sense.Nothing
+sense_of command.Record = sense.Nothing
+sense_of command.StandbyOff = sense.Nothing
+sense_of command.StandbyOn = sense.Nothing
+sense_of command.Eject = sense.Nothing
+sense_of command.FastForward = sense.Nothing
+sense_of command.JogForward = sense.Nothing
+sense_of command.VarForward = sense.Nothing
+sense_of command.ShuttleForward = sense.Nothing
+sense_of command.Rewind = sense.Nothing
+sense_of command.JogReverse = sense.Nothing
+sense_of command.VarReverse = sense.Nothing
+sense_of command.ShuttleReverse = sense.Nothing
+sense_of command.Preroll = sense.Nothing
+sense_of (command.CueUpWithData time) = sense.Nothing
+sense_of command.SyncPlay = sense.Nothing
+sense_of command.InEntry = sense.Nothing
+sense_of command.OutEntry = sense.Nothing
+sense_of command.AudioInEntry = sense.Nothing
+sense_of command.AudioOutEntry = sense.Nothing
+sense_of (command.InDataPreset time) = sense.Nothing
+sense_of (command.OutDataPreset time) = sense.Nothing
+sense_of (command.AudioInDataPreset time) = sense.Nothing
+sense_of (command.AudioOutDataPreset time) = sense.Nothing
+sense_of command.InShiftPlus = sense.Nothing
+sense_of command.InShiftMinus = sense.Nothing
+sense_of command.OutShiftPlus = sense.Nothing
+sense_of command.OutShiftMinus = sense.Nothing
+sense_of command.AudioInShiftPlus = sense.Nothing
+sense_of command.AudioInShiftMinus = sense.Nothing
+sense_of command.AudioOutShiftPlus = sense.Nothing
+sense_of command.AudioOutShiftMinus = sense.Nothing
+sense_of command.InFlagReset = sense.Nothing
+sense_of command.OutFlagReset = sense.Nothing
+sense_of command.AudioInFlagReset = sense.Nothing
+sense_of command.AudioOutFlagReset = sense.Nothing
+sense_of command.InRecall = sense.Nothing
+sense_of command.OutRecall = sense.Nothing
+sense_of command.AudioInRecall = sense.Nothing
+sense_of command.AudioOutRecall = sense.Nothing
+sense_of command.EditPreset = sense.Nothing
+sense_of command.PrerollPreset = sense.Nothing
+sense_of command.TimerModeSelect = sense.Nothing
+sense_of command.AutoModeOff = sense.Nothing
+sense_of command.AutoModeOn = sense.Nothing
+sense_of (command.CurrentTimeSense selector) = sense.Nothing
+sense_of (command.Unlisted group) = sense.Nothing
 
 -- ---- registers
 

@@ -6,7 +6,8 @@ use Rattle.block9.specs.Command.{is_nak}
 use Rattle.deck9.specs.declared.state.Hands.{Hands}
 use Rattle.deck9.specs.declared.state.State.{State}
 use Rattle.deck9.specs.Drift.{Drift}
-use Rattle.deck9.specs.Effect.{Does, effect_of, may_ignore}
+use Rattle.deck9.specs.Effect.{Does, effect_of}
+use Rattle.deck9.specs.Local.{may_ignore}
 use Rattle.deck9.specs.Shows.{Shows}
 
 -- what the deck does with a command that it gives this reply to
@@ -16,7 +17,7 @@ pub data Step (h : Hands) (command : Command) (reply : Block) (s t : State) : Ty
   -- the reply agrees with the state, and the command has its effect
   done : is_nak reply ≡ false → Shows s command reply → Does h (effect_of command) s t → Step h command reply s t
   -- a deck in local leaves a listed transport or preset command undone
-  ignored : is_nak reply ≡ false → Shows s command reply → may_ignore (effect_of command) ≡ true → s.local ≡ true → t ≡ s → Step h command reply s t
+  ignored : is_nak reply ≡ false → Shows s command reply → may_ignore command ≡ true → s.local ≡ true → t ≡ s → Step h command reply s t
 
 -- the deck drifts, and then does the step
 abbrev pub Exchanges : Hands → Command → Block → State → State → Type 0

@@ -79,7 +79,14 @@ fn on_the_way<'a>(goal: Mode) -> &'a [Mode]
             Mode::Jog,
             Mode::Var,
         ],
-        _ => &[Mode::Stop],
+        Mode::Stop
+        | Mode::Play
+        | Mode::FastForward
+        | Mode::Rewind
+        | Mode::Shuttle
+        | Mode::Jog
+        | Mode::Var
+        | Mode::Eject => &[Mode::Stop],
     }
 }
 

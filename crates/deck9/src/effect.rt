@@ -44,7 +44,7 @@ pub enum Effect {
 
 impl Effect {
     ghost use Rattle.std.specs.Prelude.{◌≡◌};
-    ghost use Rattle.deck9.specs.Effect.{effect_of, may_ignore};
+    ghost use Rattle.deck9.specs.Effect.{effect_of};
 
     /// What a command does where it is acknowledged.
     pub fn of(command: &Command) -> Effect
@@ -103,17 +103,18 @@ impl Effect {
                 6 => Effect::Nothing,
                 _ => Effect::ForgetAll,
             },
-            _ => Effect::Nothing,
+            Command::DeviceType
+            | Command::EditPreset
+            | Command::PrerollPreset
+            | Command::TimerModeSelect
+            | Command::AutoModeOff
+            | Command::AutoModeOn
+            | Command::CurrentTimeSense { .. }
+            | Command::InDataSense
+            | Command::OutDataSense
+            | Command::AudioInDataSense
+            | Command::AudioOutDataSense
+            | Command::StatusSense { .. } => Effect::Nothing,
         }
-    }
-
-    /// Whether a deck in local may also leave it undone.
-    pub fn may_ignore(&self) -> bool
-        ensures { result ≡ may_ignore self.now }
-    {
-        matches!(
-            self,
-            Effect::Go(_) | Effect::KeepOrStop | Effect::Change(_, _)
-        )
     }
 }

@@ -6,6 +6,8 @@ ghost use Rattle.block9.specs.declared.block.Block.{Block};
 ghost use Rattle.block9.specs.declared.command.Command.{Command};
 ghost use Rattle.block9.specs.declared.pairer.Exchange.{Exchange};
 ghost use Rattle.deck9.specs.Drift.{Drift, DriftsTo};
+ghost use Rattle.deck9.specs.Effect.{effect_of, is_of_goal_or_register};
+ghost use Rattle.deck9.specs.Local.{may_ignore};
 ghost use Rattle.deck9.specs.Run.{Ends, HasRun};
 ghost use Rattle.deck9.specs.State.{IsFirst};
 ghost use Rattle.deck9.specs.Step.{AreReached, Exchanges, Step};
@@ -27,6 +29,11 @@ pub fn drift_is_four_pairs()
 /// A NAK, whatever its reasons and whatever was asked, leaves the state as it is, and nothing else does it leave.
 pub fn a_nak_changes_nothing()
     ensures { (h : Hands) (command : Command) (reply : Block) (s t : State) → is_nak reply ≡ true → (Step h command reply s t ↔ (t ≡ s)) }
+{}
+
+/// The commands that a deck in local may leave undone are those that change its goal or a register.
+pub fn local_ignores_goals_and_registers()
+    ensures { (command : Command) → may_ignore command ≡ is_of_goal_or_register (effect_of command) }
 {}
 
 /// Replies that a deck can give that nobody touches, a deck can give too that somebody may touch.

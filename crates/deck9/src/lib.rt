@@ -12,6 +12,7 @@
 mod drift;
 mod effect;
 pub mod laws;
+mod local;
 mod mode;
 mod run;
 mod sense;
@@ -20,6 +21,7 @@ mod state;
 mod step;
 
 pub use effect::{Change, Effect};
+pub use local::may_ignore;
 pub use mode::Mode;
 pub use run::is_run;
 pub use sense::Sense;

@@ -4,6 +4,7 @@ ghost use Rattle.deck9.specs.Working.{Steps};
 ghost use Rattle.deck9.specs.Effect.{Becomes, Does};
 
 use crate::effect::{Change, Effect};
+use crate::local::may_ignore;
 use crate::mode::Mode;
 use crate::state::{Entry, Hands, Register, State};
 use block9::{Exchange, NakBits};
@@ -18,9 +19,8 @@ pub(crate) fn steps(hands: Hands, exchange: &Exchange, before: &State, after: &S
     if !before.shows(&exchange.command, &exchange.reply) {
         return false;
     }
-    let effect = Effect::of(&exchange.command);
-    let is_ignored = effect.may_ignore() && before.local && after.is(before);
-    is_ignored || does(hands, &effect, before, after)
+    let is_ignored = may_ignore(&exchange.command) && before.local && after.is(before);
+    is_ignored || does(hands, &Effect::of(&exchange.command), before, after)
 }
 
 /// Whether an effect can take the deck from a state to another.

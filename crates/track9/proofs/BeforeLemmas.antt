@@ -223,7 +223,7 @@ nak_back h c reply s t nak (d, drift, step) = (d, drift, by step)
     by (done was shows does) = absurd (false≢true (sym was ∙ nak))
     by (ignored was shows may local e) = absurd (false≢true (sym was ∙ nak))
 
-pub undone_leads : (h : Hands) (c : Command) (reply : Block) (s t : State) → is_nak reply ≡ false → Shows t c reply → IsUndone (effect_of c) t → LeadsTo h (just_state t) s → Exchanges h c reply s t
+pub undone_leads : (h : Hands) (c : Command) (reply : Block) (s t : State) → is_nak reply ≡ false → Shows t c reply → IsUndone c t → LeadsTo h (just_state t) s → Exchanges h c reply s t
 undone_leads h c reply s t nak shows (may, local) (d, drift, fits) =
     let e = fits_just t d fits in
     (d, drift, ignored nak (subst (λ u. Shows u c reply) (sym e) shows) may (ap (λ (u : State). u.local) e ∙ local) (sym e))
@@ -247,7 +247,7 @@ NoneLeads h v None = Unit {0}
 NoneLeads h v (Some a) = ((s : State) × Possible v s × LeadsTo h a s) → ⊥
 
 no_exchange : (h : Hands) (c : Command) (reply : Block) (v : StateSet) (t : State) (o : Option Asked) → is_nak reply ≡ false → AreBelow v
-    → (((s : State) × Possible v s × IsUndone (effect_of c) t × LeadsTo h (just_state t) s) → ⊥) → asked_before h (effect_of c) t ≡ o → NoneLeads h v o
+    → (((s : State) × Possible v s × IsUndone c t × LeadsTo h (just_state t) s) → ⊥) → asked_before h (effect_of c) t ≡ o → NoneLeads h v o
     → ((s : State) × Possible v s × Exchanges h c reply s t) → ⊥
 unfolding NoneLeads
 no_exchange h c reply v t o nak below undone found none (s, there, (d, drift, step)) = by step
@@ -263,12 +263,12 @@ no_exchange h c reply v t o nak below undone found none (s, there, (d, drift, st
         undone (s, there, (may, ap (λ (u : State). u.local) e ∙ local), (d, drift, subst (λ u. Fits (just_state u) d) (sym e) (fits_self d)))
 
 pub none_found : (h : Hands) (c : Command) (reply : Block) (v : StateSet) (t : State) → is_nak reply ≡ false → AreBelow v
-    → (((s : State) × Possible v s × IsUndone (effect_of c) t × LeadsTo h (just_state t) s) → ⊥) → asked_before h (effect_of c) t ≡ None → ((s : State) × Possible v s × Exchanges h c reply s t) → ⊥
+    → (((s : State) × Possible v s × IsUndone c t × LeadsTo h (just_state t) s) → ⊥) → asked_before h (effect_of c) t ≡ None → ((s : State) × Possible v s × Exchanges h c reply s t) → ⊥
 unfolding NoneLeads
 none_found h c reply v t nak below undone found w = no_exchange h c reply v t None nak below undone found tt w
 
 pub none_leads : (h : Hands) (c : Command) (reply : Block) (v : StateSet) (t : State) (a : Asked) → is_nak reply ≡ false → AreBelow v
-    → (((s : State) × Possible v s × IsUndone (effect_of c) t × LeadsTo h (just_state t) s) → ⊥) → asked_before h (effect_of c) t ≡ Some a → (((s : State) × Possible v s × LeadsTo h a s) → ⊥)
+    → (((s : State) × Possible v s × IsUndone c t × LeadsTo h (just_state t) s) → ⊥) → asked_before h (effect_of c) t ≡ Some a → (((s : State) × Possible v s × LeadsTo h a s) → ⊥)
     → ((s : State) × Possible v s × Exchanges h c reply s t) → ⊥
 unfolding NoneLeads
 none_leads h c reply v t a nak below undone found none w = no_exchange h c reply v t (Some a) nak below undone found none w

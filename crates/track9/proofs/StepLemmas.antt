@@ -10,6 +10,7 @@ use Rattle.deck9.specs.declared.effect.Change.{Change}
 use Rattle.deck9.specs.declared.effect.Effect.{Effect}
 use Rattle.deck9.specs.declared.effect.Effect.TheVariants as effect
 use Rattle.deck9.specs.declared.mode.Mode.{Mode}
+use Rattle.deck9.proofs.LawLemmas.{ignored_by_effect}
 use Rattle.track9.specs.declared.mode_set.ModeSet.{ModeSet}
 use Rattle.track9.specs.declared.presets.Presets.{Presets}
 use Rattle.deck9.specs.declared.sense.Sense.{Sense}
@@ -208,12 +209,12 @@ step_status h c reply asked v w nak asks read =
 
 does_there : (h : Hands) (c : Command) (reply : Block) (s t : State) → is_nak reply ≡ false → sense_of c ≡ sense.Nothing → DoesOrNot h (effect_of c) s t → Step h c reply s t
 does_there h c reply s t nak asks (inl does) = done nak (subst (λ q. Agrees q s reply) (sym asks) tt) does
-does_there h c reply s t nak asks (inr (may, local, e)) = ignored nak (subst (λ q. Agrees q s reply) (sym asks) tt) may local e
+does_there h c reply s t nak asks (inr (may, local, e)) = ignored nak (subst (λ q. Agrees q s reply) (sym asks) tt) (ignored_by_effect c ∙ may) local e
 
 does_back : (h : Hands) (c : Command) (reply : Block) (s t : State) → is_nak reply ≡ false → Step h c reply s t → DoesOrNot h (effect_of c) s t
 does_back h c reply s t nak (refused was e) = absurd (false≢true (sym nak ∙ was))
 does_back h c reply s t nak (done was shows does) = inl does
-does_back h c reply s t nak (ignored was shows may local e) = inr (may, local, e)
+does_back h c reply s t nak (ignored was shows may local e) = inr (sym (ignored_by_effect c) ∙ may, local, e)
 
 pub step_effect : (h : Hands) (c : Command) (reply : Block) (e : Effect) (v w : StateSet) → is_nak reply ≡ false → sense_of c ≡ sense.Nothing → e ≡ effect_of c → HasEffect h e v w → StepsTo h c reply v w
 step_effect h c reply e v w nak asks same has =

@@ -4,6 +4,7 @@ use Rattle.tc25.specs.Day.{next_frame, prev_frame}
 use Rattle.track9.specs.declared.asked.Asked.{Asked}
 use Rattle.deck9.specs.declared.effect.Change.{Change}
 use Rattle.deck9.specs.declared.effect.Change.TheVariants.{SetSomewhere, SetAt, Next, Prev, Reset, Recall}
+use Rattle.block9.specs.declared.command.Command.{Command}
 use Rattle.deck9.specs.declared.effect.Effect.{Effect}
 use Rattle.deck9.specs.declared.effect.Effect.TheVariants as effect
 use Rattle.deck9.specs.declared.mode.Mode.{Mode}
@@ -19,7 +20,8 @@ use Rattle.deck9.specs.declared.state.Register.{Register}
 use Rattle.deck9.specs.declared.state.Register.TheVariants.{RegIn, RegOut, RegAudioIn, RegAudioOut}
 use Rattle.deck9.specs.declared.state.State.{State}
 use Rattle.deck9.specs.Drift.{Drift, KeepsRest, PairReaches}
-use Rattle.deck9.specs.Effect.{moved_entry, may_ignore}
+use Rattle.deck9.specs.Effect.{moved_entry}
+use Rattle.deck9.specs.Local.{may_ignore}
 use Rattle.deck9.specs.Mode.{is_mode}
 use Rattle.track9.specs.ModeSet.{bit_of, has}
 use Rattle.deck9.specs.State.{IsState, entry_of}
@@ -110,9 +112,9 @@ asked_before h effect.ForgetRegisters t = Some (any_registers (just_state t))
 asked_before hands.None effect.ForgetAll t = Some (record (any_tape (just_state t)) { local = None })
 asked_before hands.Allowed effect.ForgetAll t = Some (record (any_tape (just_state t)) { local = None; panel = None })
 
--- a deck in this state may have left the effect undone
-abbrev pub IsUndone : Effect → State → Type 0
-IsUndone e t = (may_ignore e ≡ true) × (t.local ≡ true)
+-- a deck in this state may have left the command undone
+abbrev pub IsUndone : Command → State → Type 0
+IsUndone c t = (may_ignore c ≡ true) × (t.local ≡ true)
 
 -- ---- a drift before
 

@@ -16,7 +16,7 @@ use Rattle.track9.specs.declared.presets.Presets.{Presets}
 use Rattle.deck9.specs.declared.state.Register.{Register}
 use Rattle.deck9.specs.declared.state.State.{State}
 use Rattle.track9.specs.declared.states.LocalFits.{LocalFits}
-use Rattle.deck9.specs.Effect.{Does, may_ignore}
+use Rattle.deck9.specs.Effect.{Does, is_of_goal_or_register}
 use Rattle.track9.specs.Presets.{count_of, presets_after, with_one}
 use Rattle.deck9.specs.Shows.{ShowsStatus}
 use Rattle.deck9.specs.Step.{AreReached, Exchanges, Step}
@@ -149,7 +149,7 @@ after_forgetting_all h v = if some_state v then first_states h else v
 
 -- an effect, or a deck in local that leaves it undone
 abbrev pub DoesOrNot : Hands → Effect → State → State → Type 0
-DoesOrNot h e s t = Does h e s t ⊎ ((may_ignore e ≡ true) × (s.local ≡ true) × (t ≡ s))
+DoesOrNot h e s t = Does h e s t ⊎ ((is_of_goal_or_register e ≡ true) × (s.local ≡ true) × (t ≡ s))
 
 -- the counts after an effect
 abbrev pub counted : Effect → Presets → Presets

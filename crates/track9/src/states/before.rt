@@ -17,7 +17,7 @@ use crate::reply::is_nak;
 use crate::states::States;
 use crate::states::member::state_in;
 use block9::{Block, Command};
-use deck9::{Effect, Entry, Hands, Register, State};
+use deck9::{Effect, Entry, Hands, Register, State, may_ignore};
 use tc25::TimeSet;
 
 impl<S: TimeSet> States<S> {
@@ -42,24 +42,24 @@ impl<S: TimeSet> States<S> {
         if !target.shows(command, reply) {
             return None;
         }
-        let effect = Effect::of(command);
-        if let Some(state) = self.undone_origin(hands, &effect, target) {
+        if let Some(state) = self.undone_origin(hands, command, target) {
             return Some(state);
         }
+        let effect = Effect::of(command);
         let asked = Asked::before(hands, &effect, target)?;
         self.origin(hands, &asked)
     }
 
-    /// A state from which a drift leads to the target, where a deck in local may leave the effect undone.
-    fn undone_origin(&self, hands: Hands, effect: &Effect, target: &State) -> Option<State>
+    /// A state from which a drift leads to the target, where a deck in local may leave the command undone.
+    fn undone_origin(&self, hands: Hands, command: &Command, target: &State) -> Option<State>
         requires whole { AreWhole self.now }
         requires handled { IsHandled hands self.now }
         requires target { IsState target.now }
-        ensures some { IfSome result (λ s. Possible self.now s × IsUndone effect.now target.now × LeadsTo hands (just_state target.now) s) }
-        ensures none { IfNone result (¬ ((s : AState) × Possible self.now s × IsUndone effect.now target.now × LeadsTo hands (just_state target.now) s)) }
+        ensures some { IfSome result (λ s. Possible self.now s × IsUndone command.now target.now × LeadsTo hands (just_state target.now) s) }
+        ensures none { IfNone result (¬ ((s : AState) × Possible self.now s × IsUndone command.now target.now × LeadsTo hands (just_state target.now) s)) }
     {
-        let may_ignore = effect.may_ignore();
-        if !may_ignore || !target.local {
+        let is_ignored = may_ignore(command);
+        if !is_ignored || !target.local {
             return None;
         }
         self.origin(hands, &Asked::just(target))

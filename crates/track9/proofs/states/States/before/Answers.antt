@@ -37,7 +37,7 @@ returns-in-Some-clause-some g c =
     let w = c.in-Some.ensures.some in (
       w.0,
       undone_leads c.args.hands c.args.command.now c.args.reply.now c.in-Some.state c.args.target.now (sym c.is_nak.ensures ∙ c.if-is_nak.false) (c.shows.ensures.0 c.if-not-shows.false)
-          (subst (λ e. IsUndone e c.args.target.now) c.of-effect.ensures w.1) w.2,
+          w.1 w.2,
     )
 
 pub returns-in_err-asked-clause-none : goal.returns-in_err-asked-clause-none
@@ -46,7 +46,7 @@ returns-in_err-asked-clause-none g c =
     let found = sym (c.before-2.ensures ∙ ap (λ e. asked_before c.args.hands e t) c.of-effect.ensures) ∙ c.in_err-asked.was in
     if_none_so c.from_residual.result
     (none_found c.args.hands c.args.command.now c.args.reply.now c.args.self.now t (sym c.is_nak.ensures ∙ c.if-is_nak.false) c.below_day.ensures
-    (subst (λ e. ((s : State) × Possible c.args.self.now s × IsUndone e t × LeadsTo c.args.hands (just_state t) s) → ⊥) c.of-effect.ensures c.in_default.ensures.none)
+    c.in_default.ensures.none
     found)
 
 pub origin-requires-2-clause-asked : goal.origin-requires-2-clause-asked
@@ -72,5 +72,5 @@ returns-clause-none g c =
     let found = sym (c.before-2.ensures ∙ ap (λ e. asked_before c.args.hands e t) c.of-effect.ensures) ∙ c.in_ok-asked.was in
     if_none c.origin-2.result c.origin-2.ensures.none (λ none.
     none_leads c.args.hands c.args.command.now c.args.reply.now c.args.self.now t c.in_ok-asked.asked (sym c.is_nak.ensures ∙ c.if-is_nak.false) c.below_day.ensures
-    (subst (λ e. ((s : State) × Possible c.args.self.now s × IsUndone e t × LeadsTo c.args.hands (just_state t) s) → ⊥) c.of-effect.ensures c.in_default.ensures.none)
+    c.in_default.ensures.none
     found none)
