@@ -17,7 +17,8 @@ use Rattle.deck9.specs.declared.state.Register.{Register}
 use Rattle.deck9.specs.declared.state.Register.TheVariants.{RegIn, RegOut, RegAudioIn, RegAudioOut}
 use Rattle.deck9.specs.declared.state.State.{State}
 use Rattle.deck9.specs.Drift.{Drift, Moves}
-use Rattle.deck9.specs.Effect.{Becomes, Does, effect_of, is_of_goal_or_register}
+use Rattle.deck9.specs.Effect.{Becomes, Does, effect_of}
+use Rattle.deck9.specs.Laws.{is_of_goal_or_register}
 use Rattle.deck9.specs.Local.{may_ignore}
 use Rattle.deck9.specs.Run.{HasRun, IsRunFrom}
 use Rattle.deck9.specs.Shows.{Agrees, Tells, sense_of}
@@ -56,7 +57,7 @@ put_beside RegOut e on s = refl
 put_beside RegAudioIn e on s = refl
 put_beside RegAudioOut e on s = refl
 
-valid_beside : (on : Bool) (s : State) → IsState s → IsState (with_panel on s)
+pub valid_beside : (on : Bool) (s : State) → IsState s → IsState (with_panel on s)
 valid_beside on s valid = λ r. subst IsEntry (sym (read_panel r s on)) (valid r)
 
 does_beside : (f : Effect) (on : Bool) (s t : State) → Does hands.None f s t → (off : Bool) × Does hands.Allowed f (with_panel on s) (with_panel off t)

@@ -1,5 +1,8 @@
 pub mod DriftLemmas
 pub mod LawLemmas
 pub mod ModeLemmas
+pub mod ReplyLemmas
+pub mod RestLemmas
 pub mod RunLemmas
 pub mod RunSearch
+pub mod StatusLemmas

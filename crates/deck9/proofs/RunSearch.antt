@@ -99,7 +99,7 @@ read_put RegOut e s = refl
 read_put RegAudioIn e s = refl
 read_put RegAudioOut e s = refl
 
-put_panel : (r : Register) (e : Entry) (s : State) → (with_entry r e s).panel ≡ s.panel
+pub put_panel : (r : Register) (e : Entry) (s : State) → (with_entry r e s).panel ≡ s.panel
 put_panel RegIn e s = refl
 put_panel RegOut e s = refl
 put_panel RegAudioIn e s = refl
@@ -221,7 +221,7 @@ two_states h e on t f same back is_effect is_same is_back valid valid_back =
 -- ---- whole exchanges
 
 -- no drift leads out of the first states
-first_drifts : (h : Hands) (s d : State) → IsFirst h s → Drift h s d → IsFirst h d
+pub first_drifts : (h : Hands) (s d : State) → IsFirst h s → Drift h s d → IsFirst h d
 first_drifts hands.None s d first drift =
     elim (pairs_from_drift hands.None s d drift) [
       | inl w ↦ (same_entries s d w.0 first.0, ap (λ (v : State). v.panel) w.0 ∙ first.1)

@@ -1,5 +1,5 @@
 -- What each command does to the deck.
-use Rattle.std.specs.Prelude.{ℕ, ◌≡◌, ◌<◌, ◌⊎◌, ◌==◌, if◌then◌else◌, Bool, true, false}
+use Rattle.std.specs.Prelude.{ℕ, ◌≡◌, ◌<◌, ◌⊎◌, ◌==◌, if◌then◌else◌, true, false}
 use Rattle.tc25.specs.Day.{day, next_frame, prev_frame}
 use Rattle.block9.specs.declared.command.Command.{Command}
 use Rattle.block9.specs.declared.command.Command.TheVariants as command
@@ -110,14 +110,3 @@ Does h effect.ForgetTape s t = IsState t × (t.local ≡ s.local) × (t.panel �
 Does h effect.ForgetRegisters s t = IsState t × (t.goal ≡ s.goal) × (t.shown ≡ s.shown) × (t.local ≡ s.local) × (t.panel ≡ s.panel)
 Does hands.None effect.ForgetAll s t = IsState t × (t.panel ≡ s.panel)
 Does hands.Allowed effect.ForgetAll s t = IsState t
-
--- the goal changes, or a register does: what a listed transport or preset command does, if it does anything
-abbrev pub is_of_goal_or_register : Effect → Bool
-is_of_goal_or_register effect.Nothing = false
-is_of_goal_or_register (effect.Go g) = true
-is_of_goal_or_register effect.KeepOrStop = true
-is_of_goal_or_register (effect.Change r c) = true
-is_of_goal_or_register (effect.Panel on) = false
-is_of_goal_or_register effect.ForgetTape = false
-is_of_goal_or_register effect.ForgetRegisters = false
-is_of_goal_or_register effect.ForgetAll = false

@@ -1,5 +1,6 @@
 pub mod Drift
 pub mod Effect
+pub mod Laws
 pub mod Local
 pub mod Mode
 pub mod Run

@@ -1,17 +1,22 @@
 //! The laws of the deck, each the contract of a function that does nothing: that the definitions of drifts, steps and runs
 //! mean what was meant.
-ghost use Rattle.std.specs.Prelude.{◌≡◌, ◌↔◌, true, List, [], ◌∷◌, ◌++◌};
+ghost use Rattle.std.specs.Prelude.{◌≡◌, ◌≢◌, ◌↔◌, ◌⊎◌, ◌<◌, ◌||◌, ℕ, true, Some, List, [], ◌∷◌, ◌++◌};
+ghost use Rattle.std.specs.List.{All};
 ghost use Rattle.block9.specs.Command.{is_nak};
 ghost use Rattle.block9.specs.declared.block.Block.{Block};
 ghost use Rattle.block9.specs.declared.command.Command.{Command};
 ghost use Rattle.block9.specs.declared.pairer.Exchange.{Exchange};
 ghost use Rattle.deck9.specs.Drift.{Drift, DriftsTo};
-ghost use Rattle.deck9.specs.Effect.{effect_of, is_of_goal_or_register};
+ghost use Rattle.deck9.specs.Effect.{effect_of};
+ghost use Rattle.deck9.specs.Laws.{IsRightReply, SetsInDay, ShowJust, is_of_goal_or_register};
 ghost use Rattle.deck9.specs.Local.{may_ignore};
+ghost use Rattle.deck9.specs.Mode.{is_mode};
 ghost use Rattle.deck9.specs.Run.{Ends, HasRun};
-ghost use Rattle.deck9.specs.State.{IsFirst};
+ghost use Rattle.deck9.specs.Shows.{may_show};
+ghost use Rattle.deck9.specs.State.{IsFirst, IsState};
 ghost use Rattle.deck9.specs.Step.{AreReached, Exchanges, Step};
 
+use crate::mode::Mode;
 use crate::state::{Hands, State};
 
 /// A deck need not drift, and a drift after a drift is one.
@@ -52,4 +57,26 @@ pub fn states_after_one_more()
 /// There is a state that runs end in exactly where there is a run.
 pub fn no_state_without_a_run()
     ensures { (h : Hands) (es : List Exchange) → ((s : State) × Ends h es s) ↔ HasRun h es }
+{}
+
+/// What is left of an explainable capture without its first exchanges is explainable. (The presets among these carry times
+/// of the day, as each `Command` does: a definition takes any number for one.)
+pub fn rest_has_a_run()
+    ensures { (h : Hands) (es fs : List Exchange) → All SetsInDay es → HasRun h (es ++ fs) → HasRun h fs }
+{}
+
+/// A deck is never stuck: in each state each command has a right reply that is no NAK, and a step with it.
+pub fn never_stuck()
+    ensures { (h : Hands) (command : Command) (s : State) → IsState s
+        → (reply : Block) × IsRightReply command reply × (t : State) × Step h command reply s t }
+{}
+
+/// A mode that a status shows can be told, but for CUED: for each other mode there are two data that fit it alone. What fits
+/// CUED fits STOP or EJECT too, as some data fit CUED and STOP alone, and some CUED and EJECT alone.
+pub fn a_status_tells_a_mode()
+    ensures alone { (m : Mode) → m ≢ Mode.Cued → ShowJust (is_mode m) }
+    ensures cued_or_stop { ShowJust (λ m. is_mode Mode.Cued m || is_mode Mode.Stop m) }
+    ensures cued_or_eject { ShowJust (λ m. is_mode Mode.Cued m || is_mode Mode.Eject m) }
+    ensures cued { (datum1 datum2 : ℕ) → may_show (Some datum1) (Some datum2) Mode.Cued ≡ true
+        → (may_show (Some datum1) (Some datum2) Mode.Stop ≡ true) ⊎ (may_show (Some datum1) (Some datum2) Mode.Eject ≡ true) }
 {}

@@ -16,7 +16,8 @@ use Rattle.track9.specs.declared.presets.Presets.{Presets}
 use Rattle.deck9.specs.declared.state.Register.{Register}
 use Rattle.deck9.specs.declared.state.State.{State}
 use Rattle.track9.specs.declared.states.LocalFits.{LocalFits}
-use Rattle.deck9.specs.Effect.{Does, is_of_goal_or_register}
+use Rattle.deck9.specs.Effect.{Does}
+use Rattle.deck9.specs.Laws.{is_of_goal_or_register}
 use Rattle.track9.specs.Presets.{count_of, presets_after, with_one}
 use Rattle.deck9.specs.Shows.{ShowsStatus}
 use Rattle.deck9.specs.Step.{AreReached, Exchanges, Step}

@@ -1,9 +1,7 @@
 use Rattle.std.proofs.Common.{◌∙◌, sym, ap, subst}
 use Rattle.std.proofs.lemmas.Bool.{false≢true}
-use Rattle.deck9.specs.declared.state.State.{State}
-use Rattle.track9.specs.Tracker.{Possible}
 use Rattle.deck9.specs.Effect.{effect_of}
-use Rattle.track9.specs.Working.Asked.{IsAsked, IsUndone, LeadsTo, asked_before, just_state}
+use Rattle.track9.specs.Working.Asked.{IsAsked, LeadsTo, asked_before}
 use Rattle.track9.proofs.AskedLemmas.{fits_self, found_state}
 use Rattle.track9.proofs.BeforeLemmas.{asked_leads, exchange_shows, if_none_so, if_some_so, nak_back, nak_leads, none_found, none_leads, undone_leads}
 use Rattle.track9.proofs.MemberLemmas.{if_none}

@@ -1,0 +1,118 @@
+-- A right reply to each command in each state, and a step with it.
+use Rattle.std.proofs.Common.{ℕ, ◌≡◌, ◌-◌, ◌/◌, ◌<◌, ◌≤◌, Bool, true, false, nat_lt, if◌then◌else◌, List, [], ◌∷◌, length, Option, Some, None, refl, inl, arith}
+use Rattle.std.proofs.lemmas.Bool.Decides.{nat_tests}
+use Rattle.std.proofs.lemmas.Grind.{common_steps}
+use Rattle.std.proofs.lemmas.Option.{slice_get_past}
+use Rattle.tc25.specs.Day.{bytes_of, day, time_of}
+use Rattle.tc25.proofs.DayLemmas.{ReadsAs-from_time_of}
+use Rattle.block9.specs.declared.block.Block.{Block}
+use Rattle.block9.specs.declared.command.Command.{Command}
+use Rattle.block9.specs.declared.command.Command.TheVariants as command
+use Rattle.block9.specs.Command.{fits, is_nak, is_reply_time_valid}
+use Rattle.deck9.specs.declared.effect.Change.{Change}
+use Rattle.deck9.specs.declared.effect.Change.TheVariants.{SetSomewhere, SetAt, Next, Prev, Reset, Recall}
+use Rattle.deck9.specs.declared.effect.Effect.{Effect}
+use Rattle.deck9.specs.declared.effect.Effect.TheVariants as effect
+use Rattle.deck9.specs.declared.mode.Mode.{Mode}
+use Rattle.deck9.specs.declared.mode.Mode.TheVariants.{Stop}
+use Rattle.deck9.specs.declared.state.Entry.{Entry}
+use Rattle.deck9.specs.declared.state.Entry.TheVariants.{Clear, At}
+use Rattle.deck9.specs.declared.state.Hands.{Hands}
+use Rattle.deck9.specs.declared.state.Hands.TheVariants as hands
+use Rattle.deck9.specs.declared.state.Register.TheVariants.{RegIn, RegOut, RegAudioIn, RegAudioOut}
+use Rattle.deck9.specs.declared.state.State.{State}
+use Rattle.deck9.specs.Effect.{Becomes, Does, effect_of}
+use Rattle.deck9.specs.Laws.{IsRightReply}
+use Rattle.deck9.specs.Shows.{Shows, ShowsStatus, Tells, datum, may_show}
+use Rattle.deck9.specs.State.{IsEntry, IsState, entry_of, with_entry}
+use Rattle.deck9.specs.Step.{Step, done}
+
+-- ---- what a command does
+
+some_entry : (c : Change) (old : Entry) → (new : Entry) × Becomes c old new
+some_entry SetSomewhere old = (At 0, (0, omega arith, refl))
+some_entry (SetAt t) old = (At t, refl)
+some_entry Next old = (_, refl)
+some_entry Prev old = (_, refl)
+some_entry Reset old = (Clear, refl)
+some_entry Recall old = (Clear, tt)
+
+some_effect : (h : Hands) (f : Effect) (s : State) → IsState s → (t : State) × Does h f s t
+some_effect h effect.Nothing s valid = (s, refl)
+some_effect h (effect.Go g) s valid = (record s { goal = g }, refl)
+some_effect h effect.KeepOrStop s valid = (s, inl refl)
+some_effect h (effect.Change r c) s valid = let new = some_entry c (entry_of r s) in (with_entry r new.0 s, (new.0, new.1, refl))
+some_effect hands.None (effect.Panel on) s valid = (s, refl)
+some_effect hands.Allowed (effect.Panel on) s valid = (record s { panel = on }, refl)
+some_effect h effect.ForgetTape s valid = (s, (valid, refl, refl))
+some_effect h effect.ForgetRegisters s valid = (s, (valid, refl, refl, refl, refl))
+some_effect hands.None effect.ForgetAll s valid = (s, (valid, refl))
+some_effect hands.Allowed effect.ForgetAll s valid = (s, valid)
+
+-- ---- what a reply shows
+
+abbrev block : ℕ → ℕ → List ℕ → Block
+block group code bytes = record { group = group; code = code; bytes = record { items = bytes } }
+
+read_back : (t : ℕ) → t < day → time_of (bytes_of t) ≡ Some t
+unfolding time_of
+read_back t h = grind (arith, common_steps)
+
+-- a time whose bytes a register with this entry may give
+abbrev told : Entry → ℕ
+told Clear = 0
+told (At t) = t
+
+tells : (e : Entry) → IsEntry e → Tells e (bytes_of (told e))
+tells Clear valid = tt
+tells (At t) valid = ReadsAs-from_time_of (bytes_of t) t (read_back t valid)
+
+no_datum : (asked n : ℕ) → datum asked (block 7 0x20 []) n ≡ None
+no_datum asked n = by (nat_lt n (asked / 16)) (slice_get_past [] (n - asked / 16) (omega arith))
+  where
+    by : (b : Bool) {o : Option ℕ} → o ≡ None → (if b then None else o) ≡ None
+    by true e = refl
+    by false e = e
+
+any_mode : (m : Mode) → may_show None None m ≡ true
+any_mode Stop = refl
+any_mode m = refl
+
+-- status data of which there are none agree with each state
+no_status : (s : State) (asked : ℕ) → ShowsStatus s asked (block 7 0x20 [])
+no_status s asked = record {
+  local = rw (no_datum asked 0) tt;
+  shown = rw (no_datum asked 1, no_datum asked 2) (any_mode s.shown);
+  ins = rw (no_datum asked 3) tt;
+  outs = rw (no_datum asked 3) tt;
+  ains = rw (no_datum asked 3) tt;
+  aouts = rw (no_datum asked 3) tt;
+}
+
+-- ---- a right reply
+
+record Reply (s : State) (c : Command) : Type 0 where
+  reply : Block
+  right : IsRightReply c reply
+  shown : Shows s c reply
+
+made : (s : State) (c : Command) (b : Block) → b.group < 16 → length b.bytes.items ≤ 15 → fits c b ≡ true → is_reply_time_valid c b ≡ true → is_nak b ≡ false → Shows s c b → Reply s c
+made s c b group data_bytes kind valid_time no_nak shown =
+    record { reply = b; right = record { block = record { group = group; data_bytes = data_bytes }; kind = kind; valid_time = valid_time; no_nak = no_nak }; shown = shown }
+
+right_reply : (s : State) (c : Command) → IsState s → Reply s c
+unfolding fits is_reply_time_valid
+right_reply s command.DeviceType valid = made s _ (block 1 0x11 (0 ∷ 0 ∷ [])) (omega arith) (omega arith) refl refl refl tt
+right_reply s (command.CurrentTimeSense selector) valid = made s _ (block 7 0x00 (bytes_of 0)) (omega arith) (omega arith) refl refl refl tt
+right_reply s command.InDataSense valid = made s _ (block 7 0x10 (bytes_of (told s.ins))) (omega arith) (omega arith) refl refl refl (tells s.ins (valid RegIn))
+right_reply s command.OutDataSense valid = made s _ (block 7 0x11 (bytes_of (told s.outs))) (omega arith) (omega arith) refl refl refl (tells s.outs (valid RegOut))
+right_reply s command.AudioInDataSense valid = made s _ (block 7 0x12 (bytes_of (told s.ains))) (omega arith) (omega arith) refl refl refl (tells s.ains (valid RegAudioIn))
+right_reply s command.AudioOutDataSense valid = made s _ (block 7 0x13 (bytes_of (told s.aouts))) (omega arith) (omega arith) refl refl refl (tells s.aouts (valid RegAudioOut))
+right_reply s (command.StatusSense asked) valid = made s _ (block 7 0x20 []) (omega arith) (omega arith) (grind (arith, nat_tests)) refl refl (no_status s asked)
+right_reply s c valid = made s c (block 1 0x01 []) (omega arith) (omega arith) refl refl refl tt
+
+pub some_step : (h : Hands) (c : Command) (s : State) → IsState s → (reply : Block) × IsRightReply c reply × (t : State) × Step h c reply s t
+some_step h c s valid =
+    let r = right_reply s c valid in
+    let t = some_effect h (effect_of c) s valid in
+    (r.reply, r.right, t.0, done r.right.no_nak r.shown t.1)

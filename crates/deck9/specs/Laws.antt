@@ -1,0 +1,45 @@
+-- What the laws say beside the deck's own definitions.
+use Rattle.std.specs.Prelude.{ℕ, ◌≡◌, ◌<◌, Bool, true, false, Some}
+use Rattle.tc25.specs.Day.{day}
+use Rattle.block9.specs.declared.block.Block.{Block}
+use Rattle.block9.specs.declared.command.Command.{Command}
+use Rattle.block9.specs.declared.pairer.Exchange.{Exchange}
+use Rattle.block9.specs.Block.{IsBlock}
+use Rattle.block9.specs.Command.{fits, is_nak, is_reply_time_valid}
+use Rattle.deck9.specs.declared.effect.Effect.{Effect}
+use Rattle.deck9.specs.declared.effect.Effect.TheVariants as effect
+use Rattle.deck9.specs.declared.effect.Change.TheVariants.{SetAt}
+use Rattle.deck9.specs.declared.mode.Mode.{Mode}
+use Rattle.deck9.specs.declared.state.Register.{Register}
+use Rattle.deck9.specs.Effect.{effect_of}
+use Rattle.deck9.specs.Shows.{may_show}
+
+-- the goal changes, or a register does: what a listed transport or preset command does, if it does anything
+abbrev pub is_of_goal_or_register : Effect → Bool
+is_of_goal_or_register effect.Nothing = false
+is_of_goal_or_register (effect.Go g) = true
+is_of_goal_or_register effect.KeepOrStop = true
+is_of_goal_or_register (effect.Change r c) = true
+is_of_goal_or_register (effect.Panel on) = false
+is_of_goal_or_register effect.ForgetTape = false
+is_of_goal_or_register effect.ForgetRegisters = false
+is_of_goal_or_register effect.ForgetAll = false
+
+-- where the exchange's command sets a register at a time, that is a time of the day
+abbrev pub SetsInDay : Exchange → Type 0
+SetsInDay e = (r : Register) (t : ℕ) → effect_of e.command ≡ effect.Change r (SetAt t) → t < day
+
+-- a right reply to the command, and no NAK: a block of a kind that the command may have, whose time is valid where it has to be
+pub record IsRightReply (command : Command) (reply : Block) : Type 0 where
+  pub block : IsBlock reply
+  pub kind : fits command reply ≡ true
+  pub valid_time : is_reply_time_valid command reply ≡ true
+  pub no_nak : is_nak reply ≡ false
+
+-- status data 1 and 2, bytes, that fit just the modes of which this is true
+pub record ShowJust (is_shown : Mode → Bool) : Type 0 where
+  pub datum1 : ℕ
+  pub datum2 : ℕ
+  pub is_byte1 : datum1 < 256
+  pub is_byte2 : datum2 < 256
+  pub just : (m : Mode) → may_show (Some datum1) (Some datum2) m ≡ is_shown m
