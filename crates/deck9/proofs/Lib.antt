@@ -1,3 +1,4 @@
+pub mod ContradictLemmas
 pub mod DriftLemmas
 pub mod LawLemmas
 pub mod ModeLemmas

@@ -51,7 +51,7 @@ some_effect hands.Allowed effect.ForgetAll s valid = (s, valid)
 
 -- ---- what a reply shows
 
-abbrev block : ℕ → ℕ → List ℕ → Block
+abbrev pub block : ℕ → ℕ → List ℕ → Block
 block group code bytes = record { group = group; code = code; bytes = record { items = bytes } }
 
 read_back : (t : ℕ) → t < day → time_of (bytes_of t) ≡ Some t
@@ -94,11 +94,12 @@ no_status s asked = record {
 record Reply (s : State) (c : Command) : Type 0 where
   reply : Block
   right : IsRightReply c reply
+  no_nak : is_nak reply ≡ false
   shown : Shows s c reply
 
 made : (s : State) (c : Command) (b : Block) → b.group < 16 → length b.bytes.items ≤ 15 → fits c b ≡ true → is_reply_time_valid c b ≡ true → is_nak b ≡ false → Shows s c b → Reply s c
 made s c b group data_bytes kind valid_time no_nak shown =
-    record { reply = b; right = record { block = record { group = group; data_bytes = data_bytes }; kind = kind; valid_time = valid_time; no_nak = no_nak }; shown = shown }
+    record { reply = b; right = record { block = record { group = group; data_bytes = data_bytes }; kind = kind; valid_time = valid_time }; no_nak = no_nak; shown = shown }
 
 right_reply : (s : State) (c : Command) → IsState s → Reply s c
 unfolding fits is_reply_time_valid
@@ -111,8 +112,8 @@ right_reply s command.AudioOutDataSense valid = made s _ (block 7 0x13 (bytes_of
 right_reply s (command.StatusSense asked) valid = made s _ (block 7 0x20 []) (omega arith) (omega arith) (grind (arith, nat_tests)) refl refl (no_status s asked)
 right_reply s c valid = made s c (block 1 0x01 []) (omega arith) (omega arith) refl refl refl tt
 
-pub some_step : (h : Hands) (c : Command) (s : State) → IsState s → (reply : Block) × IsRightReply c reply × (t : State) × Step h c reply s t
+pub some_step : (h : Hands) (c : Command) (s : State) → IsState s → (reply : Block) × IsRightReply c reply × (is_nak reply ≡ false) × (t : State) × Step h c reply s t
 some_step h c s valid =
     let r = right_reply s c valid in
     let t = some_effect h (effect_of c) s valid in
-    (r.reply, r.right, t.0, done r.right.no_nak r.shown t.1)
+    (r.reply, r.right, r.no_nak, t.0, done r.no_nak r.shown t.1)

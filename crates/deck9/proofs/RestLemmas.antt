@@ -80,7 +80,7 @@ does_panel effect.ForgetTape s t (valid, local, panel) = panel
 does_panel effect.ForgetRegisters s t (valid, goal, shown, local, panel) = panel
 does_panel effect.ForgetAll s t (valid, panel) = panel
 
-first_does : (h : Hands) (f : Effect) (s t : State) → ((r : Register) (u : ℕ) → f ≡ effect.Change r (SetAt u) → u < day) → IsFirst h s → Does h f s t → IsFirst h t
+pub first_does : (h : Hands) (f : Effect) (s t : State) → ((r : Register) (u : ℕ) → f ≡ effect.Change r (SetAt u) → u < day) → IsFirst h s → Does h f s t → IsFirst h t
 first_does hands.None f s t sets first does = (does_valid hands.None f s t sets first.0 does, does_panel f s t does ∙ first.1)
 first_does hands.Allowed f s t sets first does = does_valid hands.Allowed f s t sets first does
 

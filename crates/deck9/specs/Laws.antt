@@ -1,16 +1,17 @@
 -- What the laws say beside the deck's own definitions.
-use Rattle.std.specs.Prelude.{ℕ, ◌≡◌, ◌<◌, Bool, true, false, Some}
+use Rattle.std.specs.Prelude.{ℕ, ◌≡◌, ◌<◌, Bool, true, false, ⊤, List, [], ◌∷◌, Some}
 use Rattle.tc25.specs.Day.{day}
 use Rattle.block9.specs.declared.block.Block.{Block}
 use Rattle.block9.specs.declared.command.Command.{Command}
 use Rattle.block9.specs.declared.pairer.Exchange.{Exchange}
 use Rattle.block9.specs.Block.{IsBlock}
-use Rattle.block9.specs.Command.{fits, is_nak, is_reply_time_valid}
+use Rattle.block9.specs.Command.{fits, is_reply_time_valid}
 use Rattle.deck9.specs.declared.effect.Effect.{Effect}
 use Rattle.deck9.specs.declared.effect.Effect.TheVariants as effect
 use Rattle.deck9.specs.declared.effect.Change.TheVariants.{SetAt}
 use Rattle.deck9.specs.declared.mode.Mode.{Mode}
 use Rattle.deck9.specs.declared.state.Register.{Register}
+use Rattle.deck9.specs.Contradict.{behind_first}
 use Rattle.deck9.specs.Effect.{effect_of}
 use Rattle.deck9.specs.Shows.{may_show}
 
@@ -29,12 +30,23 @@ is_of_goal_or_register effect.ForgetAll = false
 abbrev pub SetsInDay : Exchange → Type 0
 SetsInDay e = (r : Register) (t : ℕ) → effect_of e.command ≡ effect.Change r (SetAt t) → t < day
 
--- a right reply to the command, and no NAK: a block of a kind that the command may have, whose time is valid where it has to be
+-- a right reply to the command: a block of a kind that the command may have, whose time is valid where it has to be
 pub record IsRightReply (command : Command) (reply : Block) : Type 0 where
   pub block : IsBlock reply
   pub kind : fits command reply ≡ true
   pub valid_time : is_reply_time_valid command reply ≡ true
-  pub no_nak : is_nak reply ≡ false
+
+-- the same reply where it is believed, and else any right one
+abbrev pub MayReply : Bool → Exchange → Block → Type 0
+MayReply true e reply = reply ≡ e.reply
+MayReply false e reply = IsRightReply e.command reply
+
+-- the same exchanges, with other right replies at the places where they are not believed
+abbrev pub AreAnswered : (ℕ → Bool) → List Exchange → List Exchange → Type 0
+AreAnswered is_believed [] [] = ⊤
+AreAnswered is_believed (e ∷ es) (f ∷ fs) =
+    (reply : Block) × MayReply (is_believed 0) e reply × (f ≡ record e { reply = reply }) × AreAnswered (behind_first is_believed) es fs
+AreAnswered is_believed _ _ = ⊥
 
 -- status data 1 and 2, bytes, that fit just the modes of which this is true
 pub record ShowJust (is_shown : Mode → Bool) : Type 0 where

@@ -1,3 +1,4 @@
+pub mod Contradict
 pub mod Drift
 pub mod Effect
 pub mod Laws

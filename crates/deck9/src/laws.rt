@@ -1,14 +1,15 @@
 //! The laws of the deck, each the contract of a function that does nothing: that the definitions of drifts, steps and runs
 //! mean what was meant.
-ghost use Rattle.std.specs.Prelude.{◌≡◌, ◌≢◌, ◌↔◌, ◌⊎◌, ◌<◌, ◌||◌, ℕ, true, Some, List, [], ◌∷◌, ◌++◌};
+ghost use Rattle.std.specs.Prelude.{◌≡◌, ◌≢◌, ◌↔◌, ◌⊎◌, ◌<◌, ◌+◌, ◌||◌, ℕ, Bool, true, false, Some, List, [], ◌∷◌, ◌++◌, length};
 ghost use Rattle.std.specs.List.{All};
 ghost use Rattle.block9.specs.Command.{is_nak};
 ghost use Rattle.block9.specs.declared.block.Block.{Block};
 ghost use Rattle.block9.specs.declared.command.Command.{Command};
 ghost use Rattle.block9.specs.declared.pairer.Exchange.{Exchange};
+ghost use Rattle.deck9.specs.Contradict.{CanPass, HasBelieving};
 ghost use Rattle.deck9.specs.Drift.{Drift, DriftsTo};
 ghost use Rattle.deck9.specs.Effect.{effect_of};
-ghost use Rattle.deck9.specs.Laws.{IsRightReply, SetsInDay, ShowJust, is_of_goal_or_register};
+ghost use Rattle.deck9.specs.Laws.{AreAnswered, IsRightReply, SetsInDay, ShowJust, is_of_goal_or_register};
 ghost use Rattle.deck9.specs.Local.{may_ignore};
 ghost use Rattle.deck9.specs.Mode.{is_mode};
 ghost use Rattle.deck9.specs.Run.{Ends, HasRun};
@@ -68,7 +69,37 @@ pub fn rest_has_a_run()
 /// A deck is never stuck: in each state each command has a right reply that is no NAK, and a step with it.
 pub fn never_stuck()
     ensures { (h : Hands) (command : Command) (s : State) → IsState s
-        → (reply : Block) × IsRightReply command reply × (t : State) × Step h command reply s t }
+        → (reply : Block) × IsRightReply command reply × (is_nak reply ≡ false) × (t : State) × Step h command reply s t }
+{}
+
+/// Where its reply is not known, a command may do what it may do with some right reply: nothing, or its effect.
+pub fn some_reply_passes()
+    ensures { (h : Hands) (command : Command) (s t : State)
+        → CanPass h command s t ↔ ((reply : Block) × IsRightReply command reply × Step h command reply s t) }
+{}
+
+/// Replies contradict one another exactly where no deck can have given them, whatever it answered to everything else.
+pub fn whatever_else_was_answered()
+    ensures { (h : Hands) (is_believed : ℕ → Bool) (es : List Exchange)
+        → HasBelieving h is_believed es ↔ ((fs : List Exchange) × AreAnswered is_believed es fs × HasRun h fs) }
+{}
+
+/// A run that believes all replies is a run as ever.
+pub fn believing_all_is_a_run()
+    ensures { (h : Hands) (es : List Exchange) → HasBelieving h (λ k. true) es ↔ HasRun h es }
+{}
+
+/// Who believes fewer replies has every run that he had.
+pub fn believing_fewer_is_no_harder()
+    ensures { (h : Hands) (more fewer : ℕ → Bool) (es : List Exchange) → ((k : ℕ) → fewer k ≡ true → more k ≡ true)
+        → HasBelieving h more es → HasBelieving h fewer es }
+{}
+
+/// What comes before the first reply that is believed may be left out. (Its presets carry times of the day.)
+pub fn before_the_first_believed()
+    ensures { (h : Hands) (is_believed : ℕ → Bool) (es fs : List Exchange) → All SetsInDay es
+        → ((k : ℕ) → k < length es → is_believed k ≡ false)
+        → (HasBelieving h is_believed (es ++ fs) ↔ HasBelieving h (λ k. is_believed (length es + k)) fs) }
 {}
 
 /// A mode that a status shows can be told, but for CUED: for each other mode there are two data that fit it alone. What fits

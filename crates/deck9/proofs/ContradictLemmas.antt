@@ -1,0 +1,167 @@
+-- Runs that believe some replies.
+use Rattle.std.proofs.Common.{ℕ, ◌≡◌, ◌↔◌, ◌+◌, ◌<◌, inl, inr, Bool, true, false, List, [], ◌∷◌, ◌++◌, length, refl, sym, ap, ◌∙◌, subst, arith}
+use Rattle.std.proofs.lemmas.Bool.{false≢true}
+use Rattle.std.proofs.lemmas.List.Elements.{All-head, All-tail}
+use Rattle.std.specs.List.{All}
+use Rattle.block9.specs.declared.block.Block.{Block}
+use Rattle.block9.specs.declared.command.Command.{Command}
+use Rattle.block9.specs.declared.command.Command.TheVariants as command
+use Rattle.block9.specs.declared.pairer.Exchange.{Exchange}
+use Rattle.block9.specs.Command.{fits, is_reply_time_valid}
+use Rattle.deck9.specs.declared.state.Hands.{Hands}
+use Rattle.deck9.specs.declared.state.State.{State}
+use Rattle.deck9.specs.Contradict.{CanPass, HasBelieving, IsBelievingFrom, MayDo, behind_first}
+use Rattle.deck9.specs.Effect.{effect_of}
+use Rattle.deck9.specs.Laws.{AreAnswered, IsRightReply, MayReply, SetsInDay}
+use Rattle.deck9.specs.Run.{HasRun, IsRunFrom}
+use Rattle.deck9.specs.State.{IsFirst}
+use Rattle.deck9.specs.Step.{Step, done, ignored, refused}
+use Rattle.deck9.proofs.ReplyLemmas.{block}
+use Rattle.deck9.proofs.RestLemmas.{first_does}
+use Rattle.deck9.proofs.RunSearch.{first_drifts}
+
+-- ---- one command
+
+step_passes : (h : Hands) (c : Command) (reply : Block) (s t : State) → Step h c reply s t → CanPass h c s t
+step_passes h c reply s t (refused nak same) = inl same
+step_passes h c reply s t (done other shown does) = inr does
+step_passes h c reply s t (ignored other shown may local same) = inl same
+
+abbrev SomeStep : Hands → Command → State → State → Type 0
+SomeStep h c s t = (reply : Block) × IsRightReply c reply × Step h c reply s t
+
+by_nak : (h : Hands) (c : Command) (s t : State) → t ≡ s → SomeStep h c s t
+unfolding fits is_reply_time_valid
+by_nak h (command.CurrentTimeSense selector) s t same =
+    (block 1 0x12 (0 ∷ []), record { block = record { group = omega arith; data_bytes = omega arith }; kind = refl; valid_time = refl }, refused refl same)
+by_nak h c s t same =
+    (block 1 0x12 (0 ∷ []), record { block = record { group = omega arith; data_bytes = omega arith }; kind = refl; valid_time = refl }, refused refl same)
+
+pub pass_steps : (h : Hands) (c : Command) (s t : State) → CanPass h c s t → SomeStep h c s t
+unfolding fits is_reply_time_valid
+pass_steps h c s t (inl same) = by_nak h c s t same
+pass_steps h command.DeviceType s t (inr same) = by_nak h _ s t same
+pass_steps h (command.CurrentTimeSense selector) s t (inr same) = by_nak h _ s t same
+pass_steps h command.InDataSense s t (inr same) = by_nak h _ s t same
+pass_steps h command.OutDataSense s t (inr same) = by_nak h _ s t same
+pass_steps h command.AudioInDataSense s t (inr same) = by_nak h _ s t same
+pass_steps h command.AudioOutDataSense s t (inr same) = by_nak h _ s t same
+pass_steps h (command.StatusSense asked) s t (inr same) = by_nak h _ s t same
+pass_steps h c s t (inr does) =
+    (block 1 0x01 [], record { block = record { group = omega arith; data_bytes = omega arith }; kind = refl; valid_time = refl }, done refl tt does)
+
+pub some_reply : (h : Hands) (c : Command) (s t : State) → CanPass h c s t ↔ SomeStep h c s t
+some_reply h c s t = (pass_steps h c s t, λ w. step_passes h c w.0 s t w.2)
+
+-- ---- whatever else was answered
+
+answered : (h : Hands) (b : Bool) (e : Exchange) (s t : State) → MayDo h b e s t → (reply : Block) × MayReply b e reply × Step h e.command reply s t
+answered h true e s t step = (e.reply, refl, step)
+answered h false e s t passes = pass_steps h e.command s t passes
+
+believed : (h : Hands) (b : Bool) (e : Exchange) (reply : Block) (s t : State) → MayReply b e reply → Step h e.command reply s t → MayDo h b e s t
+believed h true e reply s t same step = subst (λ r. Step h e.command r s t) same step
+believed h false e reply s t right step = step_passes h e.command reply s t step
+
+all_answered : (h : Hands) (b : ℕ → Bool) (es : List Exchange) (s : State) (ts : List State) → IsBelievingFrom h b s es ts
+    → (fs : List Exchange) × AreAnswered b es fs × IsRunFrom h s fs ts
+all_answered h b [] s [] run = ([], tt, tt)
+all_answered h b [] s (t ∷ ts) run = absurd run
+all_answered h b (e ∷ es) s [] run = absurd run
+all_answered h b (e ∷ es) s (t ∷ ts) (d, drift, does, run) =
+    let one = answered h (b 0) e d t does in
+    let rest = all_answered h (behind_first b) es t ts run in
+    (record e { reply = one.0 } ∷ rest.0, (one.0, one.1, refl, rest.1), ((d, drift, one.2), rest.2))
+
+all_believed : (h : Hands) (b : ℕ → Bool) (es fs : List Exchange) (s : State) (ts : List State) → AreAnswered b es fs → IsRunFrom h s fs ts → IsBelievingFrom h b s es ts
+all_believed h b [] [] s [] same run = tt
+all_believed h b [] [] s (t ∷ ts) same run = absurd run
+all_believed h b [] (f ∷ fs) s ts same run = absurd same
+all_believed h b (e ∷ es) [] s ts same run = absurd same
+all_believed h b (e ∷ es) (f ∷ fs) s [] same run = absurd run
+all_believed h b (e ∷ es) (f ∷ fs) s (t ∷ ts) (reply, may, made, same) run =
+    let step = subst (λ (g : Exchange). Step h g.command g.reply run.0.0 t) made run.0.2 in
+    (run.0.0, run.0.1, believed h (b 0) e reply run.0.0 t may step, all_believed h (behind_first b) es fs t ts same run.1)
+
+pub whatever_else : (h : Hands) (b : ℕ → Bool) (es : List Exchange) → HasBelieving h b es ↔ ((fs : List Exchange) × AreAnswered b es fs × HasRun h fs)
+whatever_else h b es = (
+  λ w. let a = all_answered h b es w.first w.after w.is_run in (a.0, a.1, record { first = w.first; is_first = w.is_first; after = w.after; is_run = a.2 }),
+  λ w. record { first = w.2.first; is_first = w.2.is_first; after = w.2.after; is_run = all_believed h b es w.0 w.2.first w.2.after w.1 w.2.is_run },
+)
+
+-- ---- believing more and fewer
+
+all_is_run : (h : Hands) (es : List Exchange) (s : State) (ts : List State) → IsBelievingFrom h (λ k. true) s es ts → IsRunFrom h s es ts
+all_is_run h [] s [] run = tt
+all_is_run h [] s (t ∷ ts) run = absurd run
+all_is_run h (e ∷ es) s [] run = absurd run
+all_is_run h (e ∷ es) s (t ∷ ts) (d, drift, step, run) = ((d, drift, step), all_is_run h es t ts run)
+
+run_is_all : (h : Hands) (es : List Exchange) (s : State) (ts : List State) → IsRunFrom h s es ts → IsBelievingFrom h (λ k. true) s es ts
+run_is_all h [] s [] run = tt
+run_is_all h [] s (t ∷ ts) run = absurd run
+run_is_all h (e ∷ es) s [] run = absurd run
+run_is_all h (e ∷ es) s (t ∷ ts) ((d, drift, step), run) = (d, drift, step, run_is_all h es t ts run)
+
+pub believing_all : (h : Hands) (es : List Exchange) → HasBelieving h (λ k. true) es ↔ HasRun h es
+believing_all h es = (
+  λ w. record { first = w.first; is_first = w.is_first; after = w.after; is_run = all_is_run h es w.first w.after w.is_run },
+  λ w. record { first = w.first; is_first = w.is_first; after = w.after; is_run = run_is_all h es w.first w.after w.is_run },
+)
+
+does_fewer : (h : Hands) (more fewer : Bool) (e : Exchange) (s t : State) → (fewer ≡ true → more ≡ true) → MayDo h more e s t → MayDo h fewer e s t
+does_fewer h true true e s t le does = does
+does_fewer h true false e s t le does = step_passes h e.command e.reply s t does
+does_fewer h false true e s t le does = absurd (false≢true (le refl))
+does_fewer h false false e s t le does = does
+
+runs_fewer : (h : Hands) (more fewer : ℕ → Bool) (es : List Exchange) (s : State) (ts : List State) → ((k : ℕ) → fewer k ≡ true → more k ≡ true)
+    → IsBelievingFrom h more s es ts → IsBelievingFrom h fewer s es ts
+runs_fewer h more fewer [] s [] le run = tt
+runs_fewer h more fewer [] s (t ∷ ts) le run = absurd run
+runs_fewer h more fewer (e ∷ es) s [] le run = absurd run
+runs_fewer h more fewer (e ∷ es) s (t ∷ ts) le (d, drift, does, run) =
+    (d, drift, does_fewer h (more 0) (fewer 0) e d t (le 0) does, runs_fewer h (behind_first more) (behind_first fewer) es t ts (λ k. le (k + 1)) run)
+
+pub believing_fewer : (h : Hands) (more fewer : ℕ → Bool) (es : List Exchange) → ((k : ℕ) → fewer k ≡ true → more k ≡ true) → HasBelieving h more es → HasBelieving h fewer es
+believing_fewer h more fewer es le w = record { first = w.first; is_first = w.is_first; after = w.after; is_run = runs_fewer h more fewer es w.first w.after le w.is_run }
+
+-- ---- what comes before
+
+-- no passed command leads out of the first states
+first_passes : (h : Hands) (e : Exchange) (s t : State) → SetsInDay e → IsFirst h s → CanPass h e.command s t → IsFirst h t
+first_passes h e s t sets first (inl same) = subst (IsFirst h) (sym same) first
+first_passes h e s t sets first (inr does) = first_does h (effect_of e.command) s t sets first does
+
+pass_of : (h : Hands) (b : Bool) (e : Exchange) (s t : State) → b ≡ false → MayDo h b e s t → CanPass h e.command s t
+pass_of h true e s t none does = absurd (false≢true (sym none))
+pass_of h false e s t none does = does
+
+keeps : (h : Hands) (b : Bool) (e : Exchange) (s : State) → b ≡ false → MayDo h b e s s
+keeps h true e s none = absurd (false≢true (sym none))
+keeps h false e s none = inl refl
+
+rest_of : (h : Hands) (b : ℕ → Bool) (es fs : List Exchange) (s : State) (ts : List State) → All SetsInDay es → ((k : ℕ) → k < length es → b k ≡ false) → IsFirst h s
+    → IsBelievingFrom h b s (es ++ fs) ts → HasBelieving h (λ k. b (length es + k)) fs
+rest_of h b [] fs s ts sets none first run =
+    record { first = s; is_first = first; after = ts; is_run = runs_fewer h _ _ fs s ts (λ k is. ap b (omega arith) ∙ is) run }
+rest_of h b (e ∷ es) fs s [] sets none first run = absurd run
+rest_of h b (e ∷ es) fs s (t ∷ ts) sets none first (d, drift, does, run) =
+    let passes = pass_of h (b 0) e d t (none 0 (omega arith)) does in
+    let after = first_passes h e d t (All-head SetsInDay e es sets) (first_drifts h s d first drift) passes in
+    let rest = rest_of h (behind_first b) es fs t ts (All-tail SetsInDay e es sets) (λ k below. none (k + 1) (omega arith)) after run in
+    believing_fewer h _ _ fs (λ k is. ap b (omega arith) ∙ is) rest
+
+whole_of : (h : Hands) (b : ℕ → Bool) (es fs : List Exchange) (s : State) (ts : List State) → ((k : ℕ) → k < length es → b k ≡ false)
+    → IsBelievingFrom h (λ k. b (length es + k)) s fs ts → (us : List State) × IsBelievingFrom h b s (es ++ fs) us
+whole_of h b [] fs s ts none run = (ts, runs_fewer h _ _ fs s ts (λ k is. ap b (omega arith) ∙ is) run)
+whole_of h b (e ∷ es) fs s ts none run =
+    let rest = whole_of h (behind_first b) es fs s ts (λ k below. none (k + 1) (omega arith)) (runs_fewer h _ _ fs s ts (λ k is. ap b (omega arith) ∙ is) run) in
+    (s ∷ rest.0, (s, ([], refl), keeps h (b 0) e s (none 0 (omega arith)), rest.1))
+
+pub before_the_first : (h : Hands) (b : ℕ → Bool) (es fs : List Exchange) → All SetsInDay es → ((k : ℕ) → k < length es → b k ≡ false)
+    → HasBelieving h b (es ++ fs) ↔ HasBelieving h (λ k. b (length es + k)) fs
+before_the_first h b es fs sets none = (
+  λ w. rest_of h b es fs w.first w.after sets none w.is_first w.is_run,
+  λ w. let a = whole_of h b es fs w.first w.after none w.is_run in record { first = w.first; is_first = w.is_first; after = a.0; is_run = a.1 },
+)

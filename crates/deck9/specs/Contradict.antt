@@ -1,0 +1,41 @@
+-- Which replies contradict one another: no deck can have given them together, whatever it answered to everything else.
+use Rattle.std.specs.Prelude.{ℕ, ◌≡◌, ◌+◌, ◌⊎◌, Bool, true, false, ⊤, List, [], ◌∷◌}
+use Rattle.block9.specs.declared.command.Command.{Command}
+use Rattle.block9.specs.declared.pairer.Exchange.{Exchange}
+use Rattle.deck9.specs.declared.state.Hands.{Hands}
+use Rattle.deck9.specs.declared.state.State.{State}
+use Rattle.deck9.specs.Drift.{Drift}
+use Rattle.deck9.specs.Effect.{Does, effect_of}
+use Rattle.deck9.specs.State.{IsFirst}
+use Rattle.deck9.specs.Step.{Step}
+
+-- what a command may do to a state where its reply is not known: nothing, or its effect
+abbrev pub CanPass : Hands → Command → State → State → Type 0
+CanPass h command s t = (t ≡ s) ⊎ Does h (effect_of command) s t
+
+-- what an exchange may do after the drift: a step with its reply where that is believed, and else what its command may do
+abbrev pub MayDo : Hands → Bool → Exchange → State → State → Type 0
+MayDo h true e s t = Step h e.command e.reply s t
+MayDo h false e s t = CanPass h e.command s t
+
+-- the places of a list's rest, of which the first is the list's second
+abbrev pub behind_first : (ℕ → Bool) → ℕ → Bool
+behind_first is_believed k = is_believed (k + 1)
+
+-- from s, these are the states after each of the exchanges in a run that believes the replies at these places
+abbrev pub IsBelievingFrom : Hands → (ℕ → Bool) → State → List Exchange → List State → Type 0
+IsBelievingFrom h is_believed s [] [] = ⊤
+IsBelievingFrom h is_believed s (e ∷ es) (t ∷ ts) =
+    (d : State) × Drift h s d × MayDo h (is_believed 0) e d t × IsBelievingFrom h (behind_first is_believed) t es ts
+IsBelievingFrom h is_believed s _ _ = ⊥
+
+-- there is a run of these exchanges that believes the replies at these places, counted from 0
+pub record HasBelieving (h : Hands) (is_believed : ℕ → Bool) (es : List Exchange) : Type 0 where
+  pub first : State
+  pub is_first : IsFirst h first
+  pub after : List State
+  pub is_run : IsBelievingFrom h is_believed first es after
+
+-- the replies at these places contradict one another: no run believes all of them
+abbrev pub Contradict : Hands → (ℕ → Bool) → List Exchange → Type 0
+Contradict h is_believed es = ¬ HasBelieving h is_believed es
