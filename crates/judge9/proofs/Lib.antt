@@ -7,6 +7,7 @@ pub mod Seen
 pub mod TrailSteps
 pub mod RunJudging
 pub mod LawLemmas
+pub mod HandsLemmas
 pub mod TellLemmas
 pub mod LimitLemmas
 pub mod ReasonLemmas

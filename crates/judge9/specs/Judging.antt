@@ -1,11 +1,12 @@
 -- The answer to a text: a verdict on its records, or the fault for which it can't be read to its end. And what
 -- a result of `judge` tells of it.
-use Rattle.std.specs.Prelude.{◌≡◌, ◌≢◌, ⊤, ◌≤◌, IsTrue, List, Option, Some, None, Result, Ok, Err, if◌then◌else◌}
+use Rattle.std.specs.Prelude.{◌≡◌, ◌≢◌, ⊤, ◌+◌, ◌≤◌, IsTrue, List, Option, Some, None, Result, Ok, Err, if◌then◌else◌}
 use Rattle.capture9.specs.declared.error.CaptureError.{CaptureError}
 use Rattle.capture9.specs.declared.error.CaptureKind.TheVariants as kind
 use Rattle.capture9.specs.declared.line_byte.LineByte.{LineByte}
 use Rattle.capture9.specs.Capture.{IsStartOf}
 use Rattle.capture9.specs.Error.{IsAfter, IsAtItsRow, is_of_text}
+use Rattle.capture9.specs.Fields.{most_rows}
 use Rattle.capture9.specs.Rows.{HasHeader, Rows}
 use Rattle.deck9.specs.declared.state.Hands.{Hands}
 use Rattle.judge9.specs.declared.error.JudgeError.{JudgeError}
@@ -56,7 +57,7 @@ StoppedBefore hands rows error.OutOfMemory = ⊤
 
 -- a row that a refusal of a capture can name
 pub record CanBeRefusal (e : CaptureError) : Type 0 where
-  pub few : e.row ≤ 4000001
+  pub few : e.row ≤ most_rows + 1
   pub at_its_row : IsTrue (is_of_text e.kind) → IsAtItsRow e
 
 -- a result that some reader brings, whether or not it tells its bytes

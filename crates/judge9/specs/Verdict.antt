@@ -1,6 +1,7 @@
 -- When the records of a capture keep the rules, and which record is the first that breaks one.
 use Rattle.std.specs.Prelude.{◌≡◌, ℕ, ◌+◌, ◌*◌, ◌≤◌, List, [], ◌∷◌, ◌++◌, length}
 use Rattle.capture9.specs.declared.line_byte.LineByte.{LineByte}
+use Rattle.capture9.specs.Fields.{most_rows}
 use Rattle.block9.specs.declared.pairer.Exchange.{Exchange}
 use Rattle.block9.specs.declared.reason.Reason.{Reason}
 use Rattle.block9.specs.declared.reason.Reason.TheVariants.{NoRun}
@@ -57,7 +58,7 @@ pub record IsFirstBreak (hands : Hands) (items : List LineByte) (at : ℕ) (reas
 
 -- counts that a capture can have: an exchange has 6 to 36 records, and the open tail 35 at most
 pub record CanBeCounts (records exchanges tail : ℕ) : Type 0 where
-  pub few : records ≤ 4000000
+  pub few : records ≤ most_rows
   pub short : tail ≤ 35
   pub enough : exchanges * 6 + tail ≤ records
   pub no_more : records ≤ exchanges * 36 + tail
@@ -65,7 +66,7 @@ pub record CanBeCounts (records exchanges tail : ℕ) : Type 0 where
 -- the number of a record that can be judged
 pub record CanBeBreak (at : ℕ) : Type 0 where
   pub counted : 1 ≤ at
-  pub few : at ≤ 4000000
+  pub few : at ≤ most_rows
 
 -- a verdict that some capture has
 abbrev pub CanBeVerdict : Verdict → Type 0

@@ -7,6 +7,7 @@ ghost use Rattle.block9.specs.Reason.{IsReason};
 ghost use Rattle.block9.specs.declared.pairer.Exchange.{Exchange};
 ghost use Rattle.capture9.specs.Rows.{Rows};
 ghost use Rattle.judge9.specs.Judging.{Answer, IsAnswer};
+ghost use Rattle.judge9.specs.Judging.Answer.{judged};
 ghost use Rattle.judge9.specs.Report.{AppendsPart, IsText, Told};
 ghost use Rattle.judge9.specs.Verdict.{Breaks, IsOk};
 ghost use Rattle.deck9.specs.Run.{HasRun};
@@ -57,4 +58,13 @@ pub fn first_part_of_the_text()
     ensures { (view : View) (hands : Hands) (rows : Rows) (result : Result Verdict JudgeError) (old new : Option (List ℕ))
         (answer : Answer) (whole : List ℕ) → Told view hands (Some rows) result old new
         → IsAnswer hands rows answer → IsText view hands rows answer whole → AppendsPart old new whole }
+{}
+
+/// Who may touch the deck explains no less: a yes without hands is the same yes with them, and where both are a no, that
+/// with hands is at no earlier record.
+pub fn hands_judge_no_harder()
+    ensures yes { (rows : Rows) (records exchanges tail : ℕ) → IsAnswer Hands.None rows (judged (Verdict.Yes records exchanges tail))
+        → IsAnswer Hands.Allowed rows (judged (Verdict.Yes records exchanges tail)) }
+    ensures no { (rows : Rows) (at other : ℕ) (reason another : Reason) → IsAnswer Hands.None rows (judged (Verdict.No at reason))
+        → IsAnswer Hands.Allowed rows (judged (Verdict.No other another)) → at ≤ other }
 {}
