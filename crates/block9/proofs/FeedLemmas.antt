@@ -1,37 +1,108 @@
--- What a pairer holds after a record that breaks no rule.
-use Rattle.std.proofs.Common.{◌≡◌, ℕ, ◌≤◌, ◌∙◌, ap, sym, false, Bool, Option, Some, None, List}
-use Rattle.std.specs.Prelude.{if◌then◌else◌}
-use Rattle.std.specs.Option.{option_or}
+-- What a pairer answers, and what it holds, after one more record.
+use Rattle.std.proofs.Common.{◌≡◌, ℕ, ◌≤◌, ◌%◌, ◌∙◌, ap, sym, subst, refl, inl, true, false, Option, Some, None, List, [], ◌∷◌, ◌++◌}
+use Rattle.std.specs.List.{sum}
 use Rattle.capture9.specs.declared.line_byte.LineByte.{LineByte}
 use Rattle.block9.specs.declared.command.Command.{Command}
-use Rattle.block9.specs.declared.pairer.Taken.{Taken}
-use Rattle.block9.specs.declared.pairer.Taken.TheVariants as taken
+use Rattle.block9.specs.declared.pairer.Asked.{Asked}
+use Rattle.block9.specs.declared.pairer.Ended.{Ended}
+use Rattle.block9.specs.declared.pairer.Ended.TheVariants as ended
+use Rattle.block9.specs.declared.pairer.Step.{Step}
+use Rattle.block9.specs.declared.pairer.Step.TheVariants as step
+use Rattle.block9.specs.declared.place.Place.{Place}
 use Rattle.block9.specs.declared.reason.Reason.{Reason}
-use Rattle.block9.specs.Exchange.{tail_after}
-use Rattle.block9.specs.Line.{last_time}
-use Rattle.block9.specs.Working.Held.{HoldsInPairer}
-use Rattle.block9.specs.Working.ReadOff.{IsReadAs, IsTurn, meaning_after, step_of}
-use Rattle.block9.specs.Working.Table.{end_fault, meaning_fault, open_at, pairing, place_of, sum_fault}
-use Rattle.block9.proofs.MeaningLemmas.{means_after}
-use Rattle.block9.proofs.StepLemmas.{does, last_time-tail_after, still_tail, tail_short}
+use Rattle.block9.specs.Command.{command_of, fits, is_reply_time_valid}
+use Rattle.block9.specs.declared.block.Block.{Block}
+use Rattle.block9.specs.declared.pairer.Exchange.{Exchange}
+use Rattle.block9.specs.Exchange.{Does, IsCommand, IsExchange, IsKept, tail_after}
+use Rattle.block9.specs.Line.{IsWhole, bytes_of, last_time}
+use Rattle.block9.specs.Pairer.{Paired, Refuses, Takes}
+use Rattle.block9.specs.Reason.{IsReason}
+use Rattle.block9.specs.Working.Body.{block_of}
+use Rattle.block9.specs.Working.Held.{Closes, Ends, HoldsInPairer, IsHeld, IsTurn, asked_after, step_of}
+use Rattle.block9.specs.Working.Table.{command_fault, ends_block, meaning_fault, open_at, pairing, place_of, reply_fault, sum_fault}
+use Rattle.block9.proofs.ReasonLemmas.{reason_broken, table_reason}
+use Rattle.block9.proofs.StepLemmas.{begun_now, closes, commands, held_tail, last_time-tail_after, reply_parts, tail_short, waits}
+use Rattle.block9.proofs.TableLemmas as table
+use Rattle.block9.proofs.TailLemmas.{place_in_command}
+use Rattle.capture9.specs.declared.line_byte.Wire.TheVariants.{Controller}
 
--- a record that is not the last one of its block breaks no rule of a block's end
-pub read_waiting : (t : List LineByte) (r : LineByte) → IsTurn t r false → (pairing t r ≡ None) × IsReadAs t taken.Waiting
-read_waiting t r turn =
-    let place = place_of t in
-    let open_now = open_at place t in
-    let early = ap (λ (e : Option Reason). option_or e (end_fault place t open_now r)) turn.0 in
-    let end = ap (λ (ends : Bool). if ends then option_or (sum_fault open_now r) (meaning_fault place t open_now) else None) (sym turn.1) in
-    (early ∙ end, sym turn.1)
+-- ---- the table at the last record of a block
 
-pub held_after : (t : List LineByte) (r : LineByte) (meaning : Option Command) (last : Option ℕ) (x : Taken) → HoldsInPairer t meaning last
-    → last_time t ≤ r.time_us → (pairing t r ≡ None) × IsReadAs t x
-    → HoldsInPairer (tail_after t r (step_of x)) (meaning_after meaning x) (Some r.time_us)
-held_after t r meaning last x held later read =
-    let tail = still_tail t r (step_of x) (does t r x held.tail later read) in
+-- with a right sum it says what it says of the block's meaning
+pub says_meaning : (t : List LineByte) (r : LineByte) (m : Option Reason) → IsTurn t r true → r.byte ≡ sum (bytes_of (open_at (place_of t) t)) % 256 → meaning_fault (place_of t) t (open_at (place_of t) t) ≡ m → pairing t r ≡ m
+says_meaning t r m turn right meant =
+    let early = turn.0 in
+    let ends = sym turn.1 in
+    let summed : sum_fault (open_at (place_of t) t) r ≡ None = table.true_test _ _ (table.true_eq _ _ right) in
+    rw (early, ends, summed) meant
+
+-- and that is what is said of a command, or of a reply to the one that is held
+pub command_meaning : (t : List LineByte) → IsHeld t None → ends_block (open_at (place_of t) t) ≡ true → meaning_fault (place_of t) t (open_at (place_of t) t) ≡ command_fault (command_of (block_of (bytes_of (open_at (place_of t) t))))
+command_meaning t h ends = let place = place_in_command Controller t (begun_now t h ends) in rw place refl
+
+pub reply_meaning : (t : List LineByte) (a : Asked) → IsHeld t (Some a) → ends_block (open_at (place_of t) t) ≡ true
+    → meaning_fault (place_of t) t (open_at (place_of t) t) ≡ reply_fault (Some a.command) (block_of (bytes_of (open_at (place_of t) t)))
+reply_meaning t a h ends =
+    let parts = reply_parts t a h ends in
+    let place = parts.place.place in
+    let meant = parts.meant in
+    rw place (rw meant refl)
+
+-- ---- what the last record of a block does
+
+pub ends_command : (t : List LineByte) (r : LineByte) (c : Command) → IsHeld t None → last_time t ≤ r.time_us → IsTurn t r true → r.byte ≡ sum (bytes_of (open_at (place_of t) t)) % 256
+    → command_of (block_of (bytes_of (open_at (place_of t) t))) ≡ Some c → IsCommand (t ++ r ∷ []) (block_of (bytes_of (open_at (place_of t) t))) c
+ends_command t r c held later turn right meant =
+    let ends = sym turn.1 in
+    let quiet = says_meaning t r None turn right (command_meaning t held ends ∙ table.some_command _ c meant) in
+    let block : block_of (bytes_of t) ≡ block_of (bytes_of (open_at (place_of t) t)) = sym (ap (λ (p : Place). block_of (bytes_of (open_at p t))) (place_in_command Controller t (begun_now t held ends))) in
+    let command = commands t r held later quiet ends in
+    record { whole = subst (λ (b : Block). IsWhole Controller (t ++ r ∷ []) b) block command.1.whole; meaning = meant }
+
+pub ends_exchange : (t : List LineByte) (a : Asked) (r : LineByte) (e : Exchange) → IsHeld t (Some a) → last_time t ≤ r.time_us → IsTurn t r true → r.byte ≡ sum (bytes_of (open_at (place_of t) t)) % 256
+    → Closes t a e → fits e.command e.reply ≡ true → is_reply_time_valid e.command e.reply ≡ true → IsExchange (t ++ r ∷ []) e
+ends_exchange t a r e held later turn right read kind valid =
+    let ends = sym turn.1 in
+    let parts = reply_parts t a held ends in
+    let reply : e.reply ≡ block_of (bytes_of (open_at (place_of t) t)) = read.reply ∙ sym (ap (λ (p : Place). block_of (bytes_of (open_at p t))) parts.place.place) in
+    let none : reply_fault (Some a.command) (block_of (bytes_of (open_at (place_of t) t))) ≡ None =
+    table.some_reply (Some a.command) e.command _ (ap (λ (c : Command). Some c) (sym read.command)) (ap (fits e.command) (sym reply) ∙ kind) (ap (is_reply_time_valid e.command) (sym reply) ∙ valid) in
+    closes t a r e parts later (says_meaning t r None turn right (reply_meaning t a held ends ∙ none)) ends read
+
+-- ---- what is held afterwards
+
+pub held_waiting : (t : List LineByte) (o : Option Asked) (r : LineByte) (last : Option ℕ) → HoldsInPairer t o last → last_time t ≤ r.time_us → IsTurn t r false
+    → HoldsInPairer (t ++ r ∷ []) o (Some r.time_us) × Does t r step.Waiting
+held_waiting t o r last h later turn =
+    let early = turn.0 in
+    let ends = sym turn.1 in
+    let quiet : pairing t r ≡ None = rw (early, ends) refl in
+    let still = waits t o r h.held later quiet ends in
+    let tail = held_tail (t ++ r ∷ []) o still.held in
+    (record { held = still.held; short = tail_short _ tail; in_order = last_time-tail_after t r step.Waiting }, (tail, still.no_command))
+
+pub held_ended : (t : List LineByte) (r : LineByte) (x : Ended) → Ends t r x → HoldsInPairer (tail_after t r (step_of x)) (asked_after x) (Some r.time_us) × Does t r (step_of x)
+held_ended t r (ended.Command a) h =
+    let held : IsHeld (t ++ r ∷ []) (Some a) = inl h in
+    (record { held = held; short = tail_short _ (held_tail _ (Some a) held); in_order = last_time-tail_after t r step.Command }, (a.block, a.command, h))
+held_ended t r (ended.Exchange e) h =
+    let held : IsHeld [] None = inl refl in
+    (record { held = held; short = tail_short _ (held_tail _ None held); in_order = last_time-tail_after t r (step.Exchange e) }, h)
+
+-- ---- what a caller is told
+
+pub takes : (items : List LineByte) (old new : Paired) (r : LineByte) (s : Step) → items ≡ old.tail → Does items r s → new.tail ≡ tail_after items r s → new.last_time ≡ Some r.time_us → new.reason ≡ None → Takes old r s new
+takes items old new r s same done tail last_time reason =
+    record { does = subst (λ (l : List LineByte). Does l r s) same done; tail = tail ∙ ap (λ (l : List LineByte). tail_after l r s) same; last_time = last_time; reason = reason }
+
+pub refuses : (items : List LineByte) (o : Option Asked) (old new : Paired) (r : LineByte) (reason : Reason) → items ≡ old.tail → IsHeld items o → last_time items ≤ r.time_us → pairing items r ≡ Some reason
+    → new.last_time ≡ Some r.time_us → new.reason ≡ Some reason → Refuses old r reason new
+refuses items o old new r reason same held later told last_time known =
+    let tail = held_tail items o held in
+    let why = table_reason items r reason tail later told in
     record {
-      tail = tail;
-      short = tail_short _ tail;
-      in_order = last_time-tail_after t r (step_of x);
-      means = means_after t r meaning x held.tail later held.means read;
+      is_reason = subst (λ (l : List LineByte). IsReason l r reason) same why;
+      not_kept = subst (λ (l : List LineByte). IsKept (l ++ r ∷ []) → ⊥) same (reason_broken items r reason tail why);
+      last_time = last_time;
+      known = known;
     }

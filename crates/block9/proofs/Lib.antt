@@ -5,9 +5,8 @@ pub mod TableLemmas
 pub mod TailLemmas
 pub mod CutLemmas
 pub mod StepLemmas
-pub mod MeaningLemmas
-pub mod FeedLemmas
 pub mod OrderLemmas
 pub mod HoldsLemmas
 pub mod KeptLemmas
 pub mod ReasonLemmas
+pub mod FeedLemmas

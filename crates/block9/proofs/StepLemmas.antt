@@ -1,5 +1,5 @@
 -- What a record that breaks no rule makes of a tail.
-use Rattle.std.proofs.Common.{◌≡◌, ℕ, ◌-◌, ◌<◌, ◌≤◌, ◌∙◌, List, [], ◌∷◌, ◌++◌, length, take, drop, refl, sym, ap, subst, true, false, Option, Some, None, arith, length-append}
+use Rattle.std.proofs.Common.{◌≡◌, inl, inr, ℕ, ◌-◌, ◌<◌, ◌≤◌, ◌∙◌, List, [], ◌∷◌, ◌++◌, length, take, drop, refl, sym, ap, subst, true, false, Option, Some, None, arith, length-append}
 use Rattle.std.proofs.lemmas.List.{append_assoc, append-nil}
 use Rattle.capture9.specs.declared.line_byte.LineByte.{LineByte}
 use Rattle.capture9.specs.declared.line_byte.Wire.TheVariants.{Controller, Deck}
@@ -7,7 +7,7 @@ use Rattle.block9.specs.declared.block.Block.{Block}
 use Rattle.block9.specs.declared.command.Command.{Command}
 use Rattle.block9.specs.declared.pairer.Exchange.{Exchange}
 use Rattle.block9.specs.declared.place.Place.{Place}
-use Rattle.block9.specs.declared.place.Place.TheVariants.{Idle, InCommand, AfterCommand, InReply}
+use Rattle.block9.specs.declared.place.Place.TheVariants.{InCommand, InReply}
 use Rattle.block9.specs.Working.Body.{block_of}
 use Rattle.block9.specs.Command.{command_of, fits, is_reply_time_valid}
 use Rattle.block9.specs.Line.{IsBegun, IsWhole, block_len, bytes_of, first_time, last_time}
@@ -16,48 +16,64 @@ use Rattle.block9.specs.declared.pairer.Step.{Step}
 use Rattle.block9.specs.declared.pairer.Step.TheVariants as step
 use Rattle.block9.specs.Exchange.IsTail.{nothing, in_command, after_command, in_reply}
 use Rattle.block9.specs.Working.Table.{place_of, open_at, ends_block, pairing}
-use Rattle.block9.specs.declared.pairer.Taken.{Taken}
-use Rattle.block9.specs.declared.pairer.Taken.TheVariants as taken
-use Rattle.block9.specs.Working.ReadOff.{Closes, IsReadAs, step_of}
-use Rattle.block9.specs.Working.Held.{IsNotBefore}
+use Rattle.block9.specs.declared.pairer.Asked.{Asked}
+use Rattle.block9.specs.Working.Held.{Closes, IsHeld, IsNotBefore}
 use Rattle.std.specs.Option.{ForSome}
 use Rattle.block9.proofs.LineLemmas.{last_time-push, whole_len, whole_parts, first_time-push_any}
 use Rattle.block9.proofs.BlockSteps.{begun_more, whole_now}
 use Rattle.block9.proofs.TableLemmas as table
 use Rattle.block9.proofs.TailLemmas.{InReplyOf, place_in_command, place_of_command, kept_idle, kept_in_command, kept_after_command, in_reply_of, kept_in_reply, meaning_in_reply}
 
--- the parts of a tail inside a reply
-pub record ReplyParts (t : List LineByte) : Type 0 where
+-- ---- what is held
+
+-- what is held is a tail, and something is held beside each tail
+pub held_tail : (t : List LineByte) (o : Option Asked) → IsHeld t o → IsTail t
+held_tail t None (inl e) = nothing e
+held_tail t None (inr h) = in_command h
+held_tail t (Some a) (inl h) = after_command a.block a.command h
+held_tail t (Some a) (inr (command, reply, e, hc, hd, soon)) = in_reply command reply a.block a.command e hc hd soon
+
+pub tail_held : (t : List LineByte) → IsTail t → (o : Option Asked) × IsHeld t o
+tail_held t (nothing e) = (None, inl e)
+tail_held t (in_command h) = (None, inr h)
+tail_held t (after_command b c h) = (Some (record { command = c; block = b }), inl h)
+tail_held t (in_reply command reply b c e hc hd soon) = (Some (record { command = c; block = b }), inr (command, reply, e, hc, hd, soon))
+
+-- where the last record of a block is to come and no command is held, a command is begun
+pub begun_now : (t : List LineByte) → IsHeld t None → ends_block (open_at (place_of t) t) ≡ true → IsBegun Controller t
+begun_now t (inl e) ends = absurd (let none : ends_block (open_at (place_of t) t) ≡ false = ap (λ (l : List LineByte). ends_block (open_at (place_of l) l)) e in cc)
+begun_now t (inr h) ends = h
+
+-- and where one is held, its reply is begun: the parts of the tail
+pub record ReplyParts (t : List LineByte) (a : Asked) : Type 0 where
   pub command : List LineByte
   pub reply : List LineByte
-  pub block : Block
-  pub meaning : Command
   pub split : t ≡ command ++ reply
-  pub is_command : IsCommand command block meaning
+  pub is_command : IsCommand command a.block a.command
   pub begun : IsBegun Deck reply
   pub in_time : IsInTime command reply
   pub place : InReplyOf command reply t
+  -- the command as the table reads it off the tail
+  pub meant : command_of (block_of (bytes_of (take (block_len t - 1) t))) ≡ Some a.command
 
-pub reply_parts : (t : List LineByte) → IsTail t → place_of t ≡ InReply → ReplyParts t
-reply_parts t (nothing e) p = absurd (let idle : place_of t ≡ Idle = ap place_of e in let other : Idle ≡ InReply = sym idle ∙ p in cc)
-reply_parts t (in_command h) p = absurd (let other : InCommand ≡ InReply = sym (place_in_command Controller t h) ∙ p in cc)
-reply_parts t (after_command b c h) p = absurd (let other : AfterCommand ≡ InReply = sym (place_of_command Controller t b h.whole) ∙ p in cc)
-reply_parts t (in_reply command reply b c e hc hd soon) p = record {
-  command = command;
-  reply = reply;
-  block = b;
-  meaning = c;
-  split = e;
-  is_command = hc;
-  begun = hd;
-  in_time = soon;
-  place = subst (λ (l : List LineByte). InReplyOf command reply l) (sym e) (in_reply_of command reply b hc.whole hd.begun);
-}
+pub reply_parts : (t : List LineByte) (a : Asked) → IsHeld t (Some a) → ends_block (open_at (place_of t) t) ≡ true → ReplyParts t a
+reply_parts t a (inl h) ends = absurd (let none : ends_block (open_at (place_of t) t) ≡ false = ap (λ (p : Place). ends_block (open_at p t)) (place_of_command Controller t a.block h.whole) in cc)
+reply_parts t a (inr (command, reply, e, hc, hd, soon)) ends =
+    let place : InReplyOf command reply t = subst (λ (l : List LineByte). InReplyOf command reply l) (sym e) (in_reply_of command reply a.block hc.whole hd.begun) in
+    record {
+      command = command;
+      reply = reply;
+      split = e;
+      is_command = hc;
+      begun = hd;
+      in_time = soon;
+      place = place;
+      meant = ap command_of (meaning_in_reply command reply t a.block hc.whole place) ∙ hc.meaning;
+    }
 
 -- the reply's first record is not before the command's last one
-pub delay_fits : (t : List LineByte) → IsTail t → place_of t ≡ InReply → last_time (take (block_len t) t) ≤ first_time (drop (block_len t) t)
-delay_fits t h p =
-    let parts = reply_parts t h p in
+pub delay_fits : (t : List LineByte) (a : Asked) → ReplyParts t a → last_time (take (block_len t) t) ≤ first_time (drop (block_len t) t)
+delay_fits t a parts =
     let last = ap last_time parts.place.first in
     let first = ap first_time parts.place.current in
     let later = parts.in_time.later in
@@ -74,61 +90,57 @@ beyond_command command more b d h some k =
 pub begun_not_whole : (t : List LineByte) (b : Block) → IsBegun Controller t → IsWhole Controller t b → ⊥
 begun_not_whole t b h k = let len = whole_len Controller t b k in let short = h.short in omega arith
 
+-- ---- one more record
+
 -- a record that does not end its block
-pub record StillTail (records : List LineByte) : Type 0 where
-  pub tail : IsTail records
+pub record StillHeld (records : List LineByte) (o : Option Asked) : Type 0 where
+  pub held : IsHeld records o
   pub no_command : (b : Block) (c : Command) → IsCommand records b c → ⊥
 
-pub waits : (t : List LineByte) (r : LineByte) → IsTail t → last_time t ≤ r.time_us → pairing t r ≡ None → ends_block (open_at (place_of t) t) ≡ false → StillTail (t ++ r ∷ [])
-waits t r (nothing e) later quiet ends =
+pub waits : (t : List LineByte) (o : Option Asked) (r : LineByte) → IsHeld t o → last_time t ≤ r.time_us → pairing t r ≡ None → ends_block (open_at (place_of t) t) ≡ false → StillHeld (t ++ r ∷ []) o
+waits t None r (inl e) later quiet ends =
     let begun = kept_idle r (subst (λ (l : List LineByte). pairing l r ≡ None) e quiet) in
-    let still : StillTail (r ∷ []) = record { tail = in_command begun; no_command = λ b c h. begun_not_whole (r ∷ []) b begun h.whole } in
-    subst (λ (l : List LineByte). StillTail (l ++ r ∷ [])) (sym e) still
-waits t r (in_command h) later quiet ends =
+    let still : StillHeld (r ∷ []) None = record { held = inr begun; no_command = λ b c h. begun_not_whole (r ∷ []) b begun h.whole } in
+    subst (λ (l : List LineByte). StillHeld (l ++ r ∷ []) None) (sym e) still
+waits t None r (inr h) later quiet ends =
     let same : ends_block t ≡ false = sym (ap (λ (p : Place). ends_block (open_at p t)) (place_in_command Controller t h)) ∙ ends in
     let more = begun_more Controller t r h (kept_in_command t r h later quiet).1 same in
-    record { tail = in_command more; no_command = λ b c k. begun_not_whole (t ++ r ∷ []) b more k.whole }
-waits t r (after_command b c h) later quiet ends =
-    let next = kept_after_command t r b h.whole later quiet in
-    record { tail = in_reply t (r ∷ []) b c refl h next.0 next.1; no_command = λ d x k. beyond_command t (r ∷ []) b d h.whole (omega arith) k.whole }
-waits t r (in_reply command reply b c e hc hd soon) later quiet ends =
-    let parts = in_reply_of command reply b hc.whole hd.begun in
-    let place : InReplyOf command reply t = subst (λ (l : List LineByte). InReplyOf command reply l) (sym e) parts in
+    record { held = inr more; no_command = λ b c k. begun_not_whole (t ++ r ∷ []) b more k.whole }
+waits t (Some a) r (inl h) later quiet ends =
+    let next = kept_after_command t r a.block h.whole later quiet in
+    record { held = inr (t, r ∷ [], refl, h, next.0, next.1); no_command = λ d x k. beyond_command t (r ∷ []) a.block d h.whole (omega arith) k.whole }
+waits t (Some a) r (inr (command, reply, e, hc, hd, soon)) later quiet ends =
+    let place : InReplyOf command reply t = subst (λ (l : List LineByte). InReplyOf command reply l) (sym e) (in_reply_of command reply a.block hc.whole hd.begun) in
     let same : ends_block reply ≡ false = sym (ap (λ (p : Place). ends_block (open_at p t)) place.place ∙ ap ends_block place.current) ∙ ends in
     let more = begun_more Deck reply r hd (kept_in_reply command reply t r place later quiet).1 same in
     let whole : t ++ r ∷ [] ≡ command ++ (reply ++ r ∷ []) = ap (λ (l : List LineByte). l ++ r ∷ []) e ∙ append_assoc command reply (r ∷ []) in
     let first = first_time-push_any reply r hd.begun in
-    let still : StillTail (command ++ (reply ++ r ∷ [])) = record {
-      tail = in_reply command (reply ++ r ∷ []) b c refl hc more (record { later = let a = soon.later in omega arith; soon = let a = soon.soon in omega arith });
-      no_command = λ d x k. beyond_command command (reply ++ r ∷ []) b d hc.whole more.begun k.whole;
-    } in
-    subst StillTail (sym whole) still
+    let in_time : IsInTime command (reply ++ r ∷ []) = record { later = let a = soon.later in omega arith; soon = let a = soon.soon in omega arith } in
+    record {
+      held = inr (command, reply ++ r ∷ [], whole, hc, more, in_time);
+      no_command = λ d x k. beyond_command command (reply ++ r ∷ []) a.block d hc.whole more.begun (subst (λ (l : List LineByte). IsWhole Controller l d) whole k.whole);
+    }
 
 -- a record that ends a command
-pub commands : (t : List LineByte) (r : LineByte) → IsTail t → last_time t ≤ r.time_us → pairing t r ≡ None → ends_block (open_at (place_of t) t) ≡ true → place_of t ≡ InCommand → (b : Block) × (c : Command) × IsCommand (t ++ r ∷ []) b c
-commands t r (nothing e) later quiet ends p = absurd (let idle : place_of t ≡ Idle = ap place_of e in let other : Idle ≡ InCommand = sym idle ∙ p in cc)
-commands t r (in_command h) later quiet ends p =
+pub commands : (t : List LineByte) (r : LineByte) → IsHeld t None → last_time t ≤ r.time_us → pairing t r ≡ None → ends_block (open_at (place_of t) t) ≡ true
+    → (c : Command) × IsCommand (t ++ r ∷ []) (block_of (bytes_of t)) c
+commands t r held later quiet ends =
+    let h = begun_now t held ends in
     let same : ends_block t ≡ true = sym (ap (λ (p : Place). ends_block (open_at p t)) (place_in_command Controller t h)) ∙ ends in
     let next = kept_in_command t r h later quiet in
     let parts = table.end_none InCommand t t r next.0.at_end same in
     let meaning = table.command_some _ parts.1 in
-    (block_of (bytes_of t), meaning.0, record { whole = whole_now Controller t r h next.1 same parts.0; meaning = meaning.1 })
-commands t r (after_command b c h) later quiet ends p = absurd (let other : AfterCommand ≡ InCommand = sym (place_of_command Controller t b h.whole) ∙ p in cc)
-commands t r (in_reply command reply b c e hc hd soon) later quiet ends p =
-    absurd (let place = subst (λ (l : List LineByte). place_of l ≡ InReply) (sym e) (in_reply_of command reply b hc.whole hd.begun).place in let other : InReply ≡ InCommand = sym place ∙ p in cc)
+    (meaning.0, record { whole = whole_now Controller t r h next.1 same parts.0; meaning = meaning.1 })
 
 -- a record that ends a reply
-pub closes : (t : List LineByte) (r : LineByte) (e : Exchange) → IsTail t → last_time t ≤ r.time_us → pairing t r ≡ None → ends_block (open_at (place_of t) t) ≡ true → place_of t ≡ InReply → Closes t e → IsExchange (t ++ r ∷ []) e
-closes t r e h later quiet ends p read =
-    let parts = reply_parts t h p in
-    let same : ends_block parts.reply ≡ true = sym (ap (λ (p : Place). ends_block (open_at p t)) p ∙ ap ends_block parts.place.current) ∙ ends in
+pub closes : (t : List LineByte) (a : Asked) (r : LineByte) (e : Exchange) → ReplyParts t a → last_time t ≤ r.time_us → pairing t r ≡ None → ends_block (open_at (place_of t) t) ≡ true → Closes t a e → IsExchange (t ++ r ∷ []) e
+closes t a r e parts later quiet ends read =
+    let same : ends_block parts.reply ≡ true = sym (ap (λ (p : Place). ends_block (open_at p t)) parts.place.place ∙ ap ends_block parts.place.current) ∙ ends in
     let next = kept_in_reply parts.command parts.reply t r parts.place later quiet in
     let at_end : table.end_none_of InReply t parts.reply r = subst (λ (l : List LineByte). table.end_none_of InReply t l r) parts.place.current next.0.at_end in
     let end = table.end_none InReply t parts.reply r at_end same in
     let reply : e.reply ≡ block_of (bytes_of parts.reply) = read.reply ∙ ap (λ (l : List LineByte). block_of (bytes_of l)) parts.place.current in
-    let meant : command_of (block_of (bytes_of (take (block_len t - 1) t))) ≡ Some e.command = ap command_of (sym read.block) ∙ read.meaning in
-    let right = table.reply_some _ e.command (block_of (bytes_of parts.reply)) meant end.1 in
-    let block : e.block ≡ parts.block = read.block ∙ meaning_in_reply parts.command parts.reply t parts.block parts.is_command.whole parts.place in
+    let right = table.reply_some _ e.command (block_of (bytes_of parts.reply)) (parts.meant ∙ ap (λ (c : Command). Some c) (sym read.command)) end.1 in
     let first = first_time-push_any parts.reply r parts.begun.begun in
     let last = ap last_time parts.place.first in
     let head = ap first_time parts.place.current in
@@ -137,7 +149,7 @@ closes t r e h later quiet ends p read =
       asked = parts.command;
       answered = parts.reply ++ r ∷ [];
       split = ap (λ (l : List LineByte). l ++ r ∷ []) parts.split ∙ append_assoc parts.command parts.reply (r ∷ []);
-      command = record { whole = subst (λ (b : Block). IsWhole Controller parts.command b) (sym block) parts.is_command.whole; meaning = read.meaning };
+      command = rw (read.block, read.command) parts.is_command;
       reply = subst (λ (b : Block). IsWhole Deck (parts.reply ++ r ∷ []) b) (sym reply) (whole_now Deck parts.reply r parts.begun next.1 same end.0);
       in_time = record { later = let a = parts.in_time.later in omega arith; soon = let a = parts.in_time.soon in omega arith };
       delay = omega arith;
@@ -160,12 +172,6 @@ tail_short t (in_reply command reply b c e hc hd soon) =
     let d = hd.short in
     omega (arith, length-append command reply, block_len_low command, block_len_low reply)
 
--- the step that is told is the one that the record does
-pub does : (t : List LineByte) (r : LineByte) (x : Taken) → IsTail t → last_time t ≤ r.time_us → (pairing t r ≡ None) × IsReadAs t x → Does t r (step_of x)
-does t r taken.Waiting h later read = let still = waits t r h later read.0 read.1 in (still.tail, still.no_command)
-does t r (taken.Command c) h later read = commands t r h later read.0 read.1.0 read.1.1
-does t r (taken.Exchange e) h later read = closes t r e h later read.0 read.1.0 read.1.1 read.1.2
-
 -- what it leaves is a tail, with no record after the one that was fed
 pub still_tail : (t : List LineByte) (r : LineByte) (s : Step) → Does t r s → IsTail (tail_after t r s)
 still_tail t r step.Waiting h = h.0
@@ -181,9 +187,3 @@ last_time-tail_after t r (step.Exchange e) = omega arith
 pub in_order : (last : Option ℕ) (before now : ℕ) → IsNotBefore last before → ForSome last (λ time. time ≤ now) → before ≤ now
 in_order None before now h k = omega arith
 in_order (Some time) before now h k = let t = k time refl in omega arith
-
--- the command's records without the last one, from the tail that begins with them
-pub body_again : (t : List LineByte) → IsTail t → place_of t ≡ InReply → take (length (take (block_len t) t) - 1) (take (block_len t) t) ≡ take (block_len t - 1) t
-body_again t h p =
-    let parts = reply_parts t h p in
-    ap (λ (l : List LineByte). take (length l - 1) l) parts.place.first ∙ sym parts.place.body

@@ -28,6 +28,10 @@ pub place_in_reply : (t : List LineByte) → 0 < length t → block_len t < leng
 place_in_reply [] h e = absurd (omega arith)
 place_in_reply (a ∷ rest) h e = grind (arith, nat_tests)
 
+pub in_reply_len : (t : List LineByte) → place_of t ≡ InReply → block_len t ≤ length t
+in_reply_len [] e = cc
+in_reply_len (a ∷ rest) e = grind (arith, nat_tests)
+
 pub at_place : (p : Place) (t : List LineByte) (r : LineByte) → place_of t ≡ p → pairing t r ≡ fault_at p t r
 at_place p t r e = ap (λ (p : Place). fault_at p t r) e
 

@@ -2,5 +2,4 @@
 -- reader has to believe it.
 pub mod Body
 pub mod Table
-pub mod ReadOff
 pub mod Held

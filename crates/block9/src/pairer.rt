@@ -1,12 +1,11 @@
 //! Pairs commands with replies, one record at a time.
-ghost use Rattle.std.specs.Prelude.{◌≡◌, ◌≤◌, length, take, drop, ◌-◌, true, IfOk, IfErr, Some, None};
-ghost use Rattle.block9.specs.Command.{command_of, fits, is_reply_time_valid};
-ghost use Rattle.block9.specs.Exchange.{IsTail, tail_after};
-ghost use Rattle.block9.specs.Line.{block_len, bytes_of, last_time};
+ghost use Rattle.std.specs.Prelude.{◌≡◌, ◌≤◌, length, true, IfOk, IfErr, Some};
+ghost use Rattle.block9.specs.Command.{fits, is_reply_time_valid};
+ghost use Rattle.block9.specs.Exchange.{tail_after};
+ghost use Rattle.block9.specs.Line.{bytes_of, last_time};
 ghost use Rattle.block9.specs.Working.Body.{block_of};
-ghost use Rattle.block9.specs.Working.Held.{Means};
-ghost use Rattle.block9.specs.Working.ReadOff.{Closes, IsReadAs, IsTurn, meaning_after, step_of};
-ghost use Rattle.block9.specs.Working.Table.{early_fault, pairing, place_of, reply_fault};
+ghost use Rattle.block9.specs.Working.Held.{Closes, Ends, IsHeld, IsTurn, asked_after, step_of};
+ghost use Rattle.block9.specs.Working.Table.{early_fault, ends_block, open_at, pairing, place_of, reply_fault};
 
 use crate::block::{Block, sum_of};
 use crate::command::Command;
@@ -44,14 +43,21 @@ pub enum Step {
     Exchange(Exchange),
 }
 
-/// What a record does that keeps the rules, and what a command means that it ends.
+/// A whole command, as it is kept beside its records while its reply is to come.
 #[derive(Drop)]
-enum Taken {
-    /// It begins a block or goes on with one.
-    Waiting,
-    /// It is the last record of this command.
-    Command(Command),
-    /// It is the last record of a reply: this exchange is whole.
+struct Asked {
+    /// What the command's block means.
+    command: Command,
+    /// The command's block.
+    block: Block,
+}
+
+/// What the last record of a block does that keeps the rules.
+#[derive(Drop)]
+enum Ended {
+    /// It ends this command.
+    Command(Asked),
+    /// It ends a reply: this exchange is whole.
     Exchange(Exchange),
 }
 
@@ -67,23 +73,15 @@ fn early_fault(place: Place, tail: &[LineByte], line_byte: LineByte) -> Option<R
         .or(rules::group_fault(place, rules::allows(line_byte.wire, line_byte.byte / 16)))
 }
 
-/// The exchange that the tail and a whole reply are. `meaning`: what the tail's command means.
-fn exchange_of(
-    tail: &[LineByte],
-    meaning: Option<Command>,
-    reply: Block,
-) -> Result<Exchange, Reason>
-    requires tail { IsTail tail.now }
-    requires in_reply { place_of tail.now ≡ Place.InReply }
-    requires means { Means tail.now meaning }
-    requires reply { reply ≡ block_of (bytes_of (drop (block_len tail.now) tail.now)) }
-    ensures ok { IfOk result (λ e. Closes tail.now e × (fits e.command e.reply ≡ true) × (is_reply_time_valid e.command e.reply ≡ true)) }
-    ensures err { IfErr result (λ reason. reply_fault (command_of (block_of (bytes_of (take (block_len tail.now - 1) tail.now)))) reply ≡ Some reason) }
+/// The exchange that the tail and a whole reply to its command are.
+fn exchange_of(tail: &[LineByte], asked: Asked, reply: Block) -> Result<Exchange, Reason>
+    requires held { IsHeld tail.now (Some asked) }
+    requires ends { ends_block (open_at (place_of tail.now) tail.now) ≡ true }
+    requires reply { reply ≡ block_of (bytes_of (open_at (place_of tail.now) tail.now)) }
+    ensures ok { IfOk result (λ e. Closes tail.now asked e × (fits e.command e.reply ≡ true) × (is_reply_time_valid e.command e.reply ≡ true)) }
+    ensures err { IfErr result (λ reason. reply_fault (Some asked.command) reply ≡ Some reason) }
 {
-    // A command without a meaning was refused at its last record, so there is one here.
-    let Some(command) = meaning else {
-        return Err(Reason::InvalidCommandTime);
-    };
+    let Asked { command, block } = asked;
     if !command.fits(&reply) {
         return Err(Reason::WrongReply);
     }
@@ -91,7 +89,6 @@ fn exchange_of(
         return Err(Reason::InvalidReplyTime);
     }
     let (asked, answered) = tail.split_at(block_len(tail));
-    let block = Block::of_body(bytes_of(&asked[..asked.len() - 1]).as_slice());
     let delay_us = first_time(answered) - last_time(asked);
     Ok(Exchange {
         command,
@@ -133,16 +130,12 @@ fn turn(tail: &[LineByte], line_byte: LineByte) -> Result<bool, Reason>
 }
 
 /// What the last record of a block does, where it breaks no rule before its block is whole, or the first rule that it
-/// breaks. `meaning`: what the tail's command means, once it is whole.
-fn answer(
-    tail: &[LineByte],
-    meaning: &Option<Command>,
-    line_byte: LineByte,
-) -> Result<Taken, Reason>
-    requires tail { IsTail tail.now }
-    requires means { Means tail.now meaning.now }
+/// breaks. `asked`: the whole command with which the tail begins, if it does.
+fn end(tail: &[LineByte], asked: Option<Asked>, line_byte: LineByte) -> Result<Ended, Reason>
+    requires held { IsHeld tail.now asked }
+    requires later { last_time tail.now ≤ line_byte.time_us }
     requires ends { IsTurn tail.now line_byte true }
-    ensures ok { IfOk result (λ taken. (pairing tail.now line_byte ≡ None) × IsReadAs tail.now taken) }
+    ensures ok { IfOk result (λ ended. Ends tail.now line_byte ended) }
     ensures err { IfErr result (λ reason. pairing tail.now line_byte ≡ Some reason) }
 {
     let place = Place::of(tail);
@@ -151,41 +144,40 @@ fn answer(
         return Err(Reason::WrongSum);
     }
     let block = Block::of_body(body.as_slice());
-    if place == Place::InReply {
-        return exchange_of(tail, *meaning, block).map(Taken::Exchange);
-    }
-    match Command::of(&block) {
-        Some(command) => Ok(Taken::Command(command)),
-        None => Err(Reason::InvalidCommandTime),
+    match asked {
+        Some(asked) => {
+            let exchange = exchange_of(tail, asked, block)?;
+            Ok(Ended::Exchange(exchange))
+        }
+        None => match Command::of(&block) {
+            Some(command) => Ok(Ended::Command(Asked { command, block })),
+            None => Err(Reason::InvalidCommandTime),
+        },
     }
 }
 
-/// Leaves the tail and its command's meaning as the record does, and answers the step: the tail has the record
-/// at its end, or is empty after a whole exchange.
+/// Leaves the tail and what is kept of its command as the last record of a block does, and answers the step: the tail
+/// has the record at its end, or is empty after a whole exchange.
 fn advance(
     tail: &mut ArrayVec<LineByte, 35>,
-    meaning: &mut Option<Command>,
+    asked: &mut Option<Asked>,
     line_byte: LineByte,
-    taken: Taken,
+    ended: Ended,
 ) -> Step
-    requires { length (tail_after tail.old.items line_byte (step_of taken)) ≤ 35 }
-    ensures step { result ≡ step_of taken }
-    ensures tail { tail.new.items ≡ tail_after tail.old.items line_byte (step_of taken) }
-    ensures meaning { meaning.new ≡ meaning_after meaning.old taken }
+    requires { length (tail_after tail.old.items line_byte (step_of ended)) ≤ 35 }
+    ensures step { result ≡ step_of ended }
+    ensures tail { tail.new.items ≡ tail_after tail.old.items line_byte (step_of ended) }
+    ensures asked { asked.new ≡ asked_after ended }
 {
-    match taken {
-        Taken::Waiting => {
+    match ended {
+        Ended::Command(command) => {
             tail.push(line_byte);
-            Step::Waiting
-        }
-        Taken::Command(command) => {
-            tail.push(line_byte);
-            *meaning = Some(command);
+            *asked = Some(command);
             Step::Command
         }
-        Taken::Exchange(exchange) => {
+        Ended::Exchange(exchange) => {
             tail.clear();
-            *meaning = None;
+            *asked = None;
             Step::Exchange(exchange)
         }
     }
@@ -207,13 +199,14 @@ fn refuse(kept: &mut Option<Reason>, reason: Reason) -> Reason
 #[derive(Drop)]
 pub struct Pairer {
     tail: ArrayVec<LineByte, 35>,
-    /// What the tail's command means, once it is whole.
-    meaning: Option<Command>,
+    /// The command with which the tail begins, once it is whole.
+    asked: Option<Asked>,
     last_time: Option<u64>,
     reason: Option<Reason>,
 }
 
 impl Model for Pairer {
+    ghost use Rattle.std.specs.Prelude.{◌≡◌, None};
     ghost use Rattle.block9.specs.Pairer.{Paired};
     ghost use Rattle.block9.specs.Working.Held.{HoldsInPairer};
 
@@ -221,7 +214,7 @@ impl Model for Pairer {
 
     ghost view = { λ p. record { tail = p.tail.items; last_time = p.last_time; reason = p.reason } };
 
-    ghost invariant = { λ p. HoldsInPairer p.tail.items p.meaning p.last_time };
+    ghost invariant = { λ p. p.reason ≡ None → HoldsInPairer p.tail.items p.asked p.last_time };
 }
 
 impl Pairer {
@@ -235,7 +228,7 @@ impl Pairer {
     {
         Pairer {
             tail: ArrayVec::new(),
-            meaning: None,
+            asked: None,
             last_time: None,
             reason: None,
         }
@@ -265,14 +258,14 @@ impl Pairer {
         }
         self.last_time = Some(line_byte.time_us);
         match turn(self.tail.as_slice(), line_byte) {
-            Ok(true) => match answer(self.tail.as_slice(), &self.meaning, line_byte) {
-                Ok(taken) => Ok(advance(&mut self.tail, &mut self.meaning, line_byte, taken)),
+            Ok(false) => {
+                self.tail.push(line_byte);
+                Ok(Step::Waiting)
+            }
+            Ok(true) => match end(self.tail.as_slice(), self.asked.take(), line_byte) {
+                Ok(ended) => Ok(advance(&mut self.tail, &mut self.asked, line_byte, ended)),
                 Err(reason) => Err(refuse(&mut self.reason, reason)),
             },
-            Ok(false) => {
-                let waiting = Taken::Waiting;
-                Ok(advance(&mut self.tail, &mut self.meaning, line_byte, waiting))
-            }
             Err(reason) => Err(refuse(&mut self.reason, reason)),
         }
     }

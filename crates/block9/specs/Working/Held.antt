@@ -1,23 +1,58 @@
--- What holds inside a `Pairer`, which callers do not see.
-use Rattle.std.specs.Prelude.{◌≡◌, ◌≤◌, ℕ, length, Option, Some, None, List, ◌++◌}
+-- What a `Pairer` holds, which callers do not see, and what a record does to it.
+use Rattle.std.specs.Prelude.{ℕ, ◌≡◌, ◌≤◌, ◌+◌, ◌⊎◌, length, Bool, Option, Some, None, List, [], ◌∷◌, ◌++◌, take, drop}
 use Rattle.capture9.specs.declared.line_byte.LineByte.{LineByte}
-use Rattle.block9.specs.declared.block.Block.{Block}
-use Rattle.block9.specs.declared.command.Command.{Command}
-use Rattle.block9.specs.Exchange.{IsCommand, IsTail}
-use Rattle.block9.specs.Line.{last_time}
+use Rattle.capture9.specs.declared.line_byte.Wire.TheVariants.{Controller, Deck}
+use Rattle.block9.specs.declared.pairer.Asked.{Asked}
+use Rattle.block9.specs.declared.pairer.Ended.{Ended}
+use Rattle.block9.specs.declared.pairer.Ended.TheVariants as ended
+use Rattle.block9.specs.declared.pairer.Exchange.{Exchange}
+use Rattle.block9.specs.declared.pairer.Step.{Step}
+use Rattle.block9.specs.declared.pairer.Step.TheVariants as step
+use Rattle.block9.specs.Exchange.{IsCommand, IsExchange, IsInTime}
+use Rattle.block9.specs.Line.{IsBegun, block_len, bytes_of, first_time, last_time}
+use Rattle.block9.specs.Working.Body.{block_of}
+use Rattle.block9.specs.Working.Table.{early_fault, ends_block, open_at, place_of}
+
+-- the records are a tail, and what is kept beside them is the whole command with which they begin, if they do
+abbrev pub IsHeld : List LineByte → Option Asked → Type 0
+IsHeld records None = (records ≡ []) ⊎ IsBegun Controller records
+IsHeld records (Some a) =
+    IsCommand records a.block a.command
+    ⊎ ((command : List LineByte) × (reply : List LineByte) × (records ≡ command ++ reply) × IsCommand command a.block a.command × IsBegun Deck reply × IsInTime command reply)
 
 -- a time that is known, and is not before this one; with none known, it is 0
 abbrev pub IsNotBefore : Option ℕ → ℕ → Type 0
 IsNotBefore None time = time ≡ 0
 IsNotBefore (Some last) time = time ≤ last
 
--- what the whole command means with which the records begin, if they do
-abbrev pub Means : List LineByte → Option Command → Type 0
-Means records meaning = (command more : List LineByte) (b : Block) (c : Command) → records ≡ command ++ more → IsCommand command b c → meaning ≡ Some c
-
--- the records are a tail, none is later than the last one that was fed, and what their command means is kept
-pub record HoldsInPairer (records : List LineByte) (meaning : Option Command) (last : Option ℕ) : Type 0 where
-  pub tail : IsTail records
+-- what holds inside a `Pairer`: none of its records is later than the last one that was fed
+pub record HoldsInPairer (records : List LineByte) (asked : Option Asked) (last : Option ℕ) : Type 0 where
+  pub held : IsHeld records asked
   pub short : length records ≤ 35
   pub in_order : IsNotBefore last (last_time records)
-  pub means : Means records meaning
+
+-- a record that breaks no rule before its block is whole, and whether it is the last one of its block
+abbrev pub IsTurn : List LineByte → LineByte → Bool → Type 0
+IsTurn tail r ends = (early_fault (place_of tail) tail r ≡ None) × (ends ≡ ends_block (open_at (place_of tail) tail))
+
+-- an exchange that a tail inside a reply and one more record are, as it is read
+pub record Closes (tail : List LineByte) (a : Asked) (e : Exchange) : Type 0 where
+  pub block : e.block ≡ a.block
+  pub command : e.command ≡ a.command
+  pub reply : e.reply ≡ block_of (bytes_of (drop (block_len tail) tail))
+  pub delay : last_time (take (block_len tail) tail) + e.delay_us ≡ first_time (drop (block_len tail) tail)
+
+-- what the last record of a block does that keeps the rules
+abbrev pub Ends : List LineByte → LineByte → Ended → Type 0
+Ends tail r (ended.Command a) = IsCommand (tail ++ r ∷ []) a.block a.command
+Ends tail r (ended.Exchange e) = IsExchange (tail ++ r ∷ []) e
+
+-- the step that a caller is told of it
+abbrev pub step_of : Ended → Step
+step_of (ended.Command a) = step.Command
+step_of (ended.Exchange e) = step.Exchange e
+
+-- what is kept of the tail's command afterwards
+abbrev pub asked_after : Ended → Option Asked
+asked_after (ended.Command a) = Some a
+asked_after (ended.Exchange e) = None

@@ -1,0 +1,33 @@
+use Rattle.std.proofs.Common.{◌∙◌, ap, sym, subst, ◌%◌, Some, rules}
+use Rattle.std.specs.List.{sum}
+use Rattle.block9.specs.declared.place.Place.{Place}
+use Rattle.block9.specs.Line.{bytes_of}
+use Rattle.block9.specs.Working.Body.{block_of}
+use Rattle.block9.specs.Working.Held.{IsHeld}
+use Rattle.block9.specs.Working.Table.{open_at, reply_fault}
+use Rattle.block9.proofs.FeedLemmas.{ends_exchange, reply_meaning, says_meaning}
+use Rattle.block9.proofs.pairer.end.Goals as goal
+
+pub exchange_of-requires-clause-reply : goal.exchange_of-requires-clause-reply
+exchange_of-requires-clause-reply c =
+    let open_now = c.open_in.ensures ∙ ap (λ (p : Place). open_at p c.args.tail.now) c.of-place.ensures in
+    c.of_body-block.ensures ∙ ap block_of (c.as_slice-2.ensures.value ∙ c.bytes_of-body.ensures ∙ ap bytes_of open_now)
+
+pub returns-in_err-exchange-in-Some-clause-err : goal.returns-in_err-exchange-in-Some-clause-err
+returns-in_err-exchange-in-Some-clause-err c =
+    let open_now = c.open_in.ensures ∙ ap (λ (p : Place). open_at p c.args.tail.now) c.of-place.ensures in
+    let bytes = c.bytes_of-body.ensures ∙ ap bytes_of open_now in
+    let block = c.of_body-block.ensures ∙ ap block_of (c.as_slice-2.ensures.value ∙ bytes) in
+    let right = sym c.if-sum_of-line_byte.false ∙ c.sum_of.ensures ∙ ap (λ l. sum l % 256) (c.as_slice.ensures.value ∙ bytes) in
+    let held = subst (IsHeld c.args.tail.now) c.in-Some.is c.requires.held in
+    let fault = ap (reply_fault (Some c.in-Some.asked.command)) (sym block) ∙ c.in_err-exchange-in-Some.ensures.err in
+    let told = says_meaning c.args.tail.now c.args.line_byte _ c.requires.ends right (reply_meaning c.args.tail.now c.in-Some.asked held (sym c.requires.ends.1) ∙ fault) in
+    search (rules, told)
+
+pub returns-in_ok-exchange-in-Some-clause-ok : goal.returns-in_ok-exchange-in-Some-clause-ok
+returns-in_ok-exchange-in-Some-clause-ok c =
+    let open_now = c.open_in.ensures ∙ ap (λ (p : Place). open_at p c.args.tail.now) c.of-place.ensures in
+    let right = sym c.if-sum_of-line_byte.false ∙ c.sum_of.ensures ∙ ap (λ l. sum l % 256) (c.as_slice.ensures.value ∙ c.bytes_of-body.ensures ∙ ap bytes_of open_now) in
+    let held = subst (IsHeld c.args.tail.now) c.in-Some.is c.requires.held in
+    let read = c.in_ok-exchange-in-Some.ensures.ok in
+    ends_exchange c.args.tail.now c.in-Some.asked c.args.line_byte c.in_ok-exchange-in-Some.exchange held c.requires.later c.requires.ends right read.0 read.1 read.2
