@@ -5,6 +5,12 @@ ghost use Rattle.std.specs.List.{sum};
 use arrayvec::ArrayVec;
 use tc25::TimeCode;
 
+/// The most data bytes of a block.
+const MOST_DATA: usize = 15;
+
+/// The most bytes of a block before its sum: the first one, its code and its data.
+pub(crate) const MOST_BODY: usize = 17;
+
 /// A block: a group, a code, and 0 to 15 data bytes.
 ///
 /// On the line stand the group and the number of data bytes in one byte, the code, the data, and the sum
@@ -16,7 +22,7 @@ pub struct Block {
     /// The second byte: which message of its group it is.
     pub code: u8,
     /// The data bytes, as many as the low four bits of the first byte say.
-    pub bytes: ArrayVec<u8, 15>,
+    pub bytes: ArrayVec<u8, MOST_DATA>,
 }
 
 impl Block {

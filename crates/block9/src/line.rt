@@ -3,6 +3,7 @@ ghost use Rattle.std.specs.Prelude.{◌≡◌, ◌≤◌, length};
 ghost use Rattle.block9.specs.Line.{block_len, bytes_of, first_time, last_time};
 ghost use Rattle.block9.specs.Working.Table.{ends_block};
 
+use crate::block::MOST_BODY;
 use arrayvec::ArrayVec;
 use capture9::LineByte;
 
@@ -45,7 +46,7 @@ pub(crate) fn last_time(records: &[LineByte]) -> u64
 }
 
 /// The bytes of the records, of which there are no more than a block's first byte, code and data.
-pub(crate) fn bytes_of(records: &[LineByte]) -> ArrayVec<u8, 17>
+pub(crate) fn bytes_of(records: &[LineByte]) -> ArrayVec<u8, MOST_BODY>
     requires { length records.now ≤ 17 }
     ensures { result.items ≡ bytes_of records.now }
 {

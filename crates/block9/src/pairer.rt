@@ -18,6 +18,9 @@ use arrayvec::ArrayVec;
 use capture9::LineByte;
 use std::marker::Model;
 
+/// The most records since the last whole exchange: a command of 18, and all of its reply but the last.
+const MOST_OPEN: usize = 35;
+
 /// A whole command and its whole reply.
 #[derive(Debug, Drop, PartialEq, Eq)]
 pub struct Exchange {
@@ -159,7 +162,7 @@ fn end(tail: &[LineByte], asked: Option<Asked>, line_byte: LineByte) -> Result<E
 /// Leaves the tail and what is kept of its command as the last record of a block does, and answers the step: the tail
 /// has the record at its end, or is empty after a whole exchange.
 fn advance(
-    tail: &mut ArrayVec<LineByte, 35>,
+    tail: &mut ArrayVec<LineByte, MOST_OPEN>,
     asked: &mut Option<Asked>,
     line_byte: LineByte,
     ended: Ended,
@@ -198,7 +201,7 @@ fn refuse(kept: &mut Option<Reason>, reason: Reason) -> Reason
 /// and 17 of its reply. Once a record broke a rule it holds the reason instead. No call takes memory.
 #[derive(Drop)]
 pub struct Pairer {
-    tail: ArrayVec<LineByte, 35>,
+    tail: ArrayVec<LineByte, MOST_OPEN>,
     /// The command with which the tail begins, once it is whole.
     asked: Option<Asked>,
     last_time: Option<u64>,
