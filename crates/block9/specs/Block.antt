@@ -3,10 +3,14 @@ use Rattle.std.specs.Prelude.{ℕ, ◌+◌, ◌*◌, ◌%◌, ◌<◌, ◌≤◌
 use Rattle.std.specs.List.{sum}
 use Rattle.block9.specs.declared.block.Block.{Block}
 
--- a group is below 16, and there are 0 to 15 data bytes
+-- the most data bytes that a block has
+abbrev pub most_data : ℕ
+most_data = 15
+
+-- a group is below 16, and there are no more data bytes than that
 pub record IsBlock (b : Block) : Type 0 where
   pub group : b.group < 16
-  pub data_bytes : length b.bytes.items ≤ 15
+  pub data_bytes : length b.bytes.items ≤ most_data
 
 -- the bytes before the sum: the group and the number of data bytes in one byte, the code, the data
 abbrev pub body_of : Block → List ℕ

@@ -29,7 +29,7 @@ impl Block {
     ghost use Rattle.std.specs.Prelude.{◌≡◌, ◌≤◌, IfSome, IfNone, length};
     ghost use Rattle.tc25.specs.Day.{time_of};
     ghost use Rattle.block9.specs.Block.{Spells, first_datum, head_of};
-    ghost use Rattle.block9.specs.Working.Body.{block_of};
+    ghost use Rattle.block9.specs.Working.Body.{block_of, most_body};
 
     /// The block that these bytes spell, its sum included.
     ///
@@ -74,7 +74,7 @@ impl Block {
     /// The block with this body: the bytes before the sum.
     pub(crate) fn of_body(body: &[u8]) -> Block
         requires code { 2 ≤ length body.now }
-        requires data { length body.now ≤ 17 }
+        requires data { length body.now ≤ most_body }
         ensures { result ≡ block_of body.now }
     {
         let mut bytes = ArrayVec::new();

@@ -1,6 +1,7 @@
 //! Lists of records: the block that they begin, their bytes, and the times at which they begin and end.
-ghost use Rattle.std.specs.Prelude.{◌≡◌, ◌≤◌, length};
+ghost use Rattle.std.specs.Prelude.{◌≡◌, ◌+◌, ◌≤◌, length};
 ghost use Rattle.block9.specs.Line.{block_len, bytes_of, first_time, last_time};
+ghost use Rattle.block9.specs.Working.Body.{most_body};
 ghost use Rattle.block9.specs.Working.Table.{ends_block};
 
 use crate::block::MOST_BODY;
@@ -10,7 +11,7 @@ use capture9::LineByte;
 /// How many records the block has that begins with these: 0 where there is none.
 pub(crate) fn block_len(records: &[LineByte]) -> usize
     ensures len { result ≡ block_len records.now }
-    ensures short { result ≤ 18 }
+    ensures short { result ≤ most_body + 1 }
 {
     match records.first() {
         Some(first) => usize::from(first.byte % 16) + 3,
@@ -47,7 +48,7 @@ pub(crate) fn last_time(records: &[LineByte]) -> u64
 
 /// The bytes of the records, of which there are no more than a block's first byte, code and data.
 pub(crate) fn bytes_of(records: &[LineByte]) -> ArrayVec<u8, MOST_BODY>
-    requires { length records.now ≤ 17 }
+    requires { length records.now ≤ most_body }
     ensures { result.items ≡ bytes_of records.now }
 {
     let mut bytes = ArrayVec::new();

@@ -4,7 +4,7 @@ ghost use Rattle.block9.specs.Command.{fits, is_reply_time_valid};
 ghost use Rattle.block9.specs.Exchange.{tail_after};
 ghost use Rattle.block9.specs.Line.{bytes_of, last_time};
 ghost use Rattle.block9.specs.Working.Body.{block_of};
-ghost use Rattle.block9.specs.Working.Held.{Closes, Ends, IsHeld, IsTurn, asked_after, step_of};
+ghost use Rattle.block9.specs.Working.Held.{Closes, Ends, IsHeld, IsTurn, asked_after, most_open, step_of};
 ghost use Rattle.block9.specs.Working.Table.{early_fault, ends_block, open_at, pairing, place_of, reply_fault};
 
 use crate::block::{Block, sum_of};
@@ -167,7 +167,7 @@ fn advance(
     line_byte: LineByte,
     ended: Ended,
 ) -> Step
-    requires { length (tail_after tail.old.items line_byte (step_of ended)) ≤ 35 }
+    requires { length (tail_after tail.old.items line_byte (step_of ended)) ≤ most_open }
     ensures step { result ≡ step_of ended }
     ensures tail { tail.new.items ≡ tail_after tail.old.items line_byte (step_of ended) }
     ensures asked { asked.new ≡ asked_after ended }

@@ -1,6 +1,11 @@
 -- The block with a body, as private functions read it.
-use Rattle.std.specs.Prelude.{ℕ, ◌/◌, List, [], ◌∷◌}
+use Rattle.std.specs.Prelude.{ℕ, ◌+◌, ◌/◌, List, [], ◌∷◌}
 use Rattle.block9.specs.declared.block.Block.{Block}
+use Rattle.block9.specs.Block.{most_data}
+
+-- the most bytes of a block before its sum: the first one, its code and its data
+abbrev pub most_body : ℕ
+most_body = most_data + 2
 
 -- the block with this body
 abbrev pub block_of : List ℕ → Block

@@ -25,10 +25,14 @@ abbrev pub IsNotBefore : Option ℕ → ℕ → Type 0
 IsNotBefore None time = time ≡ 0
 IsNotBefore (Some last) time = time ≤ last
 
+-- the most records since the last whole exchange: a command of 18, and all of its reply but the last
+abbrev pub most_open : ℕ
+most_open = 35
+
 -- what holds inside a `Pairer`: none of its records is later than the last one that was fed
 pub record HoldsInPairer (records : List LineByte) (asked : Option Asked) (last : Option ℕ) : Type 0 where
   pub held : IsHeld records asked
-  pub short : length records ≤ 35
+  pub short : length records ≤ most_open
   pub in_order : IsNotBefore last (last_time records)
 
 -- a record that breaks no rule before its block is whole, and whether it is the last one of its block
