@@ -1,5 +1,5 @@
 -- A block that gets one record more: how it begins, goes on and ends.
-use Rattle.std.proofs.Common.{◌≡◌, ◌≢◌, ℕ, ◌+◌, ◌/◌, ◌%◌, ◌<◌, ◌≤◌, ◌∙◌, List, [], ◌∷◌, ◌++◌, length, refl, sym, ap, subst, true, false, arith}
+use Rattle.std.proofs.Common.{◌≡◌, ◌≢◌, ℕ, ◌+◌, ◌/◌, ◌%◌, ◌<◌, ◌∙◌, List, [], ◌∷◌, ◌++◌, length, refl, sym, ap, subst, true, false, arith}
 use Rattle.std.proofs.lemmas.Bool.Decides.{nat_tests}
 use Rattle.std.proofs.lemmas.List.{length_push, same_from_push, map-append, length-map}
 use Rattle.std.specs.List.{sum}
@@ -32,11 +32,6 @@ true_ends a rest e = grind (arith, nat_tests)
 pub false_ends : (records : List LineByte) → length records + 1 < block_len records → ends_block records ≡ false
 false_ends [] e = refl
 false_ends (a ∷ rest) e = grind (arith, nat_tests)
-
--- the open records of a block whose last one is next have its first byte, its code and its data
-pub body_size : (records : List LineByte) → ends_block records ≡ true → (2 ≤ length records) × (length records ≤ 17)
-body_size [] h = cc
-body_size (a ∷ rest) h = let n = ends_true (a ∷ rest) h in (omega arith, omega arith)
 
 -- the first record of a block
 pub begun_first : (w : Wire) (r : LineByte) → r.wire ≡ w → allows w (group_in r.byte) ≡ true → IsBegun w (r ∷ [])

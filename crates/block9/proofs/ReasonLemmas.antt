@@ -21,7 +21,7 @@ use Rattle.block9.proofs.BlockSteps.{true_ends, whole_less}
 use Rattle.block9.proofs.CutLemmas.{kept_no_fault}
 use Rattle.block9.proofs.HoldsLemmas.{table_holds}
 use Rattle.block9.proofs.KeptLemmas.{quiet_kept}
-use Rattle.block9.proofs.OrderLemmas.{first_holds, first_in_order, first_once, in_order_first, rank, rank_once}
+use Rattle.block9.proofs.OrderLemmas.{first_holds, first_once, in_order_first, rank}
 use Rattle.block9.proofs.TableLemmas as table
 use Rattle.block9.proofs.TailLemmas.{InReplyOf, at_place, in_reply_of, meaning_in_reply, place_in_command, place_of_command}
 
@@ -249,14 +249,6 @@ table_reason t r x tail later h = in_order_first (λ y. Holds y t r) x (table_ho
         let e = ap rank same in
         let l = f.early in
         omega arith
-
--- the reason is the table's answer
-pub reason_table : (t : List LineByte) (r : LineByte) (x : Reason) → IsTail t → last_time t ≤ r.time_us → IsReason t r x → pairing t r ≡ Some x
-reason_table t r x tail later h =
-    let f = found x t r (first_holds (λ y. Holds y t r) order x h) in
-    let low = first_in_order (λ y. Holds y t r) x f.reason h (table_holds t r f.reason tail later f.found) in
-    let e = f.early in
-    f.found ∙ ap (λ y. let o : Option Reason = Some y in o) (rank_once f.reason x (omega arith))
 
 -- where the table has no answer no reason holds, and the other way round
 pub none_holds : (t : List LineByte) (r : LineByte) → pairing t r ≡ None → (y : Reason) → Holds y t r → ⊥

@@ -1,12 +1,11 @@
 -- Which bytes spell a block.
-use Rattle.std.proofs.Common.{◌≡◌, ◌≢◌, ℕ, suc, ◌+◌, ◌-◌, ◌*◌, ◌/◌, ◌%◌, ◌<◌, ◌∙◌, List, [], ◌∷◌, ◌++◌, length, sym, ap, Some, arith}
+use Rattle.std.proofs.Common.{◌≡◌, ◌≢◌, ℕ, suc, ◌+◌, ◌-◌, ◌*◌, ◌%◌, ◌∙◌, List, [], ◌∷◌, ◌++◌, length, sym, ap, Some, arith}
 use Rattle.std.proofs.lemmas.List.{same_from_push}
 use Rattle.std.specs.List.{sum, slice_get}
 use Rattle.capture9.specs.declared.line_byte.LineByte.{LineByte}
 use Rattle.block9.specs.declared.block.Block.{Block}
 use Rattle.block9.specs.Block.{Spells, body_of}
 use Rattle.block9.specs.Line.{last_time}
-use Rattle.block9.specs.Working.Body.{block_of}
 use Rattle.block9.proofs.LineLemmas.{byte_parts}
 
 -- bytes that spell a block are its body and the sum
@@ -30,20 +29,6 @@ no_spelling_len bytes body last first e f other b h = other (spelled_len bytes b
 
 pub no_spelling_sum : (bytes body : List ℕ) (last : ℕ) → bytes ≡ body ++ last ∷ [] → sum body % 256 ≢ last → (b : Block) → Spells bytes b → ⊥
 no_spelling_sum bytes body last e other b h = other (sym (spelled_parts bytes body last b e h).1)
-
--- a body of the right length, and its sum
-pub spells_body : (bytes body : List ℕ) (last first : ℕ) → bytes ≡ body ++ last ∷ [] → Some first ≡ slice_get body 0 → first < 256 → length body ≡ first % 16 + 2 → last ≡ sum body % 256 → Spells bytes (block_of body)
-spells_body bytes [] last first e f low len s = cc
-spells_body bytes (a ∷ []) last first e f low len s = absurd (omega arith)
-spells_body bytes (a ∷ c ∷ rest) last first e f low len s =
-    let head : a ≡ first = cc in
-    let b = block_of (a ∷ c ∷ rest) in
-    let whole : a ≡ 16 * (a / 16) + length rest = omega arith in
-    let body : a ∷ c ∷ rest ≡ body_of b = ap (λ (n : ℕ). let xs : List ℕ = n ∷ c ∷ rest in xs) whole in
-    record {
-      block = record { group = omega arith; data_bytes = omega arith };
-      spelled = e ∙ ap (λ (n : ℕ). (a ∷ c ∷ rest) ++ n ∷ []) s ∙ ap (λ (xs : List ℕ). xs ++ sum xs % 256 ∷ []) body;
-    }
 
 -- the last record's time
 pub last_time-last : (records : List LineByte) (last : LineByte) → Some last ≡ slice_get records (length records - 1) → last.time_us ≡ last_time records

@@ -11,7 +11,7 @@ use Rattle.block9.specs.declared.command.Command.{Command}
 use Rattle.block9.specs.declared.place.Place.{Place}
 use Rattle.block9.specs.declared.place.Place.TheVariants.{Idle, InCommand, AfterCommand, InReply}
 use Rattle.block9.specs.declared.reason.Reason.{Reason}
-use Rattle.block9.specs.declared.reason.Reason.TheVariants.{InvalidCommandTime, InvalidReplyTime, WrongReply}
+use Rattle.block9.specs.declared.reason.Reason.TheVariants.{InvalidReplyTime, WrongReply}
 use Rattle.block9.specs.Command.{fits, is_reply_time_valid}
 use Rattle.block9.specs.Line.{allows, bytes_of, group_in}
 use Rattle.block9.specs.Working.Table.{open_at, ends_block, is_soon, is_linked, wire_fault, time_fault, group_fault, sum_fault, command_fault, reply_fault, meaning_fault, end_fault, fault_at}
@@ -155,16 +155,6 @@ some_reply (Some d) c reply e f v =
     both true true h k = refl
     both true false h k = cc
     both false b h k = cc
-
--- a reply that breaks a rule
-pub reply_no_meaning : (o : Option Command) (reply : Block) → o ≡ None → reply_fault o reply ≡ Some InvalidCommandTime
-reply_no_meaning o reply e = rw e refl
-
-pub reply_kind : (o : Option Command) (c : Command) (reply : Block) → o ≡ Some c → fits c reply ≡ false → reply_fault o reply ≡ Some WrongReply
-reply_kind o c reply e f = rw (e, f) refl
-
-pub reply_time : (o : Option Command) (c : Command) (reply : Block) → o ≡ Some c → fits c reply ≡ true → is_reply_time_valid c reply ≡ false → reply_fault o reply ≡ Some InvalidReplyTime
-reply_time o c reply e f v = rw (e, f, v) refl
 
 -- no reason at the end of a block
 abbrev pub end_none_of : Place → List LineByte → List LineByte → LineByte → Type 0
