@@ -10,21 +10,18 @@ use Rattle.block9.specs.declared.pairer.Step.{Step}
 use Rattle.block9.specs.declared.pairer.Step.TheVariants as step
 use Rattle.block9.specs.declared.place.Place.{Place}
 use Rattle.block9.specs.declared.reason.Reason.{Reason}
-use Rattle.block9.specs.Command.{command_of, fits, is_reply_time_valid}
-use Rattle.block9.specs.declared.block.Block.{Block}
+use Rattle.block9.specs.Command.{fits, is_reply_time_valid}
 use Rattle.block9.specs.declared.pairer.Exchange.{Exchange}
-use Rattle.block9.specs.Exchange.{Does, IsCommand, IsExchange, IsKept, tail_after}
-use Rattle.block9.specs.Line.{IsWhole, bytes_of, last_time}
+use Rattle.block9.specs.Exchange.{Does, IsExchange, IsKept, tail_after}
+use Rattle.block9.specs.Line.{bytes_of, last_time}
 use Rattle.block9.specs.Pairer.{Paired, Refuses, Takes}
 use Rattle.block9.specs.Reason.{IsReason}
 use Rattle.block9.specs.Working.Body.{block_of}
 use Rattle.block9.specs.Working.Held.{Closes, Ends, HoldsInPairer, IsHeld, IsTurn, asked_after, step_of}
-use Rattle.block9.specs.Working.Table.{command_fault, ends_block, meaning_fault, open_at, pairing, place_of, reply_fault, sum_fault}
+use Rattle.block9.specs.Working.Table.{ends_block, meaning_fault, open_at, pairing, place_of, reply_fault, sum_fault}
 use Rattle.block9.proofs.ReasonLemmas.{reason_broken, table_reason}
-use Rattle.block9.proofs.StepLemmas.{begun_now, closes, commands, held_tail, last_time-tail_after, reply_parts, tail_short, waits}
+use Rattle.block9.proofs.StepLemmas.{closes, held_tail, last_time-tail_after, reply_parts, tail_short, waits}
 use Rattle.block9.proofs.TableLemmas as table
-use Rattle.block9.proofs.TailLemmas.{place_in_command}
-use Rattle.capture9.specs.declared.line_byte.Wire.TheVariants.{Controller}
 
 -- ---- the table at the last record of a block
 
@@ -36,10 +33,7 @@ says_meaning t r m turn right meant =
     let summed : sum_fault (open_at (place_of t) t) r ≡ None = table.true_test _ _ (table.true_eq _ _ right) in
     rw (early, ends, summed) meant
 
--- and that is what is said of a command, or of a reply to the one that is held
-pub command_meaning : (t : List LineByte) → IsHeld t None → ends_block (open_at (place_of t) t) ≡ true → meaning_fault (place_of t) t (open_at (place_of t) t) ≡ command_fault (command_of (block_of (bytes_of (open_at (place_of t) t))))
-command_meaning t h ends = let place = place_in_command Controller t (begun_now t h ends) in rw place refl
-
+-- and that is what is said of a reply to the command that is held
 pub reply_meaning : (t : List LineByte) (a : Asked) → IsHeld t (Some a) → ends_block (open_at (place_of t) t) ≡ true
     → meaning_fault (place_of t) t (open_at (place_of t) t) ≡ reply_fault (Some a.command) (block_of (bytes_of (open_at (place_of t) t)))
 reply_meaning t a h ends =
@@ -49,15 +43,6 @@ reply_meaning t a h ends =
     rw place (rw meant refl)
 
 -- ---- what the last record of a block does
-
-pub ends_command : (t : List LineByte) (r : LineByte) (c : Command) → IsHeld t None → last_time t ≤ r.time_us → IsTurn t r true → r.byte ≡ sum (bytes_of (open_at (place_of t) t)) % 256
-    → command_of (block_of (bytes_of (open_at (place_of t) t))) ≡ Some c → IsCommand (t ++ r ∷ []) (block_of (bytes_of (open_at (place_of t) t))) c
-ends_command t r c held later turn right meant =
-    let ends = sym turn.1 in
-    let quiet = says_meaning t r None turn right (command_meaning t held ends ∙ table.some_command _ c meant) in
-    let block : block_of (bytes_of t) ≡ block_of (bytes_of (open_at (place_of t) t)) = sym (ap (λ (p : Place). block_of (bytes_of (open_at p t))) (place_in_command Controller t (begun_now t held ends))) in
-    let command = commands t r held later quiet ends in
-    record { whole = subst (λ (b : Block). IsWhole Controller (t ++ r ∷ []) b) block command.1.whole; meaning = meant }
 
 pub ends_exchange : (t : List LineByte) (a : Asked) (r : LineByte) (e : Exchange) → IsHeld t (Some a) → last_time t ≤ r.time_us → IsTurn t r true → r.byte ≡ sum (bytes_of (open_at (place_of t) t)) % 256
     → Closes t a e → fits e.command e.reply ≡ true → is_reply_time_valid e.command e.reply ≡ true → IsExchange (t ++ r ∷ []) e
