@@ -77,6 +77,7 @@ fn early_fault(place: Place, tail: &[LineByte], line_byte: LineByte) -> Option<R
 }
 
 /// The exchange that the tail and a whole reply to its command are.
+#[inline(always)] // else an exchange is handed on through memory
 fn exchange_of(tail: &[LineByte], asked: Asked, reply: Block) -> Result<Exchange, Reason>
     requires held { IsHeld tail.now (Some asked) }
     requires ends { ends_block (open_at (place_of tail.now) tail.now) ≡ true }
@@ -134,6 +135,7 @@ fn turn(tail: &[LineByte], line_byte: LineByte) -> Result<bool, Reason>
 
 /// What the last record of a block does, where it breaks no rule before its block is whole, or the first rule that it
 /// breaks. `asked`: the whole command with which the tail begins, if it does.
+#[inline(always)] // else an exchange is handed on through memory
 fn end(tail: &[LineByte], asked: Option<Asked>, line_byte: LineByte) -> Result<Ended, Reason>
     requires held { IsHeld tail.now asked }
     requires later { last_time tail.now ≤ line_byte.time_us }
@@ -161,6 +163,7 @@ fn end(tail: &[LineByte], asked: Option<Asked>, line_byte: LineByte) -> Result<E
 
 /// Leaves the tail and what is kept of its command as the last record of a block does, and answers the step: the tail
 /// has the record at its end, or is empty after a whole exchange.
+#[inline(always)] // else an exchange is handed on through memory
 fn advance(
     tail: &mut ArrayVec<LineByte, MOST_OPEN>,
     asked: &mut Option<Asked>,
