@@ -1,26 +1,27 @@
 -- What a pairer answers, and what it holds, after one more record.
-use Rattle.std.proofs.Common.{◌≡◌, ℕ, ◌≤◌, ◌%◌, ◌∙◌, ap, sym, subst, refl, inl, true, false, Option, Some, None, List, [], ◌∷◌, ◌++◌}
+use Rattle.block9.proofs.TailLemmas.{place_in_command}
+use Rattle.capture9.specs.declared.line_byte.Wire.TheVariants.{Controller}
+use Rattle.block9.specs.declared.block.Block.{Block}
+use Rattle.std.proofs.Common.{◌≡◌, ℕ, ◌≤◌, ◌%◌, ◌∙◌, ap, sym, subst, refl, true, false, Option, Some, None, List, [], ◌∷◌, ◌++◌}
 use Rattle.std.specs.List.{sum}
 use Rattle.capture9.specs.declared.line_byte.LineByte.{LineByte}
 use Rattle.block9.specs.declared.command.Command.{Command}
 use Rattle.block9.specs.declared.pairer.Asked.{Asked}
-use Rattle.block9.specs.declared.pairer.Ended.{Ended}
-use Rattle.block9.specs.declared.pairer.Ended.TheVariants as ended
 use Rattle.block9.specs.declared.pairer.Step.{Step}
 use Rattle.block9.specs.declared.pairer.Step.TheVariants as step
 use Rattle.block9.specs.declared.place.Place.{Place}
 use Rattle.block9.specs.declared.reason.Reason.{Reason}
-use Rattle.block9.specs.Command.{fits, is_reply_time_valid}
+use Rattle.block9.specs.Command.{fits, is_reply_time_valid, command_of}
 use Rattle.block9.specs.declared.pairer.Exchange.{Exchange}
-use Rattle.block9.specs.Exchange.{Does, IsExchange, IsKept, tail_after}
-use Rattle.block9.specs.Line.{bytes_of, last_time}
+use Rattle.block9.specs.Exchange.{Does, IsExchange, IsKept, tail_after, IsCommand}
+use Rattle.block9.specs.Line.{bytes_of, last_time, IsWhole}
 use Rattle.block9.specs.Pairer.{Paired, Refuses, Takes}
 use Rattle.block9.specs.Reason.{IsReason}
 use Rattle.block9.specs.Working.Body.{block_of}
-use Rattle.block9.specs.Working.Held.{Closes, Ends, HoldsInPairer, IsHeld, IsTurn, asked_after, step_of}
-use Rattle.block9.specs.Working.Table.{ends_block, meaning_fault, open_at, pairing, place_of, reply_fault, sum_fault}
+use Rattle.block9.specs.Working.Held.{Closes, HoldsInPairer, IsHeld, IsTurn}
+use Rattle.block9.specs.Working.Table.{ends_block, meaning_fault, open_at, pairing, place_of, reply_fault, sum_fault, command_fault}
 use Rattle.block9.proofs.ReasonLemmas.{reason_broken, table_reason}
-use Rattle.block9.proofs.StepLemmas.{closes, held_tail, last_time-tail_after, reply_parts, tail_short, waits}
+use Rattle.block9.proofs.StepLemmas.{closes, held_tail, last_time-tail_after, reply_parts, tail_short, waits, begun_now, commands}
 use Rattle.block9.proofs.TableLemmas as table
 
 -- ---- the table at the last record of a block
@@ -33,7 +34,10 @@ says_meaning t r m turn right meant =
     let summed : sum_fault (open_at (place_of t) t) r ≡ None = table.true_test _ _ (table.true_eq _ _ right) in
     rw (early, ends, summed) meant
 
--- and that is what is said of a reply to the command that is held
+-- and that is what is said of a command, or of a reply to the one that is held
+pub command_meaning : (t : List LineByte) → IsHeld t None → ends_block (open_at (place_of t) t) ≡ true → meaning_fault (place_of t) t (open_at (place_of t) t) ≡ command_fault (command_of (block_of (bytes_of (open_at (place_of t) t))))
+command_meaning t h ends = let place = place_in_command Controller t (begun_now t h ends) in rw place refl
+
 pub reply_meaning : (t : List LineByte) (a : Asked) → IsHeld t (Some a) → ends_block (open_at (place_of t) t) ≡ true
     → meaning_fault (place_of t) t (open_at (place_of t) t) ≡ reply_fault (Some a.command) (block_of (bytes_of (open_at (place_of t) t)))
 reply_meaning t a h ends =
@@ -43,6 +47,14 @@ reply_meaning t a h ends =
     rw place (rw meant refl)
 
 -- ---- what the last record of a block does
+
+pub ends_command : (t : List LineByte) (r : LineByte) (b : Block) (c : Command) → IsHeld t None → last_time t ≤ r.time_us → IsTurn t r true → r.byte ≡ sum (bytes_of (open_at (place_of t) t)) % 256
+    → b ≡ block_of (bytes_of (open_at (place_of t) t)) → command_of b ≡ Some c → IsCommand (t ++ r ∷ []) b c
+ends_command t r b c held later turn right is_block meant =
+    let ends = sym turn.1 in
+    let quiet = says_meaning t r None turn right (command_meaning t held ends ∙ table.some_command _ c (ap command_of (sym is_block) ∙ meant)) in
+    let same : block_of (bytes_of t) ≡ b = sym (is_block ∙ ap (λ (p : Place). block_of (bytes_of (open_at p t))) (place_in_command Controller t (begun_now t held ends))) in
+    record { whole = subst (λ (b : Block). IsWhole Controller (t ++ r ∷ []) b) same (commands t r held later quiet ends).1.whole; meaning = meant }
 
 pub ends_exchange : (t : List LineByte) (a : Asked) (r : LineByte) (e : Exchange) → IsHeld t (Some a) → last_time t ≤ r.time_us → IsTurn t r true → r.byte ≡ sum (bytes_of (open_at (place_of t) t)) % 256
     → Closes t a e → fits e.command e.reply ≡ true → is_reply_time_valid e.command e.reply ≡ true → IsExchange (t ++ r ∷ []) e
@@ -66,13 +78,8 @@ held_waiting t o r last h later turn =
     let tail = held_tail (t ++ r ∷ []) o still.held in
     (record { held = still.held; short = tail_short _ tail; in_order = last_time-tail_after t r step.Waiting }, (tail, still.no_command))
 
-pub held_ended : (t : List LineByte) (r : LineByte) (x : Ended) → Ends t r x → HoldsInPairer (tail_after t r (step_of x)) (asked_after x) (Some r.time_us) × Does t r (step_of x)
-held_ended t r (ended.Command a) h =
-    let held : IsHeld (t ++ r ∷ []) (Some a) = inl h in
-    (record { held = held; short = tail_short _ (held_tail _ (Some a) held); in_order = last_time-tail_after t r step.Command }, (a.block, a.command, h))
-held_ended t r (ended.Exchange e) h =
-    let held : IsHeld [] None = inl refl in
-    (record { held = held; short = tail_short _ (held_tail _ None held); in_order = last_time-tail_after t r (step.Exchange e) }, h)
+pub held_step : (t : List LineByte) (o : Option Asked) (r : LineByte) (s : Step) → IsHeld (tail_after t r s) o → HoldsInPairer (tail_after t r s) o (Some r.time_us)
+held_step t o r s held = record { held = held; short = tail_short _ (held_tail _ o held); in_order = last_time-tail_after t r s }
 
 -- ---- what a caller is told
 

@@ -1,10 +1,10 @@
 //! Pairs commands with replies, one record at a time.
 ghost use Rattle.std.specs.Prelude.{◌≡◌, ◌≤◌, length, true, IfOk, IfErr, Some};
 ghost use Rattle.block9.specs.Command.{fits, is_reply_time_valid};
-ghost use Rattle.block9.specs.Exchange.{tail_after};
+ghost use Rattle.block9.specs.Exchange.{Does, tail_after};
 ghost use Rattle.block9.specs.Line.{bytes_of, last_time};
 ghost use Rattle.block9.specs.Working.Body.{block_of};
-ghost use Rattle.block9.specs.Working.Held.{Closes, Ends, IsHeld, IsTurn, asked_after, most_open, step_of};
+ghost use Rattle.block9.specs.Working.Held.{Closes, IsHeld, IsTurn, most_open};
 ghost use Rattle.block9.specs.Working.Table.{early_fault, ends_block, open_at, pairing, place_of, reply_fault};
 
 use crate::block::{Block, sum_of};
@@ -53,15 +53,6 @@ struct Asked {
     command: Command,
     /// The command's block.
     block: Block,
-}
-
-/// What the last record of a block does that keeps the rules.
-#[derive(Drop)]
-enum Ended {
-    /// It ends this command.
-    Command(Asked),
-    /// It ends a reply: this exchange is whole.
-    Exchange(Exchange),
 }
 
 /// The rule that the record breaks before its block is whole: its turn, its time, its group.
@@ -134,13 +125,13 @@ fn turn(tail: &[LineByte], line_byte: LineByte) -> Result<bool, Reason>
 }
 
 /// What the last record of a block does, where it breaks no rule before its block is whole, or the first rule that it
-/// breaks. `asked`: the whole command with which the tail begins, if it does.
+/// breaks. `asked`: the whole command with which the tail begins, if it does; it is left as the record leaves it.
 #[inline(always)] // else an exchange is handed on through memory
-fn end(tail: &[LineByte], asked: Option<Asked>, line_byte: LineByte) -> Result<Ended, Reason>
-    requires held { IsHeld tail.now asked }
+fn end(tail: &[LineByte], asked: &mut Option<Asked>, line_byte: LineByte) -> Result<Step, Reason>
+    requires held { IsHeld tail.now asked.old }
     requires later { last_time tail.now ≤ line_byte.time_us }
     requires ends { IsTurn tail.now line_byte true }
-    ensures ok { IfOk result (λ ended. Ends tail.now line_byte ended) }
+    ensures ok { IfOk result (λ step. Does tail.now line_byte step × IsHeld (tail_after tail.now line_byte step) asked.new) }
     ensures err { IfErr result (λ reason. pairing tail.now line_byte ≡ Some reason) }
 {
     let place = Place::of(tail);
@@ -149,43 +140,30 @@ fn end(tail: &[LineByte], asked: Option<Asked>, line_byte: LineByte) -> Result<E
         return Err(Reason::WrongSum);
     }
     let block = Block::of_body(body.as_slice());
-    match asked {
-        Some(asked) => {
-            let exchange = exchange_of(tail, asked, block)?;
-            Ok(Ended::Exchange(exchange))
+    match asked.take() {
+        Some(command) => {
+            let exchange = exchange_of(tail, command, block)?;
+            Ok(Step::Exchange(exchange))
         }
         None => match Command::of(&block) {
-            Some(command) => Ok(Ended::Command(Asked { command, block })),
+            Some(command) => {
+                *asked = Some(Asked { command, block });
+                Ok(Step::Command)
+            }
             None => Err(Reason::InvalidCommandTime),
         },
     }
 }
 
-/// Leaves the tail and what is kept of its command as the last record of a block does, and answers the step: the tail
-/// has the record at its end, or is empty after a whole exchange.
-#[inline(always)] // else an exchange is handed on through memory
-fn advance(
-    tail: &mut ArrayVec<LineByte, MOST_OPEN>,
-    asked: &mut Option<Asked>,
-    line_byte: LineByte,
-    ended: Ended,
-) -> Step
-    requires { length (tail_after tail.old.items line_byte (step_of ended)) ≤ most_open }
-    ensures step { result ≡ step_of ended }
-    ensures tail { tail.new.items ≡ tail_after tail.old.items line_byte (step_of ended) }
-    ensures asked { asked.new ≡ asked_after ended }
+/// Leaves the tail as a step does: it has the record at its end, or is empty after a whole exchange.
+#[inline(always)]
+fn advance(tail: &mut ArrayVec<LineByte, MOST_OPEN>, line_byte: LineByte, step: &Step)
+    requires { length (tail_after tail.old.items line_byte step.now) ≤ most_open }
+    ensures { tail.new.items ≡ tail_after tail.old.items line_byte step.now }
 {
-    match ended {
-        Ended::Command(command) => {
-            tail.push(line_byte);
-            *asked = Some(command);
-            Step::Command
-        }
-        Ended::Exchange(exchange) => {
-            tail.clear();
-            *asked = None;
-            Step::Exchange(exchange)
-        }
+    match step {
+        Step::Waiting | Step::Command => tail.push(line_byte),
+        Step::Exchange(_) => tail.clear(),
     }
 }
 
@@ -268,8 +246,11 @@ impl Pairer {
                 self.tail.push(line_byte);
                 Ok(Step::Waiting)
             }
-            Ok(true) => match end(self.tail.as_slice(), self.asked.take(), line_byte) {
-                Ok(ended) => Ok(advance(&mut self.tail, &mut self.asked, line_byte, ended)),
+            Ok(true) => match end(self.tail.as_slice(), &mut self.asked, line_byte) {
+                Ok(step) => {
+                    advance(&mut self.tail, line_byte, &step);
+                    Ok(step)
+                }
                 Err(reason) => Err(refuse(&mut self.reason, reason)),
             },
             Err(reason) => Err(refuse(&mut self.reason, reason)),

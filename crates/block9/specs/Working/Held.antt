@@ -1,14 +1,10 @@
 -- What a `Pairer` holds, which callers do not see, and what a record does to it.
-use Rattle.std.specs.Prelude.{ℕ, ◌≡◌, ◌≤◌, ◌+◌, ◌⊎◌, length, Bool, Option, Some, None, List, [], ◌∷◌, ◌++◌, take, drop}
+use Rattle.std.specs.Prelude.{ℕ, ◌≡◌, ◌≤◌, ◌+◌, ◌⊎◌, length, Bool, Option, Some, None, List, [], ◌++◌, take, drop}
 use Rattle.capture9.specs.declared.line_byte.LineByte.{LineByte}
 use Rattle.capture9.specs.declared.line_byte.Wire.TheVariants.{Controller, Deck}
 use Rattle.block9.specs.declared.pairer.Asked.{Asked}
-use Rattle.block9.specs.declared.pairer.Ended.{Ended}
-use Rattle.block9.specs.declared.pairer.Ended.TheVariants as ended
 use Rattle.block9.specs.declared.pairer.Exchange.{Exchange}
-use Rattle.block9.specs.declared.pairer.Step.{Step}
-use Rattle.block9.specs.declared.pairer.Step.TheVariants as step
-use Rattle.block9.specs.Exchange.{IsCommand, IsExchange, IsInTime}
+use Rattle.block9.specs.Exchange.{IsCommand, IsInTime}
 use Rattle.block9.specs.Line.{IsBegun, block_len, bytes_of, first_time, last_time}
 use Rattle.block9.specs.Working.Body.{block_of}
 use Rattle.block9.specs.Working.Table.{early_fault, ends_block, open_at, place_of}
@@ -45,18 +41,3 @@ pub record Closes (tail : List LineByte) (a : Asked) (e : Exchange) : Type 0 whe
   pub command : e.command ≡ a.command
   pub reply : e.reply ≡ block_of (bytes_of (drop (block_len tail) tail))
   pub delay : last_time (take (block_len tail) tail) + e.delay_us ≡ first_time (drop (block_len tail) tail)
-
--- what the last record of a block does that keeps the rules
-abbrev pub Ends : List LineByte → LineByte → Ended → Type 0
-Ends tail r (ended.Command a) = IsCommand (tail ++ r ∷ []) a.block a.command
-Ends tail r (ended.Exchange e) = IsExchange (tail ++ r ∷ []) e
-
--- the step that a caller is told of it
-abbrev pub step_of : Ended → Step
-step_of (ended.Command a) = step.Command
-step_of (ended.Exchange e) = step.Exchange e
-
--- what is kept of the tail's command afterwards
-abbrev pub asked_after : Ended → Option Asked
-asked_after (ended.Command a) = Some a
-asked_after (ended.Exchange e) = None

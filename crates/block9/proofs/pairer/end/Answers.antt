@@ -1,11 +1,11 @@
-use Rattle.std.proofs.Common.{◌∙◌, ap, sym, subst, ◌%◌, Some, rules}
+use Rattle.std.proofs.Common.{inl, refl, [], ◌∙◌, ap, sym, subst, ◌%◌, Some, rules}
 use Rattle.std.specs.List.{sum}
 use Rattle.block9.specs.declared.place.Place.{Place}
 use Rattle.block9.specs.Line.{bytes_of}
 use Rattle.block9.specs.Working.Body.{block_of}
 use Rattle.block9.specs.Working.Held.{IsHeld}
 use Rattle.block9.specs.Working.Table.{open_at, reply_fault}
-use Rattle.block9.proofs.FeedLemmas.{ends_exchange, reply_meaning, says_meaning}
+use Rattle.block9.proofs.FeedLemmas.{ends_command, ends_exchange, reply_meaning, says_meaning}
 use Rattle.block9.proofs.pairer.end.Goals as goal
 
 pub exchange_of-requires-clause-reply : goal.exchange_of-requires-clause-reply
@@ -19,15 +19,25 @@ returns-in_err-exchange-in-Some-clause-err c =
     let bytes = c.bytes_of-body.ensures ∙ ap bytes_of open_now in
     let block = c.of_body-block.ensures ∙ ap block_of (c.as_slice-2.ensures.value ∙ bytes) in
     let right = sym c.if-sum_of-line_byte.false ∙ c.sum_of.ensures ∙ ap (λ l. sum l % 256) (c.as_slice.ensures.value ∙ bytes) in
-    let held = subst (IsHeld c.args.tail.now) c.in-Some.is c.requires.held in
-    let fault = ap (reply_fault (Some c.in-Some.asked.command)) (sym block) ∙ c.in_err-exchange-in-Some.ensures.err in
-    let told = says_meaning c.args.tail.now c.args.line_byte _ c.requires.ends right (reply_meaning c.args.tail.now c.in-Some.asked held (sym c.requires.ends.1) ∙ fault) in
+    let held = subst (IsHeld c.args.tail.now) (sym c.take.ensures.value ∙ c.in-Some.is) c.requires.held in
+    let fault = ap (reply_fault (Some c.in-Some.command.command)) (sym block) ∙ c.in_err-exchange-in-Some.ensures.err in
+    let told = says_meaning c.args.tail.now c.args.line_byte _ c.requires.ends right (reply_meaning c.args.tail.now c.in-Some.command held (sym c.requires.ends.1) ∙ fault) in
     search (rules, told)
 
 pub returns-in_ok-exchange-in-Some-clause-ok : goal.returns-in_ok-exchange-in-Some-clause-ok
 returns-in_ok-exchange-in-Some-clause-ok c =
     let open_now = c.open_in.ensures ∙ ap (λ (p : Place). open_at p c.args.tail.now) c.of-place.ensures in
     let right = sym c.if-sum_of-line_byte.false ∙ c.sum_of.ensures ∙ ap (λ l. sum l % 256) (c.as_slice.ensures.value ∙ c.bytes_of-body.ensures ∙ ap bytes_of open_now) in
-    let held = subst (IsHeld c.args.tail.now) c.in-Some.is c.requires.held in
+    let held = subst (IsHeld c.args.tail.now) (sym c.take.ensures.value ∙ c.in-Some.is) c.requires.held in
     let read = c.in_ok-exchange-in-Some.ensures.ok in
-    ends_exchange c.args.tail.now c.in-Some.asked c.args.line_byte c.in_ok-exchange-in-Some.exchange held c.requires.later c.requires.ends right read.0 read.1 read.2
+    (ends_exchange c.args.tail.now c.in-Some.command c.args.line_byte c.in_ok-exchange-in-Some.exchange held c.requires.later c.requires.ends right read.0 read.1 read.2, subst (IsHeld []) (sym c.take.ensures.after) (inl refl))
+
+pub returns-in-Some-of-clause-ok : goal.returns-in-Some-of-clause-ok
+returns-in-Some-of-clause-ok c =
+    let open_now = c.open_in.ensures ∙ ap (λ (p : Place). open_at p c.args.tail.now) c.of-place.ensures in
+    let bytes = c.bytes_of-body.ensures ∙ ap bytes_of open_now in
+    let block = c.of_body-block.ensures ∙ ap block_of (c.as_slice-2.ensures.value ∙ bytes) in
+    let right = sym c.if-sum_of-line_byte.false ∙ c.sum_of.ensures ∙ ap (λ l. sum l % 256) (c.as_slice.ensures.value ∙ bytes) in
+    let held = subst (IsHeld c.args.tail.now) (sym c.take.ensures.value ∙ c.in-None.is) c.requires.held in
+    let command = ends_command c.args.tail.now c.args.line_byte c.of_body-block.result c.in-Some-of.command held c.requires.later c.requires.ends right block (sym c.of.ensures ∙ c.in-Some-of.is) in
+    ((c.of_body-block.result, c.in-Some-of.command, command), inl command)

@@ -1,11 +1,12 @@
 use Rattle.std.proofs.Common.{◌≡◌, ◌∙◌, ap, sym, subst, refl, arith, length-append, false, Bool, Some, List, [], ◌∷◌}
 use Rattle.capture9.specs.declared.line_byte.LineByte.{LineByte}
+use Rattle.block9.specs.Exchange.{Does, tail_after}
 use Rattle.block9.specs.Line.{last_time}
-use Rattle.block9.specs.Working.Held.{Ends, HoldsInPairer, IsTurn}
+use Rattle.block9.specs.Working.Held.{HoldsInPairer, IsHeld, IsTurn}
 use Rattle.block9.specs.Working.Table.{pairing}
 use Rattle.block9.specs.declared.pairer.Step.TheVariants as step
 use Rattle.block9.specs.declared.reason.Reason.{Reason}
-use Rattle.block9.proofs.FeedLemmas.{held_ended, held_waiting, refuses, takes}
+use Rattle.block9.proofs.FeedLemmas.{held_step, held_waiting, refuses, takes}
 use Rattle.block9.proofs.StepLemmas.{in_order}
 use Rattle.block9.proofs.pairer.Pairer.feed.Goals as goal
 
@@ -38,10 +39,20 @@ returns-in-Ok-false-clause-takes c = λ known.
     takes c.self.inside.tail.items _ _ _ step.Waiting (ap (λ p. p.tail) c.self.view_is) (held_waiting c.self.inside.tail.items c.self.inside.asked c.args.line_byte c.self.inside.last_time inv later turn).1 c.push.ensures.items refl c.in_default.is
 
 -- the last record of a block
+pub advance-requires : goal.advance-requires
+advance-requires c =
+    let held = subst (λ (l : List LineByte). IsHeld (tail_after l c.args.line_byte c.in-Ok.step) c.end.new.asked) c.as_slice-in-Ok-true.ensures.value c.in-Ok.ensures.ok.1 in
+    (held_step c.self.inside.tail.items _ c.args.line_byte c.in-Ok.step held).short
+
 pub invariant_of-self : goal.invariant_of-self
 invariant_of-self c = λ none.
-    let ends = subst (λ (l : List LineByte). Ends l c.args.line_byte c.in-Ok.ended) c.as_slice-in-Ok-true.ensures.value c.in-Ok.ensures.ok in
-    rw (c.advance.ensures.tail, c.advance.ensures.asked) (held_ended c.self.inside.tail.items c.args.line_byte c.in-Ok.ended ends).0
+    let held = subst (λ (l : List LineByte). IsHeld (tail_after l c.args.line_byte c.in-Ok.step) c.end.new.asked) c.as_slice-in-Ok-true.ensures.value c.in-Ok.ensures.ok.1 in
+    subst (λ (l : List LineByte). HoldsInPairer l c.end.new.asked (Some c.args.line_byte.time_us)) (sym c.advance.ensures) (held_step c.self.inside.tail.items _ c.args.line_byte c.in-Ok.step held)
+
+pub returns-in-Ok-clause-takes : goal.returns-in-Ok-clause-takes
+returns-in-Ok-clause-takes c = λ known.
+    let done = subst (λ (l : List LineByte). Does l c.args.line_byte c.in-Ok.step) c.as_slice-in-Ok-true.ensures.value c.in-Ok.ensures.ok.0 in
+    takes c.self.inside.tail.items _ _ _ c.in-Ok.step (ap (λ p. p.tail) c.self.view_is) done c.advance.ensures refl c.in_default.is
 
 -- a record that breaks a rule
 pub returns-in-Err-end-clause-refuses : goal.returns-in-Err-end-clause-refuses
