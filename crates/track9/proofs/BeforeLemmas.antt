@@ -16,31 +16,33 @@ use Rattle.deck9.specs.declared.sense.Sense.{Sense}
 use Rattle.deck9.specs.declared.sense.Sense.TheVariants as sense
 use Rattle.deck9.specs.declared.state.Entry.{Entry}
 use Rattle.deck9.specs.declared.state.Hands.{Hands}
+use Rattle.deck9.specs.declared.state.Hands.TheVariants as hands
 use Rattle.deck9.specs.declared.state.Register.{Register}
 use Rattle.deck9.specs.declared.state.Register.TheVariants.{RegIn, RegOut, RegAudioIn, RegAudioOut}
 use Rattle.deck9.specs.declared.state.State.{State}
-use Rattle.deck9.specs.Drift.{Drift, DriftsTo, KeepsRest, PairReaches}
+use Rattle.deck9.specs.Drift.{KeepsRest, PairReaches}
 use Rattle.deck9.specs.Effect.{Does, effect_of}
 use Rattle.deck9.specs.Mode.{index_of, is_mode, is_one_of, on_the_way}
 use Rattle.track9.specs.ModeSet.{has}
 use Rattle.deck9.specs.Shows.{Agrees, Shows, sense_of}
 use Rattle.deck9.specs.State.{IsState, entry_of}
 use Rattle.deck9.specs.Step.{Exchanges, Step, done, ignored, refused}
-use Rattle.track9.specs.Tracker.{Allows, PartStates, Possible, StateSet, entries_of, has_pair, part_of, shown_with}
+use Rattle.track9.specs.Tracker.{Allows, InPart, PartStates, Possible, StateSet, TwoParts, entries_of, in_local, has_pair, shown_with}
 use Rattle.track9.specs.Working.Asked.{Fits, Is, IsAsked, IsUndone, LeadsTo, PairRunsTo, RunsTo, asked_before, asked_of, just_state}
 use Rattle.track9.specs.Working.Pairs.{both, drifted, drifted_with, goals_of, is_some, masked}
 use Rattle.track9.specs.Working.Parts.{HasState}
-use Rattle.track9.specs.Working.States.{AreBelow, IsHandled, is_panel_live}
+use Rattle.track9.specs.Working.States.{AreBelow, InTwo, hands_by, hands_of, is_panel_live, on_two, two_of}
 use Rattle.track9.proofs.AskedLemmas.{fits_just, fits_self, found_from, found_none, found_to, none_some, some_same}
-use Rattle.deck9.proofs.DriftLemmas.{drift_from_pairs, pairs_from_drift, same_entries}
+use Rattle.deck9.proofs.DriftLemmas.{drift_from_pairs}
 use Rattle.track9.proofs.KnownModes.{goal_to}
 use Rattle.track9.proofs.MemberLemmas.{some_goal, state_there}
 use Rattle.track9.proofs.ModeLemmas.{has-and}
 use Rattle.track9.proofs.PairLemmas.{drifted_from, drifted_to, mode_some, pairs_some}
 use Rattle.track9.proofs.PartLemmas.{same_entry, shown_by_goal}
-use Rattle.track9.proofs.ReachLemmas.{impossible}
+use Rattle.track9.proofs.ReachLemmas.{to_two}
 use Rattle.track9.proofs.SenseLemmas.{masked_has}
-use Rattle.track9.proofs.SetDriftLemmas.{is_allowed, panel_live, state_is}
+use Rattle.track9.proofs.SetDriftLemmas.{drift_panel, drift_state, mechanics, off_drift, possible_state}
+use Rattle.track9.proofs.ForgetLemmas.{two_live, two_none}
 use Rattle.track9.proofs.StepLemmas.{sense_effect, status_effect}
 
 -- ---- pairs
@@ -125,11 +127,19 @@ runs_there p a f n x y z w l pair (g, m, goal, mode, reaches) i o ai ao local pa
 pub runs_lead : (h : Hands) (a : Asked) (s : State) → RunsTo a s → LeadsTo h a s
 runs_lead h a s (d, kept, reaches, fits) = (d, drift_from_pairs h s d (inl (kept, reaches)), fits)
 
+-- where there is a state with the panel on hands are allowed
+pub panel_hands : (v : StateSet) (s : State) → InPart (in_local (on_two v.on) s.local) s → hands_of v ≡ hands.Allowed
+panel_hands v s i = by v.on i
+  where
+    by : (o : Option TwoParts) → InPart (in_local (on_two o) s.local) s → hands_by o ≡ hands.Allowed
+    by None i = two_none s i
+    by (Some h) i = refl
+
 -- a hand makes any state with the panel on
-pub hand_leads : (h : Hands) (v : StateSet) (a : Asked) (s : State) → IsHandled h v → IsAsked a → Is a.panel true → Possible v s → s.panel ≡ true → LeadsTo h a s
-hand_leads h v a s handled (d, valid, fits) asked there on =
+pub hand_leads : (h : Hands) (a : Asked) (s : State) → h ≡ hands.Allowed → IsAsked a → Is a.panel true → s.panel ≡ true → LeadsTo h a s
+hand_leads h a s allowed (d, valid, fits) asked on =
     let e : State = record d { panel = true } in
-    (e, drift_from_pairs h s e (inr (is_allowed h v handled (panel_live v s on there), on, refl, same d valid)), record { goal = fits.goal; shown = fits.shown; registers = each d fits; local = fits.local; panel = asked })
+    (e, drift_from_pairs h s e (inr (allowed, on, refl, same d valid)), record { goal = fits.goal; shown = fits.shown; registers = each d fits; local = fits.local; panel = asked })
   where
     same : (d : State) → IsState d → IsState (record d { panel = true })
     same d valid RegIn = valid RegIn
@@ -146,23 +156,19 @@ hand_leads h v a s handled (d, valid, fits) asked there on =
 abbrev pub NoneRuns : PartStates → Bool → Asked → Type 0
 NoneRuns p l a = ((s : State) × HasState p l false s × RunsTo a s) → ⊥
 
-pub no_origin : (h : Hands) (v : StateSet) (a : Asked) → (Is a.panel true → is_panel_live v ≡ false) → NoneRuns v.remote false a → NoneRuns v.local true a → ((s : State) × Possible v s × LeadsTo h a s) → ⊥
-no_origin h v a dead remote local (s, there, (d, drift, fits)) = by (pairs_from_drift h s d drift)
+pub none_runs : (h : TwoParts) (a : Asked) → NoneRuns h.remote false a → NoneRuns h.local true a → ((s : State) × InTwo false h s × RunsTo a s) → ⊥
+none_runs h a remote local (s, there, runs) = by s.local refl
   where
-    on : s.panel ≡ true → d.panel ≡ true → ⊥
-    on before after = false≢true (sym (dead (subst (Is a.panel) after fits.panel)) ∙ panel_live v s before there)
+    by : (l : Bool) → s.local ≡ l → ⊥
+    by false e = remote (s, record { inside = subst (λ l. InPart (in_local h l) s) e there.1; local = e; panel = there.0 }, runs)
+    by true e = local (s, record { inside = subst (λ l. InPart (in_local h l) s) e there.1; local = e; panel = there.0 }, runs)
 
-    off : (l : Bool) → s.local ≡ l → s.panel ≡ false → RunsTo a s → ⊥
-    off false e f runs = remote (s, record { inside = impossible v s false false e f there; local = e; panel = f }, runs)
-    off true e f runs = local (s, record { inside = impossible v s true false e f there; local = e; panel = f }, runs)
-
-    kept : (pn : Bool) → s.panel ≡ pn → KeepsRest s d → PairReaches s.goal s.shown d.goal d.shown → ⊥
-    kept true e rest reaches = on e (ap (λ (u : State). u.panel) rest ∙ e)
-    kept false e rest reaches = off s.local refl e (d, rest, reaches, fits)
-
-    by : DriftsTo h s d → ⊥
-    by (inl (rest, reaches)) = kept s.panel refl rest reaches
-    by (inr (allowed, before, after, valid)) = on before after
+pub no_origin : (h : Hands) (v : StateSet) (a : Asked) → (Is a.panel true → is_panel_live v ≡ false) → (((s : State) × InTwo false v.off s × RunsTo a s) → ⊥) → ((s : State) × Possible v s × LeadsTo h a s) → ⊥
+no_origin h v a dead off (s, there, (d, drift, fits)) = by s.panel refl
+  where
+    by : (pn : Bool) → s.panel ≡ pn → ⊥
+    by true e = false≢true (sym (dead (subst (Is a.panel) (drift_panel h s d drift ∙ e) fits.panel)) ∙ two_live (two_of v true) s (to_two v s true e there).1)
+    by false e = let m = mechanics s d (off_drift h s d e drift) in off (s, to_two v s false e there, (d, m.0, m.1, fits))
 
 -- ---- steps
 
@@ -198,14 +204,6 @@ shows_before h c reply d t does shows = by (sense_of c) refl shows
     by (sense.Register r) e a = subst (λ u. Agrees (sense.Register r) u reply) (same (sense_effect c r e)) a
     by (sense.Status asked) e a = subst (λ u. Agrees (sense.Status asked) u reply) (same (status_effect c asked e)) a
     by sense.Nothing e a = tt
-
--- a drift leads from states of the day to such states
-drift_state : (h : Hands) (v : StateSet) (s d : State) → AreBelow v → Possible v s → Drift h s d → IsState d
-drift_state h v s d below there drift = by (pairs_from_drift h s d drift)
-  where
-    by : DriftsTo h s d → IsState d
-    by (inl (rest, reaches)) = same_entries s d rest (state_is (part_of v s.local s.panel) s (below s.local s.panel) there)
-    by (inr (allowed, before, after, valid)) = valid
 
 -- ---- whole exchanges
 
@@ -253,8 +251,8 @@ unfolding NoneLeads
 no_exchange h c reply v t o nak below undone found none (s, there, (d, drift, step)) = by step
   where
     asked : (o : Option Asked) → asked_before h (effect_of c) t ≡ o → NoneLeads h v o → Does h (effect_of c) d t → ⊥
-    asked None found none does = found_none h (effect_of c) t d (drift_state h v s d below there drift) found does
-    asked (Some a) found none does = none (s, there, (d, drift, found_to h (effect_of c) t d a (drift_state h v s d below there drift) found does))
+    asked None found none does = found_none h (effect_of c) t d (drift_state h s d (possible_state v s below there) drift) found does
+    asked (Some a) found none does = none (s, there, (d, drift, found_to h (effect_of c) t d a (drift_state h s d (possible_state v s below there) drift) found does))
 
     by : Step h c reply d t → ⊥
     by (refused was e) = false≢true (sym nak ∙ was)

@@ -1,257 +1,232 @@
--- Each effect on a set of states.
+-- Each effect on the states with one value of the panel.
 use Rattle.std.proofs.Common.{◌≡◌, inl, inr, ◌||◌, Bool, true, false, if◌then◌else◌, Some, None, refl, sym, ap, ◌∙◌, subst}
 use Rattle.std.proofs.lemmas.Bool.{false≢true}
 use Rattle.tc25.specs.Times.{BelowDay}
 use Rattle.deck9.specs.declared.effect.Change.{Change}
+use Rattle.deck9.specs.declared.effect.Effect.{Effect}
 use Rattle.deck9.specs.declared.effect.Effect.TheVariants as effect
 use Rattle.deck9.specs.declared.mode.Mode.{Mode}
 use Rattle.deck9.specs.declared.mode.Mode.TheVariants.{Stop}
-use Rattle.track9.specs.declared.presets.Presets.{Presets}
-use Rattle.deck9.specs.declared.state.Hands.{Hands}
+use Rattle.track9.specs.declared.pairs.Pairs.{Pairs}
+use Rattle.track9.specs.Presets.{Presets}
 use Rattle.deck9.specs.declared.state.Hands.TheVariants as hands
 use Rattle.deck9.specs.declared.state.Register.{Register}
 use Rattle.deck9.specs.declared.state.Register.TheVariants.{RegIn, RegOut, RegAudioIn, RegAudioOut}
 use Rattle.deck9.specs.declared.state.State.{State}
 use Rattle.deck9.specs.Effect.{Does}
-use Rattle.track9.specs.Tracker.{PartStates, Possible, StateSet, entries_of, part_of}
-use Rattle.track9.specs.Working.Parts.{Whole, all_states, aside, changed_entries, changed_part, forgotten_part, gone_part, is_live, no_states, put_aside, put_part}
-use Rattle.track9.specs.Working.States.{AreBelow, AreFew, AreWhole, DoesOrNot, HasEffect, IsHandled, IsSettled, after_change, after_forgetting_all, after_forgetting_registers, after_forgetting_tape, after_goal, after_panel, changed_aside, counted, first_states, is_panel_live, some_state}
+use Rattle.track9.specs.Presets.{count_of}
+use Rattle.track9.specs.Tracker.{Entries, PartStates, TwoParts, entries_of, in_local}
+use Rattle.track9.specs.Working.Pairs.{drifted}
+use Rattle.track9.specs.Working.Parts.{all_states, aside, changed_entries, changed_part, drifted_part, forgotten_part, gone_part, is_live, put_aside, where_live, with_entries, with_pairs}
+use Rattle.track9.specs.Working.States.{DoesOrNot, HasEffect, InTwo, TwoBelow, TwoFew, TwoWhole, all_forgotten, all_or_none, counted, map_two, registers_forgotten, some_two, tape_forgotten, two_changed, two_drifted, two_gone}
 use Rattle.track9.proofs.ChangeLemmas.{ChangesTo, change_reached}
-use Rattle.track9.proofs.FewLemmas.{FewIn, few_all_states, few_changed_part, few_counted, few_if, few_mapped, few_no_states}
+use Rattle.track9.proofs.FewLemmas.{FewIn, FewTimes, few_all_states, few_changed_part, few_counted, few_two}
 use Rattle.track9.proofs.ForgetLemmas.{forget_reached, registers_reached, tape_reached}
 use Rattle.track9.proofs.GoalLemmas.{GoesFor, goal_reached}
-use Rattle.track9.proofs.PanelLemmas.{panel_reached}
-use Rattle.track9.proofs.PartLemmas.{put_local, put_panel, read_put}
-use Rattle.track9.specs.Working.Codes.{is_allowed}
-use Rattle.track9.proofs.ReachLemmas.{Keeps, ReachedIn, by_mapped_parts, by_parts, in_live, reached_as, reached_by}
-use Rattle.track9.proofs.WholeLemmas.{whole_all, whole_change, whole_forgotten, whole_goal, whole_if, whole_live, whole_mapped, whole_none, whole_of}
-
--- ---- none
+use Rattle.track9.proofs.LeadLemmas.{leads, two_same}
+use Rattle.track9.proofs.PartLemmas.{put_local, put_panel, read_put, same_entries}
+use Rattle.track9.proofs.ReachLemmas.{Keeps, mapped, reached_as, reached_by, reached_same}
+use Rattle.track9.proofs.WholeLemmas.{drift_some, whole_all, whole_change, whole_drift, whole_forgotten, whole_goal, whole_in, whole_two}
 
 never : {P : Type 0} → false ≡ true → P
 never h = absurd (false≢true h)
 
+-- where nobody touches the panel no effect changes it
+pub does_panel : (e : Effect) (s t : State) → DoesOrNot e s t → t.panel ≡ s.panel
+does_panel e s t (inr (may, local, same)) = ap (λ (u : State). u.panel) same
+does_panel effect.Nothing s t (inl d) = ap (λ (u : State). u.panel) d
+does_panel (effect.Go g) s t (inl d) = ap (λ (u : State). u.panel) d
+does_panel effect.KeepOrStop s t (inl (inl d)) = ap (λ (u : State). u.panel) d
+does_panel effect.KeepOrStop s t (inl (inr d)) = ap (λ (u : State). u.panel) d
+does_panel (effect.Change r c) s t (inl d) = ap (λ (u : State). u.panel) d.2 ∙ put_panel r d.0 s
+does_panel (effect.Panel on) s t (inl d) = ap (λ (u : State). u.panel) d
+does_panel effect.ForgetTape s t (inl d) = d.2
+does_panel effect.ForgetRegisters s t (inl d) = d.4
+does_panel effect.ForgetAll s t (inl d) = d.1
+
+-- other pairs in place of a part's
+pub few_pairs : (n : Presets) (q : Pairs) (p : PartStates) → FewIn n p → FewIn n (with_pairs q p)
+few_pairs n q p h r = subst (λ es. FewTimes (count_of r n) es) (sym (same_entries r p q)) (h r)
+
 -- ---- goals
 
-goes_keeps : (h : Hands) (goal : Mode) → Keeps (DoesOrNot h (effect.Go goal))
-goes_keeps h goal = record {
-  local = λ s t d. elim d [ inl e ↦ ap (λ (u : State). u.local) e | inr (may, local, e) ↦ ap (λ (u : State). u.local) e ];
-  panel = λ s t d. elim d [ inl e ↦ ap (λ (u : State). u.panel) e | inr (may, local, e) ↦ ap (λ (u : State). u.panel) e ];
-}
-
-goal_whole : (may_stay : Bool) (goal : Mode) (v : StateSet) → AreWhole v → AreWhole (after_goal may_stay goal v)
-goal_whole may_stay goal v whole =
-    whole_mapped (λ l p. if is_live p then gone_part (may_stay || l) goal p else p) v whole (λ l p w. whole_live p (gone_part (may_stay || l) goal p) w (whole_goal (may_stay || l) goal p w))
-
-goal_few : (may_stay : Bool) (goal : Mode) (v : StateSet) (n : Presets) → AreFew n v → AreFew n (after_goal may_stay goal v)
-goal_few may_stay goal v n few =
-    few_mapped n (λ l p. if is_live p then gone_part (may_stay || l) goal p else p) v (λ l pn. few_if n (is_live (part_of v l pn)) (gone_part (may_stay || l) goal (part_of v l pn)) (part_of v l pn) (pairs_few n (may_stay || l) goal (part_of v l pn) (few l pn)) (few l pn))
-  where
-    pairs_few : (n : Presets) (may_stay : Bool) (goal : Mode) (p : PartStates) → FewIn n p → FewIn n (gone_part may_stay goal p)
-    pairs_few n may_stay goal p h RegIn = h RegIn
-    pairs_few n may_stay goal p h RegOut = h RegOut
-    pairs_few n may_stay goal p h RegAudioIn = h RegAudioIn
-    pairs_few n may_stay goal p h RegAudioOut = h RegAudioOut
-
-pub has_goal : (h : Hands) (goal : Mode) (v : StateSet) → AreWhole v → HasEffect h (effect.Go goal) v (after_goal false goal v)
-has_goal h goal v whole = record {
-  reached = by_mapped_parts (DoesOrNot h (effect.Go goal)) (goes_keeps h goal) (λ l p. if is_live p then gone_part l goal p else p) v (λ l pn.
-      in_live (DoesOrNot h (effect.Go goal)) l pn (part_of v l pn) (gone_part l goal (part_of v l pn)) (λ live.
-      reached_as (GoesFor l goal) (DoesOrNot h (effect.Go goal)) l pn (part_of v l pn) (gone_part l goal (part_of v l pn))
+has_goal : (goal : Mode) (h : TwoParts) → TwoWhole h → HasEffect (effect.Go goal) h (two_gone false goal h)
+has_goal goal h whole = leads (DoesOrNot (effect.Go goal)) (counted (effect.Go goal)) keeps (λ l. gone_part l goal) h whole (λ l n few. few) (λ l live. record {
+  reached = λ pn. reached_as (GoesFor l goal) (DoesOrNot (effect.Go goal)) l pn (in_local h l) (gone_part l goal (in_local h l))
       (λ s t el g. elim g [ inl e ↦ inl e | inr (stays, e) ↦ inr (refl, el ∙ stays, e) ])
       (λ s t el d. elim d [ inl e ↦ inl e | inr (may, local, e) ↦ inr (sym el ∙ local, e) ])
-      (goal_reached l goal l pn (part_of v l pn))));
-  whole = goal_whole false goal v whole;
-  few = λ n few. goal_few false goal v n few;
-}
+      (goal_reached l goal l pn (in_local h l));
+  whole = whole_goal l goal (in_local h l) (whole_in h whole l) live;
+  few = λ n few. few_pairs n _ (in_local h l) few;
+})
+  where
+    keeps : Keeps (DoesOrNot (effect.Go goal))
+    keeps = record { local = λ s t d. elim d [ inl e ↦ ap (λ (u : State). u.local) e | inr (may, local, e) ↦ ap (λ (u : State). u.local) e ]; panel = does_panel (effect.Go goal) }
 
-keeps_or_stops : (h : Hands) → Keeps (DoesOrNot h effect.KeepOrStop)
-keeps_or_stops h = record {
-  local = λ s t d. elim d [ inl (inl e) ↦ ap (λ (u : State). u.local) e | inl (inr e) ↦ ap (λ (u : State). u.local) e | inr (may, local, e) ↦ ap (λ (u : State). u.local) e ];
-  panel = λ s t d. elim d [ inl (inl e) ↦ ap (λ (u : State). u.panel) e | inl (inr e) ↦ ap (λ (u : State). u.panel) e | inr (may, local, e) ↦ ap (λ (u : State). u.panel) e ];
-}
-
-pub has_keep_or_stop : (h : Hands) (v : StateSet) → AreWhole v → HasEffect h effect.KeepOrStop v (after_goal true Stop v)
-has_keep_or_stop h v whole = record {
-  reached = by_mapped_parts (DoesOrNot h effect.KeepOrStop) (keeps_or_stops h) (λ l p. if is_live p then gone_part true Stop p else p) v (λ l pn.
-      in_live (DoesOrNot h effect.KeepOrStop) l pn (part_of v l pn) (gone_part true Stop (part_of v l pn)) (λ live.
-      reached_as (GoesFor true Stop) (DoesOrNot h effect.KeepOrStop) l pn (part_of v l pn) (gone_part true Stop (part_of v l pn))
+has_keep_or_stop : (h : TwoParts) → TwoWhole h → HasEffect effect.KeepOrStop h (two_gone true Stop h)
+has_keep_or_stop h whole = leads (DoesOrNot effect.KeepOrStop) (counted effect.KeepOrStop) keeps (λ l. gone_part true Stop) h whole (λ l n few. few) (λ l live. record {
+  reached = λ pn. reached_as (GoesFor true Stop) (DoesOrNot effect.KeepOrStop) l pn (in_local h l) (gone_part true Stop (in_local h l))
       (λ s t el g. elim g [ inl e ↦ inl (inr e) | inr (stays, e) ↦ inl (inl e) ])
       (λ s t el d. elim d [ inl (inl e) ↦ inr (refl, e) | inl (inr e) ↦ inl e | inr (may, local, e) ↦ inr (refl, e) ])
-      (goal_reached true Stop l pn (part_of v l pn))));
-  whole = goal_whole true Stop v whole;
-  few = λ n few. goal_few true Stop v n few;
-}
+      (goal_reached true Stop l pn (in_local h l));
+  whole = whole_goal true Stop (in_local h l) (whole_in h whole l) live;
+  few = λ n few. few_pairs n _ (in_local h l) few;
+})
+  where
+    keeps : Keeps (DoesOrNot effect.KeepOrStop)
+    keeps = record {
+      local = λ s t d. elim d [ inl (inl e) ↦ ap (λ (u : State). u.local) e | inl (inr e) ↦ ap (λ (u : State). u.local) e | inr (may, local, e) ↦ ap (λ (u : State). u.local) e ];
+      panel = does_panel effect.KeepOrStop;
+    }
 
 -- ---- registers
 
-aside_is : (may_stay : Bool) (r : Register) (c : Change) (p : PartStates) → changed_aside may_stay r c p ≡ (if is_live p then changed_part may_stay r c p else p)
-aside_is may_stay r c p = by (is_live p)
+-- what is made aside where there is a state, and then put in place
+aside_is : (r : Register) (es : Entries) (p : PartStates) → put_aside r (aside p es) p ≡ (if is_live p then with_entries r es p else p)
+aside_is r es p = by (is_live p)
   where
-    by : (b : Bool) → put_aside r (if b then Some (changed_entries may_stay c (entries_of r p)) else None) p ≡ (if b then changed_part may_stay r c p else p)
+    by : (b : Bool) → put_aside r (if b then Some es else None) p ≡ (if b then with_entries r es p else p)
     by true = refl
     by false = refl
 
-change_part : (r : Register) (c : Change) (v : StateSet) (l pn : Bool) → part_of (after_change r c v) l pn ≡ (if is_live (part_of v l pn) then changed_part l r c (part_of v l pn) else part_of v l pn)
-change_part r c v false false = aside_is false r c v.remote
-change_part r c v false true = aside_is false r c v.remote_panel
-change_part r c v true false = refl
-change_part r c v true true = aside_is true r c v.local_panel
-
-change_keeps : (h : Hands) (r : Register) (c : Change) → Keeps (DoesOrNot h (effect.Change r c))
-change_keeps h r c = record {
-  local = λ s t d. elim d [ inl (e, b, same) ↦ ap (λ (u : State). u.local) same ∙ put_local r e s | inr (may, local, same) ↦ ap (λ (u : State). u.local) same ];
-  panel = λ s t d. elim d [ inl (e, b, same) ↦ ap (λ (u : State). u.panel) same ∙ put_panel r e s | inr (may, local, same) ↦ ap (λ (u : State). u.panel) same ];
-}
+changed_is : (r : Register) (c : Change) (h : TwoParts) → two_changed r c h ≡ map_two (λ l. where_live (changed_part l r c)) h
+changed_is r c h = two_same (two_changed r c h) (map_two (λ l. where_live (changed_part l r c)) h) (aside_is r (changed_entries false c (entries_of r h.remote)) h.remote) refl
 
 -- the times of a changed part are times of the day, since those of the set are
-change_below : (r : Register) (c : Change) (v : StateSet) (l pn : Bool) → AreBelow (after_change r c v) → is_live (part_of v l pn) ≡ true → BelowDay (changed_entries l c (entries_of r (part_of v l pn))).times
-change_below r c v l pn after live =
-    let q = change_part r c v l pn in
-    let same : part_of (after_change r c v) l pn ≡ changed_part l r c (part_of v l pn) = q ∙ ap (λ (b : Bool). if b then changed_part l r c (part_of v l pn) else part_of v l pn) live in
-    subst (λ es. BelowDay es.times) (ap (entries_of r) same ∙ read_put r (changed_entries l c (entries_of r (part_of v l pn))) (part_of v l pn)) (after l pn r)
+change_below : (r : Register) (c : Change) (h : TwoParts) (l : Bool) → TwoBelow (two_changed r c h) → is_live (in_local h l) ≡ true → BelowDay (changed_entries l c (entries_of r (in_local h l))).times
+change_below r c h l after live =
+    let p = in_local h l in
+    let same : in_local (two_changed r c h) l ≡ changed_part l r c p =
+    ap (λ g. in_local g l) (changed_is r c h) ∙ mapped (λ l. where_live (changed_part l r c)) h l ∙ ap (λ (b : Bool). if b then changed_part l r c p else p) live in
+    subst (λ es. BelowDay es.times) (ap (entries_of r) same ∙ read_put r (changed_entries l c (entries_of r p)) p) (after l r)
 
-change_whole : (r : Register) (c : Change) (v : StateSet) → AreWhole v → AreWhole (after_change r c v)
-change_whole r c v whole = record {
-  remote = at false v.remote whole.remote;
-  local = whole_live v.local (changed_part true r c v.local) whole.local (whole_change true r c v.local whole.local);
-  remote_panel = at false v.remote_panel whole.remote_panel;
-  local_panel = at true v.local_panel whole.local_panel;
-}
+has_change : (r : Register) (c : Change) (h : TwoParts) → TwoWhole h → TwoBelow h → TwoBelow (two_changed r c h) → HasEffect (effect.Change r c) h (two_changed r c h)
+has_change r c h whole below after = subst (HasEffect (effect.Change r c) h) (sym (changed_is r c h))
+    (leads (DoesOrNot (effect.Change r c)) (counted (effect.Change r c)) keeps (λ l. changed_part l r c) h whole (λ l n few. few_counted (effect.Change r c) n (in_local h l) (below l) few) (λ l live. record {
+      reached = λ pn. reached_as (ChangesTo l r c) (DoesOrNot (effect.Change r c)) l pn (in_local h l) (changed_part l r c (in_local h l))
+          (λ s t el g. elim g [ inl e ↦ inl e | inr (stays, e) ↦ inr (refl, el ∙ stays, e) ])
+          (λ s t el d. elim d [ inl e ↦ inl e | inr (may, local, e) ↦ inr (sym el ∙ local, e) ])
+          (change_reached l r c l pn (in_local h l) (whole_in h whole l) live (below l r));
+      whole = whole_change l r c (in_local h l) (whole_in h whole l) live;
+      few = λ n few. few_changed_part l r c n (in_local h l) (below l) (change_below r c h l after live) few;
+    }))
   where
-    at : (may_stay : Bool) (p : PartStates) → Whole p → Whole (changed_aside may_stay r c p)
-    at may_stay p w = subst Whole (sym (aside_is may_stay r c p)) (whole_live p (changed_part may_stay r c p) w (whole_change may_stay r c p w))
-
-change_few : (r : Register) (c : Change) (v : StateSet) (n : Presets) → AreBelow v → AreBelow (after_change r c v) → AreFew n v → AreFew (counted (effect.Change r c) n) (after_change r c v)
-change_few r c v n below after few = λ l pn. subst (FewIn (counted (effect.Change r c) n)) (sym (change_part r c v l pn)) (at l pn (is_live (part_of v l pn)) refl)
-  where
-    at : (l pn : Bool) (b : Bool) → is_live (part_of v l pn) ≡ b → FewIn (counted (effect.Change r c) n) (if b then changed_part l r c (part_of v l pn) else part_of v l pn)
-    at l pn true live = few_changed_part l r c n (part_of v l pn) (below l pn) (change_below r c v l pn after live) (few l pn)
-    at l pn false dead = few_counted (effect.Change r c) n (part_of v l pn) (below l pn) (few l pn)
-
-pub has_change : (h : Hands) (r : Register) (c : Change) (v : StateSet) → AreWhole v → AreBelow v → AreBelow (after_change r c v) → HasEffect h (effect.Change r c) v (after_change r c v)
-has_change h r c v whole below after = record {
-  reached = by_parts (DoesOrNot h (effect.Change r c)) (change_keeps h r c) v (after_change r c v) (λ l pn.
-      subst (λ q. ReachedIn (DoesOrNot h (effect.Change r c)) l pn (part_of v l pn) q) (sym (change_part r c v l pn))
-      (in_live (DoesOrNot h (effect.Change r c)) l pn (part_of v l pn) (changed_part l r c (part_of v l pn)) (λ live.
-      reached_as (ChangesTo l r c) (DoesOrNot h (effect.Change r c)) l pn (part_of v l pn) (changed_part l r c (part_of v l pn))
-      (λ s t el g. elim g [ inl e ↦ inl e | inr (stays, e) ↦ inr (refl, el ∙ stays, e) ])
-      (λ s t el d. elim d [ inl e ↦ inl e | inr (may, local, e) ↦ inr (sym el ∙ local, e) ])
-      (change_reached l r c l pn (part_of v l pn) (whole_of v whole l pn) live (below l pn r)))));
-  whole = change_whole r c v whole;
-  few = λ n few. change_few r c v n below after few;
-}
-
--- ---- the panel
-
-panel_whole : (on : Bool) (v : StateSet) → AreWhole v → AreWhole (after_panel on v)
-panel_whole true v whole = record {
-  remote = whole_none;
-  local = whole_none;
-  remote_panel = whole_if (is_panel_live v) v.remote_panel v.remote whole.remote_panel whole.remote;
-  local_panel = whole_if (is_panel_live v) v.local_panel v.local whole.local_panel whole.local;
-}
-panel_whole false v whole = record {
-  remote = whole_if (is_panel_live v) v.remote_panel v.remote whole.remote_panel whole.remote;
-  local = whole_if (is_panel_live v) v.local_panel v.local whole.local_panel whole.local;
-  remote_panel = whole_none;
-  local_panel = whole_none;
-}
-
-panel_few : (on : Bool) (v : StateSet) (n : Presets) → AreFew n v → AreFew n (after_panel on v)
-panel_few true v n few false false = few_no_states n
-panel_few true v n few true false = few_no_states n
-panel_few true v n few false true = few_if n (is_panel_live v) v.remote_panel v.remote (few false true) (few false false)
-panel_few true v n few true true = few_if n (is_panel_live v) v.local_panel v.local (few true true) (few true false)
-panel_few false v n few false false = few_if n (is_panel_live v) v.remote_panel v.remote (few false true) (few false false)
-panel_few false v n few true false = few_if n (is_panel_live v) v.local_panel v.local (few true true) (few true false)
-panel_few false v n few false true = few_no_states n
-panel_few false v n few true true = few_no_states n
-
-pub has_panel : (on : Bool) (v : StateSet) → AreWhole v → AreBelow v → IsSettled v → HasEffect hands.Allowed (effect.Panel on) v (after_panel on v)
-has_panel on v whole below settled = record {
-  reached = reached_by (Possible v) (Possible (after_panel on v)) (λ s t. t ≡ record s { panel = on }) (DoesOrNot hands.Allowed (effect.Panel on)) (λ s t e. inl e) (λ s t d. elim d [ inl e ↦ e | inr (may, local, e) ↦ never may ]) (panel_reached on v below settled);
-  whole = panel_whole on v whole;
-  few = λ n few. panel_few on v n few;
-}
+    keeps : Keeps (DoesOrNot (effect.Change r c))
+    keeps = record {
+      local = λ s t d. elim d [ inl (e, b, same) ↦ ap (λ (u : State). u.local) same ∙ put_local r e s | inr (may, local, same) ↦ ap (λ (u : State). u.local) same ];
+      panel = does_panel (effect.Change r c);
+    }
 
 -- ---- forgetting
 
-put_part_is : (q p : PartStates) → put_part (aside p q) p ≡ (if is_live p then q else p)
-put_part_is q p = by (is_live p)
+has_forgotten_tape : (h : TwoParts) → TwoWhole h → HasEffect effect.ForgetTape h (tape_forgotten h)
+has_forgotten_tape h whole = (leads (DoesOrNot effect.ForgetTape) (counted effect.ForgetTape) keeps (λ l p. all_states) h whole (λ l n few. few) (λ l live. record {
+  reached = λ pn. reached_as (Does hands.None effect.ForgetTape) (DoesOrNot effect.ForgetTape) l pn (in_local h l) all_states (λ s t el d. inl d) (λ s t el d. elim d [ inl e ↦ e | inr (may, local, e) ↦ never may ])
+      (tape_reached hands.None l pn (in_local h l) (whole_in h whole l) live);
+  whole = whole_all;
+  few = λ n few. few_all_states n;
+}))
   where
-    by : (b : Bool) → put_part (if b then Some q else None) p ≡ (if b then q else p)
+    keeps : Keeps (DoesOrNot effect.ForgetTape)
+    keeps = record { local = λ s t d. elim d [ inl e ↦ e.1 | inr (may, local, e) ↦ never may ]; panel = does_panel effect.ForgetTape }
+
+has_forgotten_registers : (h : TwoParts) → TwoWhole h → HasEffect effect.ForgetRegisters h (registers_forgotten h)
+has_forgotten_registers h whole = (leads (DoesOrNot effect.ForgetRegisters) (counted effect.ForgetRegisters) keeps (λ l. forgotten_part) h whole (λ l n few. few) (λ l live. record {
+  reached = λ pn. reached_as (Does hands.None effect.ForgetRegisters) (DoesOrNot effect.ForgetRegisters) l pn (in_local h l) (forgotten_part (in_local h l)) (λ s t el d. inl d) (λ s t el d. elim d [ inl e ↦ e | inr (may, local, e) ↦ never may ])
+      (registers_reached hands.None l pn (in_local h l) (whole_in h whole l) live);
+  whole = whole_forgotten (in_local h l) live;
+  few = λ n few. few_pairs n (in_local h l).pairs all_states (few_all_states n);
+}))
+  where
+    keeps : Keeps (DoesOrNot effect.ForgetRegisters)
+    keeps = record { local = λ s t d. elim d [ inl e ↦ e.3 | inr (may, local, e) ↦ never may ]; panel = does_panel effect.ForgetRegisters }
+
+has_forgotten_all : (h : TwoParts) → TwoWhole h → HasEffect effect.ForgetAll h (all_forgotten h)
+has_forgotten_all h whole = record { reached = forget_reached h whole; whole = all_whole (some_two h); few = λ n few. all_few n few (some_two h) }
+  where
+    all_whole : (b : Bool) → TwoWhole (if b then all_or_none true else h)
+    all_whole true = whole_two true
+    all_whole false = whole
+
+    all_few : (n : Presets) → TwoFew n h → (b : Bool) → TwoFew n (if b then all_or_none true else h)
+    all_few n few true = few_two n true
+    all_few n few false = few
+
+-- ---- a drift after what becomes of the registers
+
+drift_live : (f : PartStates → PartStates) (p : PartStates) → drifted_part (f p) ≡ f (drifted_part p) → drifted_part (where_live f p) ≡ where_live f (drifted_part p)
+drift_live f p same = by (is_live p) ∙ ap (λ (b : Bool). if b then f (drifted_part p) else drifted_part p) (sym (drift_some p.pairs))
+  where
+    by : (b : Bool) → drifted_part (if b then f p else p) ≡ (if b then f (drifted_part p) else drifted_part p)
+    by true = same
+    by false = refl
+
+pub drift_two : (f : Bool → PartStates → PartStates) (h : TwoParts) → ((l : Bool) (p : PartStates) → drifted_part (f l p) ≡ f l (drifted_part p))
+    → two_drifted (map_two (λ l. where_live (f l)) h) ≡ map_two (λ l. where_live (f l)) (two_drifted h)
+drift_two f h same = two_same (two_drifted (map_two (λ l. where_live (f l)) h)) (map_two (λ l. where_live (f l)) (two_drifted h))
+    (drift_live (f false) h.remote (same false h.remote)) (drift_live (f true) h.local (same true h.local))
+
+pub drift_put : (r : Register) (es : Entries) (p : PartStates) → drifted_part (with_entries r es p) ≡ with_entries r es (drifted_part p)
+drift_put RegIn es p = refl
+drift_put RegOut es p = refl
+drift_put RegAudioIn es p = refl
+drift_put RegAudioOut es p = refl
+
+drift_changed : (r : Register) (c : Change) (h : TwoParts) → two_drifted (two_changed r c h) ≡ two_changed r c (two_drifted h)
+drift_changed r c h = ap two_drifted (changed_is r c h)
+    ∙ drift_two (λ l. changed_part l r c) h (λ l p. drift_put r (changed_entries l c (entries_of r p)) p ∙ ap (λ es. with_entries r (changed_entries l c es) (drifted_part p)) (sym (same_entries r p (drifted p.pairs))))
+    ∙ sym (changed_is r c (two_drifted h))
+
+drift_below : (h : TwoParts) → TwoBelow h → TwoBelow (two_drifted h)
+drift_below h below false r = subst (λ es. BelowDay es.times) (sym (same_entries r h.remote (drifted h.remote.pairs))) (below false r)
+drift_below h below true r = subst (λ es. BelowDay es.times) (sym (same_entries r h.local (drifted h.local.pairs))) (below true r)
+
+pub drift_whole : (h : TwoParts) → TwoWhole h → TwoWhole (two_drifted h)
+drift_whole h whole = record { remote = whole_drift h.remote whole.remote; local = whole_drift h.local whole.local }
+
+pub after_change : (r : Register) (c : Change) (h g k : TwoParts) → g ≡ two_changed r c h → k ≡ two_drifted g → TwoWhole h → TwoBelow h → TwoBelow g → HasEffect (effect.Change r c) (two_drifted h) k
+after_change r c h g k changed drifted whole below after =
+    subst (HasEffect (effect.Change r c) (two_drifted h)) (sym (drifted ∙ ap two_drifted changed ∙ drift_changed r c h))
+    (has_change r c (two_drifted h) (drift_whole h whole) (drift_below h below) (subst TwoBelow (ap two_drifted changed ∙ drift_changed r c h) (drift_below g after)))
+
+pub after_tape : (h g k : TwoParts) → g ≡ tape_forgotten h → k ≡ two_drifted g → TwoWhole h → HasEffect effect.ForgetTape (two_drifted h) k
+after_tape h g k forgotten drifted whole =
+    subst (HasEffect effect.ForgetTape (two_drifted h)) (sym (drifted ∙ ap two_drifted forgotten ∙ drift_two (λ l p. all_states) h (λ l p. refl)))
+    (has_forgotten_tape (two_drifted h) (drift_whole h whole))
+
+pub after_registers : (h g k : TwoParts) → g ≡ registers_forgotten h → k ≡ two_drifted g → TwoWhole h → HasEffect effect.ForgetRegisters (two_drifted h) k
+after_registers h g k forgotten drifted whole =
+    subst (HasEffect effect.ForgetRegisters (two_drifted h)) (sym (drifted ∙ ap two_drifted forgotten ∙ drift_two (λ l. forgotten_part) h (λ l p. refl)))
+    (has_forgotten_registers (two_drifted h) (drift_whole h whole))
+
+pub after_all : (h g k : TwoParts) → g ≡ all_forgotten h → k ≡ two_drifted g → TwoWhole h → HasEffect effect.ForgetAll (two_drifted h) k
+after_all h g k forgotten drifted whole =
+    subst (HasEffect effect.ForgetAll (two_drifted h)) (sym (drifted ∙ ap two_drifted forgotten ∙ by (some_two h) ∙ ap (λ (b : Bool). if b then all_or_none true else two_drifted h) (sym same))) (has_forgotten_all (two_drifted h) (drift_whole h whole))
+  where
+    same : some_two (two_drifted h) ≡ some_two h
+    same = ap (λ b. b || is_live (drifted_part h.local)) (drift_some h.remote.pairs) ∙ ap (λ b. is_live h.remote || b) (drift_some h.local.pairs)
+
+    by : (b : Bool) → two_drifted (if b then all_or_none true else h) ≡ (if b then all_or_none true else two_drifted h)
     by true = refl
     by false = refl
 
-tape_keeps : (h : Hands) → Keeps (DoesOrNot h effect.ForgetTape)
-tape_keeps h = record {
-  local = λ s t d. elim d [ inl e ↦ e.1 | inr (may, local, e) ↦ never may ];
-  panel = λ s t d. elim d [ inl e ↦ e.2 | inr (may, local, e) ↦ never may ];
-}
+-- what leaves the registers, after a drift
+pub after_goal : (goal : Mode) (h g k : TwoParts) → g ≡ two_drifted h → k ≡ two_gone false goal g → TwoWhole h → HasEffect (effect.Go goal) (two_drifted h) k
+after_goal goal h g k drifted gone whole = subst (HasEffect (effect.Go goal) (two_drifted h)) (sym (gone ∙ ap (two_gone false goal) drifted)) (has_goal goal (two_drifted h) (drift_whole h whole))
 
-pub has_forgotten_tape : (h : Hands) (v : StateSet) → AreWhole v → HasEffect h effect.ForgetTape v (after_forgetting_tape v)
-has_forgotten_tape h v whole = record {
-  reached = by_mapped_parts (DoesOrNot h effect.ForgetTape) (tape_keeps h) (λ l p. put_part (aside p all_states) p) v (λ l pn.
-      subst (λ q. ReachedIn (DoesOrNot h effect.ForgetTape) l pn (part_of v l pn) q) (sym (put_part_is all_states (part_of v l pn)))
-      (in_live (DoesOrNot h effect.ForgetTape) l pn (part_of v l pn) all_states (λ live.
-      reached_as (Does h effect.ForgetTape) (DoesOrNot h effect.ForgetTape) l pn (part_of v l pn) all_states (λ s t el d. inl d) (λ s t el d. elim d [ inl e ↦ e | inr (may, local, e) ↦ never may ])
-      (tape_reached h l pn (part_of v l pn) (whole_of v whole l pn) live))));
-  whole = whole_mapped (λ l p. put_part (aside p all_states) p) v whole (λ l p w. subst Whole (sym (put_part_is all_states p)) (whole_live p all_states w (λ live. whole_all)));
-  few = λ n few. few_mapped n (λ l p. put_part (aside p all_states) p) v (λ l pn.
-      subst (FewIn n) (sym (put_part_is all_states (part_of v l pn))) (few_if n (is_live (part_of v l pn)) all_states (part_of v l pn) (few_all_states n) (few l pn)));
-}
+pub after_keep_or_stop : (h g k : TwoParts) → g ≡ two_drifted h → k ≡ two_gone true Stop g → TwoWhole h → HasEffect effect.KeepOrStop (two_drifted h) k
+after_keep_or_stop h g k drifted gone whole = subst (HasEffect effect.KeepOrStop (two_drifted h)) (sym (gone ∙ ap (two_gone true Stop) drifted)) (has_keep_or_stop (two_drifted h) (drift_whole h whole))
 
-registers_keep : (h : Hands) → Keeps (DoesOrNot h effect.ForgetRegisters)
-registers_keep h = record {
-  local = λ s t d. elim d [ inl e ↦ e.3 | inr (may, local, e) ↦ never may ];
-  panel = λ s t d. elim d [ inl e ↦ e.4 | inr (may, local, e) ↦ never may ];
-}
+-- nothing but a drift
+after_drift : (e : Effect) (h k : TwoParts) → ((s t : State) → t ≡ s → DoesOrNot e s t) → ((s t : State) → DoesOrNot e s t → t ≡ s) → ((n : Presets) → counted e n ≡ n) → k ≡ two_drifted h → TwoWhole h → HasEffect e (two_drifted h) k
+after_drift e h k there back same drifted whole = subst (HasEffect e (two_drifted h)) (sym drifted) (record {
+  reached = λ pn. reached_by (InTwo pn (two_drifted h)) (InTwo pn (two_drifted h)) (λ s t. t ≡ s) (DoesOrNot e) there back (reached_same (InTwo pn (two_drifted h)));
+  whole = drift_whole h whole;
+  few = λ n few. subst (λ m. TwoFew m (two_drifted h)) (sym (same n)) few;
+})
 
-few_forgotten : (n : Presets) (p : PartStates) → FewIn n (forgotten_part p)
-few_forgotten n p RegIn = few_all_states n RegIn
-few_forgotten n p RegOut = few_all_states n RegOut
-few_forgotten n p RegAudioIn = few_all_states n RegAudioIn
-few_forgotten n p RegAudioOut = few_all_states n RegAudioOut
+pub after_nothing : (h k : TwoParts) → k ≡ two_drifted h → TwoWhole h → HasEffect effect.Nothing (two_drifted h) k
+after_nothing h k = after_drift effect.Nothing h k (λ s t e. inl e) (λ s t d. elim d [ inl e ↦ e | inr (may, local, e) ↦ e ]) (λ n. refl)
 
-pub has_forgotten_registers : (h : Hands) (v : StateSet) → AreWhole v → HasEffect h effect.ForgetRegisters v (after_forgetting_registers v)
-has_forgotten_registers h v whole = record {
-  reached = by_mapped_parts (DoesOrNot h effect.ForgetRegisters) (registers_keep h) (λ l p. put_part (aside p (forgotten_part p)) p) v (λ l pn.
-      subst (λ q. ReachedIn (DoesOrNot h effect.ForgetRegisters) l pn (part_of v l pn) q) (sym (put_part_is (forgotten_part (part_of v l pn)) (part_of v l pn)))
-      (in_live (DoesOrNot h effect.ForgetRegisters) l pn (part_of v l pn) (forgotten_part (part_of v l pn)) (λ live.
-      reached_as (Does h effect.ForgetRegisters) (DoesOrNot h effect.ForgetRegisters) l pn (part_of v l pn) (forgotten_part (part_of v l pn)) (λ s t el d. inl d) (λ s t el d. elim d [ inl e ↦ e | inr (may, local, e) ↦ never may ])
-      (registers_reached h l pn (part_of v l pn) (whole_of v whole l pn) live))));
-  whole = whole_mapped (λ l p. put_part (aside p (forgotten_part p)) p) v whole (λ l p w. subst Whole (sym (put_part_is (forgotten_part p) p)) (whole_live p (forgotten_part p) w (whole_forgotten p)));
-  few = λ n few. few_mapped n (λ l p. put_part (aside p (forgotten_part p)) p) v (λ l pn.
-      subst (FewIn n) (sym (put_part_is (forgotten_part (part_of v l pn)) (part_of v l pn))) (few_if n (is_live (part_of v l pn)) (forgotten_part (part_of v l pn)) (part_of v l pn) (few_forgotten n (part_of v l pn)) (few l pn)));
-}
-
--- the first states
-pub first_whole : (h : Hands) → AreWhole (first_states h)
-first_whole h = record {
-  remote = whole_all;
-  local = whole_all;
-  remote_panel = whole_if (is_allowed h) all_states no_states whole_all whole_none;
-  local_panel = whole_if (is_allowed h) all_states no_states whole_all whole_none;
-}
-
-pub first_few : (h : Hands) (n : Presets) → AreFew n (first_states h)
-first_few h n false false = few_all_states n
-first_few h n true false = few_all_states n
-first_few h n false true = few_if n (is_allowed h) all_states no_states (few_all_states n) (few_no_states n)
-first_few h n true true = few_if n (is_allowed h) all_states no_states (few_all_states n) (few_no_states n)
-
-pub has_forgotten_all : (h : Hands) (v : StateSet) → AreWhole v → IsHandled h v → HasEffect h effect.ForgetAll v (after_forgetting_all h v)
-has_forgotten_all h v whole handled = record {
-  reached = reached_by (Possible v) (Possible (after_forgetting_all h v)) (Does h effect.ForgetAll) (DoesOrNot h effect.ForgetAll) (λ s t d. inl d) (λ s t d. elim d [ inl e ↦ e | inr (may, local, e) ↦ never may ]) (forget_reached h v whole handled);
-  whole = all_whole (some_state v);
-  few = λ n few. all_few n few (some_state v);
-}
-  where
-    all_whole : (b : Bool) → AreWhole (if b then first_states h else v)
-    all_whole true = first_whole h
-    all_whole false = whole
-
-    all_few : (n : Presets) → AreFew n v → (b : Bool) → AreFew n (if b then first_states h else v)
-    all_few n few true = first_few h n
-    all_few n few false = few
+pub after_panel_none : (on : Bool) (h k : TwoParts) → k ≡ two_drifted h → TwoWhole h → HasEffect (effect.Panel on) (two_drifted h) k
+after_panel_none on h k = after_drift (effect.Panel on) h k (λ s t e. inl e) (λ s t d. elim d [ inl e ↦ e | inr (may, local, e) ↦ e ]) (λ n. refl)

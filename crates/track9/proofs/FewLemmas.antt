@@ -7,15 +7,14 @@ use Rattle.deck9.specs.declared.effect.Change.{Change}
 use Rattle.deck9.specs.declared.effect.Change.TheVariants.{SetSomewhere, SetAt, Next, Prev, Reset, Recall}
 use Rattle.deck9.specs.declared.effect.Effect.{Effect}
 use Rattle.deck9.specs.declared.effect.Effect.TheVariants as effect
-use Rattle.track9.specs.declared.presets.Presets.{Presets}
+use Rattle.track9.specs.Presets.{Presets}
 use Rattle.deck9.specs.declared.state.Register.{Register}
 use Rattle.deck9.specs.declared.state.Register.TheVariants.{RegIn, RegOut, RegAudioIn, RegAudioOut}
 use Rattle.track9.specs.Presets.{count_of, one_more, with_one}
-use Rattle.track9.specs.Tracker.{Entries, PartStates, StateSet, entries_of, part_of}
+use Rattle.track9.specs.Tracker.{Entries, PartStates, entries_of}
 use Rattle.track9.specs.Working.Entries.{agreeing, changed, said, widened}
 use Rattle.track9.specs.Working.Parts.{all_states, changed_entries, changed_part, no_states, settled, with_entries}
-use Rattle.track9.specs.Working.States.{AreFew, counted, map_parts}
-use Rattle.track9.proofs.ReachLemmas.{mapped}
+use Rattle.track9.specs.Working.States.{TwoFew, all_or_none, counted}
 
 -- no more beginnings than this
 abbrev pub FewTimes : ℕ → Entries → Type 0
@@ -163,7 +162,10 @@ few_changed_part may_stay r c n p below after h =
     few_put (counted (effect.Change r c) n) r (changed_entries may_stay c (entries_of r p)) p (few_counted (effect.Change r c) n p below h)
     (subst (λ k. FewTimes k (changed_entries may_stay c (entries_of r p))) (sym (count_more c r n)) (few_changed may_stay c (entries_of r p) (count_of r n) (below r) after (h r)))
 
--- ---- all parts
+-- ---- two parts
 
-pub few_mapped : (n : Presets) (f : Bool → PartStates → PartStates) (v : StateSet) → ((l pn : Bool) → FewIn n (f l (part_of v l pn))) → AreFew n (map_parts f v)
-few_mapped n f v each = λ l pn. subst (FewIn n) (sym (mapped f v l pn)) (each l pn)
+pub few_two : (n : Presets) (b : Bool) → TwoFew n (all_or_none b)
+few_two n true false = few_all_states n
+few_two n true true = few_all_states n
+few_two n false false = few_no_states n
+few_two n false true = few_no_states n

@@ -1,20 +1,18 @@
 -- What is forgotten: states of a part, and of all parts.
-use Rattle.std.proofs.Common.{◌≡◌, inl, inr, ◌||◌, Bool, true, false, if◌then◌else◌, refl, sym, ◌∙◌, subst}
+use Rattle.std.proofs.Common.{◌≡◌, inl, inr, Bool, true, false, if◌then◌else◌, refl, sym, ◌∙◌, subst}
 use Rattle.std.proofs.lemmas.Bool.{false≢true, or_cases, or_left, or_right}
 use Rattle.deck9.specs.declared.effect.Effect.TheVariants as effect
 use Rattle.deck9.specs.declared.state.Hands.{Hands}
 use Rattle.deck9.specs.declared.state.Hands.TheVariants as hands
 use Rattle.deck9.specs.declared.state.State.{State}
 use Rattle.deck9.specs.Effect.{Does}
-use Rattle.deck9.specs.State.{IsFirst}
+use Rattle.deck9.specs.State.{IsFirst, IsState}
 use Rattle.deck9.specs.Step.{AreReached}
-use Rattle.track9.specs.Tracker.{InPart, PartStates, Possible, StateSet, has_pair, part_of}
-use Rattle.track9.specs.Working.Codes.{is_allowed}
-use Rattle.track9.specs.Working.Parts.{Whole, all_states, forgotten_part, is_live, no_states}
-use Rattle.track9.specs.Working.States.{AreWhole, IsHandled, after_forgetting_all, first_states, is_panel_live, some_state}
-use Rattle.track9.proofs.PartLemmas.{a_state, all_in, any_entries_in, in_all, in_any_entries, in_none, in_pairs, state_live}
-use Rattle.track9.proofs.ReachLemmas.{ReachedIn, impossible, possible}
-use Rattle.track9.proofs.SetDriftLemmas.{panel_live, panel_state}
+use Rattle.track9.specs.Tracker.{InPart, PartStates, Possible, StateSet, TwoParts, has_pair, in_local}
+use Rattle.track9.specs.Working.Parts.{Whole, all_states, forgotten_part, is_live}
+use Rattle.track9.specs.Working.States.{AreWhole, DoesOrNot, InTwo, TwoWhole, all_forgotten, all_or_none, first_states, is_panel_live, some_state, some_two, two_of}
+use Rattle.track9.proofs.PartLemmas.{a_state, all_in, any_entries_in, in_all, in_any_entries, in_pairs, state_live}
+use Rattle.track9.proofs.ReachLemmas.{ReachedIn, of_two, to_two}
 
 pub tape_reached : (h : Hands) (l pn : Bool) (p : PartStates) → Whole p → is_live p ≡ true → ReachedIn (Does h effect.ForgetTape) l pn p all_states
 tape_reached h l pn p whole live = record {
@@ -32,79 +30,86 @@ registers_reached h l pn p whole live = record {
       in_any_entries p.pairs t goes.0 (subst (λ m. has_pair p.pairs t.goal m ≡ true) (sym goes.2) (subst (λ g. has_pair p.pairs g s.shown ≡ true) (sym goes.1) i.pair));
 }
 
--- ---- all parts
+-- ---- both parts
 
 -- a state is in a part that is live
-pub some_live : (v : StateSet) (s : State) → Possible v s → some_state v ≡ true
-some_live v s i = by s.panel refl s.local refl
+pub two_live : (h : TwoParts) (s : State) → InPart (in_local h s.local) s → some_two h ≡ true
+two_live h s i = by s.local i
   where
-    by : (pn : Bool) → s.panel ≡ pn → (l : Bool) → s.local ≡ l → some_state v ≡ true
-    by true on l e = or_right (is_live v.remote || is_live v.local) _ (panel_live v s on i)
-    by false off false e = or_left (is_live v.remote || is_live v.local) _ (or_left (is_live v.remote) _ (state_live v.remote s (impossible v s false false e off i)))
-    by false off true e = or_left (is_live v.remote || is_live v.local) _ (or_right (is_live v.remote) _ (state_live v.local s (impossible v s true false e off i)))
+    by : (l : Bool) → InPart (in_local h l) s → some_two h ≡ true
+    by false i = or_left (is_live h.remote) _ (state_live h.remote s i)
+    by true i = or_right (is_live h.remote) _ (state_live h.local s i)
 
--- and there is one where a part is live
+-- and there is one, with any value of the panel, where a part is live
+pub two_state : (h : TwoParts) (pn : Bool) → TwoWhole h → some_two h ≡ true → (s : State) × InTwo pn h s
+two_state h pn whole live =
+    elim (or_cases (is_live h.remote) (is_live h.local) live) [
+      | inl remote ↦ let w = a_state h.remote false pn whole.remote remote in (w.0, (w.3, subst (λ l. InPart (in_local h l) w.0) (sym w.2) w.1))
+      | inr local ↦ let w = a_state h.local true pn whole.local local in (w.0, (w.3, subst (λ l. InPart (in_local h l) w.0) (sym w.2) w.1))
+    ]
+
+-- every state is one of all, and none is one of none
+pub two_all : (t : State) → IsState t → InPart (in_local (all_or_none true) t.local) t
+two_all t h = by t.local
+  where
+    by : (l : Bool) → InPart (in_local (all_or_none true) l) t
+    by false = in_all t h
+    by true = in_all t h
+
+pub all_two : (t : State) → InPart (in_local (all_or_none true) t.local) t → IsState t
+all_two t i = by t.local i
+  where
+    by : (l : Bool) → InPart (in_local (all_or_none true) l) t → IsState t
+    by false i = all_in t i
+    by true i = all_in t i
+
+pub two_none : {P : Type 0} (t : State) → InPart (in_local (all_or_none false) t.local) t → P
+two_none t i = absurd (false≢true (two_live (all_or_none false) t i))
+
+pub forget_reached : (h : TwoParts) → TwoWhole h → (pn : Bool) → AreReached (InTwo pn h) (DoesOrNot effect.ForgetAll) (InTwo pn (all_forgotten h))
+forget_reached h whole pn = (
+  λ t i. from (some_two h) refl t i,
+  λ s t i does. elim does [
+    | inl d ↦ (d.1 ∙ i.0, subst (λ (b : Bool). InPart (in_local (if b then all_or_none true else h) t.local) t) (sym (two_live h s i.1)) (two_all t d.0))
+    | inr (may, local, e) ↦ absurd (false≢true may)
+  ],
+)
+  where
+    from : (b : Bool) → some_two h ≡ b → (t : State) → InTwo pn (if b then all_or_none true else h) t → (s : State) × InTwo pn h s × DoesOrNot effect.ForgetAll s t
+    from true live t i = let w = two_state h pn whole live in (w.0, w.1, inl (all_two t i.1, i.0 ∙ sym w.1.0))
+    from false dead t i = absurd (false≢true (sym dead ∙ two_live h t i.1))
+
+-- ---- all states
+
+pub some_live : (v : StateSet) (s : State) → Possible v s → some_state v ≡ true
+some_live v s i = by s.panel refl
+  where
+    by : (pn : Bool) → s.panel ≡ pn → some_state v ≡ true
+    by true on = or_right (some_two v.off) _ (two_live (two_of v true) s (to_two v s true on i).1)
+    by false off = or_left (some_two v.off) _ (two_live v.off s (to_two v s false off i).1)
+
 pub live_some : (v : StateSet) → AreWhole v → some_state v ≡ true → (s : State) × Possible v s
 live_some v whole live =
-    elim (or_cases (is_live v.remote || is_live v.local) (is_panel_live v) live) [
-      | inl off ↦ elim (or_cases (is_live v.remote) (is_live v.local) off) [
-        | inl remote ↦ let w = a_state v.remote false false whole.remote remote in (w.0, possible v w.0 false false w.2 w.3 w.1)
-        | inr local ↦ let w = a_state v.local true false whole.local local in (w.0, possible v w.0 true false w.2 w.3 w.1)
-      ]
-      | inr on ↦ let w = panel_state v whole on in (w.0, w.1)
+    elim (or_cases (some_two v.off) (is_panel_live v) live) [
+      | inl off ↦ let w = two_state v.off false whole.off off in (w.0, of_two v w.0 false w.1)
+      | inr on ↦ let w = two_state (two_of v true) true whole.on on in (w.0, of_two v w.0 true w.1)
     ]
 
 -- ---- the first states
-
-first_off : (h : Hands) (l : Bool) → part_of (first_states h) l false ≡ all_states
-first_off h false = refl
-first_off h true = refl
-
-first_on : (h : Hands) (l : Bool) → part_of (first_states h) l true ≡ (if is_allowed h then all_states else no_states)
-first_on h false = refl
-first_on h true = refl
 
 pub first_is : (h : Hands) (s : State) → Possible (first_states h) s → IsFirst h s
 first_is h s i = by h s.panel refl i
   where
     by : (h : Hands) (pn : Bool) → s.panel ≡ pn → Possible (first_states h) s → IsFirst h s
-    by hands.None false off i = (all_in s (subst (λ p. InPart p s) (first_off hands.None s.local) (impossible (first_states hands.None) s s.local false refl off i)), off)
-    by hands.None true on i = in_none s (subst (λ p. InPart p s) (first_on hands.None s.local) (impossible (first_states hands.None) s s.local true refl on i))
-    by hands.Allowed false off i = all_in s (subst (λ p. InPart p s) (first_off hands.Allowed s.local) (impossible (first_states hands.Allowed) s s.local false refl off i))
-    by hands.Allowed true on i = all_in s (subst (λ p. InPart p s) (first_on hands.Allowed s.local) (impossible (first_states hands.Allowed) s s.local true refl on i))
+    by hands.None false off i = (all_two s (to_two (first_states hands.None) s false off i).1, off)
+    by hands.None true on i = two_none s (to_two (first_states hands.None) s true on i).1
+    by hands.Allowed false off i = all_two s (to_two (first_states hands.Allowed) s false off i).1
+    by hands.Allowed true on i = all_two s (to_two (first_states hands.Allowed) s true on i).1
 
 pub is_first : (h : Hands) (s : State) → IsFirst h s → Possible (first_states h) s
 is_first h s i = by h s.panel refl i
   where
     by : (h : Hands) (pn : Bool) → s.panel ≡ pn → IsFirst h s → Possible (first_states h) s
-    by hands.None pn e i = possible (first_states hands.None) s s.local false refl i.1 (subst (λ p. InPart p s) (sym (first_off hands.None s.local)) (in_all s i.0))
-    by hands.Allowed false off i = possible (first_states hands.Allowed) s s.local false refl off (subst (λ p. InPart p s) (sym (first_off hands.Allowed s.local)) (in_all s i))
-    by hands.Allowed true on i = possible (first_states hands.Allowed) s s.local true refl on (subst (λ p. InPart p s) (sym (first_on hands.Allowed s.local)) (in_all s i))
-
--- ---- everything is forgotten
-
-panel_off : (v : StateSet) (s : State) → is_panel_live v ≡ false → Possible v s → s.panel ≡ false
-panel_off v s dead i = by s.panel refl
-  where
-    by : (pn : Bool) → s.panel ≡ pn → pn ≡ false
-    by false e = refl
-    by true on = absurd (false≢true (sym dead ∙ panel_live v s on i))
-
-forgets_to : (h : Hands) (v : StateSet) (s t : State) → IsHandled h v → Possible v s → IsFirst h t → Does h effect.ForgetAll s t
-forgets_to hands.None v s t handled i first = (first.0, first.1 ∙ sym (panel_off v s (handled refl) i))
-forgets_to hands.Allowed v s t handled i first = first
-
-forgets_from : (h : Hands) (v : StateSet) (s t : State) → IsHandled h v → Possible v s → Does h effect.ForgetAll s t → IsFirst h t
-forgets_from hands.None v s t handled i does = (does.0, does.1 ∙ panel_off v s (handled refl) i)
-forgets_from hands.Allowed v s t handled i does = does
-
-pub forget_reached : (h : Hands) (v : StateSet) → AreWhole v → IsHandled h v → AreReached (Possible v) (Does h effect.ForgetAll) (Possible (after_forgetting_all h v))
-forget_reached h v whole handled = (
-  λ t i. from (some_state v) refl t i,
-  λ s t i does.
-      subst (λ (b : Bool). Possible (if b then first_states h else v) t) (sym (some_live v s i)) (is_first h t (forgets_from h v s t handled i does)),
-)
-  where
-    from : (b : Bool) → some_state v ≡ b → (t : State) → Possible (if b then first_states h else v) t → (s : State) × Possible v s × Does h effect.ForgetAll s t
-    from true live t i = let w = live_some v whole live in (w.0, w.1, forgets_to h v w.0 t handled w.1 (first_is h t i))
-    from false dead t i = absurd (false≢true (sym dead ∙ some_live v t i))
+    by hands.None pn e i = of_two (first_states hands.None) s false (i.1, two_all s i.0)
+    by hands.Allowed false off i = of_two (first_states hands.Allowed) s false (off, two_all s i)
+    by hands.Allowed true on i = of_two (first_states hands.Allowed) s true (on, two_all s i)

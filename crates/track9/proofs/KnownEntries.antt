@@ -15,15 +15,15 @@ use Rattle.deck9.specs.declared.state.Register.{Register}
 use Rattle.deck9.specs.declared.state.State.{State}
 use Rattle.track9.specs.Knowledge.{IsKnownEntry}
 use Rattle.deck9.specs.State.{entry_of, is_set, with_entry}
-use Rattle.track9.specs.Tracker.{Allows, Entries, InPart, Possible, StateSet, entries_of, part_of}
+use Rattle.track9.specs.Tracker.{Allows, Entries, InPart, Possible, StateSet, entries_of}
 use Rattle.track9.specs.Working.Entries.{is_nil, some_entry}
-use Rattle.track9.specs.Working.Knowing.{KnowsOf, PartKnows, join_options, joined_known}
+use Rattle.track9.specs.Working.Knowing.{TwoKnow, KnowsOf, PartKnows, join_options, joined_known}
 use Rattle.track9.specs.Working.Parts.{is_live}
-use Rattle.track9.specs.Working.States.{AreWhole}
+use Rattle.track9.specs.Working.States.{AreWhole, part_of, two_of}
 use Rattle.track9.proofs.EntryLemmas.{from_empty, just_is, nil_empty, some_allowed, there_time}
 use Rattle.track9.proofs.PartLemmas.{a_state, entry_put, in_put, put_local, put_panel, put_same, state_live}
 use Rattle.track9.proofs.ReachLemmas.{impossible, possible}
-use Rattle.track9.proofs.WholeLemmas.{whole_of}
+use Rattle.track9.proofs.WholeLemmas.{whole_in, whole_of}
 
 -- ---- one set of entries
 
@@ -167,7 +167,7 @@ part_of_entry : (v : StateSet) (r : Register) (l pn : Bool) (e : Entry) → AreW
 unfolding Of
 part_of_entry v r l pn e whole live a =
     let p = part_of v l pn in
-    let w = a_state p l pn (whole_of v whole l pn) live in
+    let w = a_state p l pn (whole_in (two_of v pn) (whole_of v whole pn) l) live in
     let s = with_entry r e w.0 in
     let inside : InPart p s = subst (λ q. InPart q s) (put_same r p) (in_put r (entries_of r p) p e w.0 w.1 a) in
     (s, possible v s l pn (put_local r e w.0 ∙ w.2) (put_panel r e w.0 ∙ w.3) inside, put_local r e w.0 ∙ w.2, put_panel r e w.0 ∙ w.3, entry_put r e w.0)
@@ -176,7 +176,7 @@ part_knows : (v : StateSet) (r : Register) (l pn : Bool) (o : Option KnownEntry)
 unfolding Knows Of
 part_knows v r l pn None whole dead = λ e w. false≢true (sym dead ∙ state_live (part_of v l pn) w.0 (impossible v w.0 l pn w.2 w.3 w.1))
 part_knows v r l pn (Some k) whole h =
-    let some = some_allowed (entries_of r (part_of v l pn)) (whole_of v whole l pn r ∙ h.0) in (
+    let some = some_allowed (entries_of r (part_of v l pn)) (whole_in (two_of v pn) (whole_of v whole pn) l r ∙ h.0) in (
       (some.0, part_of_entry v r l pn some.0 whole h.0 some.1),
       knows_same (Allows (entries_of r (part_of v l pn))) (Of v r l pn) (λ e a. part_of_entry v r l pn e whole h.0 a) (λ e w. of_part v r l pn e w) k h.1,
     )
@@ -214,21 +214,16 @@ known_of_all v r entry.Unknown h =
     let b = of_all_parts v r h.1.0 h.1.1 in
     (a.0, b.0, a.1, b.1, a.2, ap is_set b.2 ∙ h.1.2)
 
-all_know : (v : StateSet) (r : Register) (a b c d : Option KnownEntry) → AreWhole v → PartKnows v.remote r a → PartKnows v.local r b → PartKnows v.remote_panel r c → PartKnows v.local_panel r d
-    → Knows (All v r) (join_options (join_options a b) (join_options c d))
-unfolding All
-all_know v r a b c d whole h i j k =
-    knows_either (Either (Of v r false false) (Of v r true false)) (Either (Of v r false true) (Of v r true true)) (join_options a b) (join_options c d)
-    (knows_either (Of v r false false) (Of v r true false) a b (part_knows v r false false a whole h) (part_knows v r true false b whole i))
-    (knows_either (Of v r false true) (Of v r true true) c d (part_knows v r false true c whole j) (part_knows v r true true d whole k))
+two_know : (v : StateSet) (r : Register) (pn : Bool) (o : Option KnownEntry) → AreWhole v → TwoKnow (two_of v pn) r o → Knows (Either (Of v r false pn) (Of v r true pn)) o
+two_know v r pn o whole h =
+    subst (Knows (Either (Of v r false pn) (Of v r true pn))) (sym h.4)
+    (knows_either (Of v r false pn) (Of v r true pn) h.0 h.1 (part_knows v r false pn h.0 whole h.2) (part_knows v r true pn h.1 whole h.3))
 
 -- what is known of a register of all states
-pub entry_known : (v : StateSet) (r : Register) (a b c d o : Option KnownEntry) (k : KnownEntry) → AreWhole v → PartKnows v.remote r a → PartKnows v.local r b → PartKnows v.remote_panel r c → PartKnows v.local_panel r d
-    → o ≡ join_options (join_options a b) (join_options c d) → o ≡ Some k → IsKnownEntry (Possible v) r k
-unfolding Knows
-entry_known v r a b c d o k whole h i j l joined found =
-    known_of_all v r k (subst (λ o. Knows (All v r) o) (sym joined ∙ found) (all_know v r a b c d whole h i j l)).1
-
--- the join of four parts
-pub all_joined : (a b c d off on all : Option KnownEntry) → off ≡ join_options a b → on ≡ join_options c d → all ≡ join_options off on → all ≡ join_options (join_options a b) (join_options c d)
-all_joined a b c d off on all p q r = r ∙ ap (λ x. join_options x on) p ∙ ap (λ x. join_options (join_options a b) x) q
+pub entry_known : (v : StateSet) (r : Register) (off on all : Option KnownEntry) (k : KnownEntry) → AreWhole v → TwoKnow (two_of v false) r off → TwoKnow (two_of v true) r on → all ≡ join_options off on → all ≡ Some k
+    → IsKnownEntry (Possible v) r k
+unfolding Knows All
+entry_known v r off on all k whole h i joined found =
+    known_of_all v r k
+    (subst (λ o. Knows (All v r) o) (sym joined ∙ found)
+    (knows_either (Either (Of v r false false) (Of v r true false)) (Either (Of v r false true) (Of v r true true)) off on (two_know v r false off whole h) (two_know v r true on whole i))).1

@@ -15,18 +15,18 @@ use Rattle.deck9.specs.declared.state.State.{State}
 use Rattle.track9.specs.Knowledge.{IsKnown}
 use Rattle.deck9.specs.Mode.{index_of, is_mode}
 use Rattle.track9.specs.ModeSet.{bit_of, has}
-use Rattle.track9.specs.Tracker.{Possible, StateSet, has_pair, part_of, shown_with}
+use Rattle.track9.specs.Tracker.{Possible, StateSet, has_pair, shown_with}
 use Rattle.track9.specs.Working.Knowing.{KnowsModes, goals_in, known_fact, shown_in}
 use Rattle.track9.specs.Working.Pairs.{by_goal, either, goal_if_shown, goals_of, goes, is_some, modes}
 use Rattle.track9.specs.Working.Parts.{is_live}
-use Rattle.track9.specs.Working.States.{AreWhole, is_panel_live, some_state}
+use Rattle.track9.specs.Working.States.{AreWhole, is_panel_live, part_of, some_state, some_two, two_of}
 use Rattle.track9.proofs.ForgetLemmas.{live_some}
 use Rattle.track9.proofs.ModeLemmas.{has-and, has-bit}
 use Rattle.deck9.proofs.ModeLemmas.{index-mode_of, is_mode-same, mode_of}
 use Rattle.track9.proofs.PairLemmas.{all_has, all_modes, find_mode, goes_from, goes_to, just_mode, left2, mode_just, mode_some, none_of, nothing_has, or2, right2, some_mode, ten_bits}
 use Rattle.track9.proofs.PartLemmas.{a_state, in_pairs, shown_by_goal, state_live}
 use Rattle.track9.proofs.ReachLemmas.{impossible, possible}
-use Rattle.track9.proofs.WholeLemmas.{whole_of}
+use Rattle.track9.proofs.WholeLemmas.{whole_in, whole_of}
 
 -- ---- one mode alone
 
@@ -129,33 +129,45 @@ goal_to p g m h =
     (subst (λ (b : Bool). has (if b then modes (bit_of g) else modes 0).0 g ≡ true) (sym (mode_some (shown_with p g) m h)) (mode_just g)))
 
 -- in which part a mode of all parts is
-in_four : (f : Pairs → ModeSet) (v : StateSet) (m : Mode) → has (either (either (either (f v.remote.pairs) (f v.local.pairs)) (f v.remote_panel.pairs)) (f v.local_panel.pairs)).0 m ≡ true
+in_four : (f : Pairs → ModeSet) (v : StateSet) (m : Mode) → has (either (either (f (part_of v false false).pairs) (f (part_of v true false).pairs)) (either (f (part_of v false true).pairs) (f (part_of v true true).pairs))).0 m ≡ true
     → (l pn : Bool) × (has (f (part_of v l pn).pairs).0 m ≡ true)
-in_four f v m h = elim (or2 (either (either (f v.remote.pairs) (f v.local.pairs)) (f v.remote_panel.pairs)) (f v.local_panel.pairs) m h) [
-  | inr a ↦ (true, true, a)
-  | inl a ↦ elim (or2 (either (f v.remote.pairs) (f v.local.pairs)) (f v.remote_panel.pairs) m a) [
-    | inr b ↦ (false, true, b)
-    | inl b ↦ elim (or2 (f v.remote.pairs) (f v.local.pairs) m b) [ inl c ↦ (false, false, c) | inr c ↦ (true, false, c) ]
-  ]
+in_four f v m h = elim (or2 _ _ m h) [
+  | inl a ↦ elim (or2 _ _ m a) [ inl c ↦ (false, false, c) | inr c ↦ (true, false, c) ]
+  | inr a ↦ elim (or2 _ _ m a) [ inl c ↦ (false, true, c) | inr c ↦ (true, true, c) ]
 ]
 
 four_in : (f : Pairs → ModeSet) (v : StateSet) (m : Mode) (l pn : Bool) → has (f (part_of v l pn).pairs).0 m ≡ true
-    → has (either (either (either (f v.remote.pairs) (f v.local.pairs)) (f v.remote_panel.pairs)) (f v.local_panel.pairs)).0 m ≡ true
-four_in f v m false false h = left2 (either (either (f v.remote.pairs) (f v.local.pairs)) (f v.remote_panel.pairs)) (f v.local_panel.pairs) m (left2 (either (f v.remote.pairs) (f v.local.pairs)) (f v.remote_panel.pairs) m (left2 (f v.remote.pairs) (f v.local.pairs) m h))
-four_in f v m true false h = left2 (either (either (f v.remote.pairs) (f v.local.pairs)) (f v.remote_panel.pairs)) (f v.local_panel.pairs) m (left2 (either (f v.remote.pairs) (f v.local.pairs)) (f v.remote_panel.pairs) m (right2 (f v.remote.pairs) (f v.local.pairs) m h))
-four_in f v m false true h = left2 (either (either (f v.remote.pairs) (f v.local.pairs)) (f v.remote_panel.pairs)) (f v.local_panel.pairs) m (right2 (either (f v.remote.pairs) (f v.local.pairs)) (f v.remote_panel.pairs) m h)
-four_in f v m true true h = right2 (either (either (f v.remote.pairs) (f v.local.pairs)) (f v.remote_panel.pairs)) (f v.local_panel.pairs) m h
+    → has (either (either (f (part_of v false false).pairs) (f (part_of v true false).pairs)) (either (f (part_of v false true).pairs) (f (part_of v true true).pairs))).0 m ≡ true
+four_in f v m l pn h = by l pn h
+  where
+    a : ModeSet
+    a = f (part_of v false false).pairs
+
+    b : ModeSet
+    b = f (part_of v true false).pairs
+
+    c : ModeSet
+    c = f (part_of v false true).pairs
+
+    d : ModeSet
+    d = f (part_of v true true).pairs
+
+    by : (l pn : Bool) → has (f (part_of v l pn).pairs).0 m ≡ true → has (either (either (f (part_of v false false).pairs) (f (part_of v true false).pairs)) (either (f (part_of v false true).pairs) (f (part_of v true true).pairs))).0 m ≡ true
+    by false false h = left2 (either a b) (either c d) m (left2 a b m h)
+    by true false h = left2 (either a b) (either c d) m (right2 a b m h)
+    by false true h = right2 (either a b) (either c d) m (left2 c d m h)
+    by true true h = right2 (either a b) (either c d) m (right2 c d m h)
 
 -- a pair of a part is one of a state
 pair_state : (v : StateSet) (l pn : Bool) (g m : Mode) → AreWhole v → has_pair (part_of v l pn).pairs g m ≡ true → (s : State) × Possible v s × (s.goal ≡ g) × (s.shown ≡ m)
 pair_state v l pn g m whole pair =
     let p = part_of v l pn in
-    let w = a_state p l pn (whole_of v whole l pn) (mode_some (goes p.pairs) m (goes_to p.pairs g m pair)) in
+    let w = a_state p l pn (whole_in (two_of v pn) (whole_of v whole pn) l) (mode_some (goes p.pairs) m (goes_to p.pairs g m pair)) in
     let s : State = record w.0 { goal = g; shown = m } in
     (s, possible v s l pn w.2 w.3 (in_pairs p p.pairs w.0 g m w.1.registers pair), refl, refl)
 
 goal_of : (v : StateSet) (s : State) → Possible v s → has (goals_in v).0 s.goal ≡ true
-goal_of v s i = four_in goals_of v s.goal s.local s.panel (goal_to (part_of v s.local s.panel).pairs s.goal s.shown i.pair)
+goal_of v s i = four_in goals_of v s.goal s.local s.panel (goal_to (part_of v s.local s.panel).pairs s.goal s.shown (impossible v s s.local s.panel refl refl i).pair)
 
 of_goal : (v : StateSet) (g : Mode) → AreWhole v → has (goals_in v).0 g ≡ true → (s : State) × Possible v s × (s.goal ≡ g)
 of_goal v g whole h =
@@ -165,7 +177,7 @@ of_goal v g whole h =
     (w.0, w.1, w.2)
 
 shown_of : (v : StateSet) (s : State) → Possible v s → has (shown_in v).0 s.shown ≡ true
-shown_of v s i = four_in goes v s.shown s.local s.panel (goes_to (part_of v s.local s.panel).pairs s.goal s.shown i.pair)
+shown_of v s i = four_in goes v s.shown s.local s.panel (goes_to (part_of v s.local s.panel).pairs s.goal s.shown (impossible v s s.local s.panel refl refl i).pair)
 
 of_shown : (v : StateSet) (m : Mode) → AreWhole v → has (shown_in v).0 m ≡ true → (s : State) × Possible v s × (s.shown ≡ m)
 of_shown v m whole h =
@@ -226,7 +238,7 @@ either_live false b (inl h) = absurd (false≢true h)
 either_live false b (inr h) = h
 
 live_state : (v : StateSet) (l pn : Bool) → AreWhole v → is_live (part_of v l pn) ≡ true → (s : State) × Possible v s × (s.local ≡ l) × (s.panel ≡ pn)
-live_state v l pn whole live = let w = a_state (part_of v l pn) l pn (whole_of v whole l pn) live in (w.0, possible v w.0 l pn w.2 w.3 w.1, w.2, w.3)
+live_state v l pn whole live = let w = a_state (part_of v l pn) l pn (whole_in (two_of v pn) (whole_of v whole pn) l) live in (w.0, possible v w.0 l pn w.2 w.3 w.1, w.2, w.3)
 
 local_live : (v : StateSet) (l : Bool) (s : State) → Possible v s → s.local ≡ l → (is_live (part_of v l false) || is_live (part_of v l true)) ≡ true
 local_live v l s i e = by s.panel refl
@@ -254,16 +266,16 @@ of_panel v pn whole live = elim (or_cases (is_live (part_of v false pn)) (is_liv
   | inr a ↦ let w = live_state v true pn whole a in (w.0, w.1, w.3)
 ]
 
-pub local_known : (v : StateSet) (a b : Bool) → a ≡ (is_live v.remote || is_live v.remote_panel) → b ≡ (is_live v.local || is_live v.local_panel) → AreWhole v → some_state v ≡ true → (k : Known Bool) → k ≡ known_fact a b
+pub local_known : (v : StateSet) (a b : Bool) → a ≡ (is_live (part_of v false false) || is_live (part_of v false true)) → b ≡ (is_live (part_of v true false) || is_live (part_of v true true)) → AreWhole v → some_state v ≡ true → (k : Known Bool) → k ≡ known_fact a b
     → IsKnown (Possible v) (λ (s : State). s.local) k
 local_known v a b p q whole live k e =
-    subst (λ k. IsKnown (Possible v) (λ (s : State). s.local) k) (sym (e ∙ ap (λ x. known_fact x b) p ∙ ap (λ x. known_fact (is_live v.remote || is_live v.remote_panel) x) q))
-    (fact_by (Possible v) (λ (s : State). s.local) (is_live v.remote || is_live v.remote_panel) (is_live v.local || is_live v.local_panel)
+    subst (λ k. IsKnown (Possible v) (λ (s : State). s.local) k) (sym (e ∙ ap (λ x. known_fact x b) p ∙ ap (λ x. known_fact (is_live (part_of v false false) || is_live (part_of v false true)) x) q))
+    (fact_by (Possible v) (λ (s : State). s.local) (is_live (part_of v false false) || is_live (part_of v false true)) (is_live (part_of v true false) || is_live (part_of v true true))
     (local_live v false) (local_live v true) (of_local v false whole) (of_local v true whole) (live_some v whole live))
 
-pub panel_known : (v : StateSet) (a b : Bool) → a ≡ (is_live v.remote || is_live v.local) → b ≡ is_panel_live v → AreWhole v → some_state v ≡ true → (k : Known Bool) → k ≡ known_fact a b
+pub panel_known : (v : StateSet) (a b : Bool) → a ≡ some_two v.off → b ≡ is_panel_live v → AreWhole v → some_state v ≡ true → (k : Known Bool) → k ≡ known_fact a b
     → IsKnown (Possible v) (λ (s : State). s.panel) k
 panel_known v a b p q whole live k e =
-    subst (λ k. IsKnown (Possible v) (λ (s : State). s.panel) k) (sym (e ∙ ap (λ x. known_fact x b) p ∙ ap (λ x. known_fact (is_live v.remote || is_live v.local) x) q))
-    (fact_by (Possible v) (λ (s : State). s.panel) (is_live v.remote || is_live v.local) (is_panel_live v)
+    subst (λ k. IsKnown (Possible v) (λ (s : State). s.panel) k) (sym (e ∙ ap (λ x. known_fact x b) p ∙ ap (λ x. known_fact (some_two v.off) x) q))
+    (fact_by (Possible v) (λ (s : State). s.panel) (some_two v.off) (is_panel_live v)
     (panel_live v false) (panel_live v true) (of_panel v false whole) (of_panel v true whole) (live_some v whole live))

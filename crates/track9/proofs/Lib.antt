@@ -8,6 +8,7 @@ pub mod ForgetLemmas
 pub mod GoalLemmas
 pub mod KnownEntries
 pub mod KnownModes
+pub mod LeadLemmas
 pub mod MemberLemmas
 pub mod ModeLemmas
 pub mod OneKnowledge

@@ -8,15 +8,16 @@ use Rattle.deck9.specs.declared.state.Entry.{Entry}
 use Rattle.deck9.specs.declared.state.Entry.TheVariants.{Clear, At}
 use Rattle.deck9.specs.declared.state.State.{State}
 use Rattle.track9.specs.ModeSet.{has}
-use Rattle.track9.specs.Tracker.{Allows, Entries, PartStates, Possible, StateSet, has_pair, part_of, shown_with}
+use Rattle.track9.specs.Tracker.{Allows, Entries, PartStates, InPart, Possible, StateSet, TwoParts, has_pair, in_local, shown_with}
 use Rattle.track9.specs.Working.Entries.{some_entry}
 use Rattle.track9.specs.Working.Pairs.{goals_of, goes, is_some, some_pair}
 use Rattle.track9.specs.Working.Parts.{HasState, is_live}
+use Rattle.track9.specs.Working.States.{InTwo, is_panel_live, some_two}
 use Rattle.track9.proofs.EntryLemmas.{from_empty, some_allowed}
 use Rattle.track9.proofs.KnownModes.{goal_from, goal_to}
 use Rattle.track9.proofs.PairLemmas.{goes_from, mode_some, some_mode}
-use Rattle.track9.proofs.PartLemmas.{four, state_live}
-use Rattle.track9.proofs.ReachLemmas.{possible}
+use Rattle.track9.proofs.PartLemmas.{four}
+use Rattle.track9.proofs.ForgetLemmas.{some_live}
 
 -- where there is a pair there is a goal
 pub some_goal : (p : Pairs) → some_pair p ≡ true → is_some (goals_of p) ≡ true
@@ -48,15 +49,12 @@ state_there p g m a b c d l pn pair in_a in_b in_c in_d =
     let s : State = record { goal = g; shown = m; ins = a; outs = b; ains = c; aouts = d; local = l; panel = pn } in
     record { inside = record { pair = pair; registers = four p s in_a in_b in_c in_d }; local = refl; panel = refl }
 
-pub member_there : (v : StateSet) (l pn : Bool) (s : State) → HasState (part_of v l pn) l pn s → Possible v s
-member_there v l pn s h = possible v s l pn h.local h.panel h.inside
+pub two_there : (h : TwoParts) (l pn : Bool) (s : State) → HasState (in_local h l) l pn s → InTwo pn h s
+two_there h l pn s there = (there.panel, subst (λ b. InPart (in_local h b) s) (sym there.local) there.inside)
 
--- four parts without states
-pub no_member : (v : StateSet) → is_live v.remote ≡ false → is_live v.local ≡ false → is_live v.remote_panel ≡ false → is_live v.local_panel ≡ false → ((s : State) × Possible v s) → ⊥
-no_member v a b c d w = false≢true (sym (dead w.0.local w.0.panel) ∙ state_live (part_of v w.0.local w.0.panel) w.0 w.1)
-  where
-    dead : (l pn : Bool) → is_live (part_of v l pn) ≡ false
-    dead false false = a
-    dead true false = b
-    dead false true = c
-    dead true true = d
+-- both parts without states
+pub none_two : (h : TwoParts) → is_live h.remote ≡ false → is_live h.local ≡ false → some_two h ≡ false
+none_two h a b = rw (a, b) refl
+
+pub no_member : (v : StateSet) → some_two v.off ≡ false → is_panel_live v ≡ false → ((s : State) × Possible v s) → ⊥
+no_member v off on w = false≢true (sym (rw (off, on) refl) ∙ some_live v w.0 w.1)

@@ -1,5 +1,5 @@
 -- Sets of modes, one bit at a time.
-use Rattle.std.proofs.Common.{◌≡◌, ℕ, zero, suc, ◌*◌, ◌/◌, ◌^◌, ◌<◌, ◌==◌, ◌&&◌, ◌||◌, min, max, Bool, true, false, List, [], ◌∷◌, refl, sym, ap, ◌∙◌, arith, bit_and, bit_or, mod-lt, zero-lt-suc, le_of_suc-le-suc, not-suc-le-zero}
+use Rattle.std.proofs.Common.{◌≡◌, ℕ, zero, suc, ◌*◌, ◌/◌, ◌^◌, ◌<◌, ◌==◌, ◌&&◌, ◌||◌, min, max, Bool, [], ◌∷◌, refl, sym, ap, ◌∙◌, arith, bit_and, bit_or, mod-lt, zero-lt-suc, le_of_suc-le-suc, not-suc-le-zero}
 use Rattle.std.proofs.Math.Bool.{or-false}
 use Rattle.std.proofs.lemmas.Bool.Decides.{nat_tests}
 use Rattle.std.specs.Int.{bit_at}

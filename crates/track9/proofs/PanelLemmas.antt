@@ -1,29 +1,194 @@
--- The panel is switched on or off.
-use Rattle.std.proofs.Common.{◌≡◌, ◌⊎◌, inl, inr, Bool, true, false, if◌then◌else◌, refl, sym, ap, ◌∙◌, subst}
+-- Exchanges where hands are allowed on the panel.
+use Rattle.std.proofs.Common.{◌≡◌, inl, inr, Bool, true, false, if◌then◌else◌, [], Option, Some, None, refl, sym, ap, ◌∙◌, subst}
 use Rattle.std.proofs.lemmas.Bool.{false≢true}
+use Rattle.std.specs.Ordering.{nat_cmp}
+use Rattle.std.specs.FinSet as set
+use Rattle.tc25.specs.Times.{BelowDay}
+use Rattle.block9.specs.declared.block.Block.{Block}
+use Rattle.block9.specs.declared.command.Command.{Command}
+use Rattle.block9.specs.Command.{is_nak}
+use Rattle.deck9.specs.declared.effect.Effect.{Effect}
+use Rattle.deck9.specs.declared.effect.Effect.TheVariants as effect
+use Rattle.track9.specs.Presets.{Presets}
+use Rattle.deck9.specs.declared.sense.Sense.{Sense}
+use Rattle.deck9.specs.declared.sense.Sense.TheVariants as sense
+use Rattle.deck9.specs.declared.state.Hands.{Hands}
+use Rattle.deck9.specs.declared.state.Hands.TheVariants as hands
 use Rattle.deck9.specs.declared.state.Register.{Register}
 use Rattle.deck9.specs.declared.state.Register.TheVariants.{RegIn, RegOut, RegAudioIn, RegAudioOut}
 use Rattle.deck9.specs.declared.state.State.{State}
-use Rattle.deck9.specs.State.{entry_of}
-use Rattle.deck9.specs.Step.{AreReached}
-use Rattle.track9.specs.Tracker.{Allows, InPart, PartStates, Possible, StateSet, entries_of, part_of}
-use Rattle.track9.specs.Working.Parts.{all_states, no_states}
-use Rattle.track9.specs.Working.States.{AreBelow, IsSettled, after_drift, after_panel, is_panel_live}
-use Rattle.track9.proofs.PartLemmas.{in_all, in_none}
-use Rattle.track9.proofs.ReachLemmas.{impossible, possible}
-use Rattle.track9.proofs.SetDriftLemmas.{panel_live, state_is}
+use Rattle.deck9.specs.Drift.{Drift}
+use Rattle.deck9.specs.Effect.{Does, effect_of}
+use Rattle.deck9.specs.Laws.{is_of_goal_or_register}
+use Rattle.deck9.proofs.LawLemmas.{ignored_by_effect}
+use Rattle.track9.specs.Presets.{presets_after}
+use Rattle.deck9.specs.Shows.{Agrees, sense_of}
+use Rattle.deck9.specs.State.{IsState, entry_of}
+use Rattle.deck9.specs.Step.{AreReached, Exchanges, Step, done, ignored, refused}
+use Rattle.track9.specs.Tracker.{Allows, InPart, Possible, StateSet, TwoParts, entries_of, in_local}
+use Rattle.track9.specs.Working.States.{AreBelow, AreFew, AreWhole, Exchanged, Follows, InTwo, TwoBelow, TwoFew, TwoWhole, acknowledged, after_panel, all_or_none, counted, first_states, hands_by, hands_of, is_panel_live, is_wide, some_state, some_two, switched, two_drifted, two_of}
+use Rattle.deck9.proofs.DriftLemmas.{drift_from_pairs}
+use Rattle.track9.proofs.EffectLemmas.{does_panel, drift_whole}
+use Rattle.track9.proofs.FewLemmas.{few_two}
+use Rattle.track9.proofs.ForgetLemmas.{all_two, first_is, is_first, live_some, some_live, two_all, two_live, two_none, two_state}
+use Rattle.track9.proofs.ReachLemmas.{by_panel, of_two, to_two}
+use Rattle.track9.proofs.SetDriftLemmas.{drift_panel, drift_reached, drift_state, mechanics, off_drift, possible_state, same_drift, state_is}
+use Rattle.track9.proofs.StepLemmas.{drift_few, presets_of, sense_effect, status_effect}
+use Rattle.track9.proofs.WholeLemmas.{whole_two}
 
--- with the panel on there is every state after a drift, or none
-pub drift_settles : (v : StateSet) → IsSettled (after_drift v)
-drift_settles v live = by (is_panel_live v) refl live
+-- ---- where hands are not allowed
+
+exchange_panel : (c : Command) (reply : Block) (s t : State) → Exchanges hands.None c reply s t → t.panel ≡ s.panel
+exchange_panel c reply s t (d, drift, step) = by step ∙ ap (λ (u : State). u.panel) (mechanics s d drift).0
   where
-    dead : is_panel_live v ≡ false → is_panel_live (after_drift v) ≡ false
-    dead e = rw e e
+    by : Step hands.None c reply d t → t.panel ≡ d.panel
+    by (refused nak e) = ap (λ (u : State). u.panel) e
+    by (ignored was shows may local e) = ap (λ (u : State). u.panel) e
+    by (done was shows does) = does_panel (effect_of c) d t (inl does)
 
-    by : (b : Bool) → is_panel_live v ≡ b → is_panel_live (after_drift v) ≡ true → (l : Bool) → part_of (after_drift v) l true ≡ all_states
-    by true e live false = rw e refl
-    by true e live true = rw e refl
-    by false e live l = absurd (false≢true (sym (dead e) ∙ live))
+none_below : BelowDay set.empty
+none_below t h = absurd (false≢true (sym (set.contains-empty nat_cmp t) ∙ h))
+
+-- then there is nothing with the panel on
+none_on : (o : Option TwoParts) → hands_by o ≡ hands.None → o ≡ None
+none_on None e = refl
+none_on (Some h) e = cc
+
+pub follows_off : (c : Command) (reply : Block) (v : StateSet) (off : TwoParts) (w : StateSet) → w ≡ record { off = off; on = v.on } → hands_of v ≡ hands.None → AreWhole v → Exchanged c reply v.off off → Follows (hands_of v) c reply v w
+follows_off c reply v off w same without whole exchanged =
+    let none : v.on ≡ None = none_on v.on without in
+    let still : w.on ≡ None = ap (λ (x : StateSet). x.on) same ∙ none in
+    let here : w.off ≡ off = ap (λ (x : StateSet). x.off) same in
+    subst (λ h. Follows h c reply v w) (sym without) (record {
+      reached = by_panel (Exchanges hands.None c reply) (exchange_panel c reply) v w (each none still here);
+      hands = ap hands_by still;
+      whole = record { off = subst TwoWhole (sym here) exchanged.whole; on = rw still (whole_two false) };
+      few = λ n few. are_few n few still here;
+    })
+  where
+    each : v.on ≡ None → w.on ≡ None → w.off ≡ off → (pn : Bool) → AreReached (InTwo pn (two_of v pn)) (Exchanges hands.None c reply) (InTwo pn (two_of w pn))
+    each none still here false = subst (λ g. AreReached (InTwo false v.off) (Exchanges hands.None c reply) (InTwo false g)) (sym here) (exchanged.reached false)
+    each none still here true = rw (none, still) (λ t i. two_none t i.1, λ s t i goes. two_none s i.1)
+
+    are_few : (n : Presets) → AreFew n v → w.on ≡ None → w.off ≡ off → AreFew (presets_after c reply true n) w
+    are_few n few still here false = subst (TwoFew (presets_after c reply true n)) (sym here) (exchanged.few n (few false))
+    are_few n few still here true = rw still (few_two (presets_after c reply true n) false)
+
+-- ---- where a hand makes no difference to the step
+
+does_same : (h k : Hands) (e : Effect) (s t : State) → is_wide e ≡ false → Does h e s t → Does k e s t
+does_same h k effect.Nothing s t narrow d = d
+does_same h k (effect.Go g) s t narrow d = d
+does_same h k effect.KeepOrStop s t narrow d = d
+does_same h k (effect.Change r c) s t narrow d = d
+does_same h k (effect.Panel on) s t narrow d = absurd (false≢true (sym narrow))
+does_same h k effect.ForgetTape s t narrow d = d
+does_same h k effect.ForgetRegisters s t narrow d = d
+does_same h k effect.ForgetAll s t narrow d = absurd (false≢true (sym narrow))
+
+step_same : (h k : Hands) (c : Command) (reply : Block) (s t : State) → is_wide (acknowledged c reply) ≡ false → Step h c reply s t → Step k c reply s t
+step_same h k c reply s t narrow (refused nak e) = refused nak e
+step_same h k c reply s t narrow (ignored was shows may local e) = ignored was shows may local e
+step_same h k c reply s t narrow (done was shows does) =
+    done was shows (does_same h k (effect_of c) s t (sym (ap (λ (b : Bool). is_wide (if b then effect.Nothing else effect_of c)) was) ∙ narrow) does)
+
+off_reached : (c : Command) (reply : Block) (h g : TwoParts) → is_wide (acknowledged c reply) ≡ false → Exchanged c reply h g → AreReached (InTwo false h) (Exchanges hands.Allowed c reply) (InTwo false g)
+off_reached c reply h g narrow exchanged = (
+  λ t i. let a = (exchanged.reached false).0 t i in (a.0, a.1, (a.2.0, same_drift hands.Allowed a.0 a.2.0 a.2.1, step_same hands.None hands.Allowed c reply a.2.0 t narrow a.2.2)),
+  λ s t i w. (exchanged.reached false).1 s t i (w.0, off_drift hands.Allowed s w.0 i.0 w.1, step_same hands.Allowed hands.None c reply w.0 t narrow w.2),
+)
+
+-- a hand leads from a state with the panel on to any
+pub hand_drift : (s d : State) → s.panel ≡ true → d.panel ≡ true → IsState d → Drift hands.Allowed s d
+hand_drift s d before after valid = drift_from_pairs hands.Allowed s d (inr (refl, before, after, valid))
+
+on_reached : (c : Command) (reply : Block) (h g : TwoParts) → is_wide (acknowledged c reply) ≡ false → TwoWhole h → TwoBelow h → Exchanged c reply (all_or_none (some_two h)) g
+    → AreReached (InTwo true h) (Exchanges hands.Allowed c reply) (InTwo true g)
+on_reached c reply h g narrow whole below exchanged = (λ t i. from (some_two h) refl t i, λ s t i w. to s t i w)
+  where
+    from : (b : Bool) → some_two h ≡ b → (t : State) → InTwo true g t → (s : State) × InTwo true h s × Exchanges hands.Allowed c reply s t
+    from true live t i =
+        let a = (exchanged.reached true).0 t i in
+        let e = drift_state hands.None a.0 a.2.0 (all_two a.0 (subst (λ b. InPart (in_local (all_or_none b) a.0.local) a.0) live a.1.1)) a.2.1 in
+        let s = two_state h true whole live in
+        (s.0, s.1, (a.2.0, hand_drift s.0 a.2.0 s.1.0 (drift_panel hands.None a.0 a.2.0 a.2.1 ∙ a.1.0) e, step_same hands.None hands.Allowed c reply a.2.0 t narrow a.2.2))
+    from false dead t i = let a = (exchanged.reached true).0 t i in two_none a.0 (subst (λ b. InPart (in_local (all_or_none b) a.0.local) a.0) dead a.1.1)
+
+    to : (s t : State) → InTwo true h s → Exchanges hands.Allowed c reply s t → InTwo true g t
+    to s t i (d, drift, step) =
+        let e = drift_state hands.Allowed s d (state_is (in_local h s.local) s (below s.local) i.1) drift in
+        (exchanged.reached true).1 d t (drift_panel hands.Allowed s d drift ∙ i.0, subst (λ b. InPart (in_local (all_or_none b) d.local) d) (sym (two_live h s i.1)) (two_all d e))
+        (d, ([], refl), step_same hands.Allowed hands.None c reply d t narrow step)
+
+pub follows_both : (c : Command) (reply : Block) (v : StateSet) (off on : TwoParts) (w : StateSet) → w ≡ record { off = off; on = Some on } → is_wide (acknowledged c reply) ≡ false → AreWhole v → AreBelow v
+    → Exchanged c reply v.off off → Exchanged c reply (all_or_none (is_panel_live v)) on → Follows hands.Allowed c reply v w
+follows_both c reply v off on w same narrow whole below first second =
+    let x : StateSet = record { off = off; on = Some on } in
+    subst (Follows hands.Allowed c reply v) (sym same) (record {
+      reached = by_panel (Exchanges hands.Allowed c reply) keeps v x each;
+      hands = refl;
+      whole = record { off = first.whole; on = second.whole };
+      few = are_few;
+    })
+  where
+    x : StateSet
+    x = record { off = off; on = Some on }
+
+    keeps : (s t : State) → Exchanges hands.Allowed c reply s t → t.panel ≡ s.panel
+    keeps s t (d, drift, step) = exchange_panel c reply d t (d, ([], refl), step_same hands.Allowed hands.None c reply d t narrow step) ∙ drift_panel hands.Allowed s d drift
+
+    each : (pn : Bool) → AreReached (InTwo pn (two_of v pn)) (Exchanges hands.Allowed c reply) (InTwo pn (two_of x pn))
+    each false = off_reached c reply v.off off narrow first
+    each true = on_reached c reply (two_of v true) on narrow whole.on below.on second
+
+    are_few : (n : Presets) → AreFew n v → AreFew (presets_after c reply true n) x
+    are_few n few false = first.few n (few false)
+    are_few n few true = second.few n (few_two n (is_panel_live v))
+
+-- ---- the panel is switched, and everything is forgotten
+
+-- a command of such an effect asks for nothing
+wide_asks : (c : Command) → is_wide (effect_of c) ≡ true → sense_of c ≡ sense.Nothing
+wide_asks c wide = by (sense_of c) refl
+  where
+    by : (q : Sense) → sense_of c ≡ q → q ≡ sense.Nothing
+    by (sense.Register r) e = absurd (false≢true (ap is_wide (sym (sense_effect c r e)) ∙ wide))
+    by (sense.Status asked) e = absurd (false≢true (ap is_wide (sym (status_effect c asked e)) ∙ wide))
+    by sense.Nothing e = refl
+
+-- what was acknowledged
+not_nak : (c : Command) (reply : Block) (e : Effect) → acknowledged c reply ≡ e → is_wide e ≡ true → (is_nak reply ≡ false) × (effect_of c ≡ e)
+not_nak c reply e was wide = by (is_nak reply) refl
+  where
+    by : (b : Bool) → is_nak reply ≡ b → (is_nak reply ≡ false) × (effect_of c ≡ e)
+    by false nak = (nak, sym (ap (λ (b : Bool). if b then effect.Nothing else effect_of c) nak) ∙ was)
+    by true nak = absurd (false≢true (ap is_wide (sym (ap (λ (b : Bool). if b then effect.Nothing else effect_of c) nak) ∙ was) ∙ wide))
+
+wide_counts : (c : Command) (reply : Block) (e : Effect) (n : Presets) → acknowledged c reply ≡ e → is_wide e ≡ true → counted e n ≡ n → presets_after c reply true n ≡ n
+wide_counts c reply e n was wide same = let w = not_nak c reply e was wide in presets_of c reply n w.0 ∙ ap (λ e. counted e n) w.1 ∙ same
+
+wide_step : (c : Command) (reply : Block) (e : Effect) (d t : State) → acknowledged c reply ≡ e → is_wide e ≡ true → Step hands.Allowed c reply d t → Does hands.Allowed e d t
+wide_step c reply e d t was wide step = by (not_nak c reply e was wide) step
+  where
+    never_both : (e : Effect) → is_wide e ≡ true → is_of_goal_or_register e ≡ true → ⊥
+    never_both (effect.Panel on) wide may = false≢true may
+    never_both effect.ForgetAll wide may = false≢true may
+    never_both effect.Nothing wide may = false≢true may
+    never_both (effect.Go g) wide may = false≢true wide
+    never_both effect.KeepOrStop wide may = false≢true wide
+    never_both (effect.Change r x) wide may = false≢true wide
+    never_both effect.ForgetTape wide may = false≢true may
+    never_both effect.ForgetRegisters wide may = false≢true may
+
+    by : (is_nak reply ≡ false) × (effect_of c ≡ e) → Step hands.Allowed c reply d t → Does hands.Allowed e d t
+    by w (refused nak same) = absurd (false≢true (sym w.0 ∙ nak))
+    by w (done nak shows does) = subst (λ e. Does hands.Allowed e d t) w.1 does
+    by w (ignored nak shows may local same) = absurd (never_both e wide (subst (λ e. is_of_goal_or_register e ≡ true) w.1 (sym (ignored_by_effect c) ∙ may)))
+
+step_wide : (c : Command) (reply : Block) (e : Effect) (d t : State) → acknowledged c reply ≡ e → is_wide e ≡ true → Does hands.Allowed e d t → Step hands.Allowed c reply d t
+step_wide c reply e d t was wide does =
+    let w = not_nak c reply e was wide in
+    done w.0 (subst (λ q. Agrees q d reply) (sym (wide_asks c (ap is_wide w.1 ∙ wide))) tt) (subst (λ e. Does hands.Allowed e d t) (sym w.1) does)
 
 same_entry : (r : Register) (t : State) (b : Bool) → entry_of r (record t { panel = b }) ≡ entry_of r t
 same_entry RegIn t b = refl
@@ -32,57 +197,135 @@ same_entry RegAudioIn t b = refl
 same_entry RegAudioOut t b = refl
 
 -- a part does not tell the panel
-in_panel : (p : PartStates) (t : State) (b : Bool) → InPart p t → InPart p (record t { panel = b })
-in_panel p t b i = record { pair = i.pair; registers = λ r. subst (λ e. Allows (entries_of r p) e) (sym (same_entry r t b)) (i.registers r) }
+in_panel : (h : TwoParts) (t : State) (b : Bool) → InPart (in_local h t.local) t → InTwo b h (record t { panel = b })
+in_panel h t b i = (refl, record { pair = i.pair; registers = λ r. subst (λ e. Allows (entries_of r (in_local h t.local)) e) (sym (same_entry r t b)) (i.registers r) })
 
--- what is kept of the parts with one value of local
-kept : StateSet → Bool → PartStates
-kept v l = if is_panel_live v then part_of v l true else part_of v l false
+there : (on : Bool) (h : TwoParts) → two_of (switched on h) on ≡ h
+there false h = refl
+there true h = refl
 
-there : (on : Bool) (v : StateSet) (l : Bool) → part_of (after_panel on v) l on ≡ kept v l
-unfolding kept
-there false v false = refl
-there false v true = refl
-there true v false = refl
-there true v true = refl
-
--- the other value of the panel
-gone : (on pn : Bool) (v : StateSet) (l : Bool) → (pn ≡ on → ⊥) → part_of (after_panel on v) l pn ≡ no_states
-gone false false v l other = absurd (other refl)
-gone false true v false other = refl
-gone false true v true other = refl
-gone true false v false other = refl
-gone true false v true other = refl
-gone true true v l other = absurd (other refl)
-
-same_or_not : (a b : Bool) → (a ≡ b) ⊎ (a ≡ b → ⊥)
-same_or_not true true = inl refl
-same_or_not false false = inl refl
-same_or_not true false = inr (λ h. false≢true (sym h))
-same_or_not false true = inr false≢true
-
-pub panel_reached : (on : Bool) (v : StateSet) → AreBelow v → IsSettled v → AreReached (Possible v) (λ s t. t ≡ record s { panel = on }) (Possible (after_panel on v))
-unfolding kept
-panel_reached on v below settled = (
-  λ t i. from t t.panel refl i,
-  λ s t i e.
-      subst (λ u. Possible (after_panel on v) u) (sym e)
-      (possible (after_panel on v) (record s { panel = on }) s.local on refl refl (subst (λ p. InPart p (record s { panel = on })) (sym (there on v s.local)) (to s i s.panel refl (is_panel_live v) refl))),
-)
+-- with the other value of the panel there is none
+only : (on : Bool) (h : TwoParts) (t : State) → Possible (switched on h) t → InTwo on h t
+only on h t i = by on t.panel refl i
   where
-    source : (b : Bool) → is_panel_live v ≡ b → (t : State) → t.panel ≡ on → InPart (if b then part_of v t.local true else part_of v t.local false) t → (s : State) × Possible v s × (t ≡ record s { panel = on })
-    source true live t e i = (record t { panel = true }, possible v (record t { panel = true }) t.local true refl refl (in_panel (part_of v t.local true) t true i), ap (λ b. record t { panel = b }) e)
-    source false dead t e i = (record t { panel = false }, possible v (record t { panel = false }) t.local false refl refl (in_panel (part_of v t.local false) t false i), ap (λ b. record t { panel = b }) e)
+    by : (on pn : Bool) → t.panel ≡ pn → Possible (switched on h) t → InTwo on h t
+    by false false e i = to_two (switched false h) t false e i
+    by true true e i = to_two (switched true h) t true e i
+    by false true e i = two_none t (to_two (switched false h) t true e i).1
+    by true false e i = two_none t (to_two (switched true h) t false e i).1
 
-    from : (t : State) (pn : Bool) → t.panel ≡ pn → Possible (after_panel on v) t → (s : State) × Possible v s × (t ≡ record s { panel = on })
-    from t pn e i = elim (same_or_not pn on) [
-      | inl same ↦ source (is_panel_live v) refl t (e ∙ same) (subst (λ p. InPart p t) (there on v t.local) (impossible (after_panel on v) t t.local on refl (e ∙ same) i))
-      | inr other ↦ in_none t (subst (λ p. InPart p t) (gone on pn v t.local other) (impossible (after_panel on v) t t.local pn refl e i))
-    ]
+pub panel_reached : (c : Command) (reply : Block) (on : Bool) (v : StateSet) → acknowledged c reply ≡ effect.Panel on → AreWhole v → AreBelow v
+    → AreReached (Possible v) (Exchanges hands.Allowed c reply) (Possible (after_panel on v))
+panel_reached c reply on v was whole below = (λ t i. from (is_panel_live v) refl t i, λ s t i w. to (is_panel_live v) refl s t i w)
+  where
+    known : Bool → TwoParts
+    known live = if live then all_or_none true else two_drifted v.off
 
-    to : (s : State) → Possible v s → (pn : Bool) → s.panel ≡ pn → (b : Bool) → is_panel_live v ≡ b → InPart (if b then part_of v s.local true else part_of v s.local false) (record s { panel = on })
-    to s i true e true live = in_panel (part_of v s.local true) s on (impossible v s s.local true refl e i)
-    to s i true e false dead = absurd (false≢true (sym dead ∙ panel_live v s e i))
-    to s i false e false dead = in_panel (part_of v s.local false) s on (impossible v s s.local false refl e i)
-    to s i false e true live =
-        in_panel (part_of v s.local true) s on (subst (λ p. InPart p s) (sym (settled live s.local)) (in_all s (state_is (part_of v s.local s.panel) s (below s.local s.panel) i)))
+    from : (b : Bool) → is_panel_live v ≡ b → (t : State) → Possible (switched on (if b then all_or_none true else two_drifted v.off)) t → (s : State) × Possible v s × Exchanges hands.Allowed c reply s t
+    from true live t i =
+        let j = only on (all_or_none true) t i in
+        let s = two_state (two_of v true) true whole.on live in
+        let d : State = record t { panel = true } in
+        (s.0, of_two v s.0 true s.1, (d, hand_drift s.0 d s.1.0 refl (all_two d (in_panel (all_or_none true) t true j.1).1), step_wide c reply (effect.Panel on) d t was refl (ap (λ b. record t { panel = b }) j.0)))
+    from false dead t i =
+        let j = only on (two_drifted v.off) t i in
+        let d : State = record t { panel = false } in
+        let a = (drift_reached v.off false).0 d (in_panel (two_drifted v.off) t false j.1) in
+        (a.0, of_two v a.0 false a.1, (d, same_drift hands.Allowed a.0 d a.2, step_wide c reply (effect.Panel on) d t was refl (ap (λ b. record t { panel = b }) j.0)))
+
+    to : (b : Bool) → is_panel_live v ≡ b → (s t : State) → Possible v s → Exchanges hands.Allowed c reply s t → Possible (switched on (if b then all_or_none true else two_drifted v.off)) t
+    to b live s t i (d, drift, step) =
+        let same = wide_step c reply (effect.Panel on) d t was refl step in
+        subst (Possible (switched on (if b then all_or_none true else two_drifted v.off))) (sym same) (of_two (switched on (if b then all_or_none true else two_drifted v.off)) (record d { panel = on }) on
+        (subst (λ h. InTwo on h (record d { panel = on })) (sym (there on (if b then all_or_none true else two_drifted v.off))) (in_panel (if b then all_or_none true else two_drifted v.off) d on (left b live s i d drift))))
+      where
+        left : (b : Bool) → is_panel_live v ≡ b → (s : State) → Possible v s → (d : State) → Drift hands.Allowed s d → InPart (in_local (if b then all_or_none true else two_drifted v.off) d.local) d
+        left true live s i d drift = two_all d (drift_state hands.Allowed s d (possible_state v s below i) drift)
+        left false dead s i d drift = by s.panel refl
+          where
+            by : (pn : Bool) → s.panel ≡ pn → InPart (in_local (two_drifted v.off) d.local) d
+            by false off = ((drift_reached v.off false).1 s d (to_two v s false off i) (off_drift hands.Allowed s d off drift)).1
+            by true on = absurd (false≢true (sym dead ∙ two_live (two_of v true) s (to_two v s true on i).1))
+
+pub follows_panel : (c : Command) (reply : Block) (on : Bool) (v w : StateSet) → acknowledged c reply ≡ effect.Panel on → w ≡ after_panel on v → AreWhole v → AreBelow v → Follows hands.Allowed c reply v w
+follows_panel c reply on v w was same whole below = subst (Follows hands.Allowed c reply v) (sym same) (record {
+  reached = panel_reached c reply on v was whole below;
+  hands = with_hands on (if is_panel_live v then all_or_none true else two_drifted v.off);
+  whole = are_whole on (is_panel_live v);
+  few = λ n few. subst (λ m. AreFew m (after_panel on v)) (sym (wide_counts c reply (effect.Panel on) n was refl refl)) (are_few n few on (is_panel_live v));
+})
+  where
+    with_hands : (on : Bool) (h : TwoParts) → hands_of (switched on h) ≡ hands.Allowed
+    with_hands false h = refl
+    with_hands true h = refl
+
+    known_whole : (b : Bool) → TwoWhole (if b then all_or_none true else two_drifted v.off)
+    known_whole true = whole_two true
+    known_whole false = drift_whole v.off whole.off
+
+    are_whole : (on b : Bool) → AreWhole (switched on (if b then all_or_none true else two_drifted v.off))
+    are_whole false b = record { off = known_whole b; on = whole_two false }
+    are_whole true b = record { off = whole_two false; on = known_whole b }
+
+    known_few : (n : Presets) → AreFew n v → (b : Bool) → TwoFew n (if b then all_or_none true else two_drifted v.off)
+    known_few n few true = few_two n true
+    known_few n few false = drift_few n v.off (few false)
+
+    are_few : (n : Presets) → AreFew n v → (on b : Bool) → AreFew n (switched on (if b then all_or_none true else two_drifted v.off))
+    are_few n few false b false = known_few n few b
+    are_few n few false b true = few_two n false
+    are_few n few true b false = few_two n false
+    are_few n few true b true = known_few n few b
+
+pub first_whole : (h : Hands) → AreWhole (first_states h)
+first_whole hands.None = record { off = whole_two true; on = whole_two false }
+first_whole hands.Allowed = record { off = whole_two true; on = whole_two true }
+
+pub first_few : (h : Hands) (n : Presets) → AreFew n (first_states h)
+first_few hands.None n false = few_two n true
+first_few hands.None n true = few_two n false
+first_few hands.Allowed n false = few_two n true
+first_few hands.Allowed n true = few_two n true
+
+pub follows_forget : (c : Command) (reply : Block) (v w : StateSet) → acknowledged c reply ≡ effect.ForgetAll → hands_of v ≡ hands.Allowed → w ≡ (if some_state v then first_states hands.Allowed else v) → AreWhole v
+    → Follows hands.Allowed c reply v w
+follows_forget c reply v w was allowed same whole = subst (Follows hands.Allowed c reply v) (sym same) (record {
+  reached = (λ t i. from (some_state v) refl t i, λ s t i w. to s t i w);
+  hands = with_hands (some_state v);
+  whole = are_whole (some_state v);
+  few = λ n few. subst (λ m. AreFew m (if some_state v then first_states hands.Allowed else v)) (sym (wide_counts c reply effect.ForgetAll n was refl refl)) (are_few n few (some_state v));
+})
+  where
+    from : (b : Bool) → some_state v ≡ b → (t : State) → Possible (if b then first_states hands.Allowed else v) t → (s : State) × Possible v s × Exchanges hands.Allowed c reply s t
+    from true live t i = let s = live_some v whole live in (s.0, s.1, (s.0, ([], refl), step_wide c reply effect.ForgetAll s.0 t was refl (first_is hands.Allowed t i)))
+    from false dead t i = absurd (false≢true (sym dead ∙ some_live v t i))
+
+    to : (s t : State) → Possible v s → Exchanges hands.Allowed c reply s t → Possible (if some_state v then first_states hands.Allowed else v) t
+    to s t i (d, drift, step) =
+        subst (λ (b : Bool). Possible (if b then first_states hands.Allowed else v) t) (sym (some_live v s i)) (is_first hands.Allowed t (wide_step c reply effect.ForgetAll d t was refl step))
+
+    with_hands : (b : Bool) → hands_of (if b then first_states hands.Allowed else v) ≡ hands.Allowed
+    with_hands true = refl
+    with_hands false = allowed
+
+    are_whole : (b : Bool) → AreWhole (if b then first_states hands.Allowed else v)
+    are_whole true = first_whole hands.Allowed
+    are_whole false = whole
+
+    are_few : (n : Presets) → AreFew n v → (b : Bool) → AreFew n (if b then first_states hands.Allowed else v)
+    are_few n few true = first_few hands.Allowed n
+    are_few n few false = few
+
+-- all times of two parts are times of the day
+pub below_off : (v : StateSet) → v.on ≡ None → TwoBelow v.off → AreBelow v
+below_off v none off = record { off = off; on = rw none (λ l. by l) }
+  where
+    by : (l : Bool) → (r : Register) → BelowDay (entries_of r (in_local (all_or_none false) l)).times
+    by false RegIn = none_below
+    by false RegOut = none_below
+    by false RegAudioIn = none_below
+    by false RegAudioOut = none_below
+    by true RegIn = none_below
+    by true RegOut = none_below
+    by true RegAudioIn = none_below
+    by true RegAudioOut = none_below

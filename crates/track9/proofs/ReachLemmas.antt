@@ -1,10 +1,10 @@
 -- Steps that keep local and panel: what they reach in a set of states, part by part.
-use Rattle.std.proofs.Common.{◌≡◌, Bool, true, false, if◌then◌else◌, refl, sym, subst}
+use Rattle.std.proofs.Common.{◌≡◌, Bool, true, false, if◌then◌else◌, Option, Some, None, refl, sym, ◌∙◌, subst}
 use Rattle.deck9.specs.declared.state.State.{State}
 use Rattle.deck9.specs.Step.{AreReached}
-use Rattle.track9.specs.Tracker.{InPart, PartStates, Possible, StateSet, part_of}
-use Rattle.track9.specs.Working.Parts.{is_live}
-use Rattle.track9.specs.Working.States.{map_parts}
+use Rattle.track9.specs.Tracker.{InPart, IsIn, PartStates, Possible, StateSet, TwoParts, in_local}
+use Rattle.track9.specs.Working.Parts.{is_live, no_states}
+use Rattle.track9.specs.Working.States.{InTwo, all_or_none, map_two, on_two, part_of, two_of}
 use Rattle.track9.proofs.PartLemmas.{not_live}
 
 -- a step leaves local and panel as they are
@@ -19,30 +19,63 @@ pub record ReachedIn (Goes : State → State → Type 0) (l pn : Bool) (p q : Pa
 
 -- a state is possible that is in the part of its local and panel
 pub possible : (v : StateSet) (s : State) (l pn : Bool) → s.local ≡ l → s.panel ≡ pn → InPart (part_of v l pn) s → Possible v s
-possible v s l pn el ep h = subst (λ b. InPart (part_of v b s.panel) s) (sym el) (subst (λ b. InPart (part_of v l b) s) (sym ep) h)
+possible v s l pn el ep h = subst (λ b. IsIn (if b then v.on else Some v.off) s) (sym ep) (by pn (subst (λ b. InPart (part_of v b pn) s) (sym el) h))
+  where
+    none : (l : Bool) → InPart (in_local (all_or_none false) l) s → ⊥
+    none false h = not_live no_states s refl h
+    none true h = not_live no_states s refl h
+
+    some : (o : Option TwoParts) → InPart (in_local (on_two o) s.local) s → IsIn o s
+    some None h = none s.local h
+    some (Some g) h = h
+
+    by : (pn : Bool) → InPart (part_of v s.local pn) s → IsIn (if pn then v.on else Some v.off) s
+    by false h = h
+    by true h = some v.on h
 
 -- and is in that part
 pub impossible : (v : StateSet) (s : State) (l pn : Bool) → s.local ≡ l → s.panel ≡ pn → Possible v s → InPart (part_of v l pn) s
-impossible v s l pn el ep h = subst (λ b. InPart (part_of v l b) s) ep (subst (λ b. InPart (part_of v b s.panel) s) el h)
+impossible v s l pn el ep h = subst (λ b. InPart (part_of v b pn) s) el (by pn (subst (λ b. IsIn (if b then v.on else Some v.off) s) ep h))
+  where
+    some : (o : Option TwoParts) → IsIn o s → InPart (in_local (on_two o) s.local) s
+    some None h = absurd h
+    some (Some g) h = h
 
-pub by_parts : (Goes : State → State → Type 0) → Keeps Goes → (v w : StateSet) → ((l pn : Bool) → ReachedIn Goes l pn (part_of v l pn) (part_of w l pn))
+    by : (pn : Bool) → IsIn (if pn then v.on else Some v.off) s → InPart (part_of v s.local pn) s
+    by false h = h
+    by true h = some v.on h
+
+-- the same, of those with one value of the panel
+pub to_two : (v : StateSet) (s : State) (pn : Bool) → s.panel ≡ pn → Possible v s → InTwo pn (two_of v pn) s
+to_two v s pn e h = (e, impossible v s s.local pn refl e h)
+
+pub of_two : (v : StateSet) (s : State) (pn : Bool) → InTwo pn (two_of v pn) s → Possible v s
+of_two v s pn h = possible v s s.local pn refl h.0 h.1
+
+-- a step that keeps the panel is one of each value of it
+pub by_panel : (Goes : State → State → Type 0) → ((s t : State) → Goes s t → t.panel ≡ s.panel) → (v w : StateSet) → ((pn : Bool) → AreReached (InTwo pn (two_of v pn)) Goes (InTwo pn (two_of w pn)))
     → AreReached (Possible v) Goes (Possible w)
-by_parts Goes keeps v w each = (
-  λ t h. let a = (each t.local t.panel).from t refl refl h in (a.0, possible v a.0 t.local t.panel a.2 a.3 a.1, a.4),
-  λ s t h goes. possible w t s.local s.panel (keeps.local s t goes) (keeps.panel s t goes) ((each s.local s.panel).to s t refl refl h goes),
+by_panel Goes keeps v w each = (
+  λ t h. let a = (each t.panel).0 t (to_two w t t.panel refl h) in (a.0, of_two v a.0 t.panel a.1, a.2),
+  λ s t h goes. of_two w t s.panel ((each s.panel).1 s t (to_two v s s.panel refl h) goes),
 )
 
--- the parts of a set that changes part by part
-pub mapped : (f : Bool → PartStates → PartStates) (v : StateSet) (l pn : Bool) → part_of (map_parts f v) l pn ≡ f l (part_of v l pn)
-mapped f v false false = refl
-mapped f v false true = refl
-mapped f v true false = refl
-mapped f v true true = refl
+-- a step that keeps local and panel is one of each part
+pub by_two : (Goes : State → State → Type 0) → Keeps Goes → (h g : TwoParts) → ((l pn : Bool) → ReachedIn Goes l pn (in_local h l) (in_local g l))
+    → (pn : Bool) → AreReached (InTwo pn h) Goes (InTwo pn g)
+by_two Goes keeps h g each pn = (
+  λ t i. let a = (each t.local pn).from t refl i.0 i.1 in (a.0, (a.3, subst (λ b. InPart (in_local h b) a.0) (sym a.2) a.1), a.4),
+  λ s t i goes. (keeps.panel s t goes ∙ i.0, subst (λ b. InPart (in_local g b) t) (sym (keeps.local s t goes)) ((each s.local pn).to s t refl i.0 i.1 goes)),
+)
 
-pub by_mapped_parts : (Goes : State → State → Type 0) → Keeps Goes → (f : Bool → PartStates → PartStates) (v : StateSet) → ((l pn : Bool) → ReachedIn Goes l pn (part_of v l pn) (f l (part_of v l pn)))
-    → AreReached (Possible v) Goes (Possible (map_parts f v))
-by_mapped_parts Goes keeps f v each =
-    by_parts Goes keeps v (map_parts f v) (λ l pn. subst (λ q. ReachedIn Goes l pn (part_of v l pn) q) (sym (mapped f v l pn)) (each l pn))
+pub mapped : (f : Bool → PartStates → PartStates) (h : TwoParts) (l : Bool) → in_local (map_two f h) l ≡ f l (in_local h l)
+mapped f h false = refl
+mapped f h true = refl
+
+pub by_mapped : (Goes : State → State → Type 0) → Keeps Goes → (f : Bool → PartStates → PartStates) (h : TwoParts) → ((l pn : Bool) → ReachedIn Goes l pn (in_local h l) (f l (in_local h l)))
+    → (pn : Bool) → AreReached (InTwo pn h) Goes (InTwo pn (map_two f h))
+by_mapped Goes keeps f h each =
+    by_two Goes keeps h (map_two f h) (λ l pn. subst (λ q. ReachedIn Goes l pn (in_local h l) q) (sym (mapped f h l)) (each l pn))
 
 -- a part that stays where it has no states
 pub in_live : (Goes : State → State → Type 0) (l pn : Bool) (p q : PartStates) → (is_live p ≡ true → ReachedIn Goes l pn p q) → ReachedIn Goes l pn p (if is_live p then q else p)

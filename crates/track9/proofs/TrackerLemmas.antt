@@ -1,5 +1,6 @@
 -- What a tracker keeps, remains and counts.
-use Rattle.std.proofs.Common.{◌≡◌, ◌⊎◌, inl, inr, ◌↔◌, ◌||◌, ◌&&◌, not, ℕ, ◌≤◌, ◌+◌, max, Bool, true, false, IsTrue, if◌then◌else◌, refl, sym, ap, ◌∙◌, subst, arith}
+use Rattle.std.proofs.Common.{◌≡◌, ◌⊎◌, inl, inr, ◌↔◌, ◌&&◌, not, ℕ, ◌≤◌, ◌+◌, max, Bool, true, false, None, IsTrue, if◌then◌else◌, refl, sym, ap, ◌∙◌, subst, arith}
+use Rattle.std.proofs.Math.Nat.{max-zero}
 use Rattle.std.proofs.lemmas.Bool.{cases_eq, false≢true}
 use Rattle.std.specs.Ordering.{nat_cmp}
 use Rattle.std.specs.FinSet as set
@@ -9,85 +10,77 @@ use Rattle.tc25.proofs.TimesLemmas.{same_test, same_times}
 use Rattle.block9.specs.declared.block.Block.{Block}
 use Rattle.block9.specs.declared.command.Command.{Command}
 use Rattle.block9.specs.Command.{is_nak}
-use Rattle.track9.specs.declared.presets.Presets.{Presets}
+use Rattle.track9.specs.Presets.{Presets}
 use Rattle.deck9.specs.declared.state.Entry.TheVariants.{At}
 use Rattle.deck9.specs.declared.state.Hands.{Hands}
 use Rattle.deck9.specs.declared.state.Hands.TheVariants as hands
 use Rattle.deck9.specs.declared.state.Register.{Register}
+use Rattle.deck9.specs.declared.state.Register.TheVariants.{RegIn, RegOut, RegAudioIn, RegAudioOut}
 use Rattle.deck9.specs.declared.state.State.{State}
 use Rattle.track9.specs.Presets.{AreTimes, IsSpanCount, count_of, presets_after, with_command}
 use Rattle.deck9.specs.State.{IsFirst, entry_of, with_entry}
 use Rattle.deck9.specs.Step.{AreReached, Exchanges}
-use Rattle.track9.specs.Tracker.{Allows, InPart, Possible, StateSet, Tracked, entries_of, part_of}
+use Rattle.track9.specs.Tracker.{Allows, InPart, Possible, StateSet, Tracked, entries_of, in_local}
 use Rattle.track9.specs.Working.Parts.{is_live}
-use Rattle.track9.specs.Working.States.{AreFew, AreWhole, Follows, IsKept, first_states, is_panel_live, some_state}
-use Rattle.track9.proofs.EffectLemmas.{first_few, first_whole}
+use Rattle.track9.specs.Working.States.{AreFew, AreWhole, Follows, IsKept, first_states, all_or_none, hands_of, on_two, part_of, some_state, two_of}
+use Rattle.track9.proofs.PanelLemmas.{first_few, first_whole}
 use Rattle.track9.proofs.EntryLemmas.{no_times}
 use Rattle.track9.proofs.ForgetLemmas.{first_is, is_first, live_some, some_live}
 use Rattle.track9.proofs.PartLemmas.{a_state, entry_put, in_put, put_local, put_panel, put_same}
 use Rattle.track9.proofs.ReachLemmas.{impossible, possible}
-use Rattle.track9.proofs.WholeLemmas.{whole_of}
+use Rattle.track9.proofs.WholeLemmas.{whole_in, whole_of}
 
 -- ---- before the first exchange
 
-first_handled : (h : Hands) → h ≡ hands.None → is_panel_live (first_states h) ≡ false
-first_handled hands.None e = refl
-first_handled hands.Allowed e = cc
+pub first_kept : (h : Hands) (n : Presets) (v : StateSet) → v ≡ first_states h → IsKept n v
+first_kept h n v e = subst (IsKept n) (sym e) (record { whole = first_whole h; few = first_few h n })
 
-pub first_kept : (h : Hands) (n : Presets) (v : StateSet) → v ≡ first_states h → IsKept h n v
-first_kept h n v e = subst (IsKept h n) (sym e) (record { whole = first_whole h; handled = first_handled h; few = first_few h n })
+pub first_hands : (h : Hands) (v : StateSet) → v ≡ first_states h → hands_of v ≡ h
+first_hands h v e = ap hands_of e ∙ by h
+  where
+    by : (h : Hands) → hands_of (first_states h) ≡ h
+    by hands.None = refl
+    by hands.Allowed = refl
 
 pub first_possible : (h : Hands) (v : StateSet) → v ≡ first_states h → (s : State) → Possible v s ↔ IsFirst h s
 first_possible h v e s = subst (λ v. Possible v s ↔ IsFirst h s) (sym e) (first_is h s, is_first h s)
 
 -- ---- whether a state remains
 
-or_false : (a b : Bool) → (a || b) ≡ false → (a ≡ false) × (b ≡ false)
-or_false true b h = absurd (false≢true (sym h))
-or_false false b h = (refl, h)
-
-dead_parts : (v : StateSet) → some_state v ≡ false → (l pn : Bool) → is_live (part_of v l pn) ≡ false
-dead_parts v dead l pn =
-    let a = or_false (is_live v.remote || is_live v.local) (is_panel_live v) dead in
-    let b = or_false (is_live v.remote) (is_live v.local) a.0 in
-    let c = or_false (is_live v.remote_panel) (is_live v.local_panel) a.1 in
-    by b.0 b.1 c.0 c.1 l pn
-  where
-    by : is_live v.remote ≡ false → is_live v.local ≡ false → is_live v.remote_panel ≡ false → is_live v.local_panel ≡ false → (l pn : Bool) → is_live (part_of v l pn) ≡ false
-    by p q r s false false = p
-    by p q r s true false = q
-    by p q r s false true = r
-    by p q r s true true = s
-
 pub remains_where : (b : Bool) (v : StateSet) → b ≡ some_state v → AreWhole v → IsTrue b ↔ ((s : State) × Possible v s)
 remains_where b v e whole = (λ h. live_some v whole (sym e ∙ h), λ w. e ∙ some_live v w.0 w.1)
 
 -- ---- after an exchange
 
-pub reached_from : (t : Tracked) (v w : StateSet) (h : Hands) (n : Presets) (c : Command) (reply : Block) → record { states = v; hands = h; presets = n } ≡ t → Follows h c reply v w
+-- what holds of the states inside holds of the tracker's
+pub reached_from : (t : Tracked) (v w : StateSet) (n : Presets) (c : Command) (reply : Block) → record { states = v; hands = hands_of v; presets = n } ≡ t → Follows (hands_of v) c reply v w
     → AreReached (Possible t.states) (Exchanges t.hands c reply) (Possible w)
-reached_from t v w h n c reply same follows =
+reached_from t v w n c reply same follows =
     let P : Tracked → Type 0 = λ t. AreReached (Possible t.states) (Exchanges t.hands c reply) (Possible w) in subst P same follows.reached
 
 -- from no state none is reached
-pub over_false : (t : Tracked) (v w : StateSet) (h : Hands) (n : Presets) (c : Command) (reply : Block) (b : Bool) → record { states = v; hands = h; presets = n } ≡ t → Follows h c reply v w → b ≡ some_state w
+pub over_false : (t : Tracked) (v w : StateSet) (n : Presets) (c : Command) (reply : Block) (b : Bool) → record { states = v; hands = hands_of v; presets = n } ≡ t → Follows (hands_of v) c reply v w → b ≡ some_state w
     → (((s : State) × Possible t.states s) → ⊥) → b ≡ false
-over_false t v w h n c reply b same follows e none = by (some_state w) refl
+over_false t v w n c reply b same follows e none = by (some_state w) refl
   where
     by : (live : Bool) → some_state w ≡ live → b ≡ false
     by false dead = e ∙ dead
     by true live =
         let a = live_some w follows.whole live in
-        let from = (reached_from t v w h n c reply same follows).0 a.0 a.1 in
+        let from = (reached_from t v w n c reply same follows).0 a.0 a.1 in
         absurd (none (from.0, from.1))
 
 dead_few : (n : Presets) (v : StateSet) → AreWhole v → some_state v ≡ false → AreFew n v
-dead_few n v whole dead l pn r =
-    let none = no_times (entries_of r (part_of v l pn)) (whole_of v whole l pn r ∙ dead_parts v dead l pn) in
+dead_few n v whole dead pn l r =
+    let none = no_times (entries_of r (part_of v l pn)) (whole_in (two_of v pn) (whole_of v whole pn) l r ∙ dead_in (is_live (part_of v l pn)) refl) in
     rw none (few_none (count_of r n))
   where
     few_none : (k : ℕ) → begin_count set.empty ≤ k + 1
     few_none k = omega (arith, begin_count-empty)
+
+    dead_in : (b : Bool) → is_live (part_of v l pn) ≡ b → b ≡ false
+    dead_in false e = refl
+    dead_in true live = let w = a_state (part_of v l pn) l pn (whole_in (two_of v pn) (whole_of v whole pn) l) live in absurd (false≢true (sym dead ∙ some_live v w.0 (possible v w.0 l pn w.2 w.3 w.1)))
 
 kept_few : (c : Command) (reply : Block) (v w : StateSet) (h : Hands) (n : Presets) (b : Bool) → b ≡ some_state w → AreFew n v → Follows h c reply v w → AreFew (presets_after c reply b n) w
 kept_few c reply v w h n true e few follows = follows.few n few
@@ -97,9 +90,9 @@ kept_few c reply v w h n false e few follows = by (is_nak reply)
     by true = dead_few n w follows.whole (sym e)
     by false = dead_few n w follows.whole (sym e)
 
-pub kept_after : (c : Command) (reply : Block) (v w : StateSet) (h : Hands) (n m : Presets) (b : Bool) → b ≡ some_state w → m ≡ presets_after c reply b n → IsKept h n v → Follows h c reply v w → IsKept h m w
+pub kept_after : (c : Command) (reply : Block) (v w : StateSet) (h : Hands) (n m : Presets) (b : Bool) → b ≡ some_state w → m ≡ presets_after c reply b n → IsKept n v → Follows h c reply v w → IsKept m w
 kept_after c reply v w h n m b e counts kept follows =
-    subst (λ m. IsKept h m w) (sym counts) (record { whole = follows.whole; handled = follows.handled; few = kept_few c reply v w h n b e kept.few follows })
+    subst (λ m. IsKept m w) (sym counts) (record { whole = follows.whole; few = kept_few c reply v w h n b e kept.few follows })
 
 -- ---- spans
 
@@ -113,13 +106,13 @@ are_times v r l pn whole t = (
     by : (b : Bool) → is_live (part_of v l pn) ≡ b → set.contains (entries_of r (part_of v l pn)).times t ≡ true
         → (s : State) × Possible v s × (s.local ≡ l) × (s.panel ≡ pn) × (entry_of r s ≡ At t)
     by true live there =
-        let w = a_state (part_of v l pn) l pn (whole_of v whole l pn) live in
+        let w = a_state (part_of v l pn) l pn (whole_in (two_of v pn) (whole_of v whole pn) l) live in
         let p = part_of v l pn in
         let s = with_entry r (At t) w.0 in
         let inside : InPart p s = subst (λ q. InPart q s) (put_same r p) (in_put r (entries_of r p) p (At t) w.0 w.1 there) in
         (s, possible v s l pn (put_local r (At t) w.0 ∙ w.2) (put_panel r (At t) w.0 ∙ w.3) inside, put_local r (At t) w.0 ∙ w.2, put_panel r (At t) w.0 ∙ w.3, entry_put r (At t) w.0)
     by false dead there =
-        let none = no_times (entries_of r (part_of v l pn)) (whole_of v whole l pn r ∙ dead) in
+        let none = no_times (entries_of r (part_of v l pn)) (whole_in (two_of v pn) (whole_of v whole pn) l r ∙ dead) in
         absurd (false≢true (sym (set.contains-empty nat_cmp t) ∙ ap (λ x. set.contains x t) (sym none) ∙ there))
 
 one_set : (X : State → Type 0) (r : Register) (l pn : Bool) (a b : Times) → AreTimes X r l pn a → AreTimes X r l pn b → a ≡ b
@@ -141,19 +134,19 @@ is_one a b c d n e = elim (cases_eq a n) [
 ]
 
 pub span_count_is : (v : StateSet) (r : Register) (n : ℕ) → AreWhole v
-    → n ≡ max (max (span_count (entries_of r v.remote).times) (span_count (entries_of r v.local).times)) (max (span_count (entries_of r v.remote_panel).times) (span_count (entries_of r v.local_panel).times))
+    → n ≡ max (max (span_count (entries_of r (part_of v false false)).times) (span_count (entries_of r (part_of v true false)).times)) (max (span_count (entries_of r (part_of v false true)).times) (span_count (entries_of r (part_of v true true)).times))
     → IsSpanCount (Possible v) r n
 span_count_is v r n whole e = record {
   most = λ l pn times h. subst (λ s. span_count s ≤ n) (one_set (Possible v) r l pn (entries_of r (part_of v l pn)).times times (are_times v r l pn whole) h) (each l pn);
   met = elim (is_one _ _ _ _ n e) [
-    | inl p ↦ (false, false, (entries_of r v.remote).times, are_times v r false false whole, p)
-    | inr (inl p) ↦ (true, false, (entries_of r v.local).times, are_times v r true false whole, p)
-    | inr (inr (inl p)) ↦ (false, true, (entries_of r v.remote_panel).times, are_times v r false true whole, p)
-    | inr (inr (inr p)) ↦ (true, true, (entries_of r v.local_panel).times, are_times v r true true whole, p)
+    | inl p ↦ (false, false, (entries_of r (part_of v false false)).times, are_times v r false false whole, p)
+    | inr (inl p) ↦ (true, false, (entries_of r (part_of v true false)).times, are_times v r true false whole, p)
+    | inr (inr (inl p)) ↦ (false, true, (entries_of r (part_of v false true)).times, are_times v r false true whole, p)
+    | inr (inr (inr p)) ↦ (true, true, (entries_of r (part_of v true true)).times, are_times v r true true whole, p)
   ];
 }
   where
-    four : (span_count (entries_of r v.remote).times ≤ n) × (span_count (entries_of r v.local).times ≤ n) × (span_count (entries_of r v.remote_panel).times ≤ n) × (span_count (entries_of r v.local_panel).times ≤ n)
+    four : (span_count (entries_of r (part_of v false false)).times ≤ n) × (span_count (entries_of r (part_of v true false)).times ≤ n) × (span_count (entries_of r (part_of v false true)).times ≤ n) × (span_count (entries_of r (part_of v true true)).times ≤ n)
     four = is_most _ _ _ _ n e
 
     each : (l pn : Bool) → span_count (entries_of r (part_of v l pn)).times ≤ n
@@ -162,6 +155,34 @@ span_count_is v r n whole e = record {
     each false true = four.2
     each true true = four.3
 
+none_left : (p : ℕ → Bool) → set.len (set.retain (set.empty {R = nat_cmp}) p) ≡ 0
+none_left p =
+    let left : Times = set.retain set.empty p in
+    let same : left ≡ set.empty = same_times left set.empty (λ f. set.contains-retain set.empty p f (λ x tie. ap p (sym (set.nat_cmp-IsAntisymmetric f x tie))) ∙ rw (set.contains-empty nat_cmp f) refl) in
+    ap (λ (s : Times). set.len s) same ∙ set.len-empty nat_cmp
+
+span_none : span_count set.empty ≡ 0
+unfolding span_count
+span_none = none_left _
+
+-- where there is nothing with the panel on
+pub spans_off : (v : StateSet) (r : Register) (n : ℕ) → v.on ≡ None → n ≡ max (span_count (entries_of r v.off.remote).times) (span_count (entries_of r v.off.local).times)
+    → n ≡ max (max (span_count (entries_of r (part_of v false false)).times) (span_count (entries_of r (part_of v true false)).times)) (max (span_count (entries_of r (part_of v false true)).times) (span_count (entries_of r (part_of v true true)).times))
+spans_off v r n none e = e ∙ sym (max-zero _) ∙ ap (λ k. max (max (span_count (entries_of r v.off.remote).times) (span_count (entries_of r v.off.local).times)) k) (sym (rw (dead false r, dead true r) refl))
+  where
+    dead : (l : Bool) (r : Register) → span_count (entries_of r (part_of v l true)).times ≡ 0
+    dead l r = ap (λ o. span_count (entries_of r (in_local (on_two o) l)).times) none ∙ by l r
+      where
+        by : (l : Bool) (r : Register) → span_count (entries_of r (in_local (all_or_none false) l)).times ≡ 0
+        by false RegIn = span_none
+        by false RegOut = span_none
+        by false RegAudioIn = span_none
+        by false RegAudioOut = span_none
+        by true RegIn = span_none
+        by true RegOut = span_none
+        by true RegAudioIn = span_none
+        by true RegAudioOut = span_none
+
 few_spans : (s : Times) (k : ℕ) → begin_count s ≤ k + 1 → span_count s ≤ k + 2
 few_spans s k h = omega (arith, span_count-begin_count s, h)
 
@@ -169,14 +190,14 @@ most_of : (a b c d n k : ℕ) → n ≡ max (max a b) (max c d) → a ≤ k → 
 most_of a b c d n k e p q r s = omega arith
 
 pub spans_few : (v : StateSet) (r : Register) (n : ℕ) (m : Presets) → AreFew m v
-    → n ≡ max (max (span_count (entries_of r v.remote).times) (span_count (entries_of r v.local).times)) (max (span_count (entries_of r v.remote_panel).times) (span_count (entries_of r v.local_panel).times))
+    → n ≡ max (max (span_count (entries_of r (part_of v false false)).times) (span_count (entries_of r (part_of v true false)).times)) (max (span_count (entries_of r (part_of v false true)).times) (span_count (entries_of r (part_of v true true)).times))
     → n ≤ count_of r m + 2
 spans_few v r n m few e =
     most_of _ _ _ _ n (count_of r m + 2) e
-    (few_spans (entries_of r v.remote).times (count_of r m) (few false false r)) (few_spans (entries_of r v.local).times (count_of r m) (few true false r))
-    (few_spans (entries_of r v.remote_panel).times (count_of r m) (few false true r)) (few_spans (entries_of r v.local_panel).times (count_of r m) (few true true r))
+    (few_spans (entries_of r (part_of v false false)).times (count_of r m) (few false false r)) (few_spans (entries_of r (part_of v true false)).times (count_of r m) (few false true r))
+    (few_spans (entries_of r (part_of v false true)).times (count_of r m) (few true false r)) (few_spans (entries_of r (part_of v true true)).times (count_of r m) (few true true r))
 
 -- a tracker with a state is live
-pub remaining_live : (t : Tracked) (v : StateSet) (h : Hands) (n : Presets) → record { states = v; hands = h; presets = n } ≡ t → ((s : State) × Possible t.states s) → some_state v ≡ true
-remaining_live t v h n same w =
+pub remaining_live : (t : Tracked) (v : StateSet) (n : Presets) → record { states = v; hands = hands_of v; presets = n } ≡ t → ((s : State) × Possible t.states s) → some_state v ≡ true
+remaining_live t v n same w =
     let P : Tracked → Type 0 = λ t. some_state t.states ≡ true in subst P (sym same) (some_live t.states w.0 w.1)

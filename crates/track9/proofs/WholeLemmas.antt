@@ -9,11 +9,11 @@ use Rattle.track9.specs.declared.pairs.Pairs.{Pairs}
 use Rattle.deck9.specs.declared.state.Register.{Register}
 use Rattle.deck9.specs.declared.state.Register.TheVariants.{RegIn, RegOut, RegAudioIn, RegAudioOut}
 use Rattle.track9.specs.ModeSet.{has}
-use Rattle.track9.specs.Tracker.{Entries, PartStates, StateSet, entries_of, part_of}
+use Rattle.track9.specs.Tracker.{Entries, PartStates, StateSet, TwoParts, entries_of, in_local}
 use Rattle.track9.specs.Working.Entries.{some_entry}
 use Rattle.track9.specs.Working.Pairs.{drifted, drifted_with, goes, some_pair}
 use Rattle.track9.specs.Working.Parts.{Whole, all_states, changed_entries, changed_part, drifted_part, forgotten_part, gone_pairs, gone_part, is_live, no_states, settled, with_entries, with_pairs}
-use Rattle.track9.specs.Working.States.{AreWhole, map_parts}
+use Rattle.track9.specs.Working.States.{AreWhole, TwoWhole, all_or_none, two_of}
 use Rattle.track9.proofs.EntryLemmas.{changed_some, no_entry, widened_some}
 use Rattle.track9.proofs.GoalLemmas.{goal_pair_goes}
 use Rattle.track9.proofs.PairLemmas.{drifted_from, drifted_to, goes_from, pairs_some, some_mode}
@@ -94,7 +94,7 @@ pub whole_forgotten : (p : PartStates) → is_live p ≡ true → Whole (forgott
 whole_forgotten p live = whole_pairs p.pairs all_states whole_all (live ∙ sym (whole_all RegIn))
 
 -- a drift leaves a state, and makes none from nothing
-drift_some : (p : Pairs) → some_pair (drifted p) ≡ some_pair p
+pub drift_some : (p : Pairs) → some_pair (drifted p) ≡ some_pair p
 drift_some p = same_test (some_pair (drifted p)) (some_pair p)
     (λ h. let m = some_mode (goes (drifted p)) h in let g = goes_from (drifted p) m.0 m.1 in
     let w = drifted_from p g.0 m.0 (subst (λ (x : ModeSet). has x.0 m.0 ≡ true) (shown_by_goal (drifted_with p) g.0) g.1) in pairs_some p w.0 w.1 w.2)
@@ -104,22 +104,16 @@ drift_some p = same_test (some_pair (drifted p)) (some_pair p)
 pub whole_drift : (p : PartStates) → Whole p → Whole (drifted_part p)
 whole_drift p whole = whole_pairs (drifted p.pairs) p whole (drift_some p.pairs)
 
--- ---- all parts
+-- ---- two parts
 
-pub whole_mapped : (f : Bool → PartStates → PartStates) (v : StateSet) → AreWhole v → ((l : Bool) (p : PartStates) → Whole p → Whole (f l p)) → AreWhole (map_parts f v)
-whole_mapped f v whole each = record {
-  remote = each false v.remote whole.remote;
-  local = each true v.local whole.local;
-  remote_panel = each false v.remote_panel whole.remote_panel;
-  local_panel = each true v.local_panel whole.local_panel;
-}
+pub whole_two : (b : Bool) → TwoWhole (all_or_none b)
+whole_two true = record { remote = whole_all; local = whole_all }
+whole_two false = record { remote = whole_none; local = whole_none }
 
-pub whole_if : (b : Bool) (p q : PartStates) → Whole p → Whole q → Whole (if b then p else q)
-whole_if true p q whole other = whole
-whole_if false p q whole other = other
+pub whole_in : (h : TwoParts) → TwoWhole h → (l : Bool) → Whole (in_local h l)
+whole_in h whole false = whole.remote
+whole_in h whole true = whole.local
 
-pub whole_of : (v : StateSet) → AreWhole v → (l pn : Bool) → Whole (part_of v l pn)
-whole_of v whole false false = whole.remote
-whole_of v whole true false = whole.local
-whole_of v whole false true = whole.remote_panel
-whole_of v whole true true = whole.local_panel
+pub whole_of : (v : StateSet) → AreWhole v → (pn : Bool) → TwoWhole (two_of v pn)
+whole_of v whole false = whole.off
+whole_of v whole true = whole.on

@@ -6,14 +6,20 @@ use Rattle.block9.specs.declared.block.Block.{Block}
 use Rattle.block9.specs.declared.command.Command.{Command}
 use Rattle.block9.specs.declared.command.Command.TheVariants as command
 use Rattle.block9.specs.Command.{is_nak}
-use Rattle.track9.specs.declared.presets.Presets.{Presets}
 use Rattle.deck9.specs.declared.state.Entry.TheVariants.{At}
 use Rattle.deck9.specs.declared.state.Register.{Register}
 use Rattle.deck9.specs.declared.state.Register.TheVariants.{RegIn, RegOut, RegAudioIn, RegAudioOut}
 use Rattle.deck9.specs.declared.state.State.{State}
 use Rattle.deck9.specs.State.{entry_of}
 
--- how many presets to a register were counted
+-- how many presets to each register were counted
+pub record Presets : Type 0 where
+  pub ins : ℕ
+  pub outs : ℕ
+  pub ains : ℕ
+  pub aouts : ℕ
+
+-- those to one register
 abbrev pub count_of : Register → Presets → ℕ
 count_of RegIn n = n.ins
 count_of RegOut n = n.outs

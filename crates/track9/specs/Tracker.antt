@@ -1,12 +1,12 @@
 -- A tracker as its callers see it: which states are possible, by the pairs of modes and the sets of times that it
 -- keeps. The states themselves are never listed.
-use Rattle.std.specs.Prelude.{◌≡◌, Bool, true, false, slice_index_or}
+use Rattle.std.specs.Prelude.{◌≡◌, Bool, true, false, if◌then◌else◌, Option, Some, None, slice_index_or}
 use Rattle.std.specs.FinSet as set
 use Rattle.tc25.specs.Times.{Times}
 use Rattle.deck9.specs.declared.mode.Mode.{Mode}
 use Rattle.track9.specs.declared.mode_set.ModeSet.{ModeSet}
 use Rattle.track9.specs.declared.pairs.Pairs.{Pairs}
-use Rattle.track9.specs.declared.presets.Presets.{Presets}
+use Rattle.track9.specs.Presets.{Presets}
 use Rattle.deck9.specs.declared.state.Entry.{Entry}
 use Rattle.deck9.specs.declared.state.Entry.TheVariants.{Clear, At}
 use Rattle.deck9.specs.declared.state.Hands.{Hands}
@@ -55,23 +55,29 @@ pub record InPart (p : PartStates) (s : State) : Type 0 where
   pub pair : has_pair p.pairs s.goal s.shown ≡ true
   pub registers : (r : Register) → Allows (entries_of r p) (entry_of r s)
 
--- a set of states: a part for each value of local and of panel
-pub record StateSet : Type 0 where
+-- the states with one value of the panel: a part of those in remote, and one of those in local
+pub record TwoParts : Type 0 where
   pub remote : PartStates
   pub local : PartStates
-  pub remote_panel : PartStates
-  pub local_panel : PartStates
 
--- the part of the states with these values of local and of panel
-abbrev pub part_of : StateSet → Bool → Bool → PartStates
-part_of v false false = v.remote
-part_of v true false = v.local
-part_of v false true = v.remote_panel
-part_of v true true = v.local_panel
+-- the part with this value of local
+abbrev pub in_local : TwoParts → Bool → PartStates
+in_local h false = h.remote
+in_local h true = h.local
+
+-- a set of states: those with the panel off, and those with the panel on, of which there is nothing where hands are not allowed
+pub record StateSet : Type 0 where
+  pub off : TwoParts
+  pub on : Option TwoParts
+
+-- one of these states, whatever its panel
+abbrev pub IsIn : Option TwoParts → State → Type 0
+IsIn None s = ⊥
+IsIn (Some h) s = InPart (in_local h s.local) s
 
 -- a state is possible
 abbrev pub Possible : StateSet → State → Type 0
-Possible v s = InPart (part_of v s.local s.panel) s
+Possible v s = IsIn (if s.panel then v.on else Some v.off) s
 
 -- a tracker: the states that are possible, whether hands are allowed, and the presets that were counted
 pub record Tracked : Type 0 where

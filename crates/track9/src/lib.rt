@@ -5,6 +5,7 @@
 #![tactic(auto)]
 
 mod asked;
+mod halves;
 mod knowledge;
 pub mod laws;
 mod mode_set;

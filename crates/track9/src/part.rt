@@ -1,10 +1,10 @@
 //! The states with one value of local and one of panel.
-ghost use Rattle.std.specs.Prelude.{◌≡◌, IfOk, OnErr, OnOk, true};
+ghost use Rattle.std.specs.Prelude.{◌≡◌, IfOk, OnErr, OnOk, false, true};
 ghost use Rattle.tc25.specs.Times.{BelowDay, span_count};
 ghost use Rattle.track9.specs.Tracker.{entries_of};
 ghost use Rattle.track9.specs.Working.Entries.{agreeing};
 ghost use Rattle.track9.specs.Working.Knowing.{PartKnows};
-ghost use Rattle.track9.specs.Working.Parts.{Whole, all_states, aside, bit_in, changed_entries, changed_part, drifted_part, forgotten_part, gone_part, is_live, no_states, put_aside, put_part, put_settled, settled, shown_part, status_part, where_live, with_entries, with_pairs};
+ghost use Rattle.track9.specs.Working.Parts.{Whole, all_states, aside, bit_in, changed_entries, changed_part, drifted_part, forgotten_part, gone_part, is_live, no_states, put_aside, put_settled, settled, shown_part, status_part, where_live, with_entries, with_pairs};
 ghost use Rattle.deck9.specs.declared.state.Register.{Register as ARegister};
 
 use crate::knowledge::KnownEntry;
@@ -109,13 +109,6 @@ impl<S: TimeSet> Part<S> {
         self.pairs
     }
 
-    /// Puts pairs in place.
-    pub(crate) fn put_pairs(&mut self, pairs: Pairs)
-        ensures { self.new ≡ with_pairs pairs self.old }
-    {
-        self.pairs = pairs;
-    }
-
     /// The entries of a register.
     pub(crate) fn entries(&self, register: Register) -> &RegisterSet<S>
         ensures { result.now ≡ entries_of register self.entry.now }
@@ -186,27 +179,19 @@ impl<S: TimeSet> Part<S> {
         };
     }
 
-    /// What becomes of a register's entries, or may where the deck may leave it, in a set of its own: None where
-    /// there is no state.
+    /// What becomes of a register's entries, in a set of its own: None where there is no state.
     pub(crate) fn change_aside(
         &self,
         alloc: Global,
-        may_stay: bool,
         register: Register,
         change: &Change,
     ) -> Result<Option<RegisterSet<S>>, AllocError>
-        ensures { IfOk result (λ o. o ≡ aside self.now (changed_entries may_stay change.now (entries_of register self.now))) }
+        ensures { IfOk result (λ o. o ≡ aside self.now (changed_entries false change.now (entries_of register self.now))) }
     {
         if !self.is_live() {
             return Ok(None);
         }
-        let entries = self.entries(register);
-        let changed = if may_stay {
-            entries.widened(alloc, change)?
-        } else {
-            entries.changed(alloc, change)?
-        };
-        Ok(Some(changed))
+        Ok(Some(self.entries(register).changed(alloc, change)?))
     }
 
     /// The entries of a register that agree with a time that was read, in a set of their own: None where there
@@ -225,27 +210,24 @@ impl<S: TimeSet> Part<S> {
         Ok(Some(self.entries(register).agreeing(alloc, time)?))
     }
 
-    /// Every state aside: None where there is no state.
-    pub(crate) fn forget_tape_aside(&self, alloc: Global) -> Result<Option<Part<S>>, AllocError>
-        ensures { IfOk result (λ o. o ≡ aside self.now all_states) }
+    /// Every state, where there is one.
+    pub(crate) fn tape_forgotten(&self, alloc: Global) -> Result<Part<S>, AllocError>
+        ensures { IfOk result (λ p. p ≡ where_live (λ q. all_states) self.now) }
     {
         if !self.is_live() {
-            return Ok(None);
+            return self.copy();
         }
-        Ok(Some(Part::all(alloc)?))
+        Part::all(alloc)
     }
 
-    /// The pairs with any entries aside: None where there is no state.
-    pub(crate) fn forget_registers_aside(
-        &self,
-        alloc: Global,
-    ) -> Result<Option<Part<S>>, AllocError>
-        ensures { IfOk result (λ o. o ≡ aside self.now (forgotten_part self.now)) }
+    /// The pairs with any entries, where there is a state.
+    pub(crate) fn registers_forgotten(&self, alloc: Global) -> Result<Part<S>, AllocError>
+        ensures { IfOk result (λ p. p ≡ where_live forgotten_part self.now) }
     {
         if !self.is_live() {
-            return Ok(None);
+            return self.copy();
         }
-        Ok(Some(Part::with_any_entries(alloc, self.pairs)?))
+        Part::with_any_entries(alloc, self.pairs)
     }
 
     /// Puts a register's entries in place that were made aside.
@@ -269,15 +251,6 @@ impl<S: TimeSet> Part<S> {
         if let Some(entries) = entries {
             self.put(register, entries);
             self.settle(alloc);
-        }
-    }
-
-    /// Puts a part in place that was made aside.
-    pub(crate) fn put_part(&mut self, part: Option<Part<S>>)
-        ensures { self.new ≡ put_part part self.old }
-    {
-        if let Some(part) = part {
-            *self = part;
         }
     }
 

@@ -1,21 +1,58 @@
 //! How many data presets were acknowledged.
 ghost use Rattle.std.specs.Prelude.{◌≡◌};
 ghost use Rattle.track9.specs.Presets.{count_of, presets_after, with_command};
+ghost use Rattle.deck9.specs.declared.state.Register.{Register as ARegister};
 
 use crate::reply::is_nak;
 use block9::{Block, Command};
 use deck9::Register;
+use std::marker::Model;
 
 /// The number of data presets to each register.
-#[derive(Clone, Copy, Debug, Default, PartialEq, Eq)]
+#[derive(Drop)]
 pub(crate) struct Presets {
-    pub(crate) ins: u32,
-    pub(crate) outs: u32,
-    pub(crate) ains: u32,
-    pub(crate) aouts: u32,
+    ins: u32,
+    outs: u32,
+    ains: u32,
+    aouts: u32,
+}
+
+impl Model for Presets {
+    ghost use Rattle.track9.specs.Presets.{Presets as Counts};
+    ghost use Rattle.track9.specs.Working.Codes.{presets_code};
+
+    ghost Value = { Counts };
+
+    ghost coded = { presets_code };
+
+    ghost view = { λ n. record { ins = n.ins; outs = n.outs; ains = n.ains; aouts = n.aouts } };
 }
 
 impl Presets {
+    /// None yet.
+    pub(crate) fn none() -> Presets
+        ensures { (r : ARegister) → count_of r result ≡ 0 }
+    {
+        Presets {
+            ins: 0,
+            outs: 0,
+            ains: 0,
+            aouts: 0,
+        }
+    }
+
+    /// Equal counts.
+    pub(crate) fn copy(&self) -> Presets
+        ensures { result ≡ self.now }
+    {
+        Presets {
+            ins: self.ins,
+            outs: self.outs,
+            ains: self.ains,
+            aouts: self.aouts,
+        }
+    }
+
     /// The number of presets to a register.
     pub(crate) fn count(&self, register: Register) -> u32
         ensures { result ≡ count_of register self.now }

@@ -1,38 +1,32 @@
-//! A set of states: a part for each value of local and of panel.
+//! A set of states: those with the panel off, and those with the panel on.
 //!
-//! A step that may need memory first makes aside what all parts but one get; then it changes the one part whose sets may be
-//! large in place, as the last thing that can fail; and then it puts the rest in place. So a refused step
-//! changes nothing, and no large set is copied.
-ghost use Rattle.std.specs.Prelude.{◌≡◌, Bool, IfOk, None, OnErr, OnOk, IsOk, max, false, true, if◌then◌else◌};
-ghost use Rattle.tc25.specs.Times.{BelowDay, span_count};
-ghost use Rattle.track9.specs.Tracker.{entries_of, part_of};
-ghost use Rattle.track9.specs.Working.Parts.{all_states, aside, changed_entries, forgotten_part, no_states, put_part};
-ghost use Rattle.track9.specs.Working.Entries.{agreeing};
-ghost use Rattle.track9.specs.Working.States.{after_change, after_drift, after_forgetting_all, after_forgetting_registers, after_forgetting_tape, after_goal, after_panel, after_sense, after_status, first_states, is_panel_live, some_state, undone};
-ghost use Rattle.deck9.specs.declared.state.Register.{Register as ARegister};
+//! Where the panel is on a drift leaves every state, or none. So what these states were before plays no part: an exchange makes
+//! them anew from everything, aside, before it changes those with the panel off, in place. A refused exchange then changes
+//! nothing.
+ghost use Rattle.std.specs.Prelude.{◌≡◌, IfOk, IsOk, IsTrue, OnErr, OnOk, false, if◌then◌else◌, max, true};
+ghost use Rattle.tc25.specs.Times.{span_count};
+ghost use Rattle.track9.specs.Frugal.{is_frugal};
+ghost use Rattle.track9.specs.Tracker.{entries_of};
+ghost use Rattle.track9.specs.Working.States.{AreBelow, AreWhole, Follows, acknowledged, after_panel, all_or_none, first_states, hands_of, is_panel_live, is_wide, part_of, some_state};
 
-use crate::mode_set::ModeSet;
-use crate::pairs::Pairs;
-use crate::part::Part;
-use crate::register_set::RegisterSet;
-use deck9::{Change, Hands, Mode, Register};
+use crate::halves::Halves;
+use crate::reply::is_nak;
+use block9::{Block, Command};
+use deck9::{Effect, Hands, Register};
 use std::alloc::{AllocError, Global};
 use std::marker::Model;
 use std::mem;
-use tc25::{SpanSet, TimeCode, TimeSet};
+use tc25::{SpanSet, TimeSet};
 
 mod before;
 mod knowing;
 mod member;
-mod step;
 
-/// The states in which the deck may be.
+/// The states in which the deck may be: with the panel off, and, where hands are allowed, with the panel on.
 #[derive(Drop)]
 pub(crate) struct States<S: TimeSet> {
-    remote: Part<S>,
-    local: Part<S>,
-    remote_panel: Part<S>,
-    local_panel: Part<S>,
+    off: Halves<S>,
+    on: Option<Halves<S>>,
 }
 
 impl<S: TimeSet> Model for States<S> {
@@ -43,22 +37,7 @@ impl<S: TimeSet> Model for States<S> {
 
     ghost coded = { states_code };
 
-    ghost view = { λ v. record { remote = v.remote; local = v.local; remote_panel = v.remote_panel; local_panel = v.local_panel } };
-}
-
-/// Whether a reply's bit LOCAL agrees with a deck in remote, and with one in local.
-#[derive(Clone, Copy, Debug, PartialEq, Eq)]
-pub(crate) struct LocalFits {
-    pub(crate) remote: bool,
-    pub(crate) local: bool,
-}
-
-/// What a drift replaced.
-#[derive(Drop)]
-pub(crate) struct Replaced<S: TimeSet> {
-    remote: Pairs,
-    local: Pairs,
-    panel: Option<(Part<S>, Part<S>)>,
+    ghost view = { λ v. record { off = v.off; on = v.on } };
 }
 
 impl<S: TimeSet> States<S> {
@@ -66,354 +45,180 @@ impl<S: TimeSet> States<S> {
     pub(crate) fn first(alloc: Global, hands: Hands) -> Result<States<S>, AllocError>
         ensures { IfOk result (λ v. v ≡ first_states hands) }
     {
-        let is_allowed = hands == Hands::Allowed;
-        let (remote, local) = all_or_none(alloc, true)?;
-        let (remote_panel, local_panel) = all_or_none(alloc, is_allowed)?;
-        Ok(States {
-            remote,
-            local,
-            remote_panel,
-            local_panel,
-        })
+        let off = Halves::all_or_none(alloc, true)?;
+        let on = match hands {
+            Hands::None => None,
+            Hands::Allowed => Some(Halves::all_or_none(alloc, true)?),
+        };
+        Ok(States { off, on })
     }
 
     /// An equal set.
     pub(crate) fn copy(&self) -> Result<States<S>, AllocError>
         ensures { IfOk result (λ v. v ≡ self.now) }
     {
-        let (remote, local) = copies(&self.remote, &self.local)?;
-        let (remote_panel, local_panel) = copies(&self.remote_panel, &self.local_panel)?;
-        Ok(States {
-            remote,
-            local,
-            remote_panel,
-            local_panel,
-        })
+        let off = self.off.copy()?;
+        let on = match &self.on {
+            Some(on) => Some(on.copy()?),
+            None => None,
+        };
+        Ok(States { off, on })
     }
 
     /// All times are times of the day. Does nothing.
     pub(crate) fn below_day(&self)
-        ensures { (l p : Bool) (r : ARegister) → BelowDay (entries_of r (part_of self.now l p)).times }
+        ensures { AreBelow self.now }
     {
-        self.remote.below_day();
-        self.local.below_day();
-        self.remote_panel.below_day();
-        self.local_panel.below_day();
+        self.off.below_day();
+        if let Some(on) = &self.on {
+            on.below_day();
+        }
+    }
+
+    /// Whether hands are allowed.
+    pub(crate) fn hands(&self) -> Hands
+        ensures { result ≡ hands_of self.now }
+    {
+        match self.on {
+            Some(_) => Hands::Allowed,
+            None => Hands::None,
+        }
     }
 
     /// Whether there is a state.
     pub(crate) fn is_some(&self) -> bool
         ensures { result ≡ some_state self.now }
     {
-        self.remote.is_live() || self.local.is_live() || self.is_panel_live()
+        self.off.is_some() || self.is_panel_live()
     }
 
     /// Whether there is a state with the panel on.
-    pub(crate) fn is_panel_live(&self) -> bool
+    fn is_panel_live(&self) -> bool
         ensures { result ≡ is_panel_live self.now }
     {
-        self.remote_panel.is_live() || self.local_panel.is_live()
-    }
-
-    /// A drift: of the mechanics, and where the panel may be on of a hand too, which may do anything. Takes
-    /// memory only there. Gives back what it replaced.
-    pub(crate) fn drift(&mut self, alloc: Global) -> Result<Replaced<S>, AllocError>
-        ensures ok { OnOk result (self.new ≡ after_drift self.old) }
-        ensures err { OnErr result (self.new ≡ self.old) }
-        ensures replaced { IfOk result (λ r. undone r.remote r.local r.panel (after_drift self.old) ≡ self.old) }
-        ensures frugal { is_panel_live self.old ≡ false → IsOk result }
-    {
-        let panel = if self.is_panel_live() {
-            let (any_remote, any_local) = all_or_none(alloc, true)?;
-            Some((
-                mem::replace(&mut self.remote_panel, any_remote),
-                mem::replace(&mut self.local_panel, any_local),
-            ))
-        } else {
-            None
-        };
-        let replaced = Replaced {
-            remote: self.remote.pairs(),
-            local: self.local.pairs(),
-            panel,
-        };
-        self.remote.drift();
-        self.local.drift();
-        Ok(replaced)
-    }
-
-    /// A drift where no state has the panel on: of the mechanics alone. Takes no memory. Gives back the pairs of remote
-    /// and of local that it replaced.
-    pub(crate) fn drift_panel_off(&mut self) -> (Pairs, Pairs)
-        requires { is_panel_live self.old ≡ false }
-        ensures drifted { self.new ≡ after_drift self.old }
-        ensures replaced { undone result.0 result.1 None (after_drift self.old) ≡ self.old }
-    {
-        let replaced = (self.remote.pairs(), self.local.pairs());
-        self.remote.drift();
-        self.local.drift();
-        replaced
-    }
-
-    /// Puts back the pairs of remote and of local that a drift replaced.
-    pub(crate) fn undo_panel_off(&mut self, remote: Pairs, local: Pairs)
-        ensures { self.new ≡ undone remote local None self.old }
-    {
-        self.remote.put_pairs(remote);
-        self.local.put_pairs(local);
-    }
-
-    /// Puts back what a drift replaced.
-    pub(crate) fn undo(&mut self, replaced: Replaced<S>)
-        ensures { self.new ≡ undone replaced.remote replaced.local replaced.panel self.old }
-    {
-        self.undo_panel_off(replaced.remote, replaced.local);
-        if let Some((remote, local)) = replaced.panel {
-            self.remote_panel = remote;
-            self.local_panel = local;
+        match &self.on {
+            Some(on) => on.is_some(),
+            None => false,
         }
     }
 
-    /// The deck goes for a goal; a deck in local may leave it, and so may any where `may_stay`.
-    pub(crate) fn go(&mut self, may_stay: bool, goal: Mode)
-        ensures { self.new ≡ after_goal may_stay goal self.old }
-    {
-        self.remote.go(may_stay, goal);
-        self.local.go(true, goal);
-        self.remote_panel.go(may_stay, goal);
-        self.local_panel.go(true, goal);
-    }
-
-    /// A register changes; a deck in local may leave it.
-    pub(crate) fn change(
+    /// The states after an exchange: after a drift and a step. Where memory is refused nothing has changed.
+    pub(crate) fn exchange(
         &mut self,
         alloc: Global,
-        register: Register,
-        change: &Change,
+        command: &Command,
+        reply: &Block,
     ) -> Result<(), AllocError>
-        ensures ok { OnOk result (self.new ≡ after_change register change.now self.old) }
+        requires { AreWhole self.old }
+        ensures ok { OnOk result (Follows (hands_of self.old) command.now reply.now self.old self.new) }
         ensures err { OnErr result (self.new ≡ self.old) }
+        ensures frugal { hands_of self.old ≡ Hands.None → IsTrue (is_frugal command.now reply.now) → IsOk result }
     {
-        let remote = self.remote.change_aside(alloc, false, register, change)?;
-        let (remote_panel, local_panel) = changes_aside(
-            alloc,
-            register,
-            change,
-            &self.remote_panel,
-            &self.local_panel,
-        )?;
-        self.local.widen(alloc, register, change)?;
-        self.remote.put_aside(register, remote);
-        self.remote_panel.put_aside(register, remote_panel);
-        self.local_panel.put_aside(register, local_panel);
-        Ok(())
+        match self.hands() {
+            Hands::None => self.off.exchange(alloc, command, reply),
+            Hands::Allowed => self.exchange_by_hand(alloc, command, reply),
+        }
     }
 
-    /// A register's time was read: None where the reply has no valid time.
-    pub(crate) fn sense(
+    /// The same where hands are allowed.
+    fn exchange_by_hand(
         &mut self,
         alloc: Global,
-        register: Register,
-        time: &Option<TimeCode>,
+        command: &Command,
+        reply: &Block,
     ) -> Result<(), AllocError>
-        ensures ok { OnOk result (self.new ≡ after_sense register time.now self.old) }
+        requires whole { AreWhole self.old }
+        requires hands { hands_of self.old ≡ Hands.Allowed }
+        ensures ok { OnOk result (Follows Hands.Allowed command.now reply.now self.old self.new) }
         ensures err { OnErr result (self.new ≡ self.old) }
     {
-        let (remote, local) = senses_aside(alloc, register, time, &self.remote, &self.local)?;
-        let (remote_panel, local_panel) = senses_aside(
-            alloc,
-            register,
-            time,
-            &self.remote_panel,
-            &self.local_panel,
-        )?;
-        self.remote.put_settled(alloc, register, remote);
-        self.local.put_settled(alloc, register, local);
-        self.remote_panel.put_settled(alloc, register, remote_panel);
-        self.local_panel.put_settled(alloc, register, local_panel);
-        Ok(())
+        self.below_day();
+        match acknowledged(command, reply) {
+            Effect::Panel(on) => self.switch_panel(alloc, on),
+            Effect::ForgetAll => self.forget_all(alloc),
+            _ => self.exchange_both(alloc, command, reply),
+        }
     }
 
-    /// Status data were read: whether LOCAL agrees with a deck in remote and with one in local, the modes that
-    /// may be shown, and datum 3. Takes no memory.
-    pub(crate) fn keep_status(
+    /// What a drift leaves with the panel on: every state, if there was any.
+    fn drifted_on(&self, alloc: Global) -> Result<Halves<S>, AllocError>
+        ensures { IfOk result (λ h. h ≡ all_or_none (is_panel_live self.now)) }
+    {
+        Halves::all_or_none(alloc, self.is_panel_live())
+    }
+
+    /// The states after an exchange that a hand on the panel makes no difference to: those with the panel on are what it makes
+    /// of everything, if there were any.
+    fn exchange_both(
         &mut self,
         alloc: Global,
-        agrees: LocalFits,
-        shown: ModeSet,
-        datum: Option<u8>,
-    )
-        ensures { self.new ≡ after_status agrees shown datum self.old }
+        command: &Command,
+        reply: &Block,
+    ) -> Result<(), AllocError>
+        requires whole { AreWhole self.old }
+        requires hands { hands_of self.old ≡ Hands.Allowed }
+        requires narrow { is_wide (acknowledged command.now reply.now) ≡ false }
+        ensures ok { OnOk result (Follows Hands.Allowed command.now reply.now self.old self.new) }
+        ensures err { OnErr result (self.new ≡ self.old) }
     {
-        self.remote.keep_status(alloc, agrees.remote, shown, datum);
-        self.local.keep_status(alloc, agrees.local, shown, datum);
-        self.remote_panel
-            .keep_status(alloc, agrees.remote, shown, datum);
-        self.local_panel
-            .keep_status(alloc, agrees.local, shown, datum);
+        self.below_day();
+        let mut on = self.drifted_on(alloc)?;
+        on.exchange(alloc, command, reply)?;
+        self.off.exchange(alloc, command, reply)?;
+        self.on = Some(on);
+        Ok(())
     }
 
-    /// The panel is switched on or off, after a drift: where the panel was on, that has left every state or none. Takes
-    /// no memory.
-    pub(crate) fn switch_panel(&mut self, alloc: Global, on: bool)
-        ensures { self.new ≡ after_panel on self.old }
+    /// The panel is switched on or off, after a drift: where the panel was on, that has left every state.
+    fn switch_panel(&mut self, alloc: Global, on: bool) -> Result<(), AllocError>
+        ensures ok { OnOk result (self.new ≡ after_panel on self.old) }
+        ensures err { OnErr result (self.new ≡ self.old) }
     {
-        if self.is_panel_live() != on {
-            mem::swap(&mut self.remote, &mut self.remote_panel);
-            mem::swap(&mut self.local, &mut self.local_panel);
-        }
-        if on {
-            self.remote = Part::none(alloc);
-            self.local = Part::none(alloc);
+        let known = if self.is_panel_live() {
+            Halves::all_or_none(alloc, true)?
         } else {
-            self.remote_panel = Part::none(alloc);
-            self.local_panel = Part::none(alloc);
-        }
-    }
-
-    /// Goal, shown mode and registers are forgotten.
-    pub(crate) fn forget_tape(&mut self, alloc: Global) -> Result<(), AllocError>
-        ensures ok { OnOk result (self.new ≡ after_forgetting_tape self.old) }
-        ensures err { OnErr result (self.new ≡ self.old) }
-    {
-        let off = tape_aside(alloc, &self.remote, &self.local)?;
-        let on = tape_aside(alloc, &self.remote_panel, &self.local_panel)?;
-        self.put_parts(off, on);
+            self.off.drift();
+            mem::replace(&mut self.off, Halves::none(alloc))
+        };
+        let none = Halves::none(alloc);
+        let (off, on) = if on { (none, known) } else { (known, none) };
+        self.off = off;
+        self.on = Some(on);
         Ok(())
     }
 
-    /// The registers are forgotten.
-    pub(crate) fn forget_registers(&mut self, alloc: Global) -> Result<(), AllocError>
-        ensures ok { OnOk result (self.new ≡ after_forgetting_registers self.old) }
-        ensures err { OnErr result (self.new ≡ self.old) }
-    {
-        let off = registers_aside(alloc, &self.remote, &self.local)?;
-        let on = registers_aside(alloc, &self.remote_panel, &self.local_panel)?;
-        self.put_parts(off, on);
-        Ok(())
-    }
-
-    /// Everything is forgotten, the panel only where hands are allowed.
-    pub(crate) fn forget_all(&mut self, alloc: Global, hands: Hands) -> Result<(), AllocError>
-        ensures ok { OnOk result (self.new ≡ after_forgetting_all hands self.old) }
+    /// Everything is forgotten, the panel too.
+    fn forget_all(&mut self, alloc: Global) -> Result<(), AllocError>
+        ensures ok { OnOk result (self.new ≡ (if some_state self.old then first_states Hands.Allowed else self.old)) }
         ensures err { OnErr result (self.new ≡ self.old) }
     {
         if self.is_some() {
-            *self = States::first(alloc, hands)?;
+            *self = States::first(alloc, Hands::Allowed)?;
         }
         Ok(())
     }
+}
 
-    /// Puts parts in place that were made aside: those with the panel off, and those with the panel on.
-    fn put_parts(&mut self, off: TwoAside<S>, on: TwoAside<S>)
-        ensures { self.new ≡ record {
-          remote = put_part off.0 self.old.remote;
-          local = put_part off.1 self.old.local;
-          remote_panel = put_part on.0 self.old.remote_panel;
-          local_panel = put_part on.1 self.old.local_panel;
-        } }
-    {
-        let (remote, local) = off;
-        self.remote.put_part(remote);
-        self.local.put_part(local);
-        let (remote, local) = on;
-        self.remote_panel.put_part(remote);
-        self.local_panel.put_part(local);
+/// The effect of a command, if its reply is no NAK.
+fn acknowledged(command: &Command, reply: &Block) -> Effect
+    ensures { result ≡ acknowledged command.now reply.now }
+{
+    if is_nak(reply) {
+        Effect::Nothing
+    } else {
+        Effect::of(command)
     }
 }
 
 impl States<SpanSet> {
     /// The greatest number of spans of a register's times in any part.
     pub(crate) fn spans(&self, register: Register) -> usize
-        ensures { result ≡ max (max (span_count (entries_of register self.now.remote).times) (span_count (entries_of register self.now.local).times)) (max (span_count (entries_of register self.now.remote_panel).times) (span_count (entries_of register self.now.local_panel).times)) }
+        ensures { result ≡ max (max (span_count (entries_of register (part_of self.now false false)).times) (span_count (entries_of register (part_of self.now true false)).times)) (max (span_count (entries_of register (part_of self.now false true)).times) (span_count (entries_of register (part_of self.now true true)).times)) }
     {
-        let off = self.remote.spans(register).max(self.local.spans(register));
-        let on = self
-            .remote_panel
-            .spans(register)
-            .max(self.local_panel.spans(register));
-        off.max(on)
+        let off = self.off.spans(register);
+        match &self.on {
+            Some(on) => off.max(on.spans(register)),
+            None => off,
+        }
     }
-}
-
-/// Parts of remote and of local that were made aside, where there is a state.
-type TwoAside<S> = (Option<Part<S>>, Option<Part<S>>);
-
-/// Every state, or none, of remote and of local.
-fn all_or_none<S: TimeSet>(alloc: Global, all: bool) -> Result<(Part<S>, Part<S>), AllocError>
-    ensures { IfOk result (λ parts. (parts.0 ≡ (if all then all_states else no_states))
-        × (parts.1 ≡ (if all then all_states else no_states))) }
-{
-    if !all {
-        return Ok((Part::none(alloc), Part::none(alloc)));
-    }
-    let remote = Part::all(alloc)?;
-    Ok((remote, Part::all(alloc)?))
-}
-
-/// Equal parts.
-fn copies<S: TimeSet>(remote: &Part<S>, local: &Part<S>) -> Result<(Part<S>, Part<S>), AllocError>
-    ensures { IfOk result (λ parts. (parts.0 ≡ remote.now) × (parts.1 ≡ local.now)) }
-{
-    let remote = remote.copy()?;
-    Ok((remote, local.copy()?))
-}
-
-/// Every state aside, for each part that has one.
-fn tape_aside<S: TimeSet>(
-    alloc: Global,
-    remote: &Part<S>,
-    local: &Part<S>,
-) -> Result<TwoAside<S>, AllocError>
-    ensures { IfOk result (λ parts. (parts.0 ≡ aside remote.now all_states)
-        × (parts.1 ≡ aside local.now all_states)) }
-{
-    let remote = remote.forget_tape_aside(alloc)?;
-    Ok((remote, local.forget_tape_aside(alloc)?))
-}
-
-/// The pairs of each part with any entries aside, where it has a state.
-fn registers_aside<S: TimeSet>(
-    alloc: Global,
-    remote: &Part<S>,
-    local: &Part<S>,
-) -> Result<TwoAside<S>, AllocError>
-    ensures { IfOk result (λ parts. (parts.0 ≡ aside remote.now (forgotten_part remote.now))
-        × (parts.1 ≡ aside local.now (forgotten_part local.now))) }
-{
-    let remote = remote.forget_registers_aside(alloc)?;
-    Ok((remote, local.forget_registers_aside(alloc)?))
-}
-
-/// Entries of a register, of remote and of local, that were made aside, where there is a state.
-type TwoEntries<S> = (Option<RegisterSet<S>>, Option<RegisterSet<S>>);
-
-/// What becomes of a register's entries, or may in local, in sets of their own.
-fn changes_aside<S: TimeSet>(
-    alloc: Global,
-    register: Register,
-    change: &Change,
-    remote: &Part<S>,
-    local: &Part<S>,
-) -> Result<TwoEntries<S>, AllocError>
-    ensures { IfOk result (λ sets. (sets.0 ≡ aside remote.now (changed_entries false change.now (entries_of register remote.now)))
-        × (sets.1 ≡ aside local.now (changed_entries true change.now (entries_of register local.now)))) }
-{
-    let remote = remote.change_aside(alloc, false, register, change)?;
-    Ok((remote, local.change_aside(alloc, true, register, change)?))
-}
-
-/// The entries of a register that agree with a time that was read, in sets of their own.
-fn senses_aside<S: TimeSet>(
-    alloc: Global,
-    register: Register,
-    time: &Option<TimeCode>,
-    remote: &Part<S>,
-    local: &Part<S>,
-) -> Result<TwoEntries<S>, AllocError>
-    ensures { IfOk result (λ sets. (sets.0 ≡ aside remote.now (agreeing time.now (entries_of register remote.now)))
-        × (sets.1 ≡ aside local.now (agreeing time.now (entries_of register local.now)))) }
-{
-    let remote = remote.sense_aside(alloc, register, time)?;
-    Ok((remote, local.sense_aside(alloc, register, time)?))
 }

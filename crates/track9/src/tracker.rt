@@ -26,7 +26,6 @@ use tc25::{SpanSet, TimeSet};
 #[derive(Drop)]
 pub struct Tracker<S: TimeSet> {
     states: States<S>,
-    hands: Hands,
     presets: Presets,
     alloc: Global,
 }
@@ -39,11 +38,11 @@ impl<S: TimeSet> Model for Tracker<S> {
 
     ghost coded = { tracked_code };
 
-    ghost use Rattle.track9.specs.Working.States.{IsKept};
+    ghost use Rattle.track9.specs.Working.States.{IsKept, hands_of};
 
-    ghost view = { λ t. record { states = t.states; hands = t.hands; presets = t.presets } };
+    ghost view = { λ t. record { states = t.states; hands = hands_of t.states; presets = t.presets } };
 
-    ghost invariant = { λ t. IsKept t.hands t.presets t.states };
+    ghost invariant = { λ t. IsKept t.presets t.states };
 }
 
 impl<S: TimeSet> Tracker<S> {
@@ -58,8 +57,7 @@ impl<S: TimeSet> Tracker<S> {
     {
         Ok(Tracker {
             states: States::first(alloc, hands)?,
-            hands,
-            presets: Presets::default(),
+            presets: Presets::none(),
             alloc,
         })
     }
@@ -83,8 +81,7 @@ impl<S: TimeSet> Tracker<S> {
         ensures unchanged { IfErr result (λ e. self.new ≡ self.old) }
         ensures frugal { self.old.hands ≡ Hands.None → IsTrue (is_frugal command.now reply.now) → IsOk result }
     {
-        self.states
-            .exchange(self.alloc, self.hands, command, reply)?;
+        self.states.exchange(self.alloc, command, reply)?;
         let remains = self.states.is_some();
         self.presets.count_exchange(command, reply, remains);
         Ok(remains)
@@ -105,8 +102,7 @@ impl<S: TimeSet> Tracker<S> {
     {
         Ok(Tracker {
             states: self.states.copy()?,
-            hands: self.hands,
-            presets: self.presets,
+            presets: self.presets.copy(),
             alloc: self.alloc,
         })
     }
@@ -126,7 +122,7 @@ impl<S: TimeSet> Tracker<S> {
         ensures some { IfSome result (λ s. Possible self.now.states s × Exchanges self.now.hands command.now reply.now s target.now) }
         ensures none { IfNone result (¬ ((s : AState) × Possible self.now.states s × Exchanges self.now.hands command.now reply.now s target.now)) }
     {
-        self.states.before(self.hands, command, reply, target)
+        self.states.before(command, reply, target)
     }
 
     /// What all possible states agree on, field by field. There has to be one (`remains`). Takes no memory.

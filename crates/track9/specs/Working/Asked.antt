@@ -2,9 +2,9 @@
 use Rattle.std.specs.Prelude.{◌≡◌, ◌==◌, if◌then◌else◌, Bool, true, false, ⊤, Option, Some, None, option_map}
 use Rattle.tc25.specs.Day.{next_frame, prev_frame}
 use Rattle.track9.specs.declared.asked.Asked.{Asked}
+use Rattle.block9.specs.declared.command.Command.{Command}
 use Rattle.deck9.specs.declared.effect.Change.{Change}
 use Rattle.deck9.specs.declared.effect.Change.TheVariants.{SetSomewhere, SetAt, Next, Prev, Reset, Recall}
-use Rattle.block9.specs.declared.command.Command.{Command}
 use Rattle.deck9.specs.declared.effect.Effect.{Effect}
 use Rattle.deck9.specs.declared.effect.Effect.TheVariants as effect
 use Rattle.deck9.specs.declared.mode.Mode.{Mode}

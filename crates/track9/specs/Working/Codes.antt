@@ -1,14 +1,14 @@
 -- How the values that models show are stored.
-use Rattle.std.specs.Prelude.{ℕ, ◌≡◌, Bool, true, false, if◌then◌else◌, List, refl}
-use Rattle.std.specs.Coded.{Coded, code_by, coded×, coded_ℕ, coded_bool, coded_list}
+use Rattle.std.specs.Prelude.{ℕ, ◌≡◌, Bool, true, false, if◌then◌else◌, List, Option, refl}
+use Rattle.std.specs.Coded.{Coded, code_by, coded×, coded_ℕ, coded_bool, coded_list, coded_option}
 use Rattle.std.specs.FinSet as set
 use Rattle.tc25.specs.Times.{Times}
 use Rattle.track9.specs.declared.mode_set.ModeSet.{ModeSet}
 use Rattle.track9.specs.declared.pairs.Pairs.{Pairs}
-use Rattle.track9.specs.declared.presets.Presets.{Presets}
+use Rattle.track9.specs.Presets.{Presets}
 use Rattle.deck9.specs.declared.state.Hands.{Hands}
 use Rattle.deck9.specs.declared.state.Hands.TheVariants as hands
-use Rattle.track9.specs.Tracker.{Entries, PartStates, StateSet, Tracked}
+use Rattle.track9.specs.Tracker.{Entries, PartStates, StateSet, Tracked, TwoParts}
 
 abbrev pub entries_code : Coded Entries
 entries_code = code_by (Bool × Times) (coded× coded_bool (set.code coded_ℕ)) (λ e. (e.may_clear, e.times)) (λ p. record { may_clear = p.0; times = p.1 }) (λ _. refl)
@@ -24,10 +24,11 @@ part_code =
     code_by (Pairs × (Entries × (Entries × (Entries × Entries)))) (coded× pairs_code (coded× entries_code (coded× entries_code (coded× entries_code entries_code))))
     (λ p. (p.pairs, (p.ins, (p.outs, (p.ains, p.aouts))))) (λ p. record { pairs = p.0; ins = p.1.0; outs = p.1.1.0; ains = p.1.1.1.0; aouts = p.1.1.1.1 }) (λ _. refl)
 
+abbrev pub two_code : Coded TwoParts
+two_code = code_by (PartStates × PartStates) (coded× part_code part_code) (λ h. (h.remote, h.local)) (λ p. record { remote = p.0; local = p.1 }) (λ _. refl)
+
 abbrev pub states_code : Coded StateSet
-states_code =
-    code_by (PartStates × (PartStates × (PartStates × PartStates))) (coded× part_code (coded× part_code (coded× part_code part_code)))
-    (λ v. (v.remote, (v.local, (v.remote_panel, v.local_panel)))) (λ p. record { remote = p.0; local = p.1.0; remote_panel = p.1.1.0; local_panel = p.1.1.1 }) (λ _. refl)
+states_code = code_by (TwoParts × Option TwoParts) (coded× two_code (coded_option two_code)) (λ v. (v.off, v.on)) (λ p. record { off = p.0; on = p.1 }) (λ _. refl)
 
 abbrev pub is_allowed : Hands → Bool
 is_allowed hands.None = false

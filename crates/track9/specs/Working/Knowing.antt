@@ -11,9 +11,10 @@ use Rattle.deck9.specs.declared.state.Entry.TheVariants.{Clear, At}
 use Rattle.deck9.specs.declared.state.Register.{Register}
 use Rattle.track9.specs.ModeSet.{has}
 use Rattle.deck9.specs.State.{is_set}
-use Rattle.track9.specs.Tracker.{Allows, PartStates, StateSet, entries_of}
+use Rattle.track9.specs.Tracker.{Allows, PartStates, StateSet, TwoParts, entries_of}
 use Rattle.track9.specs.Working.Pairs.{either, goals_of, goes}
 use Rattle.track9.specs.Working.Parts.{is_live}
+use Rattle.track9.specs.Working.States.{two_of}
 
 -- ---- modes
 
@@ -23,11 +24,17 @@ KnowsModes set (known.Is m) = (n : Mode) → has set.0 n ≡ true → n ≡ m
 KnowsModes set known.Unknown = (m n : Mode) × (has set.0 m ≡ true) × (has set.0 n ≡ true) × (m ≢ n)
 
 -- all goals, and all shown modes
+abbrev pub two_goals : TwoParts → ModeSet
+two_goals h = either (goals_of h.remote.pairs) (goals_of h.local.pairs)
+
+abbrev pub two_shown : TwoParts → ModeSet
+two_shown h = either (goes h.remote.pairs) (goes h.local.pairs)
+
 abbrev pub goals_in : StateSet → ModeSet
-goals_in v = either (either (either (goals_of v.remote.pairs) (goals_of v.local.pairs)) (goals_of v.remote_panel.pairs)) (goals_of v.local_panel.pairs)
+goals_in v = either (two_goals (two_of v false)) (two_goals (two_of v true))
 
 abbrev pub shown_in : StateSet → ModeSet
-shown_in v = either (either (either (goes v.remote.pairs) (goes v.local.pairs)) (goes v.remote_panel.pairs)) (goes v.local_panel.pairs)
+shown_in v = either (two_shown (two_of v false)) (two_shown (two_of v true))
 
 -- ---- facts
 
@@ -64,3 +71,7 @@ join_options (Some k) (Some l) = Some (joined_known k l)
 abbrev pub PartKnows : PartStates → Register → Option KnownEntry → Type 0
 PartKnows p r None = is_live p ≡ false
 PartKnows p r (Some k) = (is_live p ≡ true) × KnowsOf (Allows (entries_of r p)) k
+
+-- what the parts of remote and of local tell together
+abbrev pub TwoKnow : TwoParts → Register → Option KnownEntry → Type 0
+TwoKnow h r o = (a b : Option KnownEntry) × PartKnows h.remote r a × PartKnows h.local r b × (o ≡ join_options a b)

@@ -90,11 +90,6 @@ abbrev pub put_settled : Register → Option Entries → PartStates → PartStat
 put_settled r None p = p
 put_settled r (Some es) p = settled (with_entries r es p)
 
--- a part that was made aside, in place
-abbrev pub put_part : Option PartStates → PartStates → PartStates
-put_part None p = p
-put_part (Some q) p = q
-
 -- ---- status
 
 -- a bit of a datum

@@ -3,187 +3,197 @@ use Rattle.std.specs.Prelude.{ℕ, ◌≡◌, ◌≤◌, ◌+◌, ◌⊎◌, ◌
 use Rattle.tc25.specs.Times.{BelowDay, begin_count}
 use Rattle.block9.specs.declared.block.Block.{Block}
 use Rattle.block9.specs.declared.command.Command.{Command}
+use Rattle.block9.specs.Command.{is_nak}
 use Rattle.deck9.specs.declared.effect.Change.{Change}
 use Rattle.deck9.specs.declared.effect.Change.TheVariants.{SetAt}
 use Rattle.deck9.specs.declared.effect.Effect.{Effect}
 use Rattle.deck9.specs.declared.effect.Effect.TheVariants as effect
 use Rattle.deck9.specs.declared.mode.Mode.{Mode}
 use Rattle.track9.specs.declared.mode_set.ModeSet.{ModeSet}
-use Rattle.track9.specs.declared.pairs.Pairs.{Pairs}
 use Rattle.deck9.specs.declared.state.Hands.{Hands}
 use Rattle.deck9.specs.declared.state.Hands.TheVariants as hands
-use Rattle.track9.specs.declared.presets.Presets.{Presets}
+use Rattle.track9.specs.Presets.{Presets}
 use Rattle.deck9.specs.declared.state.Register.{Register}
 use Rattle.deck9.specs.declared.state.State.{State}
-use Rattle.track9.specs.declared.states.LocalFits.{LocalFits}
-use Rattle.deck9.specs.Effect.{Does}
+use Rattle.track9.specs.declared.halves.LocalFits.{LocalFits}
+use Rattle.deck9.specs.Effect.{Does, effect_of}
 use Rattle.deck9.specs.Laws.{is_of_goal_or_register}
 use Rattle.track9.specs.Presets.{count_of, presets_after, with_one}
 use Rattle.deck9.specs.Shows.{ShowsStatus}
-use Rattle.deck9.specs.Step.{AreReached, Exchanges, Step}
-use Rattle.track9.specs.Tracker.{PartStates, Possible, StateSet, entries_of, part_of}
-use Rattle.track9.specs.Working.Codes.{is_allowed}
+use Rattle.deck9.specs.Step.{AreReached, Exchanges}
+use Rattle.track9.specs.Tracker.{InPart, PartStates, Possible, StateSet, TwoParts, entries_of, in_local}
 use Rattle.track9.specs.Working.Entries.{agreeing}
-use Rattle.track9.specs.Working.Parts.{Whole, all_states, aside, changed_entries, changed_part, drifted_part, forgotten_part, gone_part, is_live, no_states, put_aside, put_part, put_settled, status_part, where_live}
+use Rattle.track9.specs.Working.Parts.{Whole, all_states, aside, changed_entries, changed_part, drifted_part, forgotten_part, gone_part, is_live, no_states, put_aside, put_settled, status_part, where_live}
 
--- what is true of each part of the states that a tracker keeps
-pub record AreWhole (v : StateSet) : Type 0 where
-  pub remote : Whole v.remote
-  pub local : Whole v.local
-  pub remote_panel : Whole v.remote_panel
-  pub local_panel : Whole v.local_panel
+-- ---- the states with one value of the panel
 
--- all times that a set keeps are times of the day
-abbrev pub AreBelow : StateSet → Type 0
-AreBelow v = (l pn : Bool) (r : Register) → BelowDay (entries_of r (part_of v l pn)).times
-
--- each part changes by its value of local
-abbrev pub map_parts : (Bool → PartStates → PartStates) → StateSet → StateSet
-map_parts f v = record {
-  remote = f false v.remote;
-  local = f true v.local;
-  remote_panel = f false v.remote_panel;
-  local_panel = f true v.local_panel;
-}
-
--- there is a state with the panel on
-abbrev pub is_panel_live : StateSet → Bool
-is_panel_live v = is_live v.remote_panel || is_live v.local_panel
+-- no state, or every state
+abbrev pub all_or_none : Bool → TwoParts
+all_or_none true = record { remote = all_states; local = all_states }
+all_or_none false = record { remote = no_states; local = no_states }
 
 -- there is a state
-abbrev pub some_state : StateSet → Bool
-some_state v = is_live v.remote || is_live v.local || is_panel_live v
+abbrev pub some_two : TwoParts → Bool
+some_two h = is_live h.remote || is_live h.local
 
--- no state has the panel on where hands are not allowed
-abbrev pub IsHandled : Hands → StateSet → Type 0
-IsHandled h v = h ≡ hands.None → is_panel_live v ≡ false
+-- a state is one of these, with this value of the panel
+abbrev pub InTwo : Bool → TwoParts → State → Type 0
+InTwo pn h s = (s.panel ≡ pn) × InPart (in_local h s.local) s
 
--- with the panel on there is every state, or none: so it is after a drift
-abbrev pub IsSettled : StateSet → Type 0
-IsSettled v = is_panel_live v ≡ true → (l : Bool) → part_of v l true ≡ all_states
+-- what is true of both parts
+pub record TwoWhole (h : TwoParts) : Type 0 where
+  pub remote : Whole h.remote
+  pub local : Whole h.local
+
+abbrev pub TwoBelow : TwoParts → Type 0
+TwoBelow h = (l : Bool) (r : Register) → BelowDay (entries_of r (in_local h l)).times
 
 -- in each part the times of a register begin at most once more than there were presets to it
-abbrev pub AreFew : Presets → StateSet → Type 0
-AreFew n v = (l pn : Bool) (r : Register) → begin_count (entries_of r (part_of v l pn)).times ≤ count_of r n + 1
+abbrev pub TwoFew : Presets → TwoParts → Type 0
+TwoFew n h = (l : Bool) (r : Register) → begin_count (entries_of r (in_local h l)).times ≤ count_of r n + 1
 
--- the states before the capture
-abbrev pub first_states : Hands → StateSet
-first_states h = record {
-  remote = all_states;
-  local = all_states;
-  remote_panel = if is_allowed h then all_states else no_states;
-  local_panel = if is_allowed h then all_states else no_states;
+-- each part changes by its value of local
+abbrev pub map_two : (Bool → PartStates → PartStates) → TwoParts → TwoParts
+map_two f h = record { remote = f false h.remote; local = f true h.local }
+
+-- a drift of the mechanics
+abbrev pub two_drifted : TwoParts → TwoParts
+two_drifted h = map_two (λ local. drifted_part) h
+
+-- the deck goes for this goal, or leaves it where it may
+abbrev pub two_gone : Bool → Mode → TwoParts → TwoParts
+two_gone may_stay goal h = map_two (λ local. where_live (gone_part (may_stay || local) goal)) h
+
+-- a register changes: in place in the part whose sets may be large, and aside in the other
+abbrev pub two_changed : Register → Change → TwoParts → TwoParts
+two_changed r c h = record {
+  remote = put_aside r (aside h.remote (changed_entries false c (entries_of r h.remote))) h.remote;
+  local = where_live (changed_part true r c) h.local;
 }
 
--- after a drift: with the panel on, a hand may have done anything
-abbrev pub after_drift : StateSet → StateSet
-after_drift v = record {
-  remote = drifted_part v.remote;
-  local = drifted_part v.local;
-  remote_panel = if is_panel_live v then all_states else v.remote_panel;
-  local_panel = if is_panel_live v then all_states else v.local_panel;
-}
-
--- the states that something was replaced in
-abbrev pub undone : Pairs → Pairs → Option (PartStates × PartStates) → StateSet → StateSet
-undone remote local None v = record v { remote = record v.remote { pairs = remote }; local = record v.local { pairs = local } }
-undone remote local (Some (a, b)) v = record {
-  remote = record v.remote { pairs = remote };
-  local = record v.local { pairs = local };
-  remote_panel = a;
-  local_panel = b;
-}
-
--- ---- what steps do
-
-abbrev pub after_goal : Bool → Mode → StateSet → StateSet
-after_goal may_stay goal v = map_parts (λ local. where_live (gone_part (may_stay || local) goal)) v
-
--- a register changes: in place in the one part whose sets may be large, and aside in the others
-abbrev pub changed_aside : Bool → Register → Change → PartStates → PartStates
-changed_aside may_stay r c p = put_aside r (aside p (changed_entries may_stay c (entries_of r p))) p
-
-abbrev pub after_change : Register → Change → StateSet → StateSet
-after_change r c v = record {
-  remote = changed_aside false r c v.remote;
-  local = where_live (changed_part true r c) v.local;
-  remote_panel = changed_aside false r c v.remote_panel;
-  local_panel = changed_aside true r c v.local_panel;
-}
-
+-- a register's time was read
 abbrev pub sensed_aside : Register → Option ℕ → PartStates → PartStates
 sensed_aside r time p = put_settled r (aside p (agreeing time (entries_of r p))) p
 
-abbrev pub after_sense : Register → Option ℕ → StateSet → StateSet
-after_sense r time v = map_parts (λ local. sensed_aside r time) v
+abbrev pub two_sensed : Register → Option ℕ → TwoParts → TwoParts
+two_sensed r time h = map_two (λ local. sensed_aside r time) h
 
 -- status data agree with some states
-abbrev pub after_status : LocalFits → ModeSet → Option ℕ → StateSet → StateSet
-after_status agrees mask datum v =
-    map_parts (λ local. where_live (status_part (if local then agrees.local else agrees.remote) mask datum)) v
+abbrev pub two_status : LocalFits → ModeSet → Option ℕ → TwoParts → TwoParts
+two_status agrees mask datum h =
+    map_two (λ local. where_live (status_part (if local then agrees.local else agrees.remote) mask datum)) h
 
--- the panel is switched on or off: with the panel on, a drift has left every state or none
-abbrev pub after_panel : Bool → StateSet → StateSet
-after_panel true v = record {
-  remote = no_states;
-  local = no_states;
-  remote_panel = if is_panel_live v then v.remote_panel else v.remote;
-  local_panel = if is_panel_live v then v.local_panel else v.local;
-}
-after_panel false v = record {
-  remote = if is_panel_live v then v.remote_panel else v.remote;
-  local = if is_panel_live v then v.local_panel else v.local;
-  remote_panel = no_states;
-  local_panel = no_states;
-}
+-- what is forgotten
+abbrev pub tape_forgotten : TwoParts → TwoParts
+tape_forgotten h = map_two (λ local. where_live (λ p. all_states)) h
 
-abbrev pub after_forgetting_tape : StateSet → StateSet
-after_forgetting_tape v = map_parts (λ local p. put_part (aside p all_states) p) v
+abbrev pub registers_forgotten : TwoParts → TwoParts
+registers_forgotten h = map_two (λ local. where_live forgotten_part) h
 
-abbrev pub after_forgetting_registers : StateSet → StateSet
-after_forgetting_registers v = map_parts (λ local p. put_part (aside p (forgotten_part p)) p) v
+abbrev pub all_forgotten : TwoParts → TwoParts
+all_forgotten h = if some_two h then all_or_none true else h
 
-abbrev pub after_forgetting_all : Hands → StateSet → StateSet
-after_forgetting_all h v = if some_state v then first_states h else v
-
--- ---- whole steps
-
--- an effect, or a deck in local that leaves it undone
-abbrev pub DoesOrNot : Hands → Effect → State → State → Type 0
-DoesOrNot h e s t = Does h e s t ⊎ ((is_of_goal_or_register e ≡ true) × (s.local ≡ true) × (t ≡ s))
+-- an effect where nobody touches the panel, or a deck in local that leaves it undone
+abbrev pub DoesOrNot : Effect → State → State → Type 0
+DoesOrNot e s t = Does hands.None e s t ⊎ ((is_of_goal_or_register e ≡ true) × (s.local ≡ true) × (t ≡ s))
 
 -- the counts after an effect
 abbrev pub counted : Effect → Presets → Presets
 counted (effect.Change r (SetAt t)) n = with_one r n
 counted _ n = n
 
--- the states after an effect
-pub record HasEffect (h : Hands) (e : Effect) (v w : StateSet) : Type 0 where
-  pub reached : AreReached (Possible v) (DoesOrNot h e) (Possible w)
-  pub whole : AreWhole w
-  pub few : (n : Presets) → AreFew n v → AreFew (counted e n) w
+-- the states after what leads from a state to others
+pub record LeadsOn (Goes : State → State → Type 0) (count : Presets → Presets) (h g : TwoParts) : Type 0 where
+  pub reached : (pn : Bool) → AreReached (InTwo pn h) Goes (InTwo pn g)
+  pub whole : TwoWhole g
+  pub few : (n : Presets) → TwoFew n h → TwoFew (count n) g
 
--- the states after a step
-pub record StepsTo (h : Hands) (command : Command) (reply : Block) (v w : StateSet) : Type 0 where
-  pub reached : AreReached (Possible v) (Step h command reply) (Possible w)
-  pub whole : AreWhole w
-  pub few : (n : Presets) → AreFew n v → AreFew (presets_after command reply true n) w
+-- the states after an effect
+abbrev pub HasEffect : Effect → TwoParts → TwoParts → Type 0
+HasEffect e h g = LeadsOn (DoesOrNot e) (counted e) h g
 
 -- the states after status data were read
-pub record ReadsStatus (asked : ℕ) (reply : Block) (v w : StateSet) : Type 0 where
-  pub reached : AreReached (Possible v) (λ s t. ShowsStatus s asked reply × (t ≡ s)) (Possible w)
-  pub whole : AreWhole w
-  pub few : (n : Presets) → AreFew n v → AreFew n w
+abbrev pub ReadsStatus : ℕ → Block → TwoParts → TwoParts → Type 0
+ReadsStatus asked reply h g = LeadsOn (λ s t. ShowsStatus s asked reply × (t ≡ s)) (λ n. n) h g
+
+-- the states after an exchange where nobody touches the panel
+abbrev pub Exchanged : Command → Block → TwoParts → TwoParts → Type 0
+Exchanged command reply h g = LeadsOn (Exchanges hands.None command reply) (presets_after command reply true) h g
+
+-- ---- all states
+
+-- whether hands are allowed
+abbrev pub hands_by : Option TwoParts → Hands
+hands_by None = hands.None
+hands_by (Some h) = hands.Allowed
+
+abbrev pub hands_of : StateSet → Hands
+hands_of v = hands_by v.on
+
+-- those with this value of the panel
+abbrev pub on_two : Option TwoParts → TwoParts
+on_two None = all_or_none false
+on_two (Some h) = h
+
+abbrev pub two_of : StateSet → Bool → TwoParts
+two_of v false = v.off
+two_of v true = on_two v.on
+
+-- the part of the states with these values of local and of panel
+abbrev pub part_of : StateSet → Bool → Bool → PartStates
+part_of v l pn = in_local (two_of v pn) l
+
+-- what is true of each part
+pub record AreWhole (v : StateSet) : Type 0 where
+  pub off : TwoWhole v.off
+  pub on : TwoWhole (on_two v.on)
+
+pub record AreBelow (v : StateSet) : Type 0 where
+  pub off : TwoBelow v.off
+  pub on : TwoBelow (on_two v.on)
+
+abbrev pub AreFew : Presets → StateSet → Type 0
+AreFew n v = (pn : Bool) → TwoFew n (two_of v pn)
+
+-- there is a state with the panel on
+abbrev pub is_panel_live : StateSet → Bool
+is_panel_live v = some_two (on_two v.on)
+
+-- there is a state
+abbrev pub some_state : StateSet → Bool
+some_state v = some_two v.off || is_panel_live v
+
+-- the states before the capture
+abbrev pub first_states : Hands → StateSet
+first_states hands.None = record { off = all_or_none true; on = None }
+first_states hands.Allowed = record { off = all_or_none true; on = Some (all_or_none true) }
+
+-- the effect of a command, if its reply is no NAK
+abbrev pub acknowledged : Command → Block → Effect
+acknowledged command reply = if is_nak reply then effect.Nothing else effect_of command
+
+-- an effect to which a hand on the panel makes a difference
+abbrev pub is_wide : Effect → Bool
+is_wide (effect.Panel on) = true
+is_wide effect.ForgetAll = true
+is_wide _ = false
+
+-- the panel is switched on or off, after a drift: where it may have been on, a hand may have done anything
+abbrev pub switched : Bool → TwoParts → StateSet
+switched true h = record { off = all_or_none false; on = Some h }
+switched false h = record { off = h; on = Some (all_or_none false) }
+
+abbrev pub after_panel : Bool → StateSet → StateSet
+after_panel on v = switched on (if is_panel_live v then all_or_none true else two_drifted v.off)
 
 -- what holds inside a tracker
-pub record IsKept (h : Hands) (n : Presets) (v : StateSet) : Type 0 where
+pub record IsKept (n : Presets) (v : StateSet) : Type 0 where
   pub whole : AreWhole v
-  pub handled : IsHandled h v
   pub few : AreFew n v
 
 -- the states after an exchange
 pub record Follows (h : Hands) (command : Command) (reply : Block) (v w : StateSet) : Type 0 where
   pub reached : AreReached (Possible v) (Exchanges h command reply) (Possible w)
+  pub hands : hands_of w ≡ h
   pub whole : AreWhole w
-  pub handled : IsHandled h w
   pub few : (n : Presets) → AreFew n v → AreFew (presets_after command reply true n) w

@@ -1,12 +1,13 @@
 //! What all states of a set agree on.
-ghost use Rattle.std.specs.Prelude.{◌≡◌, ◌||◌, true};
+ghost use Rattle.std.specs.Prelude.{◌≡◌, ◌||◌, false, true};
 ghost use Rattle.track9.specs.Knowledge.{IsKnown, IsKnownEntry};
 ghost use Rattle.track9.specs.Tracker.{Possible};
-ghost use Rattle.track9.specs.Working.Knowing.{goals_in, join_options, known_fact, shown_in};
+ghost use Rattle.track9.specs.Working.Knowing.{TwoKnow, goals_in, join_options, known_fact, shown_in, two_goals, two_shown};
 ghost use Rattle.track9.specs.Working.Parts.{is_live};
-ghost use Rattle.track9.specs.Working.States.{AreWhole, some_state};
+ghost use Rattle.track9.specs.Working.States.{AreWhole, TwoWhole, part_of, some_state, two_of};
 ghost use Rattle.deck9.specs.declared.state.State.{State as AState};
 
+use crate::halves::Halves;
 use crate::knowledge::{Known, KnownEntry};
 use crate::mode_set::ModeSet;
 use crate::states::States;
@@ -38,12 +39,8 @@ impl<S: TimeSet> States<S> {
         requires some { some_state self.now ≡ true }
         ensures { IsKnownEntry (Possible self.now) register result }
     {
-        let remote = self.remote.known(register);
-        let local = self.local.known(register);
-        let remote_panel = self.remote_panel.known(register);
-        let local_panel = self.local_panel.known(register);
-        let off = join_known(&remote, &local);
-        let on = join_known(&remote_panel, &local_panel);
+        let off = self.off.known(register);
+        let on = self.known_on(register);
         let all = join_known(&off, &on);
         match all {
             Some(known) => known,
@@ -66,52 +63,86 @@ impl<S: TimeSet> States<S> {
         requires some { some_state self.now ≡ true }
         ensures { IsKnown (Possible self.now) (λ (s : AState). s.panel) result }
     {
-        known_fact(self.is_off_live(), self.is_panel_live())
+        known_fact(self.off.is_some(), self.is_panel_live())
+    }
+
+    /// What is known of a register with the panel on: None where there is no such state.
+    fn known_on(&self, register: Register) -> Option<KnownEntry>
+        requires { AreWhole self.now }
+        ensures { TwoKnow (two_of self.now true) register result }
+    {
+        match &self.on {
+            Some(on) => on.known(register),
+            None => None,
+        }
     }
 
     /// Whether there is a state in remote.
     fn is_remote_live(&self) -> bool
-        ensures { result ≡ (is_live self.now.remote || is_live self.now.remote_panel) }
+        ensures { result ≡ (is_live (part_of self.now false false) || is_live (part_of self.now false true)) }
     {
-        self.remote.is_live() || self.remote_panel.is_live()
+        match &self.on {
+            Some(on) => self.off.remote.is_live() || on.remote.is_live(),
+            None => self.off.remote.is_live(),
+        }
     }
 
     /// Whether there is a state in local.
     fn is_local_live(&self) -> bool
-        ensures { result ≡ (is_live self.now.local || is_live self.now.local_panel) }
+        ensures { result ≡ (is_live (part_of self.now true false) || is_live (part_of self.now true true)) }
     {
-        self.local.is_live() || self.local_panel.is_live()
-    }
-
-    /// Whether there is a state with the panel off.
-    fn is_off_live(&self) -> bool
-        ensures { result ≡ (is_live self.now.remote || is_live self.now.local) }
-    {
-        self.remote.is_live() || self.local.is_live()
+        match &self.on {
+            Some(on) => self.off.local.is_live() || on.local.is_live(),
+            None => self.off.local.is_live(),
+        }
     }
 
     /// The goals of all states.
     fn goals(&self) -> ModeSet
         ensures { result ≡ goals_in self.now }
     {
-        self.remote
-            .pairs()
-            .goals()
-            .or(self.local.pairs().goals())
-            .or(self.remote_panel.pairs().goals())
-            .or(self.local_panel.pairs().goals())
+        match &self.on {
+            Some(on) => self.off.goals().or(on.goals()),
+            None => self.off.goals().or(ModeSet::NONE),
+        }
     }
 
     /// The modes that all states show.
     fn shown(&self) -> ModeSet
         ensures { result ≡ shown_in self.now }
     {
-        self.remote
-            .pairs()
-            .all_shown()
-            .or(self.local.pairs().all_shown())
-            .or(self.remote_panel.pairs().all_shown())
-            .or(self.local_panel.pairs().all_shown())
+        match &self.on {
+            Some(on) => self.off.shown().or(on.shown()),
+            None => self.off.shown().or(ModeSet::NONE),
+        }
+    }
+}
+
+impl<S: TimeSet> Halves<S> {
+    /// What is known of a register: None where there is no state.
+    fn known(&self, register: Register) -> Option<KnownEntry>
+        requires { TwoWhole self.now }
+        ensures { TwoKnow self.now register result }
+    {
+        let remote = self.remote.known(register);
+        let local = self.local.known(register);
+        join_known(&remote, &local)
+    }
+
+    /// The goals of all states.
+    fn goals(&self) -> ModeSet
+        ensures { result ≡ two_goals self.now }
+    {
+        let local = self.local.pairs().goals();
+        self.remote.pairs().goals().or(local)
+    }
+
+    /// The modes that all states show.
+    fn shown(&self) -> ModeSet
+        ensures { result ≡ two_shown self.now }
+    {
+        let local = self.local.pairs().all_shown();
+        self.remote.pairs().all_shown().or(local)
     }
 }
 

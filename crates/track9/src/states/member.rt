@@ -2,9 +2,10 @@
 ghost use Rattle.std.specs.Prelude.{◌≡◌, IfNone, IfSome, false, true};
 ghost use Rattle.track9.specs.Tracker.{Possible};
 ghost use Rattle.track9.specs.Working.Parts.{HasState, Whole, is_live};
-ghost use Rattle.track9.specs.Working.States.{AreWhole};
+ghost use Rattle.track9.specs.Working.States.{AreWhole, InTwo, TwoWhole, is_panel_live, some_two, two_of};
 ghost use Rattle.deck9.specs.declared.state.State.{State as AState};
 
+use crate::halves::Halves;
 use crate::part::Part;
 use crate::states::States;
 use deck9::{Register, State};
@@ -17,21 +18,41 @@ impl<S: TimeSet> States<S> {
         ensures some { IfSome result (Possible self.now) }
         ensures none { IfNone result (¬ ((s : AState) × Possible self.now s)) }
     {
-        if let Some(state) = state_in(&self.remote, false, false) {
+        if let Some(state) = self.off.state(false) {
             return Some(state);
         }
-        if let Some(state) = state_in(&self.local, true, false) {
+        self.state_on()
+    }
+
+    /// Some state with the panel on, or none exactly where there is none.
+    pub(crate) fn state_on(&self) -> Option<State>
+        requires { AreWhole self.now }
+        ensures some { IfSome result (InTwo true (two_of self.now true)) }
+        ensures none { IfNone result (is_panel_live self.now ≡ false) }
+    {
+        match &self.on {
+            Some(on) => on.state(true),
+            None => None,
+        }
+    }
+}
+
+impl<S: TimeSet> Halves<S> {
+    /// Some state, with this value of the panel, or none exactly where there is none.
+    fn state(&self, panel: bool) -> Option<State>
+        requires { TwoWhole self.now }
+        ensures some { IfSome result (InTwo panel self.now) }
+        ensures none { IfNone result (some_two self.now ≡ false) }
+    {
+        if let Some(state) = state_in(&self.remote, false, panel) {
             return Some(state);
         }
-        if let Some(state) = state_in(&self.remote_panel, false, true) {
-            return Some(state);
-        }
-        state_in(&self.local_panel, true, true)
+        state_in(&self.local, true, panel)
     }
 }
 
 /// Some state of a part, with these values of local and of panel: none where the part has none.
-pub(crate) fn state_in<S: TimeSet>(part: &Part<S>, local: bool, panel: bool) -> Option<State>
+fn state_in<S: TimeSet>(part: &Part<S>, local: bool, panel: bool) -> Option<State>
     requires { Whole part.now }
     ensures some { IfSome result (HasState part.now local panel) }
     ensures none { IfNone result (is_live part.now ≡ false) }

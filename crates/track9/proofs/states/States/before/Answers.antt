@@ -2,6 +2,7 @@ use Rattle.std.proofs.Common.{◌∙◌, sym, ap, subst}
 use Rattle.std.proofs.lemmas.Bool.{false≢true}
 use Rattle.deck9.specs.Effect.{effect_of}
 use Rattle.track9.specs.Working.Asked.{IsAsked, LeadsTo, asked_before}
+use Rattle.track9.specs.Working.States.{hands_of}
 use Rattle.track9.proofs.AskedLemmas.{fits_self, found_state}
 use Rattle.track9.proofs.BeforeLemmas.{asked_leads, exchange_shows, if_none_so, if_some_so, nak_back, nak_leads, none_found, none_leads, undone_leads}
 use Rattle.track9.proofs.MemberLemmas.{if_none}
@@ -13,7 +14,7 @@ origin-requires-clause-asked g c = subst IsAsked (sym c.just.ensures) (c.args.ta
 pub returns-then-is_nak-clause-some : goal.returns-then-is_nak-clause-some
 returns-then-is_nak-clause-some g c =
     if_some_so c.origin.result
-    (λ s w. (w.0, nak_leads c.args.hands c.args.command.now c.args.reply.now s c.args.target.now (sym c.is_nak.ensures ∙ c.if-is_nak.true) (subst (λ a. LeadsTo c.args.hands a s) c.just.ensures w.1)))
+    (λ s w. (w.0, nak_leads (hands_of c.args.self.now) c.args.command.now c.args.reply.now s c.args.target.now (sym c.is_nak.ensures ∙ c.if-is_nak.true) (subst (λ a. LeadsTo (hands_of c.args.self.now) a s) c.just.ensures w.1)))
     c.origin.ensures.some
 
 pub returns-then-is_nak-clause-none : goal.returns-then-is_nak-clause-none
@@ -22,53 +23,53 @@ returns-then-is_nak-clause-none g c =
     none (
       w.0,
       w.1,
-      subst (λ a. LeadsTo c.args.hands a w.0) (sym c.just.ensures) (nak_back c.args.hands c.args.command.now c.args.reply.now w.0 c.args.target.now (sym c.is_nak.ensures ∙ c.if-is_nak.true) w.2),
+      subst (λ a. LeadsTo (hands_of c.args.self.now) a w.0) (sym c.just.ensures) (nak_back (hands_of c.args.self.now) c.args.command.now c.args.reply.now w.0 c.args.target.now (sym c.is_nak.ensures ∙ c.if-is_nak.true) w.2),
     ))
 
 pub returns-then-not-shows-clause-none : goal.returns-then-not-shows-clause-none
 returns-then-not-shows-clause-none g c = λ w.
-    let shown = exchange_shows c.args.hands c.args.command.now c.args.reply.now w.0 c.args.target.now (sym c.is_nak.ensures ∙ c.if-is_nak.false) w.2 in
+    let shown = exchange_shows (hands_of c.args.self.now) c.args.command.now c.args.reply.now w.0 c.args.target.now (sym c.is_nak.ensures ∙ c.if-is_nak.false) w.2 in
     false≢true (sym c.if-not-shows.true ∙ c.shows.ensures.1 shown)
 
 pub returns-in-Some-clause-some : goal.returns-in-Some-clause-some
 returns-in-Some-clause-some g c =
     let w = c.in-Some.ensures.some in (
       w.0,
-      undone_leads c.args.hands c.args.command.now c.args.reply.now c.in-Some.state c.args.target.now (sym c.is_nak.ensures ∙ c.if-is_nak.false) (c.shows.ensures.0 c.if-not-shows.false)
+      undone_leads (hands_of c.args.self.now) c.args.command.now c.args.reply.now c.in-Some.state c.args.target.now (sym c.is_nak.ensures ∙ c.if-is_nak.false) (c.shows.ensures.0 c.if-not-shows.false)
           w.1 w.2,
     )
 
 pub returns-in_err-asked-clause-none : goal.returns-in_err-asked-clause-none
 returns-in_err-asked-clause-none g c =
     let t = c.args.target.now in
-    let found = sym (c.before-2.ensures ∙ ap (λ e. asked_before c.args.hands e t) c.of-effect.ensures) ∙ c.in_err-asked.was in
+    let found = sym (c.before-2.ensures ∙ ap (λ h. asked_before h c.of-effect.result t) c.hands.ensures ∙ ap (λ e. asked_before (hands_of c.args.self.now) e t) c.of-effect.ensures) ∙ c.in_err-asked.was in
     if_none_so c.from_residual.result
-    (none_found c.args.hands c.args.command.now c.args.reply.now c.args.self.now t (sym c.is_nak.ensures ∙ c.if-is_nak.false) c.below_day.ensures
+    (none_found (hands_of c.args.self.now) c.args.command.now c.args.reply.now c.args.self.now t (sym c.is_nak.ensures ∙ c.if-is_nak.false) c.below_day.ensures
     c.in_default.ensures.none
     found)
 
 pub origin-requires-2-clause-asked : goal.origin-requires-2-clause-asked
 origin-requires-2-clause-asked g c =
     let t = c.args.target.now in
-    let found = sym (c.before-2.ensures ∙ ap (λ e. asked_before c.args.hands e t) c.of-effect.ensures) ∙ c.in_ok-asked.was in
-    found_state c.args.hands (effect_of c.args.command.now) t c.in_ok-asked.asked c.is_state.ensures found
+    let found = sym (c.before-2.ensures ∙ ap (λ h. asked_before h c.of-effect.result t) c.hands.ensures ∙ ap (λ e. asked_before (hands_of c.args.self.now) e t) c.of-effect.ensures) ∙ c.in_ok-asked.was in
+    found_state (hands_of c.args.self.now) (effect_of c.args.command.now) t c.in_ok-asked.asked c.is_state.ensures found
 
 pub returns-clause-some : goal.returns-clause-some
 returns-clause-some g c =
     let t = c.args.target.now in
-    let found = sym (c.before-2.ensures ∙ ap (λ e. asked_before c.args.hands e t) c.of-effect.ensures) ∙ c.in_ok-asked.was in
+    let found = sym (c.before-2.ensures ∙ ap (λ h. asked_before h c.of-effect.result t) c.hands.ensures ∙ ap (λ e. asked_before (hands_of c.args.self.now) e t) c.of-effect.ensures) ∙ c.in_ok-asked.was in
     if_some_so c.origin-2.result
     (λ s w. (
       w.0,
-      asked_leads c.args.hands c.args.command.now c.args.reply.now s t c.in_ok-asked.asked (sym c.is_nak.ensures ∙ c.if-is_nak.false) (c.shows.ensures.0 c.if-not-shows.false) c.is_state.ensures found w.1,
+      asked_leads (hands_of c.args.self.now) c.args.command.now c.args.reply.now s t c.in_ok-asked.asked (sym c.is_nak.ensures ∙ c.if-is_nak.false) (c.shows.ensures.0 c.if-not-shows.false) c.is_state.ensures found w.1,
     ))
     c.origin-2.ensures.some
 
 pub returns-clause-none : goal.returns-clause-none
 returns-clause-none g c =
     let t = c.args.target.now in
-    let found = sym (c.before-2.ensures ∙ ap (λ e. asked_before c.args.hands e t) c.of-effect.ensures) ∙ c.in_ok-asked.was in
+    let found = sym (c.before-2.ensures ∙ ap (λ h. asked_before h c.of-effect.result t) c.hands.ensures ∙ ap (λ e. asked_before (hands_of c.args.self.now) e t) c.of-effect.ensures) ∙ c.in_ok-asked.was in
     if_none c.origin-2.result c.origin-2.ensures.none (λ none.
-    none_leads c.args.hands c.args.command.now c.args.reply.now c.args.self.now t c.in_ok-asked.asked (sym c.is_nak.ensures ∙ c.if-is_nak.false) c.below_day.ensures
+    none_leads (hands_of c.args.self.now) c.args.command.now c.args.reply.now c.args.self.now t c.in_ok-asked.asked (sym c.is_nak.ensures ∙ c.if-is_nak.false) c.below_day.ensures
     c.in_default.ensures.none
     found none)

@@ -1,15 +1,15 @@
-use Rattle.std.proofs.Common.{sym, subst}
-use Rattle.track9.specs.Working.States.{AreWhole, IsSettled}
-use Rattle.track9.proofs.PanelLemmas.{drift_settles}
-use Rattle.track9.proofs.StepLemmas.{drift_whole, follows}
+use Rattle.std.proofs.Common.{◌∙◌, OnOk, refl, ap, sym, subst}
+use Rattle.std.proofs.lemmas.Result.{on_ok_weaker}
+use Rattle.track9.specs.Tracker.{StateSet}
+use Rattle.track9.specs.Working.States.{AreWhole, Follows, hands_of}
+use Rattle.track9.proofs.PanelLemmas.{follows_off}
 use Rattle.track9.proofs.states.States.exchange.Goals as goal
 
-pub step-requires-clause-whole : goal.step-requires-clause-whole
-step-requires-clause-whole g c = subst AreWhole (sym c.in_ok-replaced.ensures.ok) (drift_whole c.args.self.now c.requires.whole)
-
-pub step-requires-clause-settled : goal.step-requires-clause-settled
-step-requires-clause-settled g c = subst IsSettled (sym c.in_ok-replaced.ensures.ok) (drift_settles c.args.self.now)
-
-pub returns-in-Ok-clause-ok : goal.returns-in-Ok-clause-ok
-returns-in-Ok-clause-ok g c =
-    follows c.args.hands c.args.command.now c.args.reply.now c.args.self.now c.drift.new.self c.step.new.self c.requires.whole c.below_day.ensures c.requires.handled c.in_ok-replaced.ensures.ok c.in-Ok.ensures.ok
+pub returns-in-None-clause-ok : goal.returns-in-None-clause-ok
+returns-in-None-clause-ok g c =
+    let v : StateSet = record { off = c.self.inside.off; on = c.self.inside.on } in
+    let w : StateSet = record { off = c.exchange.new.self; on = c.self.inside.on } in
+    let P : StateSet → Type 0 = λ v. OnOk c.exchange.result (Follows (hands_of v) c.args.command.now c.args.reply.now v w) in
+    subst P c.self.view_is
+    (on_ok_weaker c.exchange.result
+    (follows_off c.args.command.now c.args.reply.now v c.exchange.new.self w refl (ap hands_of c.self.view_is ∙ sym c.hands.ensures ∙ c.in-None.is) (subst AreWhole (sym c.self.view_is) c.requires)) c.exchange.ensures.ok)

@@ -6,28 +6,28 @@ use Rattle.track9.proofs.TrackerLemmas.{remaining_live}
 use Rattle.track9.proofs.tracker.Tracker.knowledge.Goals as goal
 
 pub known_goal-requires-clause-some : goal.known_goal-requires-clause-some
-known_goal-requires-clause-some g c = remaining_live c.args.self.now c.self.inside.states c.self.inside.hands c.self.inside.presets c.self.view_is c.requires
+known_goal-requires-clause-some g c = remaining_live c.args.self.now c.self.inside.states c.self.inside.presets c.self.view_is c.requires
 
 pub known_shown-requires-clause-some : goal.known_shown-requires-clause-some
-known_shown-requires-clause-some g c = remaining_live c.args.self.now c.self.inside.states c.self.inside.hands c.self.inside.presets c.self.view_is c.requires
+known_shown-requires-clause-some g c = remaining_live c.args.self.now c.self.inside.states c.self.inside.presets c.self.view_is c.requires
 
 pub known_entry-requires-clause-some : goal.known_entry-requires-clause-some
-known_entry-requires-clause-some g c = remaining_live c.args.self.now c.self.inside.states c.self.inside.hands c.self.inside.presets c.self.view_is c.requires
+known_entry-requires-clause-some g c = remaining_live c.args.self.now c.self.inside.states c.self.inside.presets c.self.view_is c.requires
 
 pub known_entry-requires-2-clause-some : goal.known_entry-requires-2-clause-some
-known_entry-requires-2-clause-some g c = remaining_live c.args.self.now c.self.inside.states c.self.inside.hands c.self.inside.presets c.self.view_is c.requires
+known_entry-requires-2-clause-some g c = remaining_live c.args.self.now c.self.inside.states c.self.inside.presets c.self.view_is c.requires
 
 pub known_entry-requires-3-clause-some : goal.known_entry-requires-3-clause-some
-known_entry-requires-3-clause-some g c = remaining_live c.args.self.now c.self.inside.states c.self.inside.hands c.self.inside.presets c.self.view_is c.requires
+known_entry-requires-3-clause-some g c = remaining_live c.args.self.now c.self.inside.states c.self.inside.presets c.self.view_is c.requires
 
 pub known_entry-requires-4-clause-some : goal.known_entry-requires-4-clause-some
-known_entry-requires-4-clause-some g c = remaining_live c.args.self.now c.self.inside.states c.self.inside.hands c.self.inside.presets c.self.view_is c.requires
+known_entry-requires-4-clause-some g c = remaining_live c.args.self.now c.self.inside.states c.self.inside.presets c.self.view_is c.requires
 
 pub known_local-requires-clause-some : goal.known_local-requires-clause-some
-known_local-requires-clause-some g c = remaining_live c.args.self.now c.self.inside.states c.self.inside.hands c.self.inside.presets c.self.view_is c.requires
+known_local-requires-clause-some g c = remaining_live c.args.self.now c.self.inside.states c.self.inside.presets c.self.view_is c.requires
 
 pub known_panel-requires-clause-some : goal.known_panel-requires-clause-some
-known_panel-requires-clause-some g c = remaining_live c.args.self.now c.self.inside.states c.self.inside.hands c.self.inside.presets c.self.view_is c.requires
+known_panel-requires-clause-some g c = remaining_live c.args.self.now c.self.inside.states c.self.inside.presets c.self.view_is c.requires
 
 pub returns : goal.returns
 returns g c =

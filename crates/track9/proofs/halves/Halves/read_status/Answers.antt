@@ -1,7 +1,7 @@
 use Rattle.std.proofs.Common.{◌∙◌, ap, false, true}
 use Rattle.track9.specs.Working.Parts.{agrees_local}
 use Rattle.track9.proofs.StepLemmas.{reads_status}
-use Rattle.track9.proofs.states.States.read_status.Goals as goal
+use Rattle.track9.proofs.halves.Halves.read_status.Goals as goal
 
 pub returns : goal.returns
 returns g c =

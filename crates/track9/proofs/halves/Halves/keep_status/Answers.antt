@@ -1,0 +1,6 @@
+use Rattle.std.proofs.Common.{ap}
+use Rattle.track9.specs.Working.States.{two_status}
+use Rattle.track9.proofs.halves.Halves.keep_status.Goals as goal
+
+pub returns : goal.returns
+returns g c = rw (c.keep_status.ensures, c.keep_status-2.ensures) (ap (two_status c.args.agrees c.args.shown c.args.datum) c.self.view_is)

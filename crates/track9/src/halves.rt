@@ -1,0 +1,194 @@
+//! The states with one value of the panel: a part of those in remote, and one of those in local.
+//!
+//! A step that may need memory first makes aside what the part in remote gets; then it changes the part in local, whose sets
+//! may be large, in place, as the last thing that can fail; and then it drifts and puts the rest in place. So a refused
+//! step changes nothing, and no large set is copied. A drift of the mechanics changes the pairs alone, so it may come after
+//! what becomes of the registers.
+ghost use Rattle.std.specs.Prelude.{◌≡◌, IfOk, OnErr, OnOk, false, max};
+ghost use Rattle.tc25.specs.Times.{BelowDay, span_count};
+ghost use Rattle.track9.specs.Tracker.{entries_of, in_local};
+ghost use Rattle.track9.specs.Working.States.{TwoBelow, all_forgotten, all_or_none, registers_forgotten, some_two, tape_forgotten, two_changed, two_drifted, two_gone, two_sensed, two_status};
+
+use crate::mode_set::ModeSet;
+use crate::part::Part;
+use deck9::{Change, Mode, Register};
+use std::alloc::{AllocError, Global};
+use std::marker::Model;
+use tc25::{SpanSet, TimeCode, TimeSet};
+
+mod step;
+
+/// The states with one value of the panel.
+#[derive(Drop)]
+pub(crate) struct Halves<S: TimeSet> {
+    pub(crate) remote: Part<S>,
+    pub(crate) local: Part<S>,
+}
+
+impl<S: TimeSet> Model for Halves<S> {
+    ghost use Rattle.track9.specs.Tracker.{TwoParts};
+    ghost use Rattle.track9.specs.Working.Codes.{two_code};
+
+    ghost Value = { TwoParts };
+
+    ghost coded = { two_code };
+
+    ghost view = { λ h. record { remote = h.remote; local = h.local } };
+}
+
+/// Whether a reply's bit LOCAL agrees with a deck in remote, and with one in local.
+#[derive(Clone, Copy, Debug, PartialEq, Eq)]
+pub(crate) struct LocalFits {
+    pub(crate) remote: bool,
+    pub(crate) local: bool,
+}
+
+impl<S: TimeSet> Halves<S> {
+    /// No state. Takes no memory.
+    pub(crate) fn none(alloc: Global) -> Halves<S>
+        ensures { result ≡ all_or_none false }
+    {
+        Halves {
+            remote: Part::none(alloc),
+            local: Part::none(alloc),
+        }
+    }
+
+    /// Every state, or none.
+    pub(crate) fn all_or_none(alloc: Global, all: bool) -> Result<Halves<S>, AllocError>
+        ensures { IfOk result (λ h. h ≡ all_or_none all) }
+    {
+        if !all {
+            return Ok(Halves::none(alloc));
+        }
+        Ok(Halves {
+            remote: Part::all(alloc)?,
+            local: Part::all(alloc)?,
+        })
+    }
+
+    /// An equal set.
+    pub(crate) fn copy(&self) -> Result<Halves<S>, AllocError>
+        ensures { IfOk result (λ h. h ≡ self.now) }
+    {
+        Ok(Halves {
+            remote: self.remote.copy()?,
+            local: self.local.copy()?,
+        })
+    }
+
+    /// All times are times of the day. Does nothing.
+    pub(crate) fn below_day(&self)
+        ensures { TwoBelow self.now }
+    {
+        self.remote.below_day();
+        self.local.below_day();
+    }
+
+    /// Whether there is a state.
+    pub(crate) fn is_some(&self) -> bool
+        ensures { result ≡ some_two self.now }
+    {
+        self.remote.is_live() || self.local.is_live()
+    }
+
+    /// A drift of the mechanics.
+    pub(crate) fn drift(&mut self)
+        ensures { self.new ≡ two_drifted self.old }
+    {
+        self.remote.drift();
+        self.local.drift();
+    }
+
+    /// The deck goes for a goal; a deck in local may leave it, and so may any where `may_stay`.
+    fn go(&mut self, may_stay: bool, goal: Mode)
+        ensures { self.new ≡ two_gone may_stay goal self.old }
+    {
+        self.remote.go(may_stay, goal);
+        self.local.go(true, goal);
+    }
+
+    /// A register changes; a deck in local may leave it.
+    fn change(
+        &mut self,
+        alloc: Global,
+        register: Register,
+        change: &Change,
+    ) -> Result<(), AllocError>
+        ensures ok { OnOk result (self.new ≡ two_changed register change.now self.old) }
+        ensures err { OnErr result (self.new ≡ self.old) }
+    {
+        let remote = self.remote.change_aside(alloc, register, change)?;
+        self.local.widen(alloc, register, change)?;
+        self.remote.put_aside(register, remote);
+        Ok(())
+    }
+
+    /// A register's time was read: None where the reply has no valid time.
+    fn sense(
+        &mut self,
+        alloc: Global,
+        register: Register,
+        time: &Option<TimeCode>,
+    ) -> Result<(), AllocError>
+        ensures ok { OnOk result (self.new ≡ two_sensed register time.now self.old) }
+        ensures err { OnErr result (self.new ≡ self.old) }
+    {
+        let remote = self.remote.sense_aside(alloc, register, time)?;
+        let local = self.local.sense_aside(alloc, register, time)?;
+        self.remote.put_settled(alloc, register, remote);
+        self.local.put_settled(alloc, register, local);
+        Ok(())
+    }
+
+    /// Status data were read: whether LOCAL agrees with a deck in remote and with one in local, the modes that
+    /// may be shown, and datum 3. Takes no memory.
+    fn keep_status(&mut self, alloc: Global, agrees: LocalFits, shown: ModeSet, datum: Option<u8>)
+        ensures { self.new ≡ two_status agrees shown datum self.old }
+    {
+        self.remote.keep_status(alloc, agrees.remote, shown, datum);
+        self.local.keep_status(alloc, agrees.local, shown, datum);
+    }
+
+    /// Goal, shown mode and registers are forgotten.
+    fn forget_tape(&mut self, alloc: Global) -> Result<(), AllocError>
+        ensures ok { OnOk result (self.new ≡ tape_forgotten self.old) }
+        ensures err { OnErr result (self.new ≡ self.old) }
+    {
+        let remote = self.remote.tape_forgotten(alloc)?;
+        let local = self.local.tape_forgotten(alloc)?;
+        *self = Halves { remote, local };
+        Ok(())
+    }
+
+    /// The registers are forgotten.
+    fn forget_registers(&mut self, alloc: Global) -> Result<(), AllocError>
+        ensures ok { OnOk result (self.new ≡ registers_forgotten self.old) }
+        ensures err { OnErr result (self.new ≡ self.old) }
+    {
+        let remote = self.remote.registers_forgotten(alloc)?;
+        let local = self.local.registers_forgotten(alloc)?;
+        *self = Halves { remote, local };
+        Ok(())
+    }
+
+    /// Everything but the panel is forgotten.
+    fn forget_all(&mut self, alloc: Global) -> Result<(), AllocError>
+        ensures ok { OnOk result (self.new ≡ all_forgotten self.old) }
+        ensures err { OnErr result (self.new ≡ self.old) }
+    {
+        if self.is_some() {
+            *self = Halves::all_or_none(alloc, true)?;
+        }
+        Ok(())
+    }
+}
+
+impl Halves<SpanSet> {
+    /// The greatest number of spans of a register's times in either part.
+    pub(crate) fn spans(&self, register: Register) -> usize
+        ensures { result ≡ max (span_count (entries_of register self.now.remote).times) (span_count (entries_of register self.now.local).times) }
+    {
+        self.remote.spans(register).max(self.local.spans(register))
+    }
+}

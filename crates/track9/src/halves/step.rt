@@ -1,0 +1,115 @@
+//! What an exchange does to the states with one value of the panel, where nobody touches it: by what its reply shows, and by
+//! its command's effect.
+ghost use Rattle.std.specs.Prelude.{◌≡◌, IsOk, IsTrue, OnErr, OnOk};
+ghost use Rattle.track9.specs.Frugal.{is_frugal, is_frugal_effect};
+ghost use Rattle.track9.specs.Working.Parts.{agrees_local};
+ghost use Rattle.track9.specs.Working.States.{Exchanged, HasEffect, ReadsStatus, TwoWhole, two_drifted};
+
+use crate::halves::{Halves, LocalFits};
+use crate::reply::is_nak;
+use crate::status::modes_shown;
+use block9::{Block, Command};
+use deck9::{Effect, Mode, Sense, status_datum};
+use std::alloc::{AllocError, Global};
+use tc25::TimeSet;
+
+impl<S: TimeSet> Halves<S> {
+    /// The states after an exchange: after a drift of the mechanics and a step. Where memory is refused nothing has
+    /// changed.
+    pub(crate) fn exchange(
+        &mut self,
+        alloc: Global,
+        command: &Command,
+        reply: &Block,
+    ) -> Result<(), AllocError>
+        requires whole { TwoWhole self.old }
+        ensures ok { OnOk result (Exchanged command.now reply.now self.old self.new) }
+        ensures err { OnErr result (self.new ≡ self.old) }
+        ensures frugal { IsTrue (is_frugal command.now reply.now) → IsOk result }
+    {
+        if is_nak(reply) {
+            self.drift();
+            return Ok(());
+        }
+        match Sense::of(command) {
+            Sense::Register(register) => {
+                let time = reply.time();
+                self.sense(alloc, register, &time)?;
+                self.drift();
+            }
+            Sense::Status(asked) => {
+                self.drift();
+                self.read_status(alloc, asked, reply);
+            }
+            Sense::Nothing => {
+                let effect = Effect::of(command);
+                self.apply(alloc, &effect)?;
+            }
+        }
+        Ok(())
+    }
+
+    /// Keeps the states that agree with status data. Takes no memory.
+    fn read_status(&mut self, alloc: Global, asked: u8, reply: &Block)
+        requires { TwoWhole self.old }
+        ensures { ReadsStatus asked reply.now self.old self.new }
+    {
+        let said = status_datum(asked, reply, 0);
+        let agrees = LocalFits {
+            remote: agrees_local(false, said),
+            local: agrees_local(true, said),
+        };
+        let shown = modes_shown(status_datum(asked, reply, 1), status_datum(asked, reply, 2));
+        self.keep_status(alloc, agrees, shown, status_datum(asked, reply, 3));
+    }
+
+    /// The states after a drift and an effect, which a deck in local may leave undone.
+    fn apply(&mut self, alloc: Global, effect: &Effect) -> Result<(), AllocError>
+        requires { TwoWhole self.old }
+        ensures ok { OnOk result (HasEffect effect.now (two_drifted self.old) self.new) }
+        ensures err { OnErr result (self.new ≡ self.old) }
+        ensures frugal { IsTrue (is_frugal_effect effect.now) → IsOk result }
+    {
+        match effect {
+            Effect::Nothing => self.drift(),
+            Effect::Panel(_) => self.drift(),
+            Effect::Go(goal) => {
+                self.drift();
+                self.go(false, *goal);
+            }
+            Effect::KeepOrStop => {
+                self.drift();
+                self.go(true, Mode::Stop);
+            }
+            Effect::Change(register, change) => {
+                self.below_day();
+                self.change(alloc, *register, change)?;
+                self.below_day();
+                self.drift();
+            }
+            Effect::ForgetTape => {
+                self.forget_tape(alloc)?;
+                self.drift();
+            }
+            Effect::ForgetRegisters => {
+                self.forget_registers(alloc)?;
+                self.drift();
+            }
+            Effect::ForgetAll => {
+                self.forget_all(alloc)?;
+                self.drift();
+            }
+        }
+        Ok(())
+    }
+}
+
+/// Whether a deck in remote or in local may send this status datum 0, if the reply carries it.
+fn agrees_local(local: bool, datum: Option<u8>) -> bool
+    ensures { result ≡ agrees_local local datum }
+{
+    match datum {
+        Some(byte) => (byte & 0x01 == 0x01) == local,
+        None => true,
+    }
+}
