@@ -27,6 +27,7 @@ install: built
 	install -D -m 644 -t "$(to)/share/ninecheck/view" view/*.awk
 	install -D -m 644 -t "$(to)/share/ninecheck/examples" examples/*.csv examples/ANSWERS
 	install -D -m 644 -t "$(to)/share/doc/ninecheck" README.md VERSION docs/*.md
+	install -D -m 644 -t "$(to)/share/doc/ninecheck/pictures" docs/pictures/*.svg
 	install -D -m 644 man/ninecheck.1 "$(to)/share/man/man1/ninecheck.1"
 	install -D -m 644 completions/ninecheck.bash "$(to)/share/bash-completion/completions/ninecheck"
 	install -D -m 644 completions/ninecheck.zsh "$(to)/share/zsh/site-functions/_ninecheck"

@@ -94,7 +94,7 @@ bad_texts() {
     while IFS='|' read -r name line what text; do
         text_of "$text" > "$work/in"
         what=$(text_of "$what")
-        for view in digest delays json; do
+        for view in digest delays json picture; do
             view "$view.awk" '' < "$work/in"
             judge "$awk: $view: $name" is_refused "$view.awk: line $line: $what"
         done
@@ -309,8 +309,8 @@ is_without_verdict() {
 # A full device. Under its option --posix gawk does not tell what became of a pipe, so it runs without.
 full_device() {
     local view
-    for view in digest delays json; do
-        ${awk% --posix} -f view/$view.awk < examples/views/session.txt > /dev/full 2> "$work/err"
+    for view in digest delays json picture; do
+        ${awk% --posix} -v capture=examples/views/session.csv -f view/$view.awk < examples/views/session.txt > /dev/full 2> "$work/err"
         status=$?
         judge "$awk: $view: a full device" [ "$status" = 1 ]
         judge "$awk: $view: the message of a full device" \
@@ -366,16 +366,17 @@ for command in "$work"/page.*.command; do
     judge "the page's command $(cat "$command")" cmp "$work/out" "${command%.command}.out"
     commands=$((commands + 1))
 done
-judge "the page's commands: $commands" [ "$commands" = 6 ]
+judge "the page's commands: $commands" [ "$commands" = 7 ]
 
 # What the views have in common is the same in each.
-for view in digest delays json; do
+for view in digest delays json picture; do
     sed -n '/^# From here on every view is the same/,$p' view/$view.awk > "$work/$view.every"
     sed -n '/^# From here on digest.awk and delays.awk are the same/,$p' view/$view.awk > "$work/$view.two"
 done
 judge 'a common end' [ -s "$work/digest.every" ]
 judge 'the same end of delays.awk' cmp "$work/digest.every" "$work/delays.every"
 judge 'the same end of json.awk' cmp "$work/digest.every" "$work/json.every"
+judge 'the same end of picture.awk' cmp "$work/digest.every" "$work/picture.every"
 judge 'a longer common end' [ -s "$work/digest.two" ]
 judge 'the same longer end of delays.awk' cmp "$work/digest.two" "$work/delays.two"
 

@@ -1,0 +1,220 @@
+"""Checks the pictures of view/picture.awk: that each awk draws the same, that the drawn bytes are those of the capture, that
+the record in question and the measured time stand out, and that no text lies on another or on a byte."""
+import os
+import random
+import re
+import subprocess
+import sys
+import tempfile
+import xml.etree.ElementTree as xml
+
+PROGRAM = os.environ.get('NINECHECK', 'crates/ninecheck/out/ninecheck')
+AWKS = ['mawk', 'gawk --posix', 'busybox awk']
+WIDTHS = [700, 1200]
+LIMITS = {'P3': 9287, 'L1': 9287, 'L2': 9287, 'B3': 10287}
+SVG = '{http://www.w3.org/2000/svg}'
+passed = failed = 0
+
+
+def judge(name, is_so):
+    global passed, failed
+    if is_so:
+        passed += 1
+    else:
+        failed += 1
+        print('FAILED', name)
+
+
+def run(words, text=''):
+    done = subprocess.run(words, input=text, capture_output=True, text=True)
+    return done.returncode, done.stdout, done.stderr
+
+
+def picture(awk, verdict, *settings):
+    given = [word for setting in settings for word in ('-v', setting)]
+    return run([*awk.split(), *given, '-f', 'view/picture.awk'], verdict)
+
+
+class Box:
+    """A rectangle of a picture, in pixels."""
+
+    def __init__(self, left, top, width, height):
+        self.left, self.top, self.right, self.bottom = left, top, left + width, top + height
+
+    def meets(self, other):
+        return (self.left < other.right - 0.05 and other.left < self.right - 0.05
+                and self.top < other.bottom - 0.05 and other.top < self.bottom - 0.05)
+
+
+def box_of_text(text):
+    """Where a text stands: the font is monospaced, and a letter is six tenths of its size wide."""
+    size = float(text.get('font-size', '12'))
+    wide = len(text.text) * size * 0.602
+    left = float(text.get('x')) - {'start': 0, 'middle': wide / 2, 'end': wide}[text.get('text-anchor')]
+    return Box(left, float(text.get('y')) - size * 0.75, wide, size * 0.95)
+
+
+def box_of_rect(rect):
+    return Box(*(float(rect.get(side)) for side in ('x', 'y', 'width', 'height')))
+
+
+def problems_of(svg, verdict, rows):
+    """What is wrong with a picture."""
+    problems = []
+
+    def want(what, is_so):
+        if not is_so:
+            problems.append(what)
+
+    root = xml.fromstring(svg)
+    frame = Box(0, 0, float(root.get('width')), float(root.get('height')))
+    number, reason = re.match(r'no at record (\d+): (\w\w)', verdict).groups()
+    texts = [(text, box_of_text(text)) for text in root.findall(SVG + 'text')]
+    bytes_drawn = [rect for rect in root.findall(SVG + 'rect') if rect.find(SVG + 'title') is not None]
+
+    # the bytes are records of the capture in their order, with nothing left out
+    records = []
+    for rect in bytes_drawn:
+        record, milliseconds = re.fullmatch(r'record (\d+), (\d+\.\d+) ms', rect.find(SVG + 'title').text).groups()
+        time, wire, byte = rows[int(record) - 1].split(',')
+        inside = [text.text for text, box in texts if box_of_rect(rect).meets(box)]
+        want(f'record {record} has {inside} in its box', inside == [byte.upper()])
+        want(f'record {record} is on the other wire', rect.get('y') == {'C': '118', 'D': '226'}[wire])
+        want(f'record {record} has another stamp', milliseconds == f'{int(time) / 1000:.3f}')
+        records.append(int(record))
+    want('a record is left out', sorted(records) == list(range(min(records), max(records) + 1)))
+    brackets = [path.get('d').split()[1] for path in root.findall(SVG + 'path')]
+    first = min(bytes_drawn, key=lambda rect: int(rect.find(SVG + 'title').text.split()[1].rstrip(',')))
+    want('it begins inside a block', first.get('x') in brackets)
+    dark = [rect.find(SVG + 'title').text for rect in bytes_drawn if rect.get('fill') == '#b00020']
+    want(f'{dark} stand out', len(dark) == 1 and dark[0].startswith(f'record {number}, '))
+    want('the verdict does not stand above', texts[0][0].text == verdict)
+
+    # no text lies on another one, and all are in the picture
+    for k, (text, box) in enumerate(texts):
+        want(f'{text.text} is outside', 0 <= box.left and box.right <= frame.right and box.bottom <= frame.bottom)
+        on = [other.text for other, place in texts[k + 1:] if box.meets(place)]
+        want(f'{text.text} lies on {on}', not on)
+    boxes = sorted((box_of_rect(rect) for rect in bytes_drawn), key=lambda box: (box.top, box.left))
+    want('a byte lies on another', not any(a.meets(b) for a, b in zip(boxes, boxes[1:])))
+
+    told = [text.text for text, _ in texts if text.text.endswith('passed')]
+    if reason not in LIMITS:
+        want(f'{told} is measured', not told)
+        return problems
+    since = int(rows[int(number) - 1].split(',')[0]) - int(rows[int(number) - 2].split(',')[0])
+    want(f'{told} is measured, and {since} passed', told == [f'{since:,} µs passed'])
+    want('another limit', f'limit {LIMITS[reason]:,} µs' in [text.text for text, _ in texts])
+    spans = [float(line.get('x2')) - float(line.get('x1')) for line in root.findall(SVG + 'line')
+             if line.get('y1') == line.get('y2') and line.get('y1') in ('178', '202')]
+    if since <= LIMITS[reason] + 2000:
+        want('the spans have two measures', abs(spans[0] / spans[1] - since / LIMITS[reason]) < 0.01)
+    else:
+        want('the longer span is no longer', spans[0] > spans[1])
+    return problems
+
+
+def check_capture(name, path, all_awks):
+    status, out, _ = run([PROGRAM, 'check', path])
+    if status != 1:
+        return
+    rows = [row for row in open(path).read().split('\n')[1:] if row]
+    for width in WIDTHS:
+        drawn = [picture(awk, out, f'capture={path}', f'width={width}') for awk in AWKS[:3 if all_awks else 1]]
+        judge(f'{name}, {width}: every awk draws it, and the same', drawn[0][0] == 0 and all(one == drawn[0] for one in drawn))
+        problems = problems_of(drawn[0][1], out.strip(), rows)
+        judge(f'{name}, {width}: {problems}', not problems)
+
+
+def block(head, code, *data):
+    body = [head * 16 + len(data), code, *data]
+    return body + [sum(body) % 256]
+
+
+def drawn_capture(chance):
+    """Some exchanges, with one or two changes that may break a rule."""
+    ack = block(1, 0x01)
+    pairs = [(block(4, 0x23), ack), (block(4, 0x27), ack), (block(4, 0x1F), ack), (block(2, 0x01), ack), (block(2, 0x00), ack), (block(4, 0x14, 0, 0, 0, 0x10), ack),
+             (block(6, 0x10), block(7, 0x10, 0, 0, 0, 0x10)), (block(6, 0x20, 0x0F), block(7, 0x20, *[0x20] * chance.randint(0, 15))),
+             (block(6, 0x0C, 0x01), block(7, 0x04, 0, 0, 0, 1)), (block(13, 0x77, *range(15)), block(1, 0x12, 4))]
+    bytes_sent = []
+    for _ in range(chance.randint(1, 12)):
+        command, reply = chance.choice(pairs)
+        bytes_sent += [('C', byte) for byte in command] + [('D', byte) for byte in reply]
+    for _ in range(chance.randint(1, 2)):
+        at = chance.randrange(len(bytes_sent))
+        wire, byte = bytes_sent[at]
+        change = chance.randrange(4)
+        if change == 0:
+            bytes_sent[at] = (wire, chance.randrange(256))
+        elif change == 1:
+            bytes_sent[at] = ('CD'[wire == 'C'], byte)
+        elif change == 2:
+            bytes_sent.insert(at, bytes_sent[at])
+        else:
+            del bytes_sent[at]
+    now, rows = chance.choice([0, 10 ** 15 - 10 ** 9]), []
+    for wire, byte in bytes_sent:
+        rows.append(f'{now},{wire},{byte:02X}')
+        now += chance.choice([287, 287, 300, 400, 0, 150, 2500, 9287, chance.choice([9288, 10288, 15000, 2000000])])
+    return 'time_us,wire,byte\n' + ''.join(row + '\n' for row in rows)
+
+
+def check_stored():
+    """The pictures under docs are those that their command makes."""
+    page = open('docs/VIEWS.md').read()
+    for line in open('examples/ANSWERS'):
+        name, status = line.split('|')[:2]
+        if status != '1':
+            continue
+        stored = f'docs/pictures/{name[:-4]}.svg'
+        if not os.path.exists(stored):
+            continue
+        _, out, _ = run([PROGRAM, 'check', f'examples/{name}'])
+        judge(f'{stored} is as drawn', picture('mawk', out, f'capture=examples/{name}')[1] == open(stored).read())
+        judge(f'{stored} is shown', f'pictures/{name[:-4]}.svg' in page)
+
+
+def check_refusals(work):
+    capture = 'examples/late-reply.csv'
+    verdict = 'no at record 4: L1 late reply\n'
+    short = f'{work}/short.csv'
+    open(short, 'w').write('time_us,wire,byte\n400,C,20\n')
+    rows = [
+        ('a yes', 'yes: records 6, exchanges 1, open 0\n', [f'capture={capture}'], 'line 1: the verdict is a yes: there is nothing to draw'),
+        ('no capture', verdict, [], 'line 1: -v capture=FILE is missing'),
+        ('no such capture', verdict, [f'capture={work}/none'], f"line 1: the capture can't be opened: {work}/none"),
+        ('a short capture', verdict, [f'capture={short}'], f'line 1: the capture ends before record 4: {short}'),
+        ('no header', verdict, ['capture=examples/wrong-header.csv'], 'line 1: no header of a capture: examples/wrong-header.csv'),
+        ('a bad row', 'no at record 9: L1 late reply\n', ['capture=examples/bad-byte.csv'], 'line 1: row 7 of the capture is no record: 2800,C,G1'),
+        ('a narrow picture', verdict, [f'capture={capture}', 'width=699'], 'line 0: width has to be a number from 700 on: 699'),
+        ('no number', verdict, [f'capture={capture}', 'width=wide'], 'line 0: width has to be a number from 700 on: wide'),
+        ('no verdict', '', [f'capture={capture}'], "line 0: no verdict: the capture can't be read, or the text was cut short"),
+        ('another text', 'hello\n', [f'capture={capture}'], 'line 1: unknown line: hello'),
+    ]
+    for awk in AWKS:
+        for name, text, settings, why in rows:
+            status, out, err = picture(awk, text, *settings)
+            judge(f'{awk}: {name}: {err}', (status, out, err) == (1, '', f'picture.awk: {why}\n'))
+
+
+def main():
+    chance = random.Random(9)
+    with tempfile.TemporaryDirectory() as work:
+        os.environ['TMPDIR'] = work
+        for line in open('examples/ANSWERS'):
+            if not line.startswith('#'):
+                name = line.split('|')[0]
+                check_capture(name, f'examples/{name}', True)
+        check_capture('session.csv', 'examples/views/session.csv', True)
+        for k in range(120):
+            path = f'{work}/drawn.csv'
+            open(path, 'w').write(drawn_capture(chance))
+            check_capture(f'drawn {k}', path, k % 10 == 0)
+        check_refusals(work)
+        check_stored()
+    print(f'{passed} passed, {failed} failed')
+    sys.exit(failed > 0)
+
+
+main()

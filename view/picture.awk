@@ -1,0 +1,525 @@
+# Draws the record that breaks a rule, as an SVG: both wires over time, each byte a box, and what stands before and behind it.
+#
+#     ./ninecheck check capture.csv | awk -v capture=capture.csv -f view/picture.awk > picture.svg
+#
+# It takes what `check`, `explain` or `run` wrote, whose verdict has to be a no, and the capture beside it. A byte's box
+# begins at its stamp and is as long as a byte lasts on the line, 287 microseconds. A bracket joins the bytes of a block
+# and has its name. The record that breaks the rule is a dark box with an arrow. Where the reason is one of time, the
+# time that passed stands over the limit, in the same measure. A longer silence is cut, with its length beside the cut.
+# -v width=N says how wide the picture may be, in pixels (1200); it is wider where what breaks the rule would not fit.
+
+BEGIN {
+    view = "picture.awk"
+    if (width == "") width = 1200
+    if (width !~ /^[1-9][0-9]*$/ || width < 700) refuse("width has to be a number from 700 on: " width)
+    byte_us = 287      # how long a byte lasts
+    scale = 0.08       # pixels a microsecond
+    box = byte_us * scale
+    keep = 240         # how many records before the one in question are kept
+    behind = 80        # how many after it are read
+    margin = 24
+    lane_of["C"] = 118 # where the boxes of a wire begin, from above
+    lane_of["D"] = 226
+    tall = 24
+    limit_of["P3"] = limit_of["L1"] = limit_of["L2"] = 9287
+    limit_of["B3"] = 10287
+    name_commands()
+    name_reasons()
+}
+
+{ read_line() }
+
+{ verdict = $0 }
+
+END {
+    if (refused) exit 1
+    if (kind == "yes") refuse("the verdict is a yes: there is nothing to draw")
+    if (kind == "no") {
+        if (capture == "") refuse("-v capture=FILE is missing")
+        read_capture(record + 0)
+        place_records()
+        choose_records()
+        draw()
+    }
+}
+
+# ---- the capture
+
+# Reads the capture up to some records behind this one, and keeps those around it.
+function read_capture(number,    k) {
+    rows = -1
+    if (!next_row() || row !~ /time_us"?,"?wire"?,"?byte"?\r?$/) refuse("no header of a capture: " capture)
+    breaking = number
+    while (rows < number + behind && next_row()) take_record()
+    if (rows < number) refuse("the capture ends before record " number ": " capture)
+    oldest = number > keep ? number - keep : 1
+    newest = readable
+    # what is open at the record in question: the command with what there is of the reply
+    open_from = number
+    if (number > 1 && tail_of[number - 1] > 0) open_from = tail_of[number - 1]
+    if (open_from < oldest) open_from = oldest
+}
+
+# Reads the next row that is not empty, and says whether there is one.
+function next_row(    answer) {
+    do {
+        answer = (getline row < capture)
+        if (answer < 0) refuse("the capture can't be opened: " capture)
+        if (answer == 0) return 0
+    } while (row == "" || row == "\r")
+    rows++
+    return 1
+}
+
+# Takes a row apart. Behind the record in question a bad row ends what is drawn, as nothing was judged there.
+function take_record(    part, number) {
+    gsub(/["\r]/, "", row)
+    if (row !~ /^[0-9]+,[CD],[0-9A-Fa-f][0-9A-Fa-f]$/) {
+        if (rows <= breaking) refuse("row " rows " of the capture is no record: " row)
+        rows = breaking + behind
+        return
+    }
+    split(row, part, ",")
+    number = rows
+    readable = number
+    stamp[number] = part[1] + 0
+    wire[number] = part[2]
+    byte[number] = value_of(part[3])
+    begin_or_go_on(number)
+    forget(number - keep - 40)
+}
+
+# Lets go of a record, so that memory does not grow with the capture.
+function forget(number) {
+    delete stamp[number]
+    delete wire[number]
+    delete byte[number]
+    delete first_of[number]
+    delete place_of[number]
+    delete tail_of[number]
+    delete length_of[number]
+}
+
+# The block that a record belongs to: the open one on its wire, or a new one. `tail_of` is the first record of the command
+# that is open after it, and 0 where none is.
+function begin_or_go_on(number) {
+    if (open_wire == wire[number] && held < length_of[first]) held++
+    else {
+        if (wire[number] == "C") command_first = number
+        first = number
+        held = 1
+        open_wire = wire[number]
+        length_of[first] = byte[number] % 16 + 3
+    }
+    first_of[number] = first
+    place_of[number] = held
+    is_closed = open_wire == "D" && held == length_of[first]
+    tail_of[number] = is_closed ? 0 : command_first
+}
+
+function value_of(digits) {
+    digits = toupper(digits)
+    return (index("0123456789ABCDEF", substr(digits, 1, 1)) - 1) * 16 + index("0123456789ABCDEF", substr(digits, 2, 1)) - 1
+}
+
+# ---- where everything stands
+
+# The place of each record from the left, in pixels. Silences are cut, but for the one that is measured.
+function place_records(    k, rest, step) {
+    measured = (reason in limit_of) && breaking > oldest
+    x[oldest] = 0
+    right["C"] = right["D"] = -1
+    right[wire[oldest]] = box
+    for (k = oldest + 1; k <= newest; k++) {
+        rest = stamp[k] - stamp[k - 1]
+        step = rest * scale
+        cut[k] = 0
+        if (k == breaking && measured) {
+            if (rest > limit_of[reason] + 2000) {
+                step = (limit_of[reason] + 2000) * scale
+                cut[k] = 1
+            }
+        } else if (rest > 2000) {
+            step = 2000 * scale
+            cut[k] = 1
+        }
+        x[k] = x[k - 1] + step
+        if (right[wire[k]] >= 0 && x[k] < right[wire[k]] + 2) x[k] = right[wire[k]] + 2
+        right[wire[k]] = x[k] + box
+    }
+}
+
+# The records that are drawn: what is open and the record in question, whole blocks behind it on a third of the room at
+# most, and as many whole blocks before as then fit.
+function choose_records(    room, need, end, k) {
+    end = x[breaking] + box
+    if (measured && x[breaking - 1] + limit_of[reason] * scale > end) end = x[breaking - 1] + limit_of[reason] * scale
+    need = end - x[open_from]
+    room = width - 2 * margin - 90
+    if (room < need + 100) room = need + 100
+    to = breaking
+    for (k = breaking + 1; k <= newest && x[k] + box - x[open_from] <= room && x[k] - x[breaking] <= room / 3; k++) {
+        if (place_of[k] == length_of[first_of[k]]) to = k
+    }
+    if (x[to] + box > end) need = x[to] + box - x[open_from]
+    from = open_from
+    for (k = open_from - 1; k >= oldest && need + x[open_from] - x[k] <= room; k--) if (first_of[k] == k) from = k
+    left = margin + 66 - x[from]
+    full = x_of(open_from) + need + margin + 30
+    if (full < 700) full = 700
+}
+
+# ---- the drawing
+
+function draw(    k, title) {
+    put("<svg xmlns=\"http://www.w3.org/2000/svg\" width=\"" px(full) "\" height=\"364\" viewBox=\"0 0 " px(full) " 364\""\
+        " style=\"max-width:100%;height:auto\" font-family=\"DejaVu Sans Mono, Menlo, Consolas, monospace\" font-size=\"12\">")
+    put("<title>" verdict "</title>")
+    put("<rect width=\"100%\" height=\"100%\" fill=\"#ffffff\"/>")
+    put_text(margin, 28, "start", "font-size=\"16\" font-weight=\"bold\"", verdict)
+    put_text(margin, 48, "start", "fill=\"#333333\"", sentence())
+    put_lane("C", "controller")
+    put_lane("D", "deck")
+    put_line(margin + 60, 312, full - margin, 312, "stroke=\"#444444\"")
+    for (k = from; k <= to; k++) if (k > from && cut[k]) put_cut(k)
+    if (measured) put_measure()
+    for (k = from; k <= to; k++) if (k != breaking) put_byte(k)
+    put_byte(breaking)
+    for (k = from; k <= to; k++) if (k == from || first_of[k] == k) put_block(first_of[k])
+    put_times()
+    put_text(margin, 352, "start", "font-size=\"11\" fill=\"#555555\"", "a box is a byte of 287 &#181;s, from its stamp on" \
+        (cuts ? "; a silence that is cut has its length beside the cut" : ""))
+    put("</svg>")
+}
+
+function put_lane(letter, name,    y) {
+    y = lane_of[letter]
+    put_text(margin, y + 16, "start", "font-size=\"14\" font-weight=\"bold\"", letter)
+    put_text(margin, y + 30, "start", "font-size=\"9\" fill=\"#555555\"", name)
+    put_line(margin + 60, y + tall, full - margin, y + tall, "stroke=\"#bbbbbb\"")
+}
+
+function put_byte(k,    y, look, ink) {
+    y = lane_of[wire[k]]
+    look = "fill=\"#f2f2f2\" stroke=\"#444444\""
+    ink = "fill=\"#000000\""
+    if (k == breaking) {
+        look = "fill=\"#b00020\" stroke=\"#000000\" stroke-width=\"2.5\""
+        ink = "fill=\"#ffffff\" font-weight=\"bold\""
+        put_arrow(x_of(k) + box / 2, wire[k] == "C" ? y + tall + 4 : y - 4, wire[k] == "C" ? 12 : -12)
+    } else if (k > breaking) {
+        look = "fill=\"#ffffff\" stroke=\"#999999\" stroke-dasharray=\"3 2\""
+        ink = "fill=\"#666666\""
+    }
+    put("<rect x=\"" px(x_of(k)) "\" y=\"" y "\" width=\"" px(box) "\" height=\"" tall "\" " look "><title>record " k ", " milliseconds(stamp[k]) "</title></rect>")
+    put_text(x_of(k) + box / 2, y + 16, "middle", ink, sprintf("%02X", byte[k]))
+}
+
+function put_arrow(tip, y, length_down) {
+    put("<path d=\"M " px(tip) " " y " l -5 " length_down " h 10 z\" fill=\"#b00020\" stroke=\"#000000\"/>")
+}
+
+# The bracket of a block and its name, above the controller's boxes and below the deck's.
+function put_block(begin,    last, y, down, x1, x2, name, row_of) {
+    last = begin
+    while (last < to && first_of[last + 1] == begin) last++
+    if (begin < from) return
+    down = wire[begin] == "D"
+    y = down ? lane_of["D"] + tall + 6 : lane_of["C"] - 6
+    x1 = x_of(begin)
+    x2 = x_of(last) + box
+    put("<path d=\"M " px(x1) " " y " v " (down ? 5 : -5) " H " px(x2) " v " (down ? -5 : 5) "\" fill=\"none\" stroke=\"#444444\"/>")
+    name = name_of(begin, last)
+    if (begin > breaking) name = "(" name ")"
+    row_of = free_row(wire[begin], (x1 + x2) / 2, name, 3)
+    put_text(middle, down ? y + 18 + row_of * 14 : y - 10 - row_of * 14, "middle", begin > breaking ? "fill=\"#666666\"" : "", name)
+}
+
+# A row in which a text about this middle lies on no other one. The middle is moved where the text would leave the
+# picture, or where no row is free.
+function free_row(group, about, text, most,    half, k) {
+    half = length(text) * 7.25 / 2
+    middle = about
+    if (middle - half < margin + 60) middle = margin + 60 + half
+    if (middle + half > full - margin) middle = full - margin - half
+    for (k = 0; k < most; k++) if (!((group, k) in edge) || edge[group, k] + 8 <= middle - half) break
+    if (k == most) {
+        k = most - 1
+        middle = edge[group, k] + 8 + half
+    }
+    edge[group, k] = middle + half
+    return k
+}
+
+# What the time between the last record and the one in question is, over the limit.
+function put_measure(    x1, x2, limit, x3, passed) {
+    limit = limit_of[reason]
+    passed = stamp[breaking] - stamp[breaking - 1]
+    x1 = x_of(breaking - 1)
+    x2 = x_of(breaking)
+    x3 = x1 + limit * scale
+    put_span(x1, x2, 178, "stroke=\"#b00020\" stroke-width=\"2\"")
+    if (cut[breaking]) put_slashes(x1 + (limit + 1000) * scale, 178)
+    put_text(x1 + 8, 172, "start", "fill=\"#b00020\" font-weight=\"bold\"", thousands(passed) " &#181;s passed")
+    put_span(x1, x3, 202, "stroke=\"#000000\" stroke-dasharray=\"6 3\"")
+    put_text(x1 + 8, 196, "start", "", "limit " thousands(limit) " &#181;s")
+}
+
+function put_span(x1, x2, y, look) {
+    put_line(x1, y, x2, y, look)
+    put_line(x1, y - 5, x1, y + 5, look)
+    put_line(x2, y - 5, x2, y + 5, look)
+}
+
+# A silence that is cut, with its length.
+function put_cut(k,    about, gone) {
+    if (k == breaking && measured) return
+    cuts++
+    about = (x_of(k - 1) + box + x_of(k)) / 2
+    put_slashes(about, 312)
+    put_slashes(about, lane_of["C"] + tall)
+    put_slashes(about, lane_of["D"] + tall)
+    gone = sprintf("%.1f ms", (stamp[k] - stamp[k - 1]) / 1000)
+    free_row("cut", about, gone, 1)
+    if (!measured || k < breaking || x_of(k) > x_of(breaking)) put_text(middle, measured ? 216 : 190, "middle", "font-size=\"11\" fill=\"#555555\"", gone)
+}
+
+function put_slashes(about, y) {
+    put("<rect x=\"" px(about - 5) "\" y=\"" (y - 7) "\" width=\"10\" height=\"14\" fill=\"#ffffff\"/>")
+    put_line(about - 6, y + 6, about - 1, y - 6, "stroke=\"#444444\"")
+    put_line(about + 1, y + 6, about + 6, y - 6, "stroke=\"#444444\"")
+}
+
+# The stamps of the record in question and of the blocks that leave room for theirs.
+function put_times(    k, half, text, low, high) {
+    text = milliseconds(stamp[breaking])
+    half = length(text) * 7.25 / 2
+    free_row("time", x_of(breaking), text, 1)
+    low = middle - half - 8
+    high = middle + half + 8
+    put_time(x_of(breaking), text, "font-weight=\"bold\"")
+    delete edge["time", 0]
+    for (k = from; k <= to; k++) {
+        if (k == breaking || first_of[k] != k) continue
+        text = milliseconds(stamp[k])
+        half = length(text) * 7.25 / 2
+        middle = x_of(k)
+        if (middle - half < margin + 60) middle = margin + 60 + half
+        if (middle + half > full - margin) continue
+        if (middle + half > low && middle - half < high) continue
+        if (("time", 0) in edge && edge["time", 0] + 8 > middle - half) continue
+        free_row("time", middle, text, 1)
+        put_time(x_of(k), text, "fill=\"#333333\"")
+    }
+}
+
+function put_time(tick, text, look) {
+    put_line(tick, 308, tick, 316, "stroke=\"#444444\"")
+    put_text(middle, 330, "middle", look, text)
+}
+
+function put_line(x1, y1, x2, y2, look) {
+    put("<line x1=\"" px(x1) "\" y1=\"" y1 "\" x2=\"" px(x2) "\" y2=\"" y2 "\" " look "/>")
+}
+
+function put_text(about, y, anchor, look, text) {
+    put("<text x=\"" px(about) "\" y=\"" y "\" text-anchor=\"" anchor "\"" (look == "" ? "" : " " look) ">" text "</text>")
+}
+
+# ---- words and numbers
+
+function x_of(k) { return left + x[k] }
+
+function px(n) { return sprintf("%.1f", n) }
+
+function milliseconds(us) { return sprintf("%.3f ms", us / 1000) }
+
+function thousands(us,    digits, text) {
+    digits = sprintf("%.0f", us)
+    text = ""
+    while (length(digits) > 3) {
+        text = "," substr(digits, length(digits) - 2) text
+        digits = substr(digits, 1, length(digits) - 3)
+    }
+    return digits text
+}
+
+# What the reason says, in a sentence.
+function sentence(    k, sum) {
+    if (reason != "B2") return sentence_of[reason]
+    sum = 0
+    for (k = first_of[breaking]; k < breaking; k++) if (first_of[k] == first_of[breaking]) sum += byte[k]
+    return sprintf("The sum of the block's earlier bytes is %02X, and its last byte is %02X.", sum % 256, byte[breaking])
+}
+
+# The name of a block: a command's or a reply's, or its first two bytes where it has none.
+function name_of(begin, last,    head) {
+    if (last == begin) return "begun"
+    head = sprintf("%02X %02X", byte[begin], byte[begin + 1])
+    if (wire[begin] == "D" && (substr(head, 1, 1) substr(head, 3)) == "7 20") head = "7n 20"
+    head = wire[begin] " " head
+    return head in name_of_head ? name_of_head[head] : substr(head, 3)
+}
+
+function name_commands(    k, n, part, rows_of_table, cell) {
+    n = split("00 0C LOCAL DISABLE;00 1D LOCAL ENABLE;00 11 DEVICE TYPE;20 00 STOP;20 01 PLAY;20 02 RECORD;20 04 STANDBY OFF;"\
+        "20 05 STANDBY ON;20 0F EJECT;20 10 FAST FWD;20 20 REWIND;20 30 PREROLL;24 31 CUE UP WITH DATA;20 34 SYNC PLAY;"\
+        "21 11 JOG FWD;22 11 JOG FWD;21 12 VAR FWD;22 12 VAR FWD;21 13 SHUTTLE FWD;22 13 SHUTTLE FWD;"\
+        "21 21 JOG REV;22 21 JOG REV;21 22 VAR REV;22 22 VAR REV;21 23 SHUTTLE REV;22 23 SHUTTLE REV;"\
+        "40 10 IN ENTRY;40 11 OUT ENTRY;40 12 AUDIO IN ENTRY;40 13 AUDIO OUT ENTRY;"\
+        "44 14 IN DATA PRESET;44 15 OUT DATA PRESET;44 16 AUDIO IN DATA PRESET;44 17 AUDIO OUT DATA PRESET;"\
+        "40 18 IN SHIFT +;40 1A OUT SHIFT +;40 1C AUDIO IN SHIFT +;40 1E AUDIO OUT SHIFT +;"\
+        "40 19 IN SHIFT -;40 1B OUT SHIFT -;40 1D AUDIO IN SHIFT -;40 1F AUDIO OUT SHIFT -;"\
+        "40 20 IN FLAG RESET;40 21 OUT FLAG RESET;40 22 AUDIO IN FLAG RESET;40 23 AUDIO OUT FLAG RESET;"\
+        "40 24 IN RECALL;40 25 OUT RECALL;40 26 AUDIO IN RECALL;40 27 AUDIO OUT RECALL;"\
+        "41 30 EDIT PRESET;42 30 EDIT PRESET;44 31 PREROLL PRESET;41 36 TIMER MODE SELECT;40 40 AUTO MODE OFF;40 41 AUTO MODE ON;"\
+        "61 0C CURRENT TIME SENSE;60 10 IN DATA SENSE;60 11 OUT DATA SENSE;60 12 AUDIO IN DATA SENSE;60 13 AUDIO OUT DATA SENSE;"\
+        "61 20 STATUS SENSE", rows_of_table, ";")
+    for (k = 1; k <= n; k++) name_of_head["C " substr(rows_of_table[k], 1, 5)] = substr(rows_of_table[k], 7)
+    n = split("10 01 ACK;11 12 NAK;12 11 DEVICE TYPE;74 00 TIME;74 01 TIME;74 04 TIME;74 06 TIME;74 14 TIME;74 16 TIME;"\
+        "74 10 IN DATA;74 11 OUT DATA;74 12 AUDIO IN DATA;74 13 AUDIO OUT DATA;7n 20 STATUS", rows_of_table, ";")
+    for (k = 1; k <= n; k++) name_of_head["D " substr(rows_of_table[k], 1, 5)] = substr(rows_of_table[k], 7)
+}
+
+function name_reasons() {
+    sentence_of["P1"] = "The deck sent a byte while no command was waiting for one."
+    sentence_of["P2"] = "The deck sent a byte before the command was whole."
+    sentence_of["P3"] = "The controller went on after a whole command, within the reply limit and before a reply."
+    sentence_of["L2"] = "The controller went on after the reply limit, and the deck had not replied."
+    sentence_of["P4"] = "The controller sent a byte inside the deck's reply."
+    sentence_of["L1"] = "The reply began after the reply limit."
+    sentence_of["B3"] = "Inside a block there was a longer silence than the byte gap."
+    sentence_of["B1"] = "The block begins with a group that belongs on the other wire."
+    sentence_of["P6"] = "The four data bytes of the command are no valid time."
+    sentence_of["P5"] = "A reply of this kind is not right for the command."
+    sentence_of["P7"] = "The four data bytes of the reply are no valid time."
+    sentence_of["M1"] = "No deck can have given this reply after all that came before it."
+}
+
+# From here on every view is the same.
+
+BEGIN {
+    fields = split("goal shown in out local ain aout panel", field, " ")
+    modes = split("STOP PLAY REC FF REW SHUTTLE JOG VAR CUED EJECT", mode_name, " ")
+    for (k = 1; k <= modes; k++) is_mode[mode_name[k]] = 1
+    text_of["P1"] = "reply without a command"
+    text_of["P2"] = "reply before the end of the command"
+    text_of["P3"] = "command before the reply"
+    text_of["L2"] = "no reply"
+    text_of["P4"] = "command inside a reply"
+    text_of["L1"] = "late reply"
+    text_of["B3"] = "gap inside a block"
+    text_of["B1"] = "wrong group for this wire"
+    text_of["B2"] = "wrong sum"
+    text_of["P6"] = "invalid time in a command"
+    text_of["P5"] = "wrong kind of reply"
+    text_of["P7"] = "invalid time in a reply"
+    text_of["M1"] = "no run remains"
+    last_record = 0
+    # Keeps the lines in a file that has no name any more, and writes them where the last one says that all is whole.
+    hold = "held=$(mktemp) && exec 3> \"$held\" 4< \"$held\" 5< \"$held\" && rm \"$held\" && cat >&3" \
+        " && [ \"$(tail -n 1 <&4)\" = whole ] && sed '$d' <&5"
+}
+
+# Takes the line apart. `kind` is then what it is, "exchange", "state", "yes" or "no", and these are what it says: of an
+# exchange `record`, `command`, `reply`, `delay` and `known`, of a state `record` and `known`, of a yes `records`,
+# `exchanges` and `open`, of a no `record` and `reason`. `known` has the first `told` of the fields.
+function read_line() {
+    sub(/\r$/, "")
+    if (kind == "yes" || kind == "no") refuse("a line after the verdict: " $0)
+    if (/^record /) read_record()
+    else if (/^yes: /) read_yes()
+    else read_no()
+}
+
+function read_record(    part, parts, at, before, k) {
+    parts = split($0, part, ", ")
+    at = index(part[1], ": ")
+    record = record_after(substr(part[1], 8, at - 8))
+    part[1] = substr(part[1], at + 2)
+    before = 0
+    kind = "state"
+    if (part[1] ~ / -> /) {
+        before = 2
+        kind = "exchange"
+        read_exchange(part[1], part[2])
+    }
+    told = parts - before
+    if (told < fields - 1 || told > fields) refuse_line()
+    for (k = 1; k <= told; k++) read_field(field[k], part[before + k])
+    lines++
+}
+
+# The number of a record, which comes after that of the line before.
+function record_after(digits) {
+    if (digits !~ /^[1-9][0-9]*$/) refuse_line()
+    if (digits + 0 <= last_record) refuse("a record that does not come after the one before: " $0)
+    last_record = digits + 0
+    return digits
+}
+
+function read_exchange(asked, waited) {
+    if (!match(asked, / -> (ACK|NAK [0-9A-F][0-9A-F]( [a-z+]+)?|[0-9A-F][0-9A-F] [0-9A-F][0-9A-F])$/)) refuse_line()
+    command = substr(asked, 1, RSTART - 1)
+    reply = substr(asked, RSTART + 4)
+    if (command == "" || command ~ /[[:cntrl:]]/) refuse_line()
+    if (waited !~ /^delay (0|[1-9][0-9]*)$/) refuse_line()
+    delay = substr(waited, 7)
+}
+
+function read_field(name, words,    value) {
+    value = substr(words, length(name) + 2)
+    if (words != name " " value || !is_value(name, value)) refuse_line()
+    known[name] = value
+}
+
+# Whether a field can have a value: one that is not known only after an exchange.
+function is_value(name, value) {
+    if (value == "unknown") return kind == "exchange"
+    if (name == "goal" || name == "shown") return value in is_mode
+    if (name == "local") return value == "yes" || value == "no"
+    if (name == "panel") return value == "on" || value == "off"
+    if (value == "set") return kind == "exchange"
+    return value == "clear" || value ~ /^([01][0-9]|2[0-3]):[0-5][0-9]:[0-5][0-9]:([01][0-9]|2[0-4])$/
+}
+
+function read_yes() {
+    if (!/^yes: records (0|[1-9][0-9]*), exchanges (0|[1-9][0-9]*), open (0|[1-9][0-9]*)$/) refuse_line()
+    kind = "yes"
+    records = substr($3, 1, length($3) - 1)
+    exchanges = substr($5, 1, length($5) - 1)
+    open = $7
+}
+
+function read_no(    at) {
+    at = index($0, ": ")
+    if (!/^no at record / || at == 0) refuse_line()
+    record = record_after(substr($0, 14, at - 14))
+    reason = substr($0, at + 2, 2)
+    if (!(reason in text_of) || substr($0, at + 4) != " " text_of[reason]) refuse_line()
+    kind = "no"
+}
+
+# Puts a line to the view, which is written when the whole input was read: so an input that is refused leaves no part of
+# a view behind, and memory does not grow.
+function put(line) {
+    print line | hold
+}
+
+function refuse_line() {
+    refuse("unknown line: " $0)
+}
+
+function refuse(what) {
+    print view ": line " NR ": " what | "cat >&2"
+    close("cat >&2")
+    refused = 1
+    exit 1
+}
+
+END {
+    if (refused) exit 1
+    if (kind != "yes" && kind != "no") refuse("no verdict: the capture can't be read, or the text was cut short")
+    put("whole")
+    if (close(hold) != 0) refuse("the view can't be written")
+}
