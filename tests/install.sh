@@ -4,6 +4,9 @@
 set -u
 cd "$(dirname "$0")/.." || exit 1
 
+. tests/lib/tools.sh
+need_tools mandoc
+
 work=$(mktemp -d)
 trap 'rm -rf "$work"' EXIT
 chmod 755 "$work"
@@ -125,6 +128,11 @@ complete_words ninecheck run --
 expect 'options are offered' 0 '--hands --help' ''
 complete_words ninecheck check examples/play
 expect 'a file is completed' 0 'examples/play.csv' ''
+
+# The man page is rendered without a warning, also of its style.
+mandoc -T lint man/ninecheck.1 > "$work/out" 2> "$work/err"
+status=$?
+expect 'the man page' 0 '' ''
 
 # Each subcommand and option that the program's help names stands in the man page and in each completion.
 program=${NINECHECK:-$PWD/crates/ninecheck/out/ninecheck}
