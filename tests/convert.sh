@@ -1,9 +1,12 @@
 #!/usr/bin/env bash
-# Runs the converters on the stored exports and on damaged ones, under each awk that is there, and the built
+# Runs the converters on the stored exports and on damaged ones, under each awk, and the built
 # program on what they make. The last line is 'N passed, M failed'.
 set -u
 cd "$(dirname "$0")/.." || exit 1
 program=${NINECHECK:-$PWD/crates/ninecheck/out/ninecheck}
+
+. tests/lib/tools.sh
+need_tools mawk gawk busybox ts:moreutils
 
 work=$(mktemp -d)
 trap 'rm -rf "$work"' EXIT
@@ -245,11 +248,7 @@ full_device() {
     judge "$awk: the message of a full device" grep -q "^sigrok.awk: line 17: the capture can't be written$" "$work/err"
 }
 
-for awk in awk mawk 'gawk --posix' 'busybox awk'; do
-    if ! $awk 'BEGIN { exit 0 }' < /dev/null > /dev/null 2>&1; then
-        echo "not there, and not tried: $awk"
-        continue
-    fi
+for awk in mawk 'gawk --posix' 'busybox awk'; do
     stored_exports
     good_exports
     bad_exports
@@ -271,6 +270,18 @@ printf 'time_us,wire,byte\n1,C,21\n2,D,10\n3,D,01\n4,D,11\n5,C,20\n6,C,01\n7,D,1
 printf 'time_us,wire,byte\n5,C,20\n6,C,01\n7,D,10\n8,C,20\n' > "$work/want"
 (cd "$work" && sh -c "$(sed -n 's/^    \(awk -F, .*\)/\1/p' "$OLDPWD/docs/CAPTURE.md")")
 judge "the page's command for the beginning" cmp "$work/begun.csv" "$work/want"
+
+# The page's commands that log two serial ports, with pipes in their place. Which wire comes first is left to the machine.
+mkfifo "$work/controller" "$work/deck"
+sed -n '/^    {$/,/^    }/s/^    //p' docs/CAPTURE.md \
+    | sed "s#/dev/ttyUSB0#controller#; s#/dev/ttyUSB1#deck#" > "$work/log.sh"
+(cd "$work" && sh log.sh) &
+printf '\40\01\41' > "$work/controller" &
+printf '\20\01\21' > "$work/deck"
+wait
+awk -v controller=C -v deck=D -f convert/log.awk < "$work/serial.log" > "$work/capture.csv"
+judge "the page's log of the controller" [ "$(grep -o 'C,..' "$work/capture.csv" | tr '\n' ' ')" = 'C,20 C,01 C,21 ' ]
+judge "the page's log of the deck" [ "$(grep -o 'D,..' "$work/capture.csv" | tr '\n' ' ')" = 'D,10 D,01 D,11 ' ]
 
 # What the converters have in common is the same in each.
 for converter in convert/*.awk; do

@@ -1,10 +1,13 @@
 #!/usr/bin/env bash
-# Cuts captures into parts, under each awk that is there, and has the built program judge them. The last line is
+# Cuts captures into parts, under each awk, and has the built program judge them. The last line is
 # 'N passed, M failed'.
 set -u
 cd "$(dirname "$0")/.." || exit 1
 program=${NINECHECK:-$PWD/crates/ninecheck/out/ninecheck}
 top=$PWD
+
+. tests/lib/tools.sh
+need_tools mawk gawk busybox
 
 work=$(mktemp -d)
 trap 'rm -rf "$work"' EXIT
@@ -62,11 +65,7 @@ second='11,C,20\n12,C,00\n13,C,20\n14,D,10\n15,D,01\n16,D,11\n'
 open='21,C,61\n'
 capture="time_us,wire,byte\n$first$second$open"
 
-for awk in awk mawk 'gawk --posix' 'busybox awk'; do
-    if ! $awk 'BEGIN { exit 0 }' < /dev/null > /dev/null 2>&1; then
-        echo "not there, and not tried: $awk"
-        continue
-    fi
+for awk in mawk 'gawk --posix' 'busybox awk'; do
     split_into "$capture" part
     judge "$awk: a short capture is one part" is_split "$first$second$open"
     judge "$awk: the names" [ "$(cat "$work/out")" = part-001.csv ]
