@@ -6,7 +6,7 @@ cd "$(dirname "$0")/.." || exit 1
 program=${NINECHECK:-$PWD/crates/ninecheck/out/ninecheck}
 
 . tests/lib/tools.sh
-need_tools mawk gawk busybox ts:moreutils
+need_tools mawk gawk busybox
 
 work=$(mktemp -d)
 trap 'rm -rf "$work"' EXIT
@@ -271,11 +271,15 @@ printf 'time_us,wire,byte\n5,C,20\n6,C,01\n7,D,10\n8,C,20\n' > "$work/want"
 (cd "$work" && sh -c "$(sed -n 's/^    \(awk -F, .*\)/\1/p' "$OLDPWD/docs/CAPTURE.md")")
 judge "the page's command for the beginning" cmp "$work/begun.csv" "$work/want"
 
-# The page's commands that log two serial ports, with pipes in their place. Which wire comes first is left to the machine.
+# The page's commands that log two serial ports, with pipes in their place, and a `ts` of our own: its package brings a
+# `parallel` that is another one than that of tests/many.sh. Which wire comes first is left to the machine.
+mkdir "$work/bin"
+printf '#!/bin/sh\nawk "{ printf \\"%%.6f %%s\\\\n\\", NR / 1000, \\$0 }"\n' > "$work/bin/ts"
+chmod +x "$work/bin/ts"
 mkfifo "$work/controller" "$work/deck"
 sed -n '/^    {$/,/^    }/s/^    //p' docs/CAPTURE.md \
     | sed "s#/dev/ttyUSB0#controller#; s#/dev/ttyUSB1#deck#" > "$work/log.sh"
-(cd "$work" && sh log.sh) &
+(cd "$work" && PATH="$work/bin:$PATH" sh log.sh) &
 printf '\40\01\41' > "$work/controller" &
 printf '\20\01\21' > "$work/deck"
 wait

@@ -67,16 +67,19 @@ is_answer() {
     fi
 }
 
-# try_words STATUS WORDS...: the program with these words, and each of its growths refused in turn.
+# try_words STATUS WORDS...: the program with these words, and each of its growths refused in turn, or each of a part of them:
+# from $first on every one that is $step further.
+first=1
+step=1
 try_words() {
-    local n=0 refused=0
+    local n=$((first - step)) refused=0
     right=$1
     shift
     refuses 0 "$@"
     cp "$work/out" "$work/right_out"
     cp "$work/err" "$work/right_err"
     while :; do
-        n=$((n + 1))
+        n=$((n + step))
         refuses "$n" "$@"
         if ! is_answer "$@" || [ "$count" = none ]; then
             failed=$((failed + 1))
@@ -94,6 +97,26 @@ try_words() {
     else
         failed=$((failed + 1))
         echo "FAILED '$*': status $status where no growth is refused, and $refused times out of memory"
+    fi
+}
+
+# try_side_by_side STATUS WORDS...: the same where there are many growths, by four at a time. It counts once.
+try_side_by_side() {
+    local part parts=4
+    for part in $(seq $parts); do
+        mkdir "$work/$part"
+        ln -s ../refuse_growth.so "$work/$part/"
+        (
+            work=$work/$part first=$part step=$parts passed=0
+            try_words "$@"
+            [ "$passed" = 1 ] && touch "$work/passed"
+        ) &
+    done
+    wait
+    if [ "$(find "$work" -name passed | wc -l)" = $parts ]; then
+        passed=$((passed + 1))
+    else
+        failed=$((failed + 1))
     fi
 }
 
@@ -118,7 +141,7 @@ try_words 3 run examples/bad-byte.csv
     awk 'BEGIN { split("C,20 C,01 C,21 D,10 D,01 D,11", row, " ")
         for (k = 1; k <= 6 * 257; k++) print 400 * k "," row[(k - 1) % 6 + 1] }'
 } > "$work/stretches.csv"
-try_words 0 run "$work/stretches.csv"
+try_side_by_side 0 run "$work/stretches.csv"
 
 # try_blocks STATUS WORDS BLOCKS: the same on records 400 microseconds apart: wire letters, each before the bytes that
 # it brings.

@@ -1,8 +1,8 @@
 # To be sourced by a script of tests that needs tools which the machine may not have. It tests nothing itself, so it
 # stands where the gate does not look for scripts.
 
-# need_tools NAME...: installs those of these tools that are not there, each from the Debian package of its name, or of the
-# one after a colon, and ends the script where that can't be done. Scripts that run side by side wait for one another, so each tool is
+# need_tools NAME...: installs those of these tools that are not there, each from the Debian package of its name, and
+# ends the script where that can't be done. Scripts that run side by side wait for one another, so each tool is
 # installed once.
 need_tools() {
     local missing
@@ -13,7 +13,7 @@ need_tools() {
         [ -n "$missing" ] || exit 0
         export DEBIAN_FRONTEND=noninteractive
         # shellcheck disable=SC2086
-        apt-get update -qq && apt-get install -y -qq $(packages_of $missing)
+        apt-get update -qq && apt-get install -y -qq $missing
     ) 9> "${TMPDIR:-/tmp}/ninecheck-tools-$(id -u).lock" > /dev/null 2>&1
     missing=$(missing_tools "$@")
     [ -n "$missing" ] || return 0
@@ -26,13 +26,7 @@ need_tools() {
 missing_tools() {
     local tool missing=
     for tool in "$@"; do
-        command -v "${tool%%:*}" > /dev/null || missing="$missing $tool"
+        command -v "$tool" > /dev/null || missing="$missing $tool"
     done
     echo "${missing# }"
-}
-
-# packages_of NAME...: the packages that these tools come from.
-packages_of() {
-    local tool
-    for tool in "$@"; do echo "${tool##*:}"; done
 }
