@@ -2,7 +2,7 @@
 _ninecheck() {
     local word=${COMP_WORDS[COMP_CWORD]}
     if [ "$COMP_CWORD" = 1 ]; then
-        mapfile -t COMPREPLY < <(compgen -W 'check explain run help --help' -- "$word")
+        mapfile -t COMPREPLY < <(compgen -W 'check explain run help --help --version' -- "$word")
         return
     fi
     case ${COMP_WORDS[1]} in

@@ -5,3 +5,4 @@ complete -c ninecheck -n __fish_use_subcommand -f -a run -d 'One run of the deck
 complete -c ninecheck -n __fish_use_subcommand -f -a help -d 'What can be asked for'
 complete -c ninecheck -n '__fish_seen_subcommand_from check explain run' -l hands -d "Somebody may have touched the deck's panel"
 complete -c ninecheck -s h -l help -d 'What can be asked for'
+complete -c ninecheck -n __fish_use_subcommand -s V -l version -d 'The version'

@@ -8,7 +8,11 @@ verbs=(
     'help:what can be asked for'
 )
 if (( CURRENT == 2 )); then
-    _describe 'command' verbs
+    if [[ $PREFIX == -* ]]; then
+        _arguments '(- *)'{-h,--help}'[what can be asked for]' '(- *)'{-V,--version}'[the version]'
+    else
+        _describe 'command' verbs
+    fi
     return
 fi
 case $words[2] in

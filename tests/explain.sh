@@ -3,6 +3,7 @@
 set -u
 cd "$(dirname "$0")/.." || exit 1
 program=${NINECHECK:-$PWD/crates/ninecheck/out/ninecheck}
+. tests/lib/errors.sh
 
 work=$(mktemp -d)
 trap 'rm -rf "$work"' EXIT
@@ -145,12 +146,12 @@ judge 'a deck in local' has_line 2 'yes: records 8, exchanges 1, open 0'
 } | "$program" explain > "$work/out" 2> "$work/err"
 status=$?
 judge 'a bad row, the status' [ "$status" = 3 ]
-judge 'a bad row, the line on standard error' [ "$(cat "$work/err")" = 'unreadable at row 7: byte' ]
+judge 'a bad row, the lines on standard error' [ "$(cat "$work/err")" = "$(both_lines 'unreadable at row 7: byte')" ]
 judge 'a bad row, the lines before it' has_lines 1
 judge 'a bad row, the line of PLAY' has_line 1 \
     "record 6: PLAY -> ACK, delay 400, goal unknown, shown unknown, in unknown, out unknown, local unknown$audio"
 
-# A pipe that closes while a long report is written ends the program, with one line on standard error.
+# A pipe that closes while a long report is written ends the program, with two lines on standard error.
 {
     echo 'time_us,wire,byte'
     awk 'BEGIN { split("C,20 C,01 C,21 D,10 D,01 D,11", row, " ")
@@ -162,7 +163,7 @@ judge 'a bad row, the line of PLAY' has_line 1 \
 } | head -n 1 > "$work/out"
 status=$(cat "$work/status")
 judge 'a closed pipe, the status' [ "$status" = 4 ]
-judge 'a closed pipe, the line on standard error' [ "$(cat "$work/err")" = 'write fault' ]
+judge 'a closed pipe, the lines on standard error' [ "$(cat "$work/err")" = "$(both_lines 'write fault')" ]
 judge 'a closed pipe, the first line' has_lines 1
 "$program" explain "$work/long.csv" > "$work/out" 2> "$work/err"
 status=$?

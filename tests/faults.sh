@@ -4,6 +4,7 @@
 set -u
 cd "$(dirname "$0")/.." || exit 1
 program=${NINECHECK:-$PWD/crates/ninecheck/out/ninecheck}
+. tests/lib/errors.sh
 
 work=$(mktemp -d)
 trap 'rm -rf "$work"' EXIT
@@ -40,14 +41,19 @@ is_right() {
 
 # is_write_fault: the program ended with the write that failed, and has written a first part and not the whole.
 is_write_fault() {
-    [ "$status" = 4 ] && [ "$(cat "$work/err")" = 'write fault' ] && [ "$writes" = "$at" ] &&
+    [ "$status" = 4 ] && [ "$(cat "$work/err")" = "$(both_lines 'write fault')" ] && [ "$writes" = "$at" ] &&
         has_begun && ! cmp -s "$work/out" "$work/whole"
+}
+
+# is_said_of_first: standard error has a first line, the second that belongs to it, and no more.
+is_said_of_first() {
+    [ "$(cat "$work/err")" = "$(both_lines "$(head -n 1 "$work/err")")" ]
 }
 
 # is_read_fault: the program ended with the read that failed, at some row of the text, and wrote no verdict, and of a
 # run nothing.
 is_read_fault() {
-    [ "$status" = 4 ] && grep -qxE 'read fault at row [0-9]+' "$work/err" && [ "$reads" = "$at" ] &&
+    [ "$status" = 4 ] && [[ $(head -n 1 "$work/err") =~ ^'read fault at row '[0-9]+$ ]] && is_said_of_first && [ "$reads" = "$at" ] &&
         has_begun && ! grep -q '^yes\|^no' "$work/out" && { [ "$verb" != run ] || [ ! -s "$work/out" ]; }
 }
 
@@ -92,7 +98,7 @@ done
 # expect_row N WANT: the row that is named where read N of PLAY fails.
 expect_row() {
     run check examples/play.csv read "$1" EIO
-    if [ "$status" = 4 ] && [ "$(cat "$work/err")" = "read fault at row $2" ] && [ ! -s "$work/out" ]; then
+    if [ "$status" = 4 ] && [ "$(cat "$work/err")" = "$(both_lines "read fault at row $2")" ] && [ ! -s "$work/out" ]; then
         passed=$((passed + 1))
     else
         failed=$((failed + 1))

@@ -7,6 +7,7 @@ set -u
 cd "$(dirname "$0")/.." || exit 1
 tests=${TRACK9_TESTS:-$PWD/crates/track9_tests/out/track9_tests_tests}
 program=${NINECHECK:-$PWD/crates/ninecheck/out/ninecheck}
+. tests/lib/errors.sh
 
 work=$(mktemp -d)
 trap 'rm -rf "$work"' EXIT
@@ -55,13 +56,15 @@ refuses() {
     count=$(cat "$work/count" 2> /dev/null || echo none)
 }
 
+out_of_memory=$(both_lines 'out of memory')
+
 # is_answer WORDS...: the program did what is right, or told that it is out of memory and wrote a first part of what is
 # right; of a run it writes nothing then.
 is_answer() {
     if [ "$status" = "$right" ]; then
         cmp -s "$work/out" "$work/right_out" && cmp -s "$work/err" "$work/right_err"
     else
-        [ "$status" = 5 ] && [ "$(cat "$work/err")" = 'out of memory' ] &&
+        [ "$status" = 5 ] && [ "$(cat "$work/err")" = "$out_of_memory" ] &&
             { [ "$1" != run ] || [ ! -s "$work/out" ]; } &&
             cmp -s -n "$(wc -c < "$work/out")" "$work/out" "$work/right_out"
     fi
@@ -128,6 +131,7 @@ try_words 1 explain examples/second-reply.csv
 try_words 3 check examples/bad-byte.csv
 try_words 4 check absent.csv
 try_words 2 frob
+try_words 0 --version
 try_words 0 explain examples/fast-forward.csv
 try_words 1 explain examples/disputed-in-point.csv
 try_words 0 run examples/fast-forward.csv

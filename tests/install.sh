@@ -49,6 +49,8 @@ as_nobody() {
 # run_installed NAME ROOT: the program below this root, by a symlink and from another folder.
 run_installed() {
     local name=$1 root=$2
+    as_nobody "$root/bin/ninecheck" --version
+    expect "$name: the version" 0 "ninecheck $(cat VERSION)" ''
     ln -sf "$root/bin/ninecheck" "$work/a folder/nine"
     as_nobody ./nine check capture.csv
     expect "$name: a check" 0 'yes: records 6, exchanges 1, open 0' ''
@@ -123,11 +125,14 @@ complete_words() {
 complete_words ninecheck e
 expect 'a verb is completed' 0 'explain' ''
 complete_words ninecheck ''
-expect 'verbs are offered' 0 'check explain run help --help' ''
+expect 'verbs are offered' 0 'check explain run help --help --version' ''
 complete_words ninecheck run --
 expect 'options are offered' 0 '--hands --help' ''
 complete_words ninecheck check examples/play
 expect 'a file is completed' 0 'examples/play.csv' ''
+
+# The page and the program have the version of the file.
+holds 'the version of the man page' grep -qE "^\.TH NINECHECK 1 [0-9-]+ \"ninecheck $(cat VERSION)\"" man/ninecheck.1
 
 # The man page is rendered without a warning, also of its style.
 mandoc -T lint man/ninecheck.1 > "$work/out" 2> "$work/err"
@@ -136,7 +141,7 @@ expect 'the man page' 0 '' ''
 
 # Each subcommand and option that the program's help names stands in the man page and in each completion.
 program=${NINECHECK:-$PWD/crates/ninecheck/out/ninecheck}
-for word in $("$program" --help | awk '/^Commands:/ { on = 1; next } /^$/ { on = 0 } on { print $1 }') hands; do
+for word in $("$program" --help | awk '/^Commands:/ { on = 1; next } /^$/ { on = 0 } on { print $1 }') hands version; do
     for file in man/ninecheck.1 completions/ninecheck.bash completions/ninecheck.zsh completions/ninecheck.fish; do
         holds "$word in $file" grep -q -- "$word" "$file"
     done

@@ -1,9 +1,11 @@
 #!/usr/bin/env bash
 # Runs the built program on what docs/PROFILE.md says of commands that are not listed, and of replies that are P5 here,
-# row by row of its tables. The last line is 'N passed, M failed'.
+# row by row of its tables, and compares its table of second lines with the one that the other tests go by. The last line is
+# 'N passed, M failed'.
 set -u
 cd "$(dirname "$0")/.." || exit 1
 program=${NINECHECK:-$PWD/crates/ninecheck/out/ninecheck}
+. tests/lib/errors.sh
 
 work=$(mktemp -d)
 trap 'rm -rf "$work"' EXIT
@@ -78,6 +80,16 @@ while IFS='|' read -r command reply what; do
     rows=$((rows + 1))
 done < <(table 'Forms of replies')
 judge "rows of replies: $rows" [ "$rows" = 6 ]
+
+# The rows of second lines, but for the two that name a file, which tests/program.sh has.
+rows=0
+while IFS='|' read -r first second; do
+    both_lines "${first/row K/row 7}" > "$work/out"
+    judge "the second line of '$first'" [ "$(tail -n +2 "$work/out")" = "$second" ]
+    rows=$((rows + 1))
+done < <(sed -n '/^| First line | Second line |$/,/^$/p' docs/PROFILE.md | grep '^| `' | grep -v 'FILE' |
+    sed 's/^| `//; s/` |$//; s/` | `/|/')
+judge "rows of second lines: $rows" [ "$rows" = 10 ]
 
 echo "$passed passed, $failed failed"
 [ "$failed" = 0 ]

@@ -4,6 +4,7 @@
 set -u
 cd "$(dirname "$0")/.." || exit 1
 program=${NINECHECK:-$PWD/crates/ninecheck/out/ninecheck}
+. tests/lib/errors.sh
 
 work=$(mktemp -d)
 trap 'rm -rf "$work"' EXIT
@@ -61,7 +62,7 @@ run_blocks() {
 while IFS='|' read -r file want_status want_out want_err; do
     case "$file" in '#'* | '') continue ;; esac
     run_on "examples/$file"
-    expect "examples/$file" "$want_status" "$want_out" "$want_err"
+    expect "examples/$file" "$want_status" "$want_out" "$(both_lines "$want_err")"
 done < examples/ANSWERS
 
 # Forms of CSV that are the same capture.
@@ -87,7 +88,7 @@ expect 'a header without a line feed' 0 'yes: records 0, exchanges 0, open 0' ''
 # Texts that can't be read.
 while IFS='|' read -r name row word text; do
     run_text "$text"
-    expect "$name" 3 '' "unreadable at row $row: $word"
+    expect "$name" 3 '' "$(both_lines "unreadable at row $row: $word")"
 done <<'END'
 an empty text|0|header|
 empty lines alone|0|header|\n\r\n
@@ -154,7 +155,7 @@ expect 'check with the option on standard input' 0 "$yes" ''
 run check examples/second-reply.csv < /dev/null
 expect 'check with a file that breaks a rule' 1 'no at record 7: P1 reply without a command' ''
 run check examples/bad-byte.csv < /dev/null
-expect 'check with a file that has a bad row' 3 '' 'unreadable at row 7: byte'
+expect 'check with a file that has a bad row' 3 '' "$(both_lines 'unreadable at row 7: byte')"
 cp examples/play.csv "$work/--hands"
 (cd "$work" && "$program" check -- --hands) > "$work/out" 2> "$work/err" < /dev/null
 status=$?
@@ -176,7 +177,7 @@ explained 'explain on standard input' 0 "$yes" ''
 run explain examples/wrong-sum.csv < /dev/null
 explained 'explain with a file that breaks a rule' 1 'no at record 3: B2 wrong sum' ''
 run explain < examples/wrong-header.csv
-expect 'explain of a text that is no capture' 3 '' 'unreadable at row 0: header'
+expect 'explain of a text that is no capture' 3 '' "$(both_lines 'unreadable at row 0: header')"
 
 # run ends so too, and writes a line for each exchange before that of a yes (tests/run.sh has the lines).
 ran() {
@@ -205,9 +206,9 @@ expect 'run of a capture that breaks a rule' 1 'no at record 7: P1 reply without
 run run examples/disputed-in-point.csv < /dev/null
 expect 'run with a file of which no run remains' 1 'no at record 28: M1 no run remains' ''
 run run examples/bad-byte.csv < /dev/null
-expect 'run with a file that has a bad row' 3 '' 'unreadable at row 7: byte'
+expect 'run with a file that has a bad row' 3 '' "$(both_lines 'unreadable at row 7: byte')"
 run run < examples/wrong-header.csv
-expect 'run of a text that is no capture' 3 '' 'unreadable at row 0: header'
+expect 'run of a text that is no capture' 3 '' "$(both_lines 'unreadable at row 0: header')"
 
 # Words that are no command, and words that ask for help: status 2, and a line that the text on this stream has.
 while IFS='|' read -r stream words line; do
@@ -231,7 +232,13 @@ err|check --hands --hands|error: the argument '--hands' cannot be used multiple 
 err|check --hands=yes|error: unexpected value 'yes' for '--hands' found; no more were expected
 err|check --hand|  tip: a similar argument exists: '--hands'
 err|--hands check|error: unexpected argument '--hands' found
-err|--version|error: unexpected argument '--version' found
+err|check --version|error: unexpected argument '--version' found
+err|run -V|error: unexpected argument '-V' found
+err|frob --version|error: unrecognized subcommand 'frob'
+err|--version=1|error: unexpected value '1' for '--version' found; no more were expected
+err|--versions|  tip: a similar argument exists: '--version'
+out|-h --version|Usage: ninecheck <COMMAND>
+out|--help|  -V, --version  Print version
 out|--help|Usage: ninecheck <COMMAND>
 out|-h|Usage: ninecheck <COMMAND>
 out|help|Usage: ninecheck <COMMAND>
@@ -247,23 +254,47 @@ judged=$(cat "$work/text")
 echo "$judged" > "$work/out"
 expect 'the subcommands that the help lists' 2 'check explain run help ' ''
 run "$(printf '\377')" < examples/play.csv
-expect 'a word that is not UTF-8' 2 '' 'error: a word of the command line is not UTF-8'
+expect 'a word that is not UTF-8' 2 '' 'error: a word of the command line is not UTF-8
+give a file of such a name as standard input: ninecheck check < FILE'
+
+# The version, also where other words follow it: the words are read in order, and it is told at once.
+version="ninecheck $(cat VERSION)"
+while IFS= read -r words; do
+    run $words < /dev/null
+    expect "the words '$words'" 0 "$version" ''
+done <<'END'
+--version
+-V
+-Vh
+--version --version
+--version check
+-V --frob
+END
+"$program" --version > /dev/full 2> "$work/err"
+status=$?
+: > "$work/out"
+expect 'the version on a full device' 4 '' "$(both_lines 'write fault')"
 
 # Files.
 run check . < examples/play.csv
-expect 'a directory' 4 '' 'read fault at row 0'
+expect 'a directory' 4 '' 'read fault at row 0
+.: Is a directory'
 run check "$work/absent.csv" < examples/play.csv
-expect 'an absent file' 4 '' 'cannot open'
+expect 'an absent file' 4 '' "cannot open
+$work/absent.csv: No such file or directory"
 run check '' < examples/play.csv
-expect 'a file without a name' 4 '' 'cannot open'
+expect 'a file without a name' 4 '' 'cannot open
+: No such file or directory'
 run check examples/play.csv/more < examples/play.csv
-expect 'a file in a file' 4 '' 'cannot open'
+expect 'a file in a file' 4 '' 'cannot open
+examples/play.csv/more: Not a directory'
 ln -s loop "$work/loop"
 run check "$work/loop" < examples/play.csv
-expect 'a link to itself' 4 '' 'cannot open'
+expect 'a link to itself' 4 '' "cannot open
+$work/loop: Too many levels of symbolic links"
 : > "$work/empty.csv"
 run check "$work/empty.csv" < examples/play.csv
-expect 'an empty file' 3 '' 'unreadable at row 0: header'
+expect 'an empty file' 3 '' "$(both_lines 'unreadable at row 0: header')"
 # For the superuser every file is readable, so this one runs as somebody else.
 as=
 [ "$(id -u)" != 0 ] || as='setpriv --reuid=65534 --regid=65534 --clear-groups'
@@ -273,36 +304,39 @@ chmod 755 "$work" "$work/others"
 chmod 000 "$work/others/play.csv"
 $as "$work/others/ninecheck" check "$work/others/play.csv" > "$work/out" 2> "$work/err" < /dev/null
 status=$?
-expect 'a file that may not be read' 4 '' 'cannot open'
+expect 'a file that may not be read' 4 '' "cannot open
+$work/others/play.csv: Permission denied"
 run run . < examples/play.csv
-expect 'run of a directory' 4 '' 'read fault at row 0'
+expect 'run of a directory' 4 '' 'read fault at row 0
+.: Is a directory'
 run run "$work/absent.csv" < examples/play.csv
-expect 'run of an absent file' 4 '' 'cannot open'
+expect 'run of an absent file' 4 '' "cannot open
+$work/absent.csv: No such file or directory"
 
 # Streams that fail.
 run_on .
-expect 'a directory as input' 4 '' 'read fault at row 0'
+expect 'a directory as input' 4 '' "$(both_lines 'read fault at row 0')"
 (
     ulimit -v 262144
     exec "$program" check < /dev/zero > "$work/out" 2> "$work/err"
 )
 status=$?
-expect 'a row without end' 5 '' 'out of memory'
+expect 'a row without end' 5 '' "$(both_lines 'out of memory')"
 for verb in check run; do
     "$program" $verb < examples/play.csv > /dev/full 2> "$work/err"
     status=$?
     : > "$work/out"
-    expect "a full device, $verb" 4 '' 'write fault'
+    expect "a full device, $verb" 4 '' "$(both_lines 'write fault')"
     "$program" $verb < examples/play.csv >&- 2> "$work/err"
     status=$?
-    expect "a closed output, $verb" 4 '' 'write fault'
+    expect "a closed output, $verb" 4 '' "$(both_lines 'write fault')"
     {
         sleep 1
         "$program" $verb < examples/play.csv 2> "$work/err"
         echo $? > "$work/status"
     } | true
     status=$(cat "$work/status")
-    expect "a closed pipe, $verb" 4 '' 'write fault'
+    expect "a closed pipe, $verb" 4 '' "$(both_lines 'write fault')"
 done
 "$program" check < examples/wrong-header.csv > "$work/out" 2>&-
 status=$?
@@ -369,7 +403,7 @@ done
     exec ./ninecheck check < /dev/zero > "$work/out" 2> "$work/err"
 )
 status=$?
-expect 'a row without end, by the script' 5 '' 'out of memory'
+expect 'a row without end, by the script' 5 '' "$(both_lines 'out of memory')"
 
 echo "$passed passed, $failed failed"
 [ "$failed" = 0 ]

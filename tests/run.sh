@@ -4,6 +4,7 @@
 set -u
 cd "$(dirname "$0")/.." || exit 1
 program=${NINECHECK:-$PWD/crates/ninecheck/out/ninecheck}
+. tests/lib/errors.sh
 
 work=$(mktemp -d)
 trap 'rm -rf "$work"' EXIT
@@ -116,7 +117,7 @@ while IFS='|' read -r file want_status want_out want_err; do
         judge "examples/$file with hands" is_run "examples/$file" --hands
         judge "examples/$file, its last line" [ "$(tail -n 1 "$work/out")" = "$want_out" ]
     else
-        judge "examples/$file" is_text "$want_status" "$want_out" "$want_err"
+        judge "examples/$file" is_text "$want_status" "$want_out" "$(both_lines "$want_err")"
     fi
 done < examples/ANSWERS
 
@@ -155,7 +156,7 @@ judge 'no run remains' is_text 1 'no at record 34: M1 no run remains' ''
 capture_of "C 20 01 21 $ack"
 echo '2800,C,G1' >> "$work/capture.csv"
 run "$work/capture.csv"
-judge 'a bad row' is_text 3 '' 'unreadable at row 7: byte'
+judge 'a bad row' is_text 3 '' "$(both_lines 'unreadable at row 7: byte')"
 
 # Two of three shifts of a local deck are done: which, is not known before the register is sensed.
 capture_of "$local_at_10 $shift $shift $shift C 60 10 70 D 74 10 02 00 00 10 96"
@@ -225,7 +226,7 @@ judge 'many stretches' is_run "$work/long.csv"
 judge 'many stretches, the lines' has_lines 4403
 judge 'many stretches, with hands' is_run "$work/long.csv" --hands
 
-# A pipe that closes while a long text is written ends the program, with one line on standard error.
+# A pipe that closes while a long text is written ends the program, with two lines on standard error.
 {
     echo 'time_us,wire,byte'
     awk 'BEGIN { split("C,20 C,01 C,21 D,10 D,01 D,11", row, " ")
@@ -237,7 +238,7 @@ judge 'many stretches, with hands' is_run "$work/long.csv" --hands
 } | head -n 1 > "$work/out"
 status=$(cat "$work/status")
 judge 'a closed pipe, the status' [ "$status" = 4 ]
-judge 'a closed pipe, the line on standard error' [ "$(cat "$work/err")" = 'write fault' ]
+judge 'a closed pipe, the lines on standard error' [ "$(cat "$work/err")" = "$(both_lines 'write fault')" ]
 judge 'a closed pipe, the first line' has_lines 1
 run "$work/long.csv"
 judge 'a long text, the status' [ "$status" = 0 ]

@@ -6,6 +6,7 @@ cd "$(dirname "$0")/.." || exit 1
 program=${NINECHECK:-$PWD/crates/ninecheck/out/ninecheck}
 top=$PWD
 
+. tests/lib/errors.sh
 . tests/lib/tools.sh
 need_tools mawk gawk busybox
 
@@ -100,7 +101,7 @@ done
         for (k = 1; k <= 4000001; k++) printf "%d,%s\n", 400 * k, row[(k - 1) % 6 + 1] }'
 } > "$work/long.csv"
 "$program" check "$work/long.csv" > "$work/out" 2>&1
-judge 'a capture that is too long' [ "$(cat "$work/out")" = 'unreadable at row 4000001: too many rows' ]
+judge 'a capture that is too long' [ "$(cat "$work/out")" = "$(both_lines 'unreadable at row 4000001: too many rows')" ]
 awk=awk
 split_file "$work/long.csv" part
 judge 'its parts' [ "$(cat "$work/out")" = 'part-001.csv

@@ -1,2 +1,3 @@
 mod BufferLemmas
 mod ProgramLemmas
+mod VersionLemmas

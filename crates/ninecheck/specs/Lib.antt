@@ -5,4 +5,5 @@ pub mod Output
 pub mod Judging
 pub mod Source
 pub mod Status
+pub mod Version
 pub mod Program

@@ -6,7 +6,7 @@ use Rattle.std.specs.IoError.{error_kind}
 use Rattle.std.specs.String.{string_bytes}
 use Rattle.std.specs.declared.io.Error.{Error}
 use Rattle.std.specs.declared.io.ErrorKind.{ErrorKind}
-use Rattle.std.specs.declared.io.ErrorKind.TheVariants.{OutOfMemory}
+use Rattle.std.specs.declared.io.ErrorKind.TheVariants.{FilesystemLoop, IsADirectory, NotADirectory, NotFound, OutOfMemory, PermissionDenied}
 use Rattle.capture9.specs.declared.error.CaptureError.{CaptureError}
 use Rattle.capture9.specs.declared.error.CaptureKind.TheVariants as kind
 use Rattle.capture9.specs.Rows.{Rows, rows_of}
@@ -22,25 +22,37 @@ use Rattle.words9.specs.declared.task.Verb.{Verb}
 use Rattle.words9.specs.declared.task.Verb.TheVariants as verb
 use Rattle.words9.specs.declared.task.WordsFault.{WordsFault}
 use Rattle.words9.specs.declared.task.WordsFault.TheVariants as words
-use Rattle.words9.specs.Words.{IsNoTask, IsTaskOf}
+use Rattle.words9.specs.Words.{AsksVersion, IsNoTask, IsTaskOf, MayAskVersion}
 use Rattle.ninecheck.specs.declared.ending.End.{End}
 use Rattle.ninecheck.specs.declared.ending.End.TheVariants as end
-use Rattle.ninecheck.specs.declared.ending.Line.TheVariants as line
+use Rattle.ninecheck.specs.declared.ending.Message.TheVariants as message
 use Rattle.ninecheck.specs.declared.ending.Outcome.{Outcome}
+use Rattle.ninecheck.specs.declared.ending.WhyUnopened.{WhyUnopened}
+use Rattle.ninecheck.specs.declared.ending.WhyUnopened.TheVariants as why
 use Rattle.ninecheck.specs.Judging.{EndsAs, TellsRun}
 use Rattle.ninecheck.specs.Outcome.{outcome_of}
+use Rattle.ninecheck.specs.Version.{TellsVersion}
 
 -- the end for want of memory
 abbrev pub no_memory : Outcome
-no_memory = record { status = 5; line = line.NoMemory }
+no_memory = record { status = 5; message = message.NoMemory }
 
--- the end after a capture that was not opened: want of memory, or that it can't be opened
-abbrev pub outcome_of_kind : ErrorKind → Outcome
-outcome_of_kind OutOfMemory = no_memory
-outcome_of_kind _ = record { status = 4; line = line.CannotOpen }
+-- why a capture was not opened, by the kind of its opener's error
+abbrev pub why_of : ErrorKind → WhyUnopened
+why_of NotFound = why.NotFound
+why_of PermissionDenied = why.PermissionDenied
+why_of IsADirectory = why.IsADirectory
+why_of NotADirectory = why.NotADirectory
+why_of FilesystemLoop = why.FilesystemLoop
+why_of _ = why.Other
 
-abbrev pub outcome_unopened : Error → Outcome
-outcome_unopened e = outcome_of_kind (error_kind e)
+-- the end after a capture that was not opened: want of memory, or that this file can't be opened, and why
+abbrev pub outcome_of_kind : Option (String Global) → ErrorKind → Outcome
+outcome_of_kind file OutOfMemory = no_memory
+outcome_of_kind file k = record { status = 4; message = message.CannotOpen (record { file = file; why = why_of k }) }
+
+abbrev pub outcome_unopened : Option (String Global) → Error → Outcome
+outcome_unopened file e = outcome_of_kind file (error_kind e)
 
 -- what a judging with this verb tells: `check` the verdict, `explain` each exchange before it, `run` a run of the deck
 abbrev pub TellsFor : Verb → Hands → Option Rows → Option (List ℕ) → Result Verdict JudgeError → Option (List ℕ) → Type 0
@@ -60,7 +72,7 @@ pub record IsJudgedFor (verb : Verb) (hands : Hands) (capture : Option (List ℕ
 -- a task's capture was opened so, and this is the end: it was not opened, and nothing is written; or it was judged as
 -- the task says; or memory for the buffer was refused, and nothing is written
 abbrev pub EndsOpened : {R : Type 0} → (R → Option (List ℕ)) → Task → Result R Error → Option (List ℕ) → Outcome → Option (List ℕ) → Type 0
-EndsOpened coming task (Err e) old end now = (end ≡ outcome_unopened e) × Keeps old now
+EndsOpened coming task (Err e) old end now = (end ≡ outcome_unopened task.file e) × Keeps old now
 EndsOpened coming task (Ok reader) old end now =
     ((end ≡ no_memory) × Keeps old now)
     ⊎ ((result : Result Verdict JudgeError) × IsJudgedFor task.verb task.hands (coming reader) old result now × (end ≡ outcome_of result))
@@ -71,19 +83,23 @@ pub record EndsTask {R : Type 0} (opens : Option (String Global) → Result R Er
   pub is_opened : opens task.file opened
   pub ends : EndsOpened coming task opened old end now
 
--- the end where there is no task
-abbrev pub end_without : WordsFault → End
-end_without (words.Usage text) = end.Usage text
-end_without words.NoMemory = end.Told no_memory
+-- the end where there is no task: the words are none, or ask for the version, or memory was refused
+abbrev pub EndsWithout : WordsFault → Option (List ℕ) → End → Option (List ℕ) → Type 0
+EndsWithout (words.Usage text) old told now = (told ≡ end.Usage text) × Keeps old now
+EndsWithout words.Version old told now = (outcome : Outcome) × (told ≡ end.Told outcome) × TellsVersion old outcome now
+EndsWithout words.NoMemory old told now = (told ≡ end.Told no_memory) × Keeps old now
 
 -- the end of the program on these words: they are no command, and nothing is written; or memory was refused before a
--- task stood, and nothing is written; or the task that they give was carried out
+-- task stood, and nothing is written; or they ask for the version, and that is told; or the task that they give was
+-- carried out
 abbrev pub EndsWords : {R : Type 0} → (Option (String Global) → Result R Error → Type 0) → (R → Option (List ℕ)) → List (List ℕ) → Option (List ℕ) → End → Option (List ℕ) → Type 0
-EndsWords opens coming words old (end.Usage text) now = IsNoTask words × Keeps old now
+EndsWords opens coming words old (end.Usage text) now = IsNoTask words × ¬ (AsksVersion words) × Keeps old now
 EndsWords opens coming words old (end.Told outcome) now =
-    ((outcome ≡ no_memory) × Keeps old now) ⊎ ((task : Task) × IsTaskOf words task × EndsTask opens coming task old outcome now)
+    ((outcome ≡ no_memory) × Keeps old now)
+    ⊎ ((MayAskVersion words × TellsVersion old outcome now)
+    ⊎ ((task : Task) × IsTaskOf words task × EndsTask opens coming task old outcome now))
 
 -- the end of the program, by its words or by why there are none
 abbrev pub EndsProgram : {R : Type 0} → (Option (String Global) → Result R Error → Type 0) → (R → Option (List ℕ)) → Result (Vec (String Global) Global) WordsFault → Option (List ℕ) → End → Option (List ℕ) → Type 0
-EndsProgram opens coming (Err fault) old end now = (end ≡ end_without fault) × Keeps old now
+EndsProgram opens coming (Err fault) old end now = EndsWithout fault old end now
 EndsProgram opens coming (Ok words) old end now = EndsWords opens coming (map (λ s. string_bytes s) words.items) old end now

@@ -79,7 +79,7 @@ impl<W: Write + Drop> Write for Buffered<W> {
 
 /// Writes until all bytes are taken or a call fails, is interrupted or takes none: how many were taken, and
 /// whether all were.
-fn put_some<W: Write>(to: &mut W, bytes: &[u8]) -> (usize, io::Result<()>)
+pub(crate) fn put_some<W: Write>(to: &mut W, bytes: &[u8]) -> (usize, io::Result<()>)
     ensures bound { result.0 ≤ length bytes.now }
     ensures all { OnOk result.1 (result.0 ≡ length bytes.now) }
     ensures bytes { Appends (W.contents to.old) (W.contents to.new) (take result.0 bytes.now) }

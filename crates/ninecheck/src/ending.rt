@@ -1,87 +1,70 @@
-//! How the program ends: its status, and the line on standard error.
-ghost use Rattle.std.specs.Prelude.{◌≡◌};
-ghost use Rattle.ninecheck.specs.Word.{word_of};
+//! How the program ends: its status, and what it says on standard error.
 
-use capture9::{CaptureError, CaptureKind};
+use capture9::CaptureError;
 use clap::Error;
-use std::fmt;
 
-/// The line on standard error, which its `Display` writes without a line feed.
-#[derive(Clone, Copy, Debug, PartialEq, Eq)]
-pub enum Line {
+/// What is said on standard error, which its `Display` writes: two lines, without a line feed at the end, or nothing. The
+/// first line says what happened; the second what was expected, or what to look at.
+#[derive(Debug, Drop, PartialEq, Eq)]
+pub enum Message {
     /// There is a verdict, and nothing to be said beside it.
-    NoLine,
+    Nothing,
     /// A row of the capture is bad, or its header. The kind is neither `Read` nor `OutOfMemory`.
     Unreadable(CaptureError),
     /// The reader failed or was interrupted at this data row, counted from 1; 0 stands for the header.
     ReadFault(u32),
-    /// The file can't be opened. No result of `judge` ends so.
-    CannotOpen,
+    /// The capture was not opened. No result of `judge` ends so.
+    CannotOpen(Unopened),
     /// The writer failed, was interrupted, or took no byte.
     WriteFault,
     /// A growth of memory was refused.
     NoMemory,
 }
 
-impl fmt::Display for Line {
-    ghost use Rattle.std.specs.Prelude.{Some};
-    ghost use Rattle.ninecheck.specs.Text.{text_of};
-
-    ghost output = { λ line. Some (text_of line) };
-
-    fn fmt<W: fmt::Write>(&self, f: &mut fmt::Formatter<W>) -> fmt::Result {
-        match self {
-            Line::NoLine => Ok(()),
-            Line::Unreadable(e) => {
-                let (row, word) = (e.row, word_of(e.kind));
-                write!(f, "unreadable at row {row}: {word}")
-            }
-            Line::ReadFault(row) => {
-                let row = *row;
-                write!(f, "read fault at row {row}")
-            }
-            Line::CannotOpen => write!(f, "cannot open"),
-            Line::WriteFault => write!(f, "write fault"),
-            Line::NoMemory => write!(f, "out of memory"),
-        }
-    }
+/// A capture that was not opened.
+#[derive(Debug, Drop, PartialEq, Eq)]
+pub struct Unopened {
+    /// The file, by the name that the words give; standard input where there is none.
+    pub file: Option<String>,
+    /// Why not.
+    pub why: WhyUnopened,
 }
 
-/// What is wrong at a row, in a word or two.
-fn word_of<'a>(kind: CaptureKind) -> &'a str
-    ensures { result.now ≡ word_of kind }
-{
-    match kind {
-        CaptureKind::Header => "header",
-        CaptureKind::Fields => "fields",
-        CaptureKind::Time => "time",
-        CaptureKind::Wire => "wire",
-        CaptureKind::Byte => "byte",
-        CaptureKind::Backwards => "backwards",
-        CaptureKind::TooMany => "too many rows",
-        CaptureKind::Read => "read fault",
-        CaptureKind::OutOfMemory => "out of memory",
-    }
+/// Why a capture was not opened, by the kind of the error that its opener gave.
+#[derive(Clone, Copy, Debug, PartialEq, Eq)]
+pub enum WhyUnopened {
+    /// There is no such file.
+    NotFound,
+    /// The file may not be read.
+    PermissionDenied,
+    /// It is a directory. The system opens one, and refuses its first read, so its first line is that of such a read.
+    IsADirectory,
+    /// What should be a directory of the path is none.
+    NotADirectory,
+    /// Its symbolic links lead to one another.
+    FilesystemLoop,
+    /// Anything else.
+    Other,
 }
 
 /// How the program ends where its words are a command.
-#[derive(Clone, Copy, Debug, PartialEq, Eq)]
+#[derive(Debug, Drop, PartialEq, Eq)]
 pub struct Outcome {
-    /// The exit status: 0 yes, 1 no, 3 a capture that can't be read, 4 a reader or a writer that failed or a
-    /// file that can't be opened, 5 want of memory. (Words that are no command end with 2, and have no outcome.)
+    /// The exit status: 0 yes, or the version; 1 no, 3 a capture that can't be read, 4 a reader or a writer that failed
+    /// or a file that can't be opened, 5 want of memory. (Words that are no command end with 2, and have no outcome.)
     pub status: u8,
-    /// The line on standard error.
-    pub line: Line,
+    /// What is said on standard error.
+    pub message: Message,
 }
 
 impl Outcome {
     ghost use Rattle.std.specs.Prelude.{◌≡◌};
 
-    /// The end with this status and this line.
-    pub(crate) const fn new(status: u8, line: Line) -> Outcome
-        ensures { result ≡ record { status = status; line = line } }
+    /// The end with this status and this message.
+    pub(crate) const fn new(status: u8, message: Message) -> Outcome
+        ensures { result ≡ record { status = status; message = message } }
     {
-        Outcome { status, line }
+        Outcome { status, message }
     }
 }
 
@@ -91,7 +74,7 @@ pub enum End {
     /// The words are no command, or they ask for help. The `Display` of the error, where there is one, is the text for
     /// the user; there is none where a word is not UTF-8.
     Usage(Option<Error>),
-    /// A status, and a line on standard error.
+    /// A status, and what is said on standard error.
     Told(Outcome),
 }
 

@@ -5,13 +5,15 @@
 mod buffered;
 mod ending;
 mod judging;
+mod message;
 mod program;
 mod source;
 mod status;
 #[cfg(test)]
 mod tests;
+mod version;
 
-use crate::ending::{End, Line};
+use crate::ending::{End, Message};
 use crate::program::run_program;
 use crate::source::Source;
 use std::process::ExitCode;
@@ -20,13 +22,22 @@ use words9::WordsFault;
 
 fn main(rt: HostRuntime) -> ExitCode {
     let words = arguments(&rt);
-    let open = |file: Option<String>| match file {
+    let open = |file: &Option<String>| match file {
         None => Ok(Source::Standard(rt.reader())),
-        Some(name) => Ok(Source::File(fs::open(&rt, name.as_str())?)),
+        Some(name) => Ok(Source::File(open_file(&rt, name.as_str())?)),
     };
     let (end, _) = run_program(rt.alloc(), words, open, io::writer(&rt));
     tell(&rt, &end);
     ExitCode::from(end.status())
+}
+
+/// Opens a file. A directory, which the system opens and refuses to read, is refused here, so that it is told by its name.
+fn open_file(rt: &HostRuntime, name: &str) -> io::Result<fs::File> {
+    let file = fs::open(rt, name)?;
+    match file.metadata() {
+        Ok(told) if told.is_dir() => Err(io::Error::from(io::ErrorKind::IsADirectory)),
+        _ => Ok(file),
+    }
 }
 
 /// The words of the command line after the program's own name. There is no text for the user where one of them
@@ -45,10 +56,12 @@ fn arguments(rt: &HostRuntime) -> Result<Vec<String>, WordsFault> {
 fn tell(rt: &HostRuntime, end: &End) {
     let _ = match end {
         End::Usage(Some(text)) => text.print(rt),
-        End::Usage(None) => eprintln!(rt; "error: a word of the command line is not UTF-8"),
-        End::Told(outcome) => match outcome.line {
-            Line::NoLine => Ok(()),
-            line => eprintln!(rt; "{line}"),
+        End::Usage(None) => eprintln!(rt;
+            "error: a word of the command line is not UTF-8\ngive a file of such a name as standard input: ninecheck check < FILE"
+        ),
+        End::Told(outcome) => match &outcome.message {
+            Message::Nothing => Ok(()),
+            message => eprintln!(rt; "{message}"),
         },
     };
 }

@@ -2,13 +2,13 @@
 ghost use Rattle.std.specs.Prelude.{◌≡◌};
 ghost use Rattle.ninecheck.specs.Outcome.{outcome_of};
 
-use crate::ending::{Line, Outcome};
+use crate::ending::{Message, Outcome};
 use capture9::CaptureKind;
 use judge9::{JudgeError, Verdict};
 
 /// How the program ends after a judging; the statuses are this profile's choice. Takes no memory.
 ///
-/// | `judge` answers | status | line |
+/// | `judge` answers | status | message |
 /// |---|---|---|
 /// | a yes | 0 | none |
 /// | a no | 1 | none |
@@ -20,14 +20,14 @@ pub fn outcome(judged: &Result<Verdict, JudgeError>) -> Outcome
     ensures { result ≡ outcome_of judged.now }
 {
     match judged {
-        Ok(Verdict::Yes { .. }) => Outcome::new(0, Line::NoLine),
-        Ok(Verdict::No { .. }) => Outcome::new(1, Line::NoLine),
+        Ok(Verdict::Yes { .. }) => Outcome::new(0, Message::Nothing),
+        Ok(Verdict::No { .. }) => Outcome::new(1, Message::Nothing),
         Err(JudgeError::Capture(e)) => match e.kind {
-            CaptureKind::Read => Outcome::new(4, Line::ReadFault(e.row)),
-            CaptureKind::OutOfMemory => Outcome::new(5, Line::NoMemory),
-            _ => Outcome::new(3, Line::Unreadable(*e)),
+            CaptureKind::Read => Outcome::new(4, Message::ReadFault(e.row)),
+            CaptureKind::OutOfMemory => Outcome::new(5, Message::NoMemory),
+            _ => Outcome::new(3, Message::Unreadable(*e)),
         },
-        Err(JudgeError::Write) => Outcome::new(4, Line::WriteFault),
-        Err(JudgeError::OutOfMemory) => Outcome::new(5, Line::NoMemory),
+        Err(JudgeError::Write) => Outcome::new(4, Message::WriteFault),
+        Err(JudgeError::OutOfMemory) => Outcome::new(5, Message::NoMemory),
     }
 }

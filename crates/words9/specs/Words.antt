@@ -1,9 +1,10 @@
 -- What the words of the command line ask for, by `clap`'s own definition of a command and its words.
-use Rattle.std.specs.Prelude.{◌≡◌, List, [], Option, Some, None, codes, option_map, Bool, true, false, if◌then◌else◌}
+use Rattle.std.specs.Prelude.{◌≡◌, List, [], ◌∷◌, Option, Some, None, codes, option_map, Bool, true, false, if◌then◌else◌}
 use Rattle.std.specs.Str.{bytes_eq}
 use Rattle.std.specs.String.{string_bytes}
-use Rattle.clap.specs.Words.{App, Row, Rule, Text, fault_of, first_of, new_app, new_rule, subcommand_of, with_rule, with_subcommand}
+use Rattle.clap.specs.Words.{App, IsAmong, Row, Rule, Text, fault_of, first_of, new_app, new_rule, subcommand_of, with_rule, with_subcommand}
 use Rattle.clap.specs.declared.builder.action.ArgAction.TheVariants.{SetTrue}
+use Rattle.clap.specs.declared.error.kind.ErrorKind.TheVariants.{DisplayVersion}
 use Rattle.deck9.specs.declared.state.Hands.TheVariants as hands
 use Rattle.words9.specs.declared.task.Task.{Task}
 use Rattle.words9.specs.declared.task.Verb.{Verb}
@@ -27,9 +28,9 @@ name_of verb.Run = codes "run"
 abbrev pub app_for : Verb → App
 app_for verb = with_rule (with_rule (new_app (name_of verb)) file_rule) hands_rule
 
--- the program, which wants a subcommand; its own name is not among the words
+-- the program, which wants a subcommand, and has a version; its own name is not among the words
 abbrev pub top : App
-top = record (new_app (codes "ninecheck")) { top = record (new_app (codes "ninecheck")).top { no_binary_name = true; subcommand_required = true } }
+top = record (new_app (codes "ninecheck")) { top = record (new_app (codes "ninecheck")).top { no_binary_name = true; subcommand_required = true; has_version = true } }
 
 -- the program with its subcommands
 abbrev pub program : App
@@ -54,3 +55,15 @@ pub record IsTaskOf (words : List Text) (task : Task) : Type 0 where
 -- the program does not take the words
 abbrev pub IsNoTask : List Text → Type 0
 IsNoTask words = (verb : Verb) → (rows : List Row) → Names words verb rows → ⊥
+
+-- the first that stops the program at the words is that they ask for its version
+abbrev pub AsksVersion : List Text → Type 0
+AsksVersion words = fault_of program words ≡ DisplayVersion ∷ []
+
+-- it is among what may be the first, where `clap`'s definition leaves a choice
+abbrev pub MayAskVersion : List Text → Type 0
+MayAskVersion words = IsAmong DisplayVersion (fault_of program words)
+
+-- what is then written
+abbrev pub version_line : Text
+version_line = codes "ninecheck 1.0.0\n"

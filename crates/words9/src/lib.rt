@@ -8,5 +8,5 @@ mod task;
 mod usage;
 mod words;
 
-pub use task::{Task, Verb, WordsFault};
+pub use task::{Task, VERSION_LINE, Verb, WordsFault};
 pub use words::read_words;

@@ -3,6 +3,9 @@
 use clap::Error;
 use deck9::Hands;
 
+/// The program's name and version, with a line feed. The file `VERSION` and the man page have the same number.
+pub const VERSION_LINE: &str = "ninecheck 1.0.0\n";
+
 /// What is to be done with a capture.
 #[derive(Clone, Copy, Debug, PartialEq, Eq)]
 pub enum Verb {
@@ -31,6 +34,8 @@ pub enum WordsFault {
     /// The words are no command, or they ask for help. The `Display` of the error, where there is one, is the
     /// text for the user.
     Usage(Option<Error>),
+    /// The words ask for the program's version: [`VERSION_LINE`].
+    Version,
     /// A growth of memory was refused.
     NoMemory,
 }

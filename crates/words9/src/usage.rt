@@ -5,7 +5,7 @@ ghost use Rattle.clap.specs.Words.{FailsBy, app_of, fault_of, subcommand_of, sub
 ghost use Rattle.clap.specs.declared.builder.command.Command.TheViews.{out-Command as fields_of};
 ghost use Rattle.words9.specs.Words.{app_for, name_of, program, top};
 
-use crate::task::Verb;
+use crate::task::{VERSION_LINE, Verb};
 use clap::{Arg, ArgAction, ArgMatches, Command, Error};
 use std::alloc::{AllocError, Global};
 
@@ -45,6 +45,7 @@ fn above<'a>(alloc: Global) -> Result<Command<'a>, AllocError>
 {
     let command = Command::new(alloc, NAME)
         .about("Checks a capture of the Sony 9-pin remote protocol (RS-422)")
+        .version(VERSION_LINE)
         .no_binary_name(true)
         .subcommand_required(true);
     command.bin_name(NAME)

@@ -3,7 +3,7 @@ ghost use Rattle.std.specs.Prelude.{◌≡◌, ◌≢◌, IfOk, MatchOption, Opt
 ghost use Rattle.std.specs.String.{string_bytes};
 ghost use Rattle.clap.specs.Words.{first_of, found_of, kind_of, rows_of};
 ghost use Rattle.clap.specs.declared.error.Error.{Error as ClapError};
-ghost use Rattle.words9.specs.Words.{IsTaskOf, IsNoTask, is_on, name_of};
+ghost use Rattle.words9.specs.Words.{AsksVersion, IsNoTask, IsTaskOf, MayAskVersion, is_on, name_of};
 
 use crate::task::{Task, Verb, WordsFault};
 use crate::usage::parsed;
@@ -15,16 +15,21 @@ use std::alloc::{AllocError, Global};
 /// The task that these words give: those of the command line after the program's own name.
 ///
 /// The words are `check`, `explain` or `run`, and with it at most one file and, before or after the file, at most once
-/// `--hands`; what they may look like beside this is `clap`'s own definition.
+/// `--hands`; or they are `--version` or `-V`. What they may look like beside this is `clap`'s own definition.
 ///
 /// * `Ok(task)` only where the definition takes the words. The task has the subcommand, the file and the option
 ///   that it gives for them.
-/// * `Err(Usage)` only where it does not take them. Words that ask for help are not taken.
+/// * `Err(Usage)` only where it does not take them, and they are not those that ask for the version. Words that ask for
+///   help are not taken.
+/// * `Err(Version)` only where they ask for the version, and nothing before that is wrong.
 /// * `Err(NoMemory)` where a growth of memory is refused.
 pub fn read_words(alloc: Global, words: Vec<String>) -> Result<Task, WordsFault>
     ensures task { IfOk result (IsTaskOf (map (λ s. string_bytes s) words.items)) }
     ensures usage { (e : Option ClapError) → result ≡ Err (WordsFault.Usage e)
-        → IsNoTask (map (λ s. string_bytes s) words.items) }
+        → IsNoTask (map (λ s. string_bytes s) words.items)
+        × ¬ (AsksVersion (map (λ s. string_bytes s) words.items)) }
+    ensures version { result ≡ Err WordsFault.Version
+        → MayAskVersion (map (λ s. string_bytes s) words.items) }
 {
     let matches = match parsed(alloc, words.as_slice()) {
         Ok(matches) => matches,
@@ -49,10 +54,13 @@ pub fn read_words(alloc: Global, words: Vec<String>) -> Result<Task, WordsFault>
 
 /// The fault of words that `clap` refuses.
 fn fault_of(e: Error) -> WordsFault
-    ensures { (o : Option ClapError) → result ≡ WordsFault.Usage o → kind_of e ≢ ErrorKind.OutOfMemory }
+    ensures usage { (o : Option ClapError) → result ≡ WordsFault.Usage o
+        → (kind_of e ≢ ErrorKind.OutOfMemory) × (kind_of e ≢ ErrorKind.DisplayVersion) }
+    ensures version { result ≡ WordsFault.Version → kind_of e ≡ ErrorKind.DisplayVersion }
 {
     match e.kind() {
         ErrorKind::OutOfMemory => WordsFault::NoMemory,
+        ErrorKind::DisplayVersion => WordsFault::Version,
         _ => WordsFault::Usage(Some(e)),
     }
 }

@@ -1,10 +1,11 @@
 //! How the program ends, by a table.
 
-use crate::ending::{Line, Outcome};
+use crate::ending::{Message, Outcome, Unopened, WhyUnopened};
 use crate::status::outcome;
 use block9::Reason;
 use capture9::{CaptureError, CaptureKind};
 use judge9::{JudgeError, Verdict};
+use std::alloc::{AllocError, Global};
 
 fn capture_error(kind: CaptureKind, row: u32) -> CaptureError {
     CaptureError { kind, row }
@@ -15,7 +16,7 @@ fn refused(kind: CaptureKind, row: u32) -> Result<Verdict, JudgeError> {
 }
 
 #[test]
-fn a_verdict_has_no_line(rt: HostRuntime) {
+fn a_verdict_has_no_message(rt: HostRuntime) {
     let yes = Verdict::Yes {
         records: 6,
         exchanges: 1,
@@ -29,72 +30,146 @@ fn a_verdict_has_no_line(rt: HostRuntime) {
         outcome(&Ok(yes)),
         Outcome {
             status: 0,
-            line: Line::NoLine
+            message: Message::Nothing
         }
     );
     assert_eq!(rt;
         outcome(&Ok(no)),
         Outcome {
             status: 1,
-            line: Line::NoLine
+            message: Message::Nothing
         }
     );
 }
 
 #[test]
-fn a_refusal_has_its_status_and_line(rt: HostRuntime) {
+fn a_refusal_has_its_status_and_its_two_lines(rt: HostRuntime) {
     let faults = [
         (
             refused(CaptureKind::Header, 0),
             3,
-            "unreadable at row 0: header",
+            "unreadable at row 0: header\nexpected the header time_us,wire,byte; convert/ makes captures of exports, see docs/CAPTURE.md",
         ),
         (
             refused(CaptureKind::Fields, 1),
             3,
-            "unreadable at row 1: fields",
+            "unreadable at row 1: fields\nexpected three fields: time_us,wire,byte",
         ),
         (
             refused(CaptureKind::Time, 1),
             3,
-            "unreadable at row 1: time",
+            "unreadable at row 1: time\nexpected 1 to 15 decimal digits, the time in microseconds",
         ),
         (
             refused(CaptureKind::Wire, 2),
             3,
-            "unreadable at row 2: wire",
+            "unreadable at row 2: wire\nexpected C for the controller's wire, or D for the deck's",
         ),
         (
             refused(CaptureKind::Byte, 7),
             3,
-            "unreadable at row 7: byte",
+            "unreadable at row 7: byte\nexpected two hexadecimal digits",
         ),
         (
             refused(CaptureKind::Backwards, 2),
             3,
-            "unreadable at row 2: backwards",
+            "unreadable at row 2: backwards\nexpected a time that is not below that of the row before",
         ),
         (
             refused(CaptureKind::TooMany, 4_000_001),
             3,
-            "unreadable at row 4000001: too many rows",
+            "unreadable at row 4000001: too many rows\nexpected at most 4000000 rows; convert/split.awk cuts a longer capture, see docs/CAPTURE.md",
         ),
-        (refused(CaptureKind::Read, 4), 4, "read fault at row 4"),
-        (Err(JudgeError::Write), 4, "write fault"),
-        (Err(JudgeError::OutOfMemory), 5, "out of memory"),
+        (
+            refused(CaptureKind::Read, 4),
+            4,
+            "read fault at row 4\nexpected a capture that can be read to its end, and is no directory",
+        ),
+        (
+            Err(JudgeError::Write),
+            4,
+            "write fault\nstandard output is full or closed, and has a first part of what was to be written",
+        ),
+        (
+            Err(JudgeError::OutOfMemory),
+            5,
+            "out of memory\na row may have no end, or memory is short: see ulimit -v",
+        ),
     ];
     for (judged, status, line) in &faults {
         let end = outcome(judged);
         assert_eq!(rt; end.status, *status);
-        let text = end.line.to_string(rt.alloc()).expect(&rt, "memory");
+        let text = end.message.to_string(rt.alloc()).expect(&rt, "memory");
         assert_eq!(rt; text.as_str(), *line);
     }
 }
 
+/// What is said of a capture that was not opened.
+fn unopened(alloc: Global, name: Option<&str>, why: WhyUnopened) -> Result<String, AllocError> {
+    let file = match name {
+        Some(name) => Some(String::from_str(alloc, name)?),
+        None => None,
+    };
+    Message::CannotOpen(Unopened { file, why }).to_string(alloc)
+}
+
 #[test]
-fn the_other_lines(rt: HostRuntime) {
-    for (line, want) in [(Line::NoLine, ""), (Line::CannotOpen, "cannot open")] {
-        let text = line.to_string(rt.alloc()).expect(&rt, "memory");
-        assert_eq!(rt; text.as_str(), want);
+fn a_capture_that_is_not_opened_is_told_by_its_name(rt: HostRuntime) {
+    let file = Some("a b.csv");
+    let table = [
+        (
+            file,
+            WhyUnopened::NotFound,
+            "cannot open\na b.csv: No such file or directory",
+        ),
+        (
+            file,
+            WhyUnopened::PermissionDenied,
+            "cannot open\na b.csv: Permission denied",
+        ),
+        (
+            file,
+            WhyUnopened::IsADirectory,
+            "read fault at row 0\na b.csv: Is a directory",
+        ),
+        (
+            file,
+            WhyUnopened::NotADirectory,
+            "cannot open\na b.csv: Not a directory",
+        ),
+        (
+            file,
+            WhyUnopened::FilesystemLoop,
+            "cannot open\na b.csv: Too many levels of symbolic links",
+        ),
+        (
+            file,
+            WhyUnopened::Other,
+            "cannot open\na b.csv: The system does not open it",
+        ),
+        (
+            None,
+            WhyUnopened::PermissionDenied,
+            "cannot open\nstandard input: Permission denied",
+        ),
+        (
+            Some(""),
+            WhyUnopened::NotFound,
+            "cannot open\n: No such file or directory",
+        ),
+    ];
+    for (name, why, want) in &table {
+        assert_eq!(rt;
+            unopened(rt.alloc(), *name, *why)
+                .expect(&rt, "memory")
+                .as_str(),
+            *want
+        );
     }
+}
+
+#[test]
+fn of_a_verdict_nothing_is_said(rt: HostRuntime) {
+    let text = Message::Nothing.to_string(rt.alloc()).expect(&rt, "memory");
+    assert_eq!(rt; text.as_str(), "");
 }

@@ -1,6 +1,6 @@
 //! The program from its words to its end, over readers and writers that are made here.
 
-use crate::ending::{End, Line, Outcome};
+use crate::ending::{End, Message, Outcome, Unopened, WhyUnopened};
 use crate::program::run_program;
 use crate::tests::writers::Narrow;
 use std::alloc::{AllocError, Global};
@@ -29,12 +29,17 @@ fn words_of(alloc: Global, words: &[&str]) -> Result<Vec<String>, AllocError> {
 }
 
 /// What stands for the files: `switched.csv`, and PLAY on standard input. Nothing else can be opened.
-fn opened<'a>(file: Option<String>) -> io::Result<&'a [u8]> {
+fn opened<'a>(file: &Option<String>) -> io::Result<&'a [u8]> {
     match file {
         None => Ok(PLAY.as_bytes()),
         Some(name) => match name.as_str() {
             "switched.csv" => Ok(SWITCHED.as_bytes()),
             "" => Err(io::Error::from(io::ErrorKind::OutOfMemory)),
+            "forbidden.csv" => Err(io::Error::from(io::ErrorKind::PermissionDenied)),
+            "folder" => Err(io::Error::from(io::ErrorKind::IsADirectory)),
+            "play.csv/more" => Err(io::Error::from(io::ErrorKind::NotADirectory)),
+            "loop" => Err(io::Error::from(io::ErrorKind::FilesystemLoop)),
+            "busy" => Err(io::Error::from(io::ErrorKind::ResourceBusy)),
             _ => Err(io::Error::from(io::ErrorKind::NotFound)),
         },
     }
@@ -47,10 +52,10 @@ fn end_on(rt: &HostRuntime, words: &[&str], writer: Narrow) -> (End, Narrow) {
 }
 
 /// Whether the program ends so.
-fn is_told(end: &End, status: u8, line: Line) -> bool {
+fn is_told(end: &End, status: u8, message: Message) -> bool {
     match end {
         End::Usage(_) => false,
-        End::Told(outcome) => { end.status() == status && *outcome == Outcome { status, line } }
+        End::Told(outcome) => { end.status() == status && *outcome == Outcome { status, message } }
     }
 }
 
@@ -88,7 +93,7 @@ fn the_task_of_the_words_is_carried_out(rt: HostRuntime) {
     ];
     for (words, status, start, last) in &table {
         let (end, writer) = end_on(&rt, *words, Narrow::new(rt.alloc(), usize::MAX));
-        assert!(rt; is_told(&end, *status, Line::NoLine));
+        assert!(rt; is_told(&end, *status, Message::Nothing));
         assert!(rt; writer.taken.starts_with(start.as_bytes()));
         assert!(rt; writer.taken.ends_with(last.as_bytes()));
         assert_eq!(rt; writer.flushes, 1);
@@ -121,37 +126,62 @@ fn there_may_be_no_words(rt: HostRuntime) {
     assert!(rt; matches!(&end, End::Usage(None)));
     let words = Err(WordsFault::NoMemory);
     let (end, writer) = run_program(rt.alloc(), words, |file| opened(file), writer);
-    assert!(rt; is_told(&end, 5, Line::NoMemory));
+    assert!(rt; is_told(&end, 5, Message::NoMemory));
     assert!(rt; writer.taken.is_empty());
 }
 
 #[test]
 fn a_file_that_is_not_opened(rt: HostRuntime) {
+    let table = [
+        ("absent.csv", WhyUnopened::NotFound),
+        ("forbidden.csv", WhyUnopened::PermissionDenied),
+        ("folder", WhyUnopened::IsADirectory),
+        ("play.csv/more", WhyUnopened::NotADirectory),
+        ("loop", WhyUnopened::FilesystemLoop),
+        ("busy", WhyUnopened::Other),
+    ];
     for verb in ["check", "explain", "run"] {
-        let (end, writer) = end_on(
-            &rt,
-            &[verb, "absent.csv"],
-            Narrow::new(rt.alloc(), usize::MAX),
-        );
-        assert!(rt; is_told(&end, 4, Line::CannotOpen));
-        assert!(rt; writer.taken.is_empty());
+        for (name, why) in &table {
+            let (end, writer) = end_on(&rt, &[verb, *name], Narrow::new(rt.alloc(), usize::MAX));
+            let file = Some(String::from_str(rt.alloc(), *name).expect(&rt, "memory"));
+            let unopened = Unopened { file, why: *why };
+            assert!(rt; is_told(&end, 4, Message::CannotOpen(unopened)));
+            assert!(rt; writer.taken.is_empty());
+        }
         let (end, writer) = end_on(&rt, &[verb, ""], Narrow::new(rt.alloc(), usize::MAX));
-        assert!(rt; is_told(&end, 5, Line::NoMemory));
+        assert!(rt; is_told(&end, 5, Message::NoMemory));
         assert!(rt; writer.taken.is_empty());
     }
+}
+
+#[test]
+fn the_version_is_told(rt: HostRuntime) {
+    let table: [&[&str]; 3] = [&["--version"], &["-V"], &["-V", "frob"]];
+    for words in &table {
+        let (end, writer) = end_on(&rt, *words, Narrow::new(rt.alloc(), usize::MAX));
+        assert!(rt; is_told(&end, 0, Message::Nothing));
+        assert_eq!(rt; writer.taken.as_slice(), b"ninecheck 1.0.0\n".as_slice());
+        assert_eq!(rt; writer.flushes, 1);
+    }
+    let (end, writer) = end_on(&rt, &["-V"], Narrow::new(rt.alloc(), 4));
+    assert!(rt; is_told(&end, 4, Message::WriteFault));
+    assert_eq!(rt; writer.taken.as_slice(), b"nine".as_slice());
+    let (end, writer) = end_on(&rt, &["-V"], Narrow::that_fails_to_flush(rt.alloc()));
+    assert!(rt; is_told(&end, 4, Message::WriteFault));
+    assert_eq!(rt; writer.flushes, 1);
 }
 
 #[test]
 fn a_writer_that_fails(rt: HostRuntime) {
     for verb in ["check", "explain", "run"] {
         let (end, writer) = end_on(&rt, &[verb], Narrow::new(rt.alloc(), 4));
-        assert!(rt; is_told(&end, 4, Line::WriteFault));
+        assert!(rt; is_told(&end, 4, Message::WriteFault));
         assert_eq!(rt;
             (writer.taken.len(), writer.failures, writer.flushes),
             (4, 1, 0)
         );
         let (end, writer) = end_on(&rt, &[verb], Narrow::that_fails_to_flush(rt.alloc()));
-        assert!(rt; is_told(&end, 4, Line::WriteFault));
+        assert!(rt; is_told(&end, 4, Message::WriteFault));
         assert!(rt; writer.taken.ends_with(YES.as_bytes()));
         assert_eq!(rt; writer.flushes, 1);
     }

@@ -123,5 +123,26 @@ fn words_that_are_none(rt: HostRuntime) {
     assert!(rt; are_refused(alloc, &["help"]));
     assert!(rt; are_refused(alloc, &["help", "check"]));
     assert!(rt; are_refused(alloc, &["--help"]));
-    assert!(rt; are_refused(alloc, &["--version"]));
+    assert!(rt; are_refused(alloc, &["-h", "-V"]));
+    assert!(rt; are_refused(alloc, &["frob", "--version"]));
+    assert!(rt; are_refused(alloc, &["--versions"]));
+    assert!(rt; are_refused(alloc, &["--version=1"]));
+    assert!(rt; are_refused(alloc, &["check", "--version"]));
+    assert!(rt; are_refused(alloc, &["check", "-V"]));
+    assert!(rt; are_refused(alloc, &["help", "--version"]));
+}
+
+#[test]
+fn words_that_ask_for_the_version(rt: HostRuntime) {
+    let table: [&[&str]; 5] = [
+        &["--version"],
+        &["-V"],
+        &["-Vh"],
+        &["--version", "check"],
+        &["-V", "--frob"],
+    ];
+    for words in &table {
+        let asked = matches!(task_of(rt.alloc(), *words), Err(WordsFault::Version));
+        assert!(rt; asked);
+    }
 }

@@ -1,0 +1,25 @@
+# To be sourced by a script of tests that compares what stands on standard error. It tests nothing itself, so it stands
+# where the gate does not look for scripts.
+
+# both_lines LINE: the first line that is said of a capture or a stream, and the second that belongs to it; nothing where
+# nothing is said.
+both_lines() {
+    [ -n "$1" ] || return 0
+    echo "$1"
+    case $1 in
+        *': header')
+            echo 'expected the header time_us,wire,byte; convert/ makes captures of exports, see docs/CAPTURE.md' ;;
+        *': fields') echo 'expected three fields: time_us,wire,byte' ;;
+        *': time') echo 'expected 1 to 15 decimal digits, the time in microseconds' ;;
+        *': wire') echo "expected C for the controller's wire, or D for the deck's" ;;
+        *': byte') echo 'expected two hexadecimal digits' ;;
+        *': backwards') echo 'expected a time that is not below that of the row before' ;;
+        *': too many rows')
+            echo 'expected at most 4000000 rows; convert/split.awk cuts a longer capture, see docs/CAPTURE.md' ;;
+        'read fault at row '*) echo 'expected a capture that can be read to its end, and is no directory' ;;
+        'write fault')
+            echo 'standard output is full or closed, and has a first part of what was to be written' ;;
+        'out of memory') echo 'a row may have no end, or memory is short: see ulimit -v' ;;
+        *) echo "no second line is known of: $1" ;;
+    esac
+}
