@@ -5,6 +5,8 @@ set -u
 cd "$(dirname "$0")/.." || exit 1
 program=${NINECHECK:-$PWD/crates/ninecheck/out/ninecheck}
 . tests/lib/errors.sh
+. tests/lib/tools.sh
+need_tools cc=gcc
 
 work=$(mktemp -d)
 trap 'rm -rf "$work"' EXIT

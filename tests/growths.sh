@@ -8,6 +8,8 @@ cd "$(dirname "$0")/.." || exit 1
 tests=${TRACK9_TESTS:-$PWD/crates/track9_tests/out/track9_tests_tests}
 program=${NINECHECK:-$PWD/crates/ninecheck/out/ninecheck}
 . tests/lib/errors.sh
+. tests/lib/tools.sh
+need_tools cc=gcc
 
 work=$(mktemp -d)
 trap 'rm -rf "$work"' EXIT

@@ -5,7 +5,7 @@ set -u
 cd "$(dirname "$0")/.." || exit 1
 
 . tests/lib/tools.sh
-need_tools mandoc
+need_tools mandoc make
 
 work=$(mktemp -d)
 trap 'rm -rf "$work"' EXIT

@@ -4,5 +4,5 @@
 set -u
 cd "$(dirname "$0")/.." || exit 1
 . tests/lib/tools.sh
-need_tools mawk gawk busybox
+need_tools mawk gawk busybox python3
 exec python3 tests/picture.py

@@ -4,4 +4,6 @@
 # The last line is 'N passed, M failed'.
 set -u
 cd "$(dirname "$0")/.." || exit 1
+. tests/lib/tools.sh
+need_tools python3
 exec python3 tests/reach.py

@@ -6,6 +6,8 @@
 set -u
 cd "$(dirname "$0")/.." || exit 1
 tests=${CAPTURE9_TESTS:-$PWD/crates/capture9/out/capture9_tests}
+. tests/lib/tools.sh
+need_tools cc=gcc
 
 work=$(mktemp -d)
 trap 'rm -rf "$work"' EXIT

@@ -1,9 +1,9 @@
 # To be sourced by a script of tests that needs tools which the machine may not have. It tests nothing itself, so it
 # stands where the gate does not look for scripts.
 
-# need_tools NAME...: installs those of these tools that are not there, each from the Debian package of its name, and
-# ends the script where that can't be done. Scripts that run side by side wait for one another, so each tool is
-# installed once.
+# need_tools TOOL...: installs those of these tools that are not there, each from a Debian package, and ends the script where
+# that can't be done. A tool is NAME, of a package of its name, or NAME=PACKAGE. Scripts that run side by side wait for one
+# another, so each tool is installed once.
 need_tools() {
     local missing
     [ -n "$(missing_tools "$@")" ] || return 0
@@ -13,20 +13,25 @@ need_tools() {
         [ -n "$missing" ] || exit 0
         export DEBIAN_FRONTEND=noninteractive
         # shellcheck disable=SC2086
-        apt-get update -qq && apt-get install -y -qq $missing
+        apt-get update -qq && apt-get install -y -qq $(packages_of $missing)
     ) 9> "${TMPDIR:-/tmp}/ninecheck-tools-$(id -u).lock" > /dev/null 2>&1
     missing=$(missing_tools "$@")
     [ -n "$missing" ] || return 0
-    echo "FAILED not there, and can't be installed: $missing"
+    # shellcheck disable=SC2086
+    echo "FAILED not there, and can't be installed: $(names_of $missing)"
     echo '0 passed, 1 failed'
     exit 1
 }
 
-# missing_tools NAME...: those of these tools that are not there, parted by blanks.
+# missing_tools TOOL...: those of these tools that are not there, parted by blanks.
 missing_tools() {
     local tool missing=
     for tool in "$@"; do
-        command -v "$tool" > /dev/null || missing="$missing $tool"
+        command -v "${tool%=*}" > /dev/null || missing="$missing $tool"
     done
     echo "${missing# }"
 }
+
+# The names of tools, and those of their packages.
+names_of() { echo "${@%=*}"; }
+packages_of() { echo "${@#*=}"; }
