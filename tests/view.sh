@@ -349,25 +349,6 @@ judge 'jq: numbers are numbers' [ "$(jq -s 'map(.record // .records, .delay_us /
 judge 'jq: the bits of a NAK' [ "$(jq -c 'select(.nak) | [.nak, .bits]' "$work/out" | tr -d '\n')" = \
     '["14",["checksum","parity"]]["02",[]]' ]
 
-# The page's commands, each with what the page says that it writes.
-page() {
-    awk -v want="$work/page" '
-        /^    \$ / { shown = 1; n++; print substr($0, 7) > (want "." n ".command"); printf "" > (want "." n ".out"); next }
-        /^    / && shown { print substr($0, 5) > (want "." n ".out"); next }
-        { shown = 0 }' docs/VIEWS.md
-}
-page
-commands=0
-mkdir "$work/page"
-ln -s "$PWD/view" "$PWD/examples" "$work/page"
-ln -s "$program" "$work/page/ninecheck"
-for command in "$work"/page.*.command; do
-    (cd "$work/page" && sh "$command" > "$work/out" 2> "$work/err")
-    judge "the page's command $(cat "$command")" cmp "$work/out" "${command%.command}.out"
-    commands=$((commands + 1))
-done
-judge "the page's commands: $commands" [ "$commands" = 7 ]
-
 # What the views have in common is the same in each.
 for view in digest delays json picture; do
     sed -n '/^# From here on every view is the same/,$p' view/$view.awk > "$work/$view.every"
