@@ -5,7 +5,7 @@ use Rattle.ninecheck.specs.declared.ending.Message.{Message}
 use Rattle.ninecheck.specs.declared.ending.Message.TheVariants as message
 use Rattle.ninecheck.specs.Word.{expected_of, file_name_of, first_line_of, reason_of, word_of}
 
--- two lines, without a line feed at the end; nothing where there is a verdict
+-- two lines, without a line feed at the end; nothing where there is a verdict, or the version was told
 abbrev pub text_of : Message → List ℕ
 text_of message.Nothing = []
 text_of (message.Unreadable e) = codes "unreadable at row " ++ decimal e.row ++ codes ": " ++ word_of e.kind ++ codes "\n" ++ expected_of e.kind

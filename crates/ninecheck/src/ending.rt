@@ -7,7 +7,7 @@ use clap::Error;
 /// first line says what happened; the second what was expected, or what to look at.
 #[derive(Debug, Drop, PartialEq, Eq)]
 pub enum Message {
-    /// There is a verdict, and nothing to be said beside it.
+    /// There is a verdict, or the version was told, and nothing is to be said beside it.
     Nothing,
     /// A row of the capture is bad, or its header. The kind is neither `Read` nor `OutOfMemory`.
     Unreadable(CaptureError),
