@@ -9,7 +9,7 @@ use Rattle.deck9.specs.State.{IsFirst}
 use Rattle.deck9.specs.Step.{AreReached, Exchanges}
 use Rattle.track9.specs.Tracker.{Possible, Tracked}
 use Rattle.deck9.proofs.RunLemmas.{ends_more}
-use Rattle.judge9.specs.Working.Trail.{Follows, GoesBack, IsTrail, Leads}
+use Rattle.judge9.specs.Working.Trail.{Follows, GoesBack, IsTrail, Leads, stretch_length}
 
 -- ---- where exchanges lead
 
@@ -85,27 +85,27 @@ pushed_get (w ∷ xs) x (suc k) y e = by (pushed_get xs x k y e)
     by (inr h) = inr ((let n = h.0 in omega arith), h.1)
 
 -- one tracker more, before a stretch
-pub trail-marked : (h : Hands) (es : List Exchange) (trackers : List Tracked) (t : Tracked) → IsTrail h es trackers → length trackers * 256 ≡ length es → Follows h es t → IsTrail h es (trackers ++ t ∷ [])
+pub trail-marked : (h : Hands) (es : List Exchange) (trackers : List Tracked) (t : Tracked) → IsTrail h es trackers → length trackers * stretch_length ≡ length es → Follows h es t → IsTrail h es (trackers ++ t ∷ [])
 trail-marked h es trackers t trail full follows = record {
   enough = let n = length_push trackers t in let e = trail.enough in omega arith;
   before = λ k u e. by k u (pushed_get trackers t k u e);
 }
   where
-    by : (k : ℕ) (u : Tracked) → (slice_get trackers k ≡ Some u) ⊎ ((k ≡ length trackers) × (u ≡ t)) → (k * 256 ≤ length es) × Follows h (take (k * 256) es) u
+    by : (k : ℕ) (u : Tracked) → (slice_get trackers k ≡ Some u) ⊎ ((k ≡ length trackers) × (u ≡ t)) → (k * stretch_length ≤ length es) × Follows h (take (k * stretch_length) es) u
     by k u (inl e) = trail.before k u e
     by k u (inr (same, is)) =
-        let at : k * 256 ≡ length es = ap (λ (n : ℕ). n * 256) same ∙ full in
-        let all : take (k * 256) es ≡ es = take_all (k * 256) es (omega arith) in
+        let at : k * stretch_length ≡ length es = ap (λ (n : ℕ). n * stretch_length) same ∙ full in
+        let all : take (k * stretch_length) es ≡ es = take_all (k * stretch_length) es (omega arith) in
         (omega arith, subst (λ (l : List Exchange). Follows h l u) (sym all) (subst (λ (x : Tracked). Follows h es x) (sym is) follows))
 
 -- one exchange more
-pub trail-pushed : (h : Hands) (es : List Exchange) (trackers : List Tracked) (e : Exchange) → IsTrail h es trackers → length es < length trackers * 256 → IsTrail h (es ++ e ∷ []) trackers
+pub trail-pushed : (h : Hands) (es : List Exchange) (trackers : List Tracked) (e : Exchange) → IsTrail h es trackers → length es < length trackers * stretch_length → IsTrail h (es ++ e ∷ []) trackers
 trail-pushed h es trackers e trail room = record {
   enough = let n = length_push es e in omega arith;
   before = λ k t g.
       let was = trail.before k t g in (
         (let n = length_push es e in let low = was.0 in omega arith),
-        subst (λ (l : List Exchange). Follows h l t) (sym (take-append-le (k * 256) es (e ∷ []) was.0)) was.1,
+        subst (λ (l : List Exchange). Follows h l t) (sym (take-append-le (k * stretch_length) es (e ∷ []) was.0)) was.1,
       );
 }
 
@@ -121,7 +121,7 @@ parts es first at low =
     sym all ∙ ap (λ (l : List Exchange). l ++ drop first (take at es)) front ∙ ap (λ (l : List Exchange). take first es ++ l) rest
 
 -- from the states before a stretch its exchanges lead on
-pub stretch_leads : (h : Hands) (es : List Exchange) (trackers : List Tracked) (k first at : ℕ) (t : Tracked) (end : State) → IsTrail h es trackers → slice_get trackers k ≡ Some t → first ≡ k * 256 → first ≤ at → Ends h (take at es) end → Leads t.hands (Possible t.states) (slice_range es first at) end
+pub stretch_leads : (h : Hands) (es : List Exchange) (trackers : List Tracked) (k first at : ℕ) (t : Tracked) (end : State) → IsTrail h es trackers → slice_get trackers k ≡ Some t → first ≡ k * stretch_length → first ≤ at → Ends h (take at es) end → Leads t.hands (Possible t.states) (slice_range es first at) end
 stretch_leads h es trackers k first at t end trail got same low ends =
     let follows = (trail.before k t got).1 in
     let here : Ends h (take first es ++ slice_range es first at) end = subst (λ (l : List Exchange). Ends h l end) (parts es first at low) ends in
@@ -130,12 +130,12 @@ stretch_leads h es trackers k first at t end trail got same low ends =
     subst (λ (g : Hands). Leads g (Possible t.states) (slice_range es first at) end) (sym follows.hands) (leads_on h (slice_range es first at) (Ends h (take first es)) (Possible t.states) end from leads)
 
 -- a state of the tracker before a stretch is one that the runs of the exchanges before it end in
-pub stretch_from : (h : Hands) (es : List Exchange) (trackers : List Tracked) (k first : ℕ) (t : Tracked) (s : State) → IsTrail h es trackers → slice_get trackers k ≡ Some t → first ≡ k * 256 → Possible t.states s → Ends h (take first es) s
+pub stretch_from : (h : Hands) (es : List Exchange) (trackers : List Tracked) (k first : ℕ) (t : Tracked) (s : State) → IsTrail h es trackers → slice_get trackers k ≡ Some t → first ≡ k * stretch_length → Possible t.states s → Ends h (take first es) s
 stretch_from h es trackers k first t s trail got same p =
     subst (λ (n : ℕ). Ends h (take n es) s) (sym same) (((trail.before k t got).1.states s).0 p)
 
 -- through a stretch, and then through all before it
-pub back_by : {E : Type 0} (es : List Exchange) (trackers : List Tracked) (k first at : ℕ) (t : Tracked) (end s : State) (old mid new : List State) (r : Result State E) → slice_get trackers k ≡ Some t → first ≡ k * 256 → first ≤ at → GoesBack t.hands (Possible t.states) (slice_range es first at) end old mid s
+pub back_by : {E : Type 0} (es : List Exchange) (trackers : List Tracked) (k first at : ℕ) (t : Tracked) (end s : State) (old mid new : List State) (r : Result State E) → slice_get trackers k ≡ Some t → first ≡ k * stretch_length → first ≤ at → GoesBack t.hands (Possible t.states) (slice_range es first at) end old mid s
     → IfOk r (λ u. (h : Hands) → IsTrail h es trackers → Ends h (take first es) s → GoesBack h (IsFirst h) (take first es) s mid new u)
     → IfOk r (λ u. (h : Hands) → IsTrail h es trackers → Ends h (take at es) end → GoesBack h (IsFirst h) (take at es) end old new u)
 back_by es trackers k first at t end s old mid new (Ok u) got same low g more = λ h trail ends.

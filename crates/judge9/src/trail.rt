@@ -5,7 +5,7 @@
 //! alone; those between are made again, stretch by stretch, while going back.
 ghost use Rattle.std.specs.Prelude.{◌≡◌, ◌<◌, ◌≤◌, ◌*◌, ◌++◌, [], ◌∷◌, IfOk, OnOk, length, take};
 ghost use Rattle.deck9.specs.Run.{IsRun};
-ghost use Rattle.judge9.specs.Working.Trail.{Follows, GoesBack, IsTrail, Leads};
+ghost use Rattle.judge9.specs.Working.Trail.{Follows, GoesBack, IsTrail, Leads, stretch_length};
 ghost use Rattle.deck9.specs.Run.{Ends};
 ghost use Rattle.deck9.specs.State.{IsFirst};
 ghost use Rattle.deck9.specs.Step.{AreReached, Exchanges};
@@ -20,7 +20,7 @@ use tc25::SpanSet;
 use track9::Tracker;
 
 /// How many exchanges a stretch has.
-const STRETCH: usize = 256;
+const STRETCH_LENGTH: usize = 256;
 
 /// The exchanges so far, and a tracker before each stretch of them.
 #[derive(Drop)]
@@ -49,7 +49,7 @@ impl Trail {
         ensures trail { OnOk result (IsTrail tracker.now.hands self.new.exchanges.items self.new.trackers.items) }
         ensures room { OnOk result (length self.new.exchanges.items < length self.new.trackers.items * 256) }
     {
-        if self.exchanges.len() / STRETCH == self.trackers.len() {
+        if self.exchanges.len() / STRETCH_LENGTH == self.trackers.len() {
             let tracker = tracker.snapshot()?;
             self.trackers.push(tracker)?;
         }
@@ -58,7 +58,7 @@ impl Trail {
 
     /// Keeps the exchange that comes next.
     pub(crate) fn push(&mut self, exchange: Exchange) -> Result<(), AllocError>
-        requires room { length self.old.exchanges.items < length self.old.trackers.items * 256 }
+        requires room { length self.old.exchanges.items < length self.old.trackers.items * stretch_length }
         ensures exchanges { OnOk result (self.new.exchanges.items ≡ self.old.exchanges.items ++ exchange ∷ []) }
         ensures trackers { OnOk result (self.new.trackers ≡ self.old.trackers) }
         ensures trail { OnOk result ((h : AHands) → IsTrail h self.old.exchanges.items self.old.trackers.items
@@ -132,8 +132,8 @@ fn go_back(
     let Some(last) = at.checked_sub(1) else {
         return Ok(end);
     };
-    let stretch = last / STRETCH;
-    let first = stretch * STRETCH;
+    let stretch = last / STRETCH_LENGTH;
+    let first = stretch * STRETCH_LENGTH;
     let state = go_back_through(&trackers[stretch], &exchanges[first..at], end, states)?;
     go_back(trackers, exchanges, first, state, states)
 }

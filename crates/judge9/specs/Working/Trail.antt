@@ -20,10 +20,14 @@ pub record Follows (h : Hands) (es : List Exchange) (t : Tracked) : Type 0 where
   pub states : (s : State) → Possible t.states s ↔ Ends h es s
   pub hands : t.hands ≡ h
 
--- these are the trackers before the first exchange, before the 257th, and so on, and no exchange is without one
+-- how many exchanges a stretch has
+abbrev pub stretch_length : ℕ
+stretch_length = 256
+
+-- these are the trackers before each stretch of these exchanges, and no exchange is without one
 pub record IsTrail (h : Hands) (es : List Exchange) (trackers : List Tracked) : Type 0 where
-  pub enough : length es ≤ length trackers * 256
-  pub before : (k : ℕ) (t : Tracked) → slice_get trackers k ≡ Some t → (k * 256 ≤ length es) × Follows h (take (k * 256) es) t
+  pub enough : length es ≤ length trackers * stretch_length
+  pub before : (k : ℕ) (t : Tracked) → slice_get trackers k ≡ Some t → (k * stretch_length ≤ length es) × Follows h (take (k * stretch_length) es) t
 
 -- from one of the states X these exchanges lead to the state t
 abbrev pub Leads : Hands → (State → Type 0) → List Exchange → State → Type 0
