@@ -247,8 +247,8 @@ impl<S: TimeSet> States<S> {
     {
         let known = self.either_panel(alloc)?;
         if on {
-            self.off.drift();
             self.on = Some(known);
+            self.off.drift();
         } else {
             self.on = Some(self.drifted_on(alloc)?);
             self.off = known;

@@ -8,11 +8,11 @@ use std::alloc::Global;
 use std::test::Fail;
 use tc25::{ListSet, SpanSet};
 
-/// What the tracker takes: an exchange, or a command alone.
+/// What the tracker takes: an exchange, or the command of one alone.
 #[derive(Clone, Copy, Debug)]
 enum Taken {
     Exchange(Sent),
-    Passed(&'static [u8]),
+    Passed(Sent),
 }
 
 use Taken::{Exchange, Passed};
@@ -20,28 +20,31 @@ use Taken::{Exchange, Passed};
 /// What is taken, and what is known after it, in the words of a report.
 type Learnt = (Taken, &'static str);
 
+/// IN DATA PRESET 11:00:00:00.
+const PRESET_11: Sent = (IN_PRESET_11, ACK);
+
 /// A deck in remote too may have left a passed preset undone.
 const PRESET: &[Learnt] = &[
     (Exchange(REMOTE), "local no, panel off"),
     (Exchange(PRESET_10), "in 10:00:00:00, local no, panel off"),
-    (Passed(IN_PRESET_11), "in set, local no, panel off"),
-    // A sense does nothing.
-    (Passed(IN_SENSE), "in set, local no, panel off"),
+    (Passed(PRESET_11), "in set, local no, panel off"),
+    // A sense does nothing, and what it told is not looked at.
+    (Passed(SENSED_5), "in set, local no, panel off"),
     (Exchange(SENSED_10), "in 10:00:00:00, local no, panel off"),
-    (Passed(IN_PRESET_11), "in set, local no, panel off"),
+    (Passed(PRESET_11), "in set, local no, panel off"),
     (Exchange(SENSED_11), "in 11:00:00:00, local no, panel off"),
-    (Passed(IN_RESET.0), "local no, panel off"),
+    (Passed(IN_RESET), "local no, panel off"),
     (
         Exchange(IN_SET),
         "in 11:00:00:00, out clear, local no, ain clear, aout clear, panel off",
     ),
     (
-        Passed(IN_SHIFTED_ON.0),
+        Passed(IN_SHIFTED_ON),
         "in set, out clear, local no, ain clear, aout clear, panel off",
     ),
     // What is not listed has every effect that it may have, and that it has none is one of them.
-    (Passed(UNLISTED_2.0), "local no, panel off"),
-    (Passed(UNLISTED_0.0), "panel off"),
+    (Passed(UNLISTED_2), "local no, panel off"),
+    (Passed(UNLISTED_0), "panel off"),
 ];
 
 /// The goal of a passed transport command is the deck's, or the one before it.
@@ -52,13 +55,14 @@ const MOVED: &[Learnt] = &[
         Exchange((&[0x20, 0x10, 0x30], ACK)),
         "goal FF, local no, panel off",
     ),
+    // A deck that goes for PLAY and shows STOP does not come to show FF.
+    (Passed(PLAYED), "local no, panel off"),
     (Exchange(SHOWS_STOP), "shown STOP, local no, panel off"),
-    (Passed(PLAY), "local no, panel off"),
     (
         Exchange(SHOWS_FAST_FORWARD),
         "goal FF, shown FF, local no, panel off",
     ),
-    (Passed(PLAY), "local no, panel off"),
+    (Passed(PLAYED), "local no, panel off"),
     (
         Exchange(SHOWS_PLAY),
         "goal PLAY, shown PLAY, local no, panel off",
@@ -70,26 +74,26 @@ const SWITCHED: &[Learnt] = &[
     (Exchange(PANEL_OFF), "panel off"),
     (Exchange(REMOTE), "local no, panel off"),
     (Exchange(PRESET_10), "in 10:00:00:00, local no, panel off"),
-    (Passed(LOCAL_DISABLE), "in 10:00:00:00, local no, panel off"),
+    (Passed(PANEL_OFF), "in 10:00:00:00, local no, panel off"),
     // The panel may be on, and no hand has been there yet.
-    (Passed(LOCAL_ENABLE), "in 10:00:00:00, local no"),
-    (Passed(IN_SENSE), ""),
+    (Passed(PANEL_ON), "in 10:00:00:00, local no"),
+    (Passed(SENSED_5), ""),
     (Exchange(SENSED_11), "panel on"),
     // The panel may be off, and then the preset is known to be done; but it may also be on.
-    (Passed(LOCAL_DISABLE), ""),
+    (Passed(PANEL_OFF), ""),
     (Exchange(REMOTE), "local no"),
     (Exchange(PRESET_10), ""),
     (Exchange(SENSED_11), "panel on"),
-    (Passed(UNLISTED_0.0), ""),
+    (Passed(UNLISTED_0), ""),
 ];
 
 /// Takes a command without its reply.
 fn pass<S: TimeSet>(
     rt: &impl Abort,
     tracker: &mut Tracker<S>,
-    bytes: &[u8],
+    sent: Sent,
 ) -> Result<(), AllocError> {
-    tracker.pass(&command_of(rt, bytes))
+    tracker.pass(&command_of(rt, sent.0))
 }
 
 /// Takes what leaves a state.
@@ -103,7 +107,7 @@ fn take_one<S: TimeSet>(
             assert!(rt; take(rt, tracker, sent)?, "{sent:?}");
             Ok(())
         }
-        Passed(bytes) => pass(rt, tracker, bytes),
+        Passed(sent) => pass(rt, tracker, sent),
     }
 }
 
@@ -153,12 +157,12 @@ fn spans(rt: HostRuntime) -> Result<(), Fail> {
 /// A preset counts as one that was acknowledged, and nothing comes from nothing.
 fn count(rt: &impl Abort, tracker: &mut Tracker<SpanSet>) -> Result<(), AllocError> {
     take_all(rt, tracker, &[REMOTE, PRESET_10])?;
-    pass(rt, tracker, IN_PRESET_12)?;
-    pass(rt, tracker, IN_PRESET_12)?;
+    pass(rt, tracker, PRESET_11)?;
+    pass(rt, tracker, PRESET_11)?;
     let spans = tracker.spans(Register::RegIn);
     assert_eq!(rt; (spans, tracker.presets(Register::RegIn)), (2, 3));
     assert!(rt; !take(rt, tracker, LOCAL)?);
-    pass(rt, tracker, UNLISTED_0.0)?;
+    pass(rt, tracker, UNLISTED_0)?;
     assert!(rt; !tracker.remains());
     Ok(())
 }

@@ -5,7 +5,7 @@
 use super::counted::ROWS;
 use super::rows::{AUDIO, FORGOTTEN, HANDS, REGISTERS, SHIFTS, TRANSPORT};
 use super::sent::{
-    IN_PRESET_11, IN_SHIFTED_ON, LOCAL_DISABLE, LOCAL_ENABLE, PLAY, PRESET_10, Sent, UNLISTED_0,
+    IN_SHIFTED_ON, PANEL_OFF, PANEL_ON, PLAYED, PRESET_10, PRESET_LAST, Sent, UNLISTED_0,
     UNLISTED_2,
 };
 use super::{command_of, exchange, known, observe};
@@ -155,39 +155,39 @@ fn counts(rt: HostRuntime) -> Result<(), Fail> {
     Ok(())
 }
 
-/// Commands whose replies are not known.
-const PASSED: &[&[u8]] = &[
-    PRESET_10.0,
-    LOCAL_DISABLE,
-    LOCAL_ENABLE,
-    IN_PRESET_11,
-    IN_SHIFTED_ON.0,
-    PLAY,
-    UNLISTED_2.0,
-    UNLISTED_0.0,
+/// Exchanges of which the commands alone are taken.
+const PASSED: &[Sent] = &[
+    PRESET_10,
+    PANEL_OFF,
+    PANEL_ON,
+    PRESET_LAST,
+    IN_SHIFTED_ON,
+    PLAYED,
+    UNLISTED_2,
+    UNLISTED_0,
 ];
 
 /// Takes a command without its reply. Where memory is refused all answers are as before, and the same call again gives one.
 fn pass<S: Counted>(
     rt: &impl Abort,
     tracker: &mut Tracker<S>,
-    bytes: &[u8],
+    sent: Sent,
 ) -> Result<(), AllocError> {
     let before = answers(rt, tracker);
-    let command = command_of(rt, bytes);
+    let command = command_of(rt, sent.0);
     match tracker.pass(&command) {
         Ok(()) => Ok(()),
         Err(_) => {
-            assert_eq!(rt; answers(rt, tracker), before, "{bytes:?}");
+            assert_eq!(rt; answers(rt, tracker), before, "{sent:?}");
             tracker.pass(&command)
         }
     }
 }
 
 fn pass_all<S: Counted>(rt: &impl Abort, tracker: &mut Tracker<S>) -> Result<(), AllocError> {
-    for bytes in PASSED {
-        pass(rt, tracker, bytes)?;
-        assert!(rt; tracker.remains(), "{bytes:?}");
+    for sent in PASSED {
+        pass(rt, tracker, *sent)?;
+        assert!(rt; tracker.remains(), "{sent:?}");
     }
     Ok(())
 }
