@@ -250,7 +250,8 @@ impl<S: TimeSet> States<S> {
             self.on = Some(known);
             self.off.drift();
         } else {
-            self.on = Some(self.drifted_on(alloc)?);
+            let drifted = self.drifted_on(alloc)?;
+            self.on = Some(drifted);
             self.off = known;
         }
         Ok(())

@@ -8,5 +8,5 @@ returns-then-on-clause-ok g c =
     rw (c.if-on.true, c.drift.ensures, c.in_ok-known.ensures)
     (ap (λ (v : StateSet). let w : StateSet = record { off = two_drifted v.off; on = Some (either_panel c.args.self.now) } in w) c.self.view_is)
 
-pub returns-in_ok-drifted_on-clause-ok : goal.returns-in_ok-drifted_on-clause-ok
-returns-in_ok-drifted_on-clause-ok g c = rw (c.if-on.false, c.in_ok-drifted_on.ensures, c.in_ok-known.ensures) refl
+pub returns-in_ok-drifted-clause-ok : goal.returns-in_ok-drifted-clause-ok
+returns-in_ok-drifted-clause-ok g c = rw (c.if-on.false, c.in_ok-drifted.ensures, c.in_ok-known.ensures) refl
