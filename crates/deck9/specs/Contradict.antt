@@ -13,6 +13,10 @@ use Rattle.deck9.specs.Step.{Step}
 abbrev pub CanPass : Hands → Command → State → State → Type 0
 CanPass h command s t = (t ≡ s) ⊎ Does h (effect_of command) s t
 
+-- the deck drifts, and then takes a command whose reply is not known
+abbrev pub Passes : Hands → Command → State → State → Type 0
+Passes h command s t = (d : State) × Drift h s d × CanPass h command d t
+
 -- what an exchange may do after the drift: a step with its reply where that is believed, and else what its command may do
 abbrev pub MayDo : Hands → Bool → Exchange → State → State → Type 0
 MayDo h true e s t = Step h e.command e.reply s t

@@ -66,8 +66,8 @@ all_two t i = by t.local i
 pub two_none : {P : Type 0} (t : State) → InPart (in_local (all_or_none false) t.local) t → P
 two_none t i = absurd (false≢true (two_live (all_or_none false) t i))
 
-pub forget_reached : (h : TwoParts) → TwoWhole h → (pn : Bool) → AreReached (InTwo pn h) (DoesOrNot effect.ForgetAll) (InTwo pn (all_forgotten h))
-forget_reached h whole pn = (
+pub forget_reached : (may_stay : Bool) (h : TwoParts) → TwoWhole h → (pn : Bool) → AreReached (InTwo pn h) (DoesOrNot may_stay effect.ForgetAll) (InTwo pn (all_forgotten h))
+forget_reached may_stay h whole pn = (
   λ t i. from (some_two h) refl t i,
   λ s t i does. elim does [
     | inl d ↦ (d.1 ∙ i.0, subst (λ (b : Bool). InPart (in_local (if b then all_or_none true else h) t.local) t) (sym (two_live h s i.1)) (two_all t d.0))
@@ -75,7 +75,7 @@ forget_reached h whole pn = (
   ],
 )
   where
-    from : (b : Bool) → some_two h ≡ b → (t : State) → InTwo pn (if b then all_or_none true else h) t → (s : State) × InTwo pn h s × DoesOrNot effect.ForgetAll s t
+    from : (b : Bool) → some_two h ≡ b → (t : State) → InTwo pn (if b then all_or_none true else h) t → (s : State) × InTwo pn h s × DoesOrNot may_stay effect.ForgetAll s t
     from true live t i = let w = two_state h pn whole live in (w.0, w.1, inl (all_two t i.1, i.0 ∙ sym w.1.0))
     from false dead t i = absurd (false≢true (sym dead ∙ two_live h t i.1))
 

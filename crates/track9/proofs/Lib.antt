@@ -14,6 +14,7 @@ pub mod ModeLemmas
 pub mod OneKnowledge
 pub mod PairLemmas
 pub mod PanelLemmas
+pub mod PassLemmas
 pub mod PartLemmas
 pub mod ReachLemmas
 pub mod SenseLemmas

@@ -26,12 +26,12 @@ use Rattle.deck9.specs.Shows.{Agrees, sense_of}
 use Rattle.deck9.specs.State.{IsState, entry_of}
 use Rattle.deck9.specs.Step.{AreReached, Exchanges, Step, done, ignored, refused}
 use Rattle.track9.specs.Tracker.{Allows, InPart, Possible, StateSet, TwoParts, entries_of, in_local}
-use Rattle.track9.specs.Working.States.{AreBelow, AreFew, AreWhole, Exchanged, Follows, InTwo, TwoBelow, TwoFew, TwoWhole, acknowledged, after_panel, all_or_none, counted, first_states, hands_by, hands_of, is_panel_live, is_wide, some_state, some_two, switched, two_drifted, two_of}
+use Rattle.track9.specs.Working.States.{AllLeadOn, AreBelow, AreFew, AreWhole, Exchanged, Follows, InTwo, LeadsOn, TwoBelow, TwoFew, TwoWhole, acknowledged, after_panel, all_or_none, counted, first_states, hands_by, hands_of, is_panel_live, is_wide, some_state, some_two, switched, two_drifted, two_of}
 use Rattle.deck9.proofs.DriftLemmas.{drift_from_pairs}
 use Rattle.track9.proofs.EffectLemmas.{does_panel, drift_whole}
 use Rattle.track9.proofs.FewLemmas.{few_two}
 use Rattle.track9.proofs.ForgetLemmas.{all_two, first_is, is_first, live_some, some_live, two_all, two_live, two_none, two_state}
-use Rattle.track9.proofs.ReachLemmas.{by_panel, of_two, to_two}
+use Rattle.track9.proofs.ReachLemmas.{by_panel, of_two, reached_by, to_two}
 use Rattle.track9.proofs.SetDriftLemmas.{drift_panel, drift_reached, drift_state, mechanics, off_drift, possible_state, same_drift, state_is}
 use Rattle.track9.proofs.StepLemmas.{drift_few, presets_of, sense_effect, status_effect}
 use Rattle.track9.proofs.WholeLemmas.{whole_two}
@@ -44,7 +44,7 @@ exchange_panel c reply s t (d, drift, step) = by step ∙ ap (λ (u : State). u.
     by : Step hands.None c reply d t → t.panel ≡ d.panel
     by (refused nak e) = ap (λ (u : State). u.panel) e
     by (ignored was shows may local e) = ap (λ (u : State). u.panel) e
-    by (done was shows does) = does_panel (effect_of c) d t (inl does)
+    by (done was shows does) = does_panel false (effect_of c) d t (inl does)
 
 none_below : BelowDay set.empty
 none_below t h = absurd (false≢true (sym (set.contains-empty nat_cmp t) ∙ h))
@@ -54,29 +54,41 @@ none_on : (o : Option TwoParts) → hands_by o ≡ hands.None → o ≡ None
 none_on None e = refl
 none_on (Some h) e = cc
 
-pub follows_off : (c : Command) (reply : Block) (v : StateSet) (off : TwoParts) (w : StateSet) → w ≡ record { off = off; on = v.on } → hands_of v ≡ hands.None → AreWhole v → Exchanged c reply v.off off → Follows (hands_of v) c reply v w
-follows_off c reply v off w same without whole exchanged =
+pub leads_off : (Goes : Hands → State → State → Type 0) (count : Presets → Presets) → ((s t : State) → Goes hands.None s t → t.panel ≡ s.panel) → (v : StateSet) (off : TwoParts) (w : StateSet)
+    → w ≡ record { off = off; on = v.on } → hands_of v ≡ hands.None → AreWhole v → LeadsOn (Goes hands.None) count v.off off → AllLeadOn (hands_of v) (Goes (hands_of v)) count v w
+leads_off Goes count keeps v off w same without whole leads =
     let none : v.on ≡ None = none_on v.on without in
     let still : w.on ≡ None = ap (λ (x : StateSet). x.on) same ∙ none in
     let here : w.off ≡ off = ap (λ (x : StateSet). x.off) same in
-    subst (λ h. Follows h c reply v w) (sym without) (record {
-      reached = by_panel (Exchanges hands.None c reply) (exchange_panel c reply) v w (each none still here);
+    subst (λ h. AllLeadOn h (Goes h) count v w) (sym without) (record {
+      reached = by_panel (Goes hands.None) keeps v w (each none still here);
       hands = ap hands_by still;
-      whole = record { off = subst TwoWhole (sym here) exchanged.whole; on = rw still (whole_two false) };
+      whole = record { off = subst TwoWhole (sym here) leads.whole; on = rw still (whole_two false) };
       few = λ n few. are_few n few still here;
     })
   where
-    each : v.on ≡ None → w.on ≡ None → w.off ≡ off → (pn : Bool) → AreReached (InTwo pn (two_of v pn)) (Exchanges hands.None c reply) (InTwo pn (two_of w pn))
-    each none still here false = subst (λ g. AreReached (InTwo false v.off) (Exchanges hands.None c reply) (InTwo false g)) (sym here) (exchanged.reached false)
+    each : v.on ≡ None → w.on ≡ None → w.off ≡ off → (pn : Bool) → AreReached (InTwo pn (two_of v pn)) (Goes hands.None) (InTwo pn (two_of w pn))
+    each none still here false = subst (λ g. AreReached (InTwo false v.off) (Goes hands.None) (InTwo false g)) (sym here) (leads.reached false)
     each none still here true = rw (none, still) (λ t i. two_none t i.1, λ s t i goes. two_none s i.1)
 
-    are_few : (n : Presets) → AreFew n v → w.on ≡ None → w.off ≡ off → AreFew (presets_after c reply true n) w
-    are_few n few still here false = subst (TwoFew (presets_after c reply true n)) (sym here) (exchanged.few n (few false))
-    are_few n few still here true = rw still (few_two (presets_after c reply true n) false)
+    are_few : (n : Presets) → AreFew n v → w.on ≡ None → w.off ≡ off → AreFew (count n) w
+    are_few n few still here false = subst (TwoFew (count n)) (sym here) (leads.few n (few false))
+    are_few n few still here true = rw still (few_two (count n) false)
+
+pub follows_off : (c : Command) (reply : Block) (v : StateSet) (off : TwoParts) (w : StateSet) → w ≡ record { off = off; on = v.on } → hands_of v ≡ hands.None → AreWhole v → Exchanged c reply v.off off → Follows (hands_of v) c reply v w
+follows_off c reply = leads_off (λ h. Exchanges h c reply) (presets_after c reply true) (exchange_panel c reply)
 
 -- ---- where a hand makes no difference to the step
 
-does_same : (h k : Hands) (e : Effect) (s t : State) → is_wide e ≡ false → Does h e s t → Does k e s t
+-- a drift, and then a step
+abbrev pub DriftsAndGoes : (Hands → State → State → Type 0) → Hands → State → State → Type 0
+DriftsAndGoes Goes h s t = (d : State) × Drift h s d × Goes h d t
+
+pub record IsNarrow (Goes : Hands → State → State → Type 0) : Type 0 where
+  pub same : (h k : Hands) (s t : State) → Goes h s t → Goes k s t
+  pub panel : (s t : State) → DriftsAndGoes Goes hands.None s t → t.panel ≡ s.panel
+
+pub does_same : (h k : Hands) (e : Effect) (s t : State) → is_wide e ≡ false → Does h e s t → Does k e s t
 does_same h k effect.Nothing s t narrow d = d
 does_same h k (effect.Go g) s t narrow d = d
 does_same h k effect.KeepOrStop s t narrow d = d
@@ -92,40 +104,40 @@ step_same h k c reply s t narrow (ignored was shows may local e) = ignored was s
 step_same h k c reply s t narrow (done was shows does) =
     done was shows (does_same h k (effect_of c) s t (sym (ap (λ (b : Bool). is_wide (if b then effect.Nothing else effect_of c)) was) ∙ narrow) does)
 
-off_reached : (c : Command) (reply : Block) (h g : TwoParts) → is_wide (acknowledged c reply) ≡ false → Exchanged c reply h g → AreReached (InTwo false h) (Exchanges hands.Allowed c reply) (InTwo false g)
-off_reached c reply h g narrow exchanged = (
-  λ t i. let a = (exchanged.reached false).0 t i in (a.0, a.1, (a.2.0, same_drift hands.Allowed a.0 a.2.0 a.2.1, step_same hands.None hands.Allowed c reply a.2.0 t narrow a.2.2)),
-  λ s t i w. (exchanged.reached false).1 s t i (w.0, off_drift hands.Allowed s w.0 i.0 w.1, step_same hands.Allowed hands.None c reply w.0 t narrow w.2),
+off_reached : (Goes : Hands → State → State → Type 0) (count : Presets → Presets) (h g : TwoParts) → IsNarrow Goes → LeadsOn (DriftsAndGoes Goes hands.None) count h g
+    → AreReached (InTwo false h) (DriftsAndGoes Goes hands.Allowed) (InTwo false g)
+off_reached Goes count h g narrow leads = (
+  λ t i. let a = (leads.reached false).0 t i in (a.0, a.1, (a.2.0, same_drift hands.Allowed a.0 a.2.0 a.2.1, narrow.same hands.None hands.Allowed a.2.0 t a.2.2)),
+  λ s t i w. (leads.reached false).1 s t i (w.0, off_drift hands.Allowed s w.0 i.0 w.1, narrow.same hands.Allowed hands.None w.0 t w.2),
 )
 
 -- a hand leads from a state with the panel on to any
 pub hand_drift : (s d : State) → s.panel ≡ true → d.panel ≡ true → IsState d → Drift hands.Allowed s d
 hand_drift s d before after valid = drift_from_pairs hands.Allowed s d (inr (refl, before, after, valid))
 
-on_reached : (c : Command) (reply : Block) (h g : TwoParts) → is_wide (acknowledged c reply) ≡ false → TwoWhole h → TwoBelow h → Exchanged c reply (all_or_none (some_two h)) g
-    → AreReached (InTwo true h) (Exchanges hands.Allowed c reply) (InTwo true g)
-on_reached c reply h g narrow whole below exchanged = (λ t i. from (some_two h) refl t i, λ s t i w. to s t i w)
+on_reached : (Goes : Hands → State → State → Type 0) (count : Presets → Presets) (h g : TwoParts) → IsNarrow Goes → TwoWhole h → TwoBelow h → LeadsOn (DriftsAndGoes Goes hands.None) count (all_or_none (some_two h)) g
+    → AreReached (InTwo true h) (DriftsAndGoes Goes hands.Allowed) (InTwo true g)
+on_reached Goes count h g narrow whole below leads = (λ t i. from (some_two h) refl t i, λ s t i w. to s t i w)
   where
-    from : (b : Bool) → some_two h ≡ b → (t : State) → InTwo true g t → (s : State) × InTwo true h s × Exchanges hands.Allowed c reply s t
+    from : (b : Bool) → some_two h ≡ b → (t : State) → InTwo true g t → (s : State) × InTwo true h s × DriftsAndGoes Goes hands.Allowed s t
     from true live t i =
-        let a = (exchanged.reached true).0 t i in
+        let a = (leads.reached true).0 t i in
         let e = drift_state hands.None a.0 a.2.0 (all_two a.0 (subst (λ b. InPart (in_local (all_or_none b) a.0.local) a.0) live a.1.1)) a.2.1 in
         let s = two_state h true whole live in
-        (s.0, s.1, (a.2.0, hand_drift s.0 a.2.0 s.1.0 (drift_panel hands.None a.0 a.2.0 a.2.1 ∙ a.1.0) e, step_same hands.None hands.Allowed c reply a.2.0 t narrow a.2.2))
-    from false dead t i = let a = (exchanged.reached true).0 t i in two_none a.0 (subst (λ b. InPart (in_local (all_or_none b) a.0.local) a.0) dead a.1.1)
+        (s.0, s.1, (a.2.0, hand_drift s.0 a.2.0 s.1.0 (drift_panel hands.None a.0 a.2.0 a.2.1 ∙ a.1.0) e, narrow.same hands.None hands.Allowed a.2.0 t a.2.2))
+    from false dead t i = let a = (leads.reached true).0 t i in two_none a.0 (subst (λ b. InPart (in_local (all_or_none b) a.0.local) a.0) dead a.1.1)
 
-    to : (s t : State) → InTwo true h s → Exchanges hands.Allowed c reply s t → InTwo true g t
+    to : (s t : State) → InTwo true h s → DriftsAndGoes Goes hands.Allowed s t → InTwo true g t
     to s t i (d, drift, step) =
         let e = drift_state hands.Allowed s d (state_is (in_local h s.local) s (below s.local) i.1) drift in
-        (exchanged.reached true).1 d t (drift_panel hands.Allowed s d drift ∙ i.0, subst (λ b. InPart (in_local (all_or_none b) d.local) d) (sym (two_live h s i.1)) (two_all d e))
-        (d, ([], refl), step_same hands.Allowed hands.None c reply d t narrow step)
+        (leads.reached true).1 d t (drift_panel hands.Allowed s d drift ∙ i.0, subst (λ b. InPart (in_local (all_or_none b) d.local) d) (sym (two_live h s i.1)) (two_all d e))
+        (d, ([], refl), narrow.same hands.Allowed hands.None d t step)
 
-pub follows_both : (c : Command) (reply : Block) (v : StateSet) (off on : TwoParts) (w : StateSet) → w ≡ record { off = off; on = Some on } → is_wide (acknowledged c reply) ≡ false → AreWhole v → AreBelow v
-    → Exchanged c reply v.off off → Exchanged c reply (all_or_none (is_panel_live v)) on → Follows hands.Allowed c reply v w
-follows_both c reply v off on w same narrow whole below first second =
-    let x : StateSet = record { off = off; on = Some on } in
-    subst (Follows hands.Allowed c reply v) (sym same) (record {
-      reached = by_panel (Exchanges hands.Allowed c reply) keeps v x each;
+pub leads_both : (Goes : Hands → State → State → Type 0) (count : Presets → Presets) (v : StateSet) (off on : TwoParts) (w : StateSet) → w ≡ record { off = off; on = Some on } → IsNarrow Goes → AreWhole v → AreBelow v
+    → LeadsOn (DriftsAndGoes Goes hands.None) count v.off off → LeadsOn (DriftsAndGoes Goes hands.None) count (all_or_none (is_panel_live v)) on → AllLeadOn hands.Allowed (DriftsAndGoes Goes hands.Allowed) count v w
+leads_both Goes count v off on w same narrow whole below first second =
+    subst (AllLeadOn hands.Allowed (DriftsAndGoes Goes hands.Allowed) count v) (sym same) (record {
+      reached = by_panel (DriftsAndGoes Goes hands.Allowed) keeps v x each;
       hands = refl;
       whole = record { off = first.whole; on = second.whole };
       few = are_few;
@@ -134,16 +146,21 @@ follows_both c reply v off on w same narrow whole below first second =
     x : StateSet
     x = record { off = off; on = Some on }
 
-    keeps : (s t : State) → Exchanges hands.Allowed c reply s t → t.panel ≡ s.panel
-    keeps s t (d, drift, step) = exchange_panel c reply d t (d, ([], refl), step_same hands.Allowed hands.None c reply d t narrow step) ∙ drift_panel hands.Allowed s d drift
+    keeps : (s t : State) → DriftsAndGoes Goes hands.Allowed s t → t.panel ≡ s.panel
+    keeps s t (d, drift, step) = narrow.panel d t (d, ([], refl), narrow.same hands.Allowed hands.None d t step) ∙ drift_panel hands.Allowed s d drift
 
-    each : (pn : Bool) → AreReached (InTwo pn (two_of v pn)) (Exchanges hands.Allowed c reply) (InTwo pn (two_of x pn))
-    each false = off_reached c reply v.off off narrow first
-    each true = on_reached c reply (two_of v true) on narrow whole.on below.on second
+    each : (pn : Bool) → AreReached (InTwo pn (two_of v pn)) (DriftsAndGoes Goes hands.Allowed) (InTwo pn (two_of x pn))
+    each false = off_reached Goes count v.off off narrow first
+    each true = on_reached Goes count (two_of v true) on narrow whole.on below.on second
 
-    are_few : (n : Presets) → AreFew n v → AreFew (presets_after c reply true n) x
+    are_few : (n : Presets) → AreFew n v → AreFew (count n) x
     are_few n few false = first.few n (few false)
     are_few n few true = second.few n (few_two n (is_panel_live v))
+
+pub follows_both : (c : Command) (reply : Block) (v : StateSet) (off on : TwoParts) (w : StateSet) → w ≡ record { off = off; on = Some on } → is_wide (acknowledged c reply) ≡ false → AreWhole v → AreBelow v
+    → Exchanged c reply v.off off → Exchanged c reply (all_or_none (is_panel_live v)) on → Follows hands.Allowed c reply v w
+follows_both c reply v off on w same narrow =
+    leads_both (λ h. Step h c reply) (presets_after c reply true) v off on w same (record { same = λ h k s t. step_same h k c reply s t narrow; panel = exchange_panel c reply })
 
 -- ---- the panel is switched, and everything is forgotten
 
@@ -214,28 +231,26 @@ only on h t i = by on t.panel refl i
     by false true e i = two_none t (to_two (switched false h) t true e i).1
     by true false e i = two_none t (to_two (switched true h) t false e i).1
 
-pub panel_reached : (c : Command) (reply : Block) (on : Bool) (v : StateSet) → acknowledged c reply ≡ effect.Panel on → AreWhole v → AreBelow v
-    → AreReached (Possible v) (Exchanges hands.Allowed c reply) (Possible (after_panel on v))
-panel_reached c reply on v was whole below = (λ t i. from (is_panel_live v) refl t i, λ s t i w. to (is_panel_live v) refl s t i w)
-  where
-    known : Bool → TwoParts
-    known live = if live then all_or_none true else two_drifted v.off
+abbrev pub DriftsAndDoes : Effect → State → State → Type 0
+DriftsAndDoes e s t = (d : State) × Drift hands.Allowed s d × Does hands.Allowed e d t
 
-    from : (b : Bool) → is_panel_live v ≡ b → (t : State) → Possible (switched on (if b then all_or_none true else two_drifted v.off)) t → (s : State) × Possible v s × Exchanges hands.Allowed c reply s t
+pub panel_reached : (on : Bool) (v : StateSet) → AreWhole v → AreBelow v → AreReached (Possible v) (DriftsAndDoes (effect.Panel on)) (Possible (after_panel on v))
+panel_reached on v whole below = (λ t i. from (is_panel_live v) refl t i, λ s t i w. to (is_panel_live v) refl s t i w)
+  where
+    from : (b : Bool) → is_panel_live v ≡ b → (t : State) → Possible (switched on (if b then all_or_none true else two_drifted v.off)) t → (s : State) × Possible v s × DriftsAndDoes (effect.Panel on) s t
     from true live t i =
         let j = only on (all_or_none true) t i in
         let s = two_state (two_of v true) true whole.on live in
         let d : State = record t { panel = true } in
-        (s.0, of_two v s.0 true s.1, (d, hand_drift s.0 d s.1.0 refl (all_two d (in_panel (all_or_none true) t true j.1).1), step_wide c reply (effect.Panel on) d t was refl (ap (λ b. record t { panel = b }) j.0)))
+        (s.0, of_two v s.0 true s.1, (d, hand_drift s.0 d s.1.0 refl (all_two d (in_panel (all_or_none true) t true j.1).1), ap (λ b. record t { panel = b }) j.0))
     from false dead t i =
         let j = only on (two_drifted v.off) t i in
         let d : State = record t { panel = false } in
         let a = (drift_reached v.off false).0 d (in_panel (two_drifted v.off) t false j.1) in
-        (a.0, of_two v a.0 false a.1, (d, same_drift hands.Allowed a.0 d a.2, step_wide c reply (effect.Panel on) d t was refl (ap (λ b. record t { panel = b }) j.0)))
+        (a.0, of_two v a.0 false a.1, (d, same_drift hands.Allowed a.0 d a.2, ap (λ b. record t { panel = b }) j.0))
 
-    to : (b : Bool) → is_panel_live v ≡ b → (s t : State) → Possible v s → Exchanges hands.Allowed c reply s t → Possible (switched on (if b then all_or_none true else two_drifted v.off)) t
-    to b live s t i (d, drift, step) =
-        let same = wide_step c reply (effect.Panel on) d t was refl step in
+    to : (b : Bool) → is_panel_live v ≡ b → (s t : State) → Possible v s → DriftsAndDoes (effect.Panel on) s t → Possible (switched on (if b then all_or_none true else two_drifted v.off)) t
+    to b live s t i (d, drift, same) =
         subst (Possible (switched on (if b then all_or_none true else two_drifted v.off))) (sym same) (of_two (switched on (if b then all_or_none true else two_drifted v.off)) (record d { panel = on }) on
         (subst (λ h. InTwo on h (record d { panel = on })) (sym (there on (if b then all_or_none true else two_drifted v.off))) (in_panel (if b then all_or_none true else two_drifted v.off) d on (left b live s i d drift))))
       where
@@ -247,9 +262,19 @@ panel_reached c reply on v was whole below = (λ t i. from (is_panel_live v) ref
             by false off = ((drift_reached v.off false).1 s d (to_two v s false off i) (off_drift hands.Allowed s d off drift)).1
             by true on = absurd (false≢true (sym dead ∙ two_live (two_of v true) s (to_two v s true on i).1))
 
+pub known_whole : (v : StateSet) → AreWhole v → (b : Bool) → TwoWhole (if b then all_or_none true else two_drifted v.off)
+known_whole v whole true = whole_two true
+known_whole v whole false = drift_whole v.off whole.off
+
+pub known_few : (v : StateSet) (n : Presets) → AreFew n v → (b : Bool) → TwoFew n (if b then all_or_none true else two_drifted v.off)
+known_few v n few true = few_two n true
+known_few v n few false = drift_few n v.off (few false)
+
 pub follows_panel : (c : Command) (reply : Block) (on : Bool) (v w : StateSet) → acknowledged c reply ≡ effect.Panel on → w ≡ after_panel on v → AreWhole v → AreBelow v → Follows hands.Allowed c reply v w
 follows_panel c reply on v w was same whole below = subst (Follows hands.Allowed c reply v) (sym same) (record {
-  reached = panel_reached c reply on v was whole below;
+  reached = reached_by (Possible v) (Possible (after_panel on v)) (DriftsAndDoes (effect.Panel on)) (Exchanges hands.Allowed c reply)
+      (λ s t goes. (goes.0, goes.1, step_wide c reply (effect.Panel on) goes.0 t was refl goes.2)) (λ s t goes. (goes.0, goes.1, wide_step c reply (effect.Panel on) goes.0 t was refl goes.2))
+      (panel_reached on v whole below);
   hands = with_hands on (if is_panel_live v then all_or_none true else two_drifted v.off);
   whole = are_whole on (is_panel_live v);
   few = λ n few. subst (λ m. AreFew m (after_panel on v)) (sym (wide_counts c reply (effect.Panel on) n was refl refl)) (are_few n few on (is_panel_live v));
@@ -259,23 +284,15 @@ follows_panel c reply on v w was same whole below = subst (Follows hands.Allowed
     with_hands false h = refl
     with_hands true h = refl
 
-    known_whole : (b : Bool) → TwoWhole (if b then all_or_none true else two_drifted v.off)
-    known_whole true = whole_two true
-    known_whole false = drift_whole v.off whole.off
-
     are_whole : (on b : Bool) → AreWhole (switched on (if b then all_or_none true else two_drifted v.off))
-    are_whole false b = record { off = known_whole b; on = whole_two false }
-    are_whole true b = record { off = whole_two false; on = known_whole b }
-
-    known_few : (n : Presets) → AreFew n v → (b : Bool) → TwoFew n (if b then all_or_none true else two_drifted v.off)
-    known_few n few true = few_two n true
-    known_few n few false = drift_few n v.off (few false)
+    are_whole false b = record { off = known_whole v whole b; on = whole_two false }
+    are_whole true b = record { off = whole_two false; on = known_whole v whole b }
 
     are_few : (n : Presets) → AreFew n v → (on b : Bool) → AreFew n (switched on (if b then all_or_none true else two_drifted v.off))
-    are_few n few false b false = known_few n few b
+    are_few n few false b false = known_few v n few b
     are_few n few false b true = few_two n false
     are_few n few true b false = few_two n false
-    are_few n few true b true = known_few n few b
+    are_few n few true b true = known_few v n few b
 
 pub first_whole : (h : Hands) → AreWhole (first_states h)
 first_whole hands.None = record { off = whole_two true; on = whole_two false }
@@ -287,22 +304,22 @@ first_few hands.None n true = few_two n false
 first_few hands.Allowed n false = few_two n true
 first_few hands.Allowed n true = few_two n true
 
-pub follows_forget : (c : Command) (reply : Block) (v w : StateSet) → acknowledged c reply ≡ effect.ForgetAll → hands_of v ≡ hands.Allowed → w ≡ (if some_state v then first_states hands.Allowed else v) → AreWhole v
-    → Follows hands.Allowed c reply v w
-follows_forget c reply v w was allowed same whole = subst (Follows hands.Allowed c reply v) (sym same) (record {
+pub leads_forgotten : (Goes : State → State → Type 0) (count : Presets → Presets) (v w : StateSet) → hands_of v ≡ hands.Allowed → w ≡ (if some_state v then first_states hands.Allowed else v) → AreWhole v
+    → ((s t : State) → IsState t → Goes s t) → ((s t : State) → Possible v s → Goes s t → IsState t) → ((n : Presets) → count n ≡ n) → AllLeadOn hands.Allowed Goes count v w
+leads_forgotten Goes count v w allowed same whole there back counts = subst (AllLeadOn hands.Allowed Goes count v) (sym same) (record {
   reached = (λ t i. from (some_state v) refl t i, λ s t i w. to s t i w);
   hands = with_hands (some_state v);
   whole = are_whole (some_state v);
-  few = λ n few. subst (λ m. AreFew m (if some_state v then first_states hands.Allowed else v)) (sym (wide_counts c reply effect.ForgetAll n was refl refl)) (are_few n few (some_state v));
+  few = λ n few. subst (λ m. AreFew m (if some_state v then first_states hands.Allowed else v)) (sym (counts n)) (are_few n few (some_state v));
 })
   where
-    from : (b : Bool) → some_state v ≡ b → (t : State) → Possible (if b then first_states hands.Allowed else v) t → (s : State) × Possible v s × Exchanges hands.Allowed c reply s t
-    from true live t i = let s = live_some v whole live in (s.0, s.1, (s.0, ([], refl), step_wide c reply effect.ForgetAll s.0 t was refl (first_is hands.Allowed t i)))
+    from : (b : Bool) → some_state v ≡ b → (t : State) → Possible (if b then first_states hands.Allowed else v) t → (s : State) × Possible v s × Goes s t
+    from true live t i = let s = live_some v whole live in (s.0, s.1, there s.0 t (first_is hands.Allowed t i))
     from false dead t i = absurd (false≢true (sym dead ∙ some_live v t i))
 
-    to : (s t : State) → Possible v s → Exchanges hands.Allowed c reply s t → Possible (if some_state v then first_states hands.Allowed else v) t
-    to s t i (d, drift, step) =
-        subst (λ (b : Bool). Possible (if b then first_states hands.Allowed else v) t) (sym (some_live v s i)) (is_first hands.Allowed t (wide_step c reply effect.ForgetAll d t was refl step))
+    to : (s t : State) → Possible v s → Goes s t → Possible (if some_state v then first_states hands.Allowed else v) t
+    to s t i goes =
+        subst (λ (b : Bool). Possible (if b then first_states hands.Allowed else v) t) (sym (some_live v s i)) (is_first hands.Allowed t (back s t i goes))
 
     with_hands : (b : Bool) → hands_of (if b then first_states hands.Allowed else v) ≡ hands.Allowed
     with_hands true = refl
@@ -315,6 +332,12 @@ follows_forget c reply v w was allowed same whole = subst (Follows hands.Allowed
     are_few : (n : Presets) → AreFew n v → (b : Bool) → AreFew n (if b then first_states hands.Allowed else v)
     are_few n few true = first_few hands.Allowed n
     are_few n few false = few
+
+pub follows_forget : (c : Command) (reply : Block) (v w : StateSet) → acknowledged c reply ≡ effect.ForgetAll → hands_of v ≡ hands.Allowed → w ≡ (if some_state v then first_states hands.Allowed else v) → AreWhole v
+    → Follows hands.Allowed c reply v w
+follows_forget c reply v w was allowed same whole = leads_forgotten (Exchanges hands.Allowed c reply) (presets_after c reply true) v w allowed same whole
+    (λ s t valid. (s, ([], refl), step_wide c reply effect.ForgetAll s t was refl valid)) (λ s t i goes. wide_step c reply effect.ForgetAll goes.0 t was refl goes.2)
+    (λ n. wide_counts c reply effect.ForgetAll n was refl refl)
 
 -- all times of two parts are times of the day
 pub below_off : (v : StateSet) → v.on ≡ None → TwoBelow v.off → AreBelow v

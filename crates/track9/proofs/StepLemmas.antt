@@ -1,5 +1,5 @@
 -- Whole exchanges, where nobody touches the panel.
-use Rattle.std.proofs.Common.{◌≡◌, inl, inr, ◌==◌, ◌&&◌, not, ℕ, Bool, true, false, bit_and, if◌then◌else◌, Option, Some, None, refl, sym, ap, ◌∙◌, subst}
+use Rattle.std.proofs.Common.{◌≡◌, inl, inr, ◌==◌, ◌&&◌, ◌||◌, not, ℕ, Bool, true, false, bit_and, if◌then◌else◌, Option, Some, None, refl, sym, ap, ◌∙◌, subst}
 use Rattle.std.proofs.lemmas.Bool.{false≢true}
 use Rattle.tc25.specs.Day.{time_of}
 use Rattle.block9.specs.declared.block.Block.{Block}
@@ -54,7 +54,7 @@ status_effect (command.StatusSense a) asked e = refl
 status_effect _ asked e = cc
 
 -- the presets are those of the effect
-command_counts : (c : Command) (n : Presets) → with_command c n ≡ counted (effect_of c) n
+pub command_counts : (c : Command) (n : Presets) → with_command c n ≡ counted (effect_of c) n
 command_counts (command.InDataPreset t) n = refl
 command_counts (command.OutDataPreset t) n = refl
 command_counts (command.AudioInDataPreset t) n = refl
@@ -223,16 +223,20 @@ exchanged_status c reply asked h d g nak asks drifted read =
 
 -- ---- effects
 
-does_there : (c : Command) (reply : Block) (s t : State) → is_nak reply ≡ false → sense_of c ≡ sense.Nothing → DoesOrNot (effect_of c) s t → Step hands.None c reply s t
-does_there c reply s t nak asks (inl does) = done nak (subst (λ q. Agrees q s reply) (sym asks) tt) does
-does_there c reply s t nak asks (inr (may, local, e)) = ignored nak (subst (λ q. Agrees q s reply) (sym asks) tt) (ignored_by_effect c ∙ may) local e
+or_false : (b : Bool) → (b || false) ≡ b
+or_false true = refl
+or_false false = refl
 
-does_back : (c : Command) (reply : Block) (s t : State) → is_nak reply ≡ false → Step hands.None c reply s t → DoesOrNot (effect_of c) s t
+does_there : (c : Command) (reply : Block) (s t : State) → is_nak reply ≡ false → sense_of c ≡ sense.Nothing → DoesOrNot false (effect_of c) s t → Step hands.None c reply s t
+does_there c reply s t nak asks (inl does) = done nak (subst (λ q. Agrees q s reply) (sym asks) tt) does
+does_there c reply s t nak asks (inr (may, stays, e)) = ignored nak (subst (λ q. Agrees q s reply) (sym asks) tt) (ignored_by_effect c ∙ may) (sym (or_false s.local) ∙ stays) e
+
+does_back : (c : Command) (reply : Block) (s t : State) → is_nak reply ≡ false → Step hands.None c reply s t → DoesOrNot false (effect_of c) s t
 does_back c reply s t nak (refused was e) = absurd (false≢true (sym nak ∙ was))
 does_back c reply s t nak (done was shows does) = inl does
-does_back c reply s t nak (ignored was shows may local e) = inr (sym (ignored_by_effect c) ∙ may, local, e)
+does_back c reply s t nak (ignored was shows may local e) = inr (sym (ignored_by_effect c) ∙ may, or_false s.local ∙ local, e)
 
-pub exchanged_effect : (c : Command) (reply : Block) (e : Effect) (h g : TwoParts) → is_nak reply ≡ false → sense_of c ≡ sense.Nothing → e ≡ effect_of c → HasEffect e (two_drifted h) g → Exchanged c reply h g
+pub exchanged_effect : (c : Command) (reply : Block) (e : Effect) (h g : TwoParts) → is_nak reply ≡ false → sense_of c ≡ sense.Nothing → e ≡ effect_of c → HasEffect false e (two_drifted h) g → Exchanged c reply h g
 exchanged_effect c reply e h g nak asks same has =
-    exchanged_by c reply (DoesOrNot (effect_of c)) (counted (effect_of c)) h g (λ s t. does_there c reply s t nak asks) (λ s t. does_back c reply s t nak) (λ n. presets_of c reply n nak)
-    (subst (λ e. HasEffect e (two_drifted h) g) same has)
+    exchanged_by c reply (DoesOrNot false (effect_of c)) (counted (effect_of c)) h g (λ s t. does_there c reply s t nak asks) (λ s t. does_back c reply s t nak) (λ n. presets_of c reply n nak)
+    (subst (λ e. HasEffect false e (two_drifted h) g) same has)

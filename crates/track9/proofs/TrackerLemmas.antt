@@ -22,7 +22,7 @@ use Rattle.deck9.specs.State.{IsFirst, entry_of, with_entry}
 use Rattle.deck9.specs.Step.{AreReached, Exchanges}
 use Rattle.track9.specs.Tracker.{Allows, InPart, Possible, StateSet, Tracked, entries_of, in_local}
 use Rattle.track9.specs.Working.Parts.{is_live}
-use Rattle.track9.specs.Working.States.{AreFew, AreWhole, Follows, IsKept, first_states, all_or_none, hands_of, on_two, part_of, some_state, two_of}
+use Rattle.track9.specs.Working.States.{AreFew, AreWhole, Follows, FollowsPassed, IsKept, first_states, all_or_none, hands_of, on_two, part_of, some_state, two_of}
 use Rattle.track9.proofs.PanelLemmas.{first_few, first_whole}
 use Rattle.track9.proofs.EntryLemmas.{no_times}
 use Rattle.track9.proofs.ForgetLemmas.{first_is, is_first, live_some, some_live}
@@ -53,10 +53,10 @@ remains_where b v e whole = (λ h. live_some v whole (sym e ∙ h), λ w. e ∙ 
 -- ---- after an exchange
 
 -- what holds of the states inside holds of the tracker's
-pub reached_from : (t : Tracked) (v w : StateSet) (n : Presets) (c : Command) (reply : Block) → record { states = v; hands = hands_of v; presets = n } ≡ t → Follows (hands_of v) c reply v w
-    → AreReached (Possible t.states) (Exchanges t.hands c reply) (Possible w)
-reached_from t v w n c reply same follows =
-    let P : Tracked → Type 0 = λ t. AreReached (Possible t.states) (Exchanges t.hands c reply) (Possible w) in subst P same follows.reached
+pub reached_from : (t : Tracked) (v w : StateSet) (n : Presets) (Goes : Hands → State → State → Type 0) → record { states = v; hands = hands_of v; presets = n } ≡ t → AreReached (Possible v) (Goes (hands_of v)) (Possible w)
+    → AreReached (Possible t.states) (Goes t.hands) (Possible w)
+reached_from t v w n Goes same reached =
+    let P : Tracked → Type 0 = λ t. AreReached (Possible t.states) (Goes t.hands) (Possible w) in subst P same reached
 
 -- from no state none is reached
 pub over_false : (t : Tracked) (v w : StateSet) (n : Presets) (c : Command) (reply : Block) (b : Bool) → record { states = v; hands = hands_of v; presets = n } ≡ t → Follows (hands_of v) c reply v w → b ≡ some_state w
@@ -67,7 +67,7 @@ over_false t v w n c reply b same follows e none = by (some_state w) refl
     by false dead = e ∙ dead
     by true live =
         let a = live_some w follows.whole live in
-        let from = (reached_from t v w n c reply same follows).0 a.0 a.1 in
+        let from = (reached_from t v w n (λ h. Exchanges h c reply) same follows.reached).0 a.0 a.1 in
         absurd (none (from.0, from.1))
 
 dead_few : (n : Presets) (v : StateSet) → AreWhole v → some_state v ≡ false → AreFew n v
@@ -93,6 +93,10 @@ kept_few c reply v w h n false e few follows = by (is_nak reply)
 pub kept_after : (c : Command) (reply : Block) (v w : StateSet) (h : Hands) (n m : Presets) (b : Bool) → b ≡ some_state w → m ≡ presets_after c reply b n → IsKept n v → Follows h c reply v w → IsKept m w
 kept_after c reply v w h n m b e counts kept follows =
     subst (λ m. IsKept m w) (sym counts) (record { whole = follows.whole; few = kept_few c reply v w h n b e kept.few follows })
+
+-- after a command whose reply is not known
+pub kept_passed : (c : Command) (v w : StateSet) (h : Hands) (n m : Presets) → m ≡ with_command c n → IsKept n v → FollowsPassed h c v w → IsKept m w
+kept_passed c v w h n m counts kept follows = subst (λ m. IsKept m w) (sym counts) (record { whole = follows.whole; few = follows.few n kept.few })
 
 -- ---- spans
 

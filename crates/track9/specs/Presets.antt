@@ -37,7 +37,7 @@ with_one RegOut n = record n { outs = one_more n.outs }
 with_one RegAudioIn n = record n { ains = one_more n.ains }
 with_one RegAudioOut n = record n { aouts = one_more n.aouts }
 
--- the counts after a command was acknowledged: a data preset counts
+-- the counts after a command that was acknowledged, or was taken without a reply: a data preset counts
 abbrev pub with_command : Command → Presets → Presets
 with_command (command.InDataPreset time) n = with_one RegIn n
 with_command (command.OutDataPreset time) n = with_one RegOut n

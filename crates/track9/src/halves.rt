@@ -2,8 +2,8 @@
 //!
 //! A step that may need memory first makes aside what the part in remote gets; then it changes the part in local, whose sets
 //! may be large, in place, as the last thing that can fail; and then it drifts and puts the rest in place. So a refused
-//! step changes nothing, and no large set is copied. A drift of the mechanics changes the pairs alone, so it may come after
-//! what becomes of the registers.
+//! step changes nothing, and no large set is copied but where a deck in remote too may leave a change of a register undone. A
+//! drift of the mechanics changes the pairs alone, so it may come after what becomes of the registers.
 ghost use Rattle.std.specs.Prelude.{◌≡◌, IfOk, OnErr, OnOk, false, max};
 ghost use Rattle.tc25.specs.Times.{BelowDay, span_count};
 ghost use Rattle.track9.specs.Tracker.{entries_of, in_local};
@@ -108,17 +108,18 @@ impl<S: TimeSet> Halves<S> {
         self.local.go(true, goal);
     }
 
-    /// A register changes; a deck in local may leave it.
+    /// A register changes; a deck in local may leave it, and so may any where `may_stay`.
     fn change(
         &mut self,
         alloc: Global,
+        may_stay: bool,
         register: Register,
         change: &Change,
     ) -> Result<(), AllocError>
-        ensures ok { OnOk result (self.new ≡ two_changed register change.now self.old) }
+        ensures ok { OnOk result (self.new ≡ two_changed may_stay register change.now self.old) }
         ensures err { OnErr result (self.new ≡ self.old) }
     {
-        let remote = self.remote.change_aside(alloc, register, change)?;
+        let remote = self.remote.change_aside(alloc, may_stay, register, change)?;
         self.local.widen(alloc, register, change)?;
         self.remote.put_aside(register, remote);
         Ok(())

@@ -179,19 +179,27 @@ impl<S: TimeSet> Part<S> {
         };
     }
 
-    /// What becomes of a register's entries, in a set of its own: None where there is no state.
+    /// What becomes of a register's entries, or may where the deck may also leave it, in a set of its own: None where
+    /// there is no state.
     pub(crate) fn change_aside(
         &self,
         alloc: Global,
+        may_stay: bool,
         register: Register,
         change: &Change,
     ) -> Result<Option<RegisterSet<S>>, AllocError>
-        ensures { IfOk result (λ o. o ≡ aside self.now (changed_entries false change.now (entries_of register self.now))) }
+        ensures { IfOk result (λ o. o ≡ aside self.now (changed_entries may_stay change.now (entries_of register self.now))) }
     {
         if !self.is_live() {
             return Ok(None);
         }
-        Ok(Some(self.entries(register).changed(alloc, change)?))
+        let entries = self.entries(register);
+        let after = if may_stay {
+            entries.widened(alloc, change)?
+        } else {
+            entries.changed(alloc, change)?
+        };
+        Ok(Some(after))
     }
 
     /// The entries of a register that agree with a time that was read, in a set of their own: None where there

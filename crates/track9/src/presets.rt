@@ -74,8 +74,8 @@ impl Presets {
         }
     }
 
-    /// Counts a command that was acknowledged, if it is a data preset.
-    fn count_command(&mut self, command: &Command)
+    /// Counts a command that may have had its effect, if it is a data preset.
+    pub(crate) fn count_command(&mut self, command: &Command)
         ensures { self.new ≡ with_command command.now self.old }
     {
         match command {

@@ -2,12 +2,13 @@
 //!
 //! Where the panel is on a drift leaves every state, or none. So what these states were before plays no part: an exchange makes
 //! them anew from everything, aside, before it changes those with the panel off, in place. A refused exchange then changes
-//! nothing.
+//! nothing. A command whose reply is not known is taken in the same way.
 ghost use Rattle.std.specs.Prelude.{◌≡◌, IfOk, IsOk, IsTrue, OnErr, OnOk, false, if◌then◌else◌, max, true};
 ghost use Rattle.tc25.specs.Times.{span_count};
-ghost use Rattle.track9.specs.Frugal.{is_frugal};
+ghost use Rattle.deck9.specs.Effect.{effect_of};
+ghost use Rattle.track9.specs.Frugal.{is_frugal, is_frugal_effect};
 ghost use Rattle.track9.specs.Tracker.{entries_of};
-ghost use Rattle.track9.specs.Working.States.{AreBelow, AreWhole, Follows, acknowledged, after_panel, all_or_none, first_states, hands_of, is_panel_live, is_wide, part_of, some_state};
+ghost use Rattle.track9.specs.Working.States.{AreBelow, AreWhole, Follows, FollowsPassed, acknowledged, after_panel, all_or_none, either_panel, first_states, hands_of, is_panel_live, is_wide, panel_passed, part_of, some_state};
 
 use crate::halves::Halves;
 use crate::reply::is_nak;
@@ -15,7 +16,6 @@ use block9::{Block, Command};
 use deck9::{Effect, Hands, Register};
 use std::alloc::{AllocError, Global};
 use std::marker::Model;
-use std::mem;
 use tc25::{SpanSet, TimeSet};
 
 mod before;
@@ -169,21 +169,90 @@ impl<S: TimeSet> States<S> {
         Ok(())
     }
 
-    /// The panel is switched on or off, after a drift: where the panel was on, that has left every state.
+    /// What a drift leaves, whatever the panel: every state where the panel was on.
+    fn either_panel(&self, alloc: Global) -> Result<Halves<S>, AllocError>
+        ensures { IfOk result (λ h. h ≡ either_panel self.now) }
+    {
+        if self.is_panel_live() {
+            return Halves::all_or_none(alloc, true);
+        }
+        let mut off = self.off.copy()?;
+        off.drift();
+        Ok(off)
+    }
+
+    /// The panel is switched on or off, after a drift.
     fn switch_panel(&mut self, alloc: Global, on: bool) -> Result<(), AllocError>
         ensures ok { OnOk result (self.new ≡ after_panel on self.old) }
         ensures err { OnErr result (self.new ≡ self.old) }
     {
-        let known = if self.is_panel_live() {
-            Halves::all_or_none(alloc, true)?
-        } else {
-            self.off.drift();
-            mem::replace(&mut self.off, Halves::none(alloc))
-        };
+        let known = self.either_panel(alloc)?;
         let none = Halves::none(alloc);
         let (off, on) = if on { (none, known) } else { (known, none) };
         self.off = off;
         self.on = Some(on);
+        Ok(())
+    }
+
+    /// The states after a command whose reply is not known: after a drift, and nothing or the command's effect. Where
+    /// memory is refused nothing has changed.
+    pub(crate) fn pass(&mut self, alloc: Global, command: &Command) -> Result<(), AllocError>
+        requires { AreWhole self.old }
+        ensures ok { OnOk result (FollowsPassed (hands_of self.old) command.now self.old self.new) }
+        ensures err { OnErr result (self.new ≡ self.old) }
+        ensures frugal { hands_of self.old ≡ Hands.None → IsTrue (is_frugal_effect (effect_of command.now)) → IsOk result }
+    {
+        match self.hands() {
+            Hands::None => self.off.pass(alloc, command),
+            Hands::Allowed => self.pass_by_hand(alloc, command),
+        }
+    }
+
+    /// The same where hands are allowed.
+    fn pass_by_hand(&mut self, alloc: Global, command: &Command) -> Result<(), AllocError>
+        requires whole { AreWhole self.old }
+        requires hands { hands_of self.old ≡ Hands.Allowed }
+        ensures ok { OnOk result (FollowsPassed Hands.Allowed command.now self.old self.new) }
+        ensures err { OnErr result (self.new ≡ self.old) }
+    {
+        self.below_day();
+        match Effect::of(command) {
+            Effect::Panel(on) => self.pass_panel(alloc, on),
+            Effect::ForgetAll => self.forget_all(alloc),
+            _ => self.pass_both(alloc, command),
+        }
+    }
+
+    /// The same for a command to which a hand on the panel makes no difference: those with the panel on are what it makes of
+    /// everything, if there were any.
+    fn pass_both(&mut self, alloc: Global, command: &Command) -> Result<(), AllocError>
+        requires whole { AreWhole self.old }
+        requires hands { hands_of self.old ≡ Hands.Allowed }
+        requires narrow { is_wide (effect_of command.now) ≡ false }
+        ensures ok { OnOk result (FollowsPassed Hands.Allowed command.now self.old self.new) }
+        ensures err { OnErr result (self.new ≡ self.old) }
+    {
+        self.below_day();
+        let mut on = self.drifted_on(alloc)?;
+        on.pass(alloc, command)?;
+        self.off.pass(alloc, command)?;
+        self.on = Some(on);
+        Ok(())
+    }
+
+    /// The panel may be switched on or off, after a drift, or stay.
+    fn pass_panel(&mut self, alloc: Global, on: bool) -> Result<(), AllocError>
+        ensures ok { OnOk result (self.new ≡ panel_passed on self.old) }
+        ensures err { OnErr result (self.new ≡ self.old) }
+    {
+        let known = self.either_panel(alloc)?;
+        if on {
+            self.on = Some(known);
+            self.off.drift();
+        } else {
+            self.on = Some(self.drifted_on(alloc)?);
+            self.off = known;
+        }
         Ok(())
     }
 

@@ -1,8 +1,10 @@
 //! The states that the deck could be in, exchange by exchange.
-ghost use Rattle.std.specs.Prelude.{◌≡◌, ◌↔◌, ◌≤◌, ◌+◌, IfErr, IfNone, IfOk, IfSome, IsOk, IsTrue, false};
-ghost use Rattle.track9.specs.Frugal.{is_frugal};
+ghost use Rattle.std.specs.Prelude.{◌≡◌, ◌↔◌, ◌≤◌, ◌+◌, IfErr, IfNone, IfOk, IfSome, IsOk, IsTrue, OnErr, OnOk, false};
+ghost use Rattle.track9.specs.Frugal.{is_frugal, is_frugal_effect};
 ghost use Rattle.track9.specs.Knowledge.{IsKnowledge};
-ghost use Rattle.track9.specs.Presets.{IsSpanCount, count_of, presets_after};
+ghost use Rattle.track9.specs.Presets.{IsSpanCount, count_of, presets_after, with_command};
+ghost use Rattle.deck9.specs.Contradict.{Passes};
+ghost use Rattle.deck9.specs.Effect.{effect_of};
 ghost use Rattle.deck9.specs.State.{IsFirst};
 ghost use Rattle.deck9.specs.Step.{AreReached, Exchanges};
 ghost use Rattle.track9.specs.Tracker.{Possible};
@@ -87,6 +89,28 @@ impl<S: TimeSet> Tracker<S> {
         Ok(remains)
     }
 
+    /// Takes the next command without its reply: as where the reply is not known, or is not believed.
+    ///
+    /// The states are then exactly those that a drift, and then nothing or the command's effect, lead to from a state
+    /// before. So there is one where there was one. What a command may do is in `specs/Effect.antt` and
+    /// `specs/Contradict.antt`; the effects of commands and the modes are this profile's. A data preset counts as one that
+    /// was acknowledged.
+    ///
+    /// An error comes where memory is refused, and the tracker is then as it was. Where hands are not allowed none comes
+    /// for a command that changes and forgets no register.
+    pub fn pass(&mut self, command: &Command) -> Result<(), AllocError>
+        ensures reached { OnOk result (AreReached (Possible self.old.states) (Passes self.old.hands command.now) (Possible self.new.states)) }
+        ensures remains { OnOk result (((s : AState) × Possible self.old.states s) ↔ ((s : AState) × Possible self.new.states s)) }
+        ensures hands { OnOk result (self.new.hands ≡ self.old.hands) }
+        ensures presets { OnOk result (self.new.presets ≡ with_command command.now self.old.presets) }
+        ensures unchanged { OnErr result (self.new ≡ self.old) }
+        ensures frugal { self.old.hands ≡ Hands.None → IsTrue (is_frugal_effect (effect_of command.now)) → IsOk result }
+    {
+        self.states.pass(self.alloc, command)?;
+        self.presets.count_command(command);
+        Ok(())
+    }
+
     /// Whether a state is possible. Takes no memory.
     pub fn remains(&self) -> bool
         ensures { IsTrue result ↔ ((s : AState) × Possible self.now.states s) }
@@ -153,8 +177,8 @@ impl Tracker<SpanSet> {
         self.states.spans(register)
     }
 
-    /// How many data presets to a register were acknowledged and left a state possible; it stays at 4,294,967,295
-    /// once that is reached. Takes no memory.
+    /// How many data presets to a register were acknowledged and left a state possible, or were taken without a reply; it
+    /// stays at 4,294,967,295 once that is reached. Takes no memory.
     pub fn presets(&self, register: Register) -> u32
         ensures { result ≡ count_of register self.now.presets }
     {

@@ -7,6 +7,7 @@ mod counted;
 mod drawn;
 mod member;
 mod none_left;
+mod passed;
 mod plain_deck;
 mod possible;
 mod refused;
@@ -22,12 +23,16 @@ use std::process::Abort;
 use tc25::TimeSet;
 use track9::{Knowledge, Tracker};
 
+/// The command that these bytes spell.
+fn command_of(rt: &impl Abort, bytes: &[u8]) -> Command {
+    let block = Block::from_bytes(bytes).expect(rt, "a block");
+    Command::of(&block).expect(rt, "a command")
+}
+
 /// The command and the reply that these bytes spell.
 fn exchange(rt: &impl Abort, sent: Sent) -> (Command, Block) {
-    let block = Block::from_bytes(sent.0).expect(rt, "a block");
-    let command = Command::of(&block).expect(rt, "a command");
     let reply = Block::from_bytes(sent.1).expect(rt, "a block");
-    (command, reply)
+    (command_of(rt, sent.0), reply)
 }
 
 /// Takes an exchange whose reply is of a kind that the command has.

@@ -16,9 +16,10 @@ use Rattle.track9.specs.Presets.{Presets}
 use Rattle.deck9.specs.declared.state.Register.{Register}
 use Rattle.deck9.specs.declared.state.State.{State}
 use Rattle.track9.specs.declared.halves.LocalFits.{LocalFits}
+use Rattle.deck9.specs.Contradict.{Passes}
 use Rattle.deck9.specs.Effect.{Does, effect_of}
 use Rattle.deck9.specs.Laws.{is_of_goal_or_register}
-use Rattle.track9.specs.Presets.{count_of, presets_after, with_one}
+use Rattle.track9.specs.Presets.{count_of, presets_after, with_command, with_one}
 use Rattle.deck9.specs.Shows.{ShowsStatus}
 use Rattle.deck9.specs.Step.{AreReached, Exchanges}
 use Rattle.track9.specs.Tracker.{InPart, PartStates, Possible, StateSet, TwoParts, entries_of, in_local}
@@ -62,12 +63,12 @@ two_drifted h = map_two (λ local. drifted_part) h
 
 -- the deck goes for this goal, or leaves it where it may
 abbrev pub two_gone : Bool → Mode → TwoParts → TwoParts
-two_gone may_stay goal h = map_two (λ local. where_live (gone_part (may_stay || local) goal)) h
+two_gone may_stay goal h = map_two (λ local. where_live (gone_part (local || may_stay) goal)) h
 
 -- a register changes: in place in the part whose sets may be large, and aside in the other
-abbrev pub two_changed : Register → Change → TwoParts → TwoParts
-two_changed r c h = record {
-  remote = put_aside r (aside h.remote (changed_entries false c (entries_of r h.remote))) h.remote;
+abbrev pub two_changed : Bool → Register → Change → TwoParts → TwoParts
+two_changed may_stay r c h = record {
+  remote = put_aside r (aside h.remote (changed_entries may_stay c (entries_of r h.remote))) h.remote;
   local = where_live (changed_part true r c) h.local;
 }
 
@@ -93,9 +94,9 @@ registers_forgotten h = map_two (λ local. where_live forgotten_part) h
 abbrev pub all_forgotten : TwoParts → TwoParts
 all_forgotten h = if some_two h then all_or_none true else h
 
--- an effect where nobody touches the panel, or a deck in local that leaves it undone
-abbrev pub DoesOrNot : Effect → State → State → Type 0
-DoesOrNot e s t = Does hands.None e s t ⊎ ((is_of_goal_or_register e ≡ true) × (s.local ≡ true) × (t ≡ s))
+-- an effect where nobody touches the panel, or a deck in local that leaves it undone, or any where it may
+abbrev pub DoesOrNot : Bool → Effect → State → State → Type 0
+DoesOrNot may_stay e s t = Does hands.None e s t ⊎ ((is_of_goal_or_register e ≡ true) × ((s.local || may_stay) ≡ true) × (t ≡ s))
 
 -- the counts after an effect
 abbrev pub counted : Effect → Presets → Presets
@@ -109,8 +110,8 @@ pub record LeadsOn (Goes : State → State → Type 0) (count : Presets → Pres
   pub few : (n : Presets) → TwoFew n h → TwoFew (count n) g
 
 -- the states after an effect
-abbrev pub HasEffect : Effect → TwoParts → TwoParts → Type 0
-HasEffect e h g = LeadsOn (DoesOrNot e) (counted e) h g
+abbrev pub HasEffect : Bool → Effect → TwoParts → TwoParts → Type 0
+HasEffect may_stay e h g = LeadsOn (DoesOrNot may_stay e) (counted e) h g
 
 -- the states after status data were read
 abbrev pub ReadsStatus : ℕ → Block → TwoParts → TwoParts → Type 0
@@ -119,6 +120,10 @@ ReadsStatus asked reply h g = LeadsOn (λ s t. ShowsStatus s asked reply × (t �
 -- the states after an exchange where nobody touches the panel
 abbrev pub Exchanged : Command → Block → TwoParts → TwoParts → Type 0
 Exchanged command reply h g = LeadsOn (Exchanges hands.None command reply) (presets_after command reply true) h g
+
+-- the states after a command whose reply is not known, where nobody touches the panel
+abbrev pub Passed : Command → TwoParts → TwoParts → Type 0
+Passed command h g = LeadsOn (Passes hands.None command) (with_command command) h g
 
 -- ---- all states
 
@@ -178,22 +183,43 @@ is_wide (effect.Panel on) = true
 is_wide effect.ForgetAll = true
 is_wide _ = false
 
--- the panel is switched on or off, after a drift: where it may have been on, a hand may have done anything
+-- the states after a drift, put together whatever the panel: where it may have been on, a hand may have done anything
+abbrev pub either_panel : StateSet → TwoParts
+either_panel v = if is_panel_live v then all_or_none true else two_drifted v.off
+
+-- the panel is switched on or off, after a drift
 abbrev pub switched : Bool → TwoParts → StateSet
 switched true h = record { off = all_or_none false; on = Some h }
 switched false h = record { off = h; on = Some (all_or_none false) }
 
 abbrev pub after_panel : Bool → StateSet → StateSet
-after_panel on v = switched on (if is_panel_live v then all_or_none true else two_drifted v.off)
+after_panel on v = switched on (either_panel v)
+
+-- the states after a drift
+abbrev pub all_drifted : StateSet → StateSet
+all_drifted v = record { off = two_drifted v.off; on = Some (all_or_none (is_panel_live v)) }
+
+-- the panel is switched on or off, after a drift, or stays: what it may be switched to has all states, and the rest is as it was
+abbrev pub panel_passed : Bool → StateSet → StateSet
+panel_passed true v = record (all_drifted v) { on = Some (either_panel v) }
+panel_passed false v = record (all_drifted v) { off = either_panel v }
 
 -- what holds inside a tracker
 pub record IsKept (n : Presets) (v : StateSet) : Type 0 where
   pub whole : AreWhole v
   pub few : AreFew n v
 
--- the states after an exchange
-pub record Follows (h : Hands) (command : Command) (reply : Block) (v w : StateSet) : Type 0 where
-  pub reached : AreReached (Possible v) (Exchanges h command reply) (Possible w)
+-- the states after what leads from a state to others
+pub record AllLeadOn (h : Hands) (Goes : State → State → Type 0) (count : Presets → Presets) (v w : StateSet) : Type 0 where
+  pub reached : AreReached (Possible v) Goes (Possible w)
   pub hands : hands_of w ≡ h
   pub whole : AreWhole w
-  pub few : (n : Presets) → AreFew n v → AreFew (presets_after command reply true n) w
+  pub few : (n : Presets) → AreFew n v → AreFew (count n) w
+
+-- the states after an exchange
+abbrev pub Follows : Hands → Command → Block → StateSet → StateSet → Type 0
+Follows h command reply v w = AllLeadOn h (Exchanges h command reply) (presets_after command reply true) v w
+
+-- the states after a command whose reply is not known
+abbrev pub FollowsPassed : Hands → Command → StateSet → StateSet → Type 0
+FollowsPassed h command v w = AllLeadOn h (Passes h command) (with_command command) v w

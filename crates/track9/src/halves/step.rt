@@ -1,9 +1,10 @@
 //! What an exchange does to the states with one value of the panel, where nobody touches it: by what its reply shows, and by
-//! its command's effect.
+//! its command's effect; or by the effect alone, where the reply is not known.
 ghost use Rattle.std.specs.Prelude.{◌≡◌, IsOk, IsTrue, OnErr, OnOk};
+ghost use Rattle.deck9.specs.Effect.{effect_of};
 ghost use Rattle.track9.specs.Frugal.{is_frugal, is_frugal_effect};
 ghost use Rattle.track9.specs.Working.Parts.{agrees_local};
-ghost use Rattle.track9.specs.Working.States.{Exchanged, HasEffect, ReadsStatus, TwoWhole, two_drifted};
+ghost use Rattle.track9.specs.Working.States.{Exchanged, HasEffect, Passed, ReadsStatus, TwoWhole, two_drifted};
 
 use crate::halves::{Halves, LocalFits};
 use crate::reply::is_nak;
@@ -43,10 +44,23 @@ impl<S: TimeSet> Halves<S> {
             }
             Sense::Nothing => {
                 let effect = Effect::of(command);
-                self.apply(alloc, &effect)?;
+                self.apply(alloc, false, &effect)?;
             }
         }
         Ok(())
+    }
+
+    /// The states after a command whose reply is not known: after a drift of the mechanics, and nothing or the command's
+    /// effect. Where memory is refused nothing has changed.
+    pub(crate) fn pass(&mut self, alloc: Global, command: &Command) -> Result<(), AllocError>
+        requires whole { TwoWhole self.old }
+        ensures ok { OnOk result (Passed command.now self.old self.new) }
+        ensures err { OnErr result (self.new ≡ self.old) }
+        ensures frugal { IsTrue (is_frugal_effect (effect_of command.now)) → IsOk result }
+    {
+        self.below_day();
+        let effect = Effect::of(command);
+        self.apply(alloc, true, &effect)
     }
 
     /// Keeps the states that agree with status data. Takes no memory.
@@ -63,10 +77,10 @@ impl<S: TimeSet> Halves<S> {
         self.keep_status(alloc, agrees, shown, status_datum(asked, reply, 3));
     }
 
-    /// The states after a drift and an effect, which a deck in local may leave undone.
-    fn apply(&mut self, alloc: Global, effect: &Effect) -> Result<(), AllocError>
+    /// The states after a drift and an effect, which a deck in local may leave undone, and any where `may_stay`.
+    fn apply(&mut self, alloc: Global, may_stay: bool, effect: &Effect) -> Result<(), AllocError>
         requires { TwoWhole self.old }
-        ensures ok { OnOk result (HasEffect effect.now (two_drifted self.old) self.new) }
+        ensures ok { OnOk result (HasEffect may_stay effect.now (two_drifted self.old) self.new) }
         ensures err { OnErr result (self.new ≡ self.old) }
         ensures frugal { IsTrue (is_frugal_effect effect.now) → IsOk result }
     {
@@ -75,7 +89,7 @@ impl<S: TimeSet> Halves<S> {
             Effect::Panel(_) => self.drift(),
             Effect::Go(goal) => {
                 self.drift();
-                self.go(false, *goal);
+                self.go(may_stay, *goal);
             }
             Effect::KeepOrStop => {
                 self.drift();
@@ -83,7 +97,7 @@ impl<S: TimeSet> Halves<S> {
             }
             Effect::Change(register, change) => {
                 self.below_day();
-                self.change(alloc, *register, change)?;
+                self.change(alloc, may_stay, *register, change)?;
                 self.below_day();
                 self.drift();
             }

@@ -213,7 +213,7 @@ fn tell_entry(text: &mut String, field: &str, known: &KnownEntry) -> Result<(), 
 }
 
 /// What is known, field by field.
-fn tell_all(text: &mut String, knowledge: &Knowledge) -> Result<(), AllocError> {
+pub(super) fn tell_all(text: &mut String, knowledge: &Knowledge) -> Result<(), AllocError> {
     text.clear();
     tell_mode(text, "goal", &knowledge.goal)?;
     tell_mode(text, "shown", &knowledge.shown)?;
@@ -225,7 +225,7 @@ fn tell_all(text: &mut String, knowledge: &Knowledge) -> Result<(), AllocError> 
     tell(text, "panel", name_of(knowledge.panel, "on", "off"))
 }
 
-fn is_text(text: &str, expected: &str) -> bool {
+pub(super) fn is_text(text: &str, expected: &str) -> bool {
     text == expected
 }
 

@@ -4,8 +4,11 @@
 
 use super::counted::ROWS;
 use super::rows::{AUDIO, FORGOTTEN, HANDS, REGISTERS, SHIFTS, TRANSPORT};
-use super::sent::Sent;
-use super::{exchange, known, observe};
+use super::sent::{
+    IN_SHIFTED_ON, PANEL_OFF, PANEL_ON, PLAYED, PRESET_10, PRESET_LAST, Sent, UNLISTED_0,
+    UNLISTED_2,
+};
+use super::{command_of, exchange, known, observe};
 use deck9::{Hands, Register};
 use std::alloc::{AllocError, Global};
 use std::process::Abort;
@@ -148,6 +151,61 @@ fn counts(rt: HostRuntime) -> Result<(), Fail> {
         let [ins, _, ains, _] = count_after(&rt, rt.alloc(), exchanges)?;
         assert_eq!(rt; ins, (*in_spans, *in_presets), "{exchanges:?}");
         assert_eq!(rt; ains, (*audio_spans, *audio_presets), "{exchanges:?}");
+    }
+    Ok(())
+}
+
+/// Exchanges of which the commands alone are taken.
+const PASSED: &[Sent] = &[
+    PRESET_10,
+    PANEL_OFF,
+    PANEL_ON,
+    PRESET_LAST,
+    IN_SHIFTED_ON,
+    PLAYED,
+    UNLISTED_2,
+    UNLISTED_0,
+];
+
+/// Takes a command without its reply. Where memory is refused all answers are as before, and the same call again gives one.
+fn pass<S: Counted>(
+    rt: &impl Abort,
+    tracker: &mut Tracker<S>,
+    sent: Sent,
+) -> Result<(), AllocError> {
+    let before = answers(rt, tracker);
+    let command = command_of(rt, sent.0);
+    match tracker.pass(&command) {
+        Ok(()) => Ok(()),
+        Err(_) => {
+            assert_eq!(rt; answers(rt, tracker), before, "{sent:?}");
+            tracker.pass(&command)
+        }
+    }
+}
+
+fn pass_all<S: Counted>(rt: &impl Abort, tracker: &mut Tracker<S>) -> Result<(), AllocError> {
+    for sent in PASSED {
+        pass(rt, tracker, *sent)?;
+        assert!(rt; tracker.remains(), "{sent:?}");
+    }
+    Ok(())
+}
+
+fn pass_from_first<S: Counted>(
+    rt: &impl Abort,
+    alloc: Global,
+    hands: Hands,
+) -> Result<(), AllocError> {
+    let mut tracker: Tracker<S> = tracker(alloc, hands)?;
+    pass_all(rt, &mut tracker)
+}
+
+#[test]
+fn passed(rt: HostRuntime) -> Result<(), Fail> {
+    for hands in [Hands::None, Hands::Allowed] {
+        pass_from_first::<ListSet>(&rt, rt.alloc(), hands)?;
+        pass_from_first::<SpanSet>(&rt, rt.alloc(), hands)?;
     }
     Ok(())
 }

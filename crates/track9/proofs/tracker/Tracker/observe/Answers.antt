@@ -1,3 +1,4 @@
+use Rattle.deck9.specs.Step.{Exchanges}
 use Rattle.track9.specs.Working.States.{hands_of}
 use Rattle.track9.proofs.TrackerLemmas.{kept_after, over_false, reached_from, remains_where}
 use Rattle.track9.proofs.tracker.Tracker.observe.Goals as goal
@@ -9,7 +10,7 @@ invariant_of-self-2 g c =
 
 pub returns-clause-reached : goal.returns-clause-reached
 returns-clause-reached g c =
-    reached_from c.args.self.now c.self.inside.states c.exchange.new.self c.self.inside.presets c.args.command.now c.args.reply.now c.self.view_is c.in_ok-exchange.ensures.ok
+    reached_from c.args.self.now c.self.inside.states c.exchange.new.self c.self.inside.presets (λ h. Exchanges h c.args.command.now c.args.reply.now) c.self.view_is c.in_ok-exchange.ensures.ok.reached
 
 pub returns-clause-remains : goal.returns-clause-remains
 returns-clause-remains g c = remains_where c.is_some-remains.result c.exchange.new.self c.is_some-remains.ensures c.in_ok-exchange.ensures.ok.whole
