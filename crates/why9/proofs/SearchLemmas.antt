@@ -1,0 +1,218 @@
+-- The places found: in order, contradicting with all that follow, and each of them needed.
+use Rattle.std.proofs.Common.{ℕ, ◌≡◌, ◌⊎◌, inl, inr, ◌+◌, ◌<◌, ◌≤◌, ◌&&◌, ◌||◌, ◌==◌, nat_lt, nat_le, not, Bool, true, false, List, [], ◌∷◌, ◌++◌, length, length-append, slice_get, Some, suc, refl, sym, ap, ◌∙◌, subst, arith}
+use Rattle.std.proofs.lemmas.Bool.{and_from, and_parts, cases_Bool, false_from_ne_true, false≢true, or_cases, or_left, or_right}
+use Rattle.std.proofs.lemmas.Bool.Decides.{nat_tests}
+use Rattle.std.proofs.lemmas.List.Elements.{All-nil, All-append, All-cons, All-head, All-tail}
+use Rattle.std.proofs.lemmas.List.Folds.{list_any-append}
+use Rattle.std.proofs.lemmas.List.Quantifiers.{all_pairs_push}
+use Rattle.std.specs.List.{All, AllPairs}
+use Rattle.block9.specs.declared.pairer.Exchange.{Exchange}
+use Rattle.deck9.specs.declared.state.Hands.{Hands}
+use Rattle.deck9.specs.declared.state.State.{State}
+use Rattle.deck9.specs.Contradict.{Contradict, HasBelieving, IsBelievingFrom, MayDo, behind_first}
+use Rattle.deck9.proofs.ContradictLemmas.{believing_all, believing_fewer}
+use Rattle.why9.specs.Contradiction.{BreaksAtLast, IsContradiction, is_among, is_among_others}
+use Rattle.why9.specs.Working.{AreFound, IsNext, is_asked}
+use Rattle.why9.proofs.QuestionLemmas.{same_places}
+
+-- ---- places
+
+lt_of : (a b : ℕ) → nat_lt a b ≡ true → a < b
+lt_of a b e = grind (arith, nat_tests)
+
+of_lt : (a b : ℕ) → a < b → nat_lt a b ≡ true
+of_lt a b l = grind (arith, nat_tests)
+
+le_of : (a b : ℕ) → nat_le a b ≡ true → a ≤ b
+le_of a b e = grind (arith, nat_tests)
+
+of_le : (a b : ℕ) → a ≤ b → nat_le a b ≡ true
+of_le a b l = grind (arith, nat_tests)
+
+eq_of : (a b : ℕ) → (a == b) ≡ true → a ≡ b
+eq_of a b e = grind (arith, nat_tests)
+
+of_eq : (a : ℕ) → (a == a) ≡ true
+of_eq a = grind (arith, nat_tests)
+
+-- what holds of all places holds of each
+pub among_all : (P : ℕ → Type 0) (ps : List ℕ) (k : ℕ) → All P ps → is_among ps k ≡ true → P k
+among_all P [] k all e = absurd (false≢true e)
+among_all P (p ∷ ps) k all e = by (among_all P ps k (All-tail P p ps all)) (or_cases (p == k) (is_among ps k) e)
+  where
+    by : (is_among ps k ≡ true → P k) → ((p == k) ≡ true) ⊎ (is_among ps k ≡ true) → P k
+    by rest (inl same) = subst P (eq_of p k same) (All-head P p ps all)
+    by rest (inr more) = rest more
+
+among_push : (ps : List ℕ) (p k : ℕ) → is_among (ps ++ p ∷ []) k ≡ true → (is_among ps k ≡ true) ⊎ (k ≡ p)
+among_push ps p k e = by (or_cases (is_among ps k) (is_among (p ∷ []) k) (sym (list_any-append (λ q. q == k) ps (p ∷ [])) ∙ e))
+  where
+    by : (is_among ps k ≡ true) ⊎ (is_among (p ∷ []) k ≡ true) → (is_among ps k ≡ true) ⊎ (k ≡ p)
+    by (inl is) = inl is
+    by (inr is) = inr (one (or_cases (p == k) false is))
+      where
+        one : ((p == k) ≡ true) ⊎ (false ≡ true) → k ≡ p
+        one (inl same) = sym (eq_of p k same)
+        one (inr none) = absurd (false≢true none)
+
+among_kept : (ps : List ℕ) (p k : ℕ) → is_among ps k ≡ true → is_among (ps ++ p ∷ []) k ≡ true
+among_kept ps p k e = list_any-append (λ q. q == k) ps (p ∷ []) ∙ or_left (is_among ps k) (is_among (p ∷ []) k) e
+
+among_pushed : (ps : List ℕ) (p : ℕ) → is_among (ps ++ p ∷ []) p ≡ true
+among_pushed ps p = list_any-append (λ q. q == p) ps (p ∷ []) ∙ or_right (is_among ps p) (is_among (p ∷ []) p) (or_left (p == p) false (of_eq p))
+
+-- the first place is before all others, and before the one that they are all before
+before_first : (from first : ℕ) (rest : List ℕ) → AllPairs (λ p q. p < q) (first ∷ rest) → All (λ p. p < from) (first ∷ rest) → (k : ℕ) → k < first → is_asked from (first ∷ rest) k ≡ false
+before_first from first rest ascend below k low = false_from_ne_true _ (λ e. by (or_cases (nat_le from k) (is_among (first ∷ rest) k) e))
+  where
+    high : first < from
+    high = All-head (λ p. p < from) first rest below
+
+    behind : All (λ p. first < p) rest
+    behind = λ i d l. ascend 0 (suc i) d (omega arith) (omega arith)
+
+    from_first : All (λ p. first ≤ p) (first ∷ rest)
+    from_first = All-cons (λ p. first ≤ p) first rest (omega arith) (λ i d l. let b = behind i d l in omega arith)
+
+    by : (nat_le from k ≡ true) ⊎ (is_among (first ∷ rest) k ≡ true) → ⊥
+    by (inl le) = let a = le_of from k le in let m = high in omega arith
+    by (inr is) = let a = among_all (λ p. first ≤ p) (first ∷ rest) k from_first is in omega arith
+
+pub before_found : (from first : ℕ) (found : List ℕ) → AllPairs (λ p q. p < q) found → All (λ p. p < from) found → slice_get found 0 ≡ Some first → (k : ℕ) → k < first → is_asked from found k ≡ false
+before_found from first [] ascend below e k low = cc
+before_found from first (p ∷ ps) ascend below e k low = before_first from p ps ascend below k (let same : p ≡ first = cc in omega arith)
+
+not_itself : (b : Bool) (k : ℕ) → (b && not (k == k)) ≡ false
+not_itself true k = ap not (of_eq k)
+not_itself false k = refl
+
+-- ---- behind the last place found
+
+pushed_below : (low place : ℕ) (found : List ℕ) → All (λ p. p < low) found → low ≤ place → All (λ p. p < place + 1) (found ++ place ∷ [])
+pushed_below low place found below le = All-append (λ p. p < place + 1) found (place ∷ []) (λ i d l. let b = below i d l in omega arith) (All-cons (λ p. p < place + 1) place [] (omega arith) (All-nil (λ p. p < place + 1)))
+
+pushed_ascend : (low place : ℕ) (found : List ℕ) → AllPairs (λ p q. p < q) found → All (λ p. p < low) found → low ≤ place → AllPairs (λ p q. p < q) (found ++ place ∷ [])
+pushed_ascend low place found ascend below le = all_pairs_push (λ p q. p < q) found place ascend (λ k d l. let b = below k d l in omega arith)
+
+-- what is asked of the others, behind p, goes on to a place behind p
+others_push : (low p place : ℕ) (found : List ℕ) → All (λ q. q < low) found → low ≤ place → is_among found p ≡ true
+    → (k : ℕ) → is_among_others (found ++ place ∷ []) p k ≡ true → (nat_lt p k || is_among_others found p k) ≡ true
+others_push low p place found below le is k e = by (among_push found place k parts.0)
+  where
+    parts : (is_among (found ++ place ∷ []) k ≡ true) × (not (k == p) ≡ true)
+    parts = and_parts (is_among (found ++ place ∷ []) k) (not (k == p)) e
+
+    by : (is_among found k ≡ true) ⊎ (k ≡ place) → (nat_lt p k || is_among_others found p k) ≡ true
+    by (inl more) = or_right (nat_lt p k) (is_among_others found p k) (and_from (is_among found k) (not (k == p)) more parts.1)
+    by (inr same) = let l = among_all (λ q. q < low) found p below is in or_left (nat_lt p k) (is_among_others found p k) (of_lt p k (omega arith))
+
+-- ---- the search
+
+pub found-start : (h : Hands) (es : List Exchange) → BreaksAtLast h es → AreFound h es 0 []
+found-start h es breaks = record {
+  ascend = λ i j d l m. absurd (omega arith);
+  below = All-nil (λ p. p < 0);
+  contradict = λ w. breaks.has_none ((believing_all h es).0 (believing_fewer h (is_asked 0 []) (λ k. true) es (λ k e. or_left (nat_le 0 k) false (of_le 0 k (omega arith))) w));
+  needed = λ p e. absurd (false≢true e);
+}
+
+pub found-more : (h : Hands) (es : List Exchange) (low last place : ℕ) (found : List ℕ) → AreFound h es low found → IsNext h es low last found place
+    → AreFound h es (place + 1) (found ++ place ∷ [])
+found-more h es low last place found old next = record {
+  ascend = pushed_ascend low place found old.ascend old.below next.low_place;
+  below = pushed_below low place found old.below next.low_place;
+  contradict = λ w. next.contradict (believing_fewer h (is_asked (place + 1) (found ++ place ∷ [])) (is_asked place found) es (λ k e. asked k (or_cases (nat_le place k) (is_among found k) e)) w);
+  needed = λ p e. by p (among_push found place p e);
+}
+  where
+    asked : (k : ℕ) → (nat_le place k ≡ true) ⊎ (is_among found k ≡ true) → is_asked (place + 1) (found ++ place ∷ []) k ≡ true
+    asked k (inl low) = here (cases_Bool (nat_lt place k))
+      where
+        here : (nat_lt place k ≡ true) ⊎ (nat_lt place k ≡ false) → is_asked (place + 1) (found ++ place ∷ []) k ≡ true
+        here (inl l) = let a = lt_of place k l in or_left (nat_le (place + 1) k) (is_among (found ++ place ∷ []) k) (of_le (place + 1) k (omega arith))
+        here (inr l) =
+            let same : place ≡ k = let a = le_of place k low in grind (arith, nat_tests) in
+            or_right (nat_le (place + 1) k) (is_among (found ++ place ∷ []) k) (subst (λ (x : ℕ). is_among (found ++ place ∷ []) x ≡ true) same (among_pushed found place))
+    asked k (inr is) = or_right (nat_le (place + 1) k) (is_among (found ++ place ∷ []) k) (among_kept found place k is)
+
+    -- behind the new place all is believed, and before it what was found
+    last_needed : (k : ℕ) → (nat_lt place k || is_among_others (found ++ place ∷ []) place k) ≡ true → is_asked (place + 1) found k ≡ true
+    last_needed k e = from (or_cases (nat_lt place k) (is_among_others (found ++ place ∷ []) place k) e)
+      where
+        pushed : not (k == place) ≡ true → (is_among found k ≡ true) ⊎ (k ≡ place) → is_asked (place + 1) found k ≡ true
+        pushed other (inl is) = or_right (nat_le (place + 1) k) (is_among found k) is
+        pushed other (inr same) = absurd (false≢true (sym (ap (λ (x : ℕ). not (x == place)) same ∙ ap not (of_eq place)) ∙ other))
+
+        from : (nat_lt place k ≡ true) ⊎ (is_among_others (found ++ place ∷ []) place k ≡ true) → is_asked (place + 1) found k ≡ true
+        from (inl l) = let a = lt_of place k l in or_left (nat_le (place + 1) k) (is_among found k) (of_le (place + 1) k (omega arith))
+        from (inr o) = let parts = and_parts (is_among (found ++ place ∷ []) k) (not (k == place)) o in pushed parts.1 (among_push found place k parts.0)
+
+    old_needed : (p k : ℕ) → is_among found p ≡ true → (nat_lt p k ≡ true) ⊎ (is_among_others (found ++ place ∷ []) p k ≡ true) → (nat_lt p k || is_among_others found p k) ≡ true
+    old_needed p k is (inl l) = or_left (nat_lt p k) (is_among_others found p k) l
+    old_needed p k is (inr o) = others_push low p place found old.below next.low_place is k o
+
+    by : (p : ℕ) → (is_among found p ≡ true) ⊎ (p ≡ place) → HasBelieving h (λ k. nat_lt p k || is_among_others (found ++ place ∷ []) p k) es
+    by p (inl is) = believing_fewer h _ _ es (λ k e. old_needed p k is (or_cases (nat_lt p k) (is_among_others (found ++ place ∷ []) p k) e)) (old.needed p is)
+    by p (inr same) = subst (λ (x : ℕ). HasBelieving h (λ k. nat_lt x k || is_among_others (found ++ place ∷ []) x k) es) (sym same) (believing_fewer h _ _ es last_needed next.behind)
+
+-- ---- the end
+
+pub some_last : (h : Hands) (es : List Exchange) → BreaksAtLast h es → 0 < length es
+some_last h es breaks = let n = simp length-append at (ap length breaks.is_split) in omega arith
+
+-- a run goes on by an exchange that is not believed
+passes_last : (h : Hands) (b : ℕ → Bool) (es : List Exchange) (e : Exchange) (s : State) (ts : List State) → b (length es) ≡ false → IsBelievingFrom h b s es ts
+    → (us : List State) × IsBelievingFrom h b s (es ++ e ∷ []) us
+passes_last h b [] e s ts none run = (s ∷ [], (s, ([], refl), subst (λ (x : Bool). MayDo h x e s s) (sym none) (inl refl), tt))
+passes_last h b (f ∷ fs) e s [] none run = absurd run
+passes_last h b (f ∷ fs) e s (t ∷ ts) none (d, drift, does, run) =
+    let more = passes_last h (behind_first b) fs e t ts (ap b (omega arith) ∙ none) run in
+    (t ∷ more.0, (d, drift, does, more.1))
+
+without_last : (h : Hands) (b : ℕ → Bool) (es : List Exchange) (last : ℕ) → BreaksAtLast h es → last + 1 ≡ length es → b last ≡ false → HasBelieving h b es
+without_last h b es last breaks is none =
+    let w = believing_fewer h (λ k. true) b breaks.before (λ k e. refl) ((believing_all h breaks.before).1 breaks.has_run) in
+    let n = simp length-append at (ap length breaks.is_split) in
+    let place : length breaks.before ≡ last = omega arith in
+    let more = passes_last h b breaks.before breaks.last w.first w.after (ap b place ∙ none) w.is_run in
+    subst (HasBelieving h b) (sym breaks.is_split) (record { first = w.first; is_first = w.is_first; after = more.0; is_run = more.1 })
+
+same_tests : (a b : Bool) → (a ≡ true → b ≡ true) → (b ≡ true → a ≡ true) → a ≡ b
+same_tests true b f g = sym (f refl)
+same_tests false true f g = g refl
+same_tests false false f g = refl
+
+pub found-all : (h : Hands) (es : List Exchange) (low last : ℕ) (found : List ℕ) → BreaksAtLast h es → AreFound h es low found → low ≤ last → last + 1 ≡ length es
+    → Contradict h (is_asked last found) es → IsContradiction h es (found ++ last ∷ [])
+found-all h es low last found breaks old le is contradict = record {
+  contradict = λ w. contradict (record { first = w.first; is_first = w.is_first; after = w.after; is_run = same_places h _ _ es w.first w.after (λ k below. same_tests _ _ (to k) (from k below)) w.is_run });
+  none_needless = λ p e. needed p (among_push found last p e);
+  is_latest = λ first rest e. latest first (among_push found last first (subst (λ (ps : List ℕ). is_among ps first ≡ true) (sym e) (or_left (first == first) (is_among rest first) (of_eq first))));
+  ascend = pushed_ascend low last found old.ascend old.below le;
+  earlier = found;
+  last = last;
+  end_with = refl;
+  is_last = is;
+}
+  where
+    to : (k : ℕ) → is_among (found ++ last ∷ []) k ≡ true → is_asked last found k ≡ true
+    to k e = by (among_push found last k e)
+      where
+        by : (is_among found k ≡ true) ⊎ (k ≡ last) → is_asked last found k ≡ true
+        by (inl more) = or_right (nat_le last k) (is_among found k) more
+        by (inr same) = or_left (nat_le last k) (is_among found k) (of_le last k (omega arith))
+
+    from : (k : ℕ) → k < length es → is_asked last found k ≡ true → is_among (found ++ last ∷ []) k ≡ true
+    from k below e = by (or_cases (nat_le last k) (is_among found k) e)
+      where
+        by : (nat_le last k ≡ true) ⊎ (is_among found k ≡ true) → is_among (found ++ last ∷ []) k ≡ true
+        by (inl l) = let a = le_of last k l in let same : last ≡ k = omega arith in subst (λ (x : ℕ). is_among (found ++ last ∷ []) x ≡ true) same (among_pushed found last)
+        by (inr more) = among_kept found last k more
+
+    needed : (p : ℕ) → (is_among found p ≡ true) ⊎ (p ≡ last) → HasBelieving h (is_among_others (found ++ last ∷ []) p) es
+    needed p (inl among) = believing_fewer h _ _ es (others_push low p last found old.below le among) (old.needed p among)
+    needed p (inr same) = without_last h _ es p breaks (ap (λ (x : ℕ). x + 1) same ∙ is) (not_itself (is_among (found ++ last ∷ []) p) p)
+
+    latest : (p : ℕ) → (is_among found p ≡ true) ⊎ (p ≡ last) → HasBelieving h (λ k. nat_lt p k) es
+    latest p (inl among) = believing_fewer h _ _ es (λ k e. or_left (nat_lt p k) (is_among_others found p k) e) (old.needed p among)
+    latest p (inr same) = without_last h _ es p breaks (ap (λ (x : ℕ). x + 1) same ∙ is) (grind (arith, nat_tests))

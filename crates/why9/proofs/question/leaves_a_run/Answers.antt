@@ -1,0 +1,47 @@
+use Rattle.std.proofs.Common.{sym, subst, ◌∙◌, arith}
+use Rattle.std.proofs.lemmas.Bool.{false≢true}
+use Rattle.deck9.specs.Step.{AreReached}
+use Rattle.track9.specs.Tracker.{Possible}
+use Rattle.why9.specs.Working.{Takes, is_asked}
+use Rattle.why9.proofs.QuestionLemmas.{goes-past, goes-start, goes-through}
+use Rattle.why9.proofs.question.leaves_a_run.Goals as goal
+
+pub loop-place-init : goal.loop-place-init
+loop-place-init c = record {
+  hands = c.in_ok-tracker.ensures.hands;
+  goes = goes-start c.args.hands (is_asked c.args.from c.args.found.now) c.args.exchanges.now c.first_asked-place.result (Possible c.in_ok-tracker.tracker.states) c.requires.presets
+      (let w = c.first_asked-place.ensures.within in let n = c.requires.from in omega arith) c.first_asked-place.ensures.before c.in_ok-tracker.ensures.states;
+}
+
+pub returns-then-not-branch : goal.returns-then-not-branch
+returns-then-not-branch c =
+    let b = is_asked c.args.from c.args.found.now in
+    let old = c.loop-place.tracker in
+    let new = c.takes.new.tracker in
+    let e = c.index-exchanges-place.result in
+    let k = c.loop-place.place in
+    let reached = subst (λ x. AreReached (Possible old.states) (Takes old.hands x e) (Possible new.states)) c.is_believed-is_believed.ensures c.in_ok-takes.ensures.reached in
+    let through = goes-through c.args.hands b c.args.exchanges.now k e old new (omega arith) c.index-exchanges-place.is c.loop-place.invariant.hands reached in (
+      λ t. absurd (false≢true t),
+      λ w. let g = through.0 (c.loop-place.invariant.goes.0 w) in absurd (false≢true (sym c.if-not-branch.true ∙ c.in_ok-takes.ensures.remains.1 (g.0, g.1))),
+    )
+
+pub loop-place-preserved : goal.loop-place-preserved
+loop-place-preserved c =
+    let b = is_asked c.args.from c.args.found.now in
+    let old = c.loop-place.tracker in
+    let new = c.takes.new.tracker in
+    let e = c.index-exchanges-place.result in
+    let k = c.loop-place.place in
+    let reached = subst (λ x. AreReached (Possible old.states) (Takes old.hands x e) (Possible new.states)) c.is_believed-is_believed.ensures c.in_ok-takes.ensures.reached in
+    let through = goes-through c.args.hands b c.args.exchanges.now k e old new (omega arith) c.index-exchanges-place.is c.loop-place.invariant.hands reached in
+    record {
+      hands = c.in_ok-takes.ensures.hands ∙ c.loop-place.invariant.hands;
+      goes = (λ w. through.0 (c.loop-place.invariant.goes.0 w), λ g. c.loop-place.invariant.goes.1 (through.1 g));
+    }
+
+pub returns : goal.returns
+returns c =
+    let b = is_asked c.args.from c.args.found.now in
+    let past = goes-past c.args.hands b c.args.exchanges.now c.loop-place.place (Possible c.loop-place.tracker.states) (omega arith) in
+    (λ t. c.loop-place.invariant.goes.1 (past.1 (c.remains.ensures.0 t)), λ w. c.remains.ensures.1 (past.0 (c.loop-place.invariant.goes.0 w)))

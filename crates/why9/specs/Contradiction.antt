@@ -1,0 +1,38 @@
+-- Why no run of the deck gives the replies of a capture: some of these replies contradict one another.
+use Rattle.std.specs.Prelude.{ℕ, ◌≡◌, ◌<◌, ◌+◌, ◌==◌, ◌&&◌, nat_lt, not, Bool, true, List, [], ◌∷◌, ◌++◌, length}
+use Rattle.std.specs.List.{AllPairs, list_any}
+use Rattle.block9.specs.declared.pairer.Exchange.{Exchange}
+use Rattle.deck9.specs.declared.state.Hands.{Hands}
+use Rattle.deck9.specs.Contradict.{Contradict, HasBelieving}
+use Rattle.deck9.specs.Run.{HasRun}
+
+-- no run gives these replies, and one gives all of them but the last
+pub record BreaksAtLast (h : Hands) (es : List Exchange) : Type 0 where
+  pub before : List Exchange
+  pub last : Exchange
+  pub is_split : es ≡ before ++ last ∷ []
+  pub has_run : HasRun h before
+  pub has_none : ¬ HasRun h es
+
+-- a place is one of these
+abbrev pub is_among : List ℕ → ℕ → Bool
+is_among places k = list_any (λ p. p == k) places
+
+-- a place is one of these, but not p
+abbrev pub is_among_others : List ℕ → ℕ → ℕ → Bool
+is_among_others places p k = is_among places k && not (k == p)
+
+-- places of exchanges, counted from 0
+pub record IsContradiction (h : Hands) (es : List Exchange) (places : List ℕ) : Type 0 where
+  -- the replies at these places contradict one another
+  pub contradict : Contradict h (is_among places) es
+  -- none of them is needless: without it the others do not
+  pub none_needless : (p : ℕ) → is_among places p ≡ true → HasBelieving h (is_among_others places p) es
+  -- the first is as late as it can be: the replies behind it, all of them, do not
+  pub is_latest : (first : ℕ) (rest : List ℕ) → places ≡ first ∷ rest → HasBelieving h (λ k. nat_lt first k) es
+  -- they ascend, to the place of the last exchange
+  pub ascend : AllPairs (λ p q. p < q) places
+  pub earlier : List ℕ
+  pub last : ℕ
+  pub end_with : places ≡ earlier ++ last ∷ []
+  pub is_last : last + 1 ≡ length es

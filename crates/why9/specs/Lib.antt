@@ -1,0 +1,2 @@
+pub mod Contradiction
+pub mod Working
