@@ -126,21 +126,24 @@ exchange_once d e a b x y h k same =
     let answers : d.reply ≡ e.reply = spelled_once (bytes_of k.answered) d.reply e.reply (subst (λ (l : List LineByte). Spells (bytes_of l) d.reply) replies.0 h.reply.spelled) k.reply.spelled in
     let meant : Some d.command ≡ Some e.command = sym h.command.meaning ∙ ap command_of blocks ∙ k.command.meaning in
     let command : d.command ≡ e.command = cc in
+    let fronts : a ≡ b = h.split ∙ ap (λ (l : List LineByte). l ++ h.answered) commands.0 ∙ ap (λ (l : List LineByte). k.asked ++ l) replies.0 ∙ sym k.split in
     let last : last_time h.asked ≡ last_time k.asked = ap last_time commands.0 in
     let first : first_time h.answered ≡ first_time k.answered = ap first_time replies.0 in
+    let time : d.time_us ≡ e.time_us = h.time ∙ ap first_time fronts ∙ sym k.time in
     let delays = h.delay in
     let delays_too = k.delay in
     let delay : d.delay_us ≡ e.delay_us = omega arith in
     record {
-      exchanges = same_exchange d e command blocks answers delay;
-      fronts = h.split ∙ ap (λ (l : List LineByte). l ++ h.answered) commands.0 ∙ ap (λ (l : List LineByte). k.asked ++ l) replies.0 ∙ sym k.split;
+      exchanges = same_exchange d e command blocks answers time delay;
+      fronts = fronts;
       rests = replies.1;
     }
   where
-    same_exchange : (d e : Exchange) → d.command ≡ e.command → d.block ≡ e.block → d.reply ≡ e.reply → d.delay_us ≡ e.delay_us → d ≡ e
-    same_exchange d e p q r s =
-        let put : Command → Block → Block → ℕ → Exchange = λ c b a n. record { command = c; block = b; reply = a; delay_us = n } in
-        ap (λ c. put c d.block d.reply d.delay_us) p ∙ ap (λ b. put e.command b d.reply d.delay_us) q ∙ ap (λ a. put e.command e.block a d.delay_us) r ∙ ap (λ n. put e.command e.block e.reply n) s
+    same_exchange : (d e : Exchange) → d.command ≡ e.command → d.block ≡ e.block → d.reply ≡ e.reply → d.time_us ≡ e.time_us → d.delay_us ≡ e.delay_us → d ≡ e
+    same_exchange d e p q r s u =
+        let put : Command → Block → Block → ℕ → ℕ → Exchange = λ c b a t n. record { command = c; block = b; reply = a; time_us = t; delay_us = n } in
+        ap (λ c. put c d.block d.reply d.time_us d.delay_us) p ∙ ap (λ b. put e.command b d.reply d.time_us d.delay_us) q ∙ ap (λ a. put e.command e.block a d.time_us d.delay_us) r
+        ∙ ap (λ t. put e.command e.block e.reply t d.delay_us) s ∙ ap (λ n. put e.command e.block e.reply e.time_us n) u
 
 -- a list has at most one cut
 pub cut_once : (p : List LineByte) (ds es : List Exchange) (t u : List LineByte) → Cut p ds t → Cut p es u → (ds ≡ es) × (t ≡ u)

@@ -88,13 +88,14 @@ takes items old new r s same done tail last_time reason =
     record { does = subst (λ (l : List LineByte). Does l r s) same done; tail = tail ∙ ap (λ (l : List LineByte). tail_after l r s) same; last_time = last_time; reason = reason }
 
 pub refuses : (items : List LineByte) (o : Option Asked) (old new : Paired) (r : LineByte) (reason : Reason) → items ≡ old.tail → IsHeld items o → last_time items ≤ r.time_us → pairing items r ≡ Some reason
-    → new.last_time ≡ Some r.time_us → new.reason ≡ Some reason → Refuses old r reason new
-refuses items o old new r reason same held later told last_time known =
+    → new.tail ≡ items → new.last_time ≡ Some r.time_us → new.reason ≡ Some reason → Refuses old r reason new
+refuses items o old new r reason same held later told tail_same last_time known =
     let tail = held_tail items o held in
     let why = table_reason items r reason tail later told in
     record {
       is_reason = subst (λ (l : List LineByte). IsReason l r reason) same why;
       not_kept = subst (λ (l : List LineByte). IsKept (l ++ r ∷ []) → ⊥) same (reason_broken items r reason tail why);
+      tail = tail_same ∙ same;
       last_time = last_time;
       known = known;
     }

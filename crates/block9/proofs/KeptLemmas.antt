@@ -21,9 +21,10 @@ closing t a r h later quiet ends =
       command = a.command;
       block = a.block;
       reply = block_of (bytes_of (drop (block_len t) t));
+      time_us = first_time t;
       delay_us = first_time (drop (block_len t) t) - last_time (take (block_len t) t);
     } in
-    exchange_kept (t ++ r ∷ []) e (closes t a r e parts later quiet ends (record { block = refl; command = refl; reply = refl; delay = omega arith }))
+    exchange_kept (t ++ r ∷ []) e (closes t a r e parts later quiet ends (record { block = refl; command = refl; reply = refl; time = refl; delay = omega arith }))
 
 -- a record that breaks no line of the table, after a tail
 pub quiet_kept : (t : List LineByte) (r : LineByte) → IsTail t → last_time t ≤ r.time_us → pairing t r ≡ None → IsKept (t ++ r ∷ [])

@@ -145,6 +145,9 @@ closes t a r e parts later quiet ends read =
     let last = ap last_time parts.place.first in
     let head = ap first_time parts.place.current in
     let delay = read.delay in
+    let some = parts.begun.begun in
+    let long : length t ≡ length (parts.command ++ parts.reply) = ap length parts.split in
+    let begins = first_time-push_any t r (omega (arith, length-append parts.command parts.reply)) in
     record {
       asked = parts.command;
       answered = parts.reply ++ r ∷ [];
@@ -152,6 +155,7 @@ closes t a r e parts later quiet ends read =
       command = rw (read.block, read.command) parts.is_command;
       reply = subst (λ (b : Block). IsWhole Deck (parts.reply ++ r ∷ []) b) (sym reply) (whole_now Deck parts.reply r parts.begun next.1 same end.0);
       in_time = record { later = let a = parts.in_time.later in omega arith; soon = let a = parts.in_time.soon in omega arith };
+      time = read.time ∙ sym begins;
       delay = omega arith;
       kind = ap (λ (b : Block). fits e.command b) reply ∙ right.0;
       valid_time = ap (λ (b : Block). is_reply_time_valid e.command b) reply ∙ right.1;

@@ -28,6 +28,7 @@ pub record IsExchange (records : List LineByte) (e : Exchange) : Type 0 where
   pub command : IsCommand asked e.block e.command
   pub reply : IsWhole Deck answered e.reply
   pub in_time : IsInTime asked answered
+  pub time : e.time_us ≡ first_time records
   pub delay : last_time asked + e.delay_us ≡ first_time answered
   pub kind : fits e.command e.reply ≡ true
   pub valid_time : is_reply_time_valid e.command e.reply ≡ true

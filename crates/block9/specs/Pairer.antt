@@ -8,7 +8,7 @@ use Rattle.block9.specs.Reason.{IsReason}
 
 -- a `Pairer` as its callers see it
 pub record Paired : Type 0 where
-  -- the records since the last whole exchange, while no rule was broken
+  -- the records since the last whole exchange, without the one that broke a rule
   pub tail : List LineByte
   -- the time of the last record that it was fed
   pub last_time : Option ℕ
@@ -26,5 +26,6 @@ pub record Takes (old : Paired) (r : LineByte) (step : Step) (new : Paired) : Ty
 pub record Refuses (old : Paired) (r : LineByte) (reason : Reason) (new : Paired) : Type 0 where
   pub is_reason : IsReason old.tail r reason
   pub not_kept : ¬ IsKept (old.tail ++ r ∷ [])
+  pub tail : new.tail ≡ old.tail
   pub last_time : new.last_time ≡ Some r.time_us
   pub known : new.reason ≡ Some reason

@@ -30,6 +30,8 @@ pub struct Exchange {
     pub block: Block,
     /// The reply's block.
     pub reply: Block,
+    /// The time of the command's first record, in microseconds.
+    pub time_us: u64,
     /// The time from the command's last record to the reply's first one, in microseconds: at most
     /// [`REPLY_LIMIT_US`].
     pub delay_us: u64,
@@ -89,6 +91,7 @@ fn exchange_of(tail: &[LineByte], asked: Asked, reply: Block) -> Result<Exchange
         command,
         block,
         reply,
+        time_us: first_time(tail),
         delay_us,
     })
 }
@@ -179,7 +182,8 @@ fn refuse(kept: &mut Option<Reason>, reason: Reason) -> Reason
 /// Pairs commands with replies, one record at a time.
 ///
 /// It holds its tail, which is the records since the last whole exchange: at most a command of 18 records
-/// and 17 of its reply. Once a record broke a rule it holds the reason instead. No call takes memory.
+/// and 17 of its reply. Once a record broke a rule it holds the reason too, and the tail before that record. No call
+/// takes memory.
 #[derive(Drop)]
 pub struct Pairer {
     tail: ArrayVec<LineByte, MOST_OPEN>,
@@ -225,7 +229,7 @@ impl Pairer {
     ///
     /// `Err` is the first rule that the record breaks, in the order that [`Reason`] gives and
     /// `specs/Reason.antt` states, a line for each: the records so far keep the rules, and with this one they
-    /// do not. Every later call answers the same reason and changes nothing. [`Reason::NoRun`] is never among
+    /// do not. The tail stays as it was. Every later call answers the same reason and changes nothing. [`Reason::NoRun`] is never among
     /// them.
     ///
     /// The rules are the protocol manual's; where it leaves a choice, this profile favours the deck.
@@ -263,6 +267,15 @@ impl Pairer {
         ensures { result ≡ self.now.last_time }
     {
         self.last_time
+    }
+
+    /// The records since the last whole exchange: those of a command whose reply is not whole yet, with what there is of the
+    /// reply, or of a command that is not whole itself. After a reason they are those before the record which broke the
+    /// rule.
+    pub fn tail(&self) -> &[LineByte]
+        ensures { result.now ≡ self.now.tail }
+    {
+        self.tail.as_slice()
     }
 
     /// How many records came since the last whole exchange, at most 35. Not asked after a reason.

@@ -40,4 +40,5 @@ pub record Closes (tail : List LineByte) (a : Asked) (e : Exchange) : Type 0 whe
   pub block : e.block ≡ a.block
   pub command : e.command ≡ a.command
   pub reply : e.reply ≡ block_of (bytes_of (drop (block_len tail) tail))
+  pub time : e.time_us ≡ first_time tail
   pub delay : last_time (take (block_len tail) tail) + e.delay_us ≡ first_time (drop (block_len tail) tail)

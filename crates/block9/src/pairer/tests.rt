@@ -87,6 +87,7 @@ fn a_command_and_its_reply_are_an_exchange(rt: HostRuntime) {
         command: Command::Play,
         block: Block::from_bytes(&[0x20, 0x01, 0x21]).expect(&rt, "a block"),
         reply: Block::from_bytes(&[0x10, 0x01, 0x11]).expect(&rt, "a block"),
+        time_us: 400,
         delay_us: 400,
     };
     let mut pairer = Pairer::new();
@@ -134,6 +135,8 @@ fn a_reason_stays(rt: HostRuntime) {
             "{line_byte:?}"
         );
         assert_eq!(rt; pairer.last_time(), Some(1_200), "{line_byte:?}");
+        let open = [record(400, Controller, 0x20), record(800, Controller, 0x01)];
+        assert_eq!(rt; pairer.tail(), open.as_slice(), "{line_byte:?}");
     }
 }
 

@@ -32,6 +32,7 @@ returns-clause-ok c =
         block = refl;
         command = refl;
         reply = c.requires.reply ∙ ap (λ (p : Place). block_of (bytes_of (open_at p tail))) parts.place.place;
+        time = c.first_time-2.ensures;
         delay = omega arith;
       },
       sym c.fits.ensures ∙ c.if-not-fits.false,

@@ -61,7 +61,7 @@ returns-in-Err-end-clause-refuses c = λ known.
     let later = in_order c.self.inside.last_time (last_time c.self.inside.tail.items) c.args.line_byte.time_us inv.in_order (λ x e. c.requires x (ap (λ p. p.last_time) (sym c.self.view_is) ∙ e)) in
     let told = subst (λ (l : List LineByte). pairing l c.args.line_byte ≡ Some c.in-Err-end.reason) c.as_slice-in-Ok-true.ensures.value c.in-Err-end.ensures.err in
     let same = ap (λ (x : Reason). Some x) (sym c.refuse.ensures.same) in
-    refuses c.self.inside.tail.items c.self.inside.asked _ _ _ c.refuse.result (ap (λ p. p.tail) c.self.view_is) inv.held later (told ∙ same) refl (c.refuse.ensures.kept ∙ same)
+    refuses c.self.inside.tail.items c.self.inside.asked _ _ _ c.refuse.result (ap (λ p. p.tail) c.self.view_is) inv.held later (told ∙ same) refl refl (c.refuse.ensures.kept ∙ same)
 
 pub returns-in-Err-clause-refuses : goal.returns-in-Err-clause-refuses
 returns-in-Err-clause-refuses c = λ known.
@@ -69,4 +69,4 @@ returns-in-Err-clause-refuses c = λ known.
     let later = in_order c.self.inside.last_time (last_time c.self.inside.tail.items) c.args.line_byte.time_us inv.in_order (λ x e. c.requires x (ap (λ p. p.last_time) (sym c.self.view_is) ∙ e)) in
     let told = subst (λ (l : List LineByte). pairing l c.args.line_byte ≡ Some c.in-Err.reason) c.as_slice.ensures.value c.in-Err.ensures.err in
     let same = ap (λ (x : Reason). Some x) (sym c.refuse-in-Err.ensures.same) in
-    refuses c.self.inside.tail.items c.self.inside.asked _ _ _ c.refuse-in-Err.result (ap (λ p. p.tail) c.self.view_is) inv.held later (told ∙ same) refl (c.refuse-in-Err.ensures.kept ∙ same)
+    refuses c.self.inside.tail.items c.self.inside.asked _ _ _ c.refuse-in-Err.result (ap (λ p. p.tail) c.self.view_is) inv.held later (told ∙ same) refl refl (c.refuse-in-Err.ensures.kept ∙ same)
