@@ -1,5 +1,5 @@
 -- What is known of modes.
-use Rattle.std.proofs.Common.{◌≡◌, ◌≢◌, ◌⊎◌, inl, inr, ℕ, ◌<◌, ◌==◌, ◌&&◌, ◌||◌, not, Bool, true, false, if◌then◌else◌, refl, sym, ap, ◌∙◌, subst, arith, bit_and}
+use Rattle.std.proofs.Common.{◌≡◌, ◌≢◌, ◌↔◌, ◌⊎◌, inl, inr, ℕ, ◌<◌, ◌==◌, ◌&&◌, ◌||◌, not, Bool, true, false, if◌then◌else◌, refl, sym, ap, ◌∙◌, subst, arith, bit_and}
 use Rattle.std.proofs.lemmas.Bool.{and_parts, eq-eqb, false≢true, or_cases}
 use Rattle.std.proofs.lemmas.Bool.Decides.{nat_tests}
 use Rattle.std.proofs.lemmas.Nat.Bits.{bit_at-lt, same_from_bits_below}
@@ -185,6 +185,10 @@ of_shown v m whole h =
     let g = goes_from (part_of v a.0 a.1).pairs m a.2 in
     let w = pair_state v a.0 a.1 g.0 m whole g.1 in
     (w.0, w.1, w.3)
+
+-- the modes that are shown
+pub shown_exactly : (v : StateSet) → AreWhole v → (m : Mode) → (has (shown_in v).0 m ≡ true) ↔ ((s : State) × Possible v s × (s.shown ≡ m))
+shown_exactly v whole m = (of_shown v m whole, λ h. subst (λ x. has (shown_in v).0 x ≡ true) h.2 (shown_of v h.0 h.1))
 
 -- what is known of a mode of all states, by the set of these modes
 known_by : (X : State → Type 0) (field : State → Mode) (set : ModeSet) (k : Known Mode) → ((s : State) → X s → has set.0 (field s) ≡ true) → ((m : Mode) → has set.0 m ≡ true → (s : State) × X s × (field s ≡ m))

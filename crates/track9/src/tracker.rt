@@ -1,17 +1,20 @@
 //! The states that the deck could be in, exchange by exchange.
-ghost use Rattle.std.specs.Prelude.{◌≡◌, ◌↔◌, ◌≤◌, ◌+◌, IfErr, IfNone, IfOk, IfSome, IsOk, IsTrue, OnErr, OnOk, false};
+ghost use Rattle.std.specs.Prelude.{◌≡◌, ◌↔◌, ◌≤◌, ◌+◌, IfErr, IfNone, IfOk, IfSome, IsOk, IsTrue, OnErr, OnOk, false, true};
 ghost use Rattle.track9.specs.Frugal.{is_frugal, is_frugal_effect};
 ghost use Rattle.track9.specs.Knowledge.{IsKnowledge};
+ghost use Rattle.track9.specs.ModeSet.{has};
 ghost use Rattle.track9.specs.Presets.{IsSpanCount, count_of, presets_after, with_command};
 ghost use Rattle.deck9.specs.Contradict.{Passes};
 ghost use Rattle.deck9.specs.Effect.{effect_of};
 ghost use Rattle.deck9.specs.State.{IsFirst};
 ghost use Rattle.deck9.specs.Step.{AreReached, Exchanges};
 ghost use Rattle.track9.specs.Tracker.{Possible};
+ghost use Rattle.deck9.specs.declared.mode.Mode.{Mode as AMode};
 ghost use Rattle.deck9.specs.declared.state.Register.{Register as ARegister};
 ghost use Rattle.deck9.specs.declared.state.State.{State as AState};
 
 use crate::knowledge::Knowledge;
+use crate::mode_set::ModeSet;
 use crate::presets::Presets;
 use crate::states::States;
 use block9::{Block, Command};
@@ -147,6 +150,13 @@ impl<S: TimeSet> Tracker<S> {
         ensures none { IfNone result (¬ ((s : AState) × Possible self.now.states s × Exchanges self.now.hands command.now reply.now s target.now)) }
     {
         self.states.before(command, reply, target)
+    }
+
+    /// The modes that some possible state shows. Takes no memory.
+    pub fn shown(&self) -> ModeSet
+        ensures { (m : AMode) → (has result.0 m ≡ true) ↔ ((s : AState) × Possible self.now.states s × (s.shown ≡ m)) }
+    {
+        self.states.shown()
     }
 
     /// What all possible states agree on, field by field. There has to be one (`remains`). Takes no memory.

@@ -108,7 +108,7 @@ impl<S: TimeSet> States<S> {
     }
 
     /// The modes that all states show.
-    fn shown(&self) -> ModeSet
+    pub(crate) fn shown(&self) -> ModeSet
         ensures { result ≡ shown_in self.now }
     {
         match &self.on {
