@@ -30,7 +30,7 @@ use Rattle.judge9.proofs.SoFar.{SoFar}
 use Rattle.judge9.proofs.TellLemmas.{told-no}
 
 -- a no is told
-judges-no : {R : Type 0} (which : View) (hands : Hands) (rows : Option Rows) (progress given : Progress R) (paired : Paired) (tracked : Tracked) (old now new : Option (List ℕ)) (n m : ℕ) (next : LineByte) (reason : Reason) (r : Result Verdict JudgeError) → (h : SoFar which hands rows progress paired tracked old now n m) → GivesRecord progress next given
+unfoldable pub judges-no : {R : Type 0} (which : View) (hands : Hands) (rows : Option Rows) (progress given : Progress R) (paired : Paired) (tracked : Tracked) (old now new : Option (List ℕ)) (n m : ℕ) (next : LineByte) (reason : Reason) (r : Result Verdict JudgeError) → (h : SoFar which hands rows progress paired tracked old now n m) → GivesRecord progress next given
     → Breaks hands h.items next reason → IsSame (No (n + 1) reason) r → Puts (line_of (No (n + 1) reason)) r now new → Judges which hands rows r old new
 judges-no which hands rows progress given paired tracked old now new n m next reason r h gives breaks same puts =
     judges-told which hands rows (No (n + 1) reason) r old now new
@@ -46,7 +46,7 @@ judges-break which hands rows progress given paired after tracked old now new n 
     same puts
 
 -- no run remains
-pub judges-no_run : {R : Type 0} (which : View) (hands : Hands) (rows : Option Rows) (progress given : Progress R) (paired after : Paired) (tracked observed : Tracked) (old now new : Option (List ℕ)) (n m : ℕ) (next : LineByte) (e : Exchange) (b : Bool) (r : Result Verdict JudgeError) → (h : SoFar which hands rows progress paired tracked old now n m)
+unfoldable pub judges-no_run : {R : Type 0} (which : View) (hands : Hands) (rows : Option Rows) (progress given : Progress R) (paired after : Paired) (tracked observed : Tracked) (old now new : Option (List ℕ)) (n m : ℕ) (next : LineByte) (e : Exchange) (b : Bool) (r : Result Verdict JudgeError) → (h : SoFar which hands rows progress paired tracked old now n m)
     → GivesRecord progress next given → Takes paired next (step.Exchange e) after → Follows hands (h.cut_exchanges ++ e ∷ []) observed → (IsTrue b ↔ ((s : State) × Possible observed.states s)) → b ≡ false
     → IsSame (No (n + 1) NoRun) r → Puts (line_of (No (n + 1) NoRun)) r now new → Judges which hands rows r old new
 judges-no_run which hands rows progress given paired after tracked observed old now new n m next e b r h gives takes follows remains is_false same puts =

@@ -1,10 +1,13 @@
 pub mod RunSteps
 pub mod CutSteps
 pub mod LineSteps
+pub mod ShowLemmas
 pub mod SoFar
 pub mod SoFarSteps
 pub mod Seen
 pub mod TrailSteps
+pub mod DayLemmas
+pub mod TrailJudging
 pub mod RunJudging
 pub mod LawLemmas
 pub mod HandsLemmas
@@ -15,4 +18,8 @@ pub mod BreakLemmas
 pub mod PieceLemmas
 pub mod WriteLemmas
 pub mod RunLines
+pub mod BlockBytes
+pub mod ModeRow
+pub mod WordRow
+pub mod LinesAt
 pub mod TextLemmas

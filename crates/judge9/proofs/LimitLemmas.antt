@@ -117,7 +117,7 @@ each_row None P f = tt
 each_row (Some all) P f = f all
 
 -- a result that is a verdict, or a line of it that was not written whole
-pub judges-told : (which : View) (hands : Hands) (rows : Option Rows) (v : Verdict) (r : Result Verdict JudgeError) (old now new : Option (List ℕ)) → Told which hands rows r old new → CanBeVerdict v → IsSame v r → Puts (line_of v) r now new → Judges which hands rows r old new
+unfoldable pub judges-told : (which : View) (hands : Hands) (rows : Option Rows) (v : Verdict) (r : Result Verdict JudgeError) (old now new : Option (List ℕ)) → Told which hands rows r old new → CanBeVerdict v → IsSame v r → Puts (line_of v) r now new → Judges which hands rows r old new
 judges-told which hands rows v (Ok w) old now new told can same puts =
     record { told = told; stopped = each_row rows _ (λ all. tt); is_kind = λ e q. cc; can_be = subst CanBeVerdict (sym same) can }
 judges-told which hands rows v (Err (error.Capture e)) old now new told can same puts = absurd puts

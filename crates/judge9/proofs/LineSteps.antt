@@ -68,7 +68,7 @@ entry_same X Y r (entry.At time) same h = λ s y. h s ((same s).1 y)
 entry_same X Y r entry.SetSomewhere same h = (λ s y. h.0 s ((same s).1 y), (h.1.0, h.1.1, (same h.1.0).0 h.1.2, (same h.1.1).0 h.1.3, h.1.4))
 entry_same X Y r entry.Unknown same h = (h.0, h.1, (same h.0).0 h.2, (same h.1).0 h.3, h.4, h.5)
 
-knowledge_same : (X Y : State → Type 0) (k : Knowledge) → ((s : State) → X s ↔ Y s) → IsKnowledge X k → IsKnowledge Y k
+pub knowledge_same : (X Y : State → Type 0) (k : Knowledge) → ((s : State) → X s ↔ Y s) → IsKnowledge X k → IsKnowledge Y k
 knowledge_same X Y k same h = record {
   goal = known_same X Y (λ (s : State). s.goal) k.goal same h.goal;
   shown = known_same X Y (λ (s : State). s.shown) k.shown same h.shown;

@@ -13,10 +13,9 @@ pieces4 l a b c d w x y z p q r s = pieces2 l (a ++ b ++ c) d y z (pieces3 l a b
 pub pieces6 : (l a b c d e f u v w x y z : List ℕ) → u ≡ l ++ a → v ≡ u ++ b → w ≡ v ++ c → x ≡ w ++ d → y ≡ x ++ e → z ≡ y ++ f → z ≡ l ++ (a ++ b ++ c ++ d ++ e ++ f)
 pieces6 l a b c d e f u v w x y z p q r s t o = pieces3 l (a ++ b ++ c ++ d) e f x y z (pieces4 l a b c d u v w x p q r s) t o
 
-pub pieces8 : (l a b c d e f g h s t u v w x y z : List ℕ) → s ≡ l ++ a → t ≡ s ++ b → u ≡ t ++ c → v ≡ u ++ d → w ≡ v ++ e → x ≡ w ++ f → y ≡ x ++ g → z ≡ y ++ h
-    → z ≡ l ++ (a ++ b ++ c ++ d ++ e ++ f ++ g ++ h)
-pieces8 l a b c d e f g h s t u v w x y z i j k m n o p q =
-    pieces3 l (a ++ b ++ c ++ d ++ e ++ f) g h x y z (pieces6 l a b c d e f s t u v w x i j k m n o) p q
+-- three pieces after a label
+pub pieces_after : (l a b c d w x y z : List ℕ) → w ≡ l ++ a → x ≡ w ++ b → y ≡ x ++ c → z ≡ y ++ d → z ≡ l ++ (a ++ (b ++ c ++ d))
+pieces_after l a b c d w x y z p q r s = pieces2 l a (b ++ c ++ d) w z p (pieces3 w b c d x y z q r s)
 
 -- the line of a yes: three pieces of two, and a last one
 pub pieces_of_yes : (l a b c d e f g w x y z : List ℕ) → w ≡ l ++ (a ++ b) → x ≡ w ++ (c ++ d) → y ≡ x ++ (e ++ f) → z ≡ y ++ g

@@ -1,152 +1,113 @@
--- Where the judging of a text stands that keeps its trail, and what it tells at each of its ends.
-use Rattle.std.proofs.Common.{◌≡◌, ◌≢◌, ◌∙◌, IsTrue, ◌↔◌, Bool, false, ℕ, ◌+◌, List, [], ◌∷◌, ◌++◌, length, Option, None, Result, Ok, Err, refl, sym, ap, subst}
-use Rattle.std.proofs.lemmas.List.{append-nil}
-use Rattle.std.specs.Bool.{⊤}
-use Rattle.capture9.specs.declared.error.CaptureError.{CaptureError}
-use Rattle.capture9.specs.declared.line_byte.LineByte.{LineByte}
-use Rattle.capture9.specs.Records.{GivesEnd, GivesRecord, GivesRefusal, Progress}
-use Rattle.capture9.specs.Rows.{Rows, no_rows}
-use Rattle.capture9.specs.declared.records.Standing.TheVariants.{Reading}
+-- What a judging with its trail tells where it ends: a run of the deck, or why none remains.
+use Rattle.std.proofs.Common.{◌≡◌, ℕ, List, [], length, take, Option, None, Result, Ok, Err, sym, subst}
 use Rattle.std.specs.Global.{Vec}
+use Rattle.capture9.specs.Rows.{Rows}
 use Rattle.block9.specs.declared.pairer.Exchange.{Exchange}
-use Rattle.block9.specs.declared.pairer.Step.{Step}
-use Rattle.block9.specs.declared.pairer.Step.TheVariants as step
 use Rattle.block9.specs.declared.reason.Reason.{Reason}
 use Rattle.block9.specs.declared.reason.Reason.TheVariants.{NoRun}
 use Rattle.block9.specs.Exchange.{Cut}
-use Rattle.block9.specs.Pairer.{Paired, Refuses, Takes}
 use Rattle.deck9.specs.declared.state.Hands.{Hands}
 use Rattle.deck9.specs.declared.state.State.{State}
-use Rattle.deck9.specs.Run.{HasRun}
-use Rattle.track9.specs.Tracker.{Possible, Tracked}
-use Rattle.deck9.proofs.RunLemmas.{some_end}
+use Rattle.deck9.specs.Run.{IsRun}
+use Rattle.track9.specs.Tracker.{Tracked}
+use Rattle.why9.specs.Contradiction.{IsContradiction}
+use Rattle.judge9.specs.declared.ending.Ending.{Ending}
+use Rattle.judge9.specs.declared.ending.Ending.TheVariants as ending
 use Rattle.judge9.specs.declared.error.JudgeError.{JudgeError}
 use Rattle.judge9.specs.declared.error.JudgeError.TheVariants as error
 use Rattle.judge9.specs.declared.run_verdict.RunVerdict.{RunVerdict}
 use Rattle.judge9.specs.declared.run_verdict.RunVerdict.TheVariants as run
-use Rattle.judge9.specs.declared.verdict.Verdict.TheVariants.{Yes, No}
+use Rattle.judge9.specs.declared.verdict.Verdict.{Verdict}
 use Rattle.judge9.specs.declared.verdict.View.TheVariants as view
-use Rattle.judge9.specs.Error.{refusal_of}
-use Rattle.deck9.specs.Run.{IsRun}
-use Rattle.judge9.specs.RunVerdict.{IsJudgedRun}
-use Rattle.judge9.specs.Verdict.{CanBeVerdict}
-use Rattle.judge9.specs.Working.Trail.{Follows, IsTrail, JudgesRun}
-use Rattle.judge9.proofs.BreakLemmas.{judges-break, judges-no_run}
-use Rattle.judge9.proofs.LimitLemmas.{can_be-yes, each_row, judges-memory, judges-refusal}
-use Rattle.judge9.proofs.Seen.{Seen, rest_has, seen}
-use Rattle.judge9.proofs.SoFar.{SoFar}
+use Rattle.judge9.specs.declared.why_verdict.WhyVerdict.{WhyVerdict}
+use Rattle.judge9.specs.declared.why_verdict.WhyVerdict.TheVariants as why
 use Rattle.judge9.specs.Report.{Told}
-use Rattle.judge9.proofs.CutSteps.{exchanges_after}
-use Rattle.judge9.proofs.SoFarSteps.{so_far-exchange, so_far-open, so_far-start}
-use Rattle.judge9.proofs.TellLemmas.{refused, told-memory, told-nothing, told-verdict, told-yes, told_after}
-use Rattle.judge9.proofs.TrailSteps.{trail-start}
+use Rattle.judge9.specs.RunVerdict.{IsJudgedRun}
+use Rattle.track9.specs.declared.knowledge.Knowledge.{Knowledge}
+use Rattle.track9.specs.declared.mode_set.ModeSet.{ModeSet}
+use Rattle.judge9.specs.WhyVerdict.{CouldShow, IsJudgedWhy}
+use Rattle.judge9.specs.Working.{Judges}
+use Rattle.judge9.specs.Working.Trail.{JudgesRun, JudgesWhy, KeepsTrail}
+use Rattle.judge9.proofs.LimitLemmas.{judges-memory}
+use Rattle.judge9.proofs.TellLemmas.{told-nothing}
 
--- the records so far keep the rules, and the trail has their exchanges
-pub record WithTrail {R : Type 0} (hands : Hands) (rows : Option Rows) (progress : Progress R) (paired : Paired) (tracked : Tracked) (es : List Exchange) (trackers : List Tracked) (n : ℕ) : Type 0 where
-  pub count : ℕ
-  pub so_far : SoFar view.Verdict hands rows progress paired tracked None None n count
-  pub same : so_far.cut_exchanges ≡ es
-  pub trail : IsTrail hands es trackers
+-- ---- want of memory behind the end
 
-pub with-start : {R : Type 0} (hands : Hands) (progress : Progress R) (paired : Paired) (tracked : Tracked) (es : List Exchange) (trackers : List Tracked) → progress.given ≡ 0 → progress.last_time ≡ 0 → progress.standing ≡ Reading → paired ≡ record { tail = []; last_time = None; reason = None } → Follows hands [] tracked → es ≡ [] → trackers ≡ []
-    → WithTrail hands progress.rows progress paired tracked es trackers 0
-unfolding so_far-start
-with-start hands progress paired tracked es trackers given first reading new follows none no_trackers = record {
-  count = 0;
-  so_far = so_far-start view.Verdict hands progress paired tracked None given first reading new follows;
-  same = sym none;
-  trail = subst (λ (l : List Exchange). IsTrail hands l trackers) (sym none) (subst (λ (l : List Tracked). IsTrail hands [] l) (sym no_trackers) (trail-start hands));
+-- what was told with a verdict is told without it
+told_less : (hands : Hands) (rows : Option Rows) (v : Verdict) → Told view.Verdict hands rows (Ok v) None None → Told view.Verdict hands rows (Err error.OutOfMemory) None None
+told_less hands rows v t = record {
+  rows = t.rows;
+  is_known = t.is_known;
+  of_a_text = t.of_a_text;
+  answer = tt;
+  items = t.items;
+  start = t.start;
+  exchanges = t.exchanges;
+  tail = t.tail;
+  cut = t.cut;
+  run = t.run;
+  text = t.text;
+  explained = t.explained;
+  written = tt;
 }
 
-pub with-open : {R : Type 0} (hands : Hands) (rows : Option Rows) (progress after : Progress R) (paired next : Paired) (tracked : Tracked) (es : List Exchange) (trackers : List Tracked) (n : ℕ) (r : LineByte) (s : Step) → ((l : List Exchange) → exchanges_after l s ≡ l) → WithTrail hands rows progress paired tracked es trackers n
-    → GivesRecord progress r after → Takes paired r s next → WithTrail hands rows after next tracked es trackers (n + 1)
-unfolding so_far-open
-with-open hands rows progress after paired next tracked es trackers n r s keeps w given takes = record {
-  count = w.count;
-  so_far = so_far-open view.Verdict hands rows progress after paired next tracked None None r s n w.count keeps w.so_far given takes;
-  same = w.same;
-  trail = w.trail;
-}
+memory : (hands : Hands) (rows : Option Rows) (v : Verdict) → Judges view.Verdict hands rows (Ok v) None None → Judges view.Verdict hands rows (Err error.OutOfMemory) None None
+memory hands rows v j = judges-memory view.Verdict hands rows None None (told_less hands rows v j.told)
 
-pub with-exchange : {R : Type 0} (hands : Hands) (rows : Option Rows) (progress after : Progress R) (paired next : Paired) (tracked observed : Tracked) (es more : List Exchange) (trackers later : List Tracked) (n : ℕ) (r : LineByte) (e : Exchange) → (w : WithTrail hands rows progress paired tracked es trackers n)
-    → GivesRecord progress r after → Takes paired r (step.Exchange e) next → Follows hands (w.so_far.cut_exchanges ++ e ∷ []) observed → HasRun hands (w.so_far.cut_exchanges ++ e ∷ []) → more ≡ es ++ e ∷ [] → IsTrail hands more later → WithTrail hands rows after next observed more later (n + 1)
-unfolding so_far-exchange
-with-exchange hands rows progress after paired next tracked observed es more trackers later n r e w given takes follows run pushed trail = record {
-  count = w.count + 1;
-  so_far = so_far-exchange view.Verdict hands rows progress after paired next tracked observed None None None r e n w.count [] w.so_far given takes follows run refl tt;
-  same = ap (λ (l : List Exchange). l ++ e ∷ []) w.same ∙ sym pushed;
-  trail = trail;
-}
+-- ---- a run
 
-pub with_state : {R : Type 0} (hands : Hands) (rows : Option Rows) (progress : Progress R) (paired : Paired) (tracked : Tracked) (es : List Exchange) (trackers : List Tracked) (n : ℕ) → WithTrail hands rows progress paired tracked es trackers n → (s : State) × Possible tracked.states s
-with_state hands rows progress paired tracked es trackers n w =
-    let last = (some_end hands w.so_far.cut_exchanges).1 w.so_far.run in
-    (last.0, (w.so_far.follows.states last.0).1 last.1)
+pub run-memory : (hands : Hands) (rows : Option Rows) (e : Ending) (es : List Exchange) (ts : List Tracked) (t : Tracked) → KeepsTrail hands rows (Ok e) es ts t → JudgesRun hands rows (Err error.OutOfMemory)
+run-memory hands rows e es ts t k = record { judges = memory hands rows _ k.judges; run = tt; no_write = λ q. cc }
 
--- ---- what is told at each end
-
-pub run-refusal : {R : Type 0} (hands : Hands) (rows : Option Rows) (progress given : Progress R) (paired : Paired) (tracked : Tracked) (es : List Exchange) (trackers : List Tracked) (n : ℕ) (e : CaptureError) (x : JudgeError) → WithTrail hands rows progress paired tracked es trackers n → GivesRefusal progress e given → x ≡ refusal_of e → JudgesRun hands rows (Err x)
-run-refusal hands rows progress given paired tracked es trackers n e x w refusal same = record {
-  judges = judges-refusal view.Verdict hands rows progress given paired tracked None None n w.count e x w.so_far refusal same;
-  run = tt;
-  no_write = refused NotWrite e x same (λ q. cc) (λ q. cc);
-}
+pub run-stopped : (hands : Hands) (rows : Option Rows) (x : JudgeError) (es : List Exchange) (ts : List Tracked) (t : Tracked) → KeepsTrail hands rows (Err x) es ts t → JudgesRun hands rows (Err x)
+run-stopped hands rows x es ts t k = record { judges = k.judges; run = tt; no_write = λ q. k.no_write (again x q) }
   where
-    NotWrite : JudgeError → Type 0
-    NotWrite y = (let r : Result RunVerdict JudgeError = Err y in r) ≢ Err error.Write
+    again : (x : JudgeError) → (let r : Result RunVerdict JudgeError = Err x in r) ≡ Err error.Write → (let r : Result Ending JudgeError = Err x in r) ≡ Err error.Write
+    again x q = cc
 
-pub run-memory : {R : Type 0} (hands : Hands) (rows : Option Rows) (progress : Progress R) (paired : Paired) (tracked : Tracked) (es : List Exchange) (trackers : List Tracked) (n : ℕ) → WithTrail hands rows progress paired tracked es trackers n → JudgesRun hands rows (Err error.OutOfMemory)
-run-memory hands rows progress paired tracked es trackers n w = record {
-  judges = judges-memory view.Verdict hands rows None None (told-memory view.Verdict hands rows progress paired tracked None None n w.count w.so_far);
-  run = tt;
-  no_write = λ q. cc;
-}
+pub run-break : (hands : Hands) (rows : Option Rows) (at : ℕ) (reason : Reason) (es : List Exchange) (ts : List Tracked) (t : Tracked) → KeepsTrail hands rows (Ok (ending.Break at reason)) es ts t → JudgesRun hands rows (Ok (run.No at reason))
+run-break hands rows at reason es ts t k = record { judges = k.judges; run = tt; no_write = λ q. cc }
 
-pub run-break : {R : Type 0} (hands : Hands) (rows : Option Rows) (progress given : Progress R) (paired after : Paired) (tracked : Tracked) (es : List Exchange) (trackers : List Tracked) (n : ℕ) (next : LineByte) (reason : Reason) → WithTrail hands rows progress paired tracked es trackers n → GivesRecord progress next given → Refuses paired next reason after
-    → JudgesRun hands rows (Ok (run.No (n + 1) reason))
-run-break hands rows progress given paired after tracked es trackers n next reason w gives refuses = record {
-  judges = judges-break view.Verdict hands rows progress given paired after tracked None None None n w.count next reason (Ok (No (n + 1) reason)) w.so_far gives refuses refl tt;
-  run = tt;
-  no_write = λ q. cc;
-}
+pub run-no_run : (hands : Hands) (rows : Option Rows) (at : ℕ) (es : List Exchange) (ts : List Tracked) (t : Tracked) → KeepsTrail hands rows (Ok (ending.NoRun at)) es ts t → JudgesRun hands rows (Ok (run.No at NoRun))
+run-no_run hands rows at es ts t k = record { judges = k.judges; run = tt; no_write = λ q. cc }
 
-pub run-no_run : {R : Type 0} (hands : Hands) (rows : Option Rows) (progress given : Progress R) (paired after : Paired) (tracked observed : Tracked) (es : List Exchange) (trackers : List Tracked) (n : ℕ) (next : LineByte) (e : Exchange) (b : Bool) → (w : WithTrail hands rows progress paired tracked es trackers n) → GivesRecord progress next given
-    → Takes paired next (step.Exchange e) after → Follows hands (w.so_far.cut_exchanges ++ e ∷ []) observed → (IsTrue b ↔ ((s : State) × Possible observed.states s)) → b ≡ false → JudgesRun hands rows (Ok (run.No (n + 1) NoRun))
-run-no_run hands rows progress given paired after tracked observed es trackers n next e b w gives takes follows remains is_false = record {
-  judges = judges-no_run view.Verdict hands rows progress given paired after tracked observed None None None n w.count next e b (Ok (No (n + 1) NoRun)) w.so_far gives takes follows remains is_false refl tt;
-  run = tt;
-  no_write = λ q. cc;
-}
-
-pub run-yes : {R : Type 0} (hands : Hands) (rows : Option Rows) (progress ended : Progress R) (paired : Paired) (tracked : Tracked) (es : List Exchange) (trackers : List Tracked) (n : ℕ) (exchanges : Vec Exchange) (states : Vec State) → WithTrail hands rows progress paired tracked es trackers n → GivesEnd progress ended
-    → exchanges.items ≡ es → IsRun tracked.hands es states.items → JudgesRun hands rows (Ok (run.Yes n (length paired.tail) exchanges states))
-unfolding told-yes told-verdict told_after
-run-yes hands rows progress ended paired tracked es trackers n exchanges states w end given is_run = record {
-  judges = record { told = told; stopped = each_row rows (λ all. ⊤) (λ all. tt); is_kind = λ e q. cc; can_be = subst CanBeVerdict (sym verdict) (can_be-yes view.Verdict hands rows progress paired tracked None None n w.count w.so_far) };
-  run = ((paired.tail, subst (λ (l : List Exchange). Cut told.rows.records l paired.tail) (w.same ∙ sym given) cut), subst (λ (l : List Exchange). IsRun hands l states.items) (sym given) (subst (λ (h : Hands). IsRun h es states.items) w.so_far.follows.hands is_run));
-  no_write = λ q. cc;
-}
-  where
-    verdict : Yes n (length exchanges.items) (length paired.tail) ≡ Yes n w.count (length paired.tail)
-    verdict = ap (λ (m : ℕ). Yes n m (length paired.tail)) (ap length (given ∙ sym w.same) ∙ sym w.so_far.exchange_number)
-
-    told : Told view.Verdict hands rows (Ok (Yes n (length exchanges.items) (length paired.tail))) None None
-    told = told-yes view.Verdict hands rows progress ended paired tracked None None None n w.count (Ok (Yes n (length exchanges.items) (length paired.tail))) w.so_far end verdict tt
-
-    s : Seen rows progress.rows w.so_far.items no_rows
-    s = seen rows progress.rows w.so_far.items no_rows w.so_far.read
-
-    left : s.rest ≡ no_rows
-    left = rest_has (λ rest. rest ≡ no_rows) s refl end.none_left
-
-    records : s.all.records ≡ w.so_far.items
-    records = ap (λ (x : Rows). x.records) s.whole ∙ ap (λ (x : Rows). w.so_far.items ++ x.records) left ∙ append-nil w.so_far.items
-
-    cut : Cut told.rows.records w.so_far.cut_exchanges paired.tail
-    cut = subst (λ (l : List LineByte). Cut l w.so_far.cut_exchanges paired.tail) (sym records) w.so_far.cut
+pub run-yes : (hands : Hands) (rows : Option Rows) (n m : ℕ) (exchanges given : Vec Exchange) (ts : List Tracked) (t : Tracked) (states : Vec State) → KeepsTrail hands rows (Ok (ending.End n m)) exchanges.items ts t → IsRun t.hands exchanges.items states.items → given ≡ exchanges → JudgesRun hands rows (Ok (run.Yes n m given states))
+run-yes hands rows n m exchanges given ts t states k is_run same =
+    subst (λ (v : Vec Exchange). JudgesRun hands rows (Ok (run.Yes n m v states))) (sym same)
+    (record { judges = k.judges; run = ((k.ends.left, k.ends.cut), subst (λ (h : Hands). IsRun h exchanges.items states.items) k.ends.follows.hands is_run); no_write = λ q. cc })
 
 -- where there was no memory for the tracker, and nothing was read
 pub run-nothing : (hands : Hands) (rows : Option Rows) → IsJudgedRun hands rows (Err error.OutOfMemory)
 run-nothing hands rows =
     let told = told-nothing view.Verdict hands rows None in
     record { rows = told.rows; is_known = told.is_known; of_a_text = told.of_a_text; answer = tt; run = tt }
+
+-- ---- why no run remains
+
+pub why-memory : (hands : Hands) (rows : Option Rows) (e : Ending) (es : List Exchange) (ts : List Tracked) (t : Tracked) → KeepsTrail hands rows (Ok e) es ts t → JudgesWhy hands rows (Err error.OutOfMemory)
+why-memory hands rows e es ts t k = record { judges = memory hands rows _ k.judges; why = tt; no_write = λ q. cc }
+
+pub why-stopped : (hands : Hands) (rows : Option Rows) (x : JudgeError) (es : List Exchange) (ts : List Tracked) (t : Tracked) → KeepsTrail hands rows (Err x) es ts t → JudgesWhy hands rows (Err x)
+why-stopped hands rows x es ts t k = record { judges = k.judges; why = tt; no_write = λ q. k.no_write (again x q) }
+  where
+    again : (x : JudgeError) → (let r : Result WhyVerdict JudgeError = Err x in r) ≡ Err error.Write → (let r : Result Ending JudgeError = Err x in r) ≡ Err error.Write
+    again x q = cc
+
+pub why-yes : (hands : Hands) (rows : Option Rows) (n m k : ℕ) (es : List Exchange) (ts : List Tracked) (t : Tracked) → KeepsTrail hands rows (Ok (ending.End n m)) es ts t → k ≡ length es → JudgesWhy hands rows (Ok (why.Yes n k m))
+why-yes hands rows n m k es ts t keeps same =
+    subst (λ (x : ℕ). JudgesWhy hands rows (Ok (why.Yes n x m))) (sym same) (record { judges = keeps.judges; why = tt; no_write = λ q. cc })
+
+pub why-break : (hands : Hands) (rows : Option Rows) (at : ℕ) (reason : Reason) (es : List Exchange) (ts : List Tracked) (t : Tracked) → KeepsTrail hands rows (Ok (ending.Break at reason)) es ts t → JudgesWhy hands rows (Ok (why.No at reason))
+why-break hands rows at reason es ts t k = record { judges = k.judges; why = k.ends; no_write = λ q. cc }
+
+pub why-no_run : (hands : Hands) (rows : Option Rows) (at : ℕ) (exchanges given : Vec Exchange) (ts : List Tracked) (t : Tracked) (places : Vec ℕ) (known : Knowledge) (shown : ModeSet) → KeepsTrail hands rows (Ok (ending.NoRun at)) exchanges.items ts t → given ≡ exchanges
+    → IsContradiction hands given.items places.items → CouldShow hands given.items known shown → JudgesWhy hands rows (Ok (why.Contradiction at given places known shown))
+why-no_run hands rows at exchanges given ts t places known shown k same is shows =
+    let cut = subst (λ (v : Vec Exchange). Cut (take at k.judges.told.rows.records) v.items []) (sym same) k.ends.cut in
+    record { judges = k.judges; why = (cut, is, shows); no_write = λ q. cc }
+
+-- where there was no memory for the tracker, and nothing was read
+pub why-nothing : (hands : Hands) (rows : Option Rows) → IsJudgedWhy hands rows (Err error.OutOfMemory)
+why-nothing hands rows =
+    let told = told-nothing view.Verdict hands rows None in
+    record { rows = told.rows; is_known = told.is_known; of_a_text = told.of_a_text; answer = tt; why = tt }

@@ -146,7 +146,7 @@ told-yes which hands rows progress ended paired tracked old now new n m r h end 
     }
 
 -- at a record that breaks a rule
-pub told-no : {R : Type 0} (which : View) (hands : Hands) (rows : Option Rows) (progress given : Progress R) (paired : Paired) (tracked : Tracked) (old now new : Option (List ℕ)) (n m : ℕ) (next : LineByte) (reason : Reason) (r : Result Verdict JudgeError) → (h : SoFar which hands rows progress paired tracked old now n m) → GivesRecord progress next given → Breaks hands h.items next reason
+unfoldable pub told-no : {R : Type 0} (which : View) (hands : Hands) (rows : Option Rows) (progress given : Progress R) (paired : Paired) (tracked : Tracked) (old now new : Option (List ℕ)) (n m : ℕ) (next : LineByte) (reason : Reason) (r : Result Verdict JudgeError) → (h : SoFar which hands rows progress paired tracked old now n m) → GivesRecord progress next given → Breaks hands h.items next reason
     → IsSame (No (n + 1) reason) r → Puts (line_of (No (n + 1) reason)) r now new → Told which hands rows r old new
 told-no which hands rows progress given paired tracked old now new n m next reason r h gives breaks same puts =
     told-verdict which hands rows progress paired tracked old now new n m h s.all (No (n + 1) reason) r s.is_known (given_of_some_text s refl (given-more h.items progress given next h.are_given gives).can_be) (next ∷ s.rest.records, split) is (let e = h.number in omega arith) same puts

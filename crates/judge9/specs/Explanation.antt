@@ -86,17 +86,22 @@ unfoldable pub text_of_panel : Hands → Known Bool → List ℕ
 text_of_panel hands.None panel = []
 text_of_panel hands.Allowed panel = codes ", panel " ++ word_of (codes "on") (codes "off") panel
 
--- what is known, field by field
-unfoldable pub text_of_knowledge : Hands → Knowledge → List ℕ
-text_of_knowledge h k =
-    (codes "goal " ++ text_of_mode k.goal)
-    ++ (codes ", shown " ++ text_of_mode k.shown)
-    ++ (codes ", in " ++ text_of_register k.ins)
+-- what is known of the registers, of local and of the panel, field by field
+abbrev pub text_of_fields : Hands → Knowledge → List ℕ
+text_of_fields h k =
+    (codes ", in " ++ text_of_register k.ins)
     ++ (codes ", out " ++ text_of_register k.outs)
     ++ (codes ", local " ++ text_of_local k.local)
     ++ (codes ", ain " ++ text_of_register k.ains)
     ++ (codes ", aout " ++ text_of_register k.aouts)
     ++ text_of_panel h k.panel
+
+-- what is known, field by field
+unfoldable pub text_of_knowledge : Hands → Knowledge → List ℕ
+text_of_knowledge h k =
+    (codes "goal " ++ text_of_mode k.goal)
+    ++ (codes ", shown " ++ text_of_mode k.shown)
+    ++ text_of_fields h k
 
 -- ---- the line
 

@@ -5,4 +5,6 @@ pub mod Explanation
 pub mod Report
 pub mod RunVerdict
 pub mod RunText
+pub mod WhyVerdict
+pub mod WhyText
 pub mod Working

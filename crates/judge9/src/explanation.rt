@@ -1,6 +1,6 @@
 //! The line that explains an exchange, put to the end of a buffer.
 mod asked;
-mod known;
+pub(crate) mod known;
 
 ghost use Rattle.std.specs.Prelude.{◌≡◌, ◌++◌, OnOk};
 ghost use Rattle.judge9.specs.Explanation.{line_of_exchange};

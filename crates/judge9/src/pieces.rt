@@ -50,3 +50,11 @@ pub(crate) fn put_count(line: &mut Vec<u8>, label: &str, number: u64) -> Result<
     put_text(line, label)?;
     put_number(line, number)
 }
+
+/// Puts a label and a number that can be wider than 64 bits.
+pub(crate) fn put_wide(line: &mut Vec<u8>, label: &str, number: u128) -> Result<(), AllocError>
+    ensures { OnOk result (line.new.items ≡ line.old.items ++ (label.now ++ decimal number)) }
+{
+    let mut buffer = Buffer::new();
+    put_word(line, label, buffer.format(number))
+}

@@ -9,10 +9,12 @@ ghost use Rattle.deck9.specs.declared.state.State.{State as AState};
 ghost use Rattle.deck9.specs.State.{IsFirst};
 ghost use Rattle.track9.specs.Tracker.{Possible};
 
+use crate::ending::Ending;
 use crate::error::JudgeError;
 use crate::run_verdict::RunVerdict;
 use crate::trail::Trail;
-use block9::{Pairer, Reason, Step};
+use crate::trail_judging::keep_trail;
+use block9::Reason;
 use capture9::{CaptureError, CaptureKind, Records};
 use deck9::Hands;
 use std::alloc::Global;
@@ -70,48 +72,24 @@ fn judge_rows<R: Read + Drop>(
     requires hands { tracker.old.hands ≡ hands }
     ensures { JudgesRun hands rows.old.rows result }
 {
-    let mut pairer = Pairer::new();
     let mut trail = Trail::new(alloc);
-    let mut records = 0u32;
-    'rows: loop {
-        let line_byte = match rows.next() {
-            Ok(Some(line_byte)) => line_byte,
-            Ok(None) => break 'rows,
-            Err(e) => return Err(JudgeError::from(e)),
-        };
-        records += 1;
-        let exchange = match pairer.feed(line_byte) {
-            Ok(Step::Waiting) => continue 'rows,
-            Ok(Step::Command) => continue 'rows,
-            Ok(Step::Exchange(exchange)) => exchange,
-            Err(reason) => return Ok(RunVerdict::No {
-                at: records,
-                reason,
-            }),
-        };
-        let Ok(()) = trail.mark(tracker) else {
-            return Err(JudgeError::OutOfMemory);
-        };
-        match tracker.observe(&exchange.command, &exchange.reply) {
-            Ok(true) => {}
-            Ok(false) => return Ok(RunVerdict::No {
-                at: records,
-                reason: Reason::NoRun,
-            }),
-            Err(_) => return Err(JudgeError::OutOfMemory),
+    match keep_trail(rows, tracker, &mut trail, hands) {
+        Ok(Ending::End { records, tail }) => {
+            let Ok(states) = trail.states(alloc, tracker) else {
+                return Err(JudgeError::OutOfMemory);
+            };
+            Ok(RunVerdict::Yes {
+                records,
+                tail,
+                exchanges: trail.into_exchanges(),
+                states,
+            })
         }
-        let Ok(()) = trail.push(exchange) else {
-            return Err(JudgeError::OutOfMemory);
-        };
+        Ok(Ending::Break { at, reason }) => Ok(RunVerdict::No { at, reason }),
+        Ok(Ending::NoRun { at }) => Ok(RunVerdict::No {
+            at,
+            reason: Reason::NoRun,
+        }),
+        Err(e) => Err(e),
     }
-    let tail = pairer.tail_len() as u32;
-    let Ok(states) = trail.states(alloc, tracker) else {
-        return Err(JudgeError::OutOfMemory);
-    };
-    Ok(RunVerdict::Yes {
-        records,
-        tail,
-        exchanges: trail.into_exchanges(),
-        states,
-    })
 }

@@ -79,7 +79,7 @@ fn write_lines<W: Write>(
 }
 
 /// How many records an exchange has: those of two blocks, each with its first byte, its code and its sum.
-fn records_of(exchange: &Exchange) -> usize
+pub(crate) fn records_of(exchange: &Exchange) -> usize
     ensures records { result ≡ records_of exchange.now }
     ensures few { result ≤ 36 }
 {

@@ -1,6 +1,8 @@
 //! Captures and what is answered to them, with values from the protocol's rules, by hand.
 mod captures;
 mod changed;
+mod contradicting;
+mod could_show;
 mod deck;
 mod drawn;
 mod explained;
@@ -13,6 +15,7 @@ mod readers;
 mod run_lines;
 mod runs;
 mod texts;
+mod why_answers;
 mod worked;
 mod writers;
 

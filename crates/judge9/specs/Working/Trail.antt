@@ -1,18 +1,31 @@
--- The way back from the end of a capture to a run of the deck.
-use Rattle.std.specs.Prelude.{◌≡◌, ◌≢◌, ℕ, ◌*◌, ◌≤◌, ◌↔◌, List, [], ◌∷◌, ◌++◌, length, reverse, take, Option, Some, None, Result, Err, slice_get}
+-- The trail of a judging: what is kept of it at its end, and the way back to a run of the deck.
+use Rattle.std.specs.Prelude.{◌≡◌, ◌≢◌, ℕ, ◌*◌, ◌≤◌, ◌↔◌, List, [], ◌∷◌, ◌++◌, length, reverse, take, Option, Some, None, Result, Ok, Err, slice_get}
+use Rattle.std.specs.List.{All}
 use Rattle.std.specs.Result.{IfOk}
+use Rattle.capture9.specs.declared.line_byte.LineByte.{LineByte}
 use Rattle.capture9.specs.Rows.{Rows}
 use Rattle.block9.specs.declared.pairer.Exchange.{Exchange}
+use Rattle.block9.specs.declared.reason.Reason.TheVariants.{NoRun}
+use Rattle.block9.specs.Exchange.{Cut}
 use Rattle.deck9.specs.declared.state.Hands.{Hands}
 use Rattle.deck9.specs.declared.state.State.{State}
+use Rattle.deck9.specs.Laws.{SetsInDay}
 use Rattle.deck9.specs.Run.{Ends, IsRunFrom, last_state}
 use Rattle.deck9.specs.Step.{Exchanges}
 use Rattle.track9.specs.Tracker.{Possible, Tracked}
+use Rattle.why9.specs.Contradiction.{BreaksAtLast}
+use Rattle.judge9.specs.declared.ending.Ending.{Ending}
+use Rattle.judge9.specs.declared.ending.Ending.TheVariants as ending
 use Rattle.judge9.specs.declared.error.JudgeError.{JudgeError}
 use Rattle.judge9.specs.declared.error.JudgeError.TheVariants as error
 use Rattle.judge9.specs.declared.run_verdict.RunVerdict.{RunVerdict}
+use Rattle.judge9.specs.declared.verdict.Verdict.{Verdict}
+use Rattle.judge9.specs.declared.verdict.Verdict.TheVariants as verdict
 use Rattle.judge9.specs.declared.verdict.View.TheVariants as view
+use Rattle.judge9.specs.declared.why_verdict.WhyVerdict.{WhyVerdict}
 use Rattle.judge9.specs.RunVerdict.{HasItsRun, judged_of}
+use Rattle.judge9.specs.WhyVerdict.{HasItsWhy}
+use Rattle.judge9.specs.WhyVerdict.{judged_of as why_judged_of}
 use Rattle.judge9.specs.Working.{Judges}
 
 -- a tracker keeps exactly the states that the runs of these exchanges end in
@@ -42,8 +55,53 @@ pub record GoesBack (h : Hands) (X : State → Type 0) (es : List Exchange) (end
   pub is_end : last_state s after ≡ end
   pub put : new ≡ old ++ reverse after
 
+-- ---- the end of a judging
+
+-- the verdict of a judging whose trail has these exchanges
+abbrev pub verdict_at : List Exchange → Ending → Verdict
+verdict_at es (ending.End records tail) = verdict.Yes records (length es) tail
+verdict_at es (ending.Break at reason) = verdict.No at reason
+verdict_at es (ending.NoRun at) = verdict.No at NoRun
+
+-- the result with that verdict
+abbrev pub judged_at : List Exchange → Result Ending JudgeError → Result Verdict JudgeError
+judged_at es (Ok e) = Ok (verdict_at es e)
+judged_at es (Err e) = Err e
+
+-- at the end of the rows the trail leads to the tracker's states, of which there is one
+pub record Arrives (h : Hands) (rows : Rows) (es : List Exchange) (trackers : List Tracked) (t : Tracked) : Type 0 where
+  pub left : List LineByte
+  pub cut : Cut rows.records es left
+  pub trail : IsTrail h es trackers
+  pub follows : Follows h es t
+  pub some : (s : State) × Possible t.states s
+
+-- where no run remains the exchanges are those of the records up to the break, and have a run without the last
+pub record LosesItsRuns (h : Hands) (rows : Rows) (at : ℕ) (es : List Exchange) : Type 0 where
+  pub cut : Cut (take at rows.records) es []
+  pub breaks : BreaksAtLast h es
+  pub presets : All SetsInDay es
+
+-- what is kept of a judging, by where it ends
+abbrev pub EndsAt : Hands → Rows → List Exchange → List Tracked → Tracked → Ending → Type 0
+EndsAt h rows es trackers t (ending.End records tail) = Arrives h rows es trackers t
+EndsAt h rows es trackers t (ending.Break at reason) = reason ≢ NoRun
+EndsAt h rows es trackers t (ending.NoRun at) = LosesItsRuns h rows at es
+
+-- all that the result of a judging tells that keeps its trail
+pub record KeepsTrail (hands : Hands) (rows : Option Rows) (result : Result Ending JudgeError) (es : List Exchange) (trackers : List Tracked) (t : Tracked) : Type 0 where
+  pub judges : Judges view.Verdict hands rows (judged_at es result) None None
+  pub ends : IfOk result (EndsAt hands judges.told.rows es trackers t)
+  pub no_write : result ≢ Err error.Write
+
 -- all that the result of a judging with a run tells
 pub record JudgesRun (hands : Hands) (rows : Option Rows) (result : Result RunVerdict JudgeError) : Type 0 where
   pub judges : Judges view.Verdict hands rows (judged_of result) None None
   pub run : IfOk result (HasItsRun hands judges.told.rows)
+  pub no_write : result ≢ Err error.Write
+
+-- all that the result of a judging tells that says why no run remains
+pub record JudgesWhy (hands : Hands) (rows : Option Rows) (result : Result WhyVerdict JudgeError) : Type 0 where
+  pub judges : Judges view.Verdict hands rows (why_judged_of result) None None
+  pub why : IfOk result (HasItsWhy hands judges.told.rows)
   pub no_write : result ≢ Err error.Write

@@ -1,6 +1,6 @@
 //! What is known of the deck, put to the end of a line.
 ghost use Rattle.std.specs.Prelude.{◌≡◌, ◌++◌, OnOk, codes};
-ghost use Rattle.judge9.specs.Explanation.{text_of_knowledge, text_of_local, text_of_mode, text_of_panel, text_of_register, word_of};
+ghost use Rattle.judge9.specs.Explanation.{text_of_fields, text_of_knowledge, text_of_local, text_of_mode, text_of_panel, text_of_register, word_of};
 
 use crate::pieces::{put_text, put_word};
 use deck9::{Hands, Mode};
@@ -29,6 +29,17 @@ fn put_columns(line: &mut Vec<u8>, hands: Hands, knowledge: &Knowledge) -> Resul
 {
     put_word(line, "goal ", mode_word(&knowledge.goal))?;
     put_word(line, ", shown ", mode_word(&knowledge.shown))?;
+    put_fields(line, hands, knowledge)
+}
+
+/// Puts what is known of the registers, of local and, where hands are allowed, of the panel.
+pub(crate) fn put_fields(
+    line: &mut Vec<u8>,
+    hands: Hands,
+    knowledge: &Knowledge,
+) -> Result<(), AllocError>
+    ensures { OnOk result (line.new.items ≡ line.old.items ++ text_of_fields hands knowledge.now) }
+{
     put_register(line, ", in ", &knowledge.ins)?;
     put_register(line, ", out ", &knowledge.outs)?;
     put_word(line, ", local ", local_word(&knowledge.local))?;

@@ -1,6 +1,6 @@
 //! The line of an exchange with the state after it.
 ghost use Rattle.std.specs.Prelude.{◌≡◌, ◌++◌};
-ghost use Rattle.judge9.specs.Explanation.{text_of_knowledge, text_of_local, text_of_mode, text_of_panel, text_of_register};
+ghost use Rattle.judge9.specs.Explanation.{text_of_fields, text_of_knowledge, text_of_local, text_of_mode, text_of_panel, text_of_register};
 ghost use Rattle.judge9.specs.RunText.{known_entry, known_state, line_of_state};
 ghost use Rattle.judge9.specs.Working.{Writes};
 ghost use Rattle.track9.specs.declared.knowledge.Known.TheVariants as known;
@@ -32,6 +32,13 @@ fn write_columns<W: Write>(writer: &mut W, hands: Hands, state: &State) -> Resul
 {
     write_word(writer, "goal ", mode_word(state.goal))?;
     write_word(writer, ", shown ", mode_word(state.shown))?;
+    write_fields(writer, hands, state)
+}
+
+/// Writes the registers, local, and where hands are allowed the panel.
+fn write_fields<W: Write>(writer: &mut W, hands: Hands, state: &State) -> Result<(), WriteFault>
+    ensures { Writes (text_of_fields hands (known_state state.now)) result (W.contents writer.old) (W.contents writer.new) }
+{
     write_register(writer, ", in ", &state.ins)?;
     write_register(writer, ", out ", &state.outs)?;
     write_word(writer, ", local ", local_word(state.local))?;

@@ -17,8 +17,12 @@ pub(super) const PRESET_10: &str = "C 44 14 00 00 00 10 68 D 10 01 11";
 pub(super) const PRESET_LAST: &str = "C 44 14 24 59 59 23 51 D 10 01 11";
 
 pub(super) const REFUSED_11: &str = "C 44 14 00 00 00 11 69 D 11 12 01 24";
-/// IN ENTRY, acknowledged.
+/// IN ENTRY, IN FLAG RESET and IN RECALL, acknowledged.
 pub(super) const IN_ENTRY: &str = "C 40 10 50 D 10 01 11";
+
+pub(super) const IN_RESET: &str = "C 40 20 60 D 10 01 11";
+
+pub(super) const IN_RECALL: &str = "C 40 24 64 D 10 01 11";
 /// IN SHIFT + and IN SHIFT -, acknowledged.
 pub(super) const SHIFT_MORE: &str = "C 40 18 58 D 10 01 11";
 
@@ -58,8 +62,12 @@ pub(super) const AUDIO_PRESET_10: &str = "C 44 16 00 00 00 10 6A D 10 01 11";
 pub(super) const AUDIO_IN_10: &str = "C 60 12 72 D 74 12 00 00 00 10 96";
 
 pub(super) const AUDIO_IN_11: &str = "C 60 12 72 D 74 12 00 00 00 11 97";
-/// PLAY, FAST FORWARD, CUE UP WITH DATA 01:02:03:04, EJECT and a command that is not listed, acknowledged.
+/// STOP, PLAY, RECORD, FAST FORWARD, CUE UP WITH DATA 01:02:03:04, EJECT and a command that is not listed, acknowledged.
+pub(super) const STOP: &str = "C 20 00 20 D 10 01 11";
+
 pub(super) const PLAY: &str = "C 20 01 21 D 10 01 11";
+
+pub(super) const RECORD: &str = "C 20 02 22 D 10 01 11";
 
 pub(super) const FAST_FORWARD: &str = "C 20 10 30 D 10 01 11";
 
@@ -68,7 +76,13 @@ pub(super) const CUE_UP: &str = "C 24 31 04 03 02 01 5F D 10 01 11";
 pub(super) const EJECT: &str = "C 20 0F 2F D 10 01 11";
 
 pub(super) const UNLISTED: &str = "C 20 40 60 D 10 01 11";
-/// STATUS SENSE of the mode, answered as STOP, PLAY, REC, FF, REW, CUED and with no motion bit.
+/// IN ENTRY, IN SHIFT + and PLAY, not acknowledged.
+pub(super) const REFUSED_ENTRY: &str = "C 40 10 50 D 11 12 01 24";
+
+pub(super) const REFUSED_SHIFT: &str = "C 40 18 58 D 11 12 01 24";
+
+pub(super) const REFUSED_PLAY: &str = "C 20 01 21 D 11 12 01 24";
+/// STATUS SENSE of the mode, answered as STOP, PLAY, REC, FF, REW, CUED, with no motion bit and as no mode at all.
 pub(super) const SHOWS_STOP: &str = "C 61 20 12 93 D 72 20 20 00 B2";
 
 pub(super) const SHOWS_PLAY: &str = "C 61 20 12 93 D 72 20 01 00 93";
@@ -82,5 +96,7 @@ pub(super) const SHOWS_REW: &str = "C 61 20 12 93 D 72 20 08 00 9A";
 pub(super) const SHOWS_CUED: &str = "C 61 20 12 93 D 72 20 00 01 93";
 
 pub(super) const SHOWS_NOTHING: &str = "C 61 20 12 93 D 72 20 00 00 92";
+
+pub(super) const SHOWS_NO_MODE: &str = "C 61 20 12 93 D 72 20 02 20 B4";
 /// In a deck in remote FAST FORWARD and PLAY, each with the mode that is shown after it.
 pub(super) const WOUND_AND_PLAYED: [&str; 5] = [REMOTE, FAST_FORWARD, SHOWS_FF, PLAY, SHOWS_STOP];

@@ -25,6 +25,7 @@ fn played(rt: &impl Abort, alloc: Global) -> Result<RunVerdict, Fail> {
         block,
         reply: Block::from_bytes(&[0x10, 0x01, 0x11]).expect(rt, "a block"),
         delay_us: 400,
+        time_us: 400,
     };
     let state = State {
         goal: Mode::Play,

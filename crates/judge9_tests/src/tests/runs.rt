@@ -86,6 +86,7 @@ fn exchanges(alloc: Global, sent: &[Sent]) -> Result<Vec<Exchange>, AllocError> 
                 block,
                 reply,
                 delay_us,
+                time_us: 400,
             })?;
         }
     }

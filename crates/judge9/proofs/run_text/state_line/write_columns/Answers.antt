@@ -1,20 +1,17 @@
-use Rattle.std.proofs.Common.{ℕ, List, [], ◌∷◌, ◌++◌, codes, drop}
+use Rattle.std.proofs.Common.{List, [], ◌∷◌, ◌++◌, codes, drop, ℕ}
 use Rattle.std.proofs.KnownBytes.{Appends-trans}
 use Rattle.track9.specs.declared.knowledge.Known.TheVariants as known
 use Rattle.deck9.specs.declared.state.Hands.{Hands}
 use Rattle.deck9.specs.declared.state.State.{State}
-use Rattle.judge9.specs.Explanation.{text_of_knowledge, text_of_local, text_of_mode, text_of_panel, text_of_register}
-use Rattle.judge9.specs.RunText.{known_entry}
+use Rattle.judge9.specs.Explanation.{text_of_fields, text_of_knowledge, text_of_mode}
+use Rattle.judge9.specs.RunText.{known_state}
 use Rattle.judge9.proofs.LineSteps.{part_after}
 use Rattle.judge9.proofs.WriteLemmas.{begins, failed, piece_after}
 use Rattle.judge9.proofs.run_text.state_line.write_columns.Goals as goal
 
 -- the pieces after the first
 abbrev later : Hands → State → List (List ℕ)
-later hands s =
-    (codes ", shown " ++ text_of_mode (known.Is s.shown)) ∷ (codes ", in " ++ text_of_register (known_entry s.ins)) ∷
-    (codes ", out " ++ text_of_register (known_entry s.outs)) ∷ (codes ", local " ++ text_of_local (known.Is s.local)) ∷
-    (codes ", ain " ++ text_of_register (known_entry s.ains)) ∷ (codes ", aout " ++ text_of_register (known_entry s.aouts)) ∷ text_of_panel hands (known.Is s.panel) ∷ []
+later hands s = (codes ", shown " ++ text_of_mode (known.Is s.shown)) ∷ text_of_fields hands (known_state s) ∷ []
 
 pub returns-in_err-write_word : goal.returns-in_err-write_word
 unfolding text_of_knowledge
@@ -28,39 +25,9 @@ returns-in_err-write_word-2 g c =
     failed c.from_residual-in_err-write_word-2.result _ _ _ c.from_residual-in_err-write_word-2.ensures.0
     (begins _ _ _ (drop 1 (later c.args.hands c.args.state.now)) (part_after _ _ _ _ _ (rw c.mode_word.ensures at c.in_ok-write_word.ensures) (rw c.mode_word-2.ensures at c.in_err-write_word-2.ensures)))
 
-pub returns-in_err-write_register : goal.returns-in_err-write_register
-unfolding text_of_knowledge
-returns-in_err-write_register g c =
-    failed c.from_residual-in_err-write_register.result _ _ _ c.from_residual-in_err-write_register.ensures.0
-    (begins _ _ _ (drop 2 (later c.args.hands c.args.state.now)) (part_after _ _ _ _ _ (Appends-trans _ _ _ _ _ (rw c.mode_word.ensures at c.in_ok-write_word.ensures) (rw c.mode_word-2.ensures at c.in_ok-write_word-2.ensures)) c.in_err-write_register.ensures))
-
-pub returns-in_err-write_register-2 : goal.returns-in_err-write_register-2
-unfolding text_of_knowledge
-returns-in_err-write_register-2 g c =
-    failed c.from_residual-in_err-write_register-2.result _ _ _ c.from_residual-in_err-write_register-2.ensures.0
-    (begins _ _ _ (drop 3 (later c.args.hands c.args.state.now)) (part_after _ _ _ _ _ (Appends-trans _ _ _ _ _ (Appends-trans _ _ _ _ _ (rw c.mode_word.ensures at c.in_ok-write_word.ensures) (rw c.mode_word-2.ensures at c.in_ok-write_word-2.ensures)) c.in_ok-write_register.ensures) c.in_err-write_register-2.ensures))
-
-pub returns-in_err-write_word-3 : goal.returns-in_err-write_word-3
-unfolding text_of_knowledge
-returns-in_err-write_word-3 g c =
-    failed c.from_residual-in_err-write_word-3.result _ _ _ c.from_residual-in_err-write_word-3.ensures.0
-    (begins _ _ _ (drop 4 (later c.args.hands c.args.state.now)) (part_after _ _ _ _ _ (Appends-trans _ _ _ _ _ (Appends-trans _ _ _ _ _ (Appends-trans _ _ _ _ _ (rw c.mode_word.ensures at c.in_ok-write_word.ensures) (rw c.mode_word-2.ensures at c.in_ok-write_word-2.ensures)) c.in_ok-write_register.ensures) c.in_ok-write_register-2.ensures) (rw c.local_word.ensures at c.in_err-write_word-3.ensures)))
-
-pub returns-in_err-write_register-3 : goal.returns-in_err-write_register-3
-unfolding text_of_knowledge
-returns-in_err-write_register-3 g c =
-    failed c.from_residual-in_err-write_register-3.result _ _ _ c.from_residual-in_err-write_register-3.ensures.0
-    (begins _ _ _ (drop 5 (later c.args.hands c.args.state.now)) (part_after _ _ _ _ _ (Appends-trans _ _ _ _ _ (Appends-trans _ _ _ _ _ (Appends-trans _ _ _ _ _ (Appends-trans _ _ _ _ _ (rw c.mode_word.ensures at c.in_ok-write_word.ensures) (rw c.mode_word-2.ensures at c.in_ok-write_word-2.ensures)) c.in_ok-write_register.ensures) c.in_ok-write_register-2.ensures) (rw c.local_word.ensures at c.in_ok-write_word-3.ensures)) c.in_err-write_register-3.ensures))
-
-pub returns-in_err-write_register-4 : goal.returns-in_err-write_register-4
-unfolding text_of_knowledge
-returns-in_err-write_register-4 g c =
-    failed c.from_residual-in_err-write_register-4.result _ _ _ c.from_residual-in_err-write_register-4.ensures.0
-    (begins _ _ _ (drop 6 (later c.args.hands c.args.state.now)) (part_after _ _ _ _ _ (Appends-trans _ _ _ _ _ (Appends-trans _ _ _ _ _ (Appends-trans _ _ _ _ _ (Appends-trans _ _ _ _ _ (Appends-trans _ _ _ _ _ (rw c.mode_word.ensures at c.in_ok-write_word.ensures) (rw c.mode_word-2.ensures at c.in_ok-write_word-2.ensures)) c.in_ok-write_register.ensures) c.in_ok-write_register-2.ensures) (rw c.local_word.ensures at c.in_ok-write_word-3.ensures)) c.in_ok-write_register-3.ensures) c.in_err-write_register-4.ensures))
-
 pub returns : goal.returns
 unfolding text_of_knowledge
 returns g c =
-    piece_after c.write_panel.result _ _ _ _ _
-    (Appends-trans _ _ _ _ _ (Appends-trans _ _ _ _ _ (Appends-trans _ _ _ _ _ (Appends-trans _ _ _ _ _ (Appends-trans _ _ _ _ _ (Appends-trans _ _ _ _ _ (rw c.mode_word.ensures at c.in_ok-write_word.ensures) (rw c.mode_word-2.ensures at c.in_ok-write_word-2.ensures)) c.in_ok-write_register.ensures) c.in_ok-write_register-2.ensures) (rw c.local_word.ensures at c.in_ok-write_word-3.ensures)) c.in_ok-write_register-3.ensures) c.in_ok-write_register-4.ensures)
-    c.write_panel.ensures
+    piece_after c.write_fields.result _ _ _ _ _
+    (Appends-trans _ _ _ _ _ (rw c.mode_word.ensures at c.in_ok-write_word.ensures) (rw c.mode_word-2.ensures at c.in_ok-write_word-2.ensures))
+    c.write_fields.ensures

@@ -1,0 +1,66 @@
+-- What a result of a judging tells that says why no run remains: a verdict, and which replies contradict one another.
+use Rattle.std.specs.Prelude.{◌≡◌, ◌≢◌, ◌↔◌, ⊤, true, List, [], ◌∷◌, ◌++◌, take, Option, Result, Ok, Err}
+use Rattle.std.specs.Option.{IfNone, IfSome}
+use Rattle.std.specs.Result.{IfOk}
+use Rattle.capture9.specs.Rows.{Rows}
+use Rattle.capture9.specs.SomeText.{IsOfSomeText}
+use Rattle.block9.specs.declared.reason.Reason.TheVariants.{NoRun}
+use Rattle.block9.specs.declared.pairer.Exchange.{Exchange}
+use Rattle.block9.specs.Exchange.{Cut}
+use Rattle.deck9.specs.declared.mode.Mode.{Mode}
+use Rattle.deck9.specs.declared.state.Hands.{Hands}
+use Rattle.deck9.specs.declared.state.State.{State}
+use Rattle.deck9.specs.Drift.{Drift}
+use Rattle.deck9.specs.Run.{Ends}
+use Rattle.track9.specs.declared.knowledge.Knowledge.{Knowledge}
+use Rattle.track9.specs.declared.mode_set.ModeSet.{ModeSet}
+use Rattle.track9.specs.Knowledge.{IsKnowledge}
+use Rattle.track9.specs.ModeSet.{has}
+use Rattle.why9.specs.Contradiction.{IsContradiction}
+use Rattle.judge9.specs.declared.error.JudgeError.{JudgeError}
+use Rattle.judge9.specs.declared.verdict.Verdict.{Verdict}
+use Rattle.judge9.specs.declared.verdict.Verdict.TheVariants as verdict
+use Rattle.judge9.specs.declared.why_verdict.WhyVerdict.{WhyVerdict}
+use Rattle.judge9.specs.declared.why_verdict.WhyVerdict.TheVariants as why
+use Rattle.judge9.specs.Judging.{IsTheAnswer, answer_of}
+
+-- the verdict alone
+abbrev pub verdict_of : WhyVerdict → Verdict
+verdict_of (why.Yes records exchanges tail) = verdict.Yes records exchanges tail
+verdict_of (why.No at reason) = verdict.No at reason
+verdict_of (why.Contradiction at exchanges places known shown) = verdict.No at NoRun
+
+-- the result of a judging with the verdict alone
+abbrev pub judged_of : Result WhyVerdict JudgeError → Result Verdict JudgeError
+judged_of (Ok v) = Ok (verdict_of v)
+judged_of (Err e) = Err e
+
+-- after these exchanges and a drift the deck could be in this state
+abbrev pub CouldBe : Hands → List Exchange → State → Type 0
+CouldBe hands exchanges t = (s : State) × Ends hands exchanges s × Drift hands s t
+
+-- what was known of the deck when it gave the last of these replies, and the modes that it could then show
+pub record CouldShow (hands : Hands) (exchanges : List Exchange) (known : Knowledge) (shown : ModeSet) : Type 0 where
+  pub before : List Exchange
+  pub last : Exchange
+  pub split : exchanges ≡ before ++ last ∷ []
+  pub knows : IsKnowledge (CouldBe hands before) known
+  pub shows : (m : Mode) → (has shown.0 m ≡ true) ↔ ((s : State) × CouldBe hands before s × (s.shown ≡ m))
+
+-- where no run remains, the exchanges are those that the records up to the break are cut into, the replies at these
+-- places contradict one another, and this is what the deck could show before the last of them; a no without them has
+-- another reason
+abbrev pub HasItsWhy : Hands → Rows → WhyVerdict → Type 0
+HasItsWhy hands rows (why.Yes records exchanges tail) = ⊤
+HasItsWhy hands rows (why.No at reason) = reason ≢ NoRun
+HasItsWhy hands rows (why.Contradiction at exchanges places known shown) =
+    Cut (take at rows.records) exchanges.items [] × IsContradiction hands exchanges.items places.items × CouldShow hands exchanges.items known shown
+
+-- the rows that a judging speaks of, with its answer for them and why it is a no. The rows are those of the text, where
+-- the reader tells its bytes; else they are what it gave, and are those of some text
+pub record IsJudgedWhy (hands : Hands) (known : Option Rows) (result : Result WhyVerdict JudgeError) : Type 0 where
+  pub rows : Rows
+  pub is_known : IfSome known (λ all. rows ≡ all)
+  pub of_a_text : IfNone known (IsOfSomeText rows)
+  pub answer : IfSome (answer_of (judged_of result)) (IsTheAnswer hands rows)
+  pub why : IfOk result (HasItsWhy hands rows)

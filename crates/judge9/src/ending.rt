@@ -1,0 +1,27 @@
+//! How the rows of a capture end that are judged with a trail.
+
+use block9::Reason;
+
+/// Where the judging of all rows stopped, when it did so with a verdict.
+#[derive(Clone, Copy, Debug, PartialEq, Eq)]
+pub(crate) enum Ending {
+    /// The rows came to their end, and all records keep the rules.
+    End {
+        /// How many records there are.
+        records: u32,
+        /// How many records come after the last whole exchange.
+        tail: u32,
+    },
+    /// A record breaks a rule of blocks, pairing or timing.
+    Break {
+        /// The number of the record.
+        at: u32,
+        /// The rule.
+        reason: Reason,
+    },
+    /// A record ends an exchange after which no state of the deck remains. That exchange is the trail's last.
+    NoRun {
+        /// The number of the record.
+        at: u32,
+    },
+}

@@ -1,0 +1,109 @@
+//! Judges a capture, and where no run of the deck remains says which replies contradict one another.
+ghost use Rattle.std.specs.Prelude.{◌≡◌, ◌≢◌, ◌↔◌, IfSome, IfErr, option_map};
+ghost use Rattle.capture9.specs.declared.records.Standing.{Standing};
+ghost use Rattle.capture9.specs.Rows.{rows_of};
+ghost use Rattle.judge9.specs.Judging.{CanBeResult, IsTheAnswer, StoppedBefore, answer_of};
+ghost use Rattle.judge9.specs.WhyVerdict.{IsJudgedWhy, judged_of};
+ghost use Rattle.judge9.specs.Working.Trail.{JudgesWhy};
+ghost use Rattle.deck9.specs.declared.state.State.{State as AState};
+ghost use Rattle.deck9.specs.State.{IsFirst};
+ghost use Rattle.track9.specs.Tracker.{Possible};
+
+use crate::could_show::could_show;
+use crate::ending::Ending;
+use crate::error::JudgeError;
+use crate::trail::Trail;
+use crate::trail_judging::keep_trail;
+use crate::why_verdict::WhyVerdict;
+use capture9::{CaptureError, CaptureKind, Records};
+use deck9::Hands;
+use std::alloc::Global;
+use std::io::Read;
+use tc25::SpanSet;
+use track9::Tracker;
+use why9::contradicting;
+
+/// Judges the capture that the reader gives, as [`judge`](crate::judge) does, and where no run of the deck remains says
+/// which replies contradict one another: no deck can have given them together, whatever it answered to everything
+/// else.
+///
+/// The exchanges are those up to the record that breaks, and the replies are told by their places among these. The last
+/// is that of the exchange that breaks. Without any one of them the others do not contradict one another, and the first
+/// of them is as late as it can be: all the replies behind it do not. What a run may do where a reply is not believed is
+/// in `specs/Contradict.antt` of the crate `deck9`. Told with them is what was known of the deck when it gave the last of
+/// the replies, and which modes it could then show.
+///
+/// It writes nothing, and keeps all exchanges, and for each 256th what was possible before it. The search asks whether
+/// parts of the exchanges have a run, each time of a fresh tracker, and of no exchange before the first place in
+/// question.
+///
+/// Where the reader tells its bytes, the verdict, its counts and the refusals of the text are those that
+/// [`judge`](crate::judge) gives. Errors come as in [`judge_with_run`](crate::judge_with_run):
+///
+/// * `Err(Capture(e))` with a fault of the text exactly where e is the fault of its first bad row, or of the header,
+///   and all records before that row keep the rules; of the kind `Read` where the reader fails or is interrupted at
+///   row `e.row`.
+/// * `Err(OutOfMemory)` where a growth of memory is refused.
+pub fn judge_with_contradiction<R: Read + Drop>(
+    alloc: Global,
+    reader: R,
+    hands: Hands,
+) -> Result<WhyVerdict, JudgeError>
+    ensures answer { IfSome (R.remaining reader)
+        (λ text. IfSome (answer_of (judged_of result)) (IsTheAnswer hands (rows_of text))) }
+    ensures why { IsJudgedWhy hands (option_map rows_of (R.remaining reader)) result }
+    ensures stopped { IfSome (R.remaining reader)
+        (λ text. IfErr result (StoppedBefore hands (rows_of text))) }
+    ensures kind { (e : CaptureError) → result ≡ Err (JudgeError.Capture e)
+        → e.kind ≢ CaptureKind.OutOfMemory }
+    ensures write { result ≢ Err JudgeError.Write }
+    ensures can_be { CanBeResult (judged_of result) }
+{
+    let Ok(mut tracker) = Tracker::<SpanSet>::new(alloc, hands) else {
+        return Err(JudgeError::OutOfMemory);
+    };
+    let mut rows = Records::new(alloc, reader);
+    judge_rows(alloc, &mut rows, &mut tracker, hands)
+}
+
+/// Judges all the rows that are to come and finds the replies that contradict one another where no run remains.
+fn judge_rows<R: Read + Drop>(
+    alloc: Global,
+    rows: &mut Records<R>,
+    tracker: &mut Tracker<SpanSet>,
+    hands: Hands,
+) -> Result<WhyVerdict, JudgeError>
+    requires first { rows.old.given ≡ 0 }
+    requires fresh { rows.old.last_time ≡ 0 }
+    requires reading { rows.old.standing ≡ Standing.Reading }
+    requires states { (s : AState) → Possible tracker.old.states s ↔ IsFirst hands s }
+    requires hands { tracker.old.hands ≡ hands }
+    ensures { JudgesWhy hands rows.old.rows result }
+{
+    let mut trail = Trail::new(alloc);
+    match keep_trail(rows, tracker, &mut trail, hands) {
+        Ok(Ending::End { records, tail }) => Ok(WhyVerdict::Yes {
+            records,
+            exchanges: trail.into_exchanges().len() as u32,
+            tail,
+        }),
+        Ok(Ending::Break { at, reason }) => Ok(WhyVerdict::No { at, reason }),
+        Ok(Ending::NoRun { at }) => {
+            let exchanges = trail.into_exchanges();
+            let Ok(places) = contradicting(alloc, hands, &exchanges) else {
+                return Err(JudgeError::OutOfMemory);
+            };
+            let Ok((known, shown)) = could_show(alloc, hands, &exchanges) else {
+                return Err(JudgeError::OutOfMemory);
+            };
+            Ok(WhyVerdict::Contradiction {
+                at,
+                exchanges,
+                places,
+                known,
+                shown,
+            })
+        }
+        Err(e) => Err(e),
+    }
+}

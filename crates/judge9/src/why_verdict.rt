@@ -1,0 +1,39 @@
+//! What is answered to a capture where it is asked why no run of the deck remains.
+
+use block9::{Exchange, Reason};
+use track9::{Knowledge, ModeSet};
+
+/// The verdict on the records of a capture, and where no run remains the replies that contradict one another.
+#[derive(Debug, Drop, PartialEq, Eq)]
+pub enum WhyVerdict {
+    /// No row is bad, all records keep the rules, and some run of the deck gives exactly their replies.
+    Yes {
+        /// How many records there are.
+        records: u32,
+        /// How many whole exchanges they hold.
+        exchanges: u32,
+        /// How many records come after the last whole exchange, at most 35.
+        tail: u32,
+    },
+    /// A record breaks a rule of blocks, pairing or timing. Later rows were not judged, and may be bad.
+    No {
+        /// The number of the first record that does, counted from 1: its data row.
+        at: u32,
+        /// The rule that it breaks, and the first of them where it breaks several; never `Reason::NoRun`.
+        reason: Reason,
+    },
+    /// A record ends an exchange with which no run of the deck remains.
+    Contradiction {
+        /// The number of the record, counted from 1: its data row.
+        at: u32,
+        /// The exchanges up to this record, which is the last one's last.
+        exchanges: Vec<Exchange>,
+        /// The places in this list, counted from 0 and in ascending order, of replies that no deck can have given
+        /// together. The last of them is that of the last exchange.
+        places: Vec<usize>,
+        /// What was known of the deck when it gave the last reply, after the replies before it.
+        known: Knowledge,
+        /// The modes that it could then show.
+        shown: ModeSet,
+    },
+}

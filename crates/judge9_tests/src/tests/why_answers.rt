@@ -1,0 +1,219 @@
+//! The other answers where it is asked which replies contradict one another, and contradictions that are far apart.
+
+use super::contradicting::tell_text;
+use super::parts::*;
+use super::readers::Cut;
+use super::texts::{PLAYED_AND_BAD, PLAYED_AND_CUT};
+use super::{Tap, capture};
+use block9::Reason;
+use capture9::{CaptureError, CaptureKind};
+use deck9::Hands;
+use judge9::{JudgeError, WhyVerdict, judge_with_contradiction};
+use std::alloc::{AllocError, Global};
+use std::process::Abort;
+use std::test::Fail;
+
+/// How the exchanges of 28 records go on whose third reply breaks: nothing of it is judged.
+const GOES_ON: [&str; 4] = ["C 20 01 22", "D 10", IN_10, "C 60"];
+
+/// How many polls stand between the first replies and the last: 256 exchanges are a stretch of what is kept.
+const POLL_COUNTS: [usize; 7] = [0, 252, 253, 254, 255, 300, 600];
+
+/// What is answered to a capture of these blocks.
+fn answer(
+    rt: &impl Abort,
+    alloc: Global,
+    hands: Hands,
+    parts: &[&str],
+) -> Result<WhyVerdict, AllocError> {
+    let text = capture(alloc, parts)?;
+    Ok(judge_with_contradiction(alloc, text.as_bytes(), hands).expect(rt, "a verdict"))
+}
+
+/// The fault of a row.
+fn fault(kind: CaptureKind, row: u32) -> JudgeError {
+    JudgeError::Capture(CaptureError { kind, row })
+}
+
+/// A capture of some exchanges, so many polls of the mode, and other exchanges.
+fn polled(
+    alloc: Global,
+    before: &[&str],
+    count: usize,
+    behind: &[&str],
+) -> Result<String, AllocError> {
+    let mut tap = Tap::new(alloc)?;
+    for part in before {
+        tap.put(part)?;
+    }
+    for _ in 0..count {
+        tap.put(SHOWS_STOP)?;
+    }
+    for part in behind {
+        tap.put(part)?;
+    }
+    Ok(tap.text)
+}
+
+/// The number of a record that has so many polls of nine records and so many other records up to it.
+fn record(polls: usize, others: u32) -> u32 {
+    u32::try_from(polls)
+        .unwrap_or(u32::MAX)
+        .saturating_mul(9)
+        .saturating_add(others)
+}
+
+/// Tells a preset, so many polls, and a sense that does not fit.
+fn tell_preset(rt: &impl Abort, alloc: Global, polls: usize) -> Result<(), AllocError> {
+    let text = polled(alloc, &[REMOTE, PRESET_10], polls, &[IN_11])?;
+    let last = polls.saturating_add(2);
+    let places = [0, 1, last];
+    tell_text(
+        rt,
+        alloc,
+        text.as_str(),
+        Hands::None,
+        last.saturating_add(1),
+        (record(polls, 28), &places),
+    );
+    Ok(())
+}
+
+/// Tells a deck that is in local, and after so many polls is not.
+fn tell_local(rt: &impl Abort, alloc: Global, polls: usize) -> Result<(), AllocError> {
+    let text = polled(alloc, &[LOCAL], polls, &[REMOTE])?;
+    let last = polls.saturating_add(1);
+    let places = [0, last];
+    tell_text(
+        rt,
+        alloc,
+        text.as_str(),
+        Hands::None,
+        last.saturating_add(1),
+        (record(polls, 16), &places),
+    );
+    Ok(())
+}
+
+/// Tells the same as in `tell_preset`, behind all the polls.
+fn tell_late(rt: &impl Abort, alloc: Global, polls: usize) -> Result<(), AllocError> {
+    let text = polled(alloc, &[], polls, &[REMOTE, PRESET_10, IN_11])?;
+    let (preset, last) = (polls.saturating_add(1), polls.saturating_add(2));
+    let places = [polls, preset, last];
+    tell_text(
+        rt,
+        alloc,
+        text.as_str(),
+        Hands::None,
+        last.saturating_add(1),
+        (record(polls, 28), &places),
+    );
+    Ok(())
+}
+
+#[test]
+fn far_apart(rt: HostRuntime) -> Result<(), Fail> {
+    for polls in POLL_COUNTS {
+        tell_preset(&rt, rt.alloc(), polls)?;
+        tell_local(&rt, rt.alloc(), polls)?;
+        tell_late(&rt, rt.alloc(), polls)?;
+    }
+    Ok(())
+}
+
+#[test]
+fn a_yes_with_a_tail(rt: HostRuntime) -> Result<(), Fail> {
+    for (parts, records, exchanges, tail) in [
+        ("", 0, 0, 0),
+        ("C 20 01", 2, 0, 2),
+        ("C 20 01 21 D 10 01 11", 6, 1, 0),
+        ("C 20 01 21 D 10 01 11 C 60 10 70 D 74 10 FF", 12, 1, 6),
+    ] {
+        let yes = WhyVerdict::Yes {
+            records,
+            exchanges,
+            tail,
+        };
+        assert!(rt;
+            answer(&rt, rt.alloc(), Hands::None, &[parts])? == yes,
+            "{parts}"
+        );
+        assert!(rt;
+            answer(&rt, rt.alloc(), Hands::Allowed, &[parts])? == yes,
+            "{parts}"
+        );
+    }
+    Ok(())
+}
+
+#[test]
+fn a_no_for_another_reason(rt: HostRuntime) -> Result<(), Fail> {
+    for (parts, at, reason) in [
+        (&[PLAY, "C 20 01 22"], 9, Reason::WrongSum),
+        (&[PLAY, "D 10"], 7, Reason::ReplyWithoutCommand),
+        (&[IN_SET, "C 60 10 70 D 10 01 11"], 14, Reason::WrongReply),
+    ] {
+        let no = WhyVerdict::No { at, reason };
+        assert!(rt;
+            answer(&rt, rt.alloc(), Hands::None, parts)? == no,
+            "{parts:?}"
+        );
+    }
+    Ok(())
+}
+
+#[test]
+fn nothing_behind_the_break_is_judged(rt: HostRuntime) -> Result<(), Fail> {
+    let places = [0, 1, 2];
+    for more in GOES_ON {
+        let text = capture(rt.alloc(), &[REMOTE, PRESET_10, IN_11, more])?;
+        let expected = (28, places.as_slice());
+        tell_text(&rt, rt.alloc(), text.as_str(), Hands::None, 3, expected);
+    }
+    let mut text = capture(rt.alloc(), &[REMOTE, PRESET_10, IN_11])?;
+    text.push_str("not a row\n")?;
+    let expected = (28, places.as_slice());
+    tell_text(&rt, rt.alloc(), text.as_str(), Hands::None, 3, expected);
+    Ok(())
+}
+
+/// The command of each exchange begins 400 microseconds after the reply before it has ended.
+#[test]
+fn the_exchanges_up_to_the_break(rt: HostRuntime) -> Result<(), Fail> {
+    let answer = answer(&rt, rt.alloc(), Hands::None, &[REMOTE, PRESET_10, IN_11])?;
+    let WhyVerdict::Contradiction { exchanges, .. } = &answer else {
+        panic!(rt; "no contradiction");
+    };
+    let times: [u64; 3] = [400, 3_600, 7_600];
+    assert_eq!(rt; exchanges.len(), times.len());
+    for (exchange, time) in exchanges.iter().zip(times.iter()) {
+        assert_eq!(rt; (exchange.time_us, exchange.delay_us), (*time, 400));
+    }
+    Ok(())
+}
+
+#[test]
+fn a_bad_row(rt: HostRuntime) {
+    for hands in [Hands::None, Hands::Allowed] {
+        let answer = judge_with_contradiction(rt.alloc(), PLAYED_AND_BAD.as_bytes(), hands);
+        assert!(rt; answer == Err(fault(CaptureKind::Byte, 7)));
+    }
+    let answer = judge_with_contradiction(rt.alloc(), b"".as_slice(), Hands::None);
+    assert!(rt; answer == Err(fault(CaptureKind::Header, 0)));
+}
+
+/// The header has 18 bytes, the first two rows have 9 each, and the four after them 10 each.
+#[test]
+fn a_reader_that_fails(rt: HostRuntime) -> Result<(), Fail> {
+    for (given, row) in [(0, 0), (18, 1), (35, 2), (76, 7)] {
+        let reader = Cut::new(PLAYED_AND_CUT, given);
+        let answer = judge_with_contradiction(rt.alloc(), reader, Hands::None);
+        assert!(rt; answer == Err(fault(CaptureKind::Read, row)), "{given}");
+    }
+    // One that fails behind the break is not asked for more.
+    let text = capture(rt.alloc(), &[REMOTE, PRESET_10, IN_11])?;
+    let reader = Cut::new(text.as_str(), text.len());
+    let answer = judge_with_contradiction(rt.alloc(), reader, Hands::None);
+    assert!(rt; matches!(answer, Ok(WhyVerdict::Contradiction { at: 28, .. })));
+    Ok(())
+}
