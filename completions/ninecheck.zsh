@@ -5,6 +5,7 @@ verbs=(
     'check:the verdict'
     'explain:a line for each exchange, and the verdict'
     'run:one run of the deck, and the verdict'
+    'why:the replies that contradict one another, and the verdict'
     'help:what can be asked for'
 )
 if (( CURRENT == 2 )); then
@@ -16,7 +17,7 @@ if (( CURRENT == 2 )); then
     return
 fi
 case $words[2] in
-    check | explain | run)
+    check | explain | run | why)
         shift words
         (( CURRENT-- ))
         _arguments \

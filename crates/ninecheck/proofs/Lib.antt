@@ -1,3 +1,4 @@
 mod BufferLemmas
 mod ProgramLemmas
 mod VersionLemmas
+mod WhyLemmas

@@ -29,7 +29,7 @@ use Rattle.ninecheck.specs.declared.ending.Message.TheVariants as message
 use Rattle.ninecheck.specs.declared.ending.Outcome.{Outcome}
 use Rattle.ninecheck.specs.declared.ending.WhyUnopened.{WhyUnopened}
 use Rattle.ninecheck.specs.declared.ending.WhyUnopened.TheVariants as why
-use Rattle.ninecheck.specs.Judging.{EndsAs, TellsRun}
+use Rattle.ninecheck.specs.Judging.{EndsAs, TellsRun, TellsWhy}
 use Rattle.ninecheck.specs.Outcome.{outcome_of}
 use Rattle.ninecheck.specs.Version.{TellsVersion}
 
@@ -54,11 +54,13 @@ outcome_of_kind file k = record { status = 4; message = message.CannotOpen (reco
 abbrev pub outcome_unopened : Option (String Global) → Error → Outcome
 outcome_unopened file e = outcome_of_kind file (error_kind e)
 
--- what a judging with this verb tells: `check` the verdict, `explain` each exchange before it, `run` a run of the deck
+-- what a judging with this verb tells: `check` the verdict, `explain` each exchange before it, `run` a run of the deck,
+-- `why` the replies that contradict one another
 abbrev pub TellsFor : Verb → Hands → Option Rows → Option (List ℕ) → Result Verdict JudgeError → Option (List ℕ) → Type 0
 TellsFor verb.Check hands known old judged all = Told view.Verdict hands known judged old all
 TellsFor verb.Explain hands known old judged all = Told view.Explain hands known judged old all
 TellsFor verb.Run hands known old judged all = TellsRun hands known old judged all
+TellsFor verb.Why hands known old judged all = TellsWhy hands known old judged all
 
 -- a capture, whose text is given where it is known, was judged with this verb and these hands: the result, and what the
 -- writer holds before and after

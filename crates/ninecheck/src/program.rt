@@ -6,7 +6,7 @@ ghost use Rattle.ninecheck.specs.Program.{EndsProgram, EndsTask, EndsWithout, Is
 
 use crate::buffered::Buffered;
 use crate::ending::{End, Message, Outcome, Unopened, WhyUnopened};
-use crate::judging::{judge_and_flush, judge_with_run_and_flush};
+use crate::judging::{judge_and_flush, judge_with_run_and_flush, judge_with_why_and_flush};
 use crate::status::outcome;
 use crate::version::tell_version;
 use deck9::Hands;
@@ -128,5 +128,6 @@ fn judge_for<R: Read + Drop, W: Write + Drop>(
         Verb::Check => judge_and_flush(alloc, reader, out, View::Verdict, hands),
         Verb::Explain => judge_and_flush(alloc, reader, out, View::Explain, hands),
         Verb::Run => judge_with_run_and_flush(alloc, reader, out, hands),
+        Verb::Why => judge_with_why_and_flush(alloc, reader, out, hands),
     }
 }

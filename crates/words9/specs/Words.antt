@@ -23,6 +23,7 @@ abbrev pub name_of : Verb → Text
 name_of verb.Check = codes "check"
 name_of verb.Explain = codes "explain"
 name_of verb.Run = codes "run"
+name_of verb.Why = codes "why"
 
 -- the subcommand of a verb: its word, and then the file and the option
 abbrev pub app_for : Verb → App
@@ -34,7 +35,9 @@ top = record (new_app (codes "ninecheck")) { top = record (new_app (codes "ninec
 
 -- the program with its subcommands
 abbrev pub program : App
-program = with_subcommand (with_subcommand (with_subcommand top (app_for verb.Check).top) (app_for verb.Explain).top) (app_for verb.Run).top
+program =
+    with_subcommand (with_subcommand (with_subcommand (with_subcommand top (app_for verb.Check).top) (app_for verb.Explain).top) (app_for verb.Run).top)
+    (app_for verb.Why).top
 
 -- the program takes the words: they name this verb, and what stands beside it are these rows
 abbrev pub Names : List Text → Verb → List Row → Type 0

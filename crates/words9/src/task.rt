@@ -15,6 +15,8 @@ pub enum Verb {
     Explain,
     /// Hand out a run of the deck before the verdict: the subcommand `run`.
     Run,
+    /// Say which replies contradict one another before the verdict: the subcommand `why`.
+    Why,
 }
 
 /// What the words of the command line ask for.

@@ -28,7 +28,8 @@ fn whole<'a>(alloc: Global) -> Result<Command<'a>, AllocError>
 {
     let command = with_verb(alloc, above(alloc)?, Verb::Check)?;
     let command = with_verb(alloc, command, Verb::Explain)?;
-    with_verb(alloc, command, Verb::Run)
+    let command = with_verb(alloc, command, Verb::Run)?;
+    with_verb(alloc, command, Verb::Why)
 }
 
 /// A command with the subcommand of a verb.
@@ -76,6 +77,7 @@ fn name_of<'a>(verb: Verb) -> &'a str
         Verb::Check => "check",
         Verb::Explain => "explain",
         Verb::Run => "run",
+        Verb::Why => "why",
     }
 }
 
@@ -88,5 +90,7 @@ fn about<'a>(verb: Verb) -> &'a str {
             "The same, with a line for each exchange before it: command, reply, and what is known of the deck",
         Verb::Run =>
             "Hand out one run of the deck that explains the replies: the deck's state after each exchange",
+        Verb::Why =>
+            "Say, where no run of the deck explains the replies, which of them contradict one another",
     }
 }

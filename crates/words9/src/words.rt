@@ -14,7 +14,7 @@ use std::alloc::{AllocError, Global};
 
 /// The task that these words give: those of the command line after the program's own name.
 ///
-/// The words are `check`, `explain` or `run`, and with it at most one file and, before or after the file, at most once
+/// The words are `check`, `explain`, `run` or `why`, and with it at most one file and, before or after the file, at most once
 /// `--hands`; or they are `--version` or `-V`. What they may look like beside this is `clap`'s own definition.
 ///
 /// * `Ok(task)` only where the definition takes the words. The task has the subcommand, the file and the option
@@ -75,6 +75,8 @@ fn verb_of(name: &str) -> Option<Verb>
         Some(Verb::Explain)
     } else if name == "run" {
         Some(Verb::Run)
+    } else if name == "why" {
+        Some(Verb::Why)
     } else {
         None
     }

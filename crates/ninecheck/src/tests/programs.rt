@@ -65,7 +65,7 @@ fn the_task_of_the_words_is_carried_out(rt: HostRuntime) {
         "yes: records 16, exchanges 2, open 0\n",
         "no at record 16: M1 no run remains\n",
     );
-    let table: [(&[&str], u8, &str, &str); 9] = [
+    let table: [(&[&str], u8, &str, &str); 12] = [
         (&["check"], 0, YES, YES),
         (&["check", "--hands"], 0, YES, YES),
         (&["check", "switched.csv"], 1, no, no),
@@ -90,6 +90,9 @@ fn the_task_of_the_words_is_carried_out(rt: HostRuntime) {
             "record 8: goal ",
             yes,
         ),
+        (&["why"], 0, YES, YES),
+        (&["why", "switched.csv"], 1, "records 1 to 8 at ", no),
+        (&["why", "--hands", "switched.csv"], 0, yes, yes),
     ];
     for (words, status, start, last) in &table {
         let (end, writer) = end_on(&rt, *words, Narrow::new(rt.alloc(), usize::MAX));
@@ -140,7 +143,7 @@ fn a_file_that_is_not_opened(rt: HostRuntime) {
         ("loop", WhyUnopened::FilesystemLoop),
         ("busy", WhyUnopened::Other),
     ];
-    for verb in ["check", "explain", "run"] {
+    for verb in ["check", "explain", "run", "why"] {
         for (name, why) in &table {
             let (end, writer) = end_on(&rt, &[verb, *name], Narrow::new(rt.alloc(), usize::MAX));
             let file = Some(String::from_str(rt.alloc(), *name).expect(&rt, "memory"));
@@ -173,7 +176,7 @@ fn the_version_is_told(rt: HostRuntime) {
 
 #[test]
 fn a_writer_that_fails(rt: HostRuntime) {
-    for verb in ["check", "explain", "run"] {
+    for verb in ["check", "explain", "run", "why"] {
         let (end, writer) = end_on(&rt, &[verb], Narrow::new(rt.alloc(), 4));
         assert!(rt; is_told(&end, 4, Message::WriteFault));
         assert_eq!(rt;

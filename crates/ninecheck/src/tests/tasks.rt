@@ -95,6 +95,16 @@ fn words_that_are_a_command(rt: HostRuntime) {
             allowed
         )
     );
+    assert!(rt; asks(alloc, &["why"], Verb::Why, None, none));
+    assert!(rt;
+        asks(
+            alloc,
+            &["why", "--hands", "f.csv"],
+            Verb::Why,
+            Some("f.csv"),
+            allowed
+        )
+    );
     assert!(rt; asks(alloc, &["check", "-"], check, Some("-"), none));
     assert!(rt; asks(alloc, &["check", "check"], check, Some("check"), none));
     assert!(rt; asks(alloc, &["check", "help"], check, Some("help"), none));
@@ -114,6 +124,7 @@ fn words_that_are_none(rt: HostRuntime) {
     assert!(rt; are_refused(alloc, &["--hands", "check"]));
     assert!(rt; are_refused(alloc, &["runs"]));
     assert!(rt; are_refused(alloc, &["run", "a", "b"]));
+    assert!(rt; are_refused(alloc, &["why", "a", "b"]));
     assert!(rt; are_refused(alloc, &["check", "a", "b"]));
     assert!(rt; are_refused(alloc, &["check", "--hands", "--hands"]));
     assert!(rt; are_refused(alloc, &["check", "--hands=yes"]));
