@@ -53,10 +53,10 @@ is_said_of_first() {
 }
 
 # is_read_fault: the program ended with the read that failed, at some row of the text, and wrote no verdict, and of a
-# run nothing.
+# run or of why nothing.
 is_read_fault() {
     [ "$status" = 4 ] && [[ $(head -n 1 "$work/err") =~ ^'read fault at row '[0-9]+$ ]] && is_said_of_first && [ "$reads" = "$at" ] &&
-        has_begun && ! grep -q '^yes\|^no' "$work/out" && { [ "$verb" != run ] || [ ! -s "$work/out" ]; }
+        has_begun && ! grep -q '^yes\|^no' "$work/out" && { [[ $verb != run && $verb != why ]] || [ ! -s "$work/out" ]; }
 }
 
 # try VERB FILE CALL HOW CONDITION: each such call failing in turn, with what has to hold then.
@@ -84,7 +84,7 @@ try() {
     echo "$verb $(basename "$file"): right with each of $count calls of $call: $how"
 }
 
-for verb in check explain run; do
+for verb in check explain run why; do
     for file in examples/play.csv "$work/long.csv"; do
         for how in EIO EINTR ENOSPC zero; do
             try "$verb" "$file" write "$how" is_write_fault

@@ -61,13 +61,13 @@ refuses() {
 out_of_memory=$(both_lines 'out of memory')
 
 # is_answer WORDS...: the program did what is right, or told that it is out of memory and wrote a first part of what is
-# right; of a run it writes nothing then.
+# right; of a run or of why it writes nothing then.
 is_answer() {
     if [ "$status" = "$right" ]; then
         cmp -s "$work/out" "$work/right_out" && cmp -s "$work/err" "$work/right_err"
     else
         [ "$status" = 5 ] && [ "$(cat "$work/err")" = "$out_of_memory" ] &&
-            { [ "$1" != run ] || [ ! -s "$work/out" ]; } &&
+            { [[ $1 != run && $1 != why ]] || [ ! -s "$work/out" ]; } &&
             cmp -s -n "$(wc -c < "$work/out")" "$work/out" "$work/right_out"
     fi
 }
@@ -140,6 +140,9 @@ try_words 0 run examples/fast-forward.csv
 try_words 0 run --hands
 try_words 1 run examples/disputed-in-point.csv
 try_words 3 run examples/bad-byte.csv
+try_words 0 why examples/fast-forward.csv
+try_words 1 why examples/disputed-in-point.csv
+try_words 3 why examples/bad-byte.csv
 
 # PLAY and its reply once more than a stretch of a run's way back has exchanges.
 {
@@ -175,6 +178,8 @@ try_blocks 0 run "$local_at_10 C 40 18 58 $ack C 40 18 58 $ack C 40 18 58 $ack C
 moved="$remote C 44 14 00 00 00 10 68 $ack C 60 10 70 D 74 10 00 00 00 11 95"
 try_blocks 1 run "$moved"
 try_blocks 0 'run --hands' "$moved"
+try_blocks 1 why "$moved"
+try_blocks 0 'why --hands' "$moved"
 
 echo "$passed passed, $failed failed"
 [ "$failed" = 0 ]

@@ -125,7 +125,7 @@ complete_words() {
 complete_words ninecheck e
 expect 'a verb is completed' 0 'explain' ''
 complete_words ninecheck ''
-expect 'verbs are offered' 0 'check explain run help --help --version' ''
+expect 'verbs are offered' 0 'check explain run why help --help --version' ''
 complete_words ninecheck run --
 expect 'options are offered' 0 '--hands --help' ''
 complete_words ninecheck check examples/play

@@ -210,6 +210,24 @@ expect 'run with a file that has a bad row' 3 '' "$(both_lines 'unreadable at ro
 run run < examples/wrong-header.csv
 expect 'run of a text that is no capture' 3 '' "$(both_lines 'unreadable at row 0: header')"
 
+# why ends so too (tests/why.sh has the lines of a contradiction).
+run why examples/play.csv < /dev/null
+expect 'why with a file' 0 "$yes" ''
+run why --hands examples/play.csv < /dev/null
+expect 'why with the option before the file' 0 "$yes" ''
+run why examples/play.csv --hands < /dev/null
+expect 'why with the option behind the file' 0 "$yes" ''
+run why < examples/play.csv
+expect 'why on standard input' 0 "$yes" ''
+run why < examples/second-reply.csv
+expect 'why of a capture that breaks a rule' 1 'no at record 7: P1 reply without a command' ''
+run why examples/disputed-in-point.csv < /dev/null
+explained 'why with a file of which no run remains' 1 'no at record 28: M1 no run remains' ''
+run why examples/bad-byte.csv < /dev/null
+expect 'why with a file that has a bad row' 3 '' "$(both_lines 'unreadable at row 7: byte')"
+run why < examples/wrong-header.csv
+expect 'why of a text that is no capture' 3 '' "$(both_lines 'unreadable at row 0: header')"
+
 # Words that are no command, and words that ask for help: status 2, and a line that the text on this stream has.
 while IFS='|' read -r stream words line; do
     run $words < examples/play.csv
@@ -226,6 +244,10 @@ err|runs|  tip: a similar subcommand exists: 'run'
 err|check a b|error: unexpected argument 'b' found
 err|run a b|error: unexpected argument 'b' found
 err|run --hands --hands|error: the argument '--hands' cannot be used multiple times
+err|why a b|error: unexpected argument 'b' found
+err|why --hands --hands|error: the argument '--hands' cannot be used multiple times
+err|--hands why|error: unexpected argument '--hands' found
+err|why -V|error: unexpected argument '-V' found
 err|run --hand|  tip: a similar argument exists: '--hands'
 err|--hands run|error: unexpected argument '--hands' found
 err|check --hands --hands|error: the argument '--hands' cannot be used multiple times
@@ -247,12 +269,14 @@ out|explain -h|Usage: ninecheck explain [OPTIONS] [FILE]
 out|help explain|Usage: ninecheck explain [OPTIONS] [FILE]
 out|run --help|Usage: ninecheck run [OPTIONS] [FILE]
 out|help run|Usage: ninecheck run [OPTIONS] [FILE]
+out|why --help|Usage: ninecheck why [OPTIONS] [FILE]
+out|help why|Usage: ninecheck why [OPTIONS] [FILE]
 END
 run --help < /dev/null
 sed -n '/^Commands:/,/^$/s/^  \([a-z]*\) .*/\1/p' "$work/out" | tr '\n' ' ' > "$work/text"
 judged=$(cat "$work/text")
 echo "$judged" > "$work/out"
-expect 'the subcommands that the help lists' 2 'check explain run help ' ''
+expect 'the subcommands that the help lists' 2 'check explain run why help ' ''
 run "$(printf '\377')" < examples/play.csv
 expect 'a word that is not UTF-8' 2 '' 'error: a word of the command line is not UTF-8
 give a file of such a name as standard input: ninecheck check < FILE'
@@ -312,6 +336,12 @@ expect 'run of a directory' 4 '' 'read fault at row 0
 run run "$work/absent.csv" < examples/play.csv
 expect 'run of an absent file' 4 '' "cannot open
 $work/absent.csv: No such file or directory"
+run why . < examples/play.csv
+expect 'why of a directory' 4 '' 'read fault at row 0
+.: Is a directory'
+run why "$work/absent.csv" < examples/play.csv
+expect 'why of an absent file' 4 '' "cannot open
+$work/absent.csv: No such file or directory"
 
 # Streams that fail.
 run_on .
@@ -322,7 +352,7 @@ expect 'a directory as input' 4 '' "$(both_lines 'read fault at row 0')"
 )
 status=$?
 expect 'a row without end' 5 '' "$(both_lines 'out of memory')"
-for verb in check run; do
+for verb in check run why; do
     "$program" $verb < examples/play.csv > /dev/full 2> "$work/err"
     status=$?
     : > "$work/out"

@@ -21,6 +21,7 @@ import sys
 PARTS = [
     [("judge9", "judge")],
     [("judge9", "judge_with_run"), ("deck9", "is_run"), ("judge9", "write_run")],
+    [("judge9", "judge_with_contradiction"), ("judge9", "write_why")],
     [("ninecheck", "run_program"), ("ninecheck", "End::status"), ("ninecheck", "Message::fmt")],
 ]
 PAGE, SECTION = "docs/ARCHITECTURE.md", "## What the theorem says"

@@ -1,0 +1,151 @@
+#!/usr/bin/env bash
+# Runs the built program's `why`: the lines of the replies that contradict one another, the line of what the deck could
+# show, and the line of the verdict. The last line is 'N passed, M failed'.
+set -u
+cd "$(dirname "$0")/.." || exit 1
+program=${NINECHECK:-$PWD/crates/ninecheck/out/ninecheck}
+. tests/lib/errors.sh
+
+work=$(mktemp -d)
+trap 'rm -rf "$work"' EXIT
+passed=0
+failed=0
+
+# What stands for blocks: an acknowledgement; a status reply that the deck is not in local; a preset of IN to 10:00:00:00;
+# a sense of IN that answers 11:00:00:00.
+ack='D 10 01 11'
+remote='C 61 20 01 82 D 71 20 00 91'
+preset="C 44 14 00 00 00 10 68 $ack"
+sensed_at_11='C 60 10 70 D 74 10 00 00 00 11 95'
+
+# capture_of RECORDS: makes $work/capture.csv of records 400 microseconds apart: wire letters, each before the bytes
+# that it brings.
+capture_of() {
+    {
+        echo 'time_us,wire,byte'
+        echo "$1" | tr -s ' ' '\n' |
+            awk '/^$/ { next } /^[CD]$/ { wire = $0; next } { time += 400; print time "," wire "," $0 }'
+    } > "$work/capture.csv"
+}
+
+# why FILE [WORDS...]: the program's why of this capture. Its text is left in $work/out.
+why() {
+    "$program" why "$@" > "$work/out" 2> "$work/err" < /dev/null
+    status=$?
+}
+
+# judge NAME CONDITION...: counts whether this command succeeds.
+judge() {
+    local name=$1
+    shift
+    if "$@"; then
+        passed=$((passed + 1))
+    else
+        failed=$((failed + 1))
+        echo "FAILED $name: status $status"
+        head -n 12 "$work/out" "$work/err"
+    fi
+}
+
+# is_text STATUS TEXT ERROR: the whole text and the whole of standard error, each without its last line feed.
+is_text() {
+    : > "$work/want"
+    : > "$work/want_err"
+    [ -z "$2" ] || printf '%s\n' "$2" > "$work/want"
+    [ -z "$3" ] || printf '%s\n' "$3" > "$work/want_err"
+    [ "$status" = "$1" ] && cmp -s "$work/out" "$work/want" && cmp -s "$work/err" "$work/want_err"
+}
+
+# is_why STATUS VERDICT ERROR: the text ends with this verdict, and has more lines before it where no run remains.
+is_why() {
+    case "$2" in
+        *': M1 '*)
+            [ "$status" = "$1" ] && [ ! -s "$work/err" ] && [ "$(tail -n 1 "$work/out")" = "$2" ] &&
+                sed '$d' "$work/out" | tail -n 1 | grep -qE '^could show: shown ' &&
+                sed '$d' "$work/out" | sed '$d' | grep -qE '^records [0-9]+ to [0-9]+ at [0-9]+: ' &&
+                ! sed '$d' "$work/out" | sed '$d' | grep -qvE '^records [0-9]+ to [0-9]+ at [0-9]+: .* -> '
+            ;;
+        *) is_text "$@" ;;
+    esac
+}
+
+# The examples: the verdict's line alone, or nothing, and lines before it where no run remains.
+while IFS='|' read -r file want_status want_out want_err; do
+    case "$file" in '#'* | '') continue ;; esac
+    why "examples/$file"
+    judge "examples/$file" is_why "$want_status" "$want_out" "$(both_lines "$want_err")"
+    "$program" check --hands "examples/$file" > "$work/checked" 2> "$work/checked_err"
+    want_status=$?
+    why --hands "examples/$file"
+    judge "examples/$file with hands" is_why "$want_status" "$(cat "$work/checked")" "$(cat "$work/checked_err")"
+done < examples/ANSWERS
+
+# The dispute: three replies that no deck can have given together, unless a hand moved the point.
+capture_of "$remote $preset $sensed_at_11"
+why "$work/capture.csv"
+judge 'the dispute' is_text 1 'records 1 to 8 at 400: STATUS SENSE 61 20 01 82 -> 71 20 00 91, says local no
+records 9 to 18 at 3600: IN DATA PRESET 10:00:00:00 44 14 00 00 00 10 68 -> 10 01 11
+records 19 to 28 at 7600: IN DATA SENSE 60 10 70 -> 11:00:00:00 74 10 00 00 00 11 95
+could show: shown any, in 10:00:00:00, out unknown, local no, ain unknown, aout unknown
+no at record 28: M1 no run remains' ''
+why --hands "$work/capture.csv"
+judge 'the dispute with hands' is_text 0 'yes: records 28, exchanges 3, open 0' ''
+why "$work/capture.csv" --hands
+judge 'the dispute with hands, behind the file' is_text 0 'yes: records 28, exchanges 3, open 0' ''
+
+# What contradicts nothing has no line: PLAY, before the three and between them. What follows the break is not judged.
+capture_of "C 20 01 21 $ack $remote C 20 01 21 $ack $preset $sensed_at_11 C 20 01 22"
+why "$work/capture.csv"
+judge 'the dispute among others, the records' \
+    [ "$(sed -n 's/^records \([0-9]* to [0-9]*\) .*/\1/p' "$work/out" | tr '\n' ',')" = '7 to 14,21 to 30,31 to 40,' ]
+judge 'the dispute among others, the verdict' [ "$(tail -n 1 "$work/out")" = 'no at record 40: M1 no run remains' ]
+judge 'the dispute among others, the status' [ "$status" = 1 ]
+
+# The program reads standard input where there is no file.
+capture_of "$remote $preset $sensed_at_11"
+"$program" why < "$work/capture.csv" > "$work/out" 2> "$work/err"
+status=$?
+judge 'the dispute on standard input' is_why 1 'no at record 28: M1 no run remains' ''
+
+# A yes and a break of blocks, pairing or timing: the verdict's line alone.
+capture_of ''
+why "$work/capture.csv"
+judge 'no record' is_text 0 'yes: records 0, exchanges 0, open 0' ''
+capture_of 'C 20 01'
+why "$work/capture.csv" --hands
+judge 'an open command' is_text 0 'yes: records 2, exchanges 0, open 2' ''
+capture_of "C 20 01 21 $ack C 20 01 22"
+why "$work/capture.csv"
+judge 'a wrong sum after an exchange' is_text 1 'no at record 9: B2 wrong sum' ''
+capture_of "C 20 01 21 $ack $ack"
+why "$work/capture.csv"
+judge 'a reply without a command' is_text 1 'no at record 7: P1 reply without a command' ''
+
+# A bad row, also after an exchange: nothing is written. Behind the record that breaks no row is looked at.
+capture_of "C 20 01 21 $ack"
+echo '2800,C,G1' >> "$work/capture.csv"
+why "$work/capture.csv"
+judge 'a bad row' is_text 3 '' "$(both_lines 'unreadable at row 7: byte')"
+why "$work/capture.csv" --hands
+judge 'a bad row, with hands' is_text 3 '' "$(both_lines 'unreadable at row 7: byte')"
+capture_of "$remote $preset $sensed_at_11"
+echo '12000,C,G1' >> "$work/capture.csv"
+why "$work/capture.csv"
+judge 'a bad row behind the break' is_why 1 'no at record 28: M1 no run remains' ''
+
+# A pipe that is closed before the text is written ends the program, with two lines on standard error.
+capture_of "$remote $preset $sensed_at_11"
+{
+    sleep 1
+    "$program" why "$work/capture.csv" 2> "$work/err"
+    echo $? > "$work/status"
+} | true
+status=$(cat "$work/status")
+: > "$work/out"
+judge 'a closed pipe' is_text 4 '' "$(both_lines 'write fault')"
+"$program" why "$work/capture.csv" > /dev/full 2> "$work/err"
+status=$?
+judge 'a full device' is_text 4 '' "$(both_lines 'write fault')"
+
+echo "$passed passed, $failed failed"
+[ "$failed" = 0 ]
