@@ -5,6 +5,7 @@ set -u
 cd "$(dirname "$0")/.." || exit 1
 program=${NINECHECK:-$PWD/crates/ninecheck/out/ninecheck}
 . tests/lib/errors.sh
+. tests/lib/blocks.sh
 
 work=$(mktemp -d)
 trap 'rm -rf "$work"' EXIT
@@ -31,42 +32,10 @@ line_form() {
 }
 any_line=$(line_form '[0-9]+' "$mode" "$mode" "$register" "$register" '(yes|no)')
 
-# capture_of RECORDS: makes $work/capture.csv of records 400 microseconds apart: wire letters, each before the bytes
-# that it brings.
-capture_of() {
-    {
-        echo 'time_us,wire,byte'
-        echo "$1" | tr -s ' ' '\n' |
-            awk '/^$/ { next } /^[CD]$/ { wire = $0; next } { time += 400; print time "," wire "," $0 }'
-    } > "$work/capture.csv"
-}
-
 # run FILE [WORDS...]: the program's run on this capture. Its text is left in $work/out.
 run() {
     "$program" run "$@" > "$work/out" 2> "$work/err" < /dev/null
     status=$?
-}
-
-# judge NAME CONDITION...: counts whether this command succeeds.
-judge() {
-    local name=$1
-    shift
-    if "$@"; then
-        passed=$((passed + 1))
-    else
-        failed=$((failed + 1))
-        echo "FAILED $name: status $status"
-        head -n 12 "$work/out" "$work/err"
-    fi
-}
-
-# is_text STATUS TEXT ERROR: the whole text and the whole of standard error, each without its last line feed.
-is_text() {
-    : > "$work/want"
-    : > "$work/want_err"
-    [ -z "$2" ] || printf '%s\n' "$2" > "$work/want"
-    [ -z "$3" ] || printf '%s\n' "$3" > "$work/want_err"
-    [ "$status" = "$1" ] && cmp -s "$work/out" "$work/want" && cmp -s "$work/err" "$work/want_err"
 }
 
 # has_line N FORM: line N of the text has this form.

@@ -5,6 +5,7 @@ set -u
 cd "$(dirname "$0")/.." || exit 1
 program=${NINECHECK:-$PWD/crates/ninecheck/out/ninecheck}
 . tests/lib/errors.sh
+. tests/lib/blocks.sh
 
 work=$(mktemp -d)
 trap 'rm -rf "$work"' EXIT
@@ -18,42 +19,10 @@ remote='C 61 20 01 82 D 71 20 00 91'
 preset="C 44 14 00 00 00 10 68 $ack"
 sensed_at_11='C 60 10 70 D 74 10 00 00 00 11 95'
 
-# capture_of RECORDS: makes $work/capture.csv of records 400 microseconds apart: wire letters, each before the bytes
-# that it brings.
-capture_of() {
-    {
-        echo 'time_us,wire,byte'
-        echo "$1" | tr -s ' ' '\n' |
-            awk '/^$/ { next } /^[CD]$/ { wire = $0; next } { time += 400; print time "," wire "," $0 }'
-    } > "$work/capture.csv"
-}
-
 # why FILE [WORDS...]: the program's why of this capture. Its text is left in $work/out.
 why() {
     "$program" why "$@" > "$work/out" 2> "$work/err" < /dev/null
     status=$?
-}
-
-# judge NAME CONDITION...: counts whether this command succeeds.
-judge() {
-    local name=$1
-    shift
-    if "$@"; then
-        passed=$((passed + 1))
-    else
-        failed=$((failed + 1))
-        echo "FAILED $name: status $status"
-        head -n 12 "$work/out" "$work/err"
-    fi
-}
-
-# is_text STATUS TEXT ERROR: the whole text and the whole of standard error, each without its last line feed.
-is_text() {
-    : > "$work/want"
-    : > "$work/want_err"
-    [ -z "$2" ] || printf '%s\n' "$2" > "$work/want"
-    [ -z "$3" ] || printf '%s\n' "$3" > "$work/want_err"
-    [ "$status" = "$1" ] && cmp -s "$work/out" "$work/want" && cmp -s "$work/err" "$work/want_err"
 }
 
 # is_why STATUS VERDICT ERROR: the text ends with this verdict, and has more lines before it where no run remains.
