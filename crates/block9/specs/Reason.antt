@@ -1,6 +1,6 @@
--- Which rule a record breaks after a tail: a line for each reason, the order in which they count, their names and
--- their texts.
-use Rattle.std.specs.Prelude.{ℕ, ◌+◌, ◌%◌, ◌<◌, ◌≤◌, ◌≡◌, ◌≢◌, ◌⊎◌, false, None, List, [], ◌∷◌, ◌++◌, length, codes}
+-- Which rule a record breaks after a tail: a line for each reason, the order in which they count, their limits, their
+-- names and their texts.
+use Rattle.std.specs.Prelude.{ℕ, ◌+◌, ◌%◌, ◌<◌, ◌≤◌, ◌≡◌, ◌≢◌, ◌⊎◌, false, Option, Some, None, List, [], ◌∷◌, ◌++◌, length, codes}
 use Rattle.std.specs.List.{sum}
 use Rattle.capture9.specs.declared.line_byte.LineByte.{LineByte}
 use Rattle.capture9.specs.declared.line_byte.Wire.TheVariants.{Controller, Deck}
@@ -83,7 +83,23 @@ IsFirst holds (x ∷ more) reason = ((reason ≡ x) × holds x) ⊎ ((¬ holds x
 abbrev pub IsReason : List LineByte → LineByte → Reason → Type 0
 IsReason tail r reason = IsFirst (λ x. Holds x tail r) order reason
 
--- ---- the names and the texts
+-- ---- the limits, the names and the texts
+
+-- the longest time, in microseconds, after the record before that a reason of time measures by
+abbrev pub limit_of : Reason → Option ℕ
+limit_of ByteGap = Some byte_gap
+limit_of CommandBeforeReply = Some reply_limit
+limit_of LateReply = Some reply_limit
+limit_of NoReply = Some reply_limit
+limit_of WrongGroup = None
+limit_of WrongSum = None
+limit_of ReplyWithoutCommand = None
+limit_of ReplyInsideCommand = None
+limit_of CommandInsideReply = None
+limit_of WrongReply = None
+limit_of InvalidCommandTime = None
+limit_of InvalidReplyTime = None
+limit_of NoRun = None
 
 -- the short name that a report gives
 abbrev pub name_of : Reason → List ℕ

@@ -1,6 +1,8 @@
 //! Why a record breaks the protocol.
 ghost use Rattle.std.specs.Prelude.{◌≡◌};
 
+use crate::{BYTE_GAP_US, REPLY_LIMIT_US};
+
 /// The rule that a record breaks.
 ///
 /// Where a record breaks several rules, the first of these counts: the wire whose turn it is, the time,
@@ -37,7 +39,29 @@ pub enum Reason {
 }
 
 impl Reason {
-    ghost use Rattle.block9.specs.Reason.{name_of, text_of};
+    ghost use Rattle.block9.specs.Reason.{limit_of, name_of, text_of};
+
+    /// The time after the record before that the rule measures by, in microseconds: [`BYTE_GAP_US`] for a gap inside a
+    /// block, [`REPLY_LIMIT_US`] for the reply's limit. `None` for a rule that measures no time.
+    pub fn limit_us(self) -> Option<u64>
+        ensures { result ≡ limit_of self }
+    {
+        match self {
+            Reason::ByteGap => Some(BYTE_GAP_US),
+            Reason::CommandBeforeReply | Reason::LateReply | Reason::NoReply => {
+                Some(REPLY_LIMIT_US)
+            }
+            Reason::WrongGroup
+            | Reason::WrongSum
+            | Reason::ReplyWithoutCommand
+            | Reason::ReplyInsideCommand
+            | Reason::CommandInsideReply
+            | Reason::WrongReply
+            | Reason::InvalidCommandTime
+            | Reason::InvalidReplyTime
+            | Reason::NoRun => None,
+        }
+    }
 
     /// The short name that a report gives: a letter and a digit.
     pub fn name<'a>(self) -> &'a str

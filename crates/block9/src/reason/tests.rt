@@ -1,4 +1,4 @@
-//! The names and the texts of the reasons, by hand.
+//! The limits, the names and the texts of the reasons, by hand.
 
 use crate::Reason;
 
@@ -29,5 +29,26 @@ fn names_and_texts(rt: HostRuntime) {
     ] {
         assert_eq!(rt; reason.name(), name, "{reason:?}");
         assert_eq!(rt; reason.text(), text, "{reason:?}");
+    }
+}
+
+#[test]
+fn limits(rt: HostRuntime) {
+    for (reason, limit_us) in [
+        (Reason::WrongGroup, None),
+        (Reason::WrongSum, None),
+        (Reason::ByteGap, Some(10_287)),
+        (Reason::ReplyWithoutCommand, None),
+        (Reason::ReplyInsideCommand, None),
+        (Reason::CommandBeforeReply, Some(9_287)),
+        (Reason::CommandInsideReply, None),
+        (Reason::WrongReply, None),
+        (Reason::InvalidCommandTime, None),
+        (Reason::InvalidReplyTime, None),
+        (Reason::LateReply, Some(9_287)),
+        (Reason::NoReply, Some(9_287)),
+        (Reason::NoRun, None),
+    ] {
+        assert_eq!(rt; reason.limit_us(), limit_us, "{reason:?}");
     }
 }
