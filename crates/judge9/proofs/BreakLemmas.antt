@@ -38,7 +38,7 @@ judges-no which hands rows progress given paired tracked old now new n m next re
     (can_be-no which hands rows progress given paired tracked old now next reason n m h gives) same puts
 
 -- a rule of pairing is broken
-pub judges-break : {R : Type 0} (which : View) (hands : Hands) (rows : Option Rows) (progress given : Progress R) (paired after : Paired) (tracked : Tracked) (old now new : Option (List ℕ)) (n m : ℕ) (next : LineByte) (reason : Reason) (r : Result Verdict JudgeError) → SoFar which hands rows progress paired tracked old now n m → GivesRecord progress next given
+unfoldable pub judges-break : {R : Type 0} (which : View) (hands : Hands) (rows : Option Rows) (progress given : Progress R) (paired after : Paired) (tracked : Tracked) (old now new : Option (List ℕ)) (n m : ℕ) (next : LineByte) (reason : Reason) (r : Result Verdict JudgeError) → SoFar which hands rows progress paired tracked old now n m → GivesRecord progress next given
     → Refuses paired next reason after → IsSame (No (n + 1) reason) r → Puts (line_of (No (n + 1) reason)) r now new → Judges which hands rows r old new
 judges-break which hands rows progress given paired after tracked old now new n m next reason r h gives refuses same puts =
     judges-no which hands rows progress given paired tracked old now new n m next reason r h gives

@@ -15,6 +15,7 @@ pub mod TellLemmas
 pub mod LimitLemmas
 pub mod ReasonLemmas
 pub mod BreakLemmas
+pub mod BreakLines
 pub mod PieceLemmas
 pub mod WriteLemmas
 pub mod RunLines
@@ -22,4 +23,5 @@ pub mod BlockBytes
 pub mod ModeRow
 pub mod WordRow
 pub mod LinesAt
+pub mod OpenLemmas
 pub mod TextLemmas

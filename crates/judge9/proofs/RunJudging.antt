@@ -1,11 +1,14 @@
 -- What a judging with its trail tells where it ends: a run of the deck, or why none remains.
 use Rattle.std.proofs.Common.{◌≡◌, ℕ, List, [], length, take, Option, None, Result, Ok, Err, sym, subst}
 use Rattle.std.specs.Global.{Vec}
+use Rattle.capture9.specs.declared.line_byte.LineByte.{LineByte}
 use Rattle.capture9.specs.Rows.{Rows}
+use Rattle.block9.specs.declared.command.Command.{Command}
 use Rattle.block9.specs.declared.pairer.Exchange.{Exchange}
 use Rattle.block9.specs.declared.reason.Reason.{Reason}
 use Rattle.block9.specs.declared.reason.Reason.TheVariants.{NoRun}
 use Rattle.block9.specs.Exchange.{Cut}
+use Rattle.block9.specs.Line.{bytes_of}
 use Rattle.deck9.specs.declared.state.Hands.{Hands}
 use Rattle.deck9.specs.declared.state.State.{State}
 use Rattle.deck9.specs.Run.{IsRun}
@@ -21,6 +24,7 @@ use Rattle.judge9.specs.declared.verdict.Verdict.{Verdict}
 use Rattle.judge9.specs.declared.verdict.View.TheVariants as view
 use Rattle.judge9.specs.declared.why_verdict.WhyVerdict.{WhyVerdict}
 use Rattle.judge9.specs.declared.why_verdict.WhyVerdict.TheVariants as why
+use Rattle.judge9.specs.OpenRecords.{IsBreakAfter, IsMeaning, asked_of}
 use Rattle.judge9.specs.Report.{Told}
 use Rattle.judge9.specs.RunVerdict.{IsJudgedRun}
 use Rattle.track9.specs.declared.knowledge.Knowledge.{Knowledge}
@@ -56,23 +60,23 @@ memory hands rows v j = judges-memory view.Verdict hands rows None None (told_le
 
 -- ---- a run
 
-pub run-memory : (hands : Hands) (rows : Option Rows) (e : Ending) (es : List Exchange) (ts : List Tracked) (t : Tracked) → KeepsTrail hands rows (Ok e) es ts t → JudgesRun hands rows (Err error.OutOfMemory)
-run-memory hands rows e es ts t k = record { judges = memory hands rows _ k.judges; run = tt; no_write = λ q. cc }
+pub run-memory : (hands : Hands) (rows : Option Rows) (e : Ending) (left : List LineByte) (es : List Exchange) (ts : List Tracked) (t : Tracked) → KeepsTrail hands rows (Ok e) left es ts t → JudgesRun hands rows (Err error.OutOfMemory)
+run-memory hands rows e left es ts t k = record { judges = memory hands rows _ k.judges; run = tt; no_write = λ q. cc }
 
-pub run-stopped : (hands : Hands) (rows : Option Rows) (x : JudgeError) (es : List Exchange) (ts : List Tracked) (t : Tracked) → KeepsTrail hands rows (Err x) es ts t → JudgesRun hands rows (Err x)
-run-stopped hands rows x es ts t k = record { judges = k.judges; run = tt; no_write = λ q. k.no_write (again x q) }
+pub run-stopped : (hands : Hands) (rows : Option Rows) (x : JudgeError) (left : List LineByte) (es : List Exchange) (ts : List Tracked) (t : Tracked) → KeepsTrail hands rows (Err x) left es ts t → JudgesRun hands rows (Err x)
+run-stopped hands rows x left es ts t k = record { judges = k.judges; run = tt; no_write = λ q. k.no_write (again x q) }
   where
     again : (x : JudgeError) → (let r : Result RunVerdict JudgeError = Err x in r) ≡ Err error.Write → (let r : Result Ending JudgeError = Err x in r) ≡ Err error.Write
     again x q = cc
 
-pub run-break : (hands : Hands) (rows : Option Rows) (at : ℕ) (reason : Reason) (es : List Exchange) (ts : List Tracked) (t : Tracked) → KeepsTrail hands rows (Ok (ending.Break at reason)) es ts t → JudgesRun hands rows (Ok (run.No at reason))
-run-break hands rows at reason es ts t k = record { judges = k.judges; run = tt; no_write = λ q. cc }
+pub run-break : (hands : Hands) (rows : Option Rows) (at : ℕ) (reason : Reason) (r : LineByte) (left : List LineByte) (es : List Exchange) (ts : List Tracked) (t : Tracked) → KeepsTrail hands rows (Ok (ending.Break at reason r)) left es ts t → JudgesRun hands rows (Ok (run.No at reason))
+run-break hands rows at reason r left es ts t k = record { judges = k.judges; run = tt; no_write = λ q. cc }
 
-pub run-no_run : (hands : Hands) (rows : Option Rows) (at : ℕ) (es : List Exchange) (ts : List Tracked) (t : Tracked) → KeepsTrail hands rows (Ok (ending.NoRun at)) es ts t → JudgesRun hands rows (Ok (run.No at NoRun))
-run-no_run hands rows at es ts t k = record { judges = k.judges; run = tt; no_write = λ q. cc }
+pub run-no_run : (hands : Hands) (rows : Option Rows) (at : ℕ) (left : List LineByte) (es : List Exchange) (ts : List Tracked) (t : Tracked) → KeepsTrail hands rows (Ok (ending.NoRun at)) left es ts t → JudgesRun hands rows (Ok (run.No at NoRun))
+run-no_run hands rows at left es ts t k = record { judges = k.judges; run = tt; no_write = λ q. cc }
 
-pub run-yes : (hands : Hands) (rows : Option Rows) (n m : ℕ) (exchanges given : Vec Exchange) (ts : List Tracked) (t : Tracked) (states : Vec State) → KeepsTrail hands rows (Ok (ending.End n m)) exchanges.items ts t → IsRun t.hands exchanges.items states.items → given ≡ exchanges → JudgesRun hands rows (Ok (run.Yes n m given states))
-run-yes hands rows n m exchanges given ts t states k is_run same =
+pub run-yes : (hands : Hands) (rows : Option Rows) (n m : ℕ) (left : List LineByte) (exchanges given : Vec Exchange) (ts : List Tracked) (t : Tracked) (states : Vec State) → KeepsTrail hands rows (Ok (ending.End n m)) left exchanges.items ts t → IsRun t.hands exchanges.items states.items → given ≡ exchanges → JudgesRun hands rows (Ok (run.Yes n m given states))
+run-yes hands rows n m left exchanges given ts t states k is_run same =
     subst (λ (v : Vec Exchange). JudgesRun hands rows (Ok (run.Yes n m v states))) (sym same)
     (record { judges = k.judges; run = ((k.ends.left, k.ends.cut), subst (λ (h : Hands). IsRun h exchanges.items states.items) k.ends.follows.hands is_run); no_write = λ q. cc })
 
@@ -84,25 +88,30 @@ run-nothing hands rows =
 
 -- ---- why no run remains
 
-pub why-memory : (hands : Hands) (rows : Option Rows) (e : Ending) (es : List Exchange) (ts : List Tracked) (t : Tracked) → KeepsTrail hands rows (Ok e) es ts t → JudgesWhy hands rows (Err error.OutOfMemory)
-why-memory hands rows e es ts t k = record { judges = memory hands rows _ k.judges; why = tt; no_write = λ q. cc }
+pub why-memory : (hands : Hands) (rows : Option Rows) (e : Ending) (left : List LineByte) (es : List Exchange) (ts : List Tracked) (t : Tracked) → KeepsTrail hands rows (Ok e) left es ts t → JudgesWhy hands rows (Err error.OutOfMemory)
+why-memory hands rows e left es ts t k = record { judges = memory hands rows _ k.judges; why = tt; no_write = λ q. cc }
 
-pub why-stopped : (hands : Hands) (rows : Option Rows) (x : JudgeError) (es : List Exchange) (ts : List Tracked) (t : Tracked) → KeepsTrail hands rows (Err x) es ts t → JudgesWhy hands rows (Err x)
-why-stopped hands rows x es ts t k = record { judges = k.judges; why = tt; no_write = λ q. k.no_write (again x q) }
+pub why-stopped : (hands : Hands) (rows : Option Rows) (x : JudgeError) (left : List LineByte) (es : List Exchange) (ts : List Tracked) (t : Tracked) → KeepsTrail hands rows (Err x) left es ts t → JudgesWhy hands rows (Err x)
+why-stopped hands rows x left es ts t k = record { judges = k.judges; why = tt; no_write = λ q. k.no_write (again x q) }
   where
     again : (x : JudgeError) → (let r : Result WhyVerdict JudgeError = Err x in r) ≡ Err error.Write → (let r : Result Ending JudgeError = Err x in r) ≡ Err error.Write
     again x q = cc
 
-pub why-yes : (hands : Hands) (rows : Option Rows) (n m k : ℕ) (es : List Exchange) (ts : List Tracked) (t : Tracked) → KeepsTrail hands rows (Ok (ending.End n m)) es ts t → k ≡ length es → JudgesWhy hands rows (Ok (why.Yes n k m))
-why-yes hands rows n m k es ts t keeps same =
+pub why-yes : (hands : Hands) (rows : Option Rows) (n m k : ℕ) (left : List LineByte) (es : List Exchange) (ts : List Tracked) (t : Tracked) → KeepsTrail hands rows (Ok (ending.End n m)) left es ts t → k ≡ length es → JudgesWhy hands rows (Ok (why.Yes n k m))
+why-yes hands rows n m k left es ts t keeps same =
     subst (λ (x : ℕ). JudgesWhy hands rows (Ok (why.Yes n x m))) (sym same) (record { judges = keeps.judges; why = tt; no_write = λ q. cc })
 
-pub why-break : (hands : Hands) (rows : Option Rows) (at : ℕ) (reason : Reason) (es : List Exchange) (ts : List Tracked) (t : Tracked) → KeepsTrail hands rows (Ok (ending.Break at reason)) es ts t → JudgesWhy hands rows (Ok (why.No at reason))
-why-break hands rows at reason es ts t k = record { judges = k.judges; why = k.ends; no_write = λ q. cc }
+pub why-break : (hands : Hands) (rows : Option Rows) (at : ℕ) (reason : Reason) (r : LineByte) (left : List LineByte) (es : List Exchange) (ts : List Tracked) (t : Tracked) (tail : Vec LineByte) (command : Option Command) → KeepsTrail hands rows (Ok (ending.Break at reason r)) left es ts t
+    → tail.items ≡ left → IsMeaning (bytes_of (asked_of left)) command → JudgesWhy hands rows (Ok (why.Break at reason tail command r))
+why-break hands rows at reason r left es ts t tail command k same means = record {
+  judges = k.judges;
+  why = (k.ends.0, subst (λ (l : List LineByte). IsBreakAfter k.judges.told.rows.records at l r) (sym same) k.ends.1, subst (λ (l : List LineByte). IsMeaning (bytes_of (asked_of l)) command) (sym same) means);
+  no_write = λ q. cc;
+}
 
-pub why-no_run : (hands : Hands) (rows : Option Rows) (at : ℕ) (exchanges given : Vec Exchange) (ts : List Tracked) (t : Tracked) (places : Vec ℕ) (known : Knowledge) (shown : ModeSet) → KeepsTrail hands rows (Ok (ending.NoRun at)) exchanges.items ts t → given ≡ exchanges
+pub why-no_run : (hands : Hands) (rows : Option Rows) (at : ℕ) (left : List LineByte) (exchanges given : Vec Exchange) (ts : List Tracked) (t : Tracked) (places : Vec ℕ) (known : Knowledge) (shown : ModeSet) → KeepsTrail hands rows (Ok (ending.NoRun at)) left exchanges.items ts t → given ≡ exchanges
     → IsContradiction hands given.items places.items → CouldShow hands given.items known shown → JudgesWhy hands rows (Ok (why.Contradiction at given places known shown))
-why-no_run hands rows at exchanges given ts t places known shown k same is shows =
+why-no_run hands rows at left exchanges given ts t places known shown k same is shows =
     let cut = subst (λ (v : Vec Exchange). Cut (take at k.judges.told.rows.records) v.items []) (sym same) k.ends.cut in
     record { judges = k.judges; why = (cut, is, shows); no_write = λ q. cc }
 

@@ -1,5 +1,5 @@
 -- Where the judging of a text stands that keeps its trail, and what is kept at each of its ends.
-use Rattle.std.proofs.Common.{◌≡◌, ◌≢◌, ◌∙◌, IsTrue, ◌↔◌, inl, inr, Bool, false, ℕ, ◌+◌, List, [], ◌∷◌, ◌++◌, length, take, Option, None, Result, Ok, Err, refl, sym, ap, subst, arith}
+use Rattle.std.proofs.Common.{◌≡◌, ◌≢◌, ◌∙◌, IsTrue, ◌↔◌, inl, inr, Bool, false, ℕ, ◌+◌, List, [], ◌∷◌, ◌++◌, length, take, Option, None, Result, Ok, Err, refl, sym, ap, subst, arith, append_assoc}
 use Rattle.std.proofs.lemmas.List.{append-nil, length_push}
 use Rattle.std.proofs.Math.Seq.{take-append_seam}
 use Rattle.std.specs.Bool.{⊤}
@@ -29,6 +29,7 @@ use Rattle.judge9.specs.declared.error.JudgeError.TheVariants as error
 use Rattle.judge9.specs.declared.verdict.Verdict.TheVariants.{Yes, No}
 use Rattle.judge9.specs.declared.verdict.View.TheVariants as view
 use Rattle.judge9.specs.Error.{refusal_of}
+use Rattle.judge9.specs.OpenRecords.{IsBreakAfter}
 use Rattle.judge9.specs.Verdict.{CanBeVerdict}
 use Rattle.judge9.specs.Working.{Judges}
 use Rattle.judge9.specs.Working.Trail.{Follows, IsTrail, KeepsTrail}
@@ -88,8 +89,8 @@ with_state hands rows progress paired tracked es trackers n w =
 
 -- ---- what is told at each end
 
-pub keep-refusal : {R : Type 0} (hands : Hands) (rows : Option Rows) (progress given : Progress R) (paired : Paired) (tracked : Tracked) (es : List Exchange) (trackers : List Tracked) (n : ℕ) (e : CaptureError) (x : JudgeError) (fs : List Exchange) (us : List Tracked) (u : Tracked) → WithTrail hands rows progress paired tracked es trackers n → GivesRefusal progress e given → x ≡ refusal_of e → KeepsTrail hands rows (Err x) fs us u
-keep-refusal hands rows progress given paired tracked es trackers n e x fs us u w refusal same = record {
+pub keep-refusal : {R : Type 0} (hands : Hands) (rows : Option Rows) (progress given : Progress R) (paired : Paired) (tracked : Tracked) (es : List Exchange) (trackers : List Tracked) (n : ℕ) (e : CaptureError) (x : JudgeError) (left : List LineByte) (fs : List Exchange) (us : List Tracked) (u : Tracked) → WithTrail hands rows progress paired tracked es trackers n → GivesRefusal progress e given → x ≡ refusal_of e → KeepsTrail hands rows (Err x) left fs us u
+keep-refusal hands rows progress given paired tracked es trackers n e x left fs us u w refusal same = record {
   judges = judges-refusal view.Verdict hands rows progress given paired tracked None None n w.count e x w.so_far refusal same;
   ends = tt;
   no_write = refused NotWrite e x same (λ q. cc) (λ q. cc);
@@ -98,8 +99,8 @@ keep-refusal hands rows progress given paired tracked es trackers n e x fs us u 
     NotWrite : JudgeError → Type 0
     NotWrite y = (let r : Result Ending JudgeError = Err y in r) ≢ Err error.Write
 
-pub keep-memory : {R : Type 0} (hands : Hands) (rows : Option Rows) (progress : Progress R) (paired : Paired) (tracked : Tracked) (es : List Exchange) (trackers : List Tracked) (n : ℕ) (fs : List Exchange) (us : List Tracked) (u : Tracked) → WithTrail hands rows progress paired tracked es trackers n → KeepsTrail hands rows (Err error.OutOfMemory) fs us u
-keep-memory hands rows progress paired tracked es trackers n fs us u w = record {
+pub keep-memory : {R : Type 0} (hands : Hands) (rows : Option Rows) (progress : Progress R) (paired : Paired) (tracked : Tracked) (es : List Exchange) (trackers : List Tracked) (n : ℕ) (left : List LineByte) (fs : List Exchange) (us : List Tracked) (u : Tracked) → WithTrail hands rows progress paired tracked es trackers n → KeepsTrail hands rows (Err error.OutOfMemory) left fs us u
+keep-memory hands rows progress paired tracked es trackers n left fs us u w = record {
   judges = judges-memory view.Verdict hands rows None None (told-memory view.Verdict hands rows progress paired tracked None None n w.count w.so_far);
   ends = tt;
   no_write = λ q. cc;
@@ -112,15 +113,38 @@ pairing_reason tail next (x ∷ more) reason (inl is) same = let none : x ≡ No
 pairing_reason tail next (x ∷ more) reason (inr is) same = pairing_reason tail next more reason is.1 same
 
 pub keep-break : {R : Type 0} (hands : Hands) (rows : Option Rows) (progress given : Progress R) (paired after : Paired) (tracked : Tracked) (es : List Exchange) (trackers : List Tracked) (n : ℕ) (next : LineByte) (reason : Reason) → WithTrail hands rows progress paired tracked es trackers n → GivesRecord progress next given → Refuses paired next reason after
-    → KeepsTrail hands rows (Ok (ending.Break (n + 1) reason)) es trackers tracked
+    → KeepsTrail hands rows (Ok (ending.Break (n + 1) reason next)) after.tail es trackers tracked
+unfolding judges-break judges-no judges-told told-no told-verdict told_after
 keep-break hands rows progress given paired after tracked es trackers n next reason w gives refuses = record {
-  judges = judges-break view.Verdict hands rows progress given paired after tracked None None None n w.count next reason (Ok (No (n + 1) reason)) w.so_far gives refuses refl tt;
-  ends = pairing_reason paired.tail next order reason refuses.is_reason;
+  judges = judges;
+  ends = (pairing_reason paired.tail next order reason refuses.is_reason, is_break);
   no_write = λ q. cc;
 }
+  where
+    far : SoFar view.Verdict hands rows progress paired tracked None None n w.count
+    far = w.so_far
+
+    judges : Judges view.Verdict hands rows (Ok (No (n + 1) reason)) None None
+    judges = judges-break view.Verdict hands rows progress given paired after tracked None None None n w.count next reason (Ok (No (n + 1) reason)) far gives refuses refl tt
+
+    s : Seen rows given.rows (far.items ++ next ∷ []) no_rows
+    s = seen rows given.rows (far.items ++ next ∷ []) no_rows (read-more rows progress.rows given.rows far.items next far.read gives.rows)
+
+    split : judges.told.rows.records ≡ (far.items ++ next ∷ []) ++ s.rest.records
+    split = records_are s
+
+    is_break : IsBreakAfter judges.told.rows.records (n + 1) after.tail next
+    is_break = record {
+      before = far.items;
+      after = s.rest.records;
+      split = split ∙ append_assoc far.items (next ∷ []) s.rest.records;
+      number = ap (λ k. k + 1) far.number;
+      exchanges = far.cut_exchanges;
+      cut = subst (λ (l : List LineByte). Cut far.items far.cut_exchanges l) (sym refuses.tail) far.cut;
+    }
 
 pub keep-no_run : {R : Type 0} (hands : Hands) (rows : Option Rows) (progress given : Progress R) (paired after : Paired) (tracked observed : Tracked) (es more : List Exchange) (trackers later : List Tracked) (n : ℕ) (next : LineByte) (e : Exchange) (b : Bool) → (w : WithTrail hands rows progress paired tracked es trackers n) → GivesRecord progress next given
-    → Takes paired next (step.Exchange e) after → Follows hands (w.so_far.cut_exchanges ++ e ∷ []) observed → (IsTrue b ↔ ((s : State) × Possible observed.states s)) → b ≡ false → more ≡ es ++ e ∷ [] → KeepsTrail hands rows (Ok (ending.NoRun (n + 1))) more later observed
+    → Takes paired next (step.Exchange e) after → Follows hands (w.so_far.cut_exchanges ++ e ∷ []) observed → (IsTrue b ↔ ((s : State) × Possible observed.states s)) → b ≡ false → more ≡ es ++ e ∷ [] → KeepsTrail hands rows (Ok (ending.NoRun (n + 1))) after.tail more later observed
 unfolding judges-no_run judges-no judges-told told-no told-verdict told_after
 keep-no_run hands rows progress given paired after tracked observed es more trackers later n next e b w gives takes follows remains is_false pushed = record {
   judges = judges;
@@ -161,7 +185,7 @@ keep-no_run hands rows progress given paired after tracked observed es more trac
       has_none = subst (λ (l : List Exchange). ¬ HasRun hands l) same (no_run hands (far.cut_exchanges ++ e ∷ []) observed b follows remains is_false);
     }
 
-pub keep-end : {R : Type 0} (hands : Hands) (rows : Option Rows) (progress ended : Progress R) (paired : Paired) (tracked : Tracked) (es : List Exchange) (trackers : List Tracked) (n : ℕ) → WithTrail hands rows progress paired tracked es trackers n → GivesEnd progress ended → KeepsTrail hands rows (Ok (ending.End n (length paired.tail))) es trackers tracked
+pub keep-end : {R : Type 0} (hands : Hands) (rows : Option Rows) (progress ended : Progress R) (paired : Paired) (tracked : Tracked) (es : List Exchange) (trackers : List Tracked) (n : ℕ) → WithTrail hands rows progress paired tracked es trackers n → GivesEnd progress ended → KeepsTrail hands rows (Ok (ending.End n (length paired.tail))) paired.tail es trackers tracked
 unfolding told-yes told-verdict told_after
 keep-end hands rows progress ended paired tracked es trackers n w end = record {
   judges = record { told = told; stopped = each_row rows (λ all. ⊤) (λ all. tt); is_kind = λ e q. cc; can_be = subst CanBeVerdict (sym verdict) (can_be-yes view.Verdict hands rows progress paired tracked None None n w.count w.so_far) };

@@ -5,6 +5,7 @@ pub mod Explanation
 pub mod Report
 pub mod RunVerdict
 pub mod RunText
+pub mod OpenRecords
 pub mod WhyVerdict
 pub mod WhyText
 pub mod Working

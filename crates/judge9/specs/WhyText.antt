@@ -1,16 +1,23 @@
--- The text of why a capture is a no: a line for each of the replies that contradict one another, what the deck could show
--- before the last of them, and the line of the verdict.
-use Rattle.std.specs.Prelude.{ℕ, ◌+◌, Bool, if◌then◌else◌, Option, Some, None, List, [], ◌∷◌, ◌++◌, codes}
+-- The text of why a capture is a no: where no run remains a line for each of the replies that contradict one another, and
+-- what the deck could show before the last of them; where a rule of pairing is broken a line for the records of the open
+-- command, one for those of its reply, and one for the record that breaks; and the line of the verdict.
+use Rattle.std.specs.Prelude.{ℕ, ◌+◌, ◌-◌, Bool, if◌then◌else◌, Option, Some, None, List, [], ◌∷◌, ◌++◌, length, codes}
 use Rattle.std.specs.Fmt.{decimal}
 use Rattle.std.specs.List.{list_all, list_any}
 use Rattle.tc25.specs.Day.{text_of, time_of}
+use Rattle.capture9.specs.declared.line_byte.LineByte.{LineByte}
+use Rattle.capture9.specs.declared.line_byte.Wire.{Wire}
+use Rattle.capture9.specs.declared.line_byte.Wire.TheVariants.{Controller, Deck}
 use Rattle.block9.specs.declared.block.Block.{Block}
 use Rattle.block9.specs.declared.command.Command.{Command}
 use Rattle.block9.specs.declared.command.Command.TheVariants.{CueUpWithData, InDataPreset, OutDataPreset, AudioInDataPreset, AudioOutDataPreset}
 use Rattle.block9.specs.declared.pairer.Exchange.{Exchange}
+use Rattle.block9.specs.declared.reason.Reason.{Reason}
 use Rattle.block9.specs.declared.reason.Reason.TheVariants.{NoRun}
 use Rattle.block9.specs.Block.{spelling}
 use Rattle.block9.specs.Command.{is_nak, name_of}
+use Rattle.block9.specs.Line.{bytes_of, last_time}
+use Rattle.block9.specs.Reason.{limit_of}
 use Rattle.track9.specs.declared.knowledge.Knowledge.{Knowledge}
 use Rattle.track9.specs.declared.mode_set.ModeSet.{ModeSet}
 use Rattle.track9.specs.ModeSet.{has}
@@ -26,6 +33,7 @@ use Rattle.judge9.specs.declared.verdict.Verdict.TheVariants as verdict
 use Rattle.judge9.specs.declared.why_verdict.WhyVerdict.{WhyVerdict}
 use Rattle.judge9.specs.declared.why_verdict.WhyVerdict.TheVariants as why
 use Rattle.judge9.specs.Explanation.{has_bit, hex_byte, text_of_fields}
+use Rattle.judge9.specs.OpenRecords.{answered_of, asked_of}
 use Rattle.judge9.specs.Report.{line_of, records_of}
 
 -- ---- pieces
@@ -77,9 +85,13 @@ time_in (AudioInDataPreset time) = Some time
 time_in (AudioOutDataPreset time) = Some time
 time_in _ = None
 
--- the name of a command that is listed, its time, and the bytes of its block
+-- the name of a command that is listed, and its time
+unfoldable pub words_of : Command → List ℕ
+words_of c = with_space (name_of c) ++ time_with_space (time_in c)
+
+-- these, and the bytes of its block
 unfoldable pub text_of_asked : Exchange → List ℕ
-text_of_asked e = with_space (name_of e.command) ++ time_with_space (time_in e.command) ++ text_of_block e.block
+text_of_asked e = words_of e.command ++ text_of_block e.block
 
 -- what status data say by themselves, each where the reply carries its datum: LOCAL; the modes that may be shown; the
 -- registers
@@ -124,12 +136,15 @@ text_of_answered e =
 
 -- ---- lines
 
+-- how a line of so many records begins; the record of this number is the last before them, and the first of them has this
+-- time
+unfoldable pub text_of_records : ℕ → ℕ → ℕ → List ℕ
+text_of_records at n time = (codes "records " ++ decimal (at + 1)) ++ (codes " to " ++ decimal (at + n)) ++ (codes " at " ++ decimal time)
+
 -- the line of an exchange whose reply is one of those that contradict; the record of this number is the last before it
 unfoldable pub line_of_contradicting : ℕ → Exchange → List ℕ
 line_of_contradicting at e =
-    (codes "records " ++ decimal (at + 1))
-    ++ (codes " to " ++ decimal (at + records_of e))
-    ++ (codes " at " ++ decimal e.time_us)
+    text_of_records at (records_of e) e.time_us
     ++ (codes ": " ++ text_of_asked e)
     ++ (codes " -> " ++ text_of_answered e)
     ++ codes "\n"
@@ -148,9 +163,51 @@ text_of_shown set = if list_all (has set.0) modes then codes "any" else text_of_
 unfoldable pub line_of_could_show : Hands → Knowledge → ModeSet → List ℕ
 line_of_could_show hands known shown = codes "could show: shown " ++ text_of_shown shown ++ text_of_fields hands known ++ codes "\n"
 
--- the whole text
+-- ---- the lines of a record that breaks a rule of pairing
+
+-- the line of a block that is not whole, or whose reply is not: these words, and the bytes of its records
+unfoldable pub line_of_open : ℕ → List ℕ → List LineByte → List ℕ
+line_of_open at words [] = []
+line_of_open at words (r ∷ records) =
+    text_of_records at (length (r ∷ records)) r.time_us ++ (codes ": " ++ words) ++ hex_bytes [] (bytes_of (r ∷ records)) ++ codes "\n"
+
+-- what stands before the bytes of a command: its words, where it is whole
+abbrev pub words_if_whole : Option Command → List ℕ
+words_if_whole None = []
+words_if_whole (Some c) = words_of c
+
+abbrev pub letter_of : Wire → List ℕ
+letter_of Controller = codes "C "
+letter_of Deck = codes "D "
+
+-- how long a record comes after the last of those that are open, where there is one, and the limit of a reason of time
+abbrev pub since_told : List LineByte → LineByte → List ℕ
+since_told [] r = []
+since_told (first ∷ records) r = (codes ", " ++ decimal (r.time_us - last_time (first ∷ records))) ++ codes " after the record before"
+
+abbrev pub limit_told : Option ℕ → List ℕ
+limit_told None = []
+limit_told (Some limit) = codes ", limit " ++ decimal limit
+
+-- the line of the record that breaks: its wire and byte, how long after the record before it comes, and the limit
+unfoldable pub line_of_breaking : ℕ → Reason → List LineByte → LineByte → List ℕ
+line_of_breaking at reason tail r =
+    (codes "record " ++ decimal at) ++ (codes " at " ++ decimal r.time_us)
+    ++ (codes ": " ++ letter_of r.wire) ++ hex_byte r.byte
+    ++ since_told tail r ++ limit_told (limit_of reason) ++ codes "\n"
+
+-- these lines; so many records come before the open ones
+unfoldable pub lines_of_break : ℕ → ℕ → Reason → List LineByte → Option Command → LineByte → List ℕ
+lines_of_break before at reason tail command r =
+    line_of_open before (words_if_whole command) (asked_of tail)
+    ++ line_of_open (before + length (asked_of tail)) (codes "-> ") (answered_of tail)
+    ++ line_of_breaking at reason tail r
+
+-- ---- the whole text
+
 abbrev pub text_of_why : Hands → WhyVerdict → List ℕ
 text_of_why hands (why.Yes records exchanges tail) = line_of (verdict.Yes records exchanges tail)
-text_of_why hands (why.No at reason) = line_of (verdict.No at reason)
+text_of_why hands (why.Break at reason tail command r) =
+    lines_of_break (at - (length tail.items + 1)) at reason tail.items command r ++ line_of (verdict.No at reason)
 text_of_why hands (why.Contradiction at exchanges places known shown) =
     lines_at places.items 0 0 exchanges.items ++ line_of_could_show hands known shown ++ line_of (verdict.No at NoRun)

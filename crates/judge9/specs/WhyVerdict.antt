@@ -7,6 +7,7 @@ use Rattle.capture9.specs.SomeText.{IsOfSomeText}
 use Rattle.block9.specs.declared.reason.Reason.TheVariants.{NoRun}
 use Rattle.block9.specs.declared.pairer.Exchange.{Exchange}
 use Rattle.block9.specs.Exchange.{Cut}
+use Rattle.block9.specs.Line.{bytes_of}
 use Rattle.deck9.specs.declared.mode.Mode.{Mode}
 use Rattle.deck9.specs.declared.state.Hands.{Hands}
 use Rattle.deck9.specs.declared.state.State.{State}
@@ -23,11 +24,12 @@ use Rattle.judge9.specs.declared.verdict.Verdict.TheVariants as verdict
 use Rattle.judge9.specs.declared.why_verdict.WhyVerdict.{WhyVerdict}
 use Rattle.judge9.specs.declared.why_verdict.WhyVerdict.TheVariants as why
 use Rattle.judge9.specs.Judging.{IsTheAnswer, answer_of}
+use Rattle.judge9.specs.OpenRecords.{IsBreakAfter, IsMeaning, asked_of}
 
 -- the verdict alone
 abbrev pub verdict_of : WhyVerdict → Verdict
 verdict_of (why.Yes records exchanges tail) = verdict.Yes records exchanges tail
-verdict_of (why.No at reason) = verdict.No at reason
+verdict_of (why.Break at reason tail command r) = verdict.No at reason
 verdict_of (why.Contradiction at exchanges places known shown) = verdict.No at NoRun
 
 -- the result of a judging with the verdict alone
@@ -47,12 +49,14 @@ pub record CouldShow (hands : Hands) (exchanges : List Exchange) (known : Knowle
   pub knows : IsKnowledge (CouldBe hands before) known
   pub shows : (m : Mode) → (has shown.0 m ≡ true) ↔ ((s : State) × CouldBe hands before s × (s.shown ≡ m))
 
--- where no run remains, the exchanges are those that the records up to the break are cut into, the replies at these
--- places contradict one another, and this is what the deck could show before the last of them; a no without them has
--- another reason
+-- where a rule of pairing is broken, the record is the one that breaks it, with the records that are open before it, and
+-- the command that these begin with, if it is whole; where no run remains, the exchanges are those that the records up to
+-- the break are cut into, the replies at these places contradict one another, and this is what the deck could show before
+-- the last of them
 abbrev pub HasItsWhy : Hands → Rows → WhyVerdict → Type 0
 HasItsWhy hands rows (why.Yes records exchanges tail) = ⊤
-HasItsWhy hands rows (why.No at reason) = reason ≢ NoRun
+HasItsWhy hands rows (why.Break at reason tail command r) =
+    (reason ≢ NoRun) × IsBreakAfter rows.records at tail.items r × IsMeaning (bytes_of (asked_of tail.items)) command
 HasItsWhy hands rows (why.Contradiction at exchanges places known shown) =
     Cut (take at rows.records) exchanges.items [] × IsContradiction hands exchanges.items places.items × CouldShow hands exchanges.items known shown
 

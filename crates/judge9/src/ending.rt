@@ -1,6 +1,7 @@
 //! How the rows of a capture end that are judged with a trail.
 
 use block9::Reason;
+use capture9::LineByte;
 
 /// Where the judging of all rows stopped, when it did so with a verdict.
 #[derive(Clone, Copy, Debug, PartialEq, Eq)]
@@ -12,12 +13,14 @@ pub(crate) enum Ending {
         /// How many records come after the last whole exchange.
         tail: u32,
     },
-    /// A record breaks a rule of blocks, pairing or timing.
+    /// A record breaks a rule of blocks, pairing or timing. The records that are open before it are the pairer's tail.
     Break {
         /// The number of the record.
         at: u32,
         /// The rule.
         reason: Reason,
+        /// The record.
+        breaking: LineByte,
     },
     /// A record ends an exchange after which no state of the deck remains. That exchange is the trail's last.
     NoRun {

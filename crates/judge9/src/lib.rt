@@ -4,15 +4,19 @@
 //! report: where an explanation is asked for a line for each exchange, and the line of the verdict. The module [`laws`]
 //! states what holds of the definitions that its contract cites. [`judge_with_run`] hands a run of the deck out with a yes,
 //! [`write_run`] writes it, and `is_run` of the crate `deck9` says whether it is one. [`judge_with_contradiction`] says
-//! with a no, where no run remains, which replies contradict one another, and [`write_why`] writes that.
+//! why a no is one: which records are open where a rule of pairing is broken, and which replies contradict one another
+//! where no run remains. [`write_why`] writes that.
 #![tactic(auto)]
 
 mod could_show;
 mod ending;
 mod error;
 mod explanation;
+mod fewest_hands;
 mod judging;
 pub mod laws;
+mod open_records;
+mod panel;
 mod pieces;
 mod run_judging;
 mod run_text;

@@ -11,10 +11,11 @@ ghost use Rattle.track9.specs.Tracker.{Possible};
 
 use crate::ending::Ending;
 use crate::error::JudgeError;
+use crate::fewest_hands::states_of_run;
 use crate::run_verdict::RunVerdict;
 use crate::trail::Trail;
 use crate::trail_judging::keep_trail;
-use block9::Reason;
+use block9::{Pairer, Reason};
 use capture9::{CaptureError, CaptureKind, Records};
 use deck9::Hands;
 use std::alloc::Global;
@@ -24,9 +25,11 @@ use track9::Tracker;
 
 /// Judges the capture that the reader gives, as [`judge`](crate::judge) does, and hands out a yes with a run of the
 /// deck: the exchanges, and a state of the deck after each of them, such that some first state, drifts and steps of
-/// the deck lead through all of them and give exactly the replies. Which of several runs it is, is not said.
+/// the deck lead through all of them and give exactly the replies. With hands it is one with the fewest moves of a hand,
+/// which is tested and not proved; beyond that, which of several runs it is, is not said.
 ///
-/// It writes nothing, and keeps all exchanges, their states and for each 256th exchange what was possible before it.
+/// It writes nothing, and keeps all exchanges, their states and for each 256th exchange what was possible before it: with
+/// hands twice, as each exchange is then observed once more, or twice.
 ///
 /// Where the reader tells its bytes, the verdict, its counts and the refusals of the text are those that
 /// [`judge`](crate::judge) gives, and the exchanges are those that the records are cut into. Errors come as there, but
@@ -72,10 +75,11 @@ fn judge_rows<R: Read + Drop>(
     requires hands { tracker.old.hands ≡ hands }
     ensures { JudgesRun hands rows.old.rows result }
 {
+    let mut pairer = Pairer::new();
     let mut trail = Trail::new(alloc);
-    match keep_trail(rows, tracker, &mut trail, hands) {
+    match keep_trail(rows, &mut pairer, tracker, &mut trail, hands) {
         Ok(Ending::End { records, tail }) => {
-            let Ok(states) = trail.states(alloc, tracker) else {
+            let Ok(states) = states_of_run(alloc, hands, &trail, tracker) else {
                 return Err(JudgeError::OutOfMemory);
             };
             Ok(RunVerdict::Yes {
@@ -85,7 +89,7 @@ fn judge_rows<R: Read + Drop>(
                 states,
             })
         }
-        Ok(Ending::Break { at, reason }) => Ok(RunVerdict::No { at, reason }),
+        Ok(Ending::Break { at, reason, .. }) => Ok(RunVerdict::No { at, reason }),
         Ok(Ending::NoRun { at }) => Ok(RunVerdict::No {
             at,
             reason: Reason::NoRun,

@@ -49,11 +49,7 @@ impl Trail {
         ensures trail { OnOk result (IsTrail tracker.now.hands self.new.exchanges.items self.new.trackers.items) }
         ensures room { OnOk result (length self.new.exchanges.items < length self.new.trackers.items * 256) }
     {
-        if self.exchanges.len() / STRETCH_LENGTH == self.trackers.len() {
-            let tracker = tracker.snapshot()?;
-            self.trackers.push(tracker)?;
-        }
-        Ok(())
+        mark(&mut self.trackers, &self.exchanges, tracker)
     }
 
     /// Keeps the exchange that comes next.
@@ -88,7 +84,14 @@ impl Trail {
         Ok(states)
     }
 
-    /// The exchanges.
+    /// The exchanges so far.
+    pub(crate) fn exchanges(&self) -> &[Exchange]
+        ensures { result.now ≡ self.now.exchanges.items }
+    {
+        &self.exchanges
+    }
+
+    /// The exchanges, without the trackers.
     pub(crate) fn into_exchanges(self) -> Vec<Exchange>
         ensures { result ≡ self.exchanges }
     {
@@ -96,9 +99,27 @@ impl Trail {
     }
 }
 
+/// Keeps the tracker after these exchanges, where the next one begins a stretch.
+pub(crate) fn mark(
+    trackers: &mut Vec<Tracker<SpanSet>>,
+    exchanges: &[Exchange],
+    tracker: &Tracker<SpanSet>,
+) -> Result<(), AllocError>
+    requires trail { IsTrail tracker.now.hands exchanges.now trackers.old.items }
+    requires keeps { Follows tracker.now.hands exchanges.now tracker.now }
+    ensures trail { OnOk result (IsTrail tracker.now.hands exchanges.now trackers.new.items) }
+    ensures room { OnOk result (length exchanges.now < length trackers.new.items * 256) }
+{
+    if exchanges.len() / STRETCH_LENGTH == trackers.len() {
+        let tracker = tracker.snapshot()?;
+        trackers.push(tracker)?;
+    }
+    Ok(())
+}
+
 /// Goes back from some state of the tracker `end` through all exchanges to a state before the first of them. The states
 /// after each exchange are put behind `states`, the last one first.
-fn go_back_from(
+pub(crate) fn go_back_from(
     end: &Tracker<SpanSet>,
     trackers: &[Tracker<SpanSet>],
     exchanges: &[Exchange],

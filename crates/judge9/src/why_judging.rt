@@ -1,8 +1,11 @@
-//! Judges a capture, and where no run of the deck remains says which replies contradict one another.
-ghost use Rattle.std.specs.Prelude.{◌≡◌, ◌≢◌, ◌↔◌, IfSome, IfErr, option_map};
+//! Judges a capture and says why a no is one: what is open where a rule of pairing is broken, and which replies contradict
+//! one another where no run of the deck remains.
+ghost use Rattle.std.specs.Prelude.{◌≡◌, ◌≢◌, ◌↔◌, IfSome, IfOk, IfErr, option_map};
 ghost use Rattle.capture9.specs.declared.records.Standing.{Standing};
 ghost use Rattle.capture9.specs.Rows.{rows_of};
+ghost use Rattle.block9.specs.Line.{bytes_of};
 ghost use Rattle.judge9.specs.Judging.{CanBeResult, IsTheAnswer, StoppedBefore, answer_of};
+ghost use Rattle.judge9.specs.OpenRecords.{IsMeaning, asked_of};
 ghost use Rattle.judge9.specs.WhyVerdict.{IsJudgedWhy, judged_of};
 ghost use Rattle.judge9.specs.Working.Trail.{JudgesWhy};
 ghost use Rattle.deck9.specs.declared.state.State.{State as AState};
@@ -12,26 +15,30 @@ ghost use Rattle.track9.specs.Tracker.{Possible};
 use crate::could_show::could_show;
 use crate::ending::Ending;
 use crate::error::JudgeError;
+use crate::open_records::open_command;
 use crate::trail::Trail;
 use crate::trail_judging::keep_trail;
 use crate::why_verdict::WhyVerdict;
-use capture9::{CaptureError, CaptureKind, Records};
+use block9::{Command, Pairer};
+use capture9::{CaptureError, CaptureKind, LineByte, Records};
 use deck9::Hands;
-use std::alloc::Global;
+use std::alloc::{AllocError, Global};
 use std::io::Read;
 use tc25::SpanSet;
 use track9::Tracker;
 use why9::contradicting;
 
-/// Judges the capture that the reader gives, as [`judge`](crate::judge) does, and where no run of the deck remains says
-/// which replies contradict one another: no deck can have given them together, whatever it answered to everything
-/// else.
+/// Judges the capture that the reader gives, as [`judge`](crate::judge) does, and says why a no is one.
 ///
-/// The exchanges are those up to the record that breaks, and the replies are told by their places among these. The last
-/// is that of the exchange that breaks. Without any one of them the others do not contradict one another, and the first
-/// of them is as late as it can be: all the replies behind it do not. What a run may do where a reply is not believed is
-/// in `specs/Contradict.antt` of the crate `deck9`. Told with them is what was known of the deck when it gave the last of
-/// the replies, and which modes it could then show.
+/// Where a record breaks a rule of blocks, pairing or timing, it is handed out with the records that are open before it
+/// and with what the command means that these begin with, if it is whole.
+///
+/// Where no run of the deck remains it says which replies contradict one another: no deck can have given them together,
+/// whatever it answered to everything else. The exchanges are those up to the record that breaks, and the replies are told
+/// by their places among these. The last is that of the exchange that breaks. Without any one of them the others do not
+/// contradict one another, and the first of them is as late as it can be: all the replies behind it do not. What a run may
+/// do where a reply is not believed is in `specs/Contradict.antt` of the crate `deck9`. Told with them is what was known of
+/// the deck when it gave the last of the replies, and which modes it could then show.
 ///
 /// It writes nothing, and keeps all exchanges, and for each 256th what was possible before it. The search asks whether
 /// parts of the exchanges have a run, each time of a fresh tracker, and of no exchange before the first place in
@@ -80,14 +87,32 @@ fn judge_rows<R: Read + Drop>(
     requires hands { tracker.old.hands ≡ hands }
     ensures { JudgesWhy hands rows.old.rows result }
 {
+    let mut pairer = Pairer::new();
     let mut trail = Trail::new(alloc);
-    match keep_trail(rows, tracker, &mut trail, hands) {
+    match keep_trail(rows, &mut pairer, tracker, &mut trail, hands) {
         Ok(Ending::End { records, tail }) => Ok(WhyVerdict::Yes {
             records,
             exchanges: trail.into_exchanges().len() as u32,
             tail,
         }),
-        Ok(Ending::Break { at, reason }) => Ok(WhyVerdict::No { at, reason }),
+        Ok(
+            Ending::Break {
+                at,
+                reason,
+                breaking,
+            },
+        ) => {
+            let Ok((tail, command)) = open_of(alloc, &pairer) else {
+                return Err(JudgeError::OutOfMemory);
+            };
+            Ok(WhyVerdict::Break {
+                at,
+                reason,
+                tail,
+                command,
+                breaking,
+            })
+        }
         Ok(Ending::NoRun { at }) => {
             let exchanges = trail.into_exchanges();
             let Ok(places) = contradicting(alloc, hands, &exchanges) else {
@@ -106,4 +131,14 @@ fn judge_rows<R: Read + Drop>(
         }
         Err(e) => Err(e),
     }
+}
+
+/// The records that are open, and what the command means that they begin with, if it is whole.
+fn open_of(alloc: Global, pairer: &Pairer) -> Result<(Vec<LineByte>, Option<Command>), AllocError>
+    ensures { IfOk result (λ found. (found.0.items ≡ pairer.now.tail) × IsMeaning (bytes_of (asked_of pairer.now.tail)) found.1) }
+{
+    let mut tail = Vec::new(alloc);
+    tail.extend_from_slice(pairer.tail())?;
+    let command = open_command(alloc, tail.as_slice())?;
+    Ok((tail, command))
 }

@@ -1,6 +1,7 @@
-//! The text of why a capture is a no: the replies that contradict one another, and what the deck could show before the last
-//! of them.
+//! The text of why a capture is a no: the records that are open before the one that breaks a rule, or the replies that
+//! contradict one another and what the deck could show before the last of them.
 mod block_bytes;
+mod break_lines;
 mod exchange_line;
 mod modes;
 mod said;
@@ -20,6 +21,7 @@ use crate::verdict_line::put_verdict_line;
 use crate::why_verdict::WhyVerdict;
 use crate::writing::{WriteFault, put_all};
 use block9::{Exchange, Reason};
+use break_lines::put_break;
 use deck9::Hands;
 use exchange_line::put_contradicting;
 use modes::{Choice, put_modes};
@@ -28,9 +30,13 @@ use std::io::Write;
 use track9::{Knowledge, ModeSet};
 
 /// Writes why a capture is a no: where no run of the deck remains a line for each of the replies that contradict one
-/// another, then what the deck could show when it gave the last of them, and in each case the line of the verdict.
+/// another, then what the deck could show when it gave the last of them; where a rule of blocks, pairing or timing is
+/// broken a line for the records of the open command, one for those of its reply, and one for the record that breaks; and
+/// in each case the line of the verdict.
 ///
-/// A line of a reply tells the numbers of its exchange's records, the time of the first of them in microseconds, what
+/// A line of open records tells their numbers, the time of the first of them in microseconds, the command's name and time
+/// where it is whole, and their bytes. The line of the record that breaks tells its number, time, wire and byte, how many
+/// microseconds it comes after the last open one, and the limit where the rule is one of time. A line of a reply tells the numbers of its exchange's records, the time of the first of them in microseconds, what
 /// was asked and what was answered, with the bytes of both blocks, and what the reply says of the deck. With
 /// `Hands::Allowed` it is told whether the panel is on.
 ///
@@ -79,7 +85,16 @@ fn put_why(text: &mut Vec<u8>, hands: Hands, verdict: &WhyVerdict) -> Result<(),
                 tail: *tail,
             },
         ),
-        WhyVerdict::No { at, reason } => put_no(text, *at, *reason),
+        WhyVerdict::Break {
+            at,
+            reason,
+            tail,
+            command,
+            breaking,
+        } => {
+            put_break(text, *at, *reason, tail.as_slice(), command, *breaking)?;
+            put_no(text, *at, *reason)
+        }
         WhyVerdict::Contradiction {
             at,
             exchanges,

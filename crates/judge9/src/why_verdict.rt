@@ -1,9 +1,11 @@
 //! What is answered to a capture where it is asked why no run of the deck remains.
 
-use block9::{Exchange, Reason};
+use block9::{Command, Exchange, Reason};
+use capture9::LineByte;
 use track9::{Knowledge, ModeSet};
 
-/// The verdict on the records of a capture, and where no run remains the replies that contradict one another.
+/// The verdict on the records of a capture, and why it is a no: where a rule of blocks, pairing or timing is broken the
+/// records that are open, and where no run remains the replies that contradict one another.
 #[derive(Debug, Drop, PartialEq, Eq)]
 pub enum WhyVerdict {
     /// No row is bad, all records keep the rules, and some run of the deck gives exactly their replies.
@@ -16,11 +18,18 @@ pub enum WhyVerdict {
         tail: u32,
     },
     /// A record breaks a rule of blocks, pairing or timing. Later rows were not judged, and may be bad.
-    No {
+    Break {
         /// The number of the first record that does, counted from 1: its data row.
         at: u32,
         /// The rule that it breaks, and the first of them where it breaks several; never `Reason::NoRun`.
         reason: Reason,
+        /// The records after the last whole exchange, without this one: those of a command, at most 18, and behind them
+        /// those of its reply, at most 17.
+        tail: Vec<LineByte>,
+        /// What the open command means, where it is whole.
+        command: Option<Command>,
+        /// The record that breaks the rule.
+        breaking: LineByte,
     },
     /// A record ends an exchange with which no run of the deck remains.
     Contradiction {

@@ -6,6 +6,7 @@ mod could_show;
 mod deck;
 mod drawn;
 mod explained;
+mod fewest_hands;
 mod hostile;
 mod lines;
 mod long;

@@ -169,7 +169,7 @@ fn verdict_of_why(why: &WhyVerdict) -> Verdict
             exchanges: *exchanges,
             tail: *tail,
         },
-        WhyVerdict::No { at, reason } => Verdict::No {
+        WhyVerdict::Break { at, reason, .. } => Verdict::No {
             at: *at,
             reason: *reason,
         },

@@ -15,7 +15,7 @@ pub enum Verb {
     Explain,
     /// Hand out a run of the deck before the verdict: the subcommand `run`.
     Run,
-    /// Say which replies contradict one another before the verdict: the subcommand `why`.
+    /// Say why a no is one before the verdict: the subcommand `why`.
     Why,
 }
 

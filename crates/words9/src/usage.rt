@@ -91,6 +91,6 @@ fn about<'a>(verb: Verb) -> &'a str {
         Verb::Run =>
             "Hand out one run of the deck that explains the replies: the deck's state after each exchange",
         Verb::Why =>
-            "Say, where no run of the deck explains the replies, which of them contradict one another",
+            "Say why a no is one: what is open before the break, or which replies contradict one another",
     }
 }

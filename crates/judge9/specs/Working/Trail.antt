@@ -23,6 +23,7 @@ use Rattle.judge9.specs.declared.verdict.Verdict.{Verdict}
 use Rattle.judge9.specs.declared.verdict.Verdict.TheVariants as verdict
 use Rattle.judge9.specs.declared.verdict.View.TheVariants as view
 use Rattle.judge9.specs.declared.why_verdict.WhyVerdict.{WhyVerdict}
+use Rattle.judge9.specs.OpenRecords.{IsBreakAfter}
 use Rattle.judge9.specs.RunVerdict.{HasItsRun, judged_of}
 use Rattle.judge9.specs.WhyVerdict.{HasItsWhy}
 use Rattle.judge9.specs.WhyVerdict.{judged_of as why_judged_of}
@@ -60,7 +61,7 @@ pub record GoesBack (h : Hands) (X : State → Type 0) (es : List Exchange) (end
 -- the verdict of a judging whose trail has these exchanges
 abbrev pub verdict_at : List Exchange → Ending → Verdict
 verdict_at es (ending.End records tail) = verdict.Yes records (length es) tail
-verdict_at es (ending.Break at reason) = verdict.No at reason
+verdict_at es (ending.Break at reason r) = verdict.No at reason
 verdict_at es (ending.NoRun at) = verdict.No at NoRun
 
 -- the result with that verdict
@@ -82,16 +83,16 @@ pub record LosesItsRuns (h : Hands) (rows : Rows) (at : ℕ) (es : List Exchange
   pub breaks : BreaksAtLast h es
   pub presets : All SetsInDay es
 
--- what is kept of a judging, by where it ends
-abbrev pub EndsAt : Hands → Rows → List Exchange → List Tracked → Tracked → Ending → Type 0
-EndsAt h rows es trackers t (ending.End records tail) = Arrives h rows es trackers t
-EndsAt h rows es trackers t (ending.Break at reason) = reason ≢ NoRun
-EndsAt h rows es trackers t (ending.NoRun at) = LosesItsRuns h rows at es
+-- what is kept of a judging, by where it ends; these records are left of it behind the last whole exchange
+abbrev pub EndsAt : Hands → Rows → List LineByte → List Exchange → List Tracked → Tracked → Ending → Type 0
+EndsAt h rows left es trackers t (ending.End records tail) = Arrives h rows es trackers t
+EndsAt h rows left es trackers t (ending.Break at reason r) = (reason ≢ NoRun) × IsBreakAfter rows.records at left r
+EndsAt h rows left es trackers t (ending.NoRun at) = LosesItsRuns h rows at es
 
 -- all that the result of a judging tells that keeps its trail
-pub record KeepsTrail (hands : Hands) (rows : Option Rows) (result : Result Ending JudgeError) (es : List Exchange) (trackers : List Tracked) (t : Tracked) : Type 0 where
+pub record KeepsTrail (hands : Hands) (rows : Option Rows) (result : Result Ending JudgeError) (left : List LineByte) (es : List Exchange) (trackers : List Tracked) (t : Tracked) : Type 0 where
   pub judges : Judges view.Verdict hands rows (judged_at es result) None None
-  pub ends : IfOk result (EndsAt hands judges.told.rows es trackers t)
+  pub ends : IfOk result (EndsAt hands judges.told.rows left es trackers t)
   pub no_write : result ≢ Err error.Write
 
 -- all that the result of a judging with a run tells

@@ -30,7 +30,7 @@ fn put_data(line: &mut Vec<u8>, bytes: &[u8]) -> Result<(), AllocError>
 }
 
 /// Puts a byte with a space before it.
-fn put_next(line: &mut Vec<u8>, byte: u32) -> Result<(), AllocError>
+pub(super) fn put_next(line: &mut Vec<u8>, byte: u32) -> Result<(), AllocError>
     ensures { OnOk result (line.new.items ≡ line.old.items ++ (codes " " ++ hex_byte byte)) }
 {
     put_text(line, " ")?;

@@ -2,7 +2,7 @@
 ghost use Rattle.std.specs.Prelude.{◌≡◌, ◌≤◌, ◌^◌, ◌++◌, OnOk};
 ghost use Rattle.block9.specs.Command.{name_of};
 ghost use Rattle.deck9.specs.Shows.{sense_of};
-ghost use Rattle.judge9.specs.WhyText.{line_of_contradicting, text_of_answered, text_of_asked, time_in, time_told, time_with_space, with_space};
+ghost use Rattle.judge9.specs.WhyText.{line_of_contradicting, text_of_answered, text_of_asked, text_of_records, time_in, time_told, time_with_space, with_space, words_of};
 
 use crate::pieces::{put_count, put_text, put_wide, put_word};
 use crate::run_text::records_of;
@@ -23,12 +23,26 @@ pub(super) fn put_contradicting(
     requires { at ≤ 2 ^ 100 }
     ensures { OnOk result (line.new.items ≡ line.old.items ++ line_of_contradicting at exchange.now) }
 {
-    put_wide(line, "records ", at + 1)?;
-    put_wide(line, " to ", at + records_of(exchange) as u128)?;
-    put_count(line, " at ", exchange.time_us)?;
+    put_records(line, at, records_of(exchange), exchange.time_us)?;
     put_asked(line, ": ", exchange)?;
     put_answered(line, " -> ", exchange)?;
     put_text(line, "\n")
+}
+
+/// Puts how a line of records begins: the numbers of the first and the last, and the time of the first. `at` is how many
+/// records come before them.
+pub(super) fn put_records(
+    line: &mut Vec<u8>,
+    at: u128,
+    count: usize,
+    time_us: u64,
+) -> Result<(), AllocError>
+    requires { at ≤ 2 ^ 100 }
+    ensures { OnOk result (line.new.items ≡ line.old.items ++ text_of_records at count time_us) }
+{
+    put_wide(line, "records ", at + 1)?;
+    put_wide(line, " to ", at + count as u128)?;
+    put_count(line, " at ", time_us)
 }
 
 /// Puts a label and what was asked: the name of a command that is listed, its time, and the bytes of its block.
@@ -36,9 +50,16 @@ fn put_asked(line: &mut Vec<u8>, label: &str, exchange: &Exchange) -> Result<(),
     ensures { OnOk result (line.new.items ≡ line.old.items ++ (label.now ++ text_of_asked exchange.now)) }
 {
     put_text(line, label)?;
-    put_name(line, &exchange.command)?;
-    put_time(line, time_in(&exchange.command))?;
+    put_words(line, &exchange.command)?;
     put_block(line, &exchange.block)
+}
+
+/// Puts the name of a command that is listed, and its time.
+pub(super) fn put_words(line: &mut Vec<u8>, command: &Command) -> Result<(), AllocError>
+    ensures { OnOk result (line.new.items ≡ line.old.items ++ words_of command.now) }
+{
+    put_name(line, command)?;
+    put_time(line, time_in(command))
 }
 
 /// Puts a label and what was answered: the time of a register, the bytes of the block, and what status data say.

@@ -8,7 +8,7 @@ use std::process::Abort;
 use std::test::Fail;
 
 /// How many captures are drawn for each of hands.
-const CAPTURES: u32 = 1_000;
+pub(super) const CAPTURES: u32 = 1_000;
 
 const PARTS: [&str; 32] = [
     REMOTE,
@@ -47,7 +47,7 @@ const PARTS: [&str; 32] = [
 
 /// Numbers that look like drawn ones, and are the same in each run.
 #[derive(Drop)]
-struct Draw(u32);
+pub(super) struct Draw(pub(super) u32);
 
 impl Draw {
     /// A number below that one, which is not 0.
@@ -65,7 +65,7 @@ impl Draw {
 
 /// A capture of at most sixteen exchanges. In about half of them two come before these that leave a deck in remote which
 /// nobody touches: such a deck does all that it acknowledges.
-fn drawn(alloc: Global, draw: &mut Draw) -> Result<String, AllocError> {
+pub(super) fn drawn(alloc: Global, draw: &mut Draw) -> Result<String, AllocError> {
     let mut tap = Tap::new(alloc)?;
     if draw.below(2) == 0 {
         tap.put(DISABLE)?;

@@ -5,8 +5,8 @@ use super::parts::*;
 use super::readers::Cut;
 use super::texts::{PLAYED_AND_BAD, PLAYED_AND_CUT};
 use super::{Tap, capture};
-use block9::Reason;
-use capture9::{CaptureError, CaptureKind};
+use block9::{Command, Reason};
+use capture9::{CaptureError, CaptureKind, LineByte, Wire};
 use deck9::Hands;
 use judge9::{JudgeError, WhyVerdict, judge_with_contradiction};
 use std::alloc::{AllocError, Global};
@@ -146,18 +146,102 @@ fn a_yes_with_a_tail(rt: HostRuntime) -> Result<(), Fail> {
     Ok(())
 }
 
+/// How many records are open, what the command means that they begin with, and the time, wire and byte of the record that
+/// breaks. The records are 400 microseconds apart.
+type Open = (usize, Option<Command>, (u64, Wire, u8));
+
 #[test]
-fn a_no_for_another_reason(rt: HostRuntime) -> Result<(), Fail> {
-    for (parts, at, reason) in [
-        (&[PLAY, "C 20 01 22"], 9, Reason::WrongSum),
-        (&[PLAY, "D 10"], 7, Reason::ReplyWithoutCommand),
-        (&[IN_SET, "C 60 10 70 D 10 01 11"], 14, Reason::WrongReply),
-    ] {
-        let no = WhyVerdict::No { at, reason };
-        assert!(rt;
-            answer(&rt, rt.alloc(), Hands::None, parts)? == no,
-            "{parts:?}"
-        );
+fn what_is_open_at_a_break(rt: HostRuntime) -> Result<(), Fail> {
+    let rows: [(&[&str], u32, Reason, Open); 7] = [
+        (
+            &["D 10"],
+            1,
+            Reason::ReplyWithoutCommand,
+            (0, None, (400, Wire::Deck, 0x10)),
+        ),
+        (
+            &[PLAY, "D 10"],
+            7,
+            Reason::ReplyWithoutCommand,
+            (0, None, (2_800, Wire::Deck, 0x10)),
+        ),
+        (
+            &[PLAY, "C 20 01 22"],
+            9,
+            Reason::WrongSum,
+            (2, None, (3_600, Wire::Controller, 0x22)),
+        ),
+        (
+            &[PLAY, "C 20 01 21 20"],
+            10,
+            Reason::CommandBeforeReply,
+            (3, Some(Command::Play), (4_000, Wire::Controller, 0x20)),
+        ),
+        (
+            &[IN_SET, "C 60 10 70 D 10 01 11"],
+            14,
+            Reason::WrongReply,
+            (5, Some(Command::InDataSense), (5_600, Wire::Deck, 0x11)),
+        ),
+        (
+            &["C 61 20 03 84 D 73 20 C 61"],
+            7,
+            Reason::CommandInsideReply,
+            (
+                6,
+                Some(Command::StatusSense { asked: 0x03 }),
+                (2_800, Wire::Controller, 0x61),
+            ),
+        ),
+        (
+            &["C 44 14 25 00 00 10 8D"],
+            7,
+            Reason::InvalidCommandTime,
+            (6, None, (2_800, Wire::Controller, 0x8D)),
+        ),
+    ];
+    for (parts, at, reason, open) in rows {
+        tell_open(&rt, rt.alloc(), parts, (at, reason), open)?;
+    }
+    Ok(())
+}
+
+/// Compares the open records with the last ones before the break.
+fn tell_open(
+    rt: &impl Abort,
+    alloc: Global,
+    parts: &[&str],
+    expected: (u32, Reason),
+    open: Open,
+) -> Result<(), AllocError> {
+    let answer = answer(rt, alloc, Hands::None, parts)?;
+    let WhyVerdict::Break {
+        at,
+        reason,
+        tail,
+        command,
+        breaking,
+    } = &answer
+    else {
+        panic!(rt; "no break: {parts:?}");
+    };
+    let (count, meaning, (time_us, wire, byte)) = open;
+    assert_eq!(rt; (*at, *reason), expected, "{parts:?}");
+    assert_eq!(rt;
+        *breaking,
+        LineByte {
+            time_us,
+            wire,
+            byte
+        },
+        "{parts:?}"
+    );
+    assert_eq!(rt; *command, meaning, "{parts:?}");
+    assert_eq!(rt; tail.len(), count, "{parts:?}");
+    let mut time_us = breaking.time_us;
+    for line_byte in tail.iter().rev() {
+        time_us = time_us.saturating_sub(400);
+        assert_eq!(rt; line_byte.time_us, time_us, "{parts:?}");
     }
     Ok(())
 }

@@ -10,11 +10,11 @@ use Rattle.judge9.proofs.trail_judging.keep_trail.Goals as goal
 
 pub rows-init : goal.rows-init
 rows-init g c =
-    with-start c.args.hands c.args.rows.now c.new-pairer.result c.args.tracker.now c.args.trail.now.exchanges.items c.args.trail.now.trackers.items c.requires.first c.requires.fresh c.requires.reading c.new-pairer.ensures
+    with-start c.args.hands c.args.rows.now c.args.pairer.now c.args.tracker.now c.args.trail.now.exchanges.items c.args.trail.now.trackers.items c.requires.first c.requires.fresh c.requires.reading c.requires.fed_nothing
     (follows-start c.args.hands c.args.tracker.now c.requires.states c.requires.hands) c.requires.no_exchange c.requires.no_tracker
 
 pub returns-in-Err : goal.returns-in-Err
-returns-in-Err g c = keep-refusal _ _ _ _ _ _ _ _ _ _ _ _ _ _ c.rows.invariant c.in-Err.ensures.refused c.from.ensures
+returns-in-Err g c = keep-refusal _ _ _ _ _ _ _ _ _ _ _ _ _ _ _ c.rows.invariant c.in-Err.ensures.refused c.from.ensures
 
 pub feed-requires : goal.feed-requires
 feed-requires g c =
@@ -42,13 +42,13 @@ returns-in-Err-feed g c =
     keep-break _ _ _ _ _ _ _ _ _ _ _ _ c.rows.invariant given (c.in-Err-feed.ensures.refuses c.rows.invariant.so_far.no_reason)
 
 pub returns-in_default : goal.returns-in_default
-returns-in_default g c = keep-memory _ _ _ _ _ _ _ _ _ _ _ c.rows.invariant
+returns-in_default g c = keep-memory _ _ _ _ _ _ _ _ _ _ _ _ c.rows.invariant
 
 pub returns-in_default-observe : goal.returns-in_default-observe
-returns-in_default-observe g c = keep-memory _ _ _ _ _ _ _ _ _ _ _ c.rows.invariant
+returns-in_default-observe g c = keep-memory _ _ _ _ _ _ _ _ _ _ _ _ c.rows.invariant
 
 pub returns-in_default-push : goal.returns-in_default-push
-returns-in_default-push g c = keep-memory _ _ _ _ _ _ _ _ _ _ _ c.rows.invariant
+returns-in_default-push g c = keep-memory _ _ _ _ _ _ _ _ _ _ _ _ c.rows.invariant
 
 pub returns-then-not-remains : goal.returns-then-not-remains
 returns-then-not-remains g c =
@@ -56,8 +56,9 @@ returns-then-not-remains g c =
     let takes = rw c.in-Ok-Exchange.field-0-is at (c.in-Ok-Exchange.ensures.takes c.rows.invariant.so_far.no_reason) in
     let far = c.rows.invariant.so_far in
     let e = c.in-Ok-Exchange.exchange in
-    let follows = follows-more c.args.hands far.cut_exchanges e c.rows.tracker c.observe.new.self far.follows c.in-Ok-observe.ensures.reached c.in-Ok-observe.ensures.hands in
-    let pushed = c.in-Ok-push.ensures.exchanges ∙ ap (λ (v : Vec Exchange). v.items ++ e ∷ []) c.in-Ok.ensures.same in
+    let reached = rw c.in-Ok-Exchange.field-0-is at c.in-Ok-observe.ensures.reached in
+    let follows = follows-more c.args.hands far.cut_exchanges e c.rows.tracker c.observe.new.self far.follows reached c.in-Ok-observe.ensures.hands in
+    let pushed = rw c.in-Ok-Exchange.field-0-is at c.in-Ok-push.ensures.exchanges ∙ ap (λ (v : Vec Exchange). v.items ++ e ∷ []) c.in-Ok.ensures.same in
     keep-no_run _ _ _ _ _ _ _ _ _ _ _ _ _ _ _ _ c.rows.invariant given takes follows c.in-Ok-observe.ensures.remains c.if-not-remains.true pushed
 
 pub rows-preserved : goal.rows-preserved
@@ -66,9 +67,10 @@ rows-preserved g c =
     let takes = rw c.in-Ok-Exchange.field-0-is at (c.in-Ok-Exchange.ensures.takes c.rows.invariant.so_far.no_reason) in
     let far = c.rows.invariant.so_far in
     let e = c.in-Ok-Exchange.exchange in
-    let follows = follows-more c.args.hands far.cut_exchanges e c.rows.tracker c.observe.new.self far.follows c.in-Ok-observe.ensures.reached c.in-Ok-observe.ensures.hands in
+    let reached = rw c.in-Ok-Exchange.field-0-is at c.in-Ok-observe.ensures.reached in
+    let follows = follows-more c.args.hands far.cut_exchanges e c.rows.tracker c.observe.new.self far.follows reached c.in-Ok-observe.ensures.hands in
     let remains = run_remains c.args.hands _ c.observe.new.self follows (c.in-Ok-observe.ensures.remains.0 c.if-not-remains.false) in
-    let pushed = c.in-Ok-push.ensures.exchanges ∙ ap (λ (v : Vec Exchange). v.items ++ e ∷ []) c.in-Ok.ensures.same in
+    let pushed = rw c.in-Ok-Exchange.field-0-is at c.in-Ok-push.ensures.exchanges ∙ ap (λ (v : Vec Exchange). v.items ++ e ∷ []) c.in-Ok.ensures.same in
     let marked = c.in-Ok.ensures.trail in
     let trail = subst (λ (h : Hands). IsTrail h c.push.new.self.exchanges.items c.push.new.self.trackers.items) far.follows.hands (c.in-Ok-push.ensures.trail c.rows.tracker.hands marked) in
     with-exchange _ _ _ _ _ _ _ _ _ _ _ _ _ _ _ c.rows.invariant given takes follows remains pushed trail
@@ -77,4 +79,4 @@ pub returns : goal.returns
 returns g c =
     let ended = rw c.in-Ok-None.field-0-is at c.in-Ok-None.ensures.ended in
     let found = keep-end c.args.hands c.args.rows.now.rows _ _ c.rows.pairer c.rows.tracker _ _ c.rows.records c.rows.invariant ended in
-    subst (λ (k : ℕ). KeepsTrail c.args.hands c.args.rows.now.rows (Ok (ending.End c.rows.records k)) c.rows.trail.exchanges.items c.rows.trail.trackers.items c.rows.tracker) (sym c.tail_len-tail.ensures.len) found
+    subst (λ (k : ℕ). KeepsTrail c.args.hands c.args.rows.now.rows (Ok (ending.End c.rows.records k)) c.rows.pairer.tail c.rows.trail.exchanges.items c.rows.trail.trackers.items c.rows.tracker) (sym c.tail_len-tail.ensures.len) found
