@@ -5,25 +5,12 @@ set -u
 cd "$(dirname "$0")/.." || exit 1
 program=${NINECHECK:-$PWD/crates/ninecheck/out/ninecheck}
 
+. tests/lib/judge.sh
 . tests/lib/tools.sh
 need_tools mawk gawk busybox
 
 work=$(mktemp -d)
 trap 'rm -rf "$work"' EXIT
-passed=0
-failed=0
-
-# judge NAME CONDITION...: counts whether this command succeeds.
-judge() {
-    local name=$1
-    shift
-    if "$@"; then
-        passed=$((passed + 1))
-    else
-        failed=$((failed + 1))
-        echo "FAILED $name"
-    fi
-}
 
 # convert CONVERTER WORDS: the converter on standard input; its streams are left in $work/out and $work/err.
 convert() {
@@ -294,5 +281,4 @@ done
 judge 'the same end of log.awk' cmp "$work/sigrok.awk" "$work/log.awk"
 judge 'the same end of saleae.awk' cmp "$work/sigrok.awk" "$work/saleae.awk"
 
-echo "$passed passed, $failed failed"
-[ "$failed" = 0 ]
+tell_counts

@@ -3,12 +3,11 @@
 set -u
 cd "$(dirname "$0")/.." || exit 1
 program=${NINECHECK:-$PWD/crates/ninecheck/out/ninecheck}
+. tests/lib/judge.sh
 . tests/lib/errors.sh
 
 work=$(mktemp -d)
 trap 'rm -rf "$work"' EXIT
-passed=0
-failed=0
 
 # What stands for blocks: an acknowledgement; a status reply that the deck is not in local, and one that it is; a
 # preset of IN to 10:00:00:00.
@@ -27,19 +26,6 @@ explain() {
         echo "$1" | tr -s ' ' '\n' | awk '/^$/ { next } /^[CD]$/ { wire = $0; next } { time += 400; print time "," wire "," $0 }'
     } | "$program" explain "${@:2}" > "$work/out" 2> "$work/err"
     status=$?
-}
-
-# judge NAME CONDITION...: counts whether this command succeeds.
-judge() {
-    local name=$1
-    shift
-    if "$@"; then
-        passed=$((passed + 1))
-    else
-        failed=$((failed + 1))
-        echo "FAILED $name: status $status"
-        cat "$work/out" "$work/err"
-    fi
 }
 
 # is_report STATUS: the whole report is $want, and nothing was said beside it.
@@ -171,5 +157,4 @@ judge 'a long report, the status' [ "$status" = 0 ]
 judge 'a long report, its lines' has_lines 100001
 judge 'a long report, the last line' has_line 100001 'yes: records 600000, exchanges 100000, open 0'
 
-echo "$passed passed, $failed failed"
-[ "$failed" = 0 ]
+tell_counts

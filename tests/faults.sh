@@ -4,6 +4,7 @@
 set -u
 cd "$(dirname "$0")/.." || exit 1
 program=${NINECHECK:-$PWD/crates/ninecheck/out/ninecheck}
+. tests/lib/judge.sh
 . tests/lib/errors.sh
 . tests/lib/tools.sh
 need_tools cc=gcc
@@ -11,8 +12,6 @@ need_tools cc=gcc
 work=$(mktemp -d)
 trap 'rm -rf "$work"' EXIT
 cc -shared -fPIC -O2 -o "$work/fail_call.so" tests/fail_call.c -ldl || exit 1
-passed=0
-failed=0
 
 # PLAY and its reply, 1,000 times: more than the buffer holds, where each exchange has a line.
 {
@@ -31,14 +30,20 @@ run() {
     read -r reads writes < "$work/calls"
 }
 
+show() {
+    echo "status $status, reads $reads, writes $writes"
+    cat "$work/err"
+}
+
 # has_begun: what was written is a first part of what is right.
 has_begun() {
     cmp -s -n "$(wc -c < "$work/out")" "$work/out" "$work/whole"
 }
 
-# is_right: the answer is right, whole, and nothing is said beside it.
+# is_right: the answer is right, whole, and nothing is said beside it. It is a yes, unless $answer is the status of another.
+answer=0
 is_right() {
-    [ "$status" = 0 ] && cmp -s "$work/out" "$work/whole" && [ ! -s "$work/err" ]
+    [ "$status" = "$answer" ] && cmp -s "$work/out" "$work/whole" && [ ! -s "$work/err" ]
 }
 
 # is_write_fault: the program ended with the write that failed, and has written a first part and not the whole.
@@ -67,45 +72,50 @@ try() {
     count=$reads
     [ "$call" = read ] || count=$writes
     if ! is_right || [ "$count" = 0 ]; then
-        failed=$((failed + 1))
-        echo "FAILED $verb $(basename "$file") as it is: status $status, reads $reads, writes $writes"
+        fail "$verb $(basename "$file") as it is"
         return
     fi
     for at in $(seq "$count"); do
         run "$verb" "$file" "$call" "$at" "$how"
         if ! "$condition"; then
-            failed=$((failed + 1))
-            echo "FAILED $verb $(basename "$file"), $call $at $how: status $status, calls $reads $writes"
-            cat "$work/err"
+            fail "$verb $(basename "$file"), $call $at $how"
             return
         fi
     done
-    passed=$((passed + 1))
+    pass
     echo "$verb $(basename "$file"): right with each of $count calls of $call: $how"
+}
+
+# try_all VERB FILE: each call failing in each way.
+try_all() {
+    local how
+    for how in EIO EINTR ENOSPC zero; do
+        try "$1" "$2" write "$how" is_write_fault
+    done
+    try "$1" "$2" write short is_right
+    for how in EIO EINTR; do
+        try "$1" "$2" read "$how" is_read_fault
+    done
+    try "$1" "$2" read short is_right
 }
 
 for verb in check explain run why; do
     for file in examples/play.csv "$work/long.csv"; do
-        for how in EIO EINTR ENOSPC zero; do
-            try "$verb" "$file" write "$how" is_write_fault
-        done
-        try "$verb" "$file" write short is_right
-        for how in EIO EINTR; do
-            try "$verb" "$file" read "$how" is_read_fault
-        done
-        try "$verb" "$file" read short is_right
+        try_all "$verb" "$file"
     done
 done
+
+# The same of why a no is one, where a rule of timing is broken and where no run remains.
+answer=1
+for file in examples/late-reply.csv examples/disputed-in-point.csv; do
+    try_all why "$file"
+done
+answer=0
 
 # expect_row N WANT: the row that is named where read N of PLAY fails.
 expect_row() {
     run check examples/play.csv read "$1" EIO
-    if [ "$status" = 4 ] && [ "$(cat "$work/err")" = "$(both_lines "read fault at row $2")" ] && [ ! -s "$work/out" ]; then
-        passed=$((passed + 1))
-    else
-        failed=$((failed + 1))
-        echo "FAILED read $1 of PLAY: status $status: $(cat "$work/err")"
-    fi
+    judge "read $1 of PLAY" is_text 4 '' "$(both_lines "read fault at row $2")"
 }
 
 # The first read fails in the header; the last, which finds the end, comes after the six rows.
@@ -114,5 +124,4 @@ last=$reads
 expect_row 1 0
 expect_row "$last" 7
 
-echo "$passed passed, $failed failed"
-[ "$failed" = 0 ]
+tell_counts

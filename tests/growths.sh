@@ -142,6 +142,7 @@ try_words 1 run examples/disputed-in-point.csv
 try_words 3 run examples/bad-byte.csv
 try_words 0 why examples/fast-forward.csv
 try_words 1 why examples/disputed-in-point.csv
+try_words 1 why examples/late-reply.csv
 try_words 3 why examples/bad-byte.csv
 
 # PLAY and its reply once more than a stretch of a run's way back has exchanges.

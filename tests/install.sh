@@ -4,40 +4,28 @@
 set -u
 cd "$(dirname "$0")/.." || exit 1
 
+. tests/lib/judge.sh
 . tests/lib/tools.sh
 need_tools mandoc make
 
 work=$(mktemp -d)
 trap 'rm -rf "$work"' EXIT
 chmod 755 "$work"
-passed=0
-failed=0
 
 # expect NAME STATUS STDOUT STDERR: compares with the run whose status is in $status and whose streams are in
 # $work/out and $work/err.
 expect() {
-    local name=$1 want_status=$2 want_out=$3 want_err=$4
-    if [ "$status" = "$want_status" ] && [ "$(cat "$work/out")" = "$want_out" ] && [ "$(cat "$work/err")" = "$want_err" ]; then
-        passed=$((passed + 1))
-    else
-        failed=$((failed + 1))
-        echo "FAILED $name: status $status, wanted $want_status"
-        echo "standard output: $(cat "$work/out")"
-        echo "standard error: $(cat "$work/err")"
-    fi
+    judge "$1" is_text "${@:2}"
 }
 
 # holds NAME WORDS...: the command ends well.
 holds() {
-    local name=$1
-    shift
-    if "$@" > "$work/out" 2> "$work/err"; then
-        passed=$((passed + 1))
-    else
-        failed=$((failed + 1))
-        echo "FAILED $name"
-        cat "$work/out" "$work/err"
-    fi
+    judge "$1" in_quiet "${@:2}"
+}
+in_quiet() {
+    "$@" > "$work/out" 2> "$work/err"
+    status=$?
+    [ "$status" = 0 ]
 }
 
 # as_nobody WORDS...: runs them in a folder whose name has a blank, as a user without rights to the repository.
@@ -147,5 +135,4 @@ for word in $("$program" --help | awk '/^Commands:/ { on = 1; next } /^$/ { on =
     done
 done
 
-echo "$passed passed, $failed failed"
-[ "$failed" = 0 ]
+tell_counts

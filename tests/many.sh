@@ -3,23 +3,20 @@
 # 'N passed, M failed'.
 set -u
 cd "$(dirname "$0")/.." || exit 1
+. tests/lib/judge.sh
 source tests/lib/tools.sh
 need_tools parallel
 
 work=$(mktemp -d)
 trap 'rm -rf "$work"' EXIT
-passed=0
-failed=0
 
 # is_same NAME WANT FILE: counts whether the file has this text.
 is_same() {
-    if [ "$2" = "$(cat "$3")" ]; then
-        passed=$((passed + 1))
-    else
-        failed=$((failed + 1))
-        echo "FAILED $1:"
-        cat "$3"
-    fi
+    file=$3
+    judge "$1" [ "$2" = "$(cat "$file")" ]
+}
+show() {
+    cat "$file"
 }
 
 # The commands of the page, in their order; each runs in $work with the built program on its path.
@@ -57,5 +54,4 @@ sed -i 's/^ *//' "$work/out"
 is_same 'how often which reason comes' '1 L1 late reply
 1 P1 reply without a command' "$work/out"
 
-echo "$passed passed, $failed failed"
-[ "$failed" = 0 ]
+tell_counts

@@ -3,13 +3,12 @@
 # shown below it. The last line is 'N passed, M failed'.
 set -u
 cd "$(dirname "$0")/.." || exit 1
+. tests/lib/judge.sh
 . tests/lib/tools.sh
 need_tools jq
 
 work=$(mktemp -d)
 trap 'rm -rf "$work"' EXIT
-passed=0
-failed=0
 
 # The commands run in a folder that has what the repository has, so that what they write does not stay.
 mkdir "$work/here"
@@ -19,14 +18,12 @@ ln -s "$PWD"/* "$work/here"
 run_shown() {
     [ -n "$command" ] || return
     (cd "$work/here" && bash -c "$command") > "$work/out" 2>&1 < /dev/null
-    if cmp -s "$work/out" "$work/want"; then
-        passed=$((passed + 1))
-    else
-        failed=$((failed + 1))
-        echo "FAILED $page: $command"
-        diff "$work/want" "$work/out" | head -n 10
-    fi
+    judge "$page: $command" cmp -s "$work/out" "$work/want"
     command=
+}
+
+show() {
+    diff "$work/want" "$work/out" | head -n 10
 }
 
 shown=0
@@ -45,12 +42,6 @@ for page in README.md docs/*.md; do
     done < "$page"
     run_shown
 done
-if [ "$shown" = 13 ]; then
-    passed=$((passed + 1))
-else
-    failed=$((failed + 1))
-    echo "FAILED the commands that are shown: $shown"
-fi
+judge "the commands that are shown: $shown" [ "$shown" = 15 ]
 
-echo "$passed passed, $failed failed"
-[ "$failed" = 0 ]
+tell_counts

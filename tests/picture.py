@@ -172,6 +172,8 @@ def check_stored():
             continue
         _, out, _ = run([PROGRAM, 'check', f'examples/{name}'])
         judge(f'{stored} is as drawn', picture('mawk', out, f'capture=examples/{name}')[1] == open(stored).read())
+        _, out, _ = run([PROGRAM, 'why', f'examples/{name}'])
+        judge(f'{stored} is as drawn of why', picture('mawk', out, f'capture=examples/{name}')[1] == open(stored).read())
         judge(f'{stored} is shown', f'pictures/{name[:-4]}.svg' in page)
 
 

@@ -5,24 +5,11 @@
 set -u
 cd "$(dirname "$0")/.." || exit 1
 program=${NINECHECK:-$PWD/crates/ninecheck/out/ninecheck}
+. tests/lib/judge.sh
 . tests/lib/errors.sh
 
 work=$(mktemp -d)
 trap 'rm -rf "$work"' EXIT
-passed=0
-failed=0
-
-# judge NAME CONDITION...: counts whether this command succeeds.
-judge() {
-    local name=$1
-    shift
-    if "$@"; then
-        passed=$((passed + 1))
-    else
-        failed=$((failed + 1))
-        echo "FAILED $name: $(cat "$work/out")"
-    fi
-}
 
 # blocks BLOCKS: a capture of blocks, each a wire and its bytes without the sum, parted by commas; bytes come 400
 # microseconds apart.
@@ -91,5 +78,4 @@ done < <(sed -n '/^| First line | Second line |$/,/^$/p' docs/PROFILE.md | grep 
     sed 's/^| `//; s/` |$//; s/` | `/|/')
 judge "rows of second lines: $rows" [ "$rows" = 10 ]
 
-echo "$passed passed, $failed failed"
-[ "$failed" = 0 ]
+tell_counts

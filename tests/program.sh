@@ -4,29 +4,16 @@
 set -u
 cd "$(dirname "$0")/.." || exit 1
 program=${NINECHECK:-$PWD/crates/ninecheck/out/ninecheck}
+. tests/lib/judge.sh
 . tests/lib/errors.sh
 
 work=$(mktemp -d)
 trap 'rm -rf "$work"' EXIT
-passed=0
-failed=0
 
 # expect NAME STATUS STDOUT STDERR: compares with the run whose status is in $status and whose streams are in
 # $work/out and $work/err. The streams are given without their last line feed, and must have it.
 expect() {
-    local name=$1 want_status=$2 want_out=$3 want_err=$4
-    : > "$work/want_out"
-    : > "$work/want_err"
-    [ -z "$want_out" ] || printf '%s\n' "$want_out" > "$work/want_out"
-    [ -z "$want_err" ] || printf '%s\n' "$want_err" > "$work/want_err"
-    if [ "$status" = "$want_status" ] && cmp -s "$work/out" "$work/want_out" && cmp -s "$work/err" "$work/want_err"; then
-        passed=$((passed + 1))
-    else
-        failed=$((failed + 1))
-        echo "FAILED $name: status $status, wanted $want_status"
-        echo "standard output: $(cat "$work/out")"
-        echo "standard error: $(cat "$work/err")"
-    fi
+    judge "$1" is_text "${@:2}"
 }
 
 # run WORDS...: the program with these words, on the standard input that it is given.
@@ -220,7 +207,8 @@ expect 'why with the option behind the file' 0 "$yes" ''
 run why < examples/play.csv
 expect 'why on standard input' 0 "$yes" ''
 run why < examples/second-reply.csv
-expect 'why of a capture that breaks a rule' 1 'no at record 7: P1 reply without a command' ''
+expect 'why of a capture that breaks a rule' 1 'record 7 at 2800: D 10
+no at record 7: P1 reply without a command' ''
 run why examples/disputed-in-point.csv < /dev/null
 explained 'why with a file of which no run remains' 1 'no at record 28: M1 no run remains' ''
 run why examples/bad-byte.csv < /dev/null
@@ -435,5 +423,4 @@ done
 status=$?
 expect 'a row without end, by the script' 5 '' "$(both_lines 'out of memory')"
 
-echo "$passed passed, $failed failed"
-[ "$failed" = 0 ]
+tell_counts

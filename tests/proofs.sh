@@ -3,20 +3,7 @@
 # The last line is 'N passed, M failed'.
 set -u
 cd "$(dirname "$0")/.." || exit 1
-passed=0
-failed=0
-
-# check NAME COMMAND...: a command that has to succeed.
-check() {
-    local name=$1
-    shift
-    if "$@"; then
-        passed=$((passed + 1))
-    else
-        failed=$((failed + 1))
-        echo "FAILED $name"
-    fi
-}
+. tests/lib/judge.sh
 
 # The files that a page names, in its order, and those that there are.
 named() { sed -n 's/^| `\([A-Za-z]*\)` |.*/\1/p' "$1/README.md"; }
@@ -32,14 +19,13 @@ cites_earlier() {
 }
 
 for proofs in crates/*/proofs; do
-    check "$proofs has a page" [ -f "$proofs/README.md" ]
-    check "the page of $proofs names its files" [ "$(named "$proofs" | sort)" = "$(there "$proofs")" ]
+    judge "$proofs has a page" [ -f "$proofs/README.md" ]
+    judge "the page of $proofs names its files" [ "$(named "$proofs" | sort)" = "$(there "$proofs")" ]
     earlier=''
     for file in $(named "$proofs"); do
-        check "$proofs/$file cites what is named before it" cites_earlier "$proofs" "$file" $earlier
+        judge "$proofs/$file cites what is named before it" cites_earlier "$proofs" "$file" $earlier
         earlier="$earlier $file"
     done
 done
 
-echo "$passed passed, $failed failed"
-[ "$failed" = 0 ]
+tell_counts

@@ -4,8 +4,7 @@
 set -u
 cd "$(dirname "$0")/.." || exit 1
 program=${NINECHECK:-$PWD/crates/ninecheck/out/ninecheck}
-passed=0
-failed=0
+. tests/lib/judge.sh
 
 # answer_to RECORDS: the program's line on these records: wire letters, each before the bytes that it brings, 400
 # microseconds apart; `+N` lets the line rest N microseconds more.
@@ -17,14 +16,13 @@ answer_to() {
     } | "$program" check
 }
 
+show() {
+    echo "$got"
+}
+
 while IFS='|' read -r name want records; do
     got=$(answer_to "$records" 2>&1)
-    if [ "$got" = "$want" ]; then
-        passed=$((passed + 1))
-    else
-        failed=$((failed + 1))
-        echo "FAILED $name: $got"
-    fi
+    judge "$name" [ "$got" = "$want" ]
 done <<'END'
 both wires swapped|no at record 1: P1 reply without a command|D 20 01 21 C 10 01 11
 a capture that begins with a reply|no at record 1: P1 reply without a command|D 10 01 11 C 20 01 21
@@ -55,5 +53,4 @@ a preset with the hours first|no at record 7: P6 invalid time in a command|C 44 
 a time code at 30 frames a second|no at record 11: P7 invalid time in a reply|C 61 0C 01 6E D 74 04 29 00 00 00 A1
 END
 
-echo "$passed passed, $failed failed"
-[ "$failed" = 0 ]
+tell_counts

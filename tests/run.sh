@@ -4,13 +4,12 @@
 set -u
 cd "$(dirname "$0")/.." || exit 1
 program=${NINECHECK:-$PWD/crates/ninecheck/out/ninecheck}
+. tests/lib/judge.sh
 . tests/lib/errors.sh
 . tests/lib/blocks.sh
 
 work=$(mktemp -d)
 trap 'rm -rf "$work"' EXIT
-passed=0
-failed=0
 
 # What stands for blocks: an acknowledgement; a status reply that the deck is not in local, and one that it is; a
 # preset of IN to 10:00:00:00; a deck in local whose IN point is 10:00:00:00; a shift of IN by a frame.
@@ -216,5 +215,4 @@ in_order=$(awk -F '[ :]' '/^record/ && $2 == 6 * NR { n++ } END { print n }' "$w
 judge 'a long text, the records' [ "$in_order" = 100000 ]
 judge 'a long text, the last line' has_line 100001 'yes: records 600000, exchanges 100000, open 0'
 
-echo "$passed passed, $failed failed"
-[ "$failed" = 0 ]
+tell_counts

@@ -6,26 +6,13 @@ cd "$(dirname "$0")/.." || exit 1
 program=${NINECHECK:-$PWD/crates/ninecheck/out/ninecheck}
 top=$PWD
 
+. tests/lib/judge.sh
 . tests/lib/errors.sh
 . tests/lib/tools.sh
 need_tools mawk gawk busybox
 
 work=$(mktemp -d)
 trap 'rm -rf "$work"' EXIT
-passed=0
-failed=0
-
-# judge NAME CONDITION...: counts whether this command succeeds.
-judge() {
-    local name=$1
-    shift
-    if "$@"; then
-        passed=$((passed + 1))
-    else
-        failed=$((failed + 1))
-        echo "FAILED $name"
-    fi
-}
 
 # split_into TEXT NAME WORDS...: the parts of this capture, with printf's escapes, in a folder of their own.
 split_into() {
@@ -45,7 +32,7 @@ split_file() {
 
 # is_split WANT...: it said nothing but the names of these parts, which it made, and they are these texts.
 is_split() {
-    local want k=0
+    local want name k=0
     [ "$status" = 0 ] && [ ! -s "$work/err" ] || return 1
     [ "$(ls "$work/parts" | wc -l)" = $# ] || return 1
     for want in "$@"; do
@@ -109,5 +96,4 @@ part-002.csv' ]
 judge 'its first part' [ "$("$program" check "$work/parts/part-001.csv")" = 'yes: records 3999996, exchanges 666666, open 0' ]
 judge 'its second part' [ "$("$program" check "$work/parts/part-002.csv")" = 'yes: records 5, exchanges 0, open 5' ]
 
-echo "$passed passed, $failed failed"
-[ "$failed" = 0 ]
+tell_counts

@@ -4,23 +4,14 @@
 # 'N passed, M failed'.
 set -u
 cd "$(dirname "$0")/.." || exit 1
+. tests/lib/judge.sh
 
 work=$(mktemp -d)
 trap 'rm -rf "$work"' EXIT
 export TMPDIR=$work
-passed=0
-failed=0
 
-# judge NAME CONDITION...: counts whether this command succeeds.
-judge() {
-    local name=$1
-    shift
-    if "$@"; then
-        passed=$((passed + 1))
-    else
-        failed=$((failed + 1))
-        echo "FAILED $name: $(cat "$work/out" "$work/asked")"
-    fi
+show() {
+    cat "$work/out" "$work/asked"
 }
 
 # A path on which there is nothing but this.
@@ -77,12 +68,11 @@ judge 'tools of which some are installed' is_asked 'one second'
 judge 'tools that are installed' [ "$(cat "$work/out")" = there ]
 
 # Each script that runs one of these names it.
-for tool in cc make mawk gawk busybox jq mandoc parallel python3 rsvg-convert chromium zsh fish perl gcc clang strace; do
+for tool in cc make mawk gawk busybox jq mandoc parallel python3 rsvg-convert chromium zsh fish perl gcc clang strace sigrok-cli; do
     for script in $(grep -lE "^[^#]*(^|[ (|'])$tool( |$)" tests/*.sh); do
         [ "$script" != tests/tools.sh ] || continue
         judge "$script names $tool" grep -qE "^need_tools (.* )?$tool( |=|$)" "$script"
     done
 done
 
-echo "$passed passed, $failed failed"
-[ "$failed" = 0 ]
+tell_counts

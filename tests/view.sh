@@ -5,6 +5,7 @@ set -u
 cd "$(dirname "$0")/.." || exit 1
 program=${NINECHECK:-$PWD/crates/ninecheck/out/ninecheck}
 
+. tests/lib/judge.sh
 . tests/lib/tools.sh
 need_tools mawk gawk busybox jq
 
@@ -13,21 +14,6 @@ trap 'rm -rf "$work"' EXIT
 # The views' own files are made here, so that it can be seen that none is left.
 export TMPDIR=$work/held
 mkdir "$TMPDIR"
-passed=0
-failed=0
-
-# judge NAME CONDITION...: counts whether this command succeeds.
-judge() {
-    local name=$1
-    shift
-    if "$@"; then
-        passed=$((passed + 1))
-    else
-        failed=$((failed + 1))
-        echo "FAILED $name"
-        head -n 20 "$work/out" "$work/err"
-    fi
-}
 
 # view NAME WORDS: the view on standard input; its streams are left in $work/out and $work/err.
 view() {
@@ -47,13 +33,15 @@ is_refused() {
 }
 
 # text_of WORDS: the text that words of printf stand for, with these put in: @nothing for a deck of which nothing is known,
-# @unknown for the same after a delay of 400, @in VALUE where IN alone is known, and @state for a state.
+# @unknown for the same after a delay of 400, @in VALUE where IN alone is known, @state for a state, @preset for a line of a
+# preset that contradicts, @could for what a deck could show of which nothing is known, and @bar for a bar.
 text_of() {
     local nothing='goal unknown, shown unknown, in unknown, out unknown, local unknown, ain unknown, aout unknown'
     local state='goal STOP, shown PLAY, in clear, out 23:59:59:24, local no, ain clear, aout 00:00:00:00'
     local in_alone=${nothing/in unknown/in \\1}
+    local preset='records 9 to 18 at 3600: IN DATA PRESET 10:00:00:00 44 14 00 00 00 10 68 -> 10 01 11'
     printf "$1" | sed "s/@in \([a-z]*\)/delay 400, $in_alone/; s/@unknown/delay 400, $nothing/; s/@nothing/$nothing/
-        s/@state/$state/"
+        s/@state/$state/; s/@preset/$preset/; s/@could/could show: shown any, ${nothing#*, *, }/; s/@bar/|/g"
 }
 
 # The stored texts, each with what a view makes of it.
@@ -80,6 +68,13 @@ a no|json|no at record 28: M1 no run remains\n|{"line":"verdict","verdict":"no",
 no line feed at the end|json|no at record 3: B2 wrong sum|{"line":"verdict","verdict":"no","record":3,"reason":"B2","text":"wrong sum"}\n
 a state without hands|json|record 6: @state\nyes: records 6, exchanges 1, open 0\n|{"line":"state","record":6,"goal":"STOP","shown":"PLAY","in":"clear","out":"23:59:59:24","local":"no","ain":"clear","aout":"00:00:00:00"}\n{"line":"verdict","verdict":"yes","records":6,"exchanges":1,"open":0}\n
 a name with quotes and a backslash|json|record 6: "A\\B" -> C -> ACK, @unknown\nyes: records 6, exchanges 1, open 0\n|{"line":"exchange","record":6,"command":"\\"A\\\\B\\" -> C","reply":"ACK","delay_us":400,"goal":"unknown","shown":"unknown","in":"unknown","out":"unknown","local":"unknown","ain":"unknown","aout":"unknown"}\n{"line":"verdict","verdict":"yes","records":6,"exchanges":1,"open":0}\n
+the replies that contradict one another|json|records 1 to 8 at 400: STATUS SENSE 61 20 01 82 -> 71 20 00 91, says local no\n@preset\nrecords 19 to 28 at 7600: IN DATA SENSE 60 10 70 -> 11:00:00:00 74 10 00 00 00 11 95\ncould show: shown any, in 10:00:00:00, out unknown, local no, ain set, aout clear\nno at record 28: M1 no run remains\n|{"line":"contradicting_exchange","first_record":1,"record":8,"time_us":400,"command":"STATUS SENSE","command_bytes":"61 20 01 82","reply_bytes":"71 20 00 91","says":{"local":"no"}}\n{"line":"contradicting_exchange","first_record":9,"record":18,"time_us":3600,"command":"IN DATA PRESET","command_time":"10:00:00:00","command_bytes":"44 14 00 00 00 10 68","reply_bytes":"10 01 11","says":{}}\n{"line":"contradicting_exchange","first_record":19,"record":28,"time_us":7600,"command":"IN DATA SENSE","command_bytes":"60 10 70","reply_time":"11:00:00:00","reply_bytes":"74 10 00 00 00 11 95","says":{}}\n{"line":"could_show","modes":["STOP","PLAY","REC","FF","REW","SHUTTLE","JOG","VAR","CUED","EJECT"],"in":"10:00:00:00","out":"unknown","local":"no","ain":"set","aout":"clear"}\n{"line":"verdict","verdict":"no","record":28,"reason":"M1","text":"no run remains"}\n
+what status data say, and a command that is not listed|json|records 1 to 6 at 0: 20 40 60 -> 10 01 11\nrecords 7 to 17 at 999999999999999: STATUS SENSE 61 20 04 85 -> 74 20 01 20 00 05 BA, says local yes, shown STOP@barCUED, in set, out clear, ain set, aout clear\ncould show: shown STOP@barPLAY@barREC, in set, out clear, local yes, ain set, aout clear, panel unknown\nno at record 17: M1 no run remains\n|{"line":"contradicting_exchange","first_record":1,"record":6,"time_us":0,"command_bytes":"20 40 60","reply_bytes":"10 01 11","says":{}}\n{"line":"contradicting_exchange","first_record":7,"record":17,"time_us":999999999999999,"command":"STATUS SENSE","command_bytes":"61 20 04 85","reply_bytes":"74 20 01 20 00 05 BA","says":{"local":"yes","modes":["STOP","CUED"],"in":"set","out":"clear","ain":"set","aout":"clear"}}\n{"line":"could_show","modes":["STOP","PLAY","REC"],"in":"set","out":"clear","local":"yes","ain":"set","aout":"clear","panel":"unknown"}\n{"line":"verdict","verdict":"no","record":17,"reason":"M1","text":"no run remains"}\n
+one reply that fits no mode|json|records 1 to 8 at 400: STATUS SENSE 61 20 11 92 -> 71 20 3F D0, says shown none\ncould show: shown PLAY, in unknown, out unknown, local unknown, ain unknown, aout unknown\nno at record 8: M1 no run remains\n|{"line":"contradicting_exchange","first_record":1,"record":8,"time_us":400,"command":"STATUS SENSE","command_bytes":"61 20 11 92","reply_bytes":"71 20 3F D0","says":{"modes":[]}}\n{"line":"could_show","modes":["PLAY"],"in":"unknown","out":"unknown","local":"unknown","ain":"unknown","aout":"unknown"}\n{"line":"verdict","verdict":"no","record":8,"reason":"M1","text":"no run remains"}\n
+a gap inside a reply|json|records 1067 to 1070 at 1999300: STATUS SENSE 61 20 03 84\nrecords 1071 to 1072 at 1999900: -> 73 20\nrecord 1073 at 2012588: D 73, 12088 after the record before, limit 10287\nno at record 1073: B3 gap inside a block\n|{"line":"open_command","first_record":1067,"record":1070,"time_us":1999300,"command":"STATUS SENSE","command_bytes":"61 20 03 84"}\n{"line":"open_reply","first_record":1071,"record":1072,"time_us":1999900,"reply_bytes":"73 20"}\n{"line":"breaking_record","record":1073,"time_us":2012588,"wire":"D","byte":"73","elapsed_us":12088,"limit_us":10287}\n{"line":"verdict","verdict":"no","record":1073,"reason":"B3","text":"gap inside a block"}\n
+a late reply to a preset|json|records 1 to 7 at 400: IN DATA PRESET 10:00:00:00 44 14 00 00 00 10 68\nrecord 8 at 12088: D 10, 9288 after the record before, limit 9287\nno at record 8: L1 late reply\n|{"line":"open_command","first_record":1,"record":7,"time_us":400,"command":"IN DATA PRESET","command_time":"10:00:00:00","command_bytes":"44 14 00 00 00 10 68"}\n{"line":"breaking_record","record":8,"time_us":12088,"wire":"D","byte":"10","elapsed_us":9288,"limit_us":9287}\n{"line":"verdict","verdict":"no","record":8,"reason":"L1","text":"late reply"}\n
+one open record|json|records 5 to 5 at 400: 61\nrecord 6 at 400: D 10, 0 after the record before\nno at record 6: P2 reply before the end of the command\n|{"line":"open_command","first_record":5,"record":5,"time_us":400,"command_bytes":"61"}\n{"line":"breaking_record","record":6,"time_us":400,"wire":"D","byte":"10","elapsed_us":0}\n{"line":"verdict","verdict":"no","record":6,"reason":"P2","text":"reply before the end of the command"}\n
+nothing open, and no record before|json|record 1 at 0: D 10\nno at record 1: P1 reply without a command\n|{"line":"breaking_record","record":1,"time_us":0,"wire":"D","byte":"10"}\n{"line":"verdict","verdict":"no","record":1,"reason":"P1","text":"reply without a command"}\n
 a yes alone|digest|yes: records 0, exchanges 0, open 0\n|yes: records 0, exchanges 0, open 0\n
 a command that changes nothing|digest|record 6: PLAY -> ACK, @unknown\nyes: records 7, exchanges 1, open 1\n|record 6: PLAY -> ACK\nyes: records 7, exchanges 1, open 1\n
 a command that is not listed|digest|record 6: 60 40 -> ACK, @unknown\nno at record 7: P1 reply without a command\n|record 6: 60 40 -> ACK\nno at record 7: P1 reply without a command\n
@@ -88,17 +83,22 @@ every question|digest|record 7: AUDIO OUT DATA SENSE -> 74 13, @unknown\nrecord 
 END
 }
 
-# Texts that every view refuses: the line of the message, and what it says.
-bad_texts() {
+# refused_by VIEWS: texts on standard input that these views refuse: the line of the message, and what it says.
+refused_by() {
     local name line what text view
     while IFS='|' read -r name line what text; do
         text_of "$text" > "$work/in"
         what=$(text_of "$what")
-        for view in digest delays json picture; do
+        for view in $1; do
             view "$view.awk" '' < "$work/in"
             judge "$awk: $view: $name" is_refused "$view.awk: line $line: $what"
         done
-    done <<'END'
+    done
+}
+
+# Texts that every view refuses.
+bad_texts() {
+    refused_by 'digest delays json picture' <<'END'
 an empty text|0|no verdict: the capture can't be read, or the text was cut short|
 no verdict|1|no verdict: the capture can't be read, or the text was cut short|record 6: PLAY -> ACK, @unknown\n
 an empty line|2|unknown line: |record 6: PLAY -> ACK, @unknown\n\nyes: records 6, exchanges 1, open 0\n
@@ -134,7 +134,42 @@ a state with a mode that is not known|1|unknown line: record 6: goal STOP, shown
 END
 }
 
-# Explanations that digest and delays refuse, also for the capture beside them: its rows, or - for none.
+# Texts of why that the views refuse which take one.
+bad_whys() {
+    refused_by 'json picture' <<'END'
+why without a verdict|2|no verdict: the capture can't be read, or the text was cut short|@preset\n@could\n
+why without what the deck could show|2|a line that can't stand here: no at record 19: M1 no run remains|@preset\nno at record 19: M1 no run remains\n
+what the deck could show, alone|1|a line that can't stand here: @could|@could\nno at record 18: M1 no run remains\n
+what the deck could show, twice|3|a line that can't stand here: @could|@preset\n@could\n@could\n
+why after an explanation|2|a line that can't stand here: @preset|record 6: PLAY -> ACK, @unknown\n@preset\n
+why in an explanation|2|a line that can't stand here: record 24: PLAY -> ACK, @unknown|@preset\nrecord 24: PLAY -> ACK, @unknown\n
+why with a yes|3|a line that can't stand here: yes: records 18, exchanges 2, open 0|@preset\n@could\nyes: records 18, exchanges 2, open 0\n
+why with another reason|3|a verdict that is not that of the lines before it: no at record 18: B2 wrong sum|@preset\n@could\nno at record 18: B2 wrong sum\n
+why with a verdict at another record|3|a verdict that is not that of the lines before it: no at record 19: M1 no run remains|@preset\n@could\nno at record 19: M1 no run remains\n
+contradicting replies out of order|2|a record that does not come after the one before: @preset|@preset\n@preset\n
+a contradicting reply that lacks a byte|1|other records than there are bytes: records 1 to 8 at 400: STATUS SENSE 61 20 01 82 -> 71 20 00|records 1 to 8 at 400: STATUS SENSE 61 20 01 82 -> 71 20 00\n
+records from the last to the first|1|other records than there are bytes: records 8 to 7 at 400: 61|records 8 to 7 at 400: 61\n
+a contradicting reply without a time of its own|1|unknown line: records 1 to 8: STATUS SENSE 61 20 01 82 -> 71 20 00 91|records 1 to 8: STATUS SENSE 61 20 01 82 -> 71 20 00 91\n
+a contradicting reply without bytes|1|unknown line: records 1 to 8 at 400: STATUS SENSE 61 20 01 82 -> |records 1 to 8 at 400: STATUS SENSE 61 20 01 82 -> \n
+a contradicting reply without the bytes of the command|1|unknown line: records 1 to 8 at 400: STATUS SENSE -> 71 20 00 91|records 1 to 8 at 400: STATUS SENSE -> 71 20 00 91\n
+a contradicting reply with a name|1|unknown line: records 1 to 6 at 400: PLAY 20 01 21 -> ACK 10 01 11|records 1 to 6 at 400: PLAY 20 01 21 -> ACK 10 01 11\n
+a reply that says of the goal|1|unknown line: records 1 to 8 at 400: STATUS SENSE 61 20 01 82 -> 71 20 00 91, says goal STOP|records 1 to 8 at 400: STATUS SENSE 61 20 01 82 -> 71 20 00 91, says goal STOP\n
+a reply that says a mode that is none|1|unknown line: records 1 to 8 at 400: STATUS SENSE 61 20 01 82 -> 71 20 00 91, says shown STOP@barIDLE|records 1 to 8 at 400: STATUS SENSE 61 20 01 82 -> 71 20 00 91, says shown STOP@barIDLE\n
+a reply that says of a register at a time|1|unknown line: records 1 to 8 at 400: STATUS SENSE 61 20 01 82 -> 71 20 00 91, says in 10:00:00:00|records 1 to 8 at 400: STATUS SENSE 61 20 01 82 -> 71 20 00 91, says in 10:00:00:00\n
+a reply that says nothing after says|1|unknown line: records 1 to 8 at 400: STATUS SENSE 61 20 01 82 -> 71 20 00 91, says |records 1 to 8 at 400: STATUS SENSE 61 20 01 82 -> 71 20 00 91, says \n
+a deck that could show no mode|2|unknown line: could show: shown none, in unknown, out unknown, local unknown, ain unknown, aout unknown|@preset\ncould show: shown none, in unknown, out unknown, local unknown, ain unknown, aout unknown\n
+a deck that could show one field less|2|unknown line: could show: shown any, in unknown, out unknown, local unknown, ain unknown|@preset\ncould show: shown any, in unknown, out unknown, local unknown, ain unknown\n
+an open command without its record that breaks|2|a line that can't stand here: no at record 2: P2 reply before the end of the command|records 1 to 1 at 400: 61\nno at record 2: P2 reply before the end of the command\n
+an open reply without its command|1|a line that can't stand here: records 1 to 1 at 400: -> 71|records 1 to 1 at 400: -> 71\n
+an open reply with another text|2|unknown line: records 2 to 2 at 400: -> ACK 10|records 1 to 1 at 400: 61\nrecords 2 to 2 at 400: -> ACK 10\n
+a record that breaks with no run|2|a verdict that is not that of the lines before it: no at record 1: M1 no run remains|record 1 at 0: D 10\nno at record 1: M1 no run remains\n
+a record that breaks at another record|2|a verdict that is not that of the lines before it: no at record 2: P1 reply without a command|record 1 at 0: D 10\nno at record 2: P1 reply without a command\n
+a record that breaks among open ones|2|a record that does not come after the one before: record 1 at 0: D 10|records 1 to 1 at 0: 61\nrecord 1 at 0: D 10\n
+a record that breaks on another wire|1|unknown line: record 1 at 0: E 10|record 1 at 0: E 10\n
+END
+}
+
+# Texts that digest and delays refuse, also for the capture beside them: its rows, or - for none.
 bad_explanations() {
     local name line what rows text words view
     while IFS='|' read -r name line what rows text; do
@@ -152,6 +187,8 @@ bad_explanations() {
         done
     done <<'END'
 a run|1|a line of a run, and not of an explanation: record 6: @state|-|record 6: @state\nyes: records 6, exchanges 1, open 0\n
+replies that contradict|1|a line of why, and not of an explanation: @preset|-|@preset\n@could\nno at record 18: M1 no run remains\n
+a record that breaks|1|a line of why, and not of an explanation: record 1 at 0: D 10|-|record 1 at 0: D 10\nno at record 1: P1 reply without a command\n
 a verdict of lines that are not there|1|the verdict counts 1 exchanges, and 0 lines stand before it|-|yes: records 6, exchanges 1, open 0\n
 a line that was left out|2|the verdict counts 2 exchanges, and 1 lines stand before it|-|record 6: PLAY -> ACK, @unknown\nyes: records 12, exchanges 2, open 0\n
 no file of this name|0|the capture can't be opened: @capture|none|yes: records 0, exchanges 0, open 0\n
@@ -272,7 +309,7 @@ program_texts() {
     while IFS='|' read -r file want_status rest; do
         case "$file" in '#'* | '') continue ;; esac
         for hands in '' --hands; do
-            for verb in check explain run; do
+            for verb in check explain run why; do
                 "$program" $verb $hands "examples/$file" > "$work/in" 2> /dev/null
                 view json.awk '' < "$work/in"
                 judge "$awk: json of $verb $hands $file" is_json
@@ -286,12 +323,13 @@ program_texts() {
     done < examples/ANSWERS
 }
 
-# is_json: each line is one object, with the record or the records of the line that it was made of.
+# is_json: each line is one object, with the first record or the records of the line that it was made of.
 is_json() {
     [ "$want_status" -le 1 ] || { is_without_verdict; return; }
     [ "$status" = 0 ] && [ ! -s "$work/err" ] && [ -s "$work/in" ] &&
-        jq -R -r 'fromjson | if type == "object" then .record // .records else error end' "$work/out" > "$work/read" &&
-        sed -E 's/^[^0-9]*([0-9]+).*/\1/' "$work/in" | cmp - "$work/read"
+        jq -R -r 'fromjson | if type == "object" then .first_record // .record // .records // .line else error end' \
+            "$work/out" > "$work/read" &&
+        sed -E '/^could show/s/.*/could_show/; t; s/^[^0-9]*([0-9]+).*/\1/' "$work/in" | cmp - "$work/read"
 }
 
 ends_with_verdict() {
@@ -322,6 +360,7 @@ for awk in mawk 'gawk --posix' 'busybox awk'; do
     stored_texts
     short_texts
     bad_texts
+    bad_whys
     bad_explanations
     bad_captures
     more_delays
@@ -361,5 +400,4 @@ judge 'the same end of picture.awk' cmp "$work/digest.every" "$work/picture.ever
 judge 'a longer common end' [ -s "$work/digest.two" ]
 judge 'the same longer end of delays.awk' cmp "$work/digest.two" "$work/delays.two"
 
-echo "$passed passed, $failed failed"
-[ "$failed" = 0 ]
+tell_counts

@@ -2,7 +2,7 @@
 #
 #     ./ninecheck check capture.csv | awk -v capture=capture.csv -f view/picture.awk > picture.svg
 #
-# It takes what `check`, `explain` or `run` wrote, whose verdict has to be a no, and the capture beside it. A byte's box
+# It takes what `check`, `explain`, `run` or `why` wrote, whose verdict has to be a no, and the capture beside it. A byte's box
 # begins at its stamp and is as long as a byte lasts on the line, 287 microseconds. A bracket joins the bytes of a block
 # and has its name. The record that breaks the rule is a dark box with an arrow. Where the reason is one of time, the
 # time that passed stands over the limit, in the same measure. A longer silence is cut, with its length beside the cut.
@@ -416,20 +416,54 @@ BEGIN {
     text_of["P7"] = "invalid time in a reply"
     text_of["M1"] = "no run remains"
     last_record = 0
+    name_forms()
     # Keeps the lines in a file that has no name any more, and writes them where the last one says that all is whole.
     hold = "held=$(mktemp) && exec 3> \"$held\" 4< \"$held\" 5< \"$held\" && rm \"$held\" && cat >&3" \
         " && [ \"$(tail -n 1 <&4)\" = whole ] && sed '$d' <&5"
 }
 
-# Takes the line apart. `kind` is then what it is, "exchange", "state", "yes" or "no", and these are what it says: of an
-# exchange `record`, `command`, `reply`, `delay` and `known`, of a state `record` and `known`, of a yes `records`,
-# `exchanges` and `open`, of a no `record` and `reason`. `known` has the first `told` of the fields.
-function read_line() {
+# The forms of the lines that `why` writes, and what may stand before a line of each kind.
+function name_forms(    number, stamp_form, mode_form, k) {
+    number = "[1-9][0-9]*"
+    stamp_form = "(0|[1-9][0-9]*)"
+    mode_form = "(" mode_name[1]
+    for (k = 2; k <= modes; k++) mode_form = mode_form "|" mode_name[k]
+    mode_form = mode_form ")"
+    modes_form = "^" mode_form "([|]" mode_form ")*$"
+    bytes_form = "( [0-9A-F][0-9A-F])+$"
+    time_form = " ([01][0-9]|2[0-3]):[0-5][0-9]:[0-5][0-9]:([01][0-9]|2[0-4])$"
+    arrow = "-> "
+    says = ", says "
+    records_form = "^records " number " to " number " at " stamp_form ": "
+    could_show_form = "^could show: "
+    breaking_form = "^record " number " at " stamp_form ": [CD] [0-9A-F][0-9A-F]" \
+        "(, " stamp_form " after the record before)?(, limit " number ")?$"
+    may_follow["exchange"] = may_follow["state"] = " nothing exchange state "
+    may_follow["contradicting_exchange"] = " nothing contradicting_exchange "
+    may_follow["could_show"] = " contradicting_exchange "
+    may_follow["open_command"] = " nothing "
+    may_follow["open_reply"] = " open_command "
+    may_follow["breaking_record"] = " nothing open_command open_reply "
+    may_follow["yes"] = " nothing exchange state "
+    may_follow["no"] = " nothing exchange state could_show breaking_record "
+}
+
+# Takes the line apart. `kind` is then what it is, and these are what it says: of an "exchange" `record`, `command`, `reply`,
+# `delay` and `known`, of a "state" `record` and `known`, of a "yes" `records`, `exchanges` and `open`, of a "no" `record`
+# and `reason`. `known` has the first `told` of the fields. The lines of `why` are "contradicting_exchange", "could_show",
+# "open_command", "open_reply" and "breaking_record": `given` has what stands in them, by name, `said` counts what a reply
+# says of the deck, and of "could_show" `known` has the fields from the second to the one numbered `told`.
+function read_line(    before) {
     sub(/\r$/, "")
-    if (kind == "yes" || kind == "no") refuse("a line after the verdict: " $0)
-    if (/^record /) read_record()
+    before = kind == "" ? "nothing" : kind
+    if (before == "yes" || before == "no") refuse("a line after the verdict: " $0)
+    if ($0 ~ breaking_form) read_breaking()
+    else if (/^record /) read_record()
+    else if ($0 ~ records_form) read_records()
+    else if ($0 ~ could_show_form) read_could_show()
     else if (/^yes: /) read_yes()
     else read_no()
+    if (index(may_follow[kind], " " before " ") == 0) refuse("a line that can't stand here: " $0)
 }
 
 function read_record(    part, parts, at, before, k) {
@@ -473,14 +507,119 @@ function read_field(name, words,    value) {
     known[name] = value
 }
 
-# Whether a field can have a value: one that is not known only after an exchange.
+# Whether a field can have a value: one that is not known only where no state is told.
 function is_value(name, value) {
-    if (value == "unknown") return kind == "exchange"
+    if (name == "shown" && kind == "could_show") return value == "any" || value ~ modes_form
+    if (value == "unknown") return kind != "state"
     if (name == "goal" || name == "shown") return value in is_mode
     if (name == "local") return value == "yes" || value == "no"
     if (name == "panel") return value == "on" || value == "off"
-    if (value == "set") return kind == "exchange"
+    if (value == "set") return kind != "state"
     return value == "clear" || value ~ /^([01][0-9]|2[0-3]):[0-5][0-9]:[0-5][0-9]:([01][0-9]|2[0-4])$/
+}
+
+# Takes apart a line of blocks: of an exchange, or of what is open of a command or a reply.
+function read_records(    part, text, at) {
+    match($0, records_form)
+    text = substr($0, RLENGTH + 1)
+    split(substr($0, 1, RLENGTH - 2), part, " ")
+    split("", given)
+    said = 0
+    given["first_record"] = record_after(part[2])
+    given["record"] = part[4]
+    given["time_us"] = part[6]
+    last_record = part[4] + 0
+    at = index(text, " " arrow)
+    if (index(text, arrow) == 1) {
+        kind = "open_reply"
+        text = without_end(substr(text, length(arrow) + 1), bytes_form, "reply_bytes")
+        if (text != "" || !("reply_bytes" in given)) refuse_line()
+    } else if (at > 0) {
+        kind = "contradicting_exchange"
+        read_command(substr(text, 1, at - 1))
+        read_reply(substr(text, at + 1 + length(arrow)))
+    } else {
+        kind = "open_command"
+        read_command(text)
+    }
+    if (bytes_in("command_bytes") + bytes_in("reply_bytes") != part[4] - part[2] + 1) {
+        refuse("other records than there are bytes: " $0)
+    }
+}
+
+# The name of a command that is listed, its time, and its bytes.
+function read_command(text) {
+    text = without_end(text, bytes_form, "command_bytes")
+    text = without_end(text, time_form, "command_time")
+    if (!("command_bytes" in given) || text ~ /[[:cntrl:]]|^ | $/) refuse_line()
+    if (text != "") given["command"] = text
+}
+
+# The time of a register, the bytes of a reply, and what they say of the deck.
+function read_reply(text,    at, part, k) {
+    at = index(text, says)
+    if (at > 0) {
+        said = split(substr(text, at + length(says)), part, ", ")
+        text = substr(text, 1, at - 1)
+        if (said == 0) refuse_line()
+        for (k = 1; k <= said; k++) read_said(k, part[k])
+    }
+    text = without_end(text, bytes_form, "reply_bytes")
+    text = without_end(text, time_form, "reply_time")
+    if (!("reply_bytes" in given) || text != "") refuse_line()
+}
+
+function read_said(k, words,    at) {
+    at = index(words, " ")
+    said_name[k] = substr(words, 1, at - 1)
+    said_value[k] = substr(words, at + 1)
+    if (!is_said(said_name[k], said_value[k])) refuse_line()
+}
+
+# Whether a reply can say this of a field.
+function is_said(name, value) {
+    if (name == "local") return value == "yes" || value == "no"
+    if (name == "shown") return value == "none" || value ~ modes_form
+    return (name == "in" || name == "out" || name == "ain" || name == "aout") && (value == "set" || value == "clear")
+}
+
+# Takes what has this form from the end of a text, under a name, and answers what stands before it.
+function without_end(text, end_form, name) {
+    text = " " text
+    if (match(text, end_form)) {
+        given[name] = substr(text, RSTART + 1)
+        text = substr(text, 1, RSTART - 1)
+    }
+    return substr(text, 2)
+}
+
+function bytes_in(name) {
+    return name in given ? (length(given[name]) + 1) / 3 : 0
+}
+
+function read_could_show(    part, k) {
+    match($0, could_show_form)
+    kind = "could_show"
+    told = split(substr($0, RLENGTH + 1), part, ", ") + 1
+    if (told < fields - 1 || told > fields) refuse_line()
+    for (k = 2; k <= told; k++) read_field(field[k], part[k - 1])
+}
+
+# The record that breaks a rule: its wire and byte, the time since the record before it, and the limit.
+function read_breaking(    text, part, k) {
+    text = $0
+    gsub(/[:,]/, "", text)
+    split("", given)
+    split(text, part, " ")
+    kind = "breaking_record"
+    given["record"] = record_after(part[2])
+    given["time_us"] = part[4]
+    given["wire"] = part[5]
+    given["byte"] = part[6]
+    for (k = 7; k in part; k++) {
+        if (part[k] == "after") given["elapsed_us"] = part[k - 1]
+        if (part[k] == "limit") given["limit_us"] = part[k + 1]
+    }
 }
 
 function read_yes() {
@@ -494,9 +633,13 @@ function read_yes() {
 function read_no(    at) {
     at = index($0, ": ")
     if (!/^no at record / || at == 0) refuse_line()
-    record = record_after(substr($0, 14, at - 14))
+    record = substr($0, 14, at - 14)
     reason = substr($0, at + 2, 2)
     if (!(reason in text_of) || substr($0, at + 4) != " " text_of[reason]) refuse_line()
+    if (kind != "could_show" && kind != "breaking_record") record_after(record)
+    else if (record != last_record "" || (kind == "could_show") != (reason == "M1")) {
+        refuse("a verdict that is not that of the lines before it: " $0)
+    }
     kind = "no"
 }
 

@@ -1,9 +1,11 @@
 #!/usr/bin/env bash
 # How much processor time the program takes on 4,000,000 records, as ratios: `check` to a loop that only reads the same
 # rows with csv into one record, and `explain` and `run` into a file to `check`; on a capture of PLAY and its
-# acknowledgement, and on one of mixed traffic (status, time and register senses, presets, shifts). All are run in turn,
-# fifteen times or as often as the first word says, and the best time of each counts. It also says the greatest resident
-# memory. Not part of the gate. The program is the one that the gate or ./ninecheck built.
+# acknowledgement, and on one of mixed traffic (status, time and register senses, presets, shifts). Then `why` to `check`,
+# both on a no: on mixed traffic whose last three exchanges contradict one another (at most 1.8 is wanted), and on one in
+# which the first of those three lies 400,000 exchanges before the last (at most 8). All are run in turn, fifteen times or as
+# often as the first word says, and the best time of each counts. It also says the greatest resident memory. Not part of the
+# gate. The program is the one that the gate or ./ninecheck built.
 set -u
 turns=${1:-15}
 top=$(cd "$(dirname "$0")/../.." && pwd)
@@ -40,40 +42,63 @@ def time_bytes(frames):
 ACK = block(1, 0x01)
 PLAY = [(block(2, 0x01), ACK)]
 
-# What an editor asks and sets while it looks for an edit; the deck is not in local.
-def mixed(turn):
+# What an editor asks and sets while it looks for an edit, of IN (0) or of OUT (1); the deck is not in local, and IN is set.
+def mixed(turn, register=0):
     at = time_bytes(turn * 7 % 2160000)
     shifted = time_bytes((turn * 7 + 1) % 2160000)
-    yield block(6, 0x20, 0x04), block(7, 0x20, 0x00, 0x20, 0x00, 0x01)
+    yield block(6, 0x20, 0x04), block(7, 0x20, 0x00, 0x20, 0x00, 2 * register + 1)
     yield block(6, 0x0C, 0x01), block(7, 0x04, *at)
-    yield block(4, 0x14, *at), ACK
-    yield block(6, 0x10), block(7, 0x10, *at)
-    yield block(4, 0x18), ACK
-    yield block(6, 0x10), block(7, 0x10, *shifted)
+    yield block(4, 0x14 + register, *at), ACK
+    yield block(6, 0x10 + register), block(7, 0x10 + register, *at)
+    yield block(4, 0x18 + 2 * register), ACK
+    yield block(6, 0x10 + register), block(7, 0x10 + register, *shifted)
+
+# A deck that is not in local, a preset, and a sense that answers another time.
+REMOTE = block(6, 0x20, 0x01), block(7, 0x20, 0x00)
+PRESET = block(4, 0x14, *time_bytes(900000)), ACK
+SENSED = block(6, 0x10), block(7, 0x10, *time_bytes(990000))
+
+def all_turns(exchanges):
+    turn = 0
+    while True:
+        yield from exchanges(turn)
+        turn += 1
+
+def contradicting_at_end():
+    for turn in range(RECORDS // sum(len(sent) for exchange in mixed(0) for sent in exchange) - 1):
+        yield from mixed(turn)
+    yield from (REMOTE, PRESET, SENSED)
+
+# The first of those that contradict one another is the preset, since each status reply says that the deck is not in local.
+# Between it and the last are 399,999 exchanges that leave IN alone.
+def contradicting_from_afar():
+    yield from (REMOTE, PRESET)
+    yield block(4, 0x15, *time_bytes(0)), ACK
+    for turn in range(66666):
+        yield from mixed(turn, 1)
+    yield from (REMOTE, REMOTE, SENSED)
 
 def write(path, exchanges):
-    now = records = turn = 0
+    now = records = 0
     with open(path, 'w') as text:
         text.write('time_us,wire,byte\n')
-        while True:
-            for asked, answered in exchanges(turn):
-                for wire, bytes_sent in (('C', asked), ('D', answered)):
-                    for byte in bytes_sent:
-                        if records == RECORDS:
-                            return
-                        now += 400
-                        records += 1
-                        text.write('%d,%s,%02X\n' % (now, wire, byte))
-            turn += 1
+        for asked, answered in exchanges:
+            for wire, bytes_sent in (('C', asked), ('D', answered)):
+                for byte in bytes_sent:
+                    if records == RECORDS:
+                        return
+                    now += 400
+                    records += 1
+                    text.write('%d,%s,%02X\n' % (now, wire, byte))
 
 # Processor time, of the program and of the system for it: how long it waits for a processor does not count.
-def seconds(words, capture, out):
+def seconds(words, capture, out, answer=0):
     with open(capture, 'rb') as text, open(out, 'wb') as to:
         child = subprocess.Popen(words, stdin=text, stdout=to)
         _, status, used = os.wait4(child.pid, 0)
-        child.returncode = status
-        if status != 0:
-            sys.exit(f'{words}: status {status}')
+        child.returncode = os.waitstatus_to_exitcode(status)
+        if child.returncode != answer:
+            sys.exit(f'{words}: status {child.returncode}')
         return used.ru_utime + used.ru_stime
 
 def peak(words, capture):
@@ -88,7 +113,7 @@ def peak(words, capture):
 
 for name, exchanges in (('PLAY and ACK', lambda turn: PLAY), ('mixed traffic', mixed)):
     capture = f'{work}/capture.csv'
-    write(capture, exchanges)
+    write(capture, all_turns(exchanges))
     check, explain, run = [program, 'check'], [program, 'explain'], [program, 'run']
     runs = [(seconds(check, capture, '/dev/null'), seconds([reader], capture, '/dev/null'),
              seconds(explain, capture, f'{work}/lines'), seconds(run, capture, f'{work}/lines')) for _ in range(int(turns))]
@@ -97,4 +122,22 @@ for name, exchanges in (('PLAY and ACK', lambda turn: PLAY), ('mixed traffic', m
           f'explain {told:.3f} s, ratio to check {told / judged:.2f}; '
           f'run {found:.3f} s, ratio to check {found / judged:.2f}; '
           f'resident memory {peak(check, capture)} kB, {peak(explain, capture)} kB, {peak(run, capture)} kB')
+
+# The exchanges that contradict one another: how many are told, and how many records the first of them lies before the last.
+def told_apart(path):
+    with open(path) as lines:
+        firsts = [int(line.split()[1]) for line in lines if line.startswith('records ')]
+    return len(firsts), firsts[-1] - firsts[0]
+
+for name, exchanges, apart in (('contradicting at the end', contradicting_at_end(), 18),
+                               ('contradicting from afar', contradicting_from_afar(), 66666 * 58 + 36)):
+    capture = f'{work}/capture.csv'
+    write(capture, exchanges)
+    check, why = [program, 'check'], [program, 'why']
+    runs = [(seconds(check, capture, '/dev/null', 1), seconds(why, capture, f'{work}/lines', 1)) for _ in range(int(turns))]
+    if told_apart(f'{work}/lines') != (3, apart):
+        sys.exit(f'{name}: {told_apart(f"{work}/lines")} was told')
+    judged, sought = (min(column) for column in zip(*runs))
+    print(f'{name}: check {judged:.3f} s; why {sought:.3f} s, ratio to check {sought / judged:.2f}; '
+          f'resident memory {peak(check, capture)} kB, {peak(why, capture)} kB')
 PY

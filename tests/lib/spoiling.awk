@@ -1,0 +1,101 @@
+# Changes what the program said of drawn captures so that it is wrong, for tests of the comparison:
+# awk -v how=WORD -f tests/lib/deck.awk -f tests/lib/list.awk -f tests/lib/spoiling.awk LIST RESULTS. Written are the results of the first twenty captures
+# that can be changed so, and of no other. Only of the words marked so may the comparison take the result: where any run will do.
+#
+# left-out       `why` lacks the first of its replies
+# added          `why` has a reply more
+# earlier        the first reply of `why` is an earlier one
+# shown          `why` tells other modes that the deck could show
+# register       `why` tells something else of IN
+# local          `why` tells something else of local
+# record         `check` tells another record
+# yes            `check` tells a yes for a no
+# state          `run` has a state, without hands, that is in local where the others are not, or the other way round
+# hand           `run` has a state that wants more moves of a hand: wrong only where the fewest are wanted
+
+/^capture / {
+    end_capture()
+    number = $2
+    lines = 0
+    split("", begins)
+}
+
+/^- / { begins[substr($0, 3)] = lines + 2 }
+
+{ text[++lines] = $0 }
+
+END { end_capture() }
+
+function end_capture(    k) {
+    if (number == "" || changed == 20) return
+    read_capture(drawn[number])
+    set_places(drawn_hands[number])
+    if (!change(begins["why"], begins["run"], begins["check"])) return
+    changed++
+    for (k = 1; k <= lines; k++) if (text[k] != "") print text[k]
+}
+
+# the number of the exchange whose line this is
+function exchange_of(line,    word, i) {
+    split(line, word, " ")
+    for (i = 1; i <= exchanges; i++) if (first_record[i] == word[2]) return i
+}
+
+function line_of(i) {
+    return "records " first_record[i] " to " last_record[i] " at " 400 * first_record[i] ": " command_text[i] " -> " reply_text[i]
+}
+
+# replace(K, FROM, TO): whether line k has this, and now has that
+function replace(k, from, to,    at) {
+    at = index(text[k], from)
+    if (at) text[k] = substr(text[k], 1, at - 1) to substr(text[k], at + length(from))
+    return at
+}
+
+# change(WHY, RUN, CHECK): changes the text, whose parts begin at these lines; whether it could
+function change(why, run, check,    k, i, could, s, t, u) {
+    could = run - 3
+    if (how == "left-out" || how == "added" || how == "earlier" || how == "shown" || how == "register" || how == "local")
+        if (text[why] !~ /^records/) return 0
+    if (how == "left-out") {
+        text[why] = ""
+        return why + 1 < could
+    }
+    if (how == "added" || how == "earlier") {
+        i = exchange_of(text[why]) - 1
+        if (i < 1 || (how == "earlier" && why + 1 == could)) return 0
+        text[why] = line_of(i) (how == "added" ? "\n" text[why] : "")
+        return 1
+    }
+    if (how == "shown") return replace(could, ": shown any,", ": shown STOP,") || sub(/: shown [^,]*,/, ": shown any,", text[could])
+    if (how == "register") return replace(could, " in unknown", " in set") || sub(/ in [^,]*/, " in unknown", text[could])
+    if (how == "local") return replace(could, "local unknown", "local no") || sub(/local [a-z]*/, "local unknown", text[could])
+    if (how == "record") return text[check] ~ /^no/ && sub(/record [0-9]*/, "&0", text[check])
+    if (how == "yes") {
+        if (text[check] !~ /^no/) return 0
+        text[check] = "yes: records " records ", exchanges " exchanges ", open 0"
+        return 1
+    }
+    if (text[run] !~ /^record/) return 0
+    if (how == "state") {
+        if (hands || exchanges < 2) return 0
+        for (i = 1; i <= exchanges; i++) if (does[i] == "forget-all") return 0
+        return replace(run + 1, "local no", "local yes") || replace(run + 1, "local yes", "local no")
+    }
+    if (how == "hand" && hands) for (i = 2; i < exchanges; i++) {
+        k = run + i - 1
+        if (!read_state(text[k - 1], last_record[i - 1], s)) return 0
+        if (!read_state(text[k], last_record[i], t)) return 0
+        if (!read_state(text[k + 1], last_record[i + 1], u)) return 0
+        if (!s["panel"] || !t["panel"] || !u["panel"] || (t[3] < 0 && datum[i, 3] >= 0)) continue
+        if (is_about_the_last(i) || is_about_the_last(i + 1)) continue
+        if (moves_to(i, s, t) || moves_to(i + 1, t, u)) continue
+        return sub(/aout [^,]*/, "aout 05:05:05:05", text[k])
+    }
+    return 0
+}
+
+# exchange i is about audio OUT, or is a NAK
+function is_about_the_last(i) {
+    return does[i] ~ /^forget/ || register[i] == 3 || is_nak[i]
+}
