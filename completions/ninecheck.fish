@@ -2,7 +2,7 @@
 complete -c ninecheck -n __fish_use_subcommand -f -a check -d 'The verdict'
 complete -c ninecheck -n __fish_use_subcommand -f -a explain -d 'A line for each exchange, and the verdict'
 complete -c ninecheck -n __fish_use_subcommand -f -a run -d 'One run of the deck, and the verdict'
-complete -c ninecheck -n __fish_use_subcommand -f -a why -d 'The replies that contradict one another, and the verdict'
+complete -c ninecheck -n __fish_use_subcommand -f -a why -d 'Why a no is one, and the verdict'
 complete -c ninecheck -n __fish_use_subcommand -f -a help -d 'What can be asked for'
 complete -c ninecheck -n '__fish_seen_subcommand_from check explain run why' -l hands -d "Somebody may have touched the deck's panel"
 complete -c ninecheck -s h -l help -d 'What can be asked for'

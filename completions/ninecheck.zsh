@@ -5,7 +5,7 @@ verbs=(
     'check:the verdict'
     'explain:a line for each exchange, and the verdict'
     'run:one run of the deck, and the verdict'
-    'why:the replies that contradict one another, and the verdict'
+    'why:why a no is one, and the verdict'
     'help:what can be asked for'
 )
 if (( CURRENT == 2 )); then
