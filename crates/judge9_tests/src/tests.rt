@@ -24,12 +24,30 @@ use changed::refuse_changes;
 use deck9::Hands;
 use judge9::{JudgeError, RunVerdict, Verdict, View, is_run, judge, judge_with_run};
 use std::alloc::{AllocError, Global};
-use std::fmt::Write;
+use std::fmt::{Debug, Write};
 use std::io::Read;
 use std::process::Abort;
 use std::test::Fail;
 use texts::HEADER;
 use writers::Narrow;
+
+/// Holds that what was found in a case is what is wanted.
+///
+/// The tests hold all their values by this call: the proof of a function with a call costs a part of that of one with
+/// an assertion. Since a failed one names its own line, the case tells a reader which of the calls it was.
+fn same<T: PartialEq + Debug + Drop, C: Debug + Drop>(
+    rt: &impl Abort,
+    found: T,
+    wanted: T,
+    case: C,
+) {
+    assert_eq!(rt; found, wanted, "{case:?}");
+}
+
+/// Ends a test where what a case is answered has not even the form that is wanted.
+fn fail<C: Debug + Drop>(rt: &impl Abort, case: C) -> ! {
+    panic!(rt; "{case:?}")
+}
 
 /// The text of a capture whose records are 400 microseconds apart.
 #[derive(Drop)]
@@ -54,13 +72,18 @@ impl Tap {
         for word in blocks.split_whitespace() {
             if word == "C" || word == "D" {
                 self.is_deck = word == "D";
-                continue;
+            } else {
+                self.put_byte(word)?;
             }
-            self.time = self.time.saturating_add(400);
-            let (time, wire) = (self.time, if self.is_deck { "D" } else { "C" });
-            writeln!(self.text, "{time},{wire},{word}")?;
         }
         Ok(())
+    }
+
+    /// Puts a byte of the wire that is open to the end.
+    fn put_byte(&mut self, byte: &str) -> Result<(), AllocError> {
+        self.time = self.time.saturating_add(400);
+        let (time, wire) = (self.time, if self.is_deck { "D" } else { "C" });
+        writeln!(self.text, "{time},{wire},{byte}")
     }
 }
 
@@ -103,7 +126,7 @@ fn tell_lines(
     lines: &str,
 ) -> Result<bool, AllocError> {
     let (_, written) = report(alloc, text.as_bytes(), view, hands);
-    assert_eq!(rt; written.as_slice(), lines.as_bytes(), "{text}");
+    same(rt, written.as_slice(), lines.as_bytes(), text);
     tell(rt, alloc, text, hands)
 }
 
@@ -145,7 +168,7 @@ fn tell(rt: &impl Abort, alloc: Global, text: &str, hands: Hands) -> Result<bool
 /// Compares the verdict with that of `judge`.
 fn tell_verdict(rt: &impl Abort, alloc: Global, text: &str, hands: Hands, run: &RunVerdict) {
     let (verdict, _) = report(alloc, text.as_bytes(), View::Verdict, hands);
-    assert!(rt; verdict == Ok(verdict_of(run)), "{text}");
+    same(rt, verdict, Ok(verdict_of(run)), text);
 }
 
 /// The verdict alone.
@@ -184,7 +207,7 @@ fn tell_run(
         return Ok(false);
     };
     let (exchanges, states) = (exchanges.as_slice(), states.as_slice());
-    assert!(rt; is_run(exchanges, states, hands), "{exchanges:?}");
+    same(rt, is_run(exchanges, states, hands), true, exchanges);
     refuse_changes(rt, alloc, hands, exchanges, states)?;
     Ok(true)
 }

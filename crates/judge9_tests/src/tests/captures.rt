@@ -2,10 +2,13 @@
 
 use super::readers::Plays;
 use super::texts::PLAYED;
-use super::{answer_and_text, capture, tell_untouched};
+use super::{answer_and_text, capture, same, tell_untouched};
 use block9::Reason;
 use judge9::Verdict;
 use std::test::Fail;
+
+/// A block with a wrong sum behind a whole exchange.
+const BROKEN: &str = "C 20 01 21 D 10 01 11 C 20 01 22";
 
 /// Blocks, and what is written of them.
 const PAIRED: &[(&str, &str)] = &[
@@ -41,10 +44,7 @@ const PAIRED: &[(&str, &str)] = &[
         "no at record 4: B1 wrong group for this wire\n",
     ),
     ("C 20 01 22", "no at record 3: B2 wrong sum\n"),
-    (
-        "C 20 01 21 D 10 01 11 C 20 01 22",
-        "no at record 9: B2 wrong sum\n",
-    ),
+    (BROKEN, "no at record 9: B2 wrong sum\n"),
     (
         "C 44 14 25 00 00 10 8D",
         "no at record 7: P6 invalid time in a command\n",
@@ -142,22 +142,26 @@ fn each_verdict_on_a_time(rt: HostRuntime) -> Result<(), Fail> {
     Ok(())
 }
 
+/// The verdict on a whole exchange.
+const WHOLE: Verdict = Verdict::Yes {
+    records: 6,
+    exchanges: 1,
+    tail: 0,
+};
+
+/// The verdict on a wrong sum behind it.
+const SUM_AT_9: Verdict = Verdict::No {
+    at: 9,
+    reason: Reason::WrongSum,
+};
+
 #[test]
 fn verdicts_as_values(rt: HostRuntime) -> Result<(), Fail> {
-    let (yes, _) = answer_and_text(rt.alloc(), PLAYED.as_bytes());
-    let whole = Verdict::Yes {
-        records: 6,
-        exchanges: 1,
-        tail: 0,
-    };
-    assert!(rt; yes == Ok(whole));
-    let text = capture(rt.alloc(), &["C 20 01 21 D 10 01 11 C 20 01 22"])?;
-    let (no, _) = answer_and_text(rt.alloc(), text.as_bytes());
-    let broken = Verdict::No {
-        at: 9,
-        reason: Reason::WrongSum,
-    };
-    assert!(rt; no == Ok(broken));
+    let text = capture(rt.alloc(), &[BROKEN])?;
+    for (text, verdict) in [(PLAYED, WHOLE), (text.as_str(), SUM_AT_9)] {
+        let (answer, _) = answer_and_text(rt.alloc(), text.as_bytes());
+        same(&rt, answer, Ok(verdict), text);
+    }
     Ok(())
 }
 
@@ -165,5 +169,10 @@ fn verdicts_as_values(rt: HostRuntime) -> Result<(), Fail> {
 fn four_million_records(rt: HostRuntime) {
     let (_, written) = answer_and_text(rt.alloc(), Plays::new(rt.alloc(), 4_000_000));
     let line = b"yes: records 4000000, exchanges 666666, open 4\n";
-    assert_eq!(rt; written.as_slice(), line.as_slice());
+    same(
+        &rt,
+        written.as_slice(),
+        line.as_slice(),
+        "4,000,000 records",
+    );
 }

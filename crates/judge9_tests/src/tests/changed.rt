@@ -17,11 +17,12 @@
 mod commands;
 mod done;
 mod entries;
+mod fields;
 mod kept;
 mod told;
 
-use super::capture;
 use super::parts::*;
+use super::{capture, fail, same};
 use block9::Exchange;
 use deck9::{Hands, Register, State};
 use done::{cleared, redirected, replaced, set_again, switched, touched};
@@ -80,6 +81,20 @@ fn register_changes(place: &Place, register: Register) -> [Option<State>; 8] {
     ]
 }
 
+/// An exchange of a run, and the state after it.
+fn reached<'a>(
+    exchanges: &'a [Exchange],
+    states: &'a [State],
+    at: usize,
+) -> Option<(&'a Exchange, &'a State)> {
+    Some((exchanges.get(at)?, states.get(at)?))
+}
+
+/// The state before that one. There is none before the first.
+fn state_before<'a>(states: &'a [State], at: usize) -> Option<&'a State> {
+    states.get(at.checked_sub(1)?)
+}
+
 /// The place of a state in a run.
 fn place_of<'a>(
     hands: Hands,
@@ -87,21 +102,13 @@ fn place_of<'a>(
     states: &'a [State],
     at: usize,
 ) -> Option<Place<'a>> {
-    let before = match at.checked_sub(1) {
-        Some(before) => states.get(before),
-        None => None,
-    };
-    let after = at.saturating_add(1);
-    let next = match (exchanges.get(after), states.get(after)) {
-        (Some(exchange), Some(state)) => Some((exchange, state)),
-        _ => None,
-    };
+    let (exchange, state) = reached(exchanges, states, at)?;
     Some(Place {
         hands,
-        before,
-        exchange: exchanges.get(at)?,
-        state: states.get(at)?,
-        next,
+        before: state_before(states, at),
+        exchange,
+        state,
+        next: reached(exchanges, states, at.saturating_add(1)),
     })
 }
 
@@ -117,10 +124,8 @@ fn refuse_each(
     for change in changes {
         if let (Some(changed), Some(state)) = (change, states.get_mut(at)) {
             *state = *changed;
-            assert!(rt;
-                !is_run(exchanges, states, hands),
-                "{at}: {changed:?} in {exchanges:?}"
-            );
+            let is_run = is_run(exchanges, states, hands);
+            same(rt, is_run, false, (at, changed, exchanges));
         }
     }
 }
@@ -143,23 +148,34 @@ pub(super) fn refuse_changes(
     exchanges: &[Exchange],
     states: &[State],
 ) -> Result<(), AllocError> {
-    let mut copy = Vec::new(alloc);
-    for state in states {
-        copy.push(*state)?;
-    }
+    let mut copy = copy_of(alloc, states)?;
     let stride = (states.len() / 64).saturating_mul(2).saturating_add(1);
-    for (at, state) in states.iter().enumerate() {
+    for at in 0..states.len() {
         if at.checked_rem(stride) != Some(0) {
             continue;
         }
         if let Some(place) = place_of(hands, exchanges, states, at) {
             refuse(rt, &place, exchanges, copy.as_mut_slice(), at);
-        }
-        if let Some(changed) = copy.get_mut(at) {
-            *changed = *state;
+            put_back(copy.as_mut_slice(), at, place.state);
         }
     }
     Ok(())
+}
+
+/// The states of a run, to be changed.
+fn copy_of(alloc: Global, states: &[State]) -> Result<Vec<State>, AllocError> {
+    let mut copy = Vec::new(alloc);
+    for state in states {
+        copy.push(*state)?;
+    }
+    Ok(copy)
+}
+
+/// Puts the state of a run back after its changes.
+fn put_back(copy: &mut [State], at: usize, state: &State) {
+    if let Some(changed) = copy.get_mut(at) {
+        *changed = *state;
+    }
 }
 
 /// Exchanges at which each of the changes is made, some of them where hands are allowed and some where they are not.
@@ -178,14 +194,14 @@ const TRIED: &[&str] = &[
 
 /// Marks the changes that are made.
 fn mark(made: &mut [bool], changes: &[Option<State>]) {
-    for (made, change) in made.iter_mut().zip(changes) {
-        if change.is_some() {
+    for (place, change) in changes.iter().enumerate() {
+        if let (Some(made), Some(_)) = (made.get_mut(place), change) {
             *made = true;
         }
     }
 }
 
-/// Marks the changes that are made in a run.
+/// Marks the changes that are made in a run, those of IN apart.
 fn mark_all(
     made: &mut [bool],
     made_to_in: &mut [bool],
@@ -193,7 +209,7 @@ fn mark_all(
     exchanges: &[Exchange],
     states: &[State],
 ) {
-    for (at, _) in states.iter().enumerate() {
+    for at in 0..states.len() {
         if let Some(place) = place_of(hands, exchanges, states, at) {
             mark(made, &changes(&place));
             mark(made_to_in, &register_changes(&place, Register::RegIn));
@@ -201,28 +217,46 @@ fn mark_all(
     }
 }
 
+/// Marks the changes that are made in the run of a capture.
+fn mark_run(
+    rt: &impl Abort,
+    alloc: Global,
+    text: &str,
+    hands: Hands,
+    (made, made_to_in): (&mut [bool], &mut [bool]),
+) {
+    let run = judge_with_run(alloc, text.as_bytes(), hands).expect(rt, "a verdict");
+    let RunVerdict::Yes {
+        exchanges,
+        states,
+        ..
+    } = &run
+    else {
+        fail(rt, text)
+    };
+    mark_all(
+        made,
+        made_to_in,
+        hands,
+        exchanges.as_slice(),
+        states.as_slice(),
+    );
+}
+
 #[test]
 fn each_change_is_made(rt: HostRuntime) -> Result<(), Fail> {
     let text = capture(rt.alloc(), TRIED)?;
     let (mut made, mut made_to_in) = ([false; 12], [false; 8]);
     for hands in [Hands::None, Hands::Allowed] {
-        let run = judge_with_run(rt.alloc(), text.as_bytes(), hands).expect(&rt, "a verdict");
-        let RunVerdict::Yes {
-            exchanges,
-            states,
-            ..
-        } = &run
-        else {
-            panic!(rt; "no");
-        };
-        mark_all(
-            &mut made,
-            &mut made_to_in,
+        mark_run(
+            &rt,
+            rt.alloc(),
+            text.as_str(),
             hands,
-            exchanges.as_slice(),
-            states.as_slice(),
+            (&mut made, &mut made_to_in),
         );
     }
-    assert_eq!(rt; (made, made_to_in), ([true; 12], [true; 8]));
+    same(&rt, made, [true; 12], "changes of what is no register");
+    same(&rt, made_to_in, [true; 8], "changes of IN");
     Ok(())
 }

@@ -4,7 +4,7 @@
 //! replies are all needed and whose first place is as late as it can be.
 
 use super::parts::*;
-use super::{capture, report};
+use super::{capture, fail, report, same};
 use block9::Reason;
 use deck9::Hands;
 use judge9::{Verdict, View, WhyVerdict, judge_with_contradiction};
@@ -217,10 +217,10 @@ pub(super) fn tell_text(
         ..
     } = &answer
     else {
-        panic!(rt; "{text}");
+        fail(rt, text)
     };
-    assert_eq!(rt; (*told_at, exchanges.len()), (at, count), "{text}");
-    assert_eq!(rt; told.as_slice(), places, "{text}");
+    same(rt, (*told_at, exchanges.len()), (at, count), text);
+    same(rt, told.as_slice(), places, text);
 }
 
 /// The verdict of `judge` has to be the same.
@@ -230,7 +230,7 @@ fn tell_verdict(rt: &impl Abort, alloc: Global, text: &str, hands: Hands, at: u3
         at,
         reason: Reason::NoRun,
     };
-    assert!(rt; verdict == Ok(no_run), "{text}");
+    same(rt, verdict, Ok(no_run), text);
 }
 
 /// Compares what is answered to each row.
@@ -243,7 +243,16 @@ fn agree(rt: &impl Abort, alloc: Global, hands: Hands, rows: &[Row]) -> Result<(
     Ok(())
 }
 
-/// Compares what is answered to each row with a yes of so many records, and all exchanges.
+/// A yes of so many records, and all exchanges.
+fn yes_of(records: u32, parts: &[&str]) -> WhyVerdict {
+    WhyVerdict::Yes {
+        records,
+        exchanges: u32::try_from(parts.len()).unwrap_or(u32::MAX),
+        tail: 0,
+    }
+}
+
+/// Compares what is answered to each row with its yes.
 fn agree_on_runs(
     rt: &impl Abort,
     alloc: Global,
@@ -253,12 +262,7 @@ fn agree_on_runs(
     for (parts, records) in rows {
         let text = capture(alloc, parts)?;
         let answer = judge_with_contradiction(alloc, text.as_bytes(), hands);
-        let yes = WhyVerdict::Yes {
-            records: *records,
-            exchanges: u32::try_from(parts.len()).unwrap_or(u32::MAX),
-            tail: 0,
-        };
-        assert!(rt; answer == Ok(yes), "{text}");
+        same(rt, answer, Ok(yes_of(*records, parts)), parts);
     }
     Ok(())
 }

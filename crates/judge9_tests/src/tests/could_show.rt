@@ -1,7 +1,7 @@
 //! What was known of the deck before the reply with which no run remains, and the modes that it could then show, by hand.
 
-use super::capture;
 use super::parts::*;
+use super::{capture, fail, same};
 use deck9::{Hands, Mode};
 use judge9::{WhyVerdict, judge_with_contradiction};
 use std::alloc::Global;
@@ -85,15 +85,11 @@ fn agree(rt: &impl Abort, alloc: Global, hands: Hands, rows: &[Row]) -> Result<(
         let text = capture(alloc, parts)?;
         let answer = judge_with_contradiction(alloc, text.as_bytes(), hands);
         let Ok(WhyVerdict::Contradiction { known, shown, .. }) = &answer else {
-            panic!(rt; "{parts:?}");
+            fail(rt, parts)
         };
-        assert_eq!(rt; known, knowledge, "{parts:?}");
+        same(rt, known, knowledge, parts);
         for mode in Mode::ALL {
-            assert_eq!(rt;
-                shown.has(mode),
-                modes.contains(&mode),
-                "{parts:?}, {mode:?}"
-            );
+            same(rt, shown.has(mode), modes.contains(&mode), (parts, mode));
         }
     }
     Ok(())

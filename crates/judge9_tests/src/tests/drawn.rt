@@ -1,7 +1,7 @@
 //! Short captures whose exchanges are drawn.
 
 use super::parts::*;
-use super::{Tap, tell};
+use super::{Tap, same, tell};
 use deck9::Hands;
 use std::alloc::{AllocError, Global};
 use std::process::Abort;
@@ -93,7 +93,7 @@ fn count_yes(rt: &impl Abort, alloc: Global, hands: Hands) -> Result<u32, AllocE
 /// Both answers have to be often among the captures.
 fn tell_drawn(rt: &impl Abort, alloc: Global, hands: Hands) -> Result<(), AllocError> {
     let count = count_yes(rt, alloc, hands)?;
-    assert!(rt; count > 300 && count < 900, "{count}");
+    same(rt, count > 300 && count < 900, true, count);
     Ok(())
 }
 

@@ -1,7 +1,7 @@
 //! Explanations: a line for each exchange, and the verdict.
 
 use super::parts::*;
-use super::{report, tell_explained};
+use super::{report, same, tell_explained};
 use deck9::Hands;
 use judge9::View;
 use std::test::Fail;
@@ -123,7 +123,12 @@ fn a_bad_row_has_the_lines_before_it_and_no_verdict(rt: HostRuntime) {
     let (_, written) = report(rt.alloc(), text.as_slice(), View::Explain, Hands::None);
     let line =
         b"record 7: PLAY -> NAK 14 checksum+parity, delay 400, goal unknown, shown unknown, in unknown, out unknown, local unknown, ain unknown, aout unknown\n";
-    assert_eq!(rt; written.as_slice(), line.as_slice());
+    same(
+        &rt,
+        written.as_slice(),
+        line.as_slice(),
+        "a row that can't be read",
+    );
 }
 
 #[test]

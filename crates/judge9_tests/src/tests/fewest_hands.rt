@@ -1,8 +1,8 @@
 //! Runs of captures that somebody may touch: how often a hand moves, and the panel.
 
-use super::capture;
 use super::drawn::{CAPTURES, Draw, drawn};
 use super::parts::*;
+use super::{capture, fail, same};
 use block9::{Command, Exchange};
 use deck9::{Entry, Hands, State, is_run};
 use judge9::{RunVerdict, judge_with_run};
@@ -92,10 +92,10 @@ fn run_of(
         ..
     } = run
     else {
-        assert!(rt; false, "a no: {parts:?}");
-        return Ok((Vec::new(alloc), Vec::new(alloc)));
+        fail(rt, parts)
     };
-    assert!(rt; is_run(exchanges.as_slice(), states.as_slice(), hands));
+    let is_run = is_run(exchanges.as_slice(), states.as_slice(), hands);
+    same(rt, is_run, true, parts);
     Ok((exchanges, states))
 }
 
@@ -143,9 +143,9 @@ fn agree(rt: &impl Abort, alloc: Global, rows: &[Row]) -> Result<(), Fail> {
     for (parts, expected, panel) in rows {
         let (exchanges, states) = run_of(rt, alloc, parts, Hands::Allowed)?;
         let moves = moves(alloc, exchanges.as_slice(), states.as_slice())?;
-        assert_eq!(rt; moves, *expected, "{parts:?}");
+        same(rt, moves, *expected, parts);
         let panels = panels(alloc, states.as_slice())?;
-        assert_eq!(rt; panels.as_str(), *panel, "{parts:?}");
+        same(rt, panels.as_str(), *panel, parts);
     }
     Ok(())
 }
@@ -172,13 +172,14 @@ fn the_run_of_a_deck_that_nobody_touches(rt: HostRuntime) -> Result<(), Fail> {
         let (_, states) = run_of(&rt, rt.alloc(), parts, Hands::None)?;
         let (_, touched) = run_of(&rt, rt.alloc(), parts, Hands::Allowed)?;
         let touched = without_panel(rt.alloc(), touched.as_slice())?;
-        assert_eq!(rt; touched.as_slice(), states.as_slice(), "{parts:?}");
+        same(&rt, touched.as_slice(), states.as_slice(), parts);
     }
     Ok(())
 }
 
-/// IN at this frame.
-fn at(frames: u32) -> Entry {
+/// What IN holds after the exchange at a place: 10:00:00:00, frame 900,000, and from this place on 11:00:00:00.
+fn frame_at(place: usize, touched: usize) -> Entry {
+    let frames = if place < touched { 900_000 } else { 990_000 };
     Entry::At(TimeCode::from_frames(frames).unwrap_or_default())
 }
 
@@ -187,31 +188,35 @@ fn at(frames: u32) -> Entry {
 fn a_register_that_a_hand_has_set(rt: HostRuntime) -> Result<(), Fail> {
     let parts = &[REMOTE, PRESET_10, IN_10, IN_11, IN_SET];
     let (_, states) = run_of(&rt, rt.alloc(), parts, Hands::Allowed)?;
-    let expected = [at(900_000), at(900_000), at(990_000), at(990_000)];
-    for (state, entry) in states.iter().skip(1).zip(expected) {
-        assert_eq!(rt; state.ins, entry);
-    }
-    for state in states.iter() {
-        assert!(rt; state.panel);
-    }
-    for state in states.iter().take(3) {
-        assert!(rt; !state.local);
+    for (place, state) in states.iter().enumerate() {
+        if place > 0 {
+            same(&rt, state.ins, frame_at(place, 3), place);
+        }
+        same(&rt, state.panel, true, place);
+        if place < 3 {
+            same(&rt, state.local, false, place);
+        }
     }
     Ok(())
 }
 
-/// 600 polls that tell IN as it was preset, and 600 that tell what a hand has set.
+/// Exchanges, and how often each of them comes: 600 polls tell IN as it was preset, and 600 what a hand has set.
+const POLLS: &[(&str, usize)] = &[
+    (REMOTE, 1),
+    (PRESET_10, 1),
+    (IN_10, 600),
+    (IN_11, 600),
+    (IN_SET, 1),
+];
+
+/// All of these exchanges.
 fn polls(alloc: Global) -> Result<Vec<&'static str>, AllocError> {
     let mut parts = Vec::new(alloc);
-    parts.push(REMOTE)?;
-    parts.push(PRESET_10)?;
-    for _ in 0..600 {
-        parts.push(IN_10)?;
+    for (part, times) in POLLS {
+        for _ in 0..*times {
+            parts.push(*part)?;
+        }
     }
-    for _ in 0..600 {
-        parts.push(IN_11)?;
-    }
-    parts.push(IN_SET)?;
     Ok(parts)
 }
 
@@ -220,11 +225,14 @@ fn many_polls(rt: HostRuntime) -> Result<(), Fail> {
     let parts = polls(rt.alloc())?;
     let (exchanges, states) = run_of(&rt, rt.alloc(), parts.as_slice(), Hands::Allowed)?;
     let moves = moves(rt.alloc(), exchanges.as_slice(), states.as_slice())?;
-    assert_eq!(rt; moves, 1);
+    same(&rt, moves, 1, "a hand sets IN");
     for (place, state) in states.iter().enumerate().skip(1) {
-        let frames = if place < 602 { 900_000 } else { 990_000 };
-        assert_eq!(rt; state.ins, at(frames), "{place}");
-        assert!(rt; state.panel);
+        same(
+            &rt,
+            (state.ins, state.panel),
+            (frame_at(place, 602), true),
+            place,
+        );
     }
     Ok(())
 }
@@ -236,7 +244,7 @@ fn many_polls_of_a_deck_that_nobody_touches(rt: HostRuntime) -> Result<(), Fail>
     let untouched = parts.as_slice().get(..602).unwrap_or_default();
     let (_, states) = run_of(&rt, rt.alloc(), untouched, Hands::None)?;
     let (_, touched) = run_of(&rt, rt.alloc(), untouched, Hands::Allowed)?;
-    assert_eq!(rt; touched.as_slice(), states.as_slice());
+    same(&rt, touched.as_slice(), states.as_slice(), "602 exchanges");
     Ok(())
 }
 
@@ -253,27 +261,42 @@ fn may_be_on(exchange: &Exchange, before: bool) -> bool {
     }
 }
 
-/// Writes down the ends of all stretches that begin at a place, with how many stretches lead to each end.
-fn note_ends(
-    alloc: Global,
+/// Writes down that so many stretches lead to an end, if no fewer do.
+fn note_end(fewest: &mut [Option<usize>], end: usize, stretches: usize) {
+    if let Some(least) = fewest.get_mut(end) {
+        *least = Some(least.map_or(stretches, |known| known.min(stretches)));
+    }
+}
+
+/// Writes down the ends of all stretches that begin at a place, where a new deck begins, with how many stretches lead to
+/// each end.
+fn note_reached(
+    tracker: &mut Tracker<SpanSet>,
     exchanges: &[Exchange],
     start: usize,
+    stretches: usize,
     fewest: &mut [Option<usize>],
 ) -> Result<(), AllocError> {
-    let Some(Some(before)) = fewest.get(start).copied() else {
-        return Ok(());
-    };
-    let stretches = before.saturating_add(1);
-    let mut tracker = Tracker::<SpanSet>::new(alloc, Hands::None)?;
     for (at, exchange) in exchanges.iter().enumerate().skip(start) {
         if !tracker.observe(&exchange.command, &exchange.reply)? {
             return Ok(());
         }
-        if let Some(least) = fewest.get_mut(at.saturating_add(1)) {
-            *least = Some(least.map_or(stretches, |known| known.min(stretches)));
-        }
+        note_end(fewest, at.saturating_add(1), stretches);
     }
     Ok(())
+}
+
+/// The same with the new deck. It does no more, since each way out of a function that owns a tracker makes its proof
+/// much longer.
+fn note_ends(
+    alloc: Global,
+    exchanges: &[Exchange],
+    start: usize,
+    stretches: usize,
+    fewest: &mut [Option<usize>],
+) -> Result<(), AllocError> {
+    let mut tracker = Tracker::<SpanSet>::new(alloc, Hands::None)?;
+    note_reached(&mut tracker, exchanges, start, stretches, fewest)
 }
 
 /// The fewest moves of a hand, by way of all stretches that a deck goes through which nobody touches.
@@ -285,8 +308,9 @@ fn fewest_moves(alloc: Global, exchanges: &[Exchange]) -> Result<Option<usize>, 
     }
     let mut is_on = true;
     for (at, exchange) in exchanges.iter().enumerate() {
-        if is_on {
-            note_ends(alloc, exchanges, at, fewest.as_mut_slice())?;
+        if let (true, Some(Some(before))) = (is_on, fewest.get(at).copied()) {
+            let stretches = before.saturating_add(1);
+            note_ends(alloc, exchanges, at, stretches, fewest.as_mut_slice())?;
         }
         is_on = may_be_on(exchange, is_on);
     }
@@ -294,32 +318,44 @@ fn fewest_moves(alloc: Global, exchanges: &[Exchange]) -> Result<Option<usize>, 
     Ok(stretches.map(|stretches| stretches.saturating_sub(1)))
 }
 
-/// No other run of a drawn capture has fewer moves of a hand.
+/// How often a hand moves in the run of a capture, where that is a yes. No other run of it has fewer moves.
+fn tell_moves(rt: &impl Abort, alloc: Global, text: &str) -> Result<Option<usize>, AllocError> {
+    let run = judge_with_run(alloc, text.as_bytes(), Hands::Allowed);
+    let Ok(
+        RunVerdict::Yes {
+            exchanges,
+            states,
+            ..
+        },
+    ) = run
+    else {
+        return Ok(None);
+    };
+    let moves = Some(moves(alloc, exchanges.as_slice(), states.as_slice())?);
+    let fewest = fewest_moves(alloc, exchanges.as_slice())?;
+    same(rt, moves, fewest, text);
+    Ok(moves)
+}
+
+/// Notes that there is a capture that needs so many moves.
+fn note(seen: &mut [bool], moves: usize) {
+    if let Some(seen) = seen.get_mut(moves) {
+        *seen = true;
+    }
+}
+
 #[test]
 fn captures_that_are_drawn(rt: HostRuntime) -> Result<(), Fail> {
     let mut draw = Draw(1);
-    let mut seen = [0u32; 4];
+    let mut seen = [false; 4];
     for _ in 0..CAPTURES {
         let text = drawn(rt.alloc(), &mut draw)?;
-        let run = judge_with_run(rt.alloc(), text.as_bytes(), Hands::Allowed);
-        let Ok(
-            RunVerdict::Yes {
-                exchanges,
-                states,
-                ..
-            },
-        ) = run
-        else {
-            continue;
-        };
-        let moves = moves(rt.alloc(), exchanges.as_slice(), states.as_slice())?;
-        let fewest = fewest_moves(rt.alloc(), exchanges.as_slice())?;
-        assert_eq!(rt; Some(moves), fewest, "{text}");
-        if let Some(seen) = seen.get_mut(moves) {
-            *seen = seen.saturating_add(1);
+        let moves = tell_moves(&rt, rt.alloc(), text.as_str())?;
+        if let Some(moves) = moves {
+            note(&mut seen, moves);
         }
     }
     // Captures that need no hand, one move of it, two and three are among them.
-    assert!(rt; seen.iter().all(|count| *count > 0), "{seen:?}");
+    same(&rt, seen, [true; 4], "moves of a hand");
     Ok(())
 }

@@ -5,11 +5,14 @@ use super::parts::WOUND_AND_PLAYED;
 use super::readers::{Cut, Plays, Repeated};
 use super::texts::{HEADER, PLAYED, PLAYED_AND_BAD, PLAYED_AND_CUT, WRONG_SUM};
 use super::writers::{Narrow, Then};
-use super::{answer_and_text, capture, report};
+use super::{answer_and_text, capture, report, same};
 use block9::Reason;
 use capture9::{CaptureError, CaptureKind};
 use deck9::Hands;
 use judge9::{JudgeError, Verdict, View, judge};
+use std::alloc::Global;
+use std::io::Read;
+use std::process::Abort;
 use std::test::Fail;
 
 /// The refusal of a capture.
@@ -23,47 +26,70 @@ const SUM_AT_3: Verdict = Verdict::No {
     reason: Reason::WrongSum,
 };
 
+/// What is answered to `PLAYED`.
+const WHOLE: Verdict = Verdict::Yes {
+    records: 6,
+    exchanges: 1,
+    tail: 0,
+};
+
+/// Texts that can't be read, the refusal of each, and its row.
+const UNREADABLE: &[(&str, CaptureKind, u32)] = &[
+    ("", CaptureKind::Header, 0),
+    ("time_us,wire,byte\n400,C", CaptureKind::Fields, 1),
+    (
+        "time_us,wire,byte\n1000000000000000,C,20\n",
+        CaptureKind::Time,
+        1,
+    ),
+    ("time_us,wire,byte\n400,c,20\n", CaptureKind::Wire, 1),
+    (PLAYED_AND_BAD, CaptureKind::Byte, 7),
+    (
+        "time_us,wire,byte\n800,C,20\n400,C,01\n",
+        CaptureKind::Backwards,
+        2,
+    ),
+];
+
+/// Reads a capture that is refused, of which nothing is written.
+fn tell_refused<R: Read + Drop>(
+    rt: &impl Abort,
+    alloc: Global,
+    reader: R,
+    kind: CaptureKind,
+    row: u32,
+) {
+    let (answer, written) = answer_and_text(alloc, reader);
+    same(rt, answer, refused(kind, row), (kind, row));
+    same(rt, written.as_slice(), b"".as_slice(), (kind, row));
+}
+
+/// Reads a capture with a wrong sum in record 3.
+fn tell_sum_at_3<R: Read + Drop>(rt: &impl Abort, alloc: Global, reader: R, case: &str) {
+    let (answer, written) = answer_and_text(alloc, reader);
+    same(rt, answer, Ok(SUM_AT_3), case);
+    let line = b"no at record 3: B2 wrong sum\n";
+    same(rt, written.as_slice(), line.as_slice(), case);
+}
+
 #[test]
 fn each_kind_of_unreadable_text(rt: HostRuntime) {
-    for (text, kind, row) in [
-        (b"".as_slice(), CaptureKind::Header, 0),
-        (b"time_us,wire,byte\n400,C", CaptureKind::Fields, 1),
-        (
-            b"time_us,wire,byte\n1000000000000000,C,20\n",
-            CaptureKind::Time,
-            1,
-        ),
-        (b"time_us,wire,byte\n400,c,20\n", CaptureKind::Wire, 1),
-        (PLAYED_AND_BAD.as_bytes(), CaptureKind::Byte, 7),
-        (
-            b"time_us,wire,byte\n800,C,20\n400,C,01\n",
-            CaptureKind::Backwards,
-            2,
-        ),
-    ] {
-        let (answer, written) = answer_and_text(rt.alloc(), text);
-        assert!(rt; answer == refused(kind, row), "at {kind:?} {row}");
-        assert!(rt; written.is_empty());
+    for (text, kind, row) in UNREADABLE {
+        tell_refused(&rt, rt.alloc(), text.as_bytes(), *kind, *row);
     }
 }
 
 #[test]
 fn a_broken_rule_comes_before_a_later_bad_row(rt: HostRuntime) {
     let text = b"time_us,wire,byte\n400,C,20\n800,C,01\n1200,C,22\n1600,D,G1\n";
-    let (answer, written) = answer_and_text(rt.alloc(), text.as_slice());
-    assert!(rt; answer == Ok(SUM_AT_3));
-    assert_eq!(rt;
-        written.as_slice(),
-        b"no at record 3: B2 wrong sum\n".as_slice()
-    );
+    tell_sum_at_3(&rt, rt.alloc(), text.as_slice(), "before a bad row");
 }
 
 #[test]
 fn no_row_is_read_after_the_break(rt: HostRuntime) {
     let mut reader = Repeated::new(WRONG_SUM, "1600,C,20\n", 1_000_000);
-    let (answer, _) = answer_and_text(rt.alloc(), &mut reader);
-    assert!(rt; answer == Ok(SUM_AT_3));
-    assert!(rt; reader.given() < 1_000_000);
+    tell_sum_at_3(&rt, rt.alloc(), &mut reader, "before a million rows");
+    same(&rt, reader.given() < 1_000_000, true, reader.given());
 }
 
 #[test]
@@ -74,90 +100,92 @@ fn readers_that_fail(rt: HostRuntime) {
         (PLAYED, 52, 4),
         (PLAYED_AND_CUT, PLAYED_AND_CUT.len(), 7),
     ] {
-        let (answer, written) = answer_and_text(rt.alloc(), Cut::new(text, left));
-        assert!(rt; answer == refused(CaptureKind::Read, row), "at row {row}");
-        assert!(rt; written.is_empty());
+        let reader = Cut::new(text, left);
+        tell_refused(&rt, rt.alloc(), reader, CaptureKind::Read, row);
     }
     let broken = "time_us,wire,byte\n400,C,20\n800,C,01\n1200,C,22\n1600,C,20\n2000,C,20\n";
-    let (answer, _) = answer_and_text(rt.alloc(), Cut::new(broken, broken.len()));
-    assert!(rt; answer == Ok(SUM_AT_3));
+    let reader = Cut::new(broken, broken.len());
+    tell_sum_at_3(&rt, rt.alloc(), reader, "before the reader fails");
 }
 
 #[test]
 fn one_record_too_many(rt: HostRuntime) {
-    let (answer, written) = answer_and_text(rt.alloc(), Plays::new(rt.alloc(), 4_000_001));
-    assert!(rt; answer == refused(CaptureKind::TooMany, 4_000_001));
-    assert!(rt; written.is_empty());
+    let reader = Plays::new(rt.alloc(), 4_000_001);
+    tell_refused(&rt, rt.alloc(), reader, CaptureKind::TooMany, 4_000_001);
 }
 
 #[test]
 fn rows_without_end_at_one_time(rt: HostRuntime) {
     let six = "400,C,20\n400,C,01\n400,C,21\n400,D,10\n400,D,01\n400,D,11\n";
-    let (answer, written) = answer_and_text(rt.alloc(), Repeated::new(HEADER, six, u64::MAX));
-    assert!(rt; answer == refused(CaptureKind::TooMany, 4_000_001));
-    assert!(rt; written.is_empty());
+    let reader = Repeated::new(HEADER, six, u64::MAX);
+    tell_refused(&rt, rt.alloc(), reader, CaptureKind::TooMany, 4_000_001);
+}
+
+/// Judges a capture for a writer with this room: what there is room for of these lines is written.
+fn tell_room(
+    rt: &impl Abort,
+    alloc: Global,
+    (text, view, lines): (&str, View, &str),
+    (room, then): (usize, Then),
+    expected: Result<Verdict, JudgeError>,
+) {
+    let mut writer = Narrow::new(alloc, room, then);
+    let answer = judge(alloc, text.as_bytes(), &mut writer, view, Hands::None);
+    same(rt, answer, expected, (view, room, then));
+    let (taken, wanted) = (writer.into_taken(), lines.as_bytes().get(..room));
+    same(rt, Some(taken.as_slice()), wanted, (view, room, then));
 }
 
 #[test]
 fn writers_that_stop(rt: HostRuntime) {
-    let line = b"yes: records 6, exchanges 1, open 0\n";
+    let line = "yes: records 6, exchanges 1, open 0\n";
+    let report = (PLAYED, View::Verdict, line);
     for room in 0..line.len() {
         for then in [Then::Fail, Then::Interrupt, Then::TakeNone] {
-            let mut writer = Narrow::new(rt.alloc(), room, then);
-            let answer = judge(
-                rt.alloc(),
-                PLAYED.as_bytes(),
-                &mut writer,
-                View::Verdict,
-                Hands::None,
-            );
-            assert!(rt; answer == Err(JudgeError::Write));
-            assert_eq!(rt; writer.into_taken().as_slice(), &line[..room]);
+            let stopped = Err(JudgeError::Write);
+            tell_room(&rt, rt.alloc(), report, (room, then), stopped);
         }
     }
-    let mut writer = Narrow::new(rt.alloc(), line.len(), Then::Fail);
-    let answer = judge(
-        rt.alloc(),
-        PLAYED.as_bytes(),
-        &mut writer,
-        View::Verdict,
-        Hands::None,
-    );
-    assert!(rt; answer.is_ok());
-    assert_eq!(rt; writer.into_taken().as_slice(), line.as_slice());
+    let roomy = (line.len(), Then::Fail);
+    tell_room(&rt, rt.alloc(), report, roomy, Ok(WHOLE));
+}
+
+/// Explains a capture whose reader fails after so many bytes, at this row, behind the exchanges of these lines.
+fn tell_lines_before(
+    rt: &impl Abort,
+    alloc: Global,
+    (text, given, row): (&str, usize, u32),
+    lines: &str,
+) {
+    let (answer, written) = report(alloc, Cut::new(text, given), View::Explain, Hands::None);
+    same(rt, answer, refused(CaptureKind::Read, row), row);
+    same(rt, written.as_slice(), lines.as_bytes(), row);
 }
 
 #[test]
 fn lines_before_a_reader_fails(rt: HostRuntime) {
-    let reader = Cut::new(PLAYED_AND_CUT, PLAYED_AND_CUT.len());
-    let (answer, written) = report(rt.alloc(), reader, View::Explain, Hands::None);
-    assert!(rt; answer == refused(CaptureKind::Read, 7));
     let line =
-        b"record 6: PLAY -> ACK, delay 400, goal unknown, shown unknown, in unknown, out unknown, local unknown, ain unknown, aout unknown\n";
-    assert_eq!(rt; written.as_slice(), line.as_slice());
-    let reader = Cut::new(PLAYED, 52);
-    let (answer, written) = report(rt.alloc(), reader, View::Explain, Hands::None);
-    assert!(rt; answer == refused(CaptureKind::Read, 4));
-    assert!(rt; written.is_empty());
+        "record 6: PLAY -> ACK, delay 400, goal unknown, shown unknown, in unknown, out unknown, local unknown, ain unknown, aout unknown\n";
+    let inside_row_7 = (PLAYED_AND_CUT, PLAYED_AND_CUT.len(), 7);
+    tell_lines_before(&rt, rt.alloc(), inside_row_7, line);
+    tell_lines_before(&rt, rt.alloc(), (PLAYED, 52, 4), "");
 }
 
 #[test]
 fn writers_that_stop_in_an_explanation(rt: HostRuntime) -> Result<(), Fail> {
     let text = capture(rt.alloc(), &WOUND_AND_PLAYED)?;
-    let lines = WOUND_AND_PLAYED_LINES.as_bytes();
-    for room in 0..lines.len() {
-        let mut writer = Narrow::new(rt.alloc(), room, Then::Fail);
-        let answer = judge(
-            rt.alloc(),
-            text.as_bytes(),
-            &mut writer,
-            View::Explain,
-            Hands::None,
-        );
-        assert!(rt; answer == Err(JudgeError::Write));
-        assert_eq!(rt; writer.into_taken().as_slice(), &lines[..room]);
+    let report = (text.as_str(), View::Explain, WOUND_AND_PLAYED_LINES);
+    for room in 0..WOUND_AND_PLAYED_LINES.len() {
+        let stopped = Err(JudgeError::Write);
+        tell_room(&rt, rt.alloc(), report, (room, Then::Fail), stopped);
     }
     Ok(())
+}
+
+/// Compares the words of a refusal.
+fn tell_words(rt: &impl Abort, alloc: Global, refusal: JudgeError, words: &str) {
+    let text = refusal.to_string(alloc).expect(rt, "memory");
+    same(rt, text.as_str(), words, words);
 }
 
 #[test]
@@ -166,12 +194,9 @@ fn refusals_in_words(rt: HostRuntime) {
         kind: CaptureKind::Byte,
         row: 7,
     });
-    for (refusal, words) in &[
-        (byte, "the byte of row 7 is not two hexadecimal digits"),
-        (JudgeError::Write, "the report can't be written"),
-        (JudgeError::OutOfMemory, "out of memory"),
-    ] {
-        let text = refusal.to_string(rt.alloc()).expect(&rt, "memory");
-        assert_eq!(rt; text.as_str(), *words);
-    }
+    let words = "the byte of row 7 is not two hexadecimal digits";
+    tell_words(&rt, rt.alloc(), byte, words);
+    let words = "the report can't be written";
+    tell_words(&rt, rt.alloc(), JudgeError::Write, words);
+    tell_words(&rt, rt.alloc(), JudgeError::OutOfMemory, "out of memory");
 }

@@ -1,7 +1,7 @@
 //! Captures of more exchanges than the 256 that the way back takes at a time.
 
 use super::parts::*;
-use super::{Tap, tell};
+use super::{Tap, same, tell};
 use deck9::Hands;
 use std::alloc::{AllocError, Global};
 use std::process::Abort;
@@ -52,10 +52,8 @@ fn tell_turns(
     hands: Hands,
 ) -> Result<(), AllocError> {
     let text = turns(alloc, exchanges)?;
-    assert!(rt;
-        tell(rt, alloc, text.as_str(), hands)?,
-        "{exchanges} exchanges"
-    );
+    let is_yes = tell(rt, alloc, text.as_str(), hands)?;
+    same(rt, is_yes, true, (exchanges, hands));
     Ok(())
 }
 
@@ -66,7 +64,8 @@ fn tell_shifts(
     expected: bool,
 ) -> Result<(), AllocError> {
     let text = shifts(alloc, told)?;
-    assert_eq!(rt; tell(rt, alloc, text.as_str(), Hands::None)?, expected);
+    let is_yes = tell(rt, alloc, text.as_str(), Hands::None)?;
+    same(rt, is_yes, expected, told);
     Ok(())
 }
 

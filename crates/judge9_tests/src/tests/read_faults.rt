@@ -1,8 +1,8 @@
 //! Readers that fail: the row that is told is the one after the records that they gave.
 
 use super::readers::Cut;
-use super::report;
 use super::texts::PLAYED_AND_CUT;
+use super::{report, same};
 use capture9::{CaptureError, CaptureKind};
 use deck9::Hands;
 use judge9::{JudgeError, View, judge_with_run};
@@ -34,10 +34,10 @@ fn fault(row: u32) -> JudgeError {
 fn tell_fault(rt: &impl Abort, alloc: Global, hands: Hands, given: usize, row: u32) {
     for view in [View::Verdict, View::Explain] {
         let (answer, _) = report(alloc, Cut::new(PLAYED_AND_CUT, given), view, hands);
-        assert!(rt; answer == Err(fault(row)), "{view:?} after {given} bytes");
+        same(rt, answer, Err(fault(row)), (view, given));
     }
     let run = judge_with_run(alloc, Cut::new(PLAYED_AND_CUT, given), hands);
-    assert!(rt; run.err() == Some(fault(row)), "a run after {given} bytes");
+    same(rt, run, Err(fault(row)), ("a run", given));
 }
 
 fn tell_faults(rt: &impl Abort, alloc: Global, hands: Hands) {

@@ -1,6 +1,7 @@
 //! Readers for the tests.
 
-use std::alloc::Global;
+use super::texts::HEADER;
+use std::alloc::{AllocError, Global};
 use std::fmt::Write;
 use std::io;
 use std::io::Read;
@@ -75,6 +76,19 @@ impl Read for Repeated<'_> {
     }
 }
 
+/// Wire and byte of each record of PLAY and its acknowledgement, from the last of the one before on.
+const PLAY_ROWS: [&str; 6] = ["D,11", "C,20", "C,01", "C,21", "D,10", "D,01"];
+
+/// Writes the header, or the row of a record: the first has the number 1.
+fn write_line(line: &mut String, number: u32) -> Result<(), AllocError> {
+    if number == 0 {
+        return line.push_str(HEADER);
+    }
+    let time = u64::from(number) * 400;
+    let row = PLAY_ROWS[(number % 6) as usize];
+    writeln!(line, "{time},{row}")
+}
+
 /// Makes the text of so many records as it is read: PLAY and its acknowledgement again and again, 400
 /// microseconds apart.
 #[derive(Drop)]
@@ -98,20 +112,7 @@ impl Plays {
     fn make_line(&mut self) -> io::Result<()> {
         self.line.clear();
         self.at = 0;
-        let time = u64::from(self.made) * 400;
-        let row = match self.made % 6 {
-            1 => "C,20",
-            2 => "C,01",
-            3 => "C,21",
-            4 => "D,10",
-            5 => "D,01",
-            _ => "D,11",
-        };
-        let written = if self.made == 0 {
-            self.line.push_str("time_us,wire,byte\n")
-        } else {
-            writeln!(self.line, "{time},{row}")
-        };
+        let written = write_line(&mut self.line, self.made);
         self.made = self.made.saturating_add(1);
         written.map_err(|_| io::Error::from(io::ErrorKind::OutOfMemory))
     }

@@ -1,5 +1,6 @@
 //! The text of a run, by hand.
 
+use super::same;
 use super::writers::{Narrow, Then};
 use block9::{Block, Command, Exchange, Reason};
 use deck9::{Entry, Hands, Mode, State};
@@ -17,17 +18,21 @@ const PLAYED: &str =
 const PLAYED_WITH_PANEL: &str =
     "record 6: goal PLAY, shown STOP, in clear, out 10:00:00:00, local no, ain clear, aout clear, panel off\nyes: records 6, exchanges 1, open 0\n";
 
-/// A deck that shows STOP, is told to play, and acknowledges that.
-fn played(rt: &impl Abort, alloc: Global) -> Result<RunVerdict, Fail> {
+/// PLAY, acknowledged.
+fn play(rt: &impl Abort) -> Exchange {
     let block = Block::from_bytes(&[0x20, 0x01, 0x21]).expect(rt, "a block");
-    let exchange = Exchange {
+    Exchange {
         command: Command::of(&block).expect(rt, "a command"),
         block,
         reply: Block::from_bytes(&[0x10, 0x01, 0x11]).expect(rt, "a block"),
         delay_us: 400,
         time_us: 400,
-    };
-    let state = State {
+    }
+}
+
+/// A deck that has shown STOP when it was told to play.
+fn playing(rt: &impl Abort) -> State {
+    State {
         goal: Mode::Play,
         shown: Mode::Stop,
         ins: Entry::Clear,
@@ -36,11 +41,15 @@ fn played(rt: &impl Abort, alloc: Global) -> Result<RunVerdict, Fail> {
         aouts: Entry::Clear,
         local: false,
         panel: false,
-    };
+    }
+}
+
+/// A deck that shows STOP, is told to play, and acknowledges that.
+fn played(rt: &impl Abort, alloc: Global) -> Result<RunVerdict, Fail> {
     let mut exchanges = Vec::new(alloc);
-    exchanges.push(exchange)?;
+    exchanges.push(play(rt))?;
     let mut states = Vec::new(alloc);
-    states.push(state)?;
+    states.push(playing(rt))?;
     Ok(RunVerdict::Yes {
         records: 6,
         tail: 0,
@@ -49,20 +58,33 @@ fn played(rt: &impl Abort, alloc: Global) -> Result<RunVerdict, Fail> {
     })
 }
 
-/// What is written of a run.
-fn text_of(alloc: Global, run: &RunVerdict, hands: Hands) -> Result<Vec<u8>, JudgeError> {
+/// Compares all that is written of a run.
+fn tell_text(rt: &impl Abort, alloc: Global, run: &RunVerdict, hands: Hands, text: &str) {
     let mut writer = Narrow::roomy(alloc);
-    write_run(&mut writer, run, hands)?;
-    Ok(writer.into_taken())
+    let answer = write_run(&mut writer, run, hands);
+    same(rt, answer, Ok(()), text);
+    same(rt, writer.into_taken().as_slice(), text.as_bytes(), text);
+}
+
+/// Writes the run of `played` to a writer with too little room: what there is room for is written.
+fn tell_stopped(rt: &impl Abort, alloc: Global, run: &RunVerdict, room: usize, then: Then) {
+    let mut writer = Narrow::new(alloc, room, then);
+    let answer = write_run(&mut writer, run, Hands::None);
+    same(rt, answer, Err(JudgeError::Write), (room, then));
+    let taken = writer.into_taken();
+    same(
+        rt,
+        Some(taken.as_slice()),
+        PLAYED.as_bytes().get(..room),
+        (room, then),
+    );
 }
 
 #[test]
 fn a_yes(rt: HostRuntime) -> Result<(), Fail> {
     let run = played(&rt, rt.alloc())?;
-    for (hands, text) in [(Hands::None, PLAYED), (Hands::Allowed, PLAYED_WITH_PANEL)] {
-        let written = text_of(rt.alloc(), &run, hands).expect(&rt, "room");
-        assert_eq!(rt; written.as_slice(), text.as_bytes());
-    }
+    tell_text(&rt, rt.alloc(), &run, Hands::None, PLAYED);
+    tell_text(&rt, rt.alloc(), &run, Hands::Allowed, PLAYED_WITH_PANEL);
     Ok(())
 }
 
@@ -74,20 +96,14 @@ fn a_yes_without_exchanges_and_a_no(rt: HostRuntime) {
         exchanges: Vec::new(rt.alloc()),
         states: Vec::new(rt.alloc()),
     };
-    let written = text_of(rt.alloc(), &nothing, Hands::None).expect(&rt, "room");
-    assert_eq!(rt;
-        written.as_slice(),
-        b"yes: records 0, exchanges 0, open 0\n".as_slice()
-    );
+    let yes = "yes: records 0, exchanges 0, open 0\n";
+    tell_text(&rt, rt.alloc(), &nothing, Hands::None, yes);
     let broken = RunVerdict::No {
         at: 34,
         reason: Reason::NoRun,
     };
-    let written = text_of(rt.alloc(), &broken, Hands::Allowed).expect(&rt, "room");
-    assert_eq!(rt;
-        written.as_slice(),
-        b"no at record 34: M1 no run remains\n".as_slice()
-    );
+    let no = "no at record 34: M1 no run remains\n";
+    tell_text(&rt, rt.alloc(), &broken, Hands::Allowed, no);
 }
 
 #[test]
@@ -95,11 +111,7 @@ fn a_writer_that_stops_at_each_byte(rt: HostRuntime) -> Result<(), Fail> {
     let run = played(&rt, rt.alloc())?;
     for room in 0..PLAYED.len() {
         for then in [Then::Fail, Then::Interrupt, Then::TakeNone] {
-            let mut writer = Narrow::new(rt.alloc(), room, then);
-            let result = write_run(&mut writer, &run, Hands::None);
-            assert!(rt; result == Err(JudgeError::Write));
-            let taken = writer.into_taken();
-            assert_eq!(rt; taken.as_slice(), &PLAYED.as_bytes()[..room]);
+            tell_stopped(&rt, rt.alloc(), &run, room, then);
         }
     }
     Ok(())

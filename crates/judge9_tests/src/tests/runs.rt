@@ -1,5 +1,6 @@
 //! Exchanges, and states that a deck may or may not have after each of them.
 
+use super::same;
 use block9::{Block, Command, Exchange};
 use deck9::{Entry, Hands, Mode, State};
 use judge9::is_run;
@@ -80,12 +81,11 @@ fn exchanges(alloc: Global, sent: &[Sent]) -> Result<Vec<Exchange>, AllocError> 
             continue;
         };
         if let (Some(command), Some(reply)) = (Command::of(&block), Block::from_bytes(reply)) {
-            let delay_us = 400;
             exchanges.push(Exchange {
                 command,
                 block,
                 reply,
-                delay_us,
+                delay_us: 400,
                 time_us: 400,
             })?;
         }
@@ -97,8 +97,9 @@ fn exchanges(alloc: Global, sent: &[Sent]) -> Result<Vec<Exchange>, AllocError> 
 fn agree(rt: &impl Abort, alloc: Global, hands: Hands, rows: &[Row]) -> Result<(), Fail> {
     for (sent, states, expected) in rows {
         let exchanges = exchanges(alloc, sent)?;
-        assert_eq!(rt; exchanges.len(), sent.len());
-        assert_eq!(rt; is_run(exchanges.as_slice(), states, hands), *expected);
+        same(rt, exchanges.len(), sent.len(), sent);
+        let is_run = is_run(exchanges.as_slice(), states, hands);
+        same(rt, is_run, *expected, (sent, states));
     }
     Ok(())
 }

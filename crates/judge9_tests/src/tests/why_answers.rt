@@ -4,7 +4,7 @@ use super::contradicting::tell_text;
 use super::parts::*;
 use super::readers::Cut;
 use super::texts::{PLAYED_AND_BAD, PLAYED_AND_CUT};
-use super::{Tap, capture};
+use super::{Tap, capture, fail, same};
 use block9::{Command, Reason};
 use capture9::{CaptureError, CaptureKind, LineByte, Wire};
 use deck9::Hands;
@@ -129,19 +129,15 @@ fn a_yes_with_a_tail(rt: HostRuntime) -> Result<(), Fail> {
         ("C 20 01 21 D 10 01 11", 6, 1, 0),
         ("C 20 01 21 D 10 01 11 C 60 10 70 D 74 10 FF", 12, 1, 6),
     ] {
-        let yes = WhyVerdict::Yes {
-            records,
-            exchanges,
-            tail,
-        };
-        assert!(rt;
-            answer(&rt, rt.alloc(), Hands::None, &[parts])? == yes,
-            "{parts}"
-        );
-        assert!(rt;
-            answer(&rt, rt.alloc(), Hands::Allowed, &[parts])? == yes,
-            "{parts}"
-        );
+        for hands in [Hands::None, Hands::Allowed] {
+            let answer = answer(&rt, rt.alloc(), hands, &[parts])?;
+            let yes = WhyVerdict::Yes {
+                records,
+                exchanges,
+                tail,
+            };
+            same(&rt, answer, yes, (parts, hands));
+        }
     }
     Ok(())
 }
@@ -150,57 +146,59 @@ fn a_yes_with_a_tail(rt: HostRuntime) -> Result<(), Fail> {
 /// breaks. The records are 400 microseconds apart.
 type Open = (usize, Option<Command>, (u64, Wire, u8));
 
+/// Exchanges that end in a break, its record and reason, and what is open then.
+const BREAKS: [(&[&str], u32, Reason, Open); 7] = [
+    (
+        &["D 10"],
+        1,
+        Reason::ReplyWithoutCommand,
+        (0, None, (400, Wire::Deck, 0x10)),
+    ),
+    (
+        &[PLAY, "D 10"],
+        7,
+        Reason::ReplyWithoutCommand,
+        (0, None, (2_800, Wire::Deck, 0x10)),
+    ),
+    (
+        &[PLAY, "C 20 01 22"],
+        9,
+        Reason::WrongSum,
+        (2, None, (3_600, Wire::Controller, 0x22)),
+    ),
+    (
+        &[PLAY, "C 20 01 21 20"],
+        10,
+        Reason::CommandBeforeReply,
+        (3, Some(Command::Play), (4_000, Wire::Controller, 0x20)),
+    ),
+    (
+        &[IN_SET, "C 60 10 70 D 10 01 11"],
+        14,
+        Reason::WrongReply,
+        (5, Some(Command::InDataSense), (5_600, Wire::Deck, 0x11)),
+    ),
+    (
+        &["C 61 20 03 84 D 73 20 C 61"],
+        7,
+        Reason::CommandInsideReply,
+        (
+            6,
+            Some(Command::StatusSense { asked: 0x03 }),
+            (2_800, Wire::Controller, 0x61),
+        ),
+    ),
+    (
+        &["C 44 14 25 00 00 10 8D"],
+        7,
+        Reason::InvalidCommandTime,
+        (6, None, (2_800, Wire::Controller, 0x8D)),
+    ),
+];
+
 #[test]
 fn what_is_open_at_a_break(rt: HostRuntime) -> Result<(), Fail> {
-    let rows: [(&[&str], u32, Reason, Open); 7] = [
-        (
-            &["D 10"],
-            1,
-            Reason::ReplyWithoutCommand,
-            (0, None, (400, Wire::Deck, 0x10)),
-        ),
-        (
-            &[PLAY, "D 10"],
-            7,
-            Reason::ReplyWithoutCommand,
-            (0, None, (2_800, Wire::Deck, 0x10)),
-        ),
-        (
-            &[PLAY, "C 20 01 22"],
-            9,
-            Reason::WrongSum,
-            (2, None, (3_600, Wire::Controller, 0x22)),
-        ),
-        (
-            &[PLAY, "C 20 01 21 20"],
-            10,
-            Reason::CommandBeforeReply,
-            (3, Some(Command::Play), (4_000, Wire::Controller, 0x20)),
-        ),
-        (
-            &[IN_SET, "C 60 10 70 D 10 01 11"],
-            14,
-            Reason::WrongReply,
-            (5, Some(Command::InDataSense), (5_600, Wire::Deck, 0x11)),
-        ),
-        (
-            &["C 61 20 03 84 D 73 20 C 61"],
-            7,
-            Reason::CommandInsideReply,
-            (
-                6,
-                Some(Command::StatusSense { asked: 0x03 }),
-                (2_800, Wire::Controller, 0x61),
-            ),
-        ),
-        (
-            &["C 44 14 25 00 00 10 8D"],
-            7,
-            Reason::InvalidCommandTime,
-            (6, None, (2_800, Wire::Controller, 0x8D)),
-        ),
-    ];
-    for (parts, at, reason, open) in rows {
+    for (parts, at, reason, open) in BREAKS {
         tell_open(&rt, rt.alloc(), parts, (at, reason), open)?;
     }
     Ok(())
@@ -223,27 +221,28 @@ fn tell_open(
         breaking,
     } = &answer
     else {
-        panic!(rt; "no break: {parts:?}");
+        fail(rt, parts)
     };
     let (count, meaning, (time_us, wire, byte)) = open;
-    assert_eq!(rt; (*at, *reason), expected, "{parts:?}");
-    assert_eq!(rt;
-        *breaking,
-        LineByte {
-            time_us,
-            wire,
-            byte
-        },
-        "{parts:?}"
-    );
-    assert_eq!(rt; *command, meaning, "{parts:?}");
-    assert_eq!(rt; tail.len(), count, "{parts:?}");
-    let mut time_us = breaking.time_us;
+    let breaks = LineByte {
+        time_us,
+        wire,
+        byte,
+    };
+    same(rt, (*at, *reason), expected, parts);
+    same(rt, (*breaking, *command), (breaks, meaning), parts);
+    same(rt, tail.len(), count, parts);
+    tell_times(rt, tail.as_slice(), time_us, parts);
+    Ok(())
+}
+
+/// The open records come 400 microseconds apart, up to the one that breaks.
+fn tell_times(rt: &impl Abort, tail: &[LineByte], breaking_us: u64, parts: &[&str]) {
+    let mut time_us = breaking_us;
     for line_byte in tail.iter().rev() {
         time_us = time_us.saturating_sub(400);
-        assert_eq!(rt; line_byte.time_us, time_us, "{parts:?}");
+        same(rt, line_byte.time_us, time_us, parts);
     }
-    Ok(())
 }
 
 #[test]
@@ -266,12 +265,13 @@ fn nothing_behind_the_break_is_judged(rt: HostRuntime) -> Result<(), Fail> {
 fn the_exchanges_up_to_the_break(rt: HostRuntime) -> Result<(), Fail> {
     let answer = answer(&rt, rt.alloc(), Hands::None, &[REMOTE, PRESET_10, IN_11])?;
     let WhyVerdict::Contradiction { exchanges, .. } = &answer else {
-        panic!(rt; "no contradiction");
+        fail(&rt, "no contradiction")
     };
     let times: [u64; 3] = [400, 3_600, 7_600];
-    assert_eq!(rt; exchanges.len(), times.len());
-    for (exchange, time) in exchanges.iter().zip(times.iter()) {
-        assert_eq!(rt; (exchange.time_us, exchange.delay_us), (*time, 400));
+    same(&rt, exchanges.len(), times.len(), "exchanges");
+    for (place, exchange) in exchanges.iter().enumerate() {
+        same(&rt, Some(&exchange.time_us), times.get(place), place);
+        same(&rt, exchange.delay_us, 400, place);
     }
     Ok(())
 }
@@ -280,10 +280,10 @@ fn the_exchanges_up_to_the_break(rt: HostRuntime) -> Result<(), Fail> {
 fn a_bad_row(rt: HostRuntime) {
     for hands in [Hands::None, Hands::Allowed] {
         let answer = judge_with_contradiction(rt.alloc(), PLAYED_AND_BAD.as_bytes(), hands);
-        assert!(rt; answer == Err(fault(CaptureKind::Byte, 7)));
+        same(&rt, answer, Err(fault(CaptureKind::Byte, 7)), hands);
     }
     let answer = judge_with_contradiction(rt.alloc(), b"".as_slice(), Hands::None);
-    assert!(rt; answer == Err(fault(CaptureKind::Header, 0)));
+    same(&rt, answer, Err(fault(CaptureKind::Header, 0)), "no header");
 }
 
 /// The header has 18 bytes, the first two rows have 9 each, and the four after them 10 each.
@@ -292,12 +292,13 @@ fn a_reader_that_fails(rt: HostRuntime) -> Result<(), Fail> {
     for (given, row) in [(0, 0), (18, 1), (35, 2), (76, 7)] {
         let reader = Cut::new(PLAYED_AND_CUT, given);
         let answer = judge_with_contradiction(rt.alloc(), reader, Hands::None);
-        assert!(rt; answer == Err(fault(CaptureKind::Read, row)), "{given}");
+        same(&rt, answer, Err(fault(CaptureKind::Read, row)), given);
     }
     // One that fails behind the break is not asked for more.
     let text = capture(rt.alloc(), &[REMOTE, PRESET_10, IN_11])?;
     let reader = Cut::new(text.as_str(), text.len());
     let answer = judge_with_contradiction(rt.alloc(), reader, Hands::None);
-    assert!(rt; matches!(answer, Ok(WhyVerdict::Contradiction { at: 28, .. })));
+    let is_at_28 = matches!(answer, Ok(WhyVerdict::Contradiction { at: 28, .. }));
+    same(&rt, is_at_28, true, "behind the break");
     Ok(())
 }

@@ -1,9 +1,9 @@
 //! Captures whose runs and refusals are worked out by hand.
 
-use super::capture;
 use super::parts::*;
 use super::texts::PLAYED_AND_BAD;
-use block9::Reason;
+use super::{capture, fail, same};
+use block9::{Exchange, Reason};
 use capture9::{CaptureError, CaptureKind};
 use deck9::{Hands, Mode, State};
 use judge9::{JudgeError, RunVerdict, is_run, judge_with_run};
@@ -26,29 +26,38 @@ fn tell_wound_and_played(rt: &impl Abort, run: &mut RunVerdict) {
         states,
     } = run
     else {
-        panic!(rt; "no");
+        fail(rt, "no")
     };
-    assert_eq!(rt; (*records, *tail), (38, 0));
-    assert_eq!(rt; (exchanges.len(), states.len()), (5, 5));
+    same(rt, (*records, *tail), (38, 0), "records and tail");
+    same(
+        rt,
+        (exchanges.len(), states.len()),
+        (5, 5),
+        "exchanges and states",
+    );
     tell_modes(rt, states.as_slice());
-    assert!(rt; is_run(exchanges.as_slice(), states.as_slice(), Hands::None));
+    tell_is_run(rt, exchanges.as_slice(), states.as_slice(), true);
     if let Some(third) = states.get_mut(2) {
         third.shown = Mode::Rewind;
     }
-    assert!(rt; !is_run(exchanges.as_slice(), states.as_slice(), Hands::None));
+    tell_is_run(rt, exchanges.as_slice(), states.as_slice(), false);
 }
 
+fn tell_is_run(rt: &impl Abort, exchanges: &[Exchange], states: &[State], expected: bool) {
+    let is_run = is_run(exchanges, states, Hands::None);
+    same(rt, is_run, expected, states);
+}
+
+/// No state is in local; the third winds on, and the last shows STOP.
 fn tell_modes(rt: &impl Abort, states: &[State]) {
     for state in states {
-        assert!(rt; !state.local, "{state:?}");
+        same(rt, state.local, false, state);
     }
     let third = states.get(2).expect(rt, "a state");
-    assert_eq!(rt;
-        (third.goal, third.shown),
-        (Mode::FastForward, Mode::FastForward)
-    );
+    let winding = (Mode::FastForward, Mode::FastForward);
+    same(rt, (third.goal, third.shown), winding, "the third state");
     let last = states.last().expect(rt, "a state");
-    assert_eq!(rt; last.shown, Mode::Stop);
+    same(rt, last.shown, Mode::Stop, "the last state");
 }
 
 #[test]
@@ -67,7 +76,7 @@ fn an_open_command_alone(rt: HostRuntime) -> Result<(), Fail> {
         exchanges: Vec::new(rt.alloc()),
         states: Vec::new(rt.alloc()),
     };
-    assert!(rt; run == open);
+    same(&rt, run, open, "an open command");
     Ok(())
 }
 
@@ -78,7 +87,7 @@ fn a_bad_row(rt: HostRuntime) {
         kind: CaptureKind::Byte,
         row: 7,
     };
-    assert!(rt; answer == Err(JudgeError::Capture(fault)));
+    same(&rt, answer, Err(JudgeError::Capture(fault)), "row 7");
 }
 
 /// A deck in remote has what it captured at IN ENTRY, and tells one time of it.
@@ -89,6 +98,6 @@ fn two_times(rt: HostRuntime) -> Result<(), Fail> {
         at: 34,
         reason: Reason::NoRun,
     };
-    assert!(rt; run == broken);
+    same(&rt, run, broken, "two times");
     Ok(())
 }

@@ -3,6 +3,7 @@
 use super::Place;
 use super::commands::{Deed, deed_to, goal_of, is_refused, switches_panel};
 use super::entries::{entry_of, one_on, with_entry};
+use super::fields::{with_goal, with_other_panel};
 use deck9::{Entry, Hands, Mode, Register, State};
 use tc25::TimeCode;
 
@@ -22,10 +23,7 @@ pub(super) fn switched(place: &Place) -> Option<State> {
     if place.hands == Hands::None || !switches_panel(place.exchange) {
         return None;
     }
-    Some(State {
-        panel: !place.state.panel,
-        ..*place.state
-    })
+    Some(with_other_panel(place.state))
 }
 
 /// After a transport command that a deck in remote acknowledged: it goes for another mode.
@@ -38,10 +36,7 @@ pub(super) fn redirected(place: &Place) -> Option<State> {
     } else {
         Mode::Stop
     };
-    Some(State {
-        goal,
-        ..*place.state
-    })
+    Some(with_goal(place.state, goal))
 }
 
 /// What a deck in remote did to a register.

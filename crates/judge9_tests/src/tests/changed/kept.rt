@@ -6,6 +6,7 @@ use super::commands::{
     preset_of,
 };
 use super::entries::{entry_of, far_from, turned_entry, with_entry};
+use super::fields::{with_goal, with_other_local, with_other_panel, with_shown};
 use block9::Exchange;
 use deck9::{Hands, Mode, Register, State};
 
@@ -36,10 +37,7 @@ pub(super) fn strayed_local(place: &Place) -> Option<State> {
     if !was_kept && !is_kept {
         return None;
     }
-    Some(State {
-        local: !place.state.local,
-        ..*place.state
-    })
+    Some(with_other_local(place.state))
 }
 
 /// The panel, which a hand can't switch, is not what it was before, or will be.
@@ -52,10 +50,7 @@ pub(super) fn strayed_panel(place: &Place) -> Option<State> {
     if place.hands == Hands::None || !was_kept && !is_kept {
         return None;
     }
-    Some(State {
-        panel: !place.state.panel,
-        ..*place.state
-    })
+    Some(with_other_panel(place.state))
 }
 
 /// The first of some modes that is neither of two.
@@ -76,10 +71,8 @@ pub(super) fn strayed_goal(place: &Place) -> Option<State> {
     }
     let asked = goal_of(&place.exchange.command).unwrap_or(Mode::Stop);
     let others = [Mode::Play, Mode::Rec, Mode::Rewind];
-    Some(State {
-        goal: neither(&others, before.goal, asked)?,
-        ..*place.state
-    })
+    let goal = neither(&others, before.goal, asked)?;
+    Some(with_goal(place.state, goal))
 }
 
 /// The goal is another one than that of the state after, which was not given to it since, and is not the STOP at the end
@@ -90,10 +83,8 @@ pub(super) fn lost_goal(place: &Place) -> Option<State> {
     if !keeps_modes(exchange) || is_given || next.goal == Mode::Stop {
         return None;
     }
-    Some(State {
-        goal: neither(&[Mode::Play, Mode::Rec], next.goal, Mode::Stop)?,
-        ..*place.state
-    })
+    let goal = neither(&[Mode::Play, Mode::Rec], next.goal, Mode::Stop)?;
+    Some(with_goal(place.state, goal))
 }
 
 /// The mode that is shown is neither that of the state before, nor its goal, nor on a way: these three are on none.
@@ -103,10 +94,8 @@ pub(super) fn strayed_shown(place: &Place) -> Option<State> {
         return None;
     }
     let others = [Mode::Rec, Mode::Cued, Mode::Eject];
-    Some(State {
-        shown: neither(&others, before.goal, before.shown)?,
-        ..*place.state
-    })
+    let shown = neither(&others, before.goal, before.shown)?;
+    Some(with_shown(place.state, shown))
 }
 
 /// Whether a deck with this goal may come to show a mode: the goal, or one on the way to it.
@@ -125,10 +114,8 @@ pub(super) fn lost_shown(place: &Place) -> Option<State> {
     if !keeps_modes(exchange) || may_come_to(place.state.goal, next.shown) {
         return None;
     }
-    Some(State {
-        shown: neither(&[Mode::Play, Mode::Rec], next.shown, Mode::Stop)?,
-        ..*place.state
-    })
+    let shown = neither(&[Mode::Play, Mode::Rec], next.shown, Mode::Stop)?;
+    Some(with_shown(place.state, shown))
 }
 
 /// A register holds a time that is neither that of the state before, nor next to it, nor the command's.

@@ -2,6 +2,7 @@
 
 use super::Place;
 use super::entries::{entry_of, turned_entry, with_entry};
+use super::fields::{with_other_local, with_shown};
 use block9::{Command, Exchange};
 use deck9::{Entry, Mode, Register, State};
 use tc25::TimeCode;
@@ -22,19 +23,14 @@ fn datum(exchange: &Exchange, number: u8) -> Option<u8> {
 /// After status datum 0, whose bit tells it: local is the other.
 pub(super) fn relocated(place: &Place) -> Option<State> {
     datum(place.exchange, 0)?;
-    Some(State {
-        local: !place.state.local,
-        ..*place.state
-    })
+    Some(with_other_local(place.state))
 }
 
 /// After status datum 1: STOP is shown where a bit of motion is set, and PLAY where none is.
 pub(super) fn shown_against_datum_1(place: &Place) -> Option<State> {
     let has_motion = datum(place.exchange, 1)? & 0x1F != 0;
-    Some(State {
-        shown: if has_motion { Mode::Stop } else { Mode::Play },
-        ..*place.state
-    })
+    let shown = if has_motion { Mode::Stop } else { Mode::Play };
+    Some(with_shown(place.state, shown))
 }
 
 /// After status datum 2: STOP is shown where a bit of SHUTTLE, JOG or VAR is set, and SHUTTLE where none is.
@@ -45,10 +41,7 @@ pub(super) fn shown_against_datum_2(place: &Place) -> Option<State> {
     } else {
         Mode::Shuttle
     };
-    Some(State {
-        shown,
-        ..*place.state
-    })
+    Some(with_shown(place.state, shown))
 }
 
 /// After status datum 3, which tells which registers are Set: this one is Set where it told Clear, and Clear where it
