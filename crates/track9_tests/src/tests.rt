@@ -1,4 +1,7 @@
 //! Exchanges that a tracker takes, and what it answers to them, with values from the protocol's rules, by hand.
+//!
+//! A function that owns a tracker hands it to `drop` when it is done: the tracker's end in place, at each way out, would
+//! cost the proof of that function most of its time.
 mod agreed;
 mod all_states;
 mod before;
@@ -16,12 +19,25 @@ mod sent;
 mod side_by_side;
 
 use block9::{Block, Command, reply_time_valid};
-use deck9::Hands;
+use deck9::{Hands, Register};
 use sent::Sent;
 use std::alloc::AllocError;
+use std::fmt::Debug;
 use std::process::Abort;
-use tc25::TimeSet;
+use tc25::{SpanSet, TimeSet};
 use track9::{Knowledge, Tracker};
+
+/// Holds that what was found in a case is what is wanted.
+///
+/// The tests call this in place of the macros: an assertion costs the proof of the function that it stands in seconds.
+fn same<T: PartialEq + Debug + Drop, C: Debug + Drop>(
+    rt: &impl Abort,
+    found: T,
+    wanted: T,
+    case: C,
+) {
+    assert_eq!(rt; found, wanted, "{case:?}");
+}
 
 /// The command that these bytes spell.
 fn command_of(rt: &impl Abort, bytes: &[u8]) -> Command {
@@ -42,8 +58,8 @@ fn observe<S: TimeSet>(
     command: &Command,
     reply: &Block,
 ) -> Result<bool, AllocError> {
-    assert!(rt; command.fits(reply), "{command:?} {reply:?}");
-    assert!(rt; reply_time_valid(command, reply), "{command:?} {reply:?}");
+    let is_allowed = (command.fits(reply), reply_time_valid(command, reply));
+    same(rt, is_allowed, (true, true), (command, reply));
     tracker.observe(command, reply)
 }
 
@@ -57,6 +73,19 @@ fn take<S: TimeSet>(
     observe(rt, tracker, &command, &reply)
 }
 
+/// Takes an exchange of a case, after which a state remains, or none.
+fn take_leaving<S: TimeSet, C: Debug + Drop>(
+    rt: &impl Abort,
+    tracker: &mut Tracker<S>,
+    sent: Sent,
+    remains: bool,
+    case: C,
+) -> Result<(), AllocError> {
+    let answers = (take(rt, tracker, sent)?, tracker.remains());
+    same(rt, answers, (remains, remains), (sent, case));
+    Ok(())
+}
+
 /// Takes exchanges that leave a state.
 fn take_all<S: TimeSet>(
     rt: &impl Abort,
@@ -64,12 +93,15 @@ fn take_all<S: TimeSet>(
     exchanges: &[Sent],
 ) -> Result<(), AllocError> {
     for (place, sent) in exchanges.iter().enumerate() {
-        assert!(rt;
-            take(rt, tracker, *sent)?,
-            "exchange {place} of {exchanges:?}"
-        );
+        let remains = take(rt, tracker, *sent)?;
+        same(rt, remains, true, (place, exchanges));
     }
     Ok(())
+}
+
+/// The spans of the times at which a register may be Set, and its presets.
+fn spans_and_presets(tracker: &Tracker<SpanSet>, register: Register) -> (usize, u32) {
+    (tracker.spans(register), tracker.presets(register))
 }
 
 /// What all states agree on, where there is one.

@@ -171,6 +171,16 @@ const TOUCHED: &[Learnt] = &[
     (SENSED_11, "panel on"),
 ];
 
+const RUNS: &[(Hands, &[Learnt])] = &[
+    (Hands::None, ENTERED),
+    (Hands::None, PRESET),
+    (Hands::None, SHIFTED),
+    (Hands::None, MOVED),
+    (Hands::None, SOUND),
+    (Hands::Allowed, SWITCHED),
+    (Hands::Allowed, TOUCHED),
+];
+
 /// The name of a switch, if it is known.
 fn name_of(known: Known<bool>, on: &'static str, off: &'static str) -> &'static str {
     match known {
@@ -225,10 +235,6 @@ pub(super) fn tell_all(text: &mut String, knowledge: &Knowledge) -> Result<(), A
     tell(text, "panel", name_of(knowledge.panel, "on", "off"))
 }
 
-pub(super) fn is_text(text: &str, expected: &str) -> bool {
-    text == expected
-}
-
 /// Takes exchanges, each of which leaves this known.
 fn learn<S: TimeSet>(
     rt: &impl Abort,
@@ -237,9 +243,9 @@ fn learn<S: TimeSet>(
     exchanges: &[Learnt],
 ) -> Result<(), AllocError> {
     for (sent, expected) in exchanges {
-        assert!(rt; take(rt, tracker, *sent)?, "{sent:?}");
+        take_leaving(rt, tracker, *sent, true, *expected)?;
         tell_all(text, &known(rt, tracker))?;
-        assert!(rt; is_text(text, expected), "{sent:?}: {text}");
+        same(rt, text.as_str(), *expected, *sent);
     }
     Ok(())
 }
@@ -252,15 +258,14 @@ fn learn_from_first<S: TimeSet>(
 ) -> Result<(), AllocError> {
     let mut tracker: Tracker<S> = Tracker::new(alloc, hands)?;
     let mut text = String::new(alloc);
-    learn(rt, &mut tracker, &mut text, exchanges)
+    let result = learn(rt, &mut tracker, &mut text, exchanges);
+    drop(tracker);
+    result
 }
 
 fn learn_all<S: TimeSet>(rt: &impl Abort, alloc: Global) -> Result<(), AllocError> {
-    for exchanges in [ENTERED, PRESET, SHIFTED, MOVED, SOUND] {
-        learn_from_first::<S>(rt, alloc, Hands::None, exchanges)?;
-    }
-    for exchanges in [SWITCHED, TOUCHED] {
-        learn_from_first::<S>(rt, alloc, Hands::Allowed, exchanges)?;
+    for (hands, exchanges) in RUNS {
+        learn_from_first::<S>(rt, alloc, *hands, exchanges)?;
     }
     Ok(())
 }

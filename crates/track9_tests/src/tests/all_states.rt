@@ -9,7 +9,7 @@ mod listed;
 
 use super::drawn::{Draw, command, moved, reply};
 use super::plain_deck::Day;
-use super::{known, observe};
+use super::{known, observe, same};
 use block9::{Block, Command};
 use deck9::{Hands, Register};
 use edges::Edges;
@@ -97,10 +97,10 @@ fn agree(
     deck.observe(command, reply)?;
     let listed = deck.knowledge();
     let answers = (tracker.remains(), listed.is_some());
-    assert_eq!(rt; answers, (remains, remains), "{command:?} {reply:?}");
+    same(rt, answers, (remains, remains), (command, reply));
     if let Some(listed) = listed {
         let tracked = known_of(rt, tracker, registers);
-        assert_eq!(rt; tracked, listed, "{command:?} {reply:?}");
+        same(rt, tracked, listed, (command, reply));
     }
     Ok(remains)
 }
@@ -130,7 +130,9 @@ fn agree_beside_list(
     course: &mut Course,
 ) -> Result<u32, AllocError> {
     let mut tracker: Tracker<SpanSet> = Tracker::new(alloc, course.hands)?;
-    agree_on(rt, deck, &mut tracker, course)
+    let result = agree_on(rt, deck, &mut tracker, course);
+    drop(tracker);
+    result
 }
 
 fn agree_from_first(
@@ -139,7 +141,9 @@ fn agree_from_first(
     course: &mut Course,
 ) -> Result<u32, AllocError> {
     let mut deck = ListedDeck::new(alloc, course.hands, course.times, course.registers)?;
-    agree_beside_list(rt, alloc, &mut deck, course)
+    let result = agree_beside_list(rt, alloc, &mut deck, course);
+    drop(deck);
+    result
 }
 
 /// Takes that many courses, which differ.
@@ -158,7 +162,7 @@ fn agree_on_courses(
         left = left.saturating_add(turns);
     }
     // The draws have to leave states.
-    assert!(rt; left / 8 >= courses, "{left} exchanges");
+    same(rt, left / 8 >= courses, true, ("exchanges", left));
     Ok(())
 }
 

@@ -143,16 +143,22 @@ fn state(rt: &impl Abort, goal: Mode, shown: Mode, in_frames: u32) -> State {
     }
 }
 
+/// A state from which an exchange leads to the target.
+fn state_before<S: TimeSet>(
+    rt: &impl Abort,
+    tracker: &Tracker<S>,
+    sent: Sent,
+    target: &State,
+) -> Option<State> {
+    let (command, reply) = exchange(rt, sent);
+    tracker.before(&command, &reply, target)
+}
+
 fn tell_row<S: TimeSet>(rt: &impl Abort, tracker: &Tracker<S>, row: &Row) {
+    let only = state(rt, Mode::Play, Mode::Play, 900_000);
     let target = state(rt, row.goal, row.shown, row.in_frames);
-    let (command, reply) = exchange(rt, row.sent);
-    let before = tracker.before(&command, &reply, &target);
-    if row.is_reached {
-        let only = state(rt, Mode::Play, Mode::Play, 900_000);
-        assert_eq!(rt; before, Some(only), "{target:?}");
-    } else {
-        assert_eq!(rt; before, None, "{target:?}");
-    }
+    let before = state_before(rt, tracker, row.sent, &target);
+    same(rt, before, row.is_reached.then_some(only), target);
 }
 
 fn tell_rows<S: TimeSet>(rt: &impl Abort, tracker: &mut Tracker<S>) -> Result<(), AllocError> {
@@ -165,48 +171,44 @@ fn tell_rows<S: TimeSet>(rt: &impl Abort, tracker: &mut Tracker<S>) -> Result<()
 
 fn tell_rows_from_first<S: TimeSet>(rt: &impl Abort, alloc: Global) -> Result<(), AllocError> {
     let mut tracker: Tracker<S> = Tracker::new(alloc, Hands::None)?;
-    tell_rows(rt, &mut tracker)
+    let result = tell_rows(rt, &mut tracker);
+    drop(tracker);
+    result
 }
+
+/// A snapshot, and the exchange that came next.
+type Earlier<S> = (Tracker<S>, Sent);
 
 /// Takes an exchange, and keeps a snapshot of what was before it.
 fn keep<S: TimeSet>(
     rt: &impl Abort,
     tracker: &mut Tracker<S>,
-    earlier: &mut Vec<Tracker<S>>,
+    earlier: &mut Vec<Earlier<S>>,
     sent: Sent,
 ) -> Result<(), AllocError> {
-    earlier.push(tracker.snapshot()?)?;
-    assert!(rt; take(rt, tracker, sent)?, "{sent:?}");
-    Ok(())
+    earlier.push((tracker.snapshot()?, sent))?;
+    take_leaving(rt, tracker, sent, true, "a run")
 }
 
 /// Goes back by the snapshots from a state after the exchanges to one before them.
-fn follow_back<S: TimeSet>(
-    rt: &impl Abort,
-    earlier: &[Tracker<S>],
-    exchanges: &[Sent],
-    last: State,
-) {
+fn follow_back<S: TimeSet>(rt: &impl Abort, earlier: &[Earlier<S>], last: State) {
     let mut target = last;
-    for (tracker, sent) in earlier.iter().rev().zip(exchanges.iter().rev()) {
-        let (command, reply) = exchange(rt, *sent);
-        target = tracker
-            .before(&command, &reply, &target)
-            .expect(rt, "a state before");
+    for (tracker, sent) in earlier.iter().rev() {
+        target = state_before(rt, tracker, *sent, &target).expect(rt, "a state before");
     }
 }
 
 fn go_back<S: TimeSet>(
     rt: &impl Abort,
     tracker: &mut Tracker<S>,
-    earlier: &mut Vec<Tracker<S>>,
+    earlier: &mut Vec<Earlier<S>>,
     exchanges: &[Sent],
 ) -> Result<(), AllocError> {
     for sent in exchanges {
         keep(rt, tracker, earlier, *sent)?;
     }
     let last = tracker.member().expect(rt, "a state");
-    follow_back(rt, earlier.as_slice(), exchanges, last);
+    follow_back(rt, earlier.as_slice(), last);
     Ok(())
 }
 
@@ -217,7 +219,9 @@ fn go_back_to_first<S: TimeSet>(
     exchanges: &[Sent],
 ) -> Result<(), AllocError> {
     let mut tracker: Tracker<S> = Tracker::new(alloc, hands)?;
-    go_back(rt, &mut tracker, &mut Vec::new(alloc), exchanges)
+    let result = go_back(rt, &mut tracker, &mut Vec::new(alloc), exchanges);
+    drop(tracker);
+    result
 }
 
 fn tell_all<S: TimeSet>(rt: &impl Abort, alloc: Global) -> Result<(), AllocError> {

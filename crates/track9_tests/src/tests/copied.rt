@@ -2,7 +2,6 @@
 
 use super::sent::*;
 use super::*;
-use deck9::Register;
 use std::alloc::Global;
 use std::test::Fail;
 use tc25::{ListSet, SpanSet};
@@ -81,10 +80,10 @@ fn part_ways<S: TimeSet>(
     row: &Row,
 ) -> Result<(), AllocError> {
     take_all(rt, tracker, row.later)?;
-    assert!(rt; snapshot.remains());
+    same(rt, snapshot.remains(), true, row.before);
     let remains = take(rt, snapshot, row.asked)?;
-    assert_eq!(rt; remains, row.remains, "{:?} {:?}", row.before, row.asked);
-    assert!(rt; tracker.remains());
+    same(rt, remains, row.remains, (row.before, row.asked));
+    same(rt, tracker.remains(), true, row.before);
     Ok(())
 }
 
@@ -95,7 +94,9 @@ fn copy_and_part<S: TimeSet>(
 ) -> Result<(), AllocError> {
     take_all(rt, tracker, row.before)?;
     let mut snapshot = tracker.snapshot()?;
-    part_ways(rt, tracker, &mut snapshot, row)
+    let result = part_ways(rt, tracker, &mut snapshot, row);
+    drop(snapshot);
+    result
 }
 
 fn copy_from_first<S: TimeSet>(
@@ -104,7 +105,9 @@ fn copy_from_first<S: TimeSet>(
     row: &Row,
 ) -> Result<(), AllocError> {
     let mut tracker: Tracker<S> = Tracker::new(alloc, row.hands)?;
-    copy_and_part(rt, &mut tracker, row)
+    let result = copy_and_part(rt, &mut tracker, row);
+    drop(tracker);
+    result
 }
 
 #[test]
@@ -129,25 +132,27 @@ fn tell_counts(
     tracker: &mut Tracker<SpanSet>,
     snapshot: &Tracker<SpanSet>,
 ) -> Result<(), AllocError> {
-    assert!(rt; take(rt, tracker, PRESET_11)?);
-    let presets = (
-        tracker.presets(Register::RegIn),
-        snapshot.presets(Register::RegIn),
-    );
-    assert_eq!(rt; presets, (2, 1));
-    assert_eq!(rt; snapshot.spans(Register::RegIn), 1);
+    take_leaving(rt, tracker, PRESET_11, true, "counts")?;
+    let presets = tracker.presets(Register::RegIn);
+    same(rt, presets, 2, "presets of the tracker");
+    let counts = spans_and_presets(snapshot, Register::RegIn);
+    same(rt, counts, (1, 1), "spans and presets of the snapshot");
     Ok(())
 }
 
 fn copy_counts(rt: &impl Abort, tracker: &mut Tracker<SpanSet>) -> Result<(), AllocError> {
     take_all(rt, tracker, &[REMOTE, PRESET_10])?;
     let snapshot = tracker.snapshot()?;
-    tell_counts(rt, tracker, &snapshot)
+    let result = tell_counts(rt, tracker, &snapshot);
+    drop(snapshot);
+    result
 }
 
 fn copy_counts_from_first(rt: &impl Abort, alloc: Global) -> Result<(), AllocError> {
     let mut tracker: Tracker<SpanSet> = Tracker::new(alloc, Hands::None)?;
-    copy_counts(rt, &mut tracker)
+    let result = copy_counts(rt, &mut tracker);
+    drop(tracker);
+    result
 }
 
 #[test]

@@ -83,7 +83,7 @@ fn tell_row<S: TimeSet>(
     let state = tracker.member().expect(rt, "a state");
     let told = (state.shown, is_set(&state.ins), state.local, state.panel);
     let wanted = (row.shown, row.is_in_set, row.local, row.panel);
-    assert_eq!(rt; told, wanted, "{:?}", row.exchanges);
+    same(rt, told, wanted, row.exchanges);
     Ok(())
 }
 
@@ -100,7 +100,9 @@ fn tell_row_from_first<S: TimeSet>(
     row: &Row,
 ) -> Result<(), AllocError> {
     let mut tracker: Tracker<S> = Tracker::new(alloc, row.hands)?;
-    tell_row(rt, &mut tracker, row)
+    let result = tell_row(rt, &mut tracker, row);
+    drop(tracker);
+    result
 }
 
 /// The only state, and then none.
@@ -120,15 +122,17 @@ fn tell_only_and_none<S: TimeSet>(
         local: false,
         panel: false,
     };
-    assert_eq!(rt; tracker.member(), Some(only));
-    let remains = take(rt, tracker, LOCAL)?;
-    assert_eq!(rt; (remains, tracker.member()), (false, None));
+    same(rt, tracker.member(), Some(only), "the only state");
+    take_leaving(rt, tracker, LOCAL, false, "no state")?;
+    same(rt, tracker.member(), None, "no state");
     Ok(())
 }
 
 fn tell_only_from_first<S: TimeSet>(rt: &impl Abort, alloc: Global) -> Result<(), AllocError> {
     let mut tracker: Tracker<S> = Tracker::new(alloc, Hands::None)?;
-    tell_only_and_none(rt, &mut tracker)
+    let result = tell_only_and_none(rt, &mut tracker);
+    drop(tracker);
+    result
 }
 
 fn tell_all<S: TimeSet>(rt: &impl Abort, alloc: Global) -> Result<(), AllocError> {

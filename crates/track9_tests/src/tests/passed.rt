@@ -1,6 +1,6 @@
 //! Commands that the tracker takes without their replies: what is known after each of them.
 
-use super::agreed::{is_text, tell_all};
+use super::agreed::tell_all;
 use super::sent::*;
 use super::*;
 use deck9::Register;
@@ -103,10 +103,7 @@ fn take_one<S: TimeSet>(
     taken: Taken,
 ) -> Result<(), AllocError> {
     match taken {
-        Exchange(sent) => {
-            assert!(rt; take(rt, tracker, sent)?, "{sent:?}");
-            Ok(())
-        }
+        Exchange(sent) => take_leaving(rt, tracker, sent, true, "taken"),
         Passed(sent) => pass(rt, tracker, sent),
     }
 }
@@ -120,7 +117,7 @@ fn learn<S: TimeSet>(
     for (taken, expected) in rows {
         take_one(rt, tracker, *taken)?;
         tell_all(text, &known(rt, tracker))?;
-        assert!(rt; is_text(text, expected), "{taken:?}: {text}");
+        same(rt, text.as_str(), *expected, *taken);
     }
     Ok(())
 }
@@ -133,7 +130,9 @@ fn learn_from_first<S: TimeSet>(
 ) -> Result<(), AllocError> {
     let mut tracker: Tracker<S> = Tracker::new(alloc, hands)?;
     let mut text = String::new(alloc);
-    learn(rt, &mut tracker, &mut text, rows)
+    let result = learn(rt, &mut tracker, &mut text, rows);
+    drop(tracker);
+    result
 }
 
 fn learn_all<S: TimeSet>(rt: &impl Abort, alloc: Global) -> Result<(), AllocError> {
@@ -159,17 +158,19 @@ fn count(rt: &impl Abort, tracker: &mut Tracker<SpanSet>) -> Result<(), AllocErr
     take_all(rt, tracker, &[REMOTE, PRESET_10])?;
     pass(rt, tracker, PRESET_11)?;
     pass(rt, tracker, PRESET_11)?;
-    let spans = tracker.spans(Register::RegIn);
-    assert_eq!(rt; (spans, tracker.presets(Register::RegIn)), (2, 3));
-    assert!(rt; !take(rt, tracker, LOCAL)?);
+    let counts = spans_and_presets(tracker, Register::RegIn);
+    same(rt, counts, (2, 3), "spans and presets");
+    take_leaving(rt, tracker, LOCAL, false, "no state")?;
     pass(rt, tracker, UNLISTED_0)?;
-    assert!(rt; !tracker.remains());
+    same(rt, tracker.remains(), false, "no state");
     Ok(())
 }
 
 fn count_from_first(rt: &impl Abort, alloc: Global) -> Result<(), AllocError> {
     let mut tracker: Tracker<SpanSet> = Tracker::new(alloc, Hands::None)?;
-    count(rt, &mut tracker)
+    let result = count(rt, &mut tracker);
+    drop(tracker);
+    result
 }
 
 #[test]

@@ -30,7 +30,7 @@ pub(super) const REGISTERS: [Register; 4] = [
 ];
 
 /// A state: of each register, in their order, its time where it is Set.
-#[derive(Clone, Copy, Debug, PartialEq, Eq)]
+#[derive(Clone, Copy)]
 pub(super) struct PlainState {
     pub(super) goal: Mode,
     pub(super) shown: Mode,
@@ -67,7 +67,7 @@ impl<'a> Day<'a> {
 }
 
 /// A small step of a deck: a move by itself, or a part of what a command does.
-#[derive(Clone, Copy, Debug, PartialEq, Eq)]
+#[derive(Clone, Copy)]
 pub(super) enum Small {
     Move,
     Nothing,

@@ -1,6 +1,6 @@
 //! What the tracker makes of exchanges that some deck gives, and of exchanges whose last reply no deck gives.
 
-use super::rows::{AUDIO, FORGOTTEN, HANDS, REGISTERS, SHIFTS, TRANSPORT};
+use super::rows::{AUDIO, FORGOTTEN, HANDS, REGISTERS, Row, SHIFTS, TRANSPORT};
 use super::sent::*;
 use super::*;
 use std::alloc::Global;
@@ -24,11 +24,11 @@ fn judge<S: TimeSet>(
     exchanges: &[Sent],
     remains: bool,
 ) -> Result<(), AllocError> {
-    assert!(rt; tracker.remains());
+    same(rt, tracker.remains(), true, exchanges);
     let (last, before) = exchanges.split_last().expect(rt, "an exchange");
     take_all(rt, tracker, before)?;
     let answers = (take(rt, tracker, *last)?, tracker.remains());
-    assert_eq!(rt; answers, (remains, remains), "{exchanges:?}");
+    same(rt, answers, (remains, remains), exchanges);
     if !remains {
         stay_without(rt, tracker)?;
     }
@@ -38,8 +38,7 @@ fn judge<S: TimeSet>(
 /// Takes exchanges that can't bring back a state.
 fn stay_without<S: TimeSet>(rt: &impl Abort, tracker: &mut Tracker<S>) -> Result<(), AllocError> {
     for sent in LATER {
-        assert!(rt; !take(rt, tracker, *sent)?, "{sent:?}");
-        assert!(rt; !tracker.remains(), "{sent:?}");
+        take_leaving(rt, tracker, *sent, false, "later")?;
     }
     Ok(())
 }
@@ -52,20 +51,31 @@ fn judge_from_first<S: TimeSet>(
     remains: bool,
 ) -> Result<(), AllocError> {
     let mut tracker: Tracker<S> = Tracker::new(alloc, hands)?;
-    judge(rt, &mut tracker, exchanges, remains)
+    let result = judge(rt, &mut tracker, exchanges, remains);
+    drop(tracker);
+    result
 }
 
-fn judge_all<S: TimeSet>(rt: &impl Abort, alloc: Global) -> Result<(), AllocError> {
-    for rows in [REGISTERS, SHIFTS, TRANSPORT, FORGOTTEN, AUDIO] {
-        for (exchanges, remains) in rows {
-            judge_from_first::<S>(rt, alloc, Hands::None, exchanges, *remains)?;
-        }
+fn judge_rows<S: TimeSet>(rt: &impl Abort, alloc: Global, rows: &[Row]) -> Result<(), AllocError> {
+    for (exchanges, remains) in rows {
+        judge_from_first::<S>(rt, alloc, Hands::None, exchanges, *remains)?;
     }
+    Ok(())
+}
+
+fn judge_hands<S: TimeSet>(rt: &impl Abort, alloc: Global) -> Result<(), AllocError> {
     for (exchanges, untouched, touched) in HANDS {
         judge_from_first::<S>(rt, alloc, Hands::None, exchanges, *untouched)?;
         judge_from_first::<S>(rt, alloc, Hands::Allowed, exchanges, *touched)?;
     }
     Ok(())
+}
+
+fn judge_all<S: TimeSet>(rt: &impl Abort, alloc: Global) -> Result<(), AllocError> {
+    for rows in [REGISTERS, SHIFTS, TRANSPORT, FORGOTTEN, AUDIO] {
+        judge_rows::<S>(rt, alloc, rows)?;
+    }
+    judge_hands::<S>(rt, alloc)
 }
 
 #[test]

@@ -3,12 +3,12 @@
 //! Where none is refused they only show the answers that the other tests show.
 
 use super::counted::ROWS;
-use super::rows::{AUDIO, FORGOTTEN, HANDS, REGISTERS, SHIFTS, TRANSPORT};
+use super::rows::{AUDIO, FORGOTTEN, HANDS, REGISTERS, Row, SHIFTS, TRANSPORT};
 use super::sent::{
     IN_SHIFTED_ON, PANEL_OFF, PANEL_ON, PLAYED, PRESET_10, PRESET_LAST, Sent, UNLISTED_0,
     UNLISTED_2,
 };
-use super::{command_of, exchange, known, observe};
+use super::{command_of, known, same, spans_and_presets};
 use deck9::{Hands, Register};
 use std::alloc::{AllocError, Global};
 use std::process::Abort;
@@ -33,12 +33,11 @@ impl Counted for ListSet {
 impl Counted for SpanSet {
     fn counts(tracker: &Tracker<SpanSet>) -> Counts {
         [
-            Register::RegIn,
-            Register::RegOut,
-            Register::RegAudioIn,
-            Register::RegAudioOut,
+            spans_and_presets(tracker, Register::RegIn),
+            spans_and_presets(tracker, Register::RegOut),
+            spans_and_presets(tracker, Register::RegAudioIn),
+            spans_and_presets(tracker, Register::RegAudioOut),
         ]
-        .map(|register| (tracker.spans(register), tracker.presets(register)))
     }
 }
 
@@ -59,12 +58,11 @@ fn take<S: Counted>(
     sent: Sent,
 ) -> Result<bool, AllocError> {
     let before = answers(rt, tracker);
-    let (command, reply) = exchange(rt, sent);
-    match observe(rt, tracker, &command, &reply) {
+    match super::take(rt, tracker, sent) {
         Ok(remains) => Ok(remains),
         Err(_) => {
-            assert_eq!(rt; answers(rt, tracker), before, "{sent:?}");
-            observe(rt, tracker, &command, &reply)
+            same(rt, answers(rt, tracker), before, sent);
+            super::take(rt, tracker, sent)
         }
     }
 }
@@ -77,6 +75,19 @@ fn tracker<S: Counted>(alloc: Global, hands: Hands) -> Result<Tracker<S>, AllocE
     }
 }
 
+/// Takes one of these exchanges, after which a state remains, or none.
+fn take_leaving<S: Counted>(
+    rt: &impl Abort,
+    tracker: &mut Tracker<S>,
+    sent: Sent,
+    remains: bool,
+    exchanges: &[Sent],
+) -> Result<(), AllocError> {
+    let answer = take(rt, tracker, sent)?;
+    same(rt, answer, remains, (sent, exchanges));
+    Ok(())
+}
+
 /// Takes exchanges, whether or not a state remains after the last.
 fn judge<S: Counted>(
     rt: &impl Abort,
@@ -86,10 +97,9 @@ fn judge<S: Counted>(
 ) -> Result<(), AllocError> {
     let (last, before) = exchanges.split_last().expect(rt, "an exchange");
     for sent in before {
-        assert!(rt; take(rt, tracker, *sent)?, "{exchanges:?}");
+        take_leaving(rt, tracker, *sent, true, exchanges)?;
     }
-    assert_eq!(rt; take(rt, tracker, *last)?, remains, "{exchanges:?}");
-    Ok(())
+    take_leaving(rt, tracker, *last, remains, exchanges)
 }
 
 fn judge_from_first<S: Counted>(
@@ -100,20 +110,31 @@ fn judge_from_first<S: Counted>(
     remains: bool,
 ) -> Result<(), AllocError> {
     let mut tracker: Tracker<S> = tracker(alloc, hands)?;
-    judge(rt, &mut tracker, exchanges, remains)
+    let result = judge(rt, &mut tracker, exchanges, remains);
+    drop(tracker);
+    result
 }
 
-fn judge_all<S: Counted>(rt: &impl Abort, alloc: Global) -> Result<(), AllocError> {
-    for rows in [REGISTERS, SHIFTS, TRANSPORT, FORGOTTEN, AUDIO] {
-        for (exchanges, remains) in rows {
-            judge_from_first::<S>(rt, alloc, Hands::None, exchanges, *remains)?;
-        }
+fn judge_rows<S: Counted>(rt: &impl Abort, alloc: Global, rows: &[Row]) -> Result<(), AllocError> {
+    for (exchanges, remains) in rows {
+        judge_from_first::<S>(rt, alloc, Hands::None, exchanges, *remains)?;
     }
+    Ok(())
+}
+
+fn judge_hands<S: Counted>(rt: &impl Abort, alloc: Global) -> Result<(), AllocError> {
     for (exchanges, untouched, touched) in HANDS {
         judge_from_first::<S>(rt, alloc, Hands::None, exchanges, *untouched)?;
         judge_from_first::<S>(rt, alloc, Hands::Allowed, exchanges, *touched)?;
     }
     Ok(())
+}
+
+fn judge_all<S: Counted>(rt: &impl Abort, alloc: Global) -> Result<(), AllocError> {
+    for rows in [REGISTERS, SHIFTS, TRANSPORT, FORGOTTEN, AUDIO] {
+        judge_rows::<S>(rt, alloc, rows)?;
+    }
+    judge_hands::<S>(rt, alloc)
 }
 
 #[test]
@@ -142,15 +163,16 @@ fn count_left(
 
 fn count_after(rt: &impl Abort, alloc: Global, exchanges: &[Sent]) -> Result<Counts, AllocError> {
     let mut tracker: Tracker<SpanSet> = tracker(alloc, Hands::None)?;
-    count_left(rt, &mut tracker, exchanges)
+    let result = count_left(rt, &mut tracker, exchanges);
+    drop(tracker);
+    result
 }
 
 #[test]
 fn counts(rt: HostRuntime) -> Result<(), Fail> {
-    for (exchanges, in_spans, in_presets, audio_spans, audio_presets) in ROWS {
+    for (exchanges, wanted_ins, wanted_ains) in ROWS {
         let [ins, _, ains, _] = count_after(&rt, rt.alloc(), exchanges)?;
-        assert_eq!(rt; ins, (*in_spans, *in_presets), "{exchanges:?}");
-        assert_eq!(rt; ains, (*audio_spans, *audio_presets), "{exchanges:?}");
+        same(&rt, (ins, ains), (*wanted_ins, *wanted_ains), *exchanges);
     }
     Ok(())
 }
@@ -178,7 +200,7 @@ fn pass<S: Counted>(
     match tracker.pass(&command) {
         Ok(()) => Ok(()),
         Err(_) => {
-            assert_eq!(rt; answers(rt, tracker), before, "{sent:?}");
+            same(rt, answers(rt, tracker), before, sent);
             tracker.pass(&command)
         }
     }
@@ -187,7 +209,7 @@ fn pass<S: Counted>(
 fn pass_all<S: Counted>(rt: &impl Abort, tracker: &mut Tracker<S>) -> Result<(), AllocError> {
     for sent in PASSED {
         pass(rt, tracker, *sent)?;
-        assert!(rt; tracker.remains(), "{sent:?}");
+        same(rt, tracker.remains(), true, *sent);
     }
     Ok(())
 }
@@ -198,7 +220,9 @@ fn pass_from_first<S: Counted>(
     hands: Hands,
 ) -> Result<(), AllocError> {
     let mut tracker: Tracker<S> = tracker(alloc, hands)?;
-    pass_all(rt, &mut tracker)
+    let result = pass_all(rt, &mut tracker);
+    drop(tracker);
+    result
 }
 
 #[test]

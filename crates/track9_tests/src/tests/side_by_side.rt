@@ -5,7 +5,7 @@ use super::plain_deck::{
     Day, FORGETTABLE, MODES, PlainState, REGISTERS, Small, WAYS, done, forgets, is_free_in_local,
     small_of,
 };
-use super::{known, observe};
+use super::{known, observe, same};
 use block9::{Block, Command, NakBits};
 use deck9::{Hands, Mode};
 use std::alloc::{AllocError, Global};
@@ -135,7 +135,7 @@ impl Tally {
         for register in REGISTERS {
             let spans = tracker.spans(register);
             let most = u64::from(tracker.presets(register)) + 2;
-            assert!(rt; spans as u64 <= most, "{register:?}");
+            same(rt, spans as u64 <= most, true, (register, spans, most));
             self.spans = self.spans.max(spans);
         }
     }
@@ -152,12 +152,9 @@ fn agree(
     let remains = observe(rt, spans, command, reply)?;
     let listed = observe(rt, lists, command, reply)?;
     let answers = (listed, spans.remains(), lists.remains());
-    let same = (remains, remains, remains);
-    assert_eq!(rt; answers, same, "{command:?} {reply:?}");
+    same(rt, answers, (remains, remains, remains), (command, reply));
     if remains {
-        let known_by_spans = known(rt, spans);
-        let known_by_lists = known(rt, lists);
-        assert_eq!(rt; known_by_spans, known_by_lists, "{command:?} {reply:?}");
+        same(rt, known(rt, spans), known(rt, lists), (command, reply));
     }
     Ok(remains)
 }
@@ -189,7 +186,9 @@ fn agree_beside_lists(
     tally: &mut Tally,
 ) -> Result<(), AllocError> {
     let mut spans: Tracker<SpanSet> = Tracker::new(alloc, run.hands)?;
-    agree_on(rt, lists, &mut spans, run, tally)
+    let result = agree_on(rt, lists, &mut spans, run, tally);
+    drop(spans);
+    result
 }
 
 fn agree_from_first(
@@ -199,7 +198,9 @@ fn agree_from_first(
     tally: &mut Tally,
 ) -> Result<(), AllocError> {
     let mut lists: Tracker<ListSet> = Tracker::new(alloc, run.hands)?;
-    agree_beside_lists(rt, alloc, &mut lists, run, tally)
+    let result = agree_beside_lists(rt, alloc, &mut lists, run, tally);
+    drop(lists);
+    result
 }
 
 /// Takes runs that differ.
@@ -209,8 +210,8 @@ fn agree_on_runs(rt: &impl Abort, alloc: Global, hands: Hands) -> Result<(), All
         agree_from_first(rt, alloc, &mut Run::new(hands, seed), &mut tally)?;
     }
     // The draws have to leave states, and some with times that lie apart.
-    assert!(rt; tally.left >= 2_000, "{} exchanges", tally.left);
-    assert!(rt; tally.spans >= 3, "{} spans", tally.spans);
+    let are_enough = (tally.left >= 2_000, tally.spans >= 3);
+    same(rt, are_enough, (true, true), (tally.left, tally.spans));
     Ok(())
 }
 

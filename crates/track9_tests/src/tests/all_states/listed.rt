@@ -321,7 +321,7 @@ impl ListedDeck {
         }
         self.keep(command, reply);
         let small = small_of(command, self.hands);
-        if small != Small::Nothing {
+        if !matches!(small, Small::Nothing) {
             self.step(&small, is_free_in_local(command))?;
         }
         self.forget(command)
