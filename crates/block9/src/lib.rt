@@ -15,6 +15,8 @@ mod place;
 mod reason;
 mod reply;
 mod rules;
+#[cfg(test)]
+mod tests;
 
 pub use block::Block;
 pub use command::Command;

@@ -1,6 +1,7 @@
 //! Bytes that spell a block and bytes that do not, by hand.
 
 use crate::Block;
+use crate::tests::same;
 
 #[test]
 fn reads_whole_blocks_alone(rt: HostRuntime) {
@@ -15,7 +16,7 @@ fn reads_whole_blocks_alone(rt: HostRuntime) {
         ([0x24, 0x31, 0x04, 0x03, 0x02, 0x5E].as_slice(), false),
         ([0x74, 0x10, 0xFF, 0xFF, 0xFF, 0xFF, 0x80].as_slice(), true),
     ] {
-        assert_eq!(rt; Block::from_bytes(bytes).is_some(), is_block, "{bytes:?}");
+        same(&rt, Block::from_bytes(bytes).is_some(), is_block, bytes);
     }
 }
 
@@ -40,8 +41,7 @@ fn reads_the_parts_of_a_block(rt: HostRuntime) {
         ),
     ] {
         let block = Block::from_bytes(bytes).expect(&rt, "a block");
-        assert_eq!(rt; block.group, group, "{bytes:?}");
-        assert_eq!(rt; block.code, code, "{bytes:?}");
-        assert_eq!(rt; block.bytes.as_slice(), data, "{bytes:?}");
+        same(&rt, (block.group, block.code), (group, code), bytes);
+        same(&rt, block.bytes.as_slice(), data, bytes);
     }
 }

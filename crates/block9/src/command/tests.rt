@@ -1,5 +1,6 @@
 //! The commands and their replies, by hand from the protocol's tables.
 
+use crate::tests::same;
 use crate::{Block, Command};
 use arrayvec::ArrayVec;
 use std::process::Abort;
@@ -34,14 +35,26 @@ fn takes(command: &Command, first: u8, code: u8) -> bool {
     command.fits(&block(first, code, &[0xFF; 15]))
 }
 
-/// A block that is a command, which an acknowledgement or a NAK may answer and nothing else.
-fn assert_acknowledged(rt: &impl Abort, block: &Block, command: Command) {
-    assert_eq!(rt; Command::of(block), Some(command), "{block:?}");
-    assert!(rt; takes(&command, 0x10, 0x01), "{command:?}");
-    assert!(rt; takes(&command, 0x11, 0x12), "{command:?}");
-    for (first, code) in [(0x11, 0x01), (0x10, 0x02), (0x12, 0x11), (0x74, 0x10)] {
-        assert!(rt; !takes(&command, first, code), "{command:?} {first} {code}");
+/// Holds which replies a command takes, each by its first byte and code, and which it does not.
+fn replies(rt: &impl Abort, command: &Command, taken: &[(u8, u8)], refused: &[(u8, u8)]) {
+    for (first, code) in taken {
+        let case = (command, *first, *code);
+        same(rt, takes(command, *first, *code), true, case);
     }
+    for (first, code) in refused {
+        let case = (command, *first, *code);
+        same(rt, takes(command, *first, *code), false, case);
+    }
+}
+
+/// A NAK, which any command takes.
+const NAK: (u8, u8) = (0x11, 0x12);
+
+/// A block that is a command, which an acknowledgement or a NAK may answer and nothing else.
+fn acknowledged(rt: &impl Abort, block: &Block, command: Command) {
+    same(rt, Command::of(block), Some(command), block);
+    let others = [(0x11, 0x01), (0x10, 0x02), (0x12, 0x11), (0x74, 0x10)];
+    replies(rt, &command, &[(0x10, 0x01), NAK], &others);
 }
 
 #[test]
@@ -50,7 +63,7 @@ fn system_control_is_acknowledged(rt: HostRuntime) {
         (0x00, 0x0C, Command::LocalDisable),
         (0x00, 0x1D, Command::LocalEnable),
     ] {
-        assert_acknowledged(&rt, &block(first, code, &TIME), command);
+        acknowledged(&rt, &block(first, code, &TIME), command);
     }
 }
 
@@ -82,7 +95,7 @@ fn transport_control_is_acknowledged(rt: HostRuntime) {
         (0x24, 0x31, Command::CueUpWithData { time }),
         (0x20, 0x34, Command::SyncPlay),
     ] {
-        assert_acknowledged(&rt, &block(first, code, &TIME), command);
+        acknowledged(&rt, &block(first, code, &TIME), command);
     }
 }
 
@@ -121,7 +134,7 @@ fn preset_control_is_acknowledged(rt: HostRuntime) {
         (0x40, 0x40, Command::AutoModeOff),
         (0x40, 0x41, Command::AutoModeOn),
     ] {
-        assert_acknowledged(&rt, &block(first, code, &TIME), command);
+        acknowledged(&rt, &block(first, code, &TIME), command);
     }
 }
 
@@ -134,35 +147,37 @@ fn senses_take_what_they_ask_for(rt: HostRuntime) {
         (0x60, 0x12, Command::AudioInDataSense, 0x74, 0x12),
         (0x60, 0x13, Command::AudioOutDataSense, 0x74, 0x13),
     ] {
-        assert_eq!(rt;
+        same(
+            &rt,
             Command::of(&block(first, code, &[])),
             Some(command),
-            "{command:?}"
+            command,
         );
-        assert!(rt; takes(&command, reply_first, reply_code), "{command:?}");
-        assert!(rt; takes(&command, 0x11, 0x12), "{command:?}");
-        assert!(rt; !takes(&command, 0x10, 0x01), "{command:?}");
-        assert!(rt; !takes(&command, 0x73, reply_code), "{command:?}");
-        assert!(rt; !takes(&command, 0x74, 0x04), "{command:?}");
+        let refused = [(0x10, 0x01), (0x73, reply_code), (0x74, 0x04)];
+        replies(&rt, &command, &[(reply_first, reply_code), NAK], &refused);
     }
 }
+
+/// Replies that give a time, and some that do not.
+const OF_TIMES: &[(u8, u8)] = &[
+    (0x74, 0x00),
+    (0x74, 0x01),
+    (0x74, 0x04),
+    (0x74, 0x06),
+    (0x74, 0x14),
+    (0x74, 0x16),
+    NAK,
+];
+
+const OF_NO_TIMES: &[(u8, u8)] = &[(0x74, 0x05), (0x74, 0x10), (0x73, 0x04), (0x10, 0x01)];
 
 #[test]
 fn any_selected_time_is_taken(rt: HostRuntime) {
     for selector in [0x01, 0x02, 0x03, 0x04, 0x08] {
         let command = Command::CurrentTimeSense { selector };
-        assert_eq!(rt;
-            Command::of(&block(0x61, 0x0C, &[selector])),
-            Some(command),
-            "{selector}"
-        );
-        for code in [0x00, 0x01, 0x04, 0x06, 0x14, 0x16] {
-            assert!(rt; takes(&command, 0x74, code), "{selector} {code}");
-        }
-        assert!(rt; takes(&command, 0x11, 0x12), "{selector}");
-        for (first, code) in [(0x74, 0x05), (0x74, 0x10), (0x73, 0x04), (0x10, 0x01)] {
-            assert!(rt; !takes(&command, first, code), "{selector} {first} {code}");
-        }
+        let asked = block(0x61, 0x0C, &[selector]);
+        same(&rt, Command::of(&asked), Some(command), selector);
+        replies(&rt, &command, OF_TIMES, OF_NO_TIMES);
     }
 }
 
@@ -170,20 +185,12 @@ fn any_selected_time_is_taken(rt: HostRuntime) {
 fn no_more_status_data_than_were_asked_for(rt: HostRuntime) {
     for (asked, most) in [(0x20, 0), (0x01, 1), (0x12, 2), (0x0F, 15)] {
         let command = Command::StatusSense { asked };
-        assert_eq!(rt;
-            Command::of(&block(0x61, 0x20, &[asked])),
-            Some(command),
-            "{asked}"
-        );
-        assert!(rt; takes(&command, 0x11, 0x12), "{asked}");
-        assert!(rt; !takes(&command, 0x10, 0x01), "{asked}");
-        assert!(rt; !takes(&command, 0x70, 0x21), "{asked}");
+        let sense = block(0x61, 0x20, &[asked]);
+        same(&rt, Command::of(&sense), Some(command), asked);
+        replies(&rt, &command, &[NAK], &[(0x10, 0x01), (0x70, 0x21)]);
         for count in 0..16u8 {
-            assert_eq!(rt;
-                takes(&command, 0x70 + count, 0x20),
-                count <= most,
-                "{asked} {count}"
-            );
+            let is_taken = takes(&command, 0x70 + count, 0x20);
+            same(&rt, is_taken, count <= most, (asked, count));
         }
     }
 }
@@ -206,14 +213,18 @@ fn other_blocks_are_not_listed(rt: HostRuntime) {
         (0xF1, 0x0C, [0x00]),
     ] {
         let command = Command::Unlisted { group: first / 16 };
-        assert_eq!(rt;
+        same(
+            &rt,
             Command::of(&block(first, code, &data)),
             Some(command),
-            "{first} {code}"
+            (first, code),
         );
-        for (reply_first, reply_code) in [(0x10, 0x01), (0x11, 0x12), (0x74, 0x04), (0x30, 0x00)] {
-            assert!(rt; takes(&command, reply_first, reply_code), "{first} {code}");
-        }
+        replies(
+            &rt,
+            &command,
+            &[(0x10, 0x01), NAK, (0x74, 0x04), (0x30, 0x00)],
+            &[],
+        );
     }
 }
 
@@ -227,15 +238,16 @@ fn the_times_of_some_commands_are_valid(rt: HostRuntime) {
         (0x44, 0x17),
     ] {
         for data in [[0x25, 0x00, 0x00, 0x00], [0xFF; 4]] {
-            assert_eq!(rt;
+            same(
+                &rt,
                 Command::of(&block(first, code, &data)),
                 None,
-                "{first} {code}"
+                (first, code),
             );
         }
     }
     let free = block(0x44, 0x31, &[0xFF; 4]);
-    assert_eq!(rt; Command::of(&free), Some(Command::PrerollPreset));
+    same(&rt, Command::of(&free), Some(Command::PrerollPreset), free);
 }
 
 #[test]
@@ -251,6 +263,6 @@ fn names(rt: HostRuntime) {
         (Command::StatusSense { asked: 0x12 }, Some("STATUS SENSE")),
         (Command::Unlisted { group: 2 }, None),
     ] {
-        assert_eq!(rt; command.name(), name, "{command:?}");
+        same(&rt, command.name(), name, command);
     }
 }

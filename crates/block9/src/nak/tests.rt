@@ -1,5 +1,6 @@
 //! The reasons in NAKs, by hand.
 
+use crate::tests::same;
 use crate::{Block, NakBits};
 use bitflags::Flags;
 
@@ -14,11 +15,7 @@ fn reasons_of_a_nak(rt: HostRuntime) {
         ([0x10, 0x01, 0x11].as_slice(), None),
     ] {
         let block = Block::from_bytes(reply).expect(&rt, "a block");
-        assert_eq!(rt;
-            NakBits::of(&block).map(|nak| nak.bits()),
-            bits,
-            "{reply:?}"
-        );
+        same(&rt, NakBits::of(&block).map(|nak| nak.bits()), bits, reply);
     }
 }
 
@@ -32,10 +29,15 @@ fn each_reason_has_its_bit_and_name(rt: HostRuntime) {
         (0x40, NakBits::FRAMING, "framing"),
         (0x80, NakBits::TIMEOUT, "timeout"),
     ] {
-        assert_eq!(rt; NakBits::from_bits_retain(bit), flag, "{name}");
-        assert_eq!(rt; NakBits::from_name(name), Some(flag), "{name}");
+        same(&rt, NakBits::from_bits_retain(bit), flag, name);
+        same(&rt, NakBits::from_name(name), Some(flag), name);
     }
-    assert_eq!(rt; NakBits::all().bits(), 0xF5);
-    assert!(rt; NakBits::from_bits_retain(0x14).contains(NakBits::PARITY));
-    assert!(rt; !NakBits::from_bits_retain(0x0A).contains(NakBits::OVERRUN));
+    same(&rt, NakBits::all().bits(), 0xF5, "all");
+    for (bits, flag, is_set) in [
+        (0x14, NakBits::PARITY, true),
+        (0x0A, NakBits::OVERRUN, false),
+    ] {
+        let bits = NakBits::from_bits_retain(bits);
+        same(&rt, bits.contains(flag), is_set, flag);
+    }
 }

@@ -1,6 +1,7 @@
 //! The limits, the names and the texts of the reasons, by hand.
 
 use crate::Reason;
+use crate::tests::same;
 
 #[test]
 fn names_and_texts(rt: HostRuntime) {
@@ -27,8 +28,8 @@ fn names_and_texts(rt: HostRuntime) {
         (Reason::NoReply, "L2", "no reply"),
         (Reason::NoRun, "M1", "no run remains"),
     ] {
-        assert_eq!(rt; reason.name(), name, "{reason:?}");
-        assert_eq!(rt; reason.text(), text, "{reason:?}");
+        same(&rt, reason.name(), name, reason);
+        same(&rt, reason.text(), text, reason);
     }
 }
 
@@ -49,6 +50,6 @@ fn limits(rt: HostRuntime) {
         (Reason::NoReply, Some(9_287)),
         (Reason::NoRun, None),
     ] {
-        assert_eq!(rt; reason.limit_us(), limit_us, "{reason:?}");
+        same(&rt, reason.limit_us(), limit_us, reason);
     }
 }

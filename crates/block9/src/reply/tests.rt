@@ -1,5 +1,6 @@
 //! The times in replies, by hand.
 
+use crate::tests::same;
 use crate::{Block, Command, reply_time_valid};
 
 /// The request for a time.
@@ -43,10 +44,7 @@ fn times_are_judged_where_they_have_to_be_valid(rt: HostRuntime) {
         (UNLISTED, [0x74, 0x04, 0x25, 0x00, 0x00, 0x00, 0x9D], true),
     ] {
         let block = Block::from_bytes(&reply).expect(&rt, "a block");
-        assert_eq!(rt;
-            reply_time_valid(&command, &block),
-            is_valid,
-            "{command:?} {reply:?}"
-        );
+        let judged = reply_time_valid(&command, &block);
+        same(&rt, judged, is_valid, (command, reply));
     }
 }

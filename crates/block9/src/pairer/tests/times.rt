@@ -1,80 +1,69 @@
 //! Records that come in time and late, by hand.
 
-use super::{ACK, first_fault, sent};
+use super::{ACK, Case, PLAY, Part, judged};
 use crate::Reason;
 use capture9::Wire::{Controller, Deck};
 
+const OF_REPLIES: &[Case] = &[
+    (&[PLAY, (10_487, Deck, ACK)], None),
+    (&[PLAY, (10_488, Deck, ACK)], Some((4, Reason::LateReply))),
+    (
+        &[
+            PLAY,
+            (10_487, Deck, &[0x10]),
+            (20_774, Deck, &[0x01]),
+            (31_061, Deck, &[0x11]),
+        ],
+        None,
+    ),
+    (
+        &[PLAY, (10_487, Deck, &[0x10]), (20_775, Deck, &[0x01])],
+        Some((5, Reason::ByteGap)),
+    ),
+    (
+        &[
+            PLAY,
+            (10_487, Deck, &[0x10]),
+            (20_774, Deck, &[0x01]),
+            (31_062, Deck, &[0x11]),
+        ],
+        Some((6, Reason::ByteGap)),
+    ),
+];
+
 #[test]
 fn times_of_replies(rt: HostRuntime) {
-    let play = sent(400, Controller, &[0x20, 0x01, 0x21]);
-    for (parts, fault) in [
-        ([play, sent(10_487, Deck, &ACK)].as_slice(), None),
-        (
-            [play, sent(10_488, Deck, &ACK)].as_slice(),
-            Some((4, Reason::LateReply)),
-        ),
-        (
-            [
-                play,
-                sent(10_487, Deck, &[0x10]),
-                sent(20_774, Deck, &[0x01]),
-                sent(31_061, Deck, &[0x11]),
-            ]
-            .as_slice(),
-            None,
-        ),
-        (
-            [
-                play,
-                sent(10_487, Deck, &[0x10]),
-                sent(20_775, Deck, &[0x01]),
-            ]
-            .as_slice(),
-            Some((5, Reason::ByteGap)),
-        ),
-        (
-            [
-                play,
-                sent(10_487, Deck, &[0x10]),
-                sent(20_774, Deck, &[0x01]),
-                sent(31_062, Deck, &[0x11]),
-            ]
-            .as_slice(),
-            Some((6, Reason::ByteGap)),
-        ),
-    ] {
-        assert_eq!(rt; first_fault(&rt, parts), fault);
-    }
+    judged(&rt, OF_REPLIES);
 }
+
+/// A command of which only the first byte is there.
+const BEGUN: Part = (400, Controller, &[0x20]);
+
+const INSIDE_COMMANDS: &[Case] = &[
+    (&[BEGUN, (10_687, Controller, &[0x01])], None),
+    (
+        &[BEGUN, (10_688, Controller, &[0x01])],
+        Some((2, Reason::ByteGap)),
+    ),
+    (
+        &[
+            BEGUN,
+            (800, Controller, &[0x01]),
+            (11_087, Controller, &[0x21]),
+        ],
+        None,
+    ),
+    (
+        &[
+            BEGUN,
+            (800, Controller, &[0x01]),
+            (11_088, Controller, &[0x21]),
+        ],
+        Some((3, Reason::ByteGap)),
+    ),
+];
 
 #[test]
 fn times_inside_commands(rt: HostRuntime) {
-    let begun = sent(400, Controller, &[0x20]);
-    for (parts, fault) in [
-        ([begun, sent(10_687, Controller, &[0x01])].as_slice(), None),
-        (
-            [begun, sent(10_688, Controller, &[0x01])].as_slice(),
-            Some((2, Reason::ByteGap)),
-        ),
-        (
-            [
-                begun,
-                sent(800, Controller, &[0x01]),
-                sent(11_087, Controller, &[0x21]),
-            ]
-            .as_slice(),
-            None,
-        ),
-        (
-            [
-                begun,
-                sent(800, Controller, &[0x01]),
-                sent(11_088, Controller, &[0x21]),
-            ]
-            .as_slice(),
-            Some((3, Reason::ByteGap)),
-        ),
-    ] {
-        assert_eq!(rt; first_fault(&rt, parts), fault);
-    }
+    judged(&rt, INSIDE_COMMANDS);
 }
