@@ -3,6 +3,34 @@
 use crate::readers::{Cut, Repeated};
 use crate::{CaptureError, CaptureKind, LineByte, Records, Wire, read_capture};
 use std::alloc::Global;
+use std::fmt::Debug;
+use std::io::Read;
+use std::process::Abort;
+
+/// Holds that what was found in a case is what is wanted.
+fn same<T: PartialEq + Debug + Drop, C: Debug + Drop>(
+    rt: &impl Abort,
+    found: T,
+    wanted: T,
+    case: C,
+) {
+    assert_eq!(rt; found, wanted, "{case:?}");
+}
+
+/// Holds that a text is read whole, as these records.
+fn read_whole<R: Read + Drop>(rt: &impl Abort, alloc: Global, reader: R, records: &[LineByte]) {
+    let capture = read_capture(alloc, reader);
+    same(rt, capture.fault, None, records);
+    same(rt, capture.rows.as_slice(), records, "the records");
+}
+
+/// Holds that the reading of a text ends with this fault, after the records before its row.
+fn read_until<R: Read + Drop>(rt: &impl Abort, alloc: Global, reader: R, fault: CaptureError) {
+    let capture = read_capture(alloc, reader);
+    same(rt, capture.fault, Some(fault), fault);
+    let count = fault.row.saturating_sub(1) as usize;
+    same(rt, capture.rows.len(), count, fault);
+}
 
 /// Six records: a command of the controller and the deck's reply.
 const SIX: &[u8] =
@@ -59,9 +87,7 @@ fn error(kind: CaptureKind, row: u32) -> CaptureError {
 
 #[test]
 fn a_good_text_is_read_whole(rt: HostRuntime) {
-    let capture = read_capture(rt.alloc(), SIX);
-    assert_eq!(rt; capture.rows.as_slice(), SIX_RECORDS.as_slice());
-    assert_eq!(rt; capture.fault, None);
+    read_whole(&rt, rt.alloc(), SIX, SIX_RECORDS.as_slice());
 }
 
 #[test]
@@ -100,33 +126,20 @@ fn texts_of_one_record(rt: HostRuntime) {
             0x20,
         ),
     ] {
-        let capture = read_capture(rt.alloc(), text);
-        assert_eq!(rt; capture.fault, None);
-        assert_eq!(rt;
-            capture.rows.as_slice(),
-            [from_controller(time_us, byte)].as_slice()
-        );
+        read_whole(&rt, rt.alloc(), text, &[from_controller(time_us, byte)]);
     }
 }
 
 #[test]
 fn equal_times_are_in_order(rt: HostRuntime) {
-    let capture = read_capture(
-        rt.alloc(),
-        b"time_us,wire,byte\n400,C,20\n400,C,01\n".as_slice(),
-    );
-    assert_eq!(rt; capture.fault, None);
-    assert_eq!(rt;
-        capture.rows.as_slice(),
-        [from_controller(400, 0x20), from_controller(400, 0x01)].as_slice()
-    );
+    let text = b"time_us,wire,byte\n400,C,20\n400,C,01\n".as_slice();
+    let records = [from_controller(400, 0x20), from_controller(400, 0x01)];
+    read_whole(&rt, rt.alloc(), text, &records);
 }
 
 #[test]
 fn a_header_alone_has_no_record(rt: HostRuntime) {
-    let capture = read_capture(rt.alloc(), HEADER);
-    assert_eq!(rt; capture.fault, None);
-    assert!(rt; capture.rows.is_empty());
+    read_whole(&rt, rt.alloc(), HEADER, &[]);
 }
 
 #[test]
@@ -247,9 +260,7 @@ fn texts_with_a_fault(rt: HostRuntime) {
             3,
         ),
     ] {
-        let capture = read_capture(rt.alloc(), text);
-        assert_eq!(rt; capture.fault, Some(error(kind, row)), "{kind:?} at {row}");
-        assert_eq!(rt; capture.rows.len(), row.saturating_sub(1) as usize);
+        read_until(&rt, rt.alloc(), text, error(kind, row));
     }
 }
 
@@ -269,31 +280,28 @@ fn readers_that_fail(rt: HostRuntime) {
         (52, 4),
         (76, 7),
     ] {
-        let capture = read_capture(rt.alloc(), Cut::new(SIX, given));
-        assert_eq!(rt;
-            capture.fault,
-            Some(error(CaptureKind::Read, row)),
-            "after {given} bytes"
+        read_until(
+            &rt,
+            rt.alloc(),
+            Cut::new(SIX, given),
+            error(CaptureKind::Read, row),
         );
-        assert_eq!(rt; capture.rows.len(), row.saturating_sub(1) as usize);
     }
 }
 
 #[test]
 fn a_reader_of_single_bytes(rt: HostRuntime) {
-    let capture = read_capture(rt.alloc(), Cut::new(SIX, 1000));
-    assert_eq!(rt; capture.rows.as_slice(), SIX_RECORDS.as_slice());
-    assert_eq!(rt; capture.fault, None);
+    read_whole(&rt, rt.alloc(), Cut::new(SIX, 1000), SIX_RECORDS.as_slice());
 }
 
 #[test]
 fn the_end_is_told_again(rt: HostRuntime) {
     let mut records = Records::new(rt.alloc(), SIX);
     for record in SIX_RECORDS {
-        assert_eq!(rt; records.next(), Ok(Some(record)));
+        same(&rt, records.next(), Ok(Some(record)), record);
     }
-    assert_eq!(rt; records.next(), Ok(None));
-    assert_eq!(rt; records.next(), Ok(None));
+    same(&rt, records.next(), Ok(None), "the end");
+    same(&rt, records.next(), Ok(None), "the end, told again");
 }
 
 #[test]
@@ -301,19 +309,20 @@ fn a_refusal_is_told_again(rt: HostRuntime) {
     let refusal = error(CaptureKind::Byte, 7);
     let mut records = Records::new(rt.alloc(), Repeated::new(SIX, b"2800,C,G1\n", 3));
     for record in SIX_RECORDS {
-        assert_eq!(rt; records.next(), Ok(Some(record)));
+        same(&rt, records.next(), Ok(Some(record)), record);
     }
-    assert_eq!(rt; records.next(), Err(refusal));
-    assert_eq!(rt; records.next(), Err(refusal));
+    same(&rt, records.next(), Err(refusal), "the refusal");
+    same(&rt, records.next(), Err(refusal), "the refusal, told again");
 }
 
 #[test]
 fn a_read_fault_is_told_again(rt: HostRuntime) {
     let refusal = error(CaptureKind::Read, 2);
     let mut records = Records::new(rt.alloc(), Cut::new(SIX, 30));
-    assert_eq!(rt; records.next(), Ok(Some(from_controller(400, 0x20))));
-    assert_eq!(rt; records.next(), Err(refusal));
-    assert_eq!(rt; records.next(), Err(refusal));
+    let record = from_controller(400, 0x20);
+    same(&rt, records.next(), Ok(Some(record)), record);
+    same(&rt, records.next(), Err(refusal), "the refusal");
+    same(&rt, records.next(), Err(refusal), "the refusal, told again");
 }
 
 #[test]
@@ -323,10 +332,10 @@ fn four_million_records_and_no_more(rt: HostRuntime) {
     for (rows, after) in [(4_000_000, Ok(None)), (u64::MAX, Err(too_many))] {
         let mut records = Records::new(rt.alloc(), Repeated::new(HEADER, b"400,C,20\n", rows));
         for _ in 0..4_000_000u32 {
-            assert_eq!(rt; records.next(), Ok(Some(record)));
+            same(&rt, records.next(), Ok(Some(record)), rows);
         }
-        assert_eq!(rt; records.next(), after);
-        assert_eq!(rt; records.next(), after);
+        same(&rt, records.next(), after, rows);
+        same(&rt, records.next(), after, rows);
     }
 }
 
@@ -368,7 +377,7 @@ fn a_call_reads_one_row_and_none_behind_the_last(rt: HostRuntime) {
         (b"".as_slice(), good, 0, 20, 2),
     ] {
         let asked = reads_in(rt.alloc(), Repeated::new(head, line, times), calls);
-        assert_eq!(rt; asked, reads, "{calls} calls, {times} rows");
+        same(&rt, asked, reads, (calls, times));
     }
 }
 
@@ -382,7 +391,7 @@ fn four_million_rows_and_one_more_are_read(rt: HostRuntime) {
         (u64::MAX, 4_000_020, 4_000_003),
     ] {
         let reader = Repeated::new(HEADER, b"400,C,20\n", rows);
-        assert_eq!(rt; reads_in(rt.alloc(), reader, calls), reads, "{calls} calls");
+        same(&rt, reads_in(rt.alloc(), reader, calls), reads, calls);
     }
 }
 
@@ -408,9 +417,9 @@ fn a_growth_refused_while_csv_reads(rt: HostRuntime) {
     let first = records.next();
     let memory = refused(first.err());
     if memory.is_none() {
-        assert_eq!(rt; first, Err(error(CaptureKind::Fields, 1)));
+        same(&rt, first, Err(error(CaptureKind::Fields, 1)), "row 1");
     }
-    assert_eq!(rt; records.next(), first);
+    same(&rt, records.next(), first, "row 1, told again");
     tell(&rt, memory);
 }
 
@@ -419,14 +428,15 @@ fn a_growth_refused_while_a_record_is_kept(rt: HostRuntime) {
     let capture = read_capture(rt.alloc(), b"time_us,wire,byte\n400,C,20\n".as_slice());
     let memory = refused(capture.fault);
     if memory.is_none() {
-        assert_eq!(rt; capture.fault, None);
-        assert_eq!(rt;
-            capture.rows.as_slice(),
-            [from_controller(400, 0x20)].as_slice()
-        );
-    } else {
-        assert!(rt; capture.rows.is_empty());
+        same(&rt, capture.fault, None, "no growth refused");
     }
+    let record = [from_controller(400, 0x20)];
+    let kept = if memory.is_none() {
+        record.as_slice()
+    } else {
+        &[]
+    };
+    same(&rt, capture.rows.as_slice(), kept, memory);
     tell(&rt, memory);
 }
 
@@ -446,11 +456,12 @@ fn errors_in_words(rt: HostRuntime) {
         (CaptureKind::Read, 0, "the reader failed at row 0"),
     ] {
         let words = error(kind, row).to_string(rt.alloc());
-        assert!(rt; words.is_ok_and(|words| words.as_str() == text), "{kind:?}");
+        let is_text = words.is_ok_and(|words| words.as_str() == text);
+        same(&rt, is_text, true, kind);
     }
 }
 
 #[test]
 fn a_default_record_is_zero(rt: HostRuntime) {
-    assert_eq!(rt; LineByte::default(), from_controller(0, 0));
+    same(&rt, LineByte::default(), from_controller(0, 0), "a default");
 }
