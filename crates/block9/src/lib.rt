@@ -16,7 +16,7 @@ mod reason;
 mod reply;
 mod rules;
 #[cfg(test)]
-mod tests;
+mod same;
 
 pub use block::Block;
 pub use command::Command;

@@ -5,6 +5,8 @@ mod direction;
 mod laws;
 mod list_set;
 #[cfg(test)]
+mod same;
+#[cfg(test)]
 mod set_tests;
 mod span;
 mod span_set;

@@ -1,6 +1,7 @@
 //! Tests of both kinds of set: each call on examples, and both kinds side by side.
 
 use crate::list_set::ListSet;
+use crate::same::same;
 use crate::span_set::SpanSet;
 use crate::time_code::TimeCode;
 use crate::time_set::TimeSet;
@@ -147,32 +148,59 @@ fn has_only<S: TimeSet>(set: &S, frames: &[u32]) -> bool {
 fn follows_examples<S: TimeSet>(rt: &impl Abort, alloc: Global) -> Result<(), AllocError> {
     for example in examples() {
         let mut set: S = set_of(alloc, example.before)?;
-        assert!(rt; has_only(&set, example.before), "before {:?}", example.call);
+        same(
+            rt,
+            has_only(&set, example.before),
+            true,
+            ("before", example.call),
+        );
         make_call(&mut set, example.call)?;
-        assert!(rt; has_only(&set, example.after), "after {:?}", example.call);
-        assert_eq!(rt; set.is_empty(), example.after.is_empty());
+        same(
+            rt,
+            has_only(&set, example.after),
+            true,
+            ("after", example.call),
+        );
+        same(rt, set.is_empty(), example.after.is_empty(), example.call);
     }
     Ok(())
 }
 
-/// A set of one time, at both ends of the day.
+/// Holds that a set has no other members at the frames that are compared, which time is its only one, and which its least.
+fn holds<S: TimeSet>(
+    rt: &impl Abort,
+    set: &S,
+    frames: &[u32],
+    only: Option<u32>,
+    least: Option<u32>,
+) {
+    same(rt, has_only(set, frames), true, frames);
+    same(rt, set.only(), only.map(time), frames);
+    same(rt, set.least(), least.map(time), frames);
+    same(rt, set.is_empty(), frames.is_empty(), frames);
+}
+
+/// A set of one time, at both ends of the day, of two times, and of none.
 fn knows_one_time<S: TimeSet>(rt: &impl Abort, alloc: Global) -> Result<(), AllocError> {
     for frame in [0, 1_080_000, 2_159_999] {
-        let set = S::one(alloc, time(frame))?;
-        assert!(rt; has_only(&set, &[frame]), "one {frame}");
-        assert_eq!(rt; set.only(), Some(time(frame)));
-        assert_eq!(rt; set.least(), Some(time(frame)));
+        holds(
+            rt,
+            &S::one(alloc, time(frame))?,
+            &[frame],
+            Some(frame),
+            Some(frame),
+        );
     }
-    let set: S = set_of(alloc, &[2_159_999, 0])?;
-    assert_eq!(rt; set.only(), None);
-    assert_eq!(rt; set.least(), Some(time(0)));
-    let pair: S = set_of(alloc, &[8, 9])?;
-    assert_eq!(rt; pair.only(), None);
-    assert_eq!(rt; pair.least(), Some(time(8)));
-    let none = S::none(alloc);
-    assert_eq!(rt; none.only(), None);
-    assert_eq!(rt; none.least(), None);
-    assert!(rt; none.is_empty());
+    for (frames, least) in [([2_159_999, 0], 0), ([8, 9], 8)] {
+        holds(
+            rt,
+            &set_of::<S>(alloc, &frames)?,
+            &frames,
+            None,
+            Some(least),
+        );
+    }
+    holds(rt, &S::none(alloc), &[], None, None);
     Ok(())
 }
 
@@ -180,10 +208,10 @@ fn copies<S: TimeSet>(rt: &impl Abort, alloc: Global) -> Result<(), AllocError> 
     let mut set: S = set_of(alloc, &[5, 7])?;
     let copy = set.copy()?;
     set.add(time(6))?;
-    assert!(rt; has_only(&copy, &[5, 7]));
-    assert!(rt; has_only(&set, &[5, 6, 7]));
+    same(rt, has_only(&copy, &[5, 7]), true, "the copy");
+    same(rt, has_only(&set, &[5, 6, 7]), true, "the set itself");
     let all = S::all(alloc)?.copy()?;
-    assert!(rt; has_only(&all, &FRAMES));
+    same(rt, has_only(&all, &FRAMES), true, "the whole day");
     Ok(())
 }
 
@@ -199,13 +227,10 @@ fn keeps_the_whole_day<S: TimeSet>(rt: &impl Abort, alloc: Global) -> Result<(),
     let mut set = S::all(alloc)?;
     for call in calls {
         make_call(&mut set, call)?;
-        assert!(rt; has_only(&set, &FRAMES), "after {call:?}");
-        assert_eq!(rt; set.only(), None);
-        assert_eq!(rt; set.least(), Some(time(0)));
+        holds(rt, &set, &FRAMES, None, Some(0));
     }
     set.keep_only(time(2_159_999))?;
-    assert!(rt; has_only(&set, &[2_159_999]));
-    assert_eq!(rt; set.only(), Some(time(2_159_999)));
+    holds(rt, &set, &[2_159_999], Some(2_159_999), Some(2_159_999));
     Ok(())
 }
 
@@ -226,7 +251,12 @@ fn lists(rt: HostRuntime) -> Result<(), Fail> {
     keeps_the_whole_day::<ListSet>(&rt, rt.alloc())?;
     let mut set: ListSet = all_but_the_last(rt.alloc())?;
     set.widen_next()?;
-    assert!(rt; has_only(&set, &FRAMES));
+    same(
+        &rt,
+        has_only(&set, &FRAMES),
+        true,
+        "all but the last, widened",
+    );
     Ok(())
 }
 
@@ -237,12 +267,17 @@ fn spans(rt: HostRuntime) -> Result<(), Fail> {
     copies::<SpanSet>(&rt, rt.alloc())?;
     keeps_the_whole_day::<SpanSet>(&rt, rt.alloc())?;
     let mut set: SpanSet = all_but_the_last(rt.alloc())?;
-    assert_eq!(rt; set.spans(), 1);
+    same(&rt, set.spans(), 1, "all but the last");
     set.widen_next()?;
-    assert!(rt; has_only(&set, &FRAMES));
-    assert_eq!(rt; set.spans(), 1);
+    same(
+        &rt,
+        has_only(&set, &FRAMES),
+        true,
+        "all but the last, widened",
+    );
+    same(&rt, set.spans(), 1, "all but the last, widened");
     set.shift_prev()?;
-    assert_eq!(rt; set.spans(), 1);
+    same(&rt, set.spans(), 1, "all but the last, widened and shifted");
     Ok(())
 }
 
@@ -251,10 +286,10 @@ fn counts_spans(rt: HostRuntime) -> Result<(), Fail> {
     for example in examples() {
         let mut set: SpanSet = set_of(rt.alloc(), example.before)?;
         make_call(&mut set, example.call)?;
-        assert_eq!(rt; set.spans(), example.spans, "after {:?}", example.call);
+        same(&rt, set.spans(), example.spans, example.call);
     }
     let copy = set_of::<SpanSet>(rt.alloc(), &[5, 7])?.copy()?;
-    assert_eq!(rt; copy.spans(), 2);
+    same(&rt, copy.spans(), 2, "a copy");
     Ok(())
 }
 
@@ -283,15 +318,16 @@ fn both_kinds_agree(rt: HostRuntime) -> Result<(), Fail> {
         make_call(&mut list, call)?;
         for frame in FRAMES {
             let time = time(frame);
-            assert_eq!(rt;
+            same(
+                &rt,
                 spans.contains(time),
                 list.contains(time),
-                "{frame} in turn {turn}"
+                (turn, frame),
             );
         }
-        assert_eq!(rt; spans.is_empty(), list.is_empty(), "in turn {turn}");
-        assert_eq!(rt; spans.only(), list.only(), "in turn {turn}");
-        assert_eq!(rt; spans.least(), list.least(), "in turn {turn}");
+        same(&rt, spans.is_empty(), list.is_empty(), turn);
+        same(&rt, spans.only(), list.only(), turn);
+        same(&rt, spans.least(), list.least(), turn);
     }
     Ok(())
 }

@@ -173,6 +173,7 @@ fn digits(number: u32) -> [u8; 2]
 #[cfg(test)]
 mod tests {
     use super::TimeCode;
+    use crate::same::same;
 
     #[test]
     fn reads_bytes(rt: HostRuntime) {
@@ -189,7 +190,7 @@ mod tests {
         ];
         for (bytes, frames) in rows {
             let time = TimeCode::from_bytes(bytes);
-            assert_eq!(rt; time.map(|t| t.frames()), frames, "at {bytes:?}");
+            same(&rt, time.map(|t| t.frames()), frames, bytes);
         }
     }
 
@@ -203,9 +204,9 @@ mod tests {
         ];
         for (frames, bytes) in rows {
             let written = TimeCode::from_frames(frames).map(|t| t.to_bytes());
-            assert_eq!(rt; written, Some(bytes), "at {frames}");
+            same(&rt, written, Some(bytes), frames);
         }
-        assert_eq!(rt; TimeCode::from_frames(2_160_000), None);
+        same(&rt, TimeCode::from_frames(2_160_000), None, "midnight");
     }
 
     #[test]
@@ -213,10 +214,10 @@ mod tests {
         let rows = [(0, 1, 2_159_999), (5, 6, 4), (2_159_999, 0, 2_159_998)];
         for (frames, next, prev) in rows {
             let time = TimeCode::from_frames(frames).unwrap_or_default();
-            assert_eq!(rt; time.next().frames(), next, "after {frames}");
-            assert_eq!(rt; time.prev().frames(), prev, "before {frames}");
+            same(&rt, time.next().frames(), next, frames);
+            same(&rt, time.prev().frames(), prev, frames);
         }
-        assert_eq!(rt; TimeCode::default().frames(), 0);
+        same(&rt, TimeCode::default().frames(), 0, "the default");
     }
 
     #[test]
@@ -229,7 +230,7 @@ mod tests {
         ];
         for (frames, text) in rows {
             let spelled = TimeCode::from_frames(frames).map(|t| t.text());
-            assert_eq!(rt; spelled, Some(*text), "at {frames}");
+            same(&rt, spelled, Some(*text), frames);
         }
     }
 }

@@ -1,7 +1,7 @@
 //! Bytes that spell a block and bytes that do not, by hand.
 
 use crate::Block;
-use crate::tests::same;
+use crate::same::same;
 
 #[test]
 fn reads_whole_blocks_alone(rt: HostRuntime) {

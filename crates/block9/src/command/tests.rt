@@ -1,6 +1,6 @@
 //! The commands and their replies, by hand from the protocol's tables.
 
-use crate::tests::same;
+use crate::same::same;
 use crate::{Block, Command};
 use arrayvec::ArrayVec;
 use std::process::Abort;

@@ -1,6 +1,6 @@
 //! The reasons in NAKs, by hand.
 
-use crate::tests::same;
+use crate::same::same;
 use crate::{Block, NakBits};
 use bitflags::Flags;
 

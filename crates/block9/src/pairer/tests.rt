@@ -1,7 +1,7 @@
 //! Captures that are fed record by record, and what the rules make of each record, by hand.
 ghost use Rattle.std.specs.Prelude.{◌≡◌, None};
 
-use crate::tests::same;
+use crate::same::same;
 use crate::{Block, Command, Exchange, Pairer, Reason, Step};
 use capture9::Wire::{Controller, Deck};
 use capture9::{LineByte, Wire};

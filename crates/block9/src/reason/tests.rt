@@ -1,7 +1,7 @@
 //! The limits, the names and the texts of the reasons, by hand.
 
 use crate::Reason;
-use crate::tests::same;
+use crate::same::same;
 
 #[test]
 fn names_and_texts(rt: HostRuntime) {

@@ -1,6 +1,6 @@
 //! The times in replies, by hand.
 
-use crate::tests::same;
+use crate::same::same;
 use crate::{Block, Command, reply_time_valid};
 
 /// The request for a time.

@@ -2,7 +2,7 @@
 
 use super::{ACK, Case, PLAY, Part, first_fault, judged};
 use crate::Reason;
-use crate::tests::same;
+use crate::same::same;
 use capture9::Wire::{Controller, Deck};
 
 const KEPT: &[Case] = &[
