@@ -4,3 +4,16 @@ mod outcomes;
 mod programs;
 mod tasks;
 mod writers;
+
+use std::fmt::Debug;
+use std::process::Abort;
+
+/// Holds that what was found in a case is what is wanted. A call costs a test's proof a part of what the macro does.
+fn same<T: PartialEq + Debug + Drop, C: Debug + Drop>(
+    rt: &impl Abort,
+    found: T,
+    wanted: T,
+    case: C,
+) {
+    assert_eq!(rt; found, wanted, "{case:?}");
+}

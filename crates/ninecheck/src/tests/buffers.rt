@@ -2,7 +2,8 @@
 
 use crate::buffered::Buffered;
 use crate::judging::{judge_and_flush, judge_with_run_and_flush};
-use crate::tests::writers::Narrow;
+use crate::tests::same;
+use crate::tests::writers::{Narrow, took, took_to_the_end};
 use capture9::{CaptureError, CaptureKind};
 use deck9::Hands;
 use judge9::{JudgeError, Verdict, View};
@@ -44,9 +45,8 @@ fn the_report_is_handed_on(rt: HostRuntime) {
     let writer = Narrow::new(rt.alloc(), usize::MAX);
     let found = judged(rt.alloc(), PLAY, View::Verdict, writer);
     let (answer, writer) = found.expect(&rt, "memory");
-    assert!(rt; answer.is_ok());
-    assert_eq!(rt; writer.taken.as_slice(), YES.as_bytes());
-    assert_eq!(rt; writer.flushes, 1);
+    same(&rt, answer.is_ok(), true, YES);
+    took(&rt, &writer, YES.as_bytes(), 0, 1);
 }
 
 #[test]
@@ -55,9 +55,8 @@ fn a_write_that_fails_is_a_write_fault(rt: HostRuntime) {
         let writer = Narrow::new(rt.alloc(), room);
         let found = judged(rt.alloc(), PLAY, View::Verdict, writer);
         let (answer, writer) = found.expect(&rt, "memory");
-        assert!(rt; answer == Err(JudgeError::Write));
-        assert_eq!(rt; writer.taken.as_slice(), &YES.as_bytes()[..room]);
-        assert_eq!(rt; (writer.failures, writer.flushes), (1, 0));
+        same(&rt, answer.err(), Some(JudgeError::Write), room);
+        took(&rt, &writer, &YES.as_bytes()[..room], 1, 0);
     }
 }
 
@@ -70,17 +69,15 @@ fn a_run_is_handed_on_or_a_first_part_of_it(rt: HostRuntime) {
         exchanges: 1,
         tail: 0,
     };
-    assert!(rt; answer == Ok(yes));
-    assert_eq!(rt; writer.flushes, 1);
+    same(&rt, answer.ok(), Some(yes), YES);
+    took_to_the_end(&rt, &writer, YES.as_bytes());
     let whole = writer.taken.as_slice();
-    assert!(rt; whole.starts_with(b"record 6: goal "));
-    assert!(rt; whole.ends_with(YES.as_bytes()));
+    same(&rt, whole.starts_with(b"record 6: goal "), true, whole);
     for room in 0..whole.len() {
         let writer = Narrow::new(rt.alloc(), room);
         let (answer, writer) = judged_with_run(rt.alloc(), PLAY, writer).expect(&rt, "memory");
-        assert!(rt; answer == Err(JudgeError::Write));
-        assert_eq!(rt; writer.taken.as_slice(), &whole[..room]);
-        assert_eq!(rt; (writer.failures, writer.flushes), (1, 0));
+        same(&rt, answer.err(), Some(JudgeError::Write), room);
+        took(&rt, &writer, &whole[..room], 1, 0);
     }
 }
 
@@ -90,15 +87,18 @@ fn a_flush_that_fails_is_a_write_fault(rt: HostRuntime) {
         let writer = Narrow::that_fails_to_flush(rt.alloc());
         let found = judged(rt.alloc(), PLAY, view, writer);
         let (answer, writer) = found.expect(&rt, "memory");
-        assert!(rt; answer == Err(JudgeError::Write));
-        assert!(rt; writer.taken.ends_with(YES.as_bytes()));
-        assert_eq!(rt; writer.flushes, 1);
+        same(&rt, answer.err(), Some(JudgeError::Write), "no flush");
+        took_to_the_end(&rt, &writer, YES.as_bytes());
     }
     let writer = Narrow::that_fails_to_flush(rt.alloc());
     let (answer, writer) = judged_with_run(rt.alloc(), PLAY, writer).expect(&rt, "memory");
-    assert!(rt; answer == Err(JudgeError::Write));
-    assert!(rt; writer.taken.ends_with(YES.as_bytes()));
-    assert_eq!(rt; writer.flushes, 1);
+    same(
+        &rt,
+        answer.err(),
+        Some(JudgeError::Write),
+        "no flush of a run",
+    );
+    took_to_the_end(&rt, &writer, YES.as_bytes());
 }
 
 /// PLAY and its acknowledgement 200 times.
@@ -118,16 +118,16 @@ fn nothing_is_written_after_a_write_that_failed(rt: HostRuntime) {
     let writer = Narrow::new(rt.alloc(), usize::MAX);
     let found = judged(rt.alloc(), text.as_str(), View::Explain, writer);
     let (answer, writer) = found.expect(&rt, "memory");
-    assert!(rt; answer.is_ok());
     let whole = writer.taken.as_slice();
+    same(&rt, answer.is_ok(), true, "the whole");
+    // The cuts below stand inside it.
     assert!(rt; whole.len() > 20_000);
     for room in [0, 1, 8191, 8192, 8193, 16_384, 20_000] {
         let writer = Narrow::new(rt.alloc(), room);
         let found = judged(rt.alloc(), text.as_str(), View::Explain, writer);
         let (answer, writer) = found.expect(&rt, "memory");
-        assert!(rt; answer == Err(JudgeError::Write));
-        assert_eq!(rt; writer.taken.as_slice(), &whole[..room]);
-        assert_eq!(rt; (writer.failures, writer.flushes), (1, 0));
+        same(&rt, answer.err(), Some(JudgeError::Write), room);
+        took(&rt, &writer, &whole[..room], 1, 0);
     }
 }
 
@@ -140,8 +140,13 @@ fn nothing_is_written_of_a_run_of_a_bad_capture(rt: HostRuntime) {
         kind: CaptureKind::Wire,
         row: 2,
     };
-    assert!(rt; answer == Err(JudgeError::Capture(refusal)));
-    assert!(rt; writer.taken.is_empty());
+    same(
+        &rt,
+        answer.err(),
+        Some(JudgeError::Capture(refusal)),
+        refusal,
+    );
+    same(&rt, writer.taken.is_empty(), true, refusal);
 }
 
 #[test]
@@ -156,9 +161,9 @@ fn more_than_the_buffer_holds(rt: HostRuntime) {
     }
     out.flush().expect(&rt, "room");
     let writer = out.into_writer();
-    assert_eq!(rt; writer.taken.len(), 20_000);
+    same(&rt, writer.taken.len(), 20_000, "as much as was written");
     for (at, byte) in writer.taken.iter().enumerate() {
-        assert_eq!(rt; *byte, b"0123456789"[at / 400 % 10]);
+        same(&rt, *byte, b"0123456789"[at / 400 % 10], at);
     }
 }
 
@@ -169,6 +174,6 @@ fn a_dropped_buffer_writes_nothing(rt: HostRuntime) {
         Ok(mut out) => out.write_all(b"held").is_ok(),
         Err(_) => false,
     };
-    assert!(rt; is_held);
-    assert!(rt; writer.taken.is_empty());
+    same(&rt, is_held, true, "held");
+    took(&rt, &writer, b"", 0, 0);
 }

@@ -2,6 +2,7 @@
 
 use crate::ending::{Message, Outcome, Unopened, WhyUnopened};
 use crate::status::outcome;
+use crate::tests::same;
 use block9::Reason;
 use capture9::{CaptureError, CaptureKind};
 use judge9::{JudgeError, Verdict};
@@ -26,20 +27,13 @@ fn a_verdict_has_no_message(rt: HostRuntime) {
         at: 3,
         reason: Reason::WrongSum,
     };
-    assert_eq!(rt;
-        outcome(&Ok(yes)),
-        Outcome {
-            status: 0,
-            message: Message::Nothing
-        }
-    );
-    assert_eq!(rt;
-        outcome(&Ok(no)),
-        Outcome {
-            status: 1,
-            message: Message::Nothing
-        }
-    );
+    for (verdict, status) in [(yes, 0), (no, 1)] {
+        let end = Outcome {
+            status,
+            message: Message::Nothing,
+        };
+        same(&rt, outcome(&Ok(verdict)), end, status);
+    }
 }
 
 #[test]
@@ -98,9 +92,9 @@ fn a_refusal_has_its_status_and_its_two_lines(rt: HostRuntime) {
     ];
     for (judged, status, line) in &faults {
         let end = outcome(judged);
-        assert_eq!(rt; end.status, *status);
+        same(&rt, end.status, *status, *line);
         let text = end.message.to_string(rt.alloc()).expect(&rt, "memory");
-        assert_eq!(rt; text.as_str(), *line);
+        same(&rt, text.as_str(), *line, *status);
     }
 }
 
@@ -159,17 +153,13 @@ fn a_capture_that_is_not_opened_is_told_by_its_name(rt: HostRuntime) {
         ),
     ];
     for (name, why, want) in &table {
-        assert_eq!(rt;
-            unopened(rt.alloc(), *name, *why)
-                .expect(&rt, "memory")
-                .as_str(),
-            *want
-        );
+        let text = unopened(rt.alloc(), *name, *why).expect(&rt, "memory");
+        same(&rt, text.as_str(), *want, *why);
     }
 }
 
 #[test]
 fn of_a_verdict_nothing_is_said(rt: HostRuntime) {
     let text = Message::Nothing.to_string(rt.alloc()).expect(&rt, "memory");
-    assert_eq!(rt; text.as_str(), "");
+    same(&rt, text.as_str(), "", "a verdict");
 }

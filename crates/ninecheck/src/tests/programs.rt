@@ -2,7 +2,8 @@
 
 use crate::ending::{End, Message, Outcome, Unopened, WhyUnopened};
 use crate::program::run_program;
-use crate::tests::writers::Narrow;
+use crate::tests::same;
+use crate::tests::writers::{Narrow, took, took_to_the_end};
 use std::alloc::{AllocError, Global};
 use std::io;
 use words9::WordsFault;
@@ -96,10 +97,14 @@ fn the_task_of_the_words_is_carried_out(rt: HostRuntime) {
     ];
     for (words, status, start, last) in &table {
         let (end, writer) = end_on(&rt, *words, Narrow::new(rt.alloc(), usize::MAX));
-        assert!(rt; is_told(&end, *status, Message::Nothing));
-        assert!(rt; writer.taken.starts_with(start.as_bytes()));
-        assert!(rt; writer.taken.ends_with(last.as_bytes()));
-        assert_eq!(rt; writer.flushes, 1);
+        same(&rt, is_told(&end, *status, Message::Nothing), true, *words);
+        same(
+            &rt,
+            writer.taken.starts_with(start.as_bytes()),
+            true,
+            *words,
+        );
+        took_to_the_end(&rt, &writer, last.as_bytes());
     }
 }
 
@@ -113,10 +118,9 @@ fn words_that_are_no_command_end_with_2(rt: HostRuntime) {
     ];
     for words in &table {
         let (end, writer) = end_on(&rt, *words, Narrow::new(rt.alloc(), usize::MAX));
-        assert_eq!(rt; end.status(), 2);
-        assert!(rt; matches!(&end, End::Usage(Some(_))));
-        assert!(rt; writer.taken.is_empty());
-        assert_eq!(rt; writer.flushes, 0);
+        let is_usage = matches!(&end, End::Usage(Some(_)));
+        same(&rt, (end.status(), is_usage), (2, true), *words);
+        took(&rt, &writer, b"", 0, 0);
     }
 }
 
@@ -125,12 +129,12 @@ fn there_may_be_no_words(rt: HostRuntime) {
     let writer = Narrow::new(rt.alloc(), usize::MAX);
     let words = Err(WordsFault::Usage(None));
     let (end, writer) = run_program(rt.alloc(), words, |file| opened(file), writer);
-    assert_eq!(rt; end.status(), 2);
-    assert!(rt; matches!(&end, End::Usage(None)));
+    let is_usage = matches!(&end, End::Usage(None));
+    same(&rt, (end.status(), is_usage), (2, true), "no help");
     let words = Err(WordsFault::NoMemory);
     let (end, writer) = run_program(rt.alloc(), words, |file| opened(file), writer);
-    assert!(rt; is_told(&end, 5, Message::NoMemory));
-    assert!(rt; writer.taken.is_empty());
+    same(&rt, is_told(&end, 5, Message::NoMemory), true, "no memory");
+    took(&rt, &writer, b"", 0, 0);
 }
 
 #[test]
@@ -148,12 +152,17 @@ fn a_file_that_is_not_opened(rt: HostRuntime) {
             let (end, writer) = end_on(&rt, &[verb, *name], Narrow::new(rt.alloc(), usize::MAX));
             let file = Some(String::from_str(rt.alloc(), *name).expect(&rt, "memory"));
             let unopened = Unopened { file, why: *why };
-            assert!(rt; is_told(&end, 4, Message::CannotOpen(unopened)));
-            assert!(rt; writer.taken.is_empty());
+            same(
+                &rt,
+                is_told(&end, 4, Message::CannotOpen(unopened)),
+                true,
+                *name,
+            );
+            took(&rt, &writer, b"", 0, 0);
         }
         let (end, writer) = end_on(&rt, &[verb, ""], Narrow::new(rt.alloc(), usize::MAX));
-        assert!(rt; is_told(&end, 5, Message::NoMemory));
-        assert!(rt; writer.taken.is_empty());
+        same(&rt, is_told(&end, 5, Message::NoMemory), true, verb);
+        took(&rt, &writer, b"", 0, 0);
     }
 }
 
@@ -162,30 +171,26 @@ fn the_version_is_told(rt: HostRuntime) {
     let table: [&[&str]; 3] = [&["--version"], &["-V"], &["-V", "frob"]];
     for words in &table {
         let (end, writer) = end_on(&rt, *words, Narrow::new(rt.alloc(), usize::MAX));
-        assert!(rt; is_told(&end, 0, Message::Nothing));
-        assert_eq!(rt; writer.taken.as_slice(), b"ninecheck 1.0.0\n".as_slice());
-        assert_eq!(rt; writer.flushes, 1);
+        same(&rt, is_told(&end, 0, Message::Nothing), true, *words);
+        took(&rt, &writer, b"ninecheck 1.0.0\n", 0, 1);
     }
     let (end, writer) = end_on(&rt, &["-V"], Narrow::new(rt.alloc(), 4));
-    assert!(rt; is_told(&end, 4, Message::WriteFault));
-    assert_eq!(rt; writer.taken.as_slice(), b"nine".as_slice());
+    same(&rt, is_told(&end, 4, Message::WriteFault), true, "no room");
+    took(&rt, &writer, b"nine", 1, 0);
     let (end, writer) = end_on(&rt, &["-V"], Narrow::that_fails_to_flush(rt.alloc()));
-    assert!(rt; is_told(&end, 4, Message::WriteFault));
-    assert_eq!(rt; writer.flushes, 1);
+    same(&rt, is_told(&end, 4, Message::WriteFault), true, "no flush");
+    took_to_the_end(&rt, &writer, b"ninecheck 1.0.0\n");
 }
 
 #[test]
 fn a_writer_that_fails(rt: HostRuntime) {
     for verb in ["check", "explain", "run", "why"] {
         let (end, writer) = end_on(&rt, &[verb], Narrow::new(rt.alloc(), 4));
-        assert!(rt; is_told(&end, 4, Message::WriteFault));
-        assert_eq!(rt;
-            (writer.taken.len(), writer.failures, writer.flushes),
-            (4, 1, 0)
-        );
+        same(&rt, is_told(&end, 4, Message::WriteFault), true, verb);
+        let counts = (writer.taken.len(), writer.failures, writer.flushes);
+        same(&rt, counts, (4, 1, 0), verb);
         let (end, writer) = end_on(&rt, &[verb], Narrow::that_fails_to_flush(rt.alloc()));
-        assert!(rt; is_told(&end, 4, Message::WriteFault));
-        assert!(rt; writer.taken.ends_with(YES.as_bytes()));
-        assert_eq!(rt; writer.flushes, 1);
+        same(&rt, is_told(&end, 4, Message::WriteFault), true, verb);
+        took_to_the_end(&rt, &writer, YES.as_bytes());
     }
 }

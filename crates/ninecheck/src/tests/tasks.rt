@@ -1,5 +1,6 @@
 //! What words ask for.
 
+use crate::tests::same;
 use deck9::Hands;
 use std::alloc::{AllocError, Global};
 use words9::{Task, Verb, WordsFault, read_words};
@@ -41,119 +42,119 @@ fn are_refused(alloc: Global, words: &[&str]) -> bool {
     }
 }
 
+/// Words, and the verb, the file and the hands that they ask for.
+type Asked = (&'static [&'static str], Verb, Option<&'static str>, Hands);
+
+const COMMANDS: &[Asked] = &[
+    (&["check"], Verb::Check, None, Hands::None),
+    (
+        &["explain", "f.csv"],
+        Verb::Explain,
+        Some("f.csv"),
+        Hands::None,
+    ),
+    (&["check", "--hands"], Verb::Check, None, Hands::Allowed),
+    (
+        &["check", "--hands", "f.csv"],
+        Verb::Check,
+        Some("f.csv"),
+        Hands::Allowed,
+    ),
+    (
+        &["explain", "a b", "--hands"],
+        Verb::Explain,
+        Some("a b"),
+        Hands::Allowed,
+    ),
+    (
+        &["check", "--", "--hands"],
+        Verb::Check,
+        Some("--hands"),
+        Hands::None,
+    ),
+    (
+        &["check", "--hands", "--", "--hands"],
+        Verb::Check,
+        Some("--hands"),
+        Hands::Allowed,
+    ),
+    (&["run"], Verb::Run, None, Hands::None),
+    (
+        &["run", "f.csv", "--hands"],
+        Verb::Run,
+        Some("f.csv"),
+        Hands::Allowed,
+    ),
+    (&["why"], Verb::Why, None, Hands::None),
+    (
+        &["why", "--hands", "f.csv"],
+        Verb::Why,
+        Some("f.csv"),
+        Hands::Allowed,
+    ),
+    (&["check", "-"], Verb::Check, Some("-"), Hands::None),
+    (&["check", "check"], Verb::Check, Some("check"), Hands::None),
+    (&["check", "help"], Verb::Check, Some("help"), Hands::None),
+    (&["check", ""], Verb::Check, Some(""), Hands::None),
+];
+
 #[test]
 fn words_that_are_a_command(rt: HostRuntime) {
-    let alloc = rt.alloc();
-    let (check, explain) = (Verb::Check, Verb::Explain);
-    let (none, allowed) = (Hands::None, Hands::Allowed);
-    assert!(rt; asks(alloc, &["check"], check, None, none));
-    assert!(rt; asks(alloc, &["explain", "f.csv"], explain, Some("f.csv"), none));
-    assert!(rt; asks(alloc, &["check", "--hands"], check, None, allowed));
-    assert!(rt;
-        asks(
-            alloc,
-            &["check", "--hands", "f.csv"],
-            check,
-            Some("f.csv"),
-            allowed
-        )
-    );
-    assert!(rt;
-        asks(
-            alloc,
-            &["explain", "a b", "--hands"],
-            explain,
-            Some("a b"),
-            allowed
-        )
-    );
-    assert!(rt;
-        asks(
-            alloc,
-            &["check", "--", "--hands"],
-            check,
-            Some("--hands"),
-            none
-        )
-    );
-    assert!(rt;
-        asks(
-            alloc,
-            &["check", "--hands", "--", "--hands"],
-            check,
-            Some("--hands"),
-            allowed
-        )
-    );
-    assert!(rt; asks(alloc, &["run"], Verb::Run, None, none));
-    assert!(rt;
-        asks(
-            alloc,
-            &["run", "f.csv", "--hands"],
-            Verb::Run,
-            Some("f.csv"),
-            allowed
-        )
-    );
-    assert!(rt; asks(alloc, &["why"], Verb::Why, None, none));
-    assert!(rt;
-        asks(
-            alloc,
-            &["why", "--hands", "f.csv"],
-            Verb::Why,
-            Some("f.csv"),
-            allowed
-        )
-    );
-    assert!(rt; asks(alloc, &["check", "-"], check, Some("-"), none));
-    assert!(rt; asks(alloc, &["check", "check"], check, Some("check"), none));
-    assert!(rt; asks(alloc, &["check", "help"], check, Some("help"), none));
-    assert!(rt; asks(alloc, &["check", ""], check, Some(""), none));
+    for (words, verb, file, hands) in COMMANDS {
+        let is_asked = asks(rt.alloc(), *words, *verb, *file, *hands);
+        same(&rt, is_asked, true, *words);
+    }
 }
+
+const NO_COMMANDS: &[&[&str]] = &[
+    &[],
+    &["frob"],
+    &["chec"],
+    &["Check"],
+    &[""],
+    &["f.csv"],
+    &["--hands"],
+    &["--hands", "check"],
+    &["runs"],
+    &["run", "a", "b"],
+    &["why", "a", "b"],
+    &["check", "a", "b"],
+    &["check", "--hands", "--hands"],
+    &["check", "--hands=yes"],
+    &["check", "--hand"],
+    &["check", "-h"],
+    &["explain", "--help"],
+    &["help"],
+    &["help", "check"],
+    &["--help"],
+    &["-h", "-V"],
+    &["frob", "--version"],
+    &["--versions"],
+    &["--version=1"],
+    &["check", "--version"],
+    &["check", "-V"],
+    &["help", "--version"],
+];
 
 #[test]
 fn words_that_are_none(rt: HostRuntime) {
-    let alloc = rt.alloc();
-    assert!(rt; are_refused(alloc, &[]));
-    assert!(rt; are_refused(alloc, &["frob"]));
-    assert!(rt; are_refused(alloc, &["chec"]));
-    assert!(rt; are_refused(alloc, &["Check"]));
-    assert!(rt; are_refused(alloc, &[""]));
-    assert!(rt; are_refused(alloc, &["f.csv"]));
-    assert!(rt; are_refused(alloc, &["--hands"]));
-    assert!(rt; are_refused(alloc, &["--hands", "check"]));
-    assert!(rt; are_refused(alloc, &["runs"]));
-    assert!(rt; are_refused(alloc, &["run", "a", "b"]));
-    assert!(rt; are_refused(alloc, &["why", "a", "b"]));
-    assert!(rt; are_refused(alloc, &["check", "a", "b"]));
-    assert!(rt; are_refused(alloc, &["check", "--hands", "--hands"]));
-    assert!(rt; are_refused(alloc, &["check", "--hands=yes"]));
-    assert!(rt; are_refused(alloc, &["check", "--hand"]));
-    assert!(rt; are_refused(alloc, &["check", "-h"]));
-    assert!(rt; are_refused(alloc, &["explain", "--help"]));
-    assert!(rt; are_refused(alloc, &["help"]));
-    assert!(rt; are_refused(alloc, &["help", "check"]));
-    assert!(rt; are_refused(alloc, &["--help"]));
-    assert!(rt; are_refused(alloc, &["-h", "-V"]));
-    assert!(rt; are_refused(alloc, &["frob", "--version"]));
-    assert!(rt; are_refused(alloc, &["--versions"]));
-    assert!(rt; are_refused(alloc, &["--version=1"]));
-    assert!(rt; are_refused(alloc, &["check", "--version"]));
-    assert!(rt; are_refused(alloc, &["check", "-V"]));
-    assert!(rt; are_refused(alloc, &["help", "--version"]));
+    for words in NO_COMMANDS {
+        same(&rt, are_refused(rt.alloc(), *words), true, *words);
+    }
 }
+
+const OF_VERSION: &[&[&str]] = &[
+    &["--version"],
+    &["-V"],
+    &["-Vh"],
+    &["--version", "check"],
+    &["-V", "--frob"],
+];
 
 #[test]
 fn words_that_ask_for_the_version(rt: HostRuntime) {
-    let table: [&[&str]; 5] = [
-        &["--version"],
-        &["-V"],
-        &["-Vh"],
-        &["--version", "check"],
-        &["-V", "--frob"],
-    ];
-    for words in &table {
+    for words in OF_VERSION {
         let asked = matches!(task_of(rt.alloc(), *words), Err(WordsFault::Version));
-        assert!(rt; asked);
+        same(&rt, asked, true, *words);
     }
 }

@@ -1,7 +1,9 @@
 //! A writer that takes a byte a call, and fails when it is told to.
 
+use crate::tests::same;
 use std::alloc::Global;
 use std::io::{self, Write};
+use std::process::Abort;
 
 /// Takes a byte a call until its room is taken, and fails then. Its flush fails where it is told so. It counts the
 /// writes that failed, and the flushes.
@@ -61,4 +63,26 @@ impl Write for Narrow {
             Err(io::Error::from(io::ErrorKind::Other))
         }
     }
+}
+
+/// Holds what a writer took, how many of its writes failed, and how often it was flushed.
+pub fn took(rt: &impl Abort, writer: &Narrow, taken: &[u8], failures: usize, flushes: usize) {
+    same(rt, writer.taken.as_slice(), taken, "what was taken");
+    same(
+        rt,
+        (writer.failures, writer.flushes),
+        (failures, flushes),
+        taken,
+    );
+}
+
+/// Holds that a writer took something that ends so, and was flushed once.
+pub fn took_to_the_end(rt: &impl Abort, writer: &Narrow, end: &[u8]) {
+    same(
+        rt,
+        writer.taken.ends_with(end),
+        true,
+        writer.taken.as_slice(),
+    );
+    same(rt, writer.flushes, 1, end);
 }
