@@ -1,5 +1,8 @@
 //! What the deck could show when it gave a reply after which no run of the deck remains.
-ghost use Rattle.std.specs.Prelude.{IfOk};
+ghost use Rattle.std.specs.Prelude.{◌≡◌, ◌↔◌, IfOk, OnOk};
+ghost use Rattle.deck9.specs.State.{IsFirst};
+ghost use Rattle.deck9.specs.declared.state.State.{State as AState};
+ghost use Rattle.track9.specs.Tracker.{Possible};
 ghost use Rattle.why9.specs.Contradiction.{BreaksAtLast};
 ghost use Rattle.judge9.specs.Working.Trail.{Follows};
 ghost use Rattle.judge9.specs.WhyVerdict.{CouldShow};
@@ -20,23 +23,41 @@ pub(crate) fn could_show(
     requires breaks { BreaksAtLast hands exchanges.now }
     ensures { IfOk result (λ told. CouldShow hands exchanges.now told.0 told.1) }
 {
-    let mut tracker = tracker_after(alloc, hands, &exchanges[..exchanges.len() - 1])?;
+    let mut tracker = Tracker::new(alloc, hands)?;
+    let told = shown_after(&mut tracker, hands, exchanges);
+    drop(tracker);
+    told
+}
+
+/// The same, of a tracker that has taken nothing yet.
+fn shown_after(
+    tracker: &mut Tracker<SpanSet>,
+    hands: Hands,
+    exchanges: &[Exchange],
+) -> Result<(Knowledge, ModeSet), AllocError>
+    requires breaks { BreaksAtLast hands exchanges.now }
+    requires states { (s : AState) → Possible tracker.old.states s ↔ IsFirst hands s }
+    requires hands { tracker.old.hands ≡ hands }
+    ensures { IfOk result (λ told. CouldShow hands exchanges.now told.0 told.1) }
+{
+    follow(tracker, hands, &exchanges[..exchanges.len() - 1])?;
     // A command without an effect leaves what the drift before it does.
     tracker.pass(&Command::InDataSense)?;
     Ok((tracker.knowledge(), tracker.shown()))
 }
 
-/// The tracker after these exchanges, and nothing before them.
-fn tracker_after(
-    alloc: Global,
+/// Takes these exchanges, with nothing before them.
+fn follow(
+    tracker: &mut Tracker<SpanSet>,
     hands: Hands,
     exchanges: &[Exchange],
-) -> Result<Tracker<SpanSet>, AllocError>
-    ensures { IfOk result (Follows hands exchanges.now) }
+) -> Result<(), AllocError>
+    requires states { (s : AState) → Possible tracker.old.states s ↔ IsFirst hands s }
+    requires hands { tracker.old.hands ≡ hands }
+    ensures { OnOk result (Follows hands exchanges.now tracker.new) }
 {
-    let mut tracker = Tracker::new(alloc, hands)?;
     for exchange in exchanges {
         tracker.observe(&exchange.command, &exchange.reply)?;
     }
-    Ok(tracker)
+    Ok(())
 }

@@ -7,7 +7,8 @@
 //!
 //! The search is not proved to find such a run. What it finds is asked of `is_run`, and is handed out where that says that
 //! it is a run.
-ghost use Rattle.std.specs.Prelude.{◌≡◌, ◌≤◌, [], IfOk, IfSome, OnOk, length};
+ghost use Rattle.std.specs.Prelude.{◌≡◌, ◌↔◌, ◌≤◌, [], IfOk, IfSome, OnOk, length};
+ghost use Rattle.deck9.specs.State.{IsFirst};
 ghost use Rattle.deck9.specs.Run.{IsRun};
 ghost use Rattle.deck9.specs.declared.state.State.{State as AState};
 ghost use Rattle.judge9.specs.Working.Trail.{Follows, IsTrail};
@@ -92,6 +93,19 @@ fn length_before_hand(alloc: Global, exchanges: &[Exchange]) -> Result<Option<us
     ensures { IfOk result (λ o. IfSome o (λ at. at ≤ length exchanges.now)) }
 {
     let mut tracker = Tracker::<SpanSet>::new(alloc, Hands::None)?;
+    let length = last_moment(&mut tracker, exchanges);
+    drop(tracker);
+    length
+}
+
+/// The last moment for a hand before the exchange at which no state remains of a deck that nobody touches, as the number of
+/// exchanges before it, or `None` where one remains after them all.
+fn last_moment(
+    tracker: &mut Tracker<SpanSet>,
+    exchanges: &[Exchange],
+) -> Result<Option<usize>, AllocError>
+    ensures { IfOk result (λ o. IfSome o (λ at. at ≤ length exchanges.now)) }
+{
     let mut may_be_on = true;
     let mut moment = 0;
     for (at, exchange) in exchanges.iter().enumerate() {
@@ -133,30 +147,49 @@ fn go_back_untouched(
     states: &mut Vec<State>,
 ) -> Result<(), AllocError> {
     let mut trackers = Vec::new(alloc);
-    let end = follow_untouched(alloc, exchanges, &mut trackers)?;
-    if !end.remains() {
+    let mut tracker = Tracker::new(alloc, Hands::None)?;
+    let result = go_back_along(&mut tracker, &mut trackers, exchanges, states);
+    drop(tracker);
+    drop(trackers);
+    result
+}
+
+/// The same, by a tracker that has taken nothing yet and a trail of none.
+fn go_back_along(
+    tracker: &mut Tracker<SpanSet>,
+    trackers: &mut Vec<Tracker<SpanSet>>,
+    exchanges: &[Exchange],
+    states: &mut Vec<State>,
+) -> Result<(), AllocError>
+    requires states { (s : AState) → Possible tracker.old.states s ↔ IsFirst Hands.None s }
+    requires hands { tracker.old.hands ≡ Hands.None }
+    requires trail { trackers.old.items ≡ [] }
+{
+    follow_untouched(tracker, trackers, exchanges)?;
+    if !tracker.remains() {
         return Ok(());
     }
-    match go_back_from(&end, &trackers, exchanges, states) {
+    match go_back_from(tracker, trackers, exchanges, states) {
         Ok(_) => Ok(()),
         Err(error) => Err(error),
     }
 }
 
-/// The tracker after these exchanges where nobody touches the deck. Those that a trail has before them are kept.
+/// Takes these exchanges, where nobody touches the deck, and keeps the trackers that a trail has before them.
 fn follow_untouched(
-    alloc: Global,
-    exchanges: &[Exchange],
+    tracker: &mut Tracker<SpanSet>,
     trackers: &mut Vec<Tracker<SpanSet>>,
-) -> Result<Tracker<SpanSet>, AllocError>
-    requires { trackers.old.items ≡ [] }
-    ensures follows { IfOk result (Follows Hands.None exchanges.now) }
+    exchanges: &[Exchange],
+) -> Result<(), AllocError>
+    requires states { (s : AState) → Possible tracker.old.states s ↔ IsFirst Hands.None s }
+    requires hands { tracker.old.hands ≡ Hands.None }
+    requires trail { trackers.old.items ≡ [] }
+    ensures follows { OnOk result (Follows Hands.None exchanges.now tracker.new) }
     ensures trail { OnOk result (IsTrail Hands.None exchanges.now trackers.new.items) }
 {
-    let mut tracker = Tracker::new(alloc, Hands::None)?;
     for (at, exchange) in exchanges.iter().enumerate() {
-        mark(trackers, &exchanges[..at], &tracker)?;
+        mark(trackers, &exchanges[..at], tracker)?;
         tracker.observe(&exchange.command, &exchange.reply)?;
     }
-    Ok(tracker)
+    Ok(())
 }

@@ -3,6 +3,7 @@ ghost use Rattle.std.specs.Prelude.{◌≡◌, ◌↔◌, ◌<◌, ◌≤◌, �
 ghost use Rattle.std.specs.List.{All, AllPairs};
 ghost use Rattle.deck9.specs.Contradict.{HasBelieving};
 ghost use Rattle.deck9.specs.Laws.{SetsInDay};
+ghost use Rattle.deck9.specs.State.{IsFirst};
 ghost use Rattle.deck9.specs.Step.{AreReached};
 ghost use Rattle.deck9.specs.declared.state.State.{State as AState};
 ghost use Rattle.track9.specs.Tracker.{Possible};
@@ -31,9 +32,30 @@ pub(crate) fn leaves_a_run(
     ensures { IfOk result (λ b. IsTrue b ↔ HasBelieving hands (is_asked from found.now) exchanges.now) }
 {
     let mut tracker = Tracker::new(alloc, hands)?;
+    let leaves = takes_all(&mut tracker, hands, exchanges, from, found);
+    drop(tracker);
+    leaves
+}
+
+/// The same, of a tracker that has taken nothing yet: whether a state remains after each exchange that is asked of.
+fn takes_all(
+    tracker: &mut Tracker<SpanSet>,
+    hands: Hands,
+    exchanges: &[Exchange],
+    from: usize,
+    found: &[usize],
+) -> Result<bool, AllocError>
+    requires presets { All SetsInDay exchanges.now }
+    requires from { from < length exchanges.now }
+    requires ascend { AllPairs (λ p q. p < q) found.now }
+    requires below { All (λ p. p < from) found.now }
+    requires states { (s : AState) → Possible tracker.old.states s ↔ IsFirst hands s }
+    requires hands { tracker.old.hands ≡ hands }
+    ensures { IfOk result (λ b. IsTrue b ↔ HasBelieving hands (is_asked from found.now) exchanges.now) }
+{
     for place in first_asked(from, found)..exchanges.len() {
         let is_believed = is_believed(from, found, place);
-        if !takes(&mut tracker, &exchanges[place], is_believed)? {
+        if !takes(tracker, &exchanges[place], is_believed)? {
             return Ok(false);
         }
     }

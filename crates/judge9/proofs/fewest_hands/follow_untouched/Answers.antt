@@ -12,8 +12,8 @@ use Rattle.judge9.proofs.fewest_hands.follow_untouched.Goals as goal
 pub loop-at-init : goal.loop-at-init
 loop-at-init c =
     record {
-      follows = follows-start hands.None c.in_ok-tracker.tracker c.in_ok-tracker.ensures.states c.in_ok-tracker.ensures.hands;
-      trail = subst (λ (ts : List Tracked). IsTrail hands.None [] ts) (sym c.requires) (trail-start hands.None);
+      follows = follows-start hands.None c.args.tracker.now c.requires.states c.requires.hands;
+      trail = subst (λ (ts : List Tracked). IsTrail hands.None [] ts) (sym c.requires.trail) (trail-start hands.None);
     }
 
 pub loop-at-preserved : goal.loop-at-preserved

@@ -1,6 +1,6 @@
 use Rattle.std.proofs.Common.{take}
 use Rattle.judge9.specs.Working.Trail.{Follows}
-use Rattle.judge9.proofs.could_show.tracker_after.Given as goal
+use Rattle.judge9.proofs.could_show.follow.Given as goal
 
 abbrev pub invariant-loop-exchange : goal.invariant-loop-exchange
 invariant-loop-exchange l = Follows l.fn.hands (take l.exchange-index l.exchanges) l.tracker

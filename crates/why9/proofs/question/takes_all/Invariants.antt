@@ -4,7 +4,7 @@ use Rattle.deck9.specs.Contradict.{HasBelieving}
 use Rattle.track9.specs.Tracker.{Possible}
 use Rattle.why9.specs.Working.{is_asked}
 use Rattle.why9.proofs.QuestionLemmas.{GoesOn}
-use Rattle.why9.proofs.question.leaves_a_run.Given as goal
+use Rattle.why9.proofs.question.takes_all.Given as goal
 
 abbrev pub invariant-loop-place : goal.invariant-loop-place
 invariant-loop-place l = record {

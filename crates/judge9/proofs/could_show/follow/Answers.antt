@@ -3,10 +3,10 @@ use Rattle.std.proofs.lemmas.List.{take_all, take_more}
 use Rattle.block9.specs.declared.pairer.Exchange.{Exchange}
 use Rattle.judge9.specs.Working.Trail.{Follows}
 use Rattle.judge9.proofs.RunSteps.{follows-more, follows-start}
-use Rattle.judge9.proofs.could_show.tracker_after.Goals as goal
+use Rattle.judge9.proofs.could_show.follow.Goals as goal
 
 pub loop-exchange-init : goal.loop-exchange-init
-loop-exchange-init c = follows-start c.args.hands c.in_ok-tracker.tracker c.in_ok-tracker.ensures.states c.in_ok-tracker.ensures.hands
+loop-exchange-init c = follows-start c.args.hands c.args.tracker.now c.requires.states c.requires.hands
 
 pub loop-exchange-preserved : goal.loop-exchange-preserved
 loop-exchange-preserved c =

@@ -1,5 +1,5 @@
 use Rattle.std.proofs.Common.{◌≤◌, length}
-use Rattle.judge9.proofs.fewest_hands.length_before_hand.Given as goal
+use Rattle.judge9.proofs.fewest_hands.last_moment.Given as goal
 
 abbrev pub invariant-loop-at : goal.invariant-loop-at
 invariant-loop-at l = l.moment ≤ length l.exchanges

@@ -4,13 +4,13 @@ use Rattle.deck9.specs.Step.{AreReached}
 use Rattle.track9.specs.Tracker.{Possible}
 use Rattle.why9.specs.Working.{Takes, is_asked}
 use Rattle.why9.proofs.QuestionLemmas.{goes-past, goes-start, goes-through}
-use Rattle.why9.proofs.question.leaves_a_run.Goals as goal
+use Rattle.why9.proofs.question.takes_all.Goals as goal
 
 pub loop-place-init : goal.loop-place-init
 loop-place-init c = record {
-  hands = c.in_ok-tracker.ensures.hands;
-  goes = goes-start c.args.hands (is_asked c.args.from c.args.found.now) c.args.exchanges.now c.first_asked-place.result (Possible c.in_ok-tracker.tracker.states) c.requires.presets
-      (let w = c.first_asked-place.ensures.within in let n = c.requires.from in omega arith) c.first_asked-place.ensures.before c.in_ok-tracker.ensures.states;
+  hands = c.requires.hands;
+  goes = goes-start c.args.hands (is_asked c.args.from c.args.found.now) c.args.exchanges.now c.first_asked-place.result (Possible c.args.tracker.now.states) c.requires.presets
+      (let w = c.first_asked-place.ensures.within in let n = c.requires.from in omega arith) c.first_asked-place.ensures.before c.requires.states;
 }
 
 pub returns-then-not-branch : goal.returns-then-not-branch
