@@ -174,7 +174,9 @@ fn go_back_through(
         return Ok(end);
     };
     let after = observed(before, exchange)?;
-    let state = go_back_through(&after, rest, end, states)?;
+    let found = go_back_through(&after, rest, end, states);
+    drop(after);
+    let state = found?;
     step_back(before, exchange, state, states)
 }
 
@@ -184,8 +186,13 @@ fn observed(before: &Tracker<SpanSet>, exchange: &Exchange) -> Result<Tracker<Sp
     ensures hands { IfOk result (λ t. t.hands ≡ before.now.hands) }
 {
     let mut after = before.snapshot()?;
-    after.observe(&exchange.command, &exchange.reply)?;
-    Ok(after)
+    match after.observe(&exchange.command, &exchange.reply) {
+        Ok(_) => Ok(after),
+        Err(error) => {
+            drop(after);
+            Err(error)
+        }
+    }
 }
 
 /// Puts the state after an exchange behind the others, and answers one that it may come from.
