@@ -90,7 +90,9 @@ pub fn judge<R: Read + Drop, W: Write>(
     };
     let mut rows = Records::new(alloc, reader);
     let mut line = Vec::new(alloc);
-    judge_rows(&mut rows, &mut tracker, &mut line, writer, view, hands)
+    let verdict = judge_rows(&mut rows, &mut tracker, &mut line, writer, view, hands);
+    drop(tracker);
+    verdict
 }
 
 /// Judges all the rows that are to come and tells of them. `line` is room for a line, whose content is not kept.

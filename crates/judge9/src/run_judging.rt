@@ -58,7 +58,9 @@ pub fn judge_with_run<R: Read + Drop>(
         return Err(JudgeError::OutOfMemory);
     };
     let mut rows = Records::new(alloc, reader);
-    judge_rows(alloc, &mut rows, &mut tracker, hands)
+    let verdict = judge_rows(alloc, &mut rows, &mut tracker, hands);
+    drop(tracker);
+    verdict
 }
 
 /// Judges all the rows that are to come and finds a run where the verdict is a yes.

@@ -70,7 +70,9 @@ pub fn judge_with_contradiction<R: Read + Drop>(
         return Err(JudgeError::OutOfMemory);
     };
     let mut rows = Records::new(alloc, reader);
-    judge_rows(alloc, &mut rows, &mut tracker, hands)
+    let verdict = judge_rows(alloc, &mut rows, &mut tracker, hands);
+    drop(tracker);
+    verdict
 }
 
 /// Judges all the rows that are to come and finds the replies that contradict one another where no run remains.
