@@ -12,7 +12,10 @@
 # where one is below 0 all are moved by the same whole seconds. `-v from=SECONDS` and `-v to=SECONDS`, in times that are not
 # moved, leave the bytes before the one and from the other on out.
 
-BEGIN { converter = "saleae.awk" }
+BEGIN {
+    converter = "saleae.awk"
+    output = "cat || { cat > /dev/null; false; }"
+}
 
 {
     sub(/\r$/, "")
@@ -179,16 +182,17 @@ function next_wire() {
 
 function write(wire,    k) {
     k = slot(wire, ++written[wire])
-    printf "%.0f,%s,%s\n", times[k] + later, wire, bytes[k] | "cat"
+    printf "%.0f,%s,%s\n", times[k] + later, wire, bytes[k] | output
 }
 
-# The capture goes through `cat`, since no awk tells what became of its own output.
+# The capture goes through `cat`, since no awk tells what became of its own output. Where it can't be written the rest is
+# read all the same: an awk whose pipe has lost its reader is ended, and says nothing.
 END {
     if (refused) exit 1
     count["C"] += 0
     count["D"] += 0
     if (count["C"] + count["D"] == 0) refuse("no byte in " (from to == "" ? "the export" : "this stretch of the export"))
-    print "time_us,wire,byte" | "cat"
+    print "time_us,wire,byte" | output
     while (written["C"] < count["C"] || written["D"] < count["D"]) write(next_wire())
-    if (close("cat") != 0) refuse("the capture can't be written")
+    if (close(output) != 0) refuse("the capture can't be written")
 }

@@ -36,12 +36,13 @@ function hand_on(    k) {
     waiting = 0
 }
 
-# Begins the next part. It goes through `cat`, since no awk tells what became of its own output.
+# Begins the next part. It goes through `cat`, since no awk tells what became of its own output. Where it can't be written
+# the rest is read all the same: an awk whose pipe has lost its reader is ended, and says nothing.
 function begin() {
     end()
     parts++
     name[parts] = sprintf("%s-%03d.csv", to, parts)
-    part = "cat > " quoted(name[parts])
+    part = "cat > " quoted(name[parts]) " || { cat > /dev/null; false; }"
     filled = 0
     print "time_us,wire,byte" | part
 }

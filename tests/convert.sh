@@ -227,12 +227,18 @@ log: another port, after a date|log.awk|-v controller=A -v deck=B|1|neither the 
 END
 }
 
-# A full device. Under its option --posix gawk does not tell what became of a pipe, so it runs without.
+# A full device, with a capture that a pipe holds and with one that it does not: the rest is still to be written when the
+# first part of it was refused. Under its option --posix gawk does not tell what became of a pipe, so it runs without.
 full_device() {
-    ${awk% --posix} -v rate=2000000 -f convert/sigrok.awk < examples/exports/sigrok.txt > /dev/full 2> "$work/err"
-    status=$?
-    judge "$awk: a full device" [ "$status" = 1 ]
-    judge "$awk: the message of a full device" grep -q "^sigrok.awk: line 17: the capture can't be written$" "$work/err"
+    local lines
+    for lines in 17 20000; do
+        awk -v lines=$lines 'BEGIN { for (k = 1; k <= lines; k++) print k * 1000 "-" k * 1000 + 208 " uart-1: 20" }' > "$work/in"
+        ${awk% --posix} -v rate=1000000 -f convert/sigrok.awk < "$work/in" > /dev/full 2> "$work/err"
+        status=$?
+        judge "$awk: a full device, $lines lines" [ "$status" = 1 ]
+        judge "$awk: the message of a full device, $lines lines" \
+            grep -q "^sigrok.awk: line $lines: the capture can't be written$" "$work/err"
+    done
 }
 
 for awk in mawk 'gawk --posix' 'busybox awk'; do

@@ -47,6 +47,11 @@ is_refused() {
     [ "$status" = 1 ] && [ ! -s "$work/out" ] && [ "$(cat "$work/err")" = "$1" ] && [ -z "$(ls "$work/parts")" ]
 }
 
+# is_refused_last LINE: the same, after what the shell says.
+is_refused_last() {
+    [ "$status" = 1 ] && [ ! -s "$work/out" ] && [ "$(tail -n 1 "$work/err")" = "$1" ] && [ -z "$(ls "$work/parts")" ]
+}
+
 # Two exchanges of three and three rows, and an open command of one.
 first='1,C,20\n2,C,01\n3,C,21\n4,D,10\n5,D,01\n6,D,11\n'
 second='11,C,20\n12,C,00\n13,C,20\n14,D,10\n15,D,01\n16,D,11\n'
@@ -77,6 +82,9 @@ it's a part-002.csv" ]
     judge "$awk: no header" is_refused 'split.awk: line 1: expected the header time_us,wire,byte: 1,C,20'
     split_into '' part
     judge "$awk: nothing at all" is_refused 'split.awk: line 0: expected the header time_us,wire,byte'
+    split_into "$capture" none/part
+    judge "$awk: a folder that is not there" is_refused_last \
+        "split.awk: line 14: the part none/part-001.csv can't be written"
     split_into "$capture"'22,C\n' part -v rows=6
     judge "$awk: a bad row, and no part is left" is_refused 'split.awk: line 15: no row of a time, a wire and a byte: 22,C'
 done

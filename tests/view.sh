@@ -344,7 +344,8 @@ is_without_verdict() {
         grep -qE ': (no verdict|no header of a capture): ' "$work/err"
 }
 
-# A full device. Under its option --posix gawk does not tell what became of a pipe, so it runs without.
+# A full device, and no folder for the file in which a view keeps its lines. Under its option --posix gawk does not tell
+# what became of a pipe, so it runs without.
 full_device() {
     local view
     for view in digest delays json picture; do
@@ -353,6 +354,12 @@ full_device() {
         judge "$awk: $view: a full device" [ "$status" = 1 ]
         judge "$awk: $view: the message of a full device" \
             grep -q "^$view.awk: line 21: the view can't be written$" "$work/err"
+        TMPDIR=$work/none ${awk% --posix} -v capture=examples/views/session.csv -f view/$view.awk < examples/views/session.txt \
+            > "$work/out" 2> "$work/err"
+        status=$?
+        judge "$awk: $view: no room to keep the lines" [ "$status" = 1 ]
+        judge "$awk: $view: the message of no room" \
+            [ "$(tail -n 1 "$work/err")" = "$view.awk: line 21: the view can't be written" ]
     done
 }
 

@@ -136,8 +136,8 @@ BEGIN {
     last_record = 0
     name_forms()
     # Keeps the lines in a file that has no name any more, and writes them where the last one says that all is whole.
-    hold = "held=$(mktemp) && exec 3> \"$held\" 4< \"$held\" 5< \"$held\" && rm \"$held\" && cat >&3" \
-        " && [ \"$(tail -n 1 <&4)\" = whole ] && sed '$d' <&5"
+    hold = "{ held=$(mktemp) && exec 3> \"$held\" 4< \"$held\" 5< \"$held\" && rm \"$held\" && cat >&3" \
+        " || { cat > /dev/null; false; }; } && [ \"$(tail -n 1 <&4)\" = whole ] && sed '$d' <&5"
 }
 
 # The forms of the lines that `why` writes, and what may stand before a line of each kind.
