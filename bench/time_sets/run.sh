@@ -19,5 +19,6 @@ rustc --edition 2024 -O -o "$work/rust" "$here/rust/main.rs"
 "$work/rust" > "$work/rust.txt"
 paste -d ' ' "$work/rattle.txt" "$work/rust.txt" | awk '
     $1 != $5 || $2 != $6 || $4 != $8 { print "the two sides differ: " $0; bad = 1; next }
-    { printf "%6d  %-16s %10.1f %10.1f  %5.2f\n", $1, $2, $3 / 100000, $7 / 100000, $3 / $7 }
+    { calls = $1 == 400000 ? 10000 : 100000
+      printf "%6d  %-16s %10.1f %10.1f  %5.2f\n", $1, $2, $3 / calls, $7 / calls, $3 / $7 }
     END { exit bad }'

@@ -1,5 +1,5 @@
 -- What a `SpanSet` answers, from its list of spans.
-use Rattle.std.proofs.Common.{ℕ, ◌≡◌, ◌+◌, ◌-◌, ◌<◌, ◌≤◌, ◌↔◌, Bool, true, false, not, cond, eqb, ltb, nat_eq, ◌&&◌, ◌||◌, List, [], ◌∷◌, length, get_or, slice_get, Option, Some, None, refl, sym, ap, subst, ◌∙◌, inl, inr, add-one, arith, zero, suc}
+use Rattle.std.proofs.Common.{ℕ, ◌≡◌, ◌+◌, ◌-◌, ◌<◌, ◌≤◌, ◌↔◌, Bool, true, false, not, cond, eqb, ltb, nat_eq, ◌&&◌, ◌||◌, List, [], ◌∷◌, length, slice_get, Option, Some, None, refl, sym, ap, subst, ◌∙◌, inl, inr, add-one, arith, zero, suc}
 use Rattle.std.proofs.lemmas.Bool.{false≢true, eq-eqb, eqb-true, ne_eqb, cases_eq, cases_lt, cases_Bool, lt-ltb, or_cases, or_left, and_left}
 use Rattle.std.proofs.lemmas.Bool.Decides.{nat_tests}
 use Rattle.std.specs.List.{list_any}
@@ -9,6 +9,7 @@ use Rattle.std.specs.Cmp.{nat_cmp_total}
 use Rattle.std.specs.FinSet as set
 use Rattle.tc25.specs.Day.{day}
 use Rattle.tc25.specs.Times.{Times, times_where, just, IsLeast, span_count}
+use Rattle.tc25.specs.Working.ShortLists.{only_span}
 use Rattle.tc25.specs.Working.SpanMoves.{point}
 use Rattle.tc25.specs.Spans.{in_span, is_covered, IsSpan, IsCanonical}
 use Rattle.tc25.specs.Working.TimesWhere.{contains-times_where}
@@ -63,22 +64,23 @@ only_iff (s ∷ t ∷ xs) c =
     two_iff (in_spans (s ∷ t ∷ xs)) s.last t.last c.1.1 c.2.1.1 (let gap = c.2.0 in let ordered = c.2.1.0 in λ e. omega arith) (has_last s (t ∷ xs) c.1)
     (ap (λ b. in_span t.last s || b) (has_last t xs c.2.1) ∙ or_true (in_span t.last s))
 
-pub only_of-other : (xs : List Span) → (length xs ≡ 1 → ⊥) → only_of xs ≡ None
-only_of-other [] other = refl
-only_of-other (s ∷ []) other = absurd (other refl)
-only_of-other (s ∷ t ∷ xs) other = refl
+pub only_of-none : (xs : List Span) → None ≡ only_span xs → only_of xs ≡ None
+only_of-none [] at = refl
+only_of-none (x ∷ []) at = absurd (cc)
+only_of-none (x ∷ y ∷ xs) at = refl
 
-pub only_of-more : (xs : List Span) (s : Span) → length xs ≡ 1 → s ≡ get_or xs 0 s → (s.first ≡ s.last → ⊥) → only_of xs ≡ None
-only_of-more [] s one at more = absurd (omega arith)
-only_of-more (x ∷ []) s one at more = rw (sym at) (rw (ne_eqb s.first s.last more) refl)
-only_of-more (x ∷ y ∷ xs) s one at more = refl
+pub only_of-more : (xs : List Span) (s : Span) → Some s ≡ only_span xs → (s.first ≡ s.last → ⊥) → only_of xs ≡ None
+only_of-more [] s at more = refl
+only_of-more (x ∷ []) s at more = let e : x ≡ s = cc in rw e (rw (ne_eqb s.first s.last more) refl)
+only_of-more (x ∷ y ∷ xs) s at more = refl
 
-pub only_read : (xs : List Span) (s : Span) (r : Option ℕ) → IsCanonical 0 xs → length xs ≡ 1 → s ≡ get_or xs 0 s → s.first ≡ s.last → SomeIff r (s.first < day) s.first → only_of xs ≡ r
-only_read [] s r c one at same given = absurd (omega arith)
-only_read (x ∷ []) s r c one at same given =
-    let in_day = subst (λ (y : Span). y.last < day) (sym at) c.1.1 in
-    rw (sym at) (rw (eq-eqb s.first s.last same) (sym (some_given r (s.first < day) s.first given (omega arith))))
-only_read (x ∷ y ∷ xs) s r c one at same given = absurd (omega arith)
+pub only_read : (xs : List Span) (s : Span) (r : Option ℕ) → IsCanonical 0 xs → Some s ≡ only_span xs → s.first ≡ s.last → SomeIff r (s.first < day) s.first → only_of xs ≡ r
+only_read [] s r c at same given = absurd (cc)
+only_read (x ∷ []) s r c at same given =
+    let e : x ≡ s = cc in
+    let in_day = subst (λ (y : Span). y.last < day) e c.1.1 in
+    rw e (rw (eq-eqb s.first s.last same) (sym (some_given r (s.first < day) s.first given (omega arith))))
+only_read (x ∷ y ∷ xs) s r c at same given = absurd (cc)
 
 -- the first member, if there is one
 abbrev pub least_of : List Span → Option ℕ

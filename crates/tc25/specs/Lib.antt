@@ -1,6 +1,8 @@
 pub mod Day
 pub mod Frames
 pub mod ListSet
+pub mod ShortLists
+pub mod SpanList
 pub mod SpanSet
 pub mod Spans
 pub mod Times

@@ -9,6 +9,7 @@ mod same;
 #[cfg(test)]
 mod set_tests;
 mod span;
+mod span_list;
 mod span_set;
 mod spans;
 mod time_code;

@@ -293,6 +293,73 @@ fn counts_spans(rt: HostRuntime) -> Result<(), Fail> {
     Ok(())
 }
 
+/// How many frames a set of many spans has: enough for several lists.
+const MANY: u32 = 2_000;
+
+/// Each fourth frame from one on, in no order.
+fn fourth_frame(turn: u32, from: u32) -> TimeCode {
+    time(turn % MANY * 1_201 % MANY * 4 + from % 4)
+}
+
+fn add_fourths<S: TimeSet>(set: &mut S, from: u32) -> Result<(), AllocError> {
+    for turn in 0..MANY {
+        set.add(fourth_frame(turn, from))?;
+    }
+    Ok(())
+}
+
+/// Whether the members, as far as frame 7,999, are each fourth frame from one on.
+fn has_fourths<S: TimeSet>(set: &S, from: u32) -> bool {
+    for turn in 0..MANY {
+        for other in 0..4 {
+            if set.contains(fourth_frame(turn, other)) != (other == from) {
+                return false;
+            }
+        }
+    }
+    true
+}
+
+#[test]
+fn many_spans(rt: HostRuntime) -> Result<(), Fail> {
+    let mut set = SpanSet::none(rt.alloc());
+    add_fourths(&mut set, 0)?;
+    same(&rt, set.spans(), 2_000, "added");
+    same(&rt, has_fourths(&set, 0), true, "added");
+    let copy = set.copy()?;
+    set.shift_next()?;
+    same(&rt, set.spans(), 2_000, "shifted");
+    same(&rt, has_fourths(&set, 1), true, "shifted");
+    add_fourths(&mut set, 3)?;
+    same(&rt, set.spans(), 4_000, "added to a shifted one");
+    set.widen_prev()?;
+    same(&rt, set.spans(), 1, "widened");
+    same(&rt, copy.spans(), 2_000, "a copy");
+    same(&rt, has_fourths(&copy, 0), true, "a copy");
+    Ok(())
+}
+
+#[test]
+fn many_spans_that_meet(rt: HostRuntime) -> Result<(), Fail> {
+    let mut set = SpanSet::none(rt.alloc());
+    add_fourths(&mut set, 1)?;
+    add_fourths(&mut set, 3)?;
+    same(&rt, set.spans(), 4_000, "two of four");
+    same(&rt, set.least(), Some(time(1)), "two of four");
+    same(&rt, set.only(), None, "two of four");
+    add_fourths(&mut set, 2)?;
+    same(&rt, set.spans(), 2_000, "three of four");
+    let mut one = set.copy()?;
+    add_fourths(&mut set, 0)?;
+    same(&rt, set.spans(), 1, "all");
+    add_fourths(&mut one, 2)?;
+    one.keep_only(time(4_001))?;
+    same(&rt, one.only(), Some(time(4_001)), "one of many");
+    one.keep_only(time(4_000))?;
+    same(&rt, one.is_empty(), true, "none");
+    Ok(())
+}
+
 /// A call from a drawn number, mostly one that adds or moves.
 fn call_from(drawn: u32) -> Call {
     let frame = FRAMES[(drawn >> 8) as usize % 24];

@@ -1,10 +1,11 @@
 //! The set of times that a tracker keeps: a sorted list of spans.
 
+ghost use Rattle.tc25.specs.SpanList.{spans_of};
 ghost use Rattle.tc25.specs.Spans.{IsCanonical, IsCanonical-prop};
 
 use crate::direction::Direction;
 use crate::span::Span;
-use crate::spans;
+use crate::span_list::SpanList;
 use crate::time_code::{LAST_FRAME, TimeCode};
 use crate::time_set::TimeSet;
 use std::alloc::{AllocError, Global};
@@ -15,8 +16,8 @@ use std::alloc::{AllocError, Global};
 /// spans. The last frame of the day and frame 0 are in one span only where that is the whole day.
 #[derive(Drop)]
 pub struct SpanSet {
-    spans: Vec<Span>,
-    ghost canonical: { IsCanonical 0 spans.items } by { IsCanonical-prop 0 spans.items },
+    spans: SpanList,
+    ghost canonical: { IsCanonical 0 (spans_of spans) } by { IsCanonical-prop 0 (spans_of spans) },
 }
 
 impl SpanSet {
@@ -45,7 +46,7 @@ impl TimeSet for SpanSet {
 
     fn none(alloc: Global) -> Self {
         SpanSet {
-            spans: Vec::new(alloc),
+            spans: SpanList::from_spans(Vec::new(alloc)),
         }
     }
 
@@ -55,19 +56,19 @@ impl TimeSet for SpanSet {
             last: LAST_FRAME,
         };
         Ok(SpanSet {
-            spans: Vec::from_slice(alloc, &[day])?,
+            spans: SpanList::from_spans(Vec::from_slice(alloc, &[day])?),
         })
     }
 
     fn one(alloc: Global, time: TimeCode) -> Result<Self, AllocError> {
         let frame = time.frames();
         Ok(SpanSet {
-            spans: Vec::from_slice(alloc, &[Span::of(frame)])?,
+            spans: SpanList::from_spans(Vec::from_slice(alloc, &[Span::of(frame)])?),
         })
     }
 
     fn contains(&self, time: TimeCode) -> bool {
-        spans::contains(&self.spans, time.frames())
+        self.spans.contains(time.frames())
     }
 
     fn is_empty(&self) -> bool {
@@ -75,10 +76,9 @@ impl TimeSet for SpanSet {
     }
 
     fn only(&self) -> Option<TimeCode> {
-        if self.spans.len() != 1 {
+        let Some(span) = self.spans.only() else {
             return None;
-        }
-        let span = self.spans[0];
+        };
         if span.first == span.last {
             TimeCode::from_frames(span.first)
         } else {
@@ -94,33 +94,33 @@ impl TimeSet for SpanSet {
     }
 
     fn shift_next(&mut self) -> Result<(), AllocError> {
-        spans::shift(&mut self.spans, Direction::Next)
+        self.spans.shift(Direction::Next)
     }
 
     fn shift_prev(&mut self) -> Result<(), AllocError> {
-        spans::shift(&mut self.spans, Direction::Prev)
+        self.spans.shift(Direction::Prev)
     }
 
     fn widen_next(&mut self) -> Result<(), AllocError> {
-        spans::widen(&mut self.spans, Direction::Next)
+        self.spans.widen(Direction::Next)
     }
 
     fn widen_prev(&mut self) -> Result<(), AllocError> {
-        spans::widen(&mut self.spans, Direction::Prev)
+        self.spans.widen(Direction::Prev)
     }
 
     fn add(&mut self, time: TimeCode) -> Result<(), AllocError> {
-        spans::add(&mut self.spans, time.frames())
+        self.spans.add(time.frames())
     }
 
     fn keep_only(&mut self, time: TimeCode) -> Result<(), AllocError> {
-        spans::keep_only(&mut self.spans, time.frames());
+        self.spans.keep_only(time.frames());
         Ok(())
     }
 
     fn copy(&self) -> Result<Self, AllocError> {
         Ok(SpanSet {
-            spans: Vec::from_slice(*self.spans.allocator(), &self.spans)?,
+            spans: self.spans.copy()?,
         })
     }
 

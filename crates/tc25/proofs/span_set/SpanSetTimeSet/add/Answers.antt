@@ -2,6 +2,7 @@
 use Rattle.std.proofs.Common.{◌<◌, arith}
 use Rattle.std.proofs.lemmas.Result.{on_ok_weaker}
 use Rattle.tc25.specs.Day.{day}
+use Rattle.tc25.specs.SpanList.{spans_of}
 use Rattle.tc25.proofs.TimesLemmas.{times_where-insert}
 use Rattle.tc25.proofs.SpansLemmas.{covered_with}
 use Rattle.tc25.proofs.span_set.SpanSetTimeSet.add.Goals as goal
@@ -11,4 +12,4 @@ returns-clause-ok c =
     let s = c.args.self.now in
     let t = c.args.time in
     let in_day : t < day = omega arith in
-    on_ok_weaker c.add.result (λ told. times_where-insert _ _ t in_day (λ f h. rw (told, c.frames.ensures.value) (covered_with f 0 t s.spans.items s.canonical in_day))) c.add.ensures.ok
+    on_ok_weaker c.add.result (λ told. times_where-insert _ _ t in_day (λ f h. rw (told, c.frames.ensures.value) (covered_with f 0 t (spans_of s.spans) s.canonical in_day))) c.add.ensures.ok

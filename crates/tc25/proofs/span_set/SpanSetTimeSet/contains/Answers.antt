@@ -7,4 +7,4 @@ use Rattle.tc25.proofs.span_set.SpanSetTimeSet.contains.Goals as goal
 pub returns : goal.returns
 returns c =
     let in_day : c.args.time < day = omega arith in
-    (rw (c.deref.ensures.value, c.frames.ensures.value) at c.contains.ensures) ∙ sym (contains-times_where-at _ c.args.time in_day)
+    (rw c.frames.ensures.value at c.contains.ensures) ∙ sym (contains-times_where-at _ c.args.time in_day)

@@ -4,4 +4,4 @@ use Rattle.tc25.proofs.TimesLemmas.{times_where-empty}
 use Rattle.tc25.proofs.span_set.SpanSetTimeSet.none.Goals as goal
 
 pub returns : goal.returns
-returns c = times_where-empty _ (λ f h. rw c.new.ensures.items refl)
+returns c = times_where-empty _ (λ f h. rw (c.from_spans.ensures, c.new.ensures.items) refl)

@@ -8,4 +8,4 @@ use Rattle.tc25.proofs.span_set.SpanSetTimeSet.one.Goals as goal
 pub returns : goal.returns
 returns c =
     let in_day : c.args.time < day = omega arith in
-    times_where-just _ c.args.time in_day (λ f h. rw (c.in_ok-from_slice.ensures.items, c.of.ensures, c.frames-frame.ensures.value) (point_is c.args.time f))
+    times_where-just _ c.args.time in_day (λ f h. rw (c.from_spans.ensures, c.in_ok-from_slice.ensures.items, c.of.ensures, c.frames-frame.ensures.value) (point_is c.args.time f))
