@@ -1,46 +1,60 @@
 -- Decimal digits, read one at a time.
-use Rattle.std.proofs.Common.{◌≡◌, ◌<◌, ◌≤◌, ◌+◌, ◌-◌, ◌*◌, ◌^◌, ℕ, suc, List, [], ◌∷◌, length, drop, get_or, true, false, Bool, ◌&&◌, Some, None, nat_le, refl, ◌∙◌, arith, add-one, lit<, length-drop, drop-cons}
+use Rattle.std.proofs.Common.{◌≡◌, ◌<◌, ◌≤◌, ◌+◌, ◌-◌, ◌*◌, ◌^◌, ℕ, suc, ap, List, [], ◌∷◌, ◌++◌, length, length-append, pow-add, drop, get_or, true, false, Bool, ◌&&◌, Some, None, nat_le, refl, ◌∙◌, arith, add-one, lit<, length-drop, drop-cons}
 use Rattle.std.specs.Prelude.{if◌then◌else◌}
-use Rattle.std.proofs.Math.Nat.{mul-le-mul_right, pow-le-pow_right, pow-suc}
+use Rattle.std.proofs.Math.Nat.{mul-le-mul_left, mul-le-mul_right, pow-le-pow_right, pow-suc}
 use Rattle.std.proofs.lemmas.Bool.Decides.{nat_tests}
 use Rattle.std.specs.Char.{digit_value, is_ascii_digit}
 use Rattle.std.specs.Str.{all_ascii_digits}
 use Rattle.capture9.specs.Fields.{decimal_value, time_in}
+use Rattle.capture9.specs.Working.{digits_after}
 
 -- what a decimal digit counts
 pub digit_value-digit : (c : ℕ) → is_ascii_digit c ≡ true → digit_value c ≡ c - 48
 digit_value-digit c h = grind (arith, nat_tests)
 
-digit-le : (c : ℕ) → is_ascii_digit c ≡ true → c - 48 ≤ 9
+value-digit : (c : ℕ) → is_ascii_digit c ≡ true → digit_value c + 48 ≡ c
+value-digit c h = grind (arith, nat_tests)
+
+pub digit-le : (c : ℕ) → is_ascii_digit c ≡ true → c - 48 ≤ 9
 digit-le c h = grind (arith, nat_tests)
 
--- one digit more
-pub time-lt : (time c at : ℕ) → time < 10 ^ at → is_ascii_digit c ≡ true → time * 10 + (c - 48) < 10 ^ (at + 1)
-time-lt time c at h d = rw (add-one, pow-suc) (omega (arith, digit-le c d))
-
--- fourteen digits and one more
-pub time-fits : (time c at : ℕ) → at < 15 → time < 10 ^ at → is_ascii_digit c ≡ true → time * 10 + (c - 48) < 10 ^ 15
-time-fits time c at h t d =
+-- a number with room for more digits: there is room for it, and one digit more leaves room for the others
+pub room-low : (time size at : ℕ) → at < size → (time + 1) * 10 ^ (size - at) ≤ 10 ^ 15 → time * 10 + 10 ≤ 10 ^ 15
+room-low time size at within room =
     let positive : 0 < 10 = lit< tt in
-    let places : at + 1 ≤ 15 = omega arith in
-    let most : 10 ^ (at + 1) ≤ 10 ^ 15 = pow-le-pow_right positive places in
-    omega (arith, time-lt time c at t d)
+    let left : size - at ≡ suc (size - (at + 1)) = omega arith in
+    let power : 10 ^ (size - at) ≡ 10 ^ (size - (at + 1)) * 10 = rw (left, pow-suc) refl in
+    let known : (time + 1) * (10 ^ (size - (at + 1)) * 10) ≤ 10 ^ 15 = rw power at room in
+    let none : 0 ≤ size - (at + 1) = omega arith in
+    let some : 10 ^ 0 ≤ 10 ^ (size - (at + 1)) = pow-le-pow_right positive none in
+    let least : (time + 1) * 1 ≤ (time + 1) * 10 ^ (size - (at + 1)) = mul-le-mul_left (time + 1) some in
+    omega arith
+
+shared : (time digit power : ℕ) → digit ≤ 9 → (time * 10 + digit + 1) * power ≤ (time + 1) * (power * 10)
+shared time digit power low = let more : (time * 10 + digit + 1) * power ≤ (time * 10 + 10) * power = mul-le-mul_right power (omega arith) in omega arith
+
+pub room-step : (size at c time : ℕ) → at < size → is_ascii_digit c ≡ true → (time + 1) * 10 ^ (size - at) ≤ 10 ^ 15 → (time * 10 + (c - 48) + 1) * 10 ^ (size - (at + 1)) ≤ 10 ^ 15
+room-step size at c time within is_digit room =
+    let left : size - at ≡ suc (size - (at + 1)) = omega arith in
+    let power : 10 ^ (size - at) ≡ 10 ^ (size - (at + 1)) * 10 = rw (left, pow-suc) refl in
+    let known : (time + 1) * (10 ^ (size - (at + 1)) * 10) ≤ 10 ^ 15 = rw power at room in
+    omega (arith, shared time (c - 48) (10 ^ (size - (at + 1))) (digit-le c is_digit))
 
 moves : (time digit power rest : ℕ) → time * (power * 10) + (digit * power + rest) ≡ (time * 10 + digit) * power + rest
 moves time digit power rest = omega arith
 
--- the digits up to a place and those from there on, where one more is read
-pub decimal_value-step : (field : List ℕ) (at c time : ℕ) → at < length field → c ≡ get_or field at 0 → is_ascii_digit c ≡ true
-    → decimal_value field ≡ time * 10 ^ (length field - at) + decimal_value (drop at field)
-    → decimal_value field ≡ (time * 10 + (c - 48)) * 10 ^ (length field - (at + 1)) + decimal_value (drop (at + 1) field)
-decimal_value-step field at c time within here is_digit so_far =
+-- a value by the digits up to a place and those from there on, where one more is read
+pub decimal_value-step : (field : List ℕ) (at value c time : ℕ) → at < length field → c ≡ get_or field at 0 → is_ascii_digit c ≡ true
+    → value ≡ time * 10 ^ (length field - at) + decimal_value (drop at field)
+    → value ≡ (time * 10 + (c - 48)) * 10 ^ (length field - (at + 1)) + decimal_value (drop (at + 1) field)
+decimal_value-step field at value c time within here is_digit so_far =
     let left : length field - at ≡ suc (length field - (at + 1)) = omega arith in
     let power : 10 ^ (length field - at) ≡ 10 ^ (length field - (at + 1)) * 10 = rw (left, pow-suc) refl in
     let rest : drop at field ≡ c ∷ drop (at + 1) field = rw (add-one, here) (drop-cons field at 0 within) in
     let size : length (drop (at + 1) field) ≡ length field - (at + 1) = length-drop (at + 1) field in
-    let value : decimal_value (drop at field) ≡ (c - 48) * 10 ^ (length field - (at + 1)) + decimal_value (drop (at + 1) field) =
+    let next : decimal_value (drop at field) ≡ (c - 48) * 10 ^ (length field - (at + 1)) + decimal_value (drop (at + 1) field) =
     rw (rest, size, digit_value-digit c is_digit) refl in
-    so_far ∙ rw (power, value) (moves time (c - 48) _ _)
+    so_far ∙ rw (power, next) (moves time (c - 48) _ _)
 
 -- a place with a digit does not decide whether all are digits
 pub all_ascii_digits-step : (field : List ℕ) (at c : ℕ) → at < length field → c ≡ get_or field at 0 → is_ascii_digit c ≡ true
@@ -75,3 +89,116 @@ time_in-lt field time e =
     by true true false size all same = cc
     by true false digits size all same = cc
     by false few digits size all same = cc
+
+-- ---- digits in two parts
+
+decimal_value-append : (xs ys : List ℕ) → decimal_value (xs ++ ys) ≡ decimal_value xs * 10 ^ length ys + decimal_value ys
+decimal_value-append [] ys = omega arith
+decimal_value-append (x ∷ xs) ys = rw (length-append xs ys, pow-add 10 (length xs) (length ys), decimal_value-append xs ys) (apart (digit_value x) (10 ^ length xs) (10 ^ length ys) (decimal_value xs) (decimal_value ys))
+  where
+    apart : (digit power more front rest : ℕ) → digit * (power * more) + (front * more + rest) ≡ (digit * power + front) * more + rest
+    apart digit power more front rest = omega arith
+
+all_ascii_digits-append : (xs ys : List ℕ) → all_ascii_digits (xs ++ ys) ≡ (all_ascii_digits xs && all_ascii_digits ys)
+all_ascii_digits-append [] ys = refl
+all_ascii_digits-append (x ∷ xs) ys = rw (all_ascii_digits-append xs ys) (by (is_ascii_digit x))
+  where
+    by : (b : Bool) → (b && (all_ascii_digits xs && all_ascii_digits ys)) ≡ ((b && all_ascii_digits xs) && all_ascii_digits ys)
+    by true = refl
+    by false = refl
+
+-- where the first part is none, the whole is none; else the second part goes on after it
+pub digits_after-none : (xs ys : List ℕ) → digits_after 0 xs ≡ None → digits_after 0 (xs ++ ys) ≡ None
+digits_after-none xs ys h = by (all_ascii_digits xs) refl h
+  where
+    by : (b : Bool) → all_ascii_digits xs ≡ b → (if b then Some (0 * 10 ^ length xs + decimal_value xs) else None) ≡ None → digits_after 0 (xs ++ ys) ≡ None
+    by true e h = cc
+    by false e h = rw (all_ascii_digits-append xs ys, e) refl
+
+pub digits_after-some : (n : ℕ) (xs ys : List ℕ) → digits_after 0 xs ≡ Some n → digits_after 0 (xs ++ ys) ≡ digits_after n ys
+digits_after-some n xs ys h = by (all_ascii_digits xs) refl h
+  where
+    by : (b : Bool) → all_ascii_digits xs ≡ b → (if b then Some (0 * 10 ^ length xs + decimal_value xs) else None) ≡ Some n → digits_after 0 (xs ++ ys) ≡ digits_after n ys
+    by true e h =
+        let same : 0 * 10 ^ length xs + decimal_value xs ≡ n = cc in
+        let value : decimal_value xs ≡ n = omega arith in
+        let whole : 0 * 10 ^ length (xs ++ ys) + (n * 10 ^ length ys + decimal_value ys) ≡ n * 10 ^ length ys + decimal_value ys = omega arith in
+        rw (all_ascii_digits-append xs ys, e, decimal_value-append xs ys, value, whole) refl
+    by false e h = cc
+
+-- eight digits leave room for seven more
+pub eight-low : (xs : List ℕ) (n : ℕ) → digits_after 0 xs ≡ Some n → length xs ≡ 8 → n < 10 ^ 8
+eight-low xs n h size = by (all_ascii_digits xs) refl h
+  where
+    by : (b : Bool) → all_ascii_digits xs ≡ b → (if b then Some (0 * 10 ^ length xs + decimal_value xs) else None) ≡ Some n → n < 10 ^ 8
+    by true e h =
+        let same : 0 * 10 ^ length xs + decimal_value xs ≡ n = cc in
+        let low : decimal_value xs < 10 ^ 8 = rw size at (decimal_value-lt xs e) in
+        omega arith
+    by false e h = cc
+
+pub room-after : (n k : ℕ) → n < 10 ^ 8 → k ≤ 7 → (n + 1) * 10 ^ k ≤ 10 ^ 15
+room-after n k low short =
+    let positive : 0 < 10 = lit< tt in
+    let power : 10 ^ k ≤ 10 ^ 7 = pow-le-pow_right positive short in
+    let most : (n + 1) * 10 ^ k ≤ 10 ^ 8 * 10 ^ k = mul-le-mul_right (10 ^ k) (omega arith) in
+    omega arith
+
+-- a field of 1 to 15 bytes
+pub time_in-digits : (field : List ℕ) → 0 < length field → length field ≤ 15 → time_in field ≡ digits_after 0 field
+time_in-digits field some few =
+    let begun : nat_le 1 (length field) ≡ true = grind (arith, nat_tests) in
+    let short : nat_le (length field) 15 ≡ true = grind (arith, nat_tests) in
+    let value : 0 * 10 ^ length field + decimal_value field ≡ decimal_value field = omega arith in
+    rw (begun, short, value) refl
+
+-- ---- eight digits at once
+
+regroup : (p q r : Bool) → (p && (q && r)) ≡ ((p && q) && r)
+regroup true q r = refl
+regroup false q r = refl
+
+-- they are digits where each of them is, two by two
+pub all-eight : (xs : List ℕ) → length xs ≡ 8
+    → all_ascii_digits xs ≡ ((is_ascii_digit (get_or xs 0 0) && is_ascii_digit (get_or xs 1 0)) && ((is_ascii_digit (get_or xs 2 0) && is_ascii_digit (get_or xs 3 0))
+    && ((is_ascii_digit (get_or xs 4 0) && is_ascii_digit (get_or xs 5 0)) && ((is_ascii_digit (get_or xs 6 0) && is_ascii_digit (get_or xs 7 0)) && true))))
+all-eight (a ∷ b ∷ c ∷ d ∷ e ∷ f ∷ g ∷ h ∷ []) size =
+    regroup (is_ascii_digit a) (is_ascii_digit b) _
+    ∙ ap (λ (t : Bool). (is_ascii_digit a && is_ascii_digit b) && t)
+    (regroup (is_ascii_digit c) (is_ascii_digit d) _
+    ∙ ap (λ (t : Bool). (is_ascii_digit c && is_ascii_digit d) && t)
+    (regroup (is_ascii_digit e) (is_ascii_digit f) _
+    ∙ ap (λ (t : Bool). (is_ascii_digit e && is_ascii_digit f) && t) (regroup (is_ascii_digit g) (is_ascii_digit h) true)))
+all-eight [] size = absurd (omega arith)
+all-eight (a ∷ []) size = absurd (omega arith)
+all-eight (a ∷ b ∷ []) size = absurd (omega arith)
+all-eight (a ∷ b ∷ c ∷ []) size = absurd (omega arith)
+all-eight (a ∷ b ∷ c ∷ d ∷ []) size = absurd (omega arith)
+all-eight (a ∷ b ∷ c ∷ d ∷ e ∷ []) size = absurd (omega arith)
+all-eight (a ∷ b ∷ c ∷ d ∷ e ∷ f ∷ []) size = absurd (omega arith)
+all-eight (a ∷ b ∷ c ∷ d ∷ e ∷ f ∷ g ∷ []) size = absurd (omega arith)
+all-eight (a ∷ b ∷ c ∷ d ∷ e ∷ f ∷ g ∷ h ∷ i ∷ more) size = absurd (omega arith)
+
+-- what their bytes come to: each `0` is 48 too many
+pub value-eight : (xs : List ℕ) → length xs ≡ 8 → all_ascii_digits xs ≡ true
+    → decimal_value xs + 533333328
+    ≡ ((get_or xs 0 0 * 10 + get_or xs 1 0) * 100 + (get_or xs 2 0 * 10 + get_or xs 3 0)) * 10000 + ((get_or xs 4 0 * 10 + get_or xs 5 0) * 100 + (get_or xs 6 0 * 10 + get_or xs 7 0))
+value-eight (a ∷ b ∷ c ∷ d ∷ e ∷ f ∷ g ∷ h ∷ []) size all =
+    let p = both (is_ascii_digit a) _ all in
+    let q = both (is_ascii_digit b) _ p.1 in
+    let r = both (is_ascii_digit c) _ q.1 in
+    let s = both (is_ascii_digit d) _ r.1 in
+    let t = both (is_ascii_digit e) _ s.1 in
+    let u = both (is_ascii_digit f) _ t.1 in
+    let v = both (is_ascii_digit g) _ u.1 in
+    let w = both (is_ascii_digit h) _ v.1 in
+    omega (arith, value-digit a p.0, value-digit b q.0, value-digit c r.0, value-digit d s.0, value-digit e t.0, value-digit f u.0, value-digit g v.0, value-digit h w.0)
+value-eight [] size all = absurd (omega arith)
+value-eight (a ∷ []) size all = absurd (omega arith)
+value-eight (a ∷ b ∷ []) size all = absurd (omega arith)
+value-eight (a ∷ b ∷ c ∷ []) size all = absurd (omega arith)
+value-eight (a ∷ b ∷ c ∷ d ∷ []) size all = absurd (omega arith)
+value-eight (a ∷ b ∷ c ∷ d ∷ e ∷ []) size all = absurd (omega arith)
+value-eight (a ∷ b ∷ c ∷ d ∷ e ∷ f ∷ []) size all = absurd (omega arith)
+value-eight (a ∷ b ∷ c ∷ d ∷ e ∷ f ∷ g ∷ []) size all = absurd (omega arith)
+value-eight (a ∷ b ∷ c ∷ d ∷ e ∷ f ∷ g ∷ h ∷ i ∷ more) size all = absurd (omega arith)

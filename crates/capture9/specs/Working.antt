@@ -1,6 +1,6 @@
 -- What the clauses of private functions cite, and what stands inside a `Records`. No public contract reaches it, so
 -- no reader has to believe it.
-use Rattle.std.specs.Prelude.{◌≡◌, ℕ, ◌+◌, ◌≤◌, Bool, true, false, List, [], ◌∷◌, Option, Some, None, length, option_map, IfSome, if◌then◌else◌}
+use Rattle.std.specs.Prelude.{◌≡◌, ℕ, ◌+◌, ◌*◌, ◌^◌, ◌≤◌, Bool, true, false, List, [], ◌∷◌, Option, Some, None, length, option_map, IfSome, if◌then◌else◌}
 use Rattle.csv.specs.Reading.{Ready, default_config, is_flexible, reader_config, reader_state, reader_trim, records_from, source_of}
 use Rattle.csv.specs.declared.parser.State.{State}
 use Rattle.csv.specs.declared.reader.Reader.{Reader}
@@ -8,7 +8,8 @@ use Rattle.csv.specs.declared.reader.Trim.TheVariants as trim
 use Rattle.capture9.specs.declared.error.CaptureError.{CaptureError}
 use Rattle.capture9.specs.declared.records.Standing.{Standing}
 use Rattle.capture9.specs.declared.records.Standing.TheVariants as standing
-use Rattle.capture9.specs.Fields.{most_rows}
+use Rattle.std.specs.Str.{all_ascii_digits}
+use Rattle.capture9.specs.Fields.{decimal_value, most_rows}
 use Rattle.capture9.specs.Records.{IsPlaced, Progress}
 use Rattle.capture9.specs.Rows.{Rows, headed_rows, no_rows, rows_from}
 
@@ -58,3 +59,8 @@ pub record PassesHeader {R : Type 0} (old new : Progress R) : Type 0 where
   pub given : new.given ≡ old.given
   pub last_time : new.last_time ≡ old.last_time
   pub rows : IfSome old.rows (λ rows. new.rows ≡ Some rows)
+
+-- the number that these decimal digits make after the digits of another one
+abbrev pub digits_after : ℕ → List ℕ → Option ℕ
+digits_after front digits =
+    if all_ascii_digits digits then Some (front * 10 ^ length digits + decimal_value digits) else None

@@ -1,29 +1,31 @@
--- One digit more: it fits, and the rest of the field still decides.
-use Rattle.std.proofs.Common.{◌≡◌, ◌<◌, true, ◌∙◌, refl, arith, get_or}
-use Rattle.std.specs.Char.{is_ascii_digit}
-use Rattle.capture9.proofs.FieldLemmas.{all_ascii_digits-step, decimal_value-step, time-fits, time-lt}
+-- The first eight digits and the rest.
+use Rattle.std.proofs.Common.{◌≡◌, ◌≤◌, ◌∙◌, length, arith, sym, ap, take, drop, take-append-drop, length-take-le, Some, None}
+use Rattle.capture9.specs.Working.{digits_after}
+use Rattle.capture9.proofs.FieldLemmas.{digits_after-none, digits_after-some, eight-low, room-after, time_in-digits}
 use Rattle.capture9.proofs.fields.read_time.Goals as goal
 
-pub overflow_mul-time : goal.overflow_mul-time
-overflow_mul-time c =
-    let byte = get_or c.args.field.now c.loop-byte.byte-index 0 in
-    let digit : is_ascii_digit byte ≡ true = cc in
-    let within : c.loop-byte.byte-index < 15 = omega arith in
-    omega (arith, time-fits c.loop-byte.time byte c.loop-byte.byte-index within c.loop-byte.invariant.bound digit)
+pub returns-in_err-first-in-Some : goal.returns-in_err-first-in-Some
+returns-in_err-first-in-Some c =
+    let field = c.args.field.now in
+    let parts = c.in-Some.ensures.cases in
+    let front : digits_after 0 (take 8 field) ≡ None = ap (digits_after 0) (sym parts.0) ∙ sym c.eight_digits.ensures ∙ c.in_err-first-in-Some.was in
+    let whole : digits_after 0 field ≡ None = ap (digits_after 0) (sym (take-append-drop 8 field)) ∙ digits_after-none (take 8 field) (drop 8 field) front in
+    c.from_residual.ensures ∙ sym (time_in-digits field (omega arith) (omega arith) ∙ whole)
 
-pub overflow_add-time : goal.overflow_add-time
-overflow_add-time c =
-    let byte = get_or c.args.field.now c.loop-byte.byte-index 0 in
-    let digit : is_ascii_digit byte ≡ true = cc in
-    let within : c.loop-byte.byte-index < 15 = omega arith in
-    omega (arith, time-fits c.loop-byte.time byte c.loop-byte.byte-index within c.loop-byte.invariant.bound digit)
+pub digits_after-requires : goal.digits_after-requires
+digits_after-requires c =
+    let parts = c.in-Some.ensures.cases in
+    let read = sym c.eight_digits.ensures ∙ c.in_ok-first-in-Some.was in
+    let long = parts.2 in
+    let within : 8 ≤ length c.args.field.now = omega arith in
+    let size : length c.in-Some.front.now ≡ 8 = ap length parts.0 ∙ length-take-le 8 c.args.field.now within in
+    room-after c.in_ok-first-in-Some.first (length c.in-Some.rest.now) (eight-low c.in-Some.front.now c.in_ok-first-in-Some.first read size) (omega arith)
 
-pub loop-byte-preserved : goal.loop-byte-preserved
-loop-byte-preserved c =
-    let byte = get_or c.args.field.now c.loop-byte.byte-index 0 in
-    let digit : is_ascii_digit byte ≡ true = cc in
-    rw c.from.ensures (record {
-      digits = c.loop-byte.invariant.digits ∙ all_ascii_digits-step _ _ byte c.loop-byte-test.true refl digit;
-      value = decimal_value-step _ _ byte _ c.loop-byte-test.true refl digit c.loop-byte.invariant.value;
-      bound = time-lt _ byte _ c.loop-byte.invariant.bound digit;
-    })
+pub returns-in_ok-first-in-Some : goal.returns-in_ok-first-in-Some
+returns-in_ok-first-in-Some c =
+    let field = c.args.field.now in
+    let parts = c.in-Some.ensures.cases in
+    let first = c.in_ok-first-in-Some.first in
+    let front : digits_after 0 (take 8 field) ≡ Some first = ap (digits_after 0) (sym parts.0) ∙ sym c.eight_digits.ensures ∙ c.in_ok-first-in-Some.was in
+    let whole : digits_after 0 field ≡ digits_after first (drop 8 field) = ap (digits_after 0) (sym (take-append-drop 8 field)) ∙ digits_after-some first (take 8 field) (drop 8 field) front in
+    c.digits_after.ensures ∙ ap (digits_after first) parts.1 ∙ sym whole ∙ sym (time_in-digits field (omega arith) (omega arith))
