@@ -11,7 +11,6 @@ use Rattle.deck9.specs.declared.effect.Effect.TheVariants as effect
 use Rattle.deck9.specs.declared.mode.Mode.{Mode}
 use Rattle.deck9.specs.declared.mode.Mode.TheVariants.{Stop}
 use Rattle.track9.specs.declared.mode_set.ModeSet.{ModeSet}
-use Rattle.track9.specs.declared.pairs.Pairs.{Pairs}
 use Rattle.deck9.specs.declared.sense.Sense.{Sense}
 use Rattle.deck9.specs.declared.sense.Sense.TheVariants as sense
 use Rattle.deck9.specs.declared.state.Entry.{Entry}
@@ -48,11 +47,11 @@ use Rattle.track9.proofs.StepLemmas.{sense_effect, status_effect}
 -- ---- pairs
 
 -- where a pair was reached there is a goal
-pub source_goal : (p : Pairs) (g m : Mode) → has (drifted_with p g).0 m ≡ true → is_some (goals_of p) ≡ true
+pub source_goal : (p : List ModeSet) (g m : Mode) → has (drifted_with p g).0 m ≡ true → is_some (goals_of p) ≡ true
 source_goal p g m h = let w = drifted_from p g m h in some_goal p (pairs_some p w.0 w.1 w.2)
 
 -- what was reached with no pair of its goal is STOP
-pub source_halted : (p : Pairs) (g m : Mode) → has (drifted_with p g).0 m ≡ true → has (shown_with p g).0 m ≡ false
+pub source_halted : (p : List ModeSet) (g m : Mode) → has (drifted_with p g).0 m ≡ true → has (shown_with p g).0 m ≡ false
     → ((is_some (shown_with p g) ≡ false) ⊎ ((is_mode m g || is_one_of (on_the_way g) m) ≡ false)) → (g ≡ Stop) × (m ≡ Stop)
 source_halted p g m h other way = let w = drifted_from p g m h in by w.0 w.1 w.2 w.3
   where
@@ -73,17 +72,17 @@ source_halted p g m h other way = let w = drifted_from p g m h in by w.0 w.1 w.2
 
 -- the pairs that are asked for among those that are reached
 
-pub reached_parts : (shown : ModeSet) (p : Pairs) (g m : Mode) → has_pair (masked shown (drifted p)) g m ≡ true → (has (drifted_with p g).0 m ≡ true) × (has shown.0 m ≡ true)
+pub reached_parts : (shown : ModeSet) (p : List ModeSet) (g m : Mode) → has_pair (masked shown (drifted p)) g m ≡ true → (has (drifted_with p g).0 m ≡ true) × (has shown.0 m ≡ true)
 reached_parts shown p g m h =
     let w = and_parts (has_pair (drifted p) g m) (has shown.0 m) (sym (masked_has shown (drifted p) g m) ∙ h) in
     (subst (λ (x : ModeSet). has x.0 m ≡ true) (shown_by_goal (drifted_with p) g) w.0, w.1)
 
-reached_there : (shown : ModeSet) (p : Pairs) (g m : Mode) → has (drifted_with p g).0 m ≡ true → has shown.0 m ≡ true → has_pair (masked shown (drifted p)) g m ≡ true
+reached_there : (shown : ModeSet) (p : List ModeSet) (g m : Mode) → has (drifted_with p g).0 m ≡ true → has shown.0 m ≡ true → has_pair (masked shown (drifted p)) g m ≡ true
 reached_there shown p g m h k =
     masked_has shown (drifted p) g m
     ∙ and_from (has_pair (drifted p) g m) (has shown.0 m) (subst (λ (x : ModeSet). has x.0 m ≡ true) (sym (shown_by_goal (drifted_with p) g)) h) k
 
-pub origin_there : (p : Pairs) (goals shown : ModeSet) → ((f n : Mode) × (has_pair p f n ≡ true) × PairRunsTo goals shown f n) → is_some (both (goals_of (masked shown (drifted p))) goals) ≡ true
+pub origin_there : (p : List ModeSet) (goals shown : ModeSet) → ((f n : Mode) × (has_pair p f n ≡ true) × PairRunsTo goals shown f n) → is_some (both (goals_of (masked shown (drifted p))) goals) ≡ true
 origin_there p goals shown (f, n, pair, (g, m, goal, mode, reaches)) =
     let found = goal_to (masked shown (drifted p)) g m (reached_there shown p g m (drifted_to p f n g m pair reaches) mode) in
     mode_some (both (goals_of (masked shown (drifted p))) goals) g (has-and (goals_of (masked shown (drifted p))).0 goals.0 g ∙ and_from _ _ found goal)

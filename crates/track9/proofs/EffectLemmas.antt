@@ -1,5 +1,6 @@
 -- Each effect on the states with one value of the panel.
-use Rattle.std.proofs.Common.{◌≡◌, inl, inr, ◌||◌, Bool, true, false, if◌then◌else◌, Some, None, refl, sym, ap, ◌∙◌, subst}
+use Rattle.std.proofs.Common.{◌≡◌, inl, inr, ◌||◌, Bool, true, false, if◌then◌else◌, Some, None, refl, sym, ap, ◌∙◌, subst, List}
+use Rattle.track9.specs.declared.mode_set.ModeSet.{ModeSet}
 use Rattle.std.proofs.lemmas.Bool.{false≢true}
 use Rattle.tc25.specs.Times.{BelowDay}
 use Rattle.deck9.specs.declared.effect.Change.{Change}
@@ -7,7 +8,6 @@ use Rattle.deck9.specs.declared.effect.Effect.{Effect}
 use Rattle.deck9.specs.declared.effect.Effect.TheVariants as effect
 use Rattle.deck9.specs.declared.mode.Mode.{Mode}
 use Rattle.deck9.specs.declared.mode.Mode.TheVariants.{Stop}
-use Rattle.track9.specs.declared.pairs.Pairs.{Pairs}
 use Rattle.track9.specs.Presets.{Presets}
 use Rattle.deck9.specs.declared.state.Hands.TheVariants as hands
 use Rattle.deck9.specs.declared.state.Register.{Register}
@@ -49,7 +49,7 @@ does_panel may_stay effect.ForgetRegisters s t (inl d) = d.4
 does_panel may_stay effect.ForgetAll s t (inl d) = d.1
 
 -- other pairs in place of a part's
-pub few_pairs : (n : Presets) (q : Pairs) (p : PartStates) → FewIn n p → FewIn n (with_pairs q p)
+pub few_pairs : (n : Presets) (q : List ModeSet) (p : PartStates) → FewIn n p → FewIn n (with_pairs q p)
 few_pairs n q p h r = subst (λ es. FewTimes (count_of r n) es) (sym (same_entries r p q)) (h r)
 
 -- ---- goals

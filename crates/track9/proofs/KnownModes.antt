@@ -1,16 +1,14 @@
 -- What is known of modes.
-use Rattle.std.proofs.Common.{◌≡◌, ◌≢◌, ◌↔◌, ◌⊎◌, inl, inr, ℕ, ◌<◌, ◌==◌, ◌&&◌, ◌||◌, not, Bool, true, false, if◌then◌else◌, refl, sym, ap, ◌∙◌, subst, arith, bit_and}
-use Rattle.std.proofs.lemmas.Bool.{and_parts, eq-eqb, false≢true, or_cases}
+use Rattle.std.proofs.Common.{◌≡◌, ◌≢◌, ◌↔◌, ◌⊎◌, inl, inr, ℕ, ◌<◌, ◌==◌, ◌&&◌, ◌||◌, not, Bool, true, false, if◌then◌else◌, refl, sym, ap, ◌∙◌, subst, arith, bit_and, List}
+use Rattle.std.proofs.lemmas.Bool.{and_parts, false≢true, or_cases}
 use Rattle.std.proofs.lemmas.Bool.Decides.{nat_tests}
 use Rattle.std.proofs.lemmas.Nat.Bits.{bit_at-lt, same_from_bits_below}
 use Rattle.std.specs.Int.{bit_at}
-use Rattle.tc25.proofs.TimesLemmas.{same_test}
 use Rattle.track9.specs.declared.knowledge.Known.{Known}
 use Rattle.track9.specs.declared.knowledge.Known.TheVariants as known
 use Rattle.deck9.specs.declared.mode.Mode.{Mode}
 use Rattle.deck9.specs.declared.mode.Mode.TheVariants.{Stop, Play, Rec, FastForward, Rewind, Shuttle, Jog, Var, Cued, Eject}
 use Rattle.track9.specs.declared.mode_set.ModeSet.{ModeSet}
-use Rattle.track9.specs.declared.pairs.Pairs.{Pairs}
 use Rattle.deck9.specs.declared.state.State.{State}
 use Rattle.track9.specs.Knowledge.{IsKnown}
 use Rattle.deck9.specs.Mode.{index_of, is_mode}
@@ -23,20 +21,12 @@ use Rattle.track9.specs.Working.States.{AreWhole, is_panel_live, part_of, some_s
 use Rattle.track9.proofs.ForgetLemmas.{live_some}
 use Rattle.track9.proofs.ModeLemmas.{has-and, has-bit}
 use Rattle.deck9.proofs.ModeLemmas.{index-mode_of, is_mode-same, mode_of}
-use Rattle.track9.proofs.PairLemmas.{all_has, all_modes, find_mode, goes_from, goes_to, just_mode, left2, mode_just, mode_some, none_of, nothing_has, or2, right2, some_mode, ten_bits}
+use Rattle.track9.proofs.PairLemmas.{all_has, all_modes, find_mode, goes_from, goes_to, just_is, just_mode, left2, mode_just, mode_self, mode_some, none_of, nothing_has, or2, right2, some_mode, ten_bits}
 use Rattle.track9.proofs.PartLemmas.{a_state, in_pairs, shown_by_goal, state_live}
 use Rattle.track9.proofs.ReachLemmas.{impossible, possible}
 use Rattle.track9.proofs.WholeLemmas.{whole_in, whole_of}
 
 -- ---- one mode alone
-
-mode_self : (m : Mode) → is_mode m m ≡ true
-mode_self m = eq-eqb (index_of m) (index_of m) refl
-
-just_is : (m n : Mode) → has (bit_of m) n ≡ is_mode n m
-just_is m n = same_test (has (bit_of m) n) (is_mode n m)
-    (λ h. subst (λ k. is_mode k m ≡ true) (sym (just_mode m n h)) (mode_self m))
-    (λ h. subst (λ k. has (bit_of m) k ≡ true) (sym (is_mode-same n m h)) (mode_just m))
 
 -- the ten bits alone
 has_ten : (s : ℕ) (n : Mode) → has (bit_and s 0x3FF) n ≡ has s n
@@ -111,7 +101,7 @@ two_modes s m there not_one =
 
 -- ---- all goals, all shown modes
 
-pub goal_from : (p : Pairs) (g : Mode) → has (goals_of p).0 g ≡ true → (m : Mode) × (has_pair p g m ≡ true)
+pub goal_from : (p : List ModeSet) (g : Mode) → has (goals_of p).0 g ≡ true → (m : Mode) × (has_pair p g m ≡ true)
 goal_from p g h =
     let w = goes_from (by_goal (goal_if_shown p)) g h in
     by (is_some (shown_with p w.0)) w.0 refl (subst (λ (x : ModeSet). has x.0 g ≡ true) (shown_by_goal (goal_if_shown p) w.0) w.1)
@@ -122,21 +112,21 @@ goal_from p g h =
         (w.0, subst (λ k. has_pair p k w.0 ≡ true) (sym (just_mode f g there)) w.1)
     by false f e there = absurd (false≢true (sym (nothing_has g) ∙ there))
 
-pub goal_to : (p : Pairs) (g m : Mode) → has_pair p g m ≡ true → has (goals_of p).0 g ≡ true
+pub goal_to : (p : List ModeSet) (g m : Mode) → has_pair p g m ≡ true → has (goals_of p).0 g ≡ true
 goal_to p g m h =
     goes_to (by_goal (goal_if_shown p)) g g
     (subst (λ (x : ModeSet). has x.0 g ≡ true) (sym (shown_by_goal (goal_if_shown p) g))
     (subst (λ (b : Bool). has (if b then modes (bit_of g) else modes 0).0 g ≡ true) (sym (mode_some (shown_with p g) m h)) (mode_just g)))
 
 -- in which part a mode of all parts is
-in_four : (f : Pairs → ModeSet) (v : StateSet) (m : Mode) → has (either (either (f (part_of v false false).pairs) (f (part_of v true false).pairs)) (either (f (part_of v false true).pairs) (f (part_of v true true).pairs))).0 m ≡ true
+in_four : (f : List ModeSet → ModeSet) (v : StateSet) (m : Mode) → has (either (either (f (part_of v false false).pairs) (f (part_of v true false).pairs)) (either (f (part_of v false true).pairs) (f (part_of v true true).pairs))).0 m ≡ true
     → (l pn : Bool) × (has (f (part_of v l pn).pairs).0 m ≡ true)
 in_four f v m h = elim (or2 _ _ m h) [
   | inl a ↦ elim (or2 _ _ m a) [ inl c ↦ (false, false, c) | inr c ↦ (true, false, c) ]
   | inr a ↦ elim (or2 _ _ m a) [ inl c ↦ (false, true, c) | inr c ↦ (true, true, c) ]
 ]
 
-four_in : (f : Pairs → ModeSet) (v : StateSet) (m : Mode) (l pn : Bool) → has (f (part_of v l pn).pairs).0 m ≡ true
+four_in : (f : List ModeSet → ModeSet) (v : StateSet) (m : Mode) (l pn : Bool) → has (f (part_of v l pn).pairs).0 m ≡ true
     → has (either (either (f (part_of v false false).pairs) (f (part_of v true false).pairs)) (either (f (part_of v false true).pairs) (f (part_of v true true).pairs))).0 m ≡ true
 four_in f v m l pn h = by l pn h
   where

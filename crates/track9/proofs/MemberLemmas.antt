@@ -1,9 +1,9 @@
 -- Some state of a set.
-use Rattle.std.proofs.Common.{◌≡◌, Bool, true, false, Option, Some, None, IfNone, refl, sym, ◌∙◌, subst}
+use Rattle.std.proofs.Common.{◌≡◌, Bool, true, false, Option, Some, None, IfNone, refl, sym, ◌∙◌, subst, List}
+use Rattle.track9.specs.declared.mode_set.ModeSet.{ModeSet}
 use Rattle.std.specs.FinSet as set
 use Rattle.std.proofs.lemmas.Bool.{false≢true}
 use Rattle.deck9.specs.declared.mode.Mode.{Mode}
-use Rattle.track9.specs.declared.pairs.Pairs.{Pairs}
 use Rattle.deck9.specs.declared.state.Entry.{Entry}
 use Rattle.deck9.specs.declared.state.Entry.TheVariants.{Clear, At}
 use Rattle.deck9.specs.declared.state.State.{State}
@@ -20,14 +20,14 @@ use Rattle.track9.proofs.PartLemmas.{four}
 use Rattle.track9.proofs.ForgetLemmas.{some_live}
 
 -- where there is a pair there is a goal
-pub some_goal : (p : Pairs) → some_pair p ≡ true → is_some (goals_of p) ≡ true
+pub some_goal : (p : List ModeSet) → some_pair p ≡ true → is_some (goals_of p) ≡ true
 some_goal p h =
     let m = some_mode (goes p) h in
     let g = goes_from p m.0 m.1 in
     mode_some (goals_of p) g.0 (goal_to p g.0 m.0 g.1)
 
 -- and a mode that is shown with it
-pub some_shown : (p : Pairs) (g : Mode) → has (goals_of p).0 g ≡ true → is_some (shown_with p g) ≡ true
+pub some_shown : (p : List ModeSet) (g : Mode) → has (goals_of p).0 g ≡ true → is_some (shown_with p g) ≡ true
 some_shown p g h = let m = goal_from p g h in mode_some (shown_with p g) m.0 m.1
 
 -- entries without a time are Clear

@@ -1,19 +1,19 @@
 -- A drift of pairs, one pair at a time.
-use Rattle.std.proofs.Common.{◌≡◌, ◌⊎◌, inl, inr, ℕ, ◌<◌, ◌==◌, not, Bool, true, false, if◌then◌else◌, List, [], ◌∷◌, refl, sym, ap, ◌∙◌, arith, bit_and, bit_or, mod-lt}
-use Rattle.std.proofs.lemmas.Bool.{or_cases, or_left, or_right, false≢true, cases_eq}
+use Rattle.std.proofs.Common.{◌≡◌, ◌⊎◌, inl, inr, ℕ, ◌<◌, ◌==◌, not, ◌||◌, Bool, true, false, if◌then◌else◌, List, [], ◌∷◌, refl, sym, ap, ◌∙◌, subst, arith, bit_and, bit_or, mod-lt}
+use Rattle.std.proofs.lemmas.Bool.{or_cases, or_left, or_right, false≢true, cases_eq, eq-eqb}
 use Rattle.std.proofs.lemmas.Bool.Decides.{nat_tests}
 use Rattle.std.proofs.lemmas.Nat.{and_mask, pow_pos}
-use Rattle.std.proofs.lemmas.Nat.Bits.{same_from_bits_below, bit_at-pow_other, bit_at-zero, bit_at-lt}
+use Rattle.std.proofs.lemmas.Nat.Bits.{same_from_bits_below, bit_at-pow_other, bit_at-pow_same, bit_at-zero, bit_at-lt}
 use Rattle.std.specs.Int.{bit_at}
+use Rattle.tc25.proofs.TimesLemmas.{same_test}
 use Rattle.deck9.specs.declared.mode.Mode.{Mode}
 use Rattle.deck9.specs.declared.mode.Mode.TheVariants.{Stop, Play, Rec, FastForward, Rewind, Shuttle, Jog, Var, Cued, Eject}
 use Rattle.track9.specs.declared.mode_set.ModeSet.{ModeSet}
-use Rattle.track9.specs.declared.pairs.Pairs.{Pairs}
 use Rattle.deck9.specs.Drift.{PairReaches}
 use Rattle.deck9.specs.Mode.{index_of, is_mode, is_one_of, on_the_way}
 use Rattle.track9.specs.ModeSet.{bit_of, has}
 use Rattle.track9.specs.Tracker.{has_pair, shown_with}
-use Rattle.track9.specs.Working.Pairs.{drifted_with, either, goes, halted, is_some, kept_goal, modes, way}
+use Rattle.track9.specs.Working.Pairs.{drifted_with, either, goes, halted, is_some, kept_goal, modes, of_modes, way}
 use Rattle.deck9.proofs.ModeLemmas.{index-mode_of, is_mode-same, mode_of, same_mode}
 use Rattle.track9.proofs.ModeLemmas.{has-or, has-and, has-bit}
 
@@ -27,65 +27,15 @@ just_mode g m h = elim (cases_eq (index_of m) (index_of g)) [
 ]
 
 pub mode_just : (m : Mode) → has (bit_of m) m ≡ true
-mode_just Stop = refl
-mode_just Play = refl
-mode_just Rec = refl
-mode_just FastForward = refl
-mode_just Rewind = refl
-mode_just Shuttle = refl
-mode_just Jog = refl
-mode_just Var = refl
-mode_just Cued = refl
-mode_just Eject = refl
+mode_just m = has-bit (bit_of m) m ∙ ap (λ b. b == 1) (bit_at-pow_same (index_of m))
 
--- the modes on the way, one at a time
-stop_way : (m : Mode) → has (way Stop).0 m ≡ is_one_of (on_the_way Stop) m
-stop_way Stop = refl
-stop_way Play = refl
-stop_way Rec = refl
-stop_way FastForward = refl
-stop_way Rewind = refl
-stop_way Shuttle = refl
-stop_way Jog = refl
-stop_way Var = refl
-stop_way Cued = refl
-stop_way Eject = refl
+pub mode_self : (m : Mode) → is_mode m m ≡ true
+mode_self m = eq-eqb (index_of m) (index_of m) refl
 
-rec_way : (m : Mode) → has (way Rec).0 m ≡ is_one_of (on_the_way Rec) m
-rec_way Stop = refl
-rec_way Play = refl
-rec_way Rec = refl
-rec_way FastForward = refl
-rec_way Rewind = refl
-rec_way Shuttle = refl
-rec_way Jog = refl
-rec_way Var = refl
-rec_way Cued = refl
-rec_way Eject = refl
-
-cued_way : (m : Mode) → has (way Cued).0 m ≡ is_one_of (on_the_way Cued) m
-cued_way Stop = refl
-cued_way Play = refl
-cued_way Rec = refl
-cued_way FastForward = refl
-cued_way Rewind = refl
-cued_way Shuttle = refl
-cued_way Jog = refl
-cued_way Var = refl
-cued_way Cued = refl
-cued_way Eject = refl
-
-way_mode : (g m : Mode) → has (way g).0 m ≡ is_one_of (on_the_way g) m
-way_mode Stop m = stop_way m
-way_mode Play m = stop_way m
-way_mode Rec m = rec_way m
-way_mode FastForward m = stop_way m
-way_mode Rewind m = stop_way m
-way_mode Shuttle m = stop_way m
-way_mode Jog m = stop_way m
-way_mode Var m = stop_way m
-way_mode Cued m = cued_way m
-way_mode Eject m = stop_way m
+pub just_is : (m n : Mode) → has (bit_of m) n ≡ is_mode n m
+just_is m n = same_test (has (bit_of m) n) (is_mode n m)
+    (λ h. subst (λ k. is_mode k m ≡ true) (sym (just_mode m n h)) (mode_self m))
+    (λ h. subst (λ k. has (bit_of m) k ≡ true) (sym (is_mode-same n m h)) (mode_just m))
 
 pub all_has : (m : Mode) → has 1023 m ≡ true
 all_has Stop = refl
@@ -100,16 +50,12 @@ all_has Cued = refl
 all_has Eject = refl
 
 pub nothing_has : (m : Mode) → has 0 m ≡ false
-nothing_has Stop = refl
-nothing_has Play = refl
-nothing_has Rec = refl
-nothing_has FastForward = refl
-nothing_has Rewind = refl
-nothing_has Shuttle = refl
-nothing_has Jog = refl
-nothing_has Var = refl
-nothing_has Cued = refl
-nothing_has Eject = refl
+nothing_has m = has-bit 0 m ∙ ap (λ b. b == 1) (bit_at-zero (index_of m))
+
+-- a set of modes, one at a time
+pub of_modes_has : (ms : List Mode) (m : Mode) → has (of_modes ms).0 m ≡ is_one_of ms m
+of_modes_has [] m = nothing_has m
+of_modes_has (x ∷ ms) m = has-or (bit_of x) (of_modes ms).0 m ∙ ap (λ b. b || has (of_modes ms).0 m) (just_is x m) ∙ ap (λ b. is_mode m x || b) (of_modes_has ms m)
 
 -- ---- some mode
 
@@ -173,7 +119,7 @@ kept_from : (b : Bool) (s : ModeSet) (g m : Mode) → has (kept_goal b s g).0 m 
 kept_from false s g m h = inl h
 kept_from true s g m h = elim (or_cases _ _ (sym (has-or (bit_or s.0 (bit_of g)) (way g).0 m) ∙ h)) [
   | inl l ↦ elim (or_cases _ _ (sym (has-or s.0 (bit_of g) m) ∙ l)) [ inl e ↦ inl e | inr e ↦ inr (refl, inl (just_mode g m e)) ]
-  | inr w ↦ inr (refl, inr (sym (way_mode g m) ∙ w))
+  | inr w ↦ inr (refl, inr (sym (of_modes_has (on_the_way g) m) ∙ w))
 ]
 
 halted_from : (b : Bool) (g m : Mode) → has (halted b g).0 m ≡ true → (b ≡ true) × (g ≡ Stop) × (m ≡ Stop)
@@ -194,32 +140,32 @@ pub right2 : (a b : ModeSet) (m : Mode) → has b.0 m ≡ true → has (either a
 right2 a b m h = has-or a.0 b.0 m ∙ or_right (has a.0 m) (has b.0 m) h
 
 -- the modes shown with the goals up to one of them
-abbrev to_play : Pairs → ModeSet
+abbrev to_play : List ModeSet → ModeSet
 to_play p = either (shown_with p Stop) (shown_with p Play)
 
-abbrev to_rec : Pairs → ModeSet
+abbrev to_rec : List ModeSet → ModeSet
 to_rec p = either (to_play p) (shown_with p Rec)
 
-abbrev to_fast_forward : Pairs → ModeSet
+abbrev to_fast_forward : List ModeSet → ModeSet
 to_fast_forward p = either (to_rec p) (shown_with p FastForward)
 
-abbrev to_rewind : Pairs → ModeSet
+abbrev to_rewind : List ModeSet → ModeSet
 to_rewind p = either (to_fast_forward p) (shown_with p Rewind)
 
-abbrev to_shuttle : Pairs → ModeSet
+abbrev to_shuttle : List ModeSet → ModeSet
 to_shuttle p = either (to_rewind p) (shown_with p Shuttle)
 
-abbrev to_jog : Pairs → ModeSet
+abbrev to_jog : List ModeSet → ModeSet
 to_jog p = either (to_shuttle p) (shown_with p Jog)
 
-abbrev to_var : Pairs → ModeSet
+abbrev to_var : List ModeSet → ModeSet
 to_var p = either (to_jog p) (shown_with p Var)
 
-abbrev to_cued : Pairs → ModeSet
+abbrev to_cued : List ModeSet → ModeSet
 to_cued p = either (to_var p) (shown_with p Cued)
 
 -- a mode of all that may be shown is shown with some goal
-pub goes_from : (p : Pairs) (m : Mode) → has (goes p).0 m ≡ true → (g : Mode) × (has_pair p g m ≡ true)
+pub goes_from : (p : List ModeSet) (m : Mode) → has (goes p).0 m ≡ true → (g : Mode) × (has_pair p g m ≡ true)
 goes_from p m h = by_eject (or2 (to_cued p) (shown_with p Eject) m h)
   where
     by_play : (has (shown_with p Stop).0 m ≡ true) ⊎ (has (shown_with p Play).0 m ≡ true) → (g : Mode) × (has_pair p g m ≡ true)
@@ -258,31 +204,31 @@ goes_from p m h = by_eject (or2 (to_cued p) (shown_with p Eject) m h)
     by_eject (inl e) = by_cued (or2 (to_var p) (shown_with p Cued) m e)
     by_eject (inr e) = (Eject, e)
 
-from_cued : (p : Pairs) (m : Mode) → has (to_cued p).0 m ≡ true → has (goes p).0 m ≡ true
+from_cued : (p : List ModeSet) (m : Mode) → has (to_cued p).0 m ≡ true → has (goes p).0 m ≡ true
 from_cued p m h = left2 (to_cued p) (shown_with p Eject) m h
 
-from_var : (p : Pairs) (m : Mode) → has (to_var p).0 m ≡ true → has (goes p).0 m ≡ true
+from_var : (p : List ModeSet) (m : Mode) → has (to_var p).0 m ≡ true → has (goes p).0 m ≡ true
 from_var p m h = from_cued p m (left2 (to_var p) (shown_with p Cued) m h)
 
-from_jog : (p : Pairs) (m : Mode) → has (to_jog p).0 m ≡ true → has (goes p).0 m ≡ true
+from_jog : (p : List ModeSet) (m : Mode) → has (to_jog p).0 m ≡ true → has (goes p).0 m ≡ true
 from_jog p m h = from_var p m (left2 (to_jog p) (shown_with p Var) m h)
 
-from_shuttle : (p : Pairs) (m : Mode) → has (to_shuttle p).0 m ≡ true → has (goes p).0 m ≡ true
+from_shuttle : (p : List ModeSet) (m : Mode) → has (to_shuttle p).0 m ≡ true → has (goes p).0 m ≡ true
 from_shuttle p m h = from_jog p m (left2 (to_shuttle p) (shown_with p Jog) m h)
 
-from_rewind : (p : Pairs) (m : Mode) → has (to_rewind p).0 m ≡ true → has (goes p).0 m ≡ true
+from_rewind : (p : List ModeSet) (m : Mode) → has (to_rewind p).0 m ≡ true → has (goes p).0 m ≡ true
 from_rewind p m h = from_shuttle p m (left2 (to_rewind p) (shown_with p Shuttle) m h)
 
-from_fast_forward : (p : Pairs) (m : Mode) → has (to_fast_forward p).0 m ≡ true → has (goes p).0 m ≡ true
+from_fast_forward : (p : List ModeSet) (m : Mode) → has (to_fast_forward p).0 m ≡ true → has (goes p).0 m ≡ true
 from_fast_forward p m h = from_rewind p m (left2 (to_fast_forward p) (shown_with p Rewind) m h)
 
-from_rec : (p : Pairs) (m : Mode) → has (to_rec p).0 m ≡ true → has (goes p).0 m ≡ true
+from_rec : (p : List ModeSet) (m : Mode) → has (to_rec p).0 m ≡ true → has (goes p).0 m ≡ true
 from_rec p m h = from_fast_forward p m (left2 (to_rec p) (shown_with p FastForward) m h)
 
-from_play : (p : Pairs) (m : Mode) → has (to_play p).0 m ≡ true → has (goes p).0 m ≡ true
+from_play : (p : List ModeSet) (m : Mode) → has (to_play p).0 m ≡ true → has (goes p).0 m ≡ true
 from_play p m h = from_rec p m (left2 (to_play p) (shown_with p Rec) m h)
 
-pub goes_to : (p : Pairs) (g m : Mode) → has_pair p g m ≡ true → has (goes p).0 m ≡ true
+pub goes_to : (p : List ModeSet) (g m : Mode) → has_pair p g m ≡ true → has (goes p).0 m ≡ true
 goes_to p Stop m h = from_play p m (left2 (shown_with p Stop) (shown_with p Play) m h)
 goes_to p Play m h = from_play p m (right2 (shown_with p Stop) (shown_with p Play) m h)
 goes_to p Rec m h = from_rec p m (right2 (to_play p) (shown_with p Rec) m h)
@@ -294,7 +240,7 @@ goes_to p Var m h = from_var p m (right2 (to_jog p) (shown_with p Var) m h)
 goes_to p Cued m h = from_cued p m (right2 (to_var p) (shown_with p Cued) m h)
 goes_to p Eject m h = right2 (to_cued p) (shown_with p Eject) m h
 
-pub drifted_from : (p : Pairs) (g m : Mode) → has (drifted_with p g).0 m ≡ true → (f : Mode) × (n : Mode) × (has_pair p f n ≡ true) × PairReaches f n g m
+pub drifted_from : (p : List ModeSet) (g m : Mode) → has (drifted_with p g).0 m ≡ true → (f : Mode) × (n : Mode) × (has_pair p f n ≡ true) × PairReaches f n g m
 drifted_from p g m h = elim (or_cases _ _ (sym (has-or (kept_goal (is_some (shown_with p g)) (shown_with p g) g).0 (halted (is_some (goes p)) g).0 m) ∙ h)) [
   | inl kept ↦ elim (kept_from (is_some (shown_with p g)) (shown_with p g) g m kept) [
     | inl same ↦ (g, m, same, inl (refl, inl refl))
@@ -309,15 +255,15 @@ kept_to : (b : Bool) (s : ModeSet) (g n m : Mode) → b ≡ true → has s.0 n �
 kept_to false s g n m some h step = absurd (false≢true some)
 kept_to true s g n m some h (inl same) = left2 _ (way g) m (left2 s (modes (bit_of g)) m (rw same h))
 kept_to true s g n m some h (inr (inl at_goal)) = left2 _ (way g) m (right2 s (modes (bit_of g)) m (rw at_goal (mode_just g)))
-kept_to true s g n m some h (inr (inr on_way)) = right2 (either s (modes (bit_of g))) (way g) m (way_mode g m ∙ on_way)
+kept_to true s g n m some h (inr (inr on_way)) = right2 (either s (modes (bit_of g))) (way g) m (of_modes_has (on_the_way g) m ∙ on_way)
 
 halted_to : (b : Bool) → b ≡ true → has (halted b Stop).0 Stop ≡ true
 halted_to false h = absurd (false≢true h)
 halted_to true h = refl
 
-pub drifted_to : (p : Pairs) (f n g m : Mode) → has_pair p f n ≡ true → PairReaches f n g m → has (drifted_with p g).0 m ≡ true
+pub drifted_to : (p : List ModeSet) (f n g m : Mode) → has_pair p f n ≡ true → PairReaches f n g m → has (drifted_with p g).0 m ≡ true
 drifted_to p f n g m h (inl (same, step)) = rw same (left2 (kept_goal (is_some (shown_with p f)) (shown_with p f) f) (halted (is_some (goes p)) f) m (kept_to (is_some (shown_with p f)) (shown_with p f) f n m (mode_some (shown_with p f) n h) h step))
 drifted_to p f n g m h (inr (stop, shown)) = rw (stop, shown) (right2 (kept_goal (is_some (shown_with p Stop)) (shown_with p Stop) Stop) (halted (is_some (goes p)) Stop) Stop (halted_to (is_some (goes p)) (mode_some (goes p) n (goes_to p f n h))))
 
-pub pairs_some : (p : Pairs) (g m : Mode) → has_pair p g m ≡ true → is_some (goes p) ≡ true
+pub pairs_some : (p : List ModeSet) (g m : Mode) → has_pair p g m ≡ true → is_some (goes p) ≡ true
 pairs_some p g m h = mode_some (goes p) m (goes_to p g m h)

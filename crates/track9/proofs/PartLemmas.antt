@@ -1,10 +1,9 @@
 -- The states of a part: registers put in place, parts with and without states.
-use Rattle.std.proofs.Common.{◌≡◌, ◌&&◌, Bool, true, false, if◌then◌else◌, refl, sym, ◌∙◌, subst}
+use Rattle.std.proofs.Common.{◌≡◌, ◌&&◌, Bool, true, false, if◌then◌else◌, refl, sym, ◌∙◌, subst, List}
 use Rattle.std.proofs.lemmas.Bool.{false≢true}
 use Rattle.deck9.specs.declared.mode.Mode.{Mode}
 use Rattle.deck9.specs.declared.mode.Mode.TheVariants.{Stop, Play, Rec, FastForward, Rewind, Shuttle, Jog, Var, Cued, Eject}
 use Rattle.track9.specs.declared.mode_set.ModeSet.{ModeSet}
-use Rattle.track9.specs.declared.pairs.Pairs.{Pairs}
 use Rattle.deck9.specs.declared.state.Entry.{Entry}
 use Rattle.deck9.specs.declared.state.Entry.TheVariants.{Clear, At}
 use Rattle.deck9.specs.declared.state.Register.{Register}
@@ -94,7 +93,7 @@ put_pairs_same RegAudioIn es p = refl
 put_pairs_same RegAudioOut es p = refl
 
 -- other pairs leave the registers
-pub same_entries : (r : Register) (p : PartStates) (q : Pairs) → entries_of r (with_pairs q p) ≡ entries_of r p
+pub same_entries : (r : Register) (p : PartStates) (q : List ModeSet) → entries_of r (with_pairs q p) ≡ entries_of r p
 same_entries RegIn p q = refl
 same_entries RegOut p q = refl
 same_entries RegAudioIn p q = refl
@@ -107,12 +106,12 @@ same_entry RegAudioIn t g m = refl
 same_entry RegAudioOut t g m = refl
 
 -- the state with another pair, in the part with other pairs
-pub in_pairs : (p : PartStates) (q : Pairs) (t : State) (g m : Mode) → ((r : Register) → Allows (entries_of r p) (entry_of r t)) → has_pair q g m ≡ true
+pub in_pairs : (p : PartStates) (q : List ModeSet) (t : State) (g m : Mode) → ((r : Register) → Allows (entries_of r p) (entry_of r t)) → has_pair q g m ≡ true
     → InPart (with_pairs q p) (record t { goal = g; shown = m })
 in_pairs p q t g m old pair = record { pair = pair; registers = λ r. subst (λ es. Allows es (entry_of r (record t { goal = g; shown = m }))) (sym (same_entries r p q)) (subst (λ e. Allows (entries_of r p) e) (sym (same_entry r t g m)) (old r)) }
 
 -- the registers of a state of a part with other pairs
-pub pairs_registers : (p : PartStates) (q : Pairs) (t : State) → InPart (with_pairs q p) t → (r : Register) → Allows (entries_of r p) (entry_of r t)
+pub pairs_registers : (p : PartStates) (q : List ModeSet) (t : State) → InPart (with_pairs q p) t → (r : Register) → Allows (entries_of r p) (entry_of r t)
 pairs_registers p q t h r = subst (λ es. Allows es (entry_of r t)) (same_entries r p q) (h.registers r)
 
 -- ---- pairs by goal
@@ -174,13 +173,13 @@ all_of RegOut = refl
 all_of RegAudioIn = refl
 all_of RegAudioOut = refl
 
-pub in_any_entries : (q : Pairs) (t : State) → IsState t → has_pair q t.goal t.shown ≡ true → InPart (with_pairs q all_states) t
+pub in_any_entries : (q : List ModeSet) (t : State) → IsState t → has_pair q t.goal t.shown ≡ true → InPart (with_pairs q all_states) t
 in_any_entries q t h pair = record {
   pair = pair;
   registers = λ r. subst (λ es. Allows es (entry_of r t)) (sym (same_entries r all_states q ∙ all_of r)) (allowed_all (entry_of r t) (h r));
 }
 
-pub any_entries_in : (q : Pairs) (t : State) → InPart (with_pairs q all_states) t → IsState t
+pub any_entries_in : (q : List ModeSet) (t : State) → InPart (with_pairs q all_states) t → IsState t
 any_entries_in q t h = λ r. is_entry (entry_of r t) (subst (λ es. Allows es (entry_of r t)) (same_entries r all_states q ∙ all_of r) (h.registers r))
 
 pub in_all : (t : State) → IsState t → InPart all_states t

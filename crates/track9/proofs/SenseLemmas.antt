@@ -5,7 +5,6 @@ use Rattle.tc25.specs.Day.{time_of}
 use Rattle.block9.specs.declared.block.Block.{Block}
 use Rattle.deck9.specs.declared.mode.Mode.{Mode}
 use Rattle.track9.specs.declared.mode_set.ModeSet.{ModeSet}
-use Rattle.track9.specs.declared.pairs.Pairs.{Pairs}
 use Rattle.deck9.specs.declared.state.Register.{Register}
 use Rattle.deck9.specs.declared.state.Register.TheVariants.{RegIn, RegOut, RegAudioIn, RegAudioOut}
 use Rattle.deck9.specs.declared.state.State.{State}
@@ -13,9 +12,9 @@ use Rattle.track9.specs.ModeSet.{has}
 use Rattle.deck9.specs.Shows.{Says, ShowsStatus, Tells, datum, may_show}
 use Rattle.deck9.specs.State.{entry_of, is_set}
 use Rattle.track9.specs.Tracker.{Allows, InPart, PartStates, entries_of, has_pair, shown_with}
-use Rattle.track9.specs.Working.Entries.{agreeing, said}
+use Rattle.track9.specs.Working.Entries.{agreeing}
 use Rattle.track9.specs.Working.Pairs.{both, masked}
-use Rattle.track9.specs.Working.Parts.{bit_in, no_states, sensed_part, shown_part, status_part, with_entries}
+use Rattle.track9.specs.Working.Parts.{no_states, said_part, sensed_part, shown_part, status_part, with_entries, with_pairs}
 use Rattle.track9.proofs.EntryLemmas.{says_from, says_to, tells_from, tells_to}
 use Rattle.track9.proofs.ModeLemmas.{has-and}
 use Rattle.track9.proofs.PartLemmas.{four, in_none, in_put, own, put_back, read_put, settled_from, settled_to, shown_by_goal}
@@ -50,18 +49,12 @@ sense_reached r bytes l pn p =
 abbrev pub StatusOf : ℕ → Block → State → State → Type 0
 StatusOf asked reply s t = ShowsStatus s asked reply × (t ≡ s)
 
-pub masked_has : (mask : ModeSet) (p : Pairs) (g m : Mode) → has_pair (masked mask p) g m ≡ (has_pair p g m && has mask.0 m)
+pub masked_has : (mask : ModeSet) (p : List ModeSet) (g m : Mode) → has_pair (masked mask p) g m ≡ (has_pair p g m && has mask.0 m)
 masked_has mask p g m = ap (λ (x : ModeSet). has x.0 m) (shown_by_goal (λ f. both (shown_with p f) mask) g) ∙ has-and (shown_with p g).0 mask.0 m
 
 -- the factors that agree with the modes and with datum 3
 abbrev pub shown_factors : ModeSet → Option ℕ → PartStates → PartStates
-shown_factors mask d p = record {
-  pairs = masked mask p.pairs;
-  ins = said (bit_in 0x01 d) p.ins;
-  outs = said (bit_in 0x02 d) p.outs;
-  ains = said (bit_in 0x04 d) p.ains;
-  aouts = said (bit_in 0x08 d) p.aouts;
-}
+shown_factors mask d p = said_part d (with_pairs (masked mask p.pairs) p)
 
 -- a state agrees with the modes and with datum 3
 record FitsStatus (mask : ModeSet) (d : Option ℕ) (s : State) : Type 0 where

@@ -1,11 +1,10 @@
 -- Each factor of a part keeps something, or none does.
-use Rattle.std.proofs.Common.{◌≡◌, inl, ◌&&◌, Bool, true, false, if◌then◌else◌, refl, sym, ap, ◌∙◌, subst}
+use Rattle.std.proofs.Common.{◌≡◌, inl, ◌&&◌, Bool, true, false, if◌then◌else◌, refl, sym, ap, ◌∙◌, subst, List}
 use Rattle.std.proofs.lemmas.Bool.{and_parts}
 use Rattle.tc25.proofs.TimesLemmas.{same_test}
 use Rattle.deck9.specs.declared.effect.Change.{Change}
 use Rattle.deck9.specs.declared.mode.Mode.{Mode}
 use Rattle.track9.specs.declared.mode_set.ModeSet.{ModeSet}
-use Rattle.track9.specs.declared.pairs.Pairs.{Pairs}
 use Rattle.deck9.specs.declared.state.Register.{Register}
 use Rattle.deck9.specs.declared.state.Register.TheVariants.{RegIn, RegOut, RegAudioIn, RegAudioOut}
 use Rattle.track9.specs.ModeSet.{has}
@@ -35,7 +34,7 @@ whole_put RegOut es p old new = λ q. some_put RegOut q es p _ old new
 whole_put RegAudioIn es p old new = λ q. some_put RegAudioIn q es p _ old new
 whole_put RegAudioOut es p old new = λ q. some_put RegAudioOut q es p _ old new
 
-whole_pairs : (q : Pairs) (p : PartStates) → Whole p → some_pair q ≡ is_live p → Whole (with_pairs q p)
+whole_pairs : (q : List ModeSet) (p : PartStates) → Whole p → some_pair q ≡ is_live p → Whole (with_pairs q p)
 whole_pairs q p old same = λ r. ap some_entry (same_entries r p q) ∙ old r ∙ sym same
 
 pub whole_all : Whole all_states
@@ -94,7 +93,7 @@ pub whole_forgotten : (p : PartStates) → is_live p ≡ true → Whole (forgott
 whole_forgotten p live = whole_pairs p.pairs all_states whole_all (live ∙ sym (whole_all RegIn))
 
 -- a drift leaves a state, and makes none from nothing
-pub drift_some : (p : Pairs) → some_pair (drifted p) ≡ some_pair p
+pub drift_some : (p : List ModeSet) → some_pair (drifted p) ≡ some_pair p
 drift_some p = same_test (some_pair (drifted p)) (some_pair p)
     (λ h. let m = some_mode (goes (drifted p)) h in let g = goes_from (drifted p) m.0 m.1 in
     let w = drifted_from p g.0 m.0 (subst (λ (x : ModeSet). has x.0 m.0 ≡ true) (shown_by_goal (drifted_with p) g.0) g.1) in pairs_some p w.0 w.1 w.2)

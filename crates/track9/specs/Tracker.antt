@@ -1,11 +1,10 @@
 -- A tracker as its callers see it: which states are possible, by the pairs of modes and the sets of times that it
 -- keeps. The states themselves are never listed.
-use Rattle.std.specs.Prelude.{◌≡◌, Bool, true, false, if◌then◌else◌, Option, Some, None, slice_index_or}
+use Rattle.std.specs.Prelude.{◌≡◌, Bool, true, false, if◌then◌else◌, Option, Some, None, slice_index_or, List}
 use Rattle.std.specs.FinSet as set
 use Rattle.tc25.specs.Times.{Times}
 use Rattle.deck9.specs.declared.mode.Mode.{Mode}
 use Rattle.track9.specs.declared.mode_set.ModeSet.{ModeSet}
-use Rattle.track9.specs.declared.pairs.Pairs.{Pairs}
 use Rattle.track9.specs.Presets.{Presets}
 use Rattle.deck9.specs.declared.state.Entry.{Entry}
 use Rattle.deck9.specs.declared.state.Entry.TheVariants.{Clear, At}
@@ -27,17 +26,17 @@ abbrev pub Allows : Entries → Entry → Type 0
 Allows es Clear = es.may_clear ≡ true
 Allows es (At t) = set.contains es.times t ≡ true
 
--- the modes that may be shown with a goal
-abbrev pub shown_with : Pairs → Mode → ModeSet
-shown_with pairs g = slice_index_or pairs.0 (index_of g) (record { 0 = 0 })
+-- the modes that may be shown with a goal, in a list of those with each goal, in the order of the modes
+abbrev pub shown_with : List ModeSet → Mode → ModeSet
+shown_with pairs g = slice_index_or pairs (index_of g) (record { 0 = 0 })
 
 -- a goal may go with a shown mode
-abbrev pub has_pair : Pairs → Mode → Mode → Bool
+abbrev pub has_pair : List ModeSet → Mode → Mode → Bool
 has_pair pairs g m = has (shown_with pairs g).0 m
 
 -- a part: each of these pairs together with any of the entries of each register
 pub record PartStates : Type 0 where
-  pub pairs : Pairs
+  pub pairs : List ModeSet
   pub ins : Entries
   pub outs : Entries
   pub ains : Entries

@@ -3,7 +3,8 @@
 //! A step that may need memory first makes aside what the part in remote gets; then it changes the part in local, whose sets
 //! may be large, in place, as the last thing that can fail; and then it drifts and puts the rest in place. So a refused
 //! step changes nothing, and no large set is copied but where a deck in remote too may leave a change of a register undone. A
-//! drift of the mechanics changes the pairs alone, so it may come after what becomes of the registers.
+//! drift of the mechanics changes the pairs alone, so it may come after what becomes of the registers. What is let go of is
+//! handed to `drop`, as in `states.rt`.
 ghost use Rattle.std.specs.Prelude.{◌≡◌, IfOk, OnErr, OnOk, false, max};
 ghost use Rattle.tc25.specs.Times.{BelowDay, span_count};
 ghost use Rattle.track9.specs.Tracker.{entries_of, in_local};
@@ -14,6 +15,7 @@ use crate::part::Part;
 use deck9::{Change, Mode, Register};
 use std::alloc::{AllocError, Global};
 use std::marker::Model;
+use std::mem::replace;
 use tc25::{SpanSet, TimeCode, TimeSet};
 
 mod step;
@@ -157,9 +159,16 @@ impl<S: TimeSet> Halves<S> {
         ensures err { OnErr result (self.new ≡ self.old) }
     {
         let remote = self.remote.tape_forgotten(alloc)?;
-        let local = self.local.tape_forgotten(alloc)?;
-        *self = Halves { remote, local };
-        Ok(())
+        match self.local.tape_forgotten(alloc) {
+            Ok(local) => {
+                self.put(remote, local);
+                Ok(())
+            }
+            Err(error) => {
+                drop(remote);
+                Err(error)
+            }
+        }
     }
 
     /// The registers are forgotten.
@@ -168,9 +177,24 @@ impl<S: TimeSet> Halves<S> {
         ensures err { OnErr result (self.new ≡ self.old) }
     {
         let remote = self.remote.registers_forgotten(alloc)?;
-        let local = self.local.registers_forgotten(alloc)?;
-        *self = Halves { remote, local };
-        Ok(())
+        match self.local.registers_forgotten(alloc) {
+            Ok(local) => {
+                self.put(remote, local);
+                Ok(())
+            }
+            Err(error) => {
+                drop(remote);
+                Err(error)
+            }
+        }
+    }
+
+    /// Puts these parts in place.
+    fn put(&mut self, remote: Part<S>, local: Part<S>)
+        ensures { self.new ≡ record { remote = remote; local = local } }
+    {
+        let next = Halves { remote, local };
+        drop(replace(self, next));
     }
 
     /// Everything but the panel is forgotten.
@@ -179,7 +203,8 @@ impl<S: TimeSet> Halves<S> {
         ensures err { OnErr result (self.new ≡ self.old) }
     {
         if self.is_some() {
-            *self = Halves::all_or_none(alloc, true)?;
+            let all = Halves::all_or_none(alloc, true)?;
+            drop(replace(self, all));
         }
         Ok(())
     }

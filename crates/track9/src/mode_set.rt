@@ -41,6 +41,12 @@ impl ModeSet {
 
     const EJECT: ModeSet = ModeSet(0x200);
 
+    /// The modes on the way to REC: STOP and PLAY.
+    const BEFORE_REC: ModeSet = ModeSet(0x003);
+
+    /// The modes on the way to CUED: STOP, and each in which the tape moves, but REC.
+    const BEFORE_CUED: ModeSet = ModeSet(0x0FB);
+
     /// The flags in the order of their bits.
     const FLAGS: &'static [Flag<ModeSet>] = &[
         Flag {
@@ -140,7 +146,7 @@ impl ModeSet {
         ensures { KnowsModes self result }
     {
         let first = self.first();
-        let ten = self.0 & 0x3FF;
+        let ten = self.0 & ModeSet::ALL.0;
         let alone = ModeSet::just(first).0;
         if ten == alone {
             Known::Is(first)
@@ -183,8 +189,8 @@ impl ModeSet {
         ensures has { (m : AMode) → has result.0 m ≡ is_one_of (on_the_way goal) m }
     {
         match goal {
-            Mode::Rec => ModeSet(0x003),
-            Mode::Cued => ModeSet(0x0FB),
+            Mode::Rec => ModeSet::BEFORE_REC,
+            Mode::Cued => ModeSet::BEFORE_CUED,
             _ => ModeSet::STOP,
         }
     }

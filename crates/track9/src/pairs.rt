@@ -24,28 +24,28 @@ pub(crate) struct Pair {
 impl Pairs {
     /// No pair.
     pub(crate) fn none() -> Pairs
-        ensures { result ≡ no_pairs }
+        ensures { result.0 ≡ no_pairs }
     {
         Pairs([ModeSet::NONE; 10])
     }
 
     /// Every pair.
     pub(crate) fn all() -> Pairs
-        ensures { result ≡ all_pairs }
+        ensures { result.0 ≡ all_pairs }
     {
         Pairs([ModeSet::ALL; 10])
     }
 
     /// The modes that may be shown with a goal.
     pub(crate) fn shown(&self, goal: Mode) -> ModeSet
-        ensures { result ≡ shown_with self.now goal }
+        ensures { result ≡ shown_with self.now.0 goal }
     {
         self.0[goal.index()]
     }
 
     /// All modes that may be shown, with any goal.
     pub(crate) fn all_shown(&self) -> ModeSet
-        ensures { result ≡ goes self.now }
+        ensures { result ≡ goes self.now.0 }
     {
         let [a, b, c, d, e, f, g, h, i, j] = self.0;
         a.or(b).or(c).or(d).or(e).or(f).or(g).or(h).or(i).or(j)
@@ -53,7 +53,7 @@ impl Pairs {
 
     /// The goals that a mode may be shown with.
     pub(crate) fn goals(&self) -> ModeSet
-        ensures { result ≡ goals_of self.now }
+        ensures { result ≡ goals_of self.now.0 }
     {
         Pairs([
             self.goal_if_shown(Mode::Stop),
@@ -72,7 +72,7 @@ impl Pairs {
 
     /// The goal alone, where a mode may be shown with it.
     fn goal_if_shown(&self, goal: Mode) -> ModeSet
-        ensures { result ≡ goal_if_shown self.now goal }
+        ensures { result ≡ goal_if_shown self.now.0 goal }
     {
         if self.shown(goal).is_some() {
             ModeSet::just(goal)
@@ -83,14 +83,14 @@ impl Pairs {
 
     /// Whether there is a pair.
     pub(crate) fn is_some(&self) -> bool
-        ensures { result ≡ some_pair self.now }
+        ensures { result ≡ some_pair self.now.0 }
     {
         self.all_shown().is_some()
     }
 
     /// The pairs that a drift of the mechanics reaches.
     pub(crate) fn drifted(&self) -> Pairs
-        ensures { result ≡ drifted self.now }
+        ensures { result.0 ≡ drifted self.now.0 }
     {
         let some = self.is_some();
         Pairs([
@@ -110,8 +110,8 @@ impl Pairs {
     /// The modes that a drift can show with a goal: those that it keeps the goal for, and STOP where the
     /// deck has come to a halt. `some`: there is a pair.
     fn drifted_with(&self, some: bool, goal: Mode) -> ModeSet
-        requires { some ≡ some_pair self.now }
-        ensures { result ≡ drifted_with self.now goal }
+        requires { some ≡ some_pair self.now.0 }
+        ensures { result ≡ drifted_with self.now.0 goal }
     {
         let shown = self.shown(goal);
         let kept = if shown.is_some() {
@@ -130,8 +130,8 @@ impl Pairs {
     /// A pair from which a drift of the mechanics reaches one of these goals with one of these modes shown: None
     /// exactly where there is none.
     pub(crate) fn origin(&self, goals: ModeSet, shown: ModeSet) -> Option<Pair>
-        ensures some { IfSome result (λ p. IsPairOf self.now p × PairRunsTo goals shown p.goal p.shown) }
-        ensures none { IfNone result (¬ ((f n : AMode) × (has_pair self.now f n ≡ true) × PairRunsTo goals shown f n)) }
+        ensures some { IfSome result (λ p. IsPairOf self.now.0 p × PairRunsTo goals shown p.goal p.shown) }
+        ensures none { IfNone result (¬ ((f n : AMode) × (has_pair self.now.0 f n ≡ true) × PairRunsTo goals shown f n)) }
     {
         let reached = self.drifted().masked(shown);
         let goals = reached.goals().and(goals);
@@ -144,8 +144,8 @@ impl Pairs {
 
     /// A pair from which a drift of the mechanics reaches this one. There is one.
     fn source(&self, goal: Mode, shown: Mode) -> Pair
-        requires { has (drifted_with self.now goal).0 shown ≡ true }
-        ensures { IsPairOf self.now result × PairReaches result.goal result.shown goal shown }
+        requires { has (drifted_with self.now.0 goal).0 shown ≡ true }
+        ensures { IsPairOf self.now.0 result × PairReaches result.goal result.shown goal shown }
     {
         let kept = self.shown(goal);
         if kept.has(shown) {
@@ -167,27 +167,16 @@ impl Pairs {
 
     /// The pairs with this goal in place of theirs.
     pub(crate) fn gone(&self, goal: Mode) -> Pairs
-        ensures { result ≡ gone goal self.now }
+        ensures { result.0 ≡ gone goal self.now.0 }
     {
-        let shown = self.all_shown();
-        let with = |g: Mode| if g == goal { shown } else { ModeSet::NONE };
-        Pairs([
-            with(Mode::Stop),
-            with(Mode::Play),
-            with(Mode::Rec),
-            with(Mode::FastForward),
-            with(Mode::Rewind),
-            with(Mode::Shuttle),
-            with(Mode::Jog),
-            with(Mode::Var),
-            with(Mode::Cued),
-            with(Mode::Eject),
-        ])
+        let mut pairs = Pairs::none();
+        pairs.0[goal.index()] = self.all_shown();
+        pairs
     }
 
     /// The pairs of either set.
     pub(crate) fn joined(&self, other: &Pairs) -> Pairs
-        ensures { result ≡ joined self.now other.now }
+        ensures { result.0 ≡ joined self.now.0 other.now.0 }
     {
         let [a, b, c, d, e, f, g, h, i, j] = self.0;
         let [k, l, m, n, o, p, q, r, s, t] = other.0;
@@ -207,7 +196,7 @@ impl Pairs {
 
     /// The pairs with one of these modes shown.
     pub(crate) fn masked(&self, mask: ModeSet) -> Pairs
-        ensures { result ≡ masked mask self.now }
+        ensures { result.0 ≡ masked mask self.now.0 }
     {
         let [a, b, c, d, e, f, g, h, i, j] = self.0;
         let only = |shown: ModeSet| shown.and(mask);

@@ -4,7 +4,7 @@ ghost use Rattle.tc25.specs.Times.{BelowDay, span_count};
 ghost use Rattle.track9.specs.Tracker.{entries_of};
 ghost use Rattle.track9.specs.Working.Entries.{agreeing};
 ghost use Rattle.track9.specs.Working.Knowing.{PartKnows};
-ghost use Rattle.track9.specs.Working.Parts.{Whole, all_states, aside, bit_in, changed_entries, changed_part, drifted_part, forgotten_part, gone_part, is_live, no_states, put_aside, put_settled, settled, shown_part, status_part, where_live, with_entries, with_pairs};
+ghost use Rattle.track9.specs.Working.Parts.{Whole, all_states, aside, bit_in, changed_entries, changed_part, drifted_part, forgotten_part, gone_part, is_live, no_states, put_aside, put_settled, said_part, settled, shown_part, status_part, where_live, with_entries, with_pairs};
 ghost use Rattle.deck9.specs.declared.state.Register.{Register as ARegister};
 
 use crate::knowledge::KnownEntry;
@@ -14,6 +14,7 @@ use crate::register_set::RegisterSet;
 use deck9::{Change, Mode, Register};
 use std::alloc::{AllocError, Global};
 use std::marker::Model;
+use std::mem::replace;
 use tc25::{SpanSet, TimeCode, TimeSet};
 
 /// The states with one value of local and one of panel: each pair of modes with any of the entries of each
@@ -35,7 +36,7 @@ impl<S: TimeSet> Model for Part<S> {
 
     ghost coded = { part_code };
 
-    ghost view = { λ p. record { pairs = p.pairs; ins = p.ins; outs = p.outs; ains = p.ains; aouts = p.aouts } };
+    ghost view = { λ p. record { pairs = p.pairs.0; ins = p.ins; outs = p.outs; ains = p.ains; aouts = p.aouts } };
 }
 
 impl<S: TimeSet> Part<S> {
@@ -61,7 +62,7 @@ impl<S: TimeSet> Part<S> {
 
     /// These pairs, each with any entries.
     fn with_any_entries(alloc: Global, pairs: Pairs) -> Result<Part<S>, AllocError>
-        ensures { IfOk result (λ p. p ≡ with_pairs pairs all_states) }
+        ensures { IfOk result (λ p. p ≡ with_pairs pairs.0 all_states) }
     {
         Ok(Part {
             pairs,
@@ -104,7 +105,7 @@ impl<S: TimeSet> Part<S> {
 
     /// The pairs.
     pub(crate) fn pairs(&self) -> Pairs
-        ensures { result ≡ self.now.pairs }
+        ensures { result.0 ≡ self.now.pairs }
     {
         self.pairs
     }
@@ -153,7 +154,7 @@ impl<S: TimeSet> Part<S> {
         let (ins, outs) = (self.ins.is_some(), self.outs.is_some());
         let (ains, aouts) = (self.ains.is_some(), self.aouts.is_some());
         if !(modes && ins && outs && ains && aouts) {
-            *self = Part::none(alloc);
+            drop(replace(self, Part::none(alloc)));
         }
     }
 
@@ -299,7 +300,7 @@ impl<S: TimeSet> Part<S> {
         if agrees {
             self.keep_shown(alloc, mask, datum);
         } else {
-            *self = Part::none(alloc);
+            drop(replace(self, Part::none(alloc)));
         }
     }
 
@@ -308,11 +309,18 @@ impl<S: TimeSet> Part<S> {
         ensures { self.new ≡ shown_part mask datum self.old }
     {
         self.pairs = self.pairs.masked(mask);
+        self.keep_said(alloc, datum);
+        self.settle(alloc);
+    }
+
+    /// Keeps each register's entries as the bits of status datum 3 say, Set or Clear.
+    fn keep_said(&mut self, alloc: Global, datum: Option<u8>)
+        ensures { self.new ≡ said_part datum self.old }
+    {
         self.ins.keep_said(alloc, bit_in(0x01, datum));
         self.outs.keep_said(alloc, bit_in(0x02, datum));
         self.ains.keep_said(alloc, bit_in(0x04, datum));
         self.aouts.keep_said(alloc, bit_in(0x08, datum));
-        self.settle(alloc);
     }
 }
 

@@ -3,12 +3,15 @@
 //! Where the panel is on a drift leaves every state, or none. So what these states were before plays no part: an exchange makes
 //! them anew from everything, aside, before it changes those with the panel off, in place. A refused exchange then changes
 //! nothing. A command whose reply is not known is taken in the same way.
+//!
+//! What was made aside is handed to `drop` where memory is refused, and so is what it takes the place of. Their end in place,
+//! by `?` or by an assignment, would cost the proof of a function most of its time.
 ghost use Rattle.std.specs.Prelude.{◌≡◌, IfOk, IsOk, IsTrue, OnErr, OnOk, false, if◌then◌else◌, max, true};
 ghost use Rattle.tc25.specs.Times.{span_count};
 ghost use Rattle.deck9.specs.Effect.{effect_of};
 ghost use Rattle.track9.specs.Frugal.{is_frugal, is_frugal_effect};
 ghost use Rattle.track9.specs.Tracker.{entries_of};
-ghost use Rattle.track9.specs.Working.States.{AreBelow, AreWhole, Follows, FollowsPassed, acknowledged, after_panel, all_or_none, either_panel, first_states, hands_of, is_panel_live, is_wide, panel_passed, part_of, some_state};
+ghost use Rattle.track9.specs.Working.States.{AreBelow, AreWhole, Exchanged, Follows, FollowsPassed, Passed, acknowledged, after_panel, all_or_none, either_panel, first_states, hands_of, is_panel_live, is_wide, panel_passed, part_of, some_state};
 
 use crate::halves::Halves;
 use crate::reply::is_nak;
@@ -16,6 +19,7 @@ use block9::{Block, Command};
 use deck9::{Effect, Hands, Register};
 use std::alloc::{AllocError, Global};
 use std::marker::Model;
+use std::mem::replace;
 use tc25::{SpanSet, TimeSet};
 
 mod before;
@@ -46,11 +50,16 @@ impl<S: TimeSet> States<S> {
         ensures { IfOk result (λ v. v ≡ first_states hands) }
     {
         let off = Halves::all_or_none(alloc, true)?;
-        let on = match hands {
-            Hands::None => None,
-            Hands::Allowed => Some(Halves::all_or_none(alloc, true)?),
-        };
-        Ok(States { off, on })
+        match hands {
+            Hands::None => Ok(States { off, on: None }),
+            Hands::Allowed => match Halves::all_or_none(alloc, true) {
+                Ok(all) => Ok(States { off, on: Some(all) }),
+                Err(error) => {
+                    drop(off);
+                    Err(error)
+                }
+            },
+        }
     }
 
     /// An equal set.
@@ -58,11 +67,19 @@ impl<S: TimeSet> States<S> {
         ensures { IfOk result (λ v. v ≡ self.now) }
     {
         let off = self.off.copy()?;
-        let on = match &self.on {
-            Some(on) => Some(on.copy()?),
-            None => None,
+        let Some(on) = &self.on else {
+            return Ok(States { off, on: None });
         };
-        Ok(States { off, on })
+        match on.copy() {
+            Ok(copy) => Ok(States {
+                off,
+                on: Some(copy),
+            }),
+            Err(error) => {
+                drop(off);
+                Err(error)
+            }
+        }
     }
 
     /// All times are times of the day. Does nothing.
@@ -162,11 +179,36 @@ impl<S: TimeSet> States<S> {
         ensures err { OnErr result (self.new ≡ self.old) }
     {
         self.below_day();
+        let on = self.exchanged_on(alloc, command, reply)?;
+        match self.off.exchange(alloc, command, reply) {
+            Ok(()) => {
+                drop(replace(&mut self.on, Some(on)));
+                Ok(())
+            }
+            Err(error) => {
+                drop(on);
+                Err(error)
+            }
+        }
+    }
+
+    /// What such an exchange makes of everything with the panel on, if there was any, aside.
+    fn exchanged_on(
+        &self,
+        alloc: Global,
+        command: &Command,
+        reply: &Block,
+    ) -> Result<Halves<S>, AllocError>
+        ensures { IfOk result (Exchanged command.now reply.now (all_or_none (is_panel_live self.now))) }
+    {
         let mut on = self.drifted_on(alloc)?;
-        on.exchange(alloc, command, reply)?;
-        self.off.exchange(alloc, command, reply)?;
-        self.on = Some(on);
-        Ok(())
+        match on.exchange(alloc, command, reply) {
+            Ok(()) => Ok(on),
+            Err(error) => {
+                drop(on);
+                Err(error)
+            }
+        }
     }
 
     /// What a drift leaves, whatever the panel: every state where the panel was on.
@@ -188,10 +230,20 @@ impl<S: TimeSet> States<S> {
     {
         let known = self.either_panel(alloc)?;
         let none = Halves::none(alloc);
-        let (off, on) = if on { (none, known) } else { (known, none) };
-        self.off = off;
-        self.on = Some(on);
+        if on {
+            self.put(none, known);
+        } else {
+            self.put(known, none);
+        }
         Ok(())
+    }
+
+    /// Puts these states in place of all: those with the panel off, and those with it on.
+    fn put(&mut self, off: Halves<S>, on: Halves<S>)
+        ensures { self.new ≡ record { off = off; on = Some on } }
+    {
+        let next = States { off, on: Some(on) };
+        drop(replace(self, next));
     }
 
     /// The states after a command whose reply is not known: after a drift, and nothing or the command's effect. Where
@@ -233,11 +285,31 @@ impl<S: TimeSet> States<S> {
         ensures err { OnErr result (self.new ≡ self.old) }
     {
         self.below_day();
+        let on = self.passed_on(alloc, command)?;
+        match self.off.pass(alloc, command) {
+            Ok(()) => {
+                drop(replace(&mut self.on, Some(on)));
+                Ok(())
+            }
+            Err(error) => {
+                drop(on);
+                Err(error)
+            }
+        }
+    }
+
+    /// What such a command makes of everything with the panel on, if there was any, aside.
+    fn passed_on(&self, alloc: Global, command: &Command) -> Result<Halves<S>, AllocError>
+        ensures { IfOk result (Passed command.now (all_or_none (is_panel_live self.now))) }
+    {
         let mut on = self.drifted_on(alloc)?;
-        on.pass(alloc, command)?;
-        self.off.pass(alloc, command)?;
-        self.on = Some(on);
-        Ok(())
+        match on.pass(alloc, command) {
+            Ok(()) => Ok(on),
+            Err(error) => {
+                drop(on);
+                Err(error)
+            }
+        }
     }
 
     /// The panel may be switched on or off, after a drift, or stay.
@@ -247,14 +319,20 @@ impl<S: TimeSet> States<S> {
     {
         let known = self.either_panel(alloc)?;
         if on {
-            self.on = Some(known);
             self.off.drift();
-        } else {
-            let drifted = self.drifted_on(alloc)?;
-            self.on = Some(drifted);
-            self.off = known;
+            drop(replace(&mut self.on, Some(known)));
+            return Ok(());
         }
-        Ok(())
+        match self.drifted_on(alloc) {
+            Ok(drifted) => {
+                self.put(known, drifted);
+                Ok(())
+            }
+            Err(error) => {
+                drop(known);
+                Err(error)
+            }
+        }
     }
 
     /// Everything is forgotten, the panel too.
@@ -263,7 +341,8 @@ impl<S: TimeSet> States<S> {
         ensures err { OnErr result (self.new ≡ self.old) }
     {
         if self.is_some() {
-            *self = States::first(alloc, Hands::Allowed)?;
+            let first = States::first(alloc, Hands::Allowed)?;
+            drop(replace(self, first));
         }
         Ok(())
     }

@@ -1,5 +1,5 @@
 -- Which states an effect may have led from: a pattern of fields, each fixed or free.
-use Rattle.std.specs.Prelude.{◌≡◌, ◌==◌, if◌then◌else◌, Bool, true, false, ⊤, Option, Some, None, option_map}
+use Rattle.std.specs.Prelude.{◌≡◌, ◌==◌, if◌then◌else◌, Bool, true, false, ⊤, Option, Some, None, option_map, List}
 use Rattle.tc25.specs.Day.{next_frame, prev_frame}
 use Rattle.track9.specs.declared.asked.Asked.{Asked}
 use Rattle.block9.specs.declared.command.Command.{Command}
@@ -10,7 +10,6 @@ use Rattle.deck9.specs.declared.effect.Effect.TheVariants as effect
 use Rattle.deck9.specs.declared.mode.Mode.{Mode}
 use Rattle.deck9.specs.declared.mode.Mode.TheVariants as mode
 use Rattle.track9.specs.declared.pairs.Pair.{Pair}
-use Rattle.track9.specs.declared.pairs.Pairs.{Pairs}
 use Rattle.track9.specs.declared.mode_set.ModeSet.{ModeSet}
 use Rattle.deck9.specs.declared.state.Entry.{Entry}
 use Rattle.deck9.specs.declared.state.Entry.TheVariants.{Clear, At}
@@ -135,5 +134,5 @@ abbrev pub PairRunsTo : ModeSet → ModeSet → Mode → Mode → Type 0
 PairRunsTo goals shown f n = (g m : Mode) × (has goals.0 g ≡ true) × (has shown.0 m ≡ true) × PairReaches f n g m
 
 -- the pair is one of these
-abbrev pub IsPairOf : Pairs → Pair → Type 0
+abbrev pub IsPairOf : List ModeSet → Pair → Type 0
 IsPairOf pairs p = has_pair pairs p.goal p.shown ≡ true

@@ -4,7 +4,6 @@ use Rattle.std.specs.Coded.{Coded, code_by, coded×, coded_ℕ, coded_bool, code
 use Rattle.std.specs.FinSet as set
 use Rattle.tc25.specs.Times.{Times}
 use Rattle.track9.specs.declared.mode_set.ModeSet.{ModeSet}
-use Rattle.track9.specs.declared.pairs.Pairs.{Pairs}
 use Rattle.track9.specs.Presets.{Presets}
 use Rattle.deck9.specs.declared.state.Hands.{Hands}
 use Rattle.deck9.specs.declared.state.Hands.TheVariants as hands
@@ -16,12 +15,9 @@ entries_code = code_by (Bool × Times) (coded× coded_bool (set.code coded_ℕ))
 abbrev pub mode_set_code : Coded ModeSet
 mode_set_code = code_by ℕ coded_ℕ (λ s. s.0) (λ n. record { 0 = n }) (λ _. refl)
 
-abbrev pub pairs_code : Coded Pairs
-pairs_code = code_by (List ModeSet) (coded_list mode_set_code) (λ p. p.0) (λ l. record { 0 = l }) (λ _. refl)
-
 abbrev pub part_code : Coded PartStates
 part_code =
-    code_by (Pairs × (Entries × (Entries × (Entries × Entries)))) (coded× pairs_code (coded× entries_code (coded× entries_code (coded× entries_code entries_code))))
+    code_by (List ModeSet × (Entries × (Entries × (Entries × Entries)))) (coded× (coded_list mode_set_code) (coded× entries_code (coded× entries_code (coded× entries_code entries_code))))
     (λ p. (p.pairs, (p.ins, (p.outs, (p.ains, p.aouts))))) (λ p. record { pairs = p.0; ins = p.1.0; outs = p.1.1.0; ains = p.1.1.1.0; aouts = p.1.1.1.1 }) (λ _. refl)
 
 abbrev pub two_code : Coded TwoParts

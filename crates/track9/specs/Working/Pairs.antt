@@ -1,10 +1,9 @@
 -- How pairs of a goal and a shown mode change.
-use Rattle.std.specs.Prelude.{◌==◌, ◌&&◌, not, if◌then◌else◌, Bool, [], ◌∷◌, bit_and, bit_or, ℕ}
+use Rattle.std.specs.Prelude.{◌==◌, ◌&&◌, not, if◌then◌else◌, Bool, [], ◌∷◌, bit_and, bit_or, ℕ, List}
 use Rattle.deck9.specs.declared.mode.Mode.{Mode}
 use Rattle.deck9.specs.declared.mode.Mode.TheVariants.{Stop, Play, Rec, FastForward, Rewind, Shuttle, Jog, Var, Cued, Eject}
 use Rattle.track9.specs.declared.mode_set.ModeSet.{ModeSet}
-use Rattle.track9.specs.declared.pairs.Pairs.{Pairs}
-use Rattle.deck9.specs.Mode.{is_mode}
+use Rattle.deck9.specs.Mode.{is_mode, on_the_way}
 use Rattle.track9.specs.ModeSet.{bit_of}
 use Rattle.track9.specs.Tracker.{shown_with}
 
@@ -19,11 +18,14 @@ either a b = modes (bit_or a.0 b.0)
 abbrev pub both : ModeSet → ModeSet → ModeSet
 both a b = modes (bit_and a.0 b.0)
 
+-- the set of these modes
+abbrev pub of_modes : List Mode → ModeSet
+of_modes [] = modes 0
+of_modes (m ∷ ms) = either (modes (bit_of m)) (of_modes ms)
+
 -- the modes on the way to a goal
 abbrev pub way : Mode → ModeSet
-way Rec = modes 0x003
-way Cued = modes 0x0FB
-way _ = modes 0x001
+way g = of_modes (on_the_way g)
 
 -- one of the ten bits is there
 abbrev pub is_some : ModeSet → Bool
@@ -32,33 +34,33 @@ is_some s = not (bit_and s.0 0x3FF == 0)
 -- ---- pairs
 
 -- the pairs that have these shown modes for each goal
-abbrev pub by_goal : (Mode → ModeSet) → Pairs
+abbrev pub by_goal : (Mode → ModeSet) → List ModeSet
 by_goal f =
-    record { 0 = f Stop ∷ f Play ∷ f Rec ∷ f FastForward ∷ f Rewind ∷ f Shuttle ∷ f Jog ∷ f Var ∷ f Cued ∷ f Eject ∷ [] }
+    f Stop ∷ f Play ∷ f Rec ∷ f FastForward ∷ f Rewind ∷ f Shuttle ∷ f Jog ∷ f Var ∷ f Cued ∷ f Eject ∷ []
 
-abbrev pub no_pairs : Pairs
+abbrev pub no_pairs : List ModeSet
 no_pairs = by_goal (λ g. modes 0)
 
-abbrev pub all_pairs : Pairs
+abbrev pub all_pairs : List ModeSet
 all_pairs = by_goal (λ g. modes 0x3FF)
 
 -- all modes that may be shown, with any goal
-abbrev pub goes : Pairs → ModeSet
+abbrev pub goes : List ModeSet → ModeSet
 goes p =
     either (either (either (either (either (either (either (either (either
     (shown_with p Stop) (shown_with p Play)) (shown_with p Rec)) (shown_with p FastForward)) (shown_with p Rewind))
     (shown_with p Shuttle)) (shown_with p Jog)) (shown_with p Var)) (shown_with p Cued)) (shown_with p Eject)
 
 -- a goal, where a mode may be shown with it
-abbrev pub goal_if_shown : Pairs → Mode → ModeSet
+abbrev pub goal_if_shown : List ModeSet → Mode → ModeSet
 goal_if_shown pairs g = if is_some (shown_with pairs g) then modes (bit_of g) else modes 0
 
 -- all goals that a mode may be shown with
-abbrev pub goals_of : Pairs → ModeSet
+abbrev pub goals_of : List ModeSet → ModeSet
 goals_of pairs = goes (by_goal (goal_if_shown pairs))
 
 -- there is a pair
-abbrev pub some_pair : Pairs → Bool
+abbrev pub some_pair : List ModeSet → Bool
 some_pair pairs = is_some (goes pairs)
 
 -- the modes that a drift can show with the goal g, which it keeps
@@ -70,24 +72,24 @@ abbrev pub halted : Bool → Mode → ModeSet
 halted some g = if some && is_mode g Stop then modes (bit_of Stop) else modes 0
 
 -- the modes that a drift can show with the goal g
-abbrev pub drifted_with : Pairs → Mode → ModeSet
+abbrev pub drifted_with : List ModeSet → Mode → ModeSet
 drifted_with p g = either (kept_goal (is_some (shown_with p g)) (shown_with p g) g) (halted (some_pair p) g)
 
 -- the pairs that a drift can reach
-abbrev pub drifted : Pairs → Pairs
+abbrev pub drifted : List ModeSet → List ModeSet
 drifted p = by_goal (drifted_with p)
 
 -- the pairs with this goal in place of theirs
-abbrev pub gone_with : Mode → Pairs → Mode → ModeSet
+abbrev pub gone_with : Mode → List ModeSet → Mode → ModeSet
 gone_with goal p g = if is_mode g goal then goes p else modes 0
 
-abbrev pub gone : Mode → Pairs → Pairs
+abbrev pub gone : Mode → List ModeSet → List ModeSet
 gone goal p = by_goal (gone_with goal p)
 
 -- the pairs of either
-abbrev pub joined : Pairs → Pairs → Pairs
+abbrev pub joined : List ModeSet → List ModeSet → List ModeSet
 joined p q = by_goal (λ g. either (shown_with p g) (shown_with q g))
 
 -- the pairs with these modes shown
-abbrev pub masked : ModeSet → Pairs → Pairs
+abbrev pub masked : ModeSet → List ModeSet → List ModeSet
 masked mask p = by_goal (λ g. both (shown_with p g) mask)

@@ -1,9 +1,8 @@
 -- How the states with one value of local and one of panel change.
-use Rattle.std.specs.Prelude.{ℕ, ◌≡◌, ◌==◌, ◌&&◌, not, Bool, true, false, if◌then◌else◌, Option, Some, None, bit_and, option_map}
+use Rattle.std.specs.Prelude.{ℕ, ◌≡◌, ◌==◌, ◌&&◌, not, Bool, true, false, if◌then◌else◌, Option, Some, None, bit_and, option_map, List}
 use Rattle.deck9.specs.declared.effect.Change.{Change}
 use Rattle.deck9.specs.declared.mode.Mode.{Mode}
 use Rattle.track9.specs.declared.mode_set.ModeSet.{ModeSet}
-use Rattle.track9.specs.declared.pairs.Pairs.{Pairs}
 use Rattle.deck9.specs.declared.state.Register.{Register}
 use Rattle.deck9.specs.declared.state.Register.TheVariants.{RegIn, RegOut, RegAudioIn, RegAudioOut}
 use Rattle.deck9.specs.declared.state.State.{State}
@@ -38,7 +37,7 @@ with_entries RegOut es p = record p { outs = es }
 with_entries RegAudioIn es p = record p { ains = es }
 with_entries RegAudioOut es p = record p { aouts = es }
 
-abbrev pub with_pairs : Pairs → PartStates → PartStates
+abbrev pub with_pairs : List ModeSet → PartStates → PartStates
 with_pairs pairs p = record p { pairs = pairs }
 
 -- a part that has states is changed, one that has none stays
@@ -57,7 +56,7 @@ abbrev pub drifted_part : PartStates → PartStates
 drifted_part p = with_pairs (drifted p.pairs) p
 
 -- the deck goes for this goal, or leaves it where it may
-abbrev pub gone_pairs : Bool → Mode → Pairs → Pairs
+abbrev pub gone_pairs : Bool → Mode → List ModeSet → List ModeSet
 gone_pairs may_stay goal pairs = if may_stay then joined pairs (gone goal pairs) else gone goal pairs
 
 abbrev pub gone_part : Bool → Mode → PartStates → PartStates
@@ -96,16 +95,18 @@ put_settled r (Some es) p = settled (with_entries r es p)
 abbrev pub bit_in : ℕ → Option ℕ → Option Bool
 bit_in bit datum = option_map (λ byte. bit_and byte bit == bit) datum
 
+-- each register's entries as the bits of a datum say, Set or Clear
+abbrev pub said_part : Option ℕ → PartStates → PartStates
+said_part datum p = record p {
+  ins = said (bit_in 0x01 datum) p.ins;
+  outs = said (bit_in 0x02 datum) p.outs;
+  ains = said (bit_in 0x04 datum) p.ains;
+  aouts = said (bit_in 0x08 datum) p.aouts;
+}
+
 -- the states with these modes shown, and with registers Set as the bits of a datum say
 abbrev pub shown_part : ModeSet → Option ℕ → PartStates → PartStates
-shown_part mask datum p =
-    settled (record {
-      pairs = masked mask p.pairs;
-      ins = said (bit_in 0x01 datum) p.ins;
-      outs = said (bit_in 0x02 datum) p.outs;
-      ains = said (bit_in 0x04 datum) p.ains;
-      aouts = said (bit_in 0x08 datum) p.aouts;
-    })
+shown_part mask datum p = settled (said_part datum (with_pairs (masked mask p.pairs) p))
 
 -- the states that agree with LOCAL, with these modes shown, and with datum 3
 abbrev pub status_part : Bool → ModeSet → Option ℕ → PartStates → PartStates

@@ -176,24 +176,27 @@ fn tell_rows_from_first<S: TimeSet>(rt: &impl Abort, alloc: Global) -> Result<()
     result
 }
 
-/// A snapshot, and the exchange that came next.
-type Earlier<S> = (Tracker<S>, Sent);
-
 /// Takes an exchange, and keeps a snapshot of what was before it.
 fn keep<S: TimeSet>(
     rt: &impl Abort,
     tracker: &mut Tracker<S>,
-    earlier: &mut Vec<Earlier<S>>,
+    earlier: &mut Vec<Tracker<S>>,
     sent: Sent,
 ) -> Result<(), AllocError> {
-    earlier.push((tracker.snapshot()?, sent))?;
+    earlier.push(tracker.snapshot()?)?;
     take_leaving(rt, tracker, sent, true, "a run")
 }
 
-/// Goes back by the snapshots from a state after the exchanges to one before them.
-fn follow_back<S: TimeSet>(rt: &impl Abort, earlier: &[Earlier<S>], last: State) {
+/// Goes back by the snapshots, one before each exchange, from a state after the exchanges to one before them.
+fn follow_back<S: TimeSet>(
+    rt: &impl Abort,
+    earlier: &[Tracker<S>],
+    exchanges: &[Sent],
+    last: State,
+) {
+    same(rt, earlier.len(), exchanges.len(), exchanges);
     let mut target = last;
-    for (tracker, sent) in earlier.iter().rev() {
+    for (tracker, sent) in earlier.iter().zip(exchanges).rev() {
         target = state_before(rt, tracker, *sent, &target).expect(rt, "a state before");
     }
 }
@@ -201,14 +204,14 @@ fn follow_back<S: TimeSet>(rt: &impl Abort, earlier: &[Earlier<S>], last: State)
 fn go_back<S: TimeSet>(
     rt: &impl Abort,
     tracker: &mut Tracker<S>,
-    earlier: &mut Vec<Earlier<S>>,
+    earlier: &mut Vec<Tracker<S>>,
     exchanges: &[Sent],
 ) -> Result<(), AllocError> {
     for sent in exchanges {
         keep(rt, tracker, earlier, *sent)?;
     }
     let last = tracker.member().expect(rt, "a state");
-    follow_back(rt, earlier.as_slice(), last);
+    follow_back(rt, earlier.as_slice(), exchanges, last);
     Ok(())
 }
 
@@ -219,8 +222,10 @@ fn go_back_to_first<S: TimeSet>(
     exchanges: &[Sent],
 ) -> Result<(), AllocError> {
     let mut tracker: Tracker<S> = Tracker::new(alloc, hands)?;
-    let result = go_back(rt, &mut tracker, &mut Vec::new(alloc), exchanges);
+    let mut earlier = Vec::new(alloc);
+    let result = go_back(rt, &mut tracker, &mut earlier, exchanges);
     drop(tracker);
+    drop(earlier);
     result
 }
 

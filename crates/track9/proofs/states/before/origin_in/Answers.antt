@@ -1,5 +1,5 @@
-use Rattle.std.proofs.Common.{◌≡◌, true, false, subst}
-use Rattle.track9.specs.declared.pairs.Pairs.{Pairs}
+use Rattle.std.proofs.Common.{◌≡◌, true, false, subst, List}
+use Rattle.track9.specs.declared.mode_set.ModeSet.{ModeSet}
 use Rattle.deck9.specs.declared.state.Entry.{Entry}
 use Rattle.deck9.specs.declared.state.Register.TheVariants.{RegIn, RegOut, RegAudioIn, RegAudioOut}
 use Rattle.track9.specs.Tracker.{Allows, has_pair}
@@ -30,7 +30,7 @@ returns-in_err-pick-4-clause-none g c =
 pub returns-clause-some : goal.returns-clause-some
 returns-clause-some g c =
     runs_there c.args.part.now c.args.asked.now c.in_ok-pair.pair.goal c.in_ok-pair.pair.shown c.in_ok-pick.field-0 c.in_ok-pick-2.field-0 c.in_ok-pick-3.field-0 c.in_ok-pick-4.field-0 c.args.local
-    (subst (λ (p : Pairs). has_pair p c.in_ok-pair.pair.goal c.in_ok-pair.pair.shown ≡ true) c.pairs.ensures c.in_ok-pair.ensures.some.0) c.in_ok-pair.ensures.some.1
+    (subst (λ (p : List ModeSet). has_pair p c.in_ok-pair.pair.goal c.in_ok-pair.pair.shown ≡ true) c.pairs.ensures c.in_ok-pair.ensures.some.0) c.in_ok-pair.ensures.some.1
     (subst (λ es. Allows es c.in_ok-pick.field-0 × Is c.args.asked.now.ins c.in_ok-pick.field-0) c.entries.ensures c.in_ok-pick.ensures.some)
     (subst (λ es. Allows es c.in_ok-pick-2.field-0 × Is c.args.asked.now.outs c.in_ok-pick-2.field-0) c.entries-2.ensures c.in_ok-pick-2.ensures.some)
     (subst (λ es. Allows es c.in_ok-pick-3.field-0 × Is c.args.asked.now.ains c.in_ok-pick-3.field-0) c.entries-3.ensures c.in_ok-pick-3.ensures.some)

@@ -11,12 +11,12 @@ use Rattle.track9.proofs.states.member.first_in.Goals as goal
 pub first-goal-requires : goal.first-goal-requires
 first-goal-requires g c =
     subst (λ s. is_some s ≡ true) (sym c.goals.ensures)
-    (some_goal c.pairs-pairs.result (subst (λ p. some_pair p ≡ true) (sym c.pairs-pairs.ensures) c.requires.live))
+    (some_goal c.pairs-pairs.result.0 (subst (λ p. some_pair p ≡ true) (sym c.pairs-pairs.ensures) c.requires.live))
 
 pub first-requires : goal.first-requires
 first-requires g c =
     subst (λ s. is_some s ≡ true) (sym c.shown.ensures)
-    (some_shown c.pairs-pairs.result c.first-goal.result (subst (λ (s : ModeSet). has s.0 c.first-goal.result ≡ true) c.goals.ensures c.first-goal.ensures))
+    (some_shown c.pairs-pairs.result.0 c.first-goal.result (subst (λ (s : ModeSet). has s.0 c.first-goal.result ≡ true) c.goals.ensures c.first-goal.ensures))
 
 pub first-requires-2 : goal.first-requires-2
 first-requires-2 g c = subst (λ es. some_entry es ≡ true) (sym c.entries.ensures) (c.requires.whole RegIn ∙ c.requires.live)
