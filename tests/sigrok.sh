@@ -87,6 +87,9 @@ is_answer() {
 
 in_work "$(echo "$record" | sed 's/-d fx2lafw/-d demo/; s/--time 60s/--time 60ms/')"
 judge 'a recording of the demo device' is_recorded 2000000
+rm -f "$work/recording.sr"
+in_work "(sleep 0.3; echo) | $(echo "$record" | sed 's/-d fx2lafw/-d demo/; s/--time 60s/--continuous/')"
+judge 'a recording of the demo device that a key ends' is_recorded 2000000
 
 for file in disputed-in-point second-reply; do
     cp "examples/$file.csv" "$work/sent.csv"

@@ -24,7 +24,7 @@ reader=$work/crates/read_rows/out/read_rows
 [ -x "$reader" ] || { cat "$work/log"; echo "the reading loop could not be built"; exit 1; }
 
 python3 - "$program" "$reader" "$work" "$turns" <<'PY'
-import os, subprocess, sys, time
+import os, random, subprocess, sys, time
 program, reader, work, turns = sys.argv[1:]
 RECORDS = 4000000
 
@@ -53,6 +53,13 @@ def mixed(turn, register=0):
     yield block(4, 0x18 + 2 * register), ACK
     yield block(6, 0x10 + register), block(7, 0x10 + register, *shifted)
 
+# Presets to a deck in local whose IN was read, and which may have left each undone: each at another time, in no order.
+def shuffled_presets():
+    yield block(6, 0x20, 0x01), block(7, 0x20, 0x01)
+    yield block(6, 0x10), block(7, 0x10, *time_bytes(0))
+    for frames in random.Random(9).sample(range(2160000), RECORDS // 10):
+        yield block(4, 0x14, *time_bytes(frames)), ACK
+
 # A deck that is not in local, a preset, and a sense that answers another time.
 REMOTE = block(6, 0x20, 0x01), block(7, 0x20, 0x00)
 PRESET = block(4, 0x14, *time_bytes(900000)), ACK
@@ -78,14 +85,14 @@ def contradicting_from_afar():
         yield from mixed(turn, 1)
     yield from (REMOTE, REMOTE, SENSED)
 
-def write(path, exchanges):
+def write(path, exchanges, most=RECORDS):
     now = records = 0
     with open(path, 'w') as text:
         text.write('time_us,wire,byte\n')
         for asked, answered in exchanges:
             for wire, bytes_sent in (('C', asked), ('D', answered)):
                 for byte in bytes_sent:
-                    if records == RECORDS:
+                    if records == most:
                         return
                     now += 400
                     records += 1
@@ -122,6 +129,16 @@ for name, exchanges in (('PLAY and ACK', lambda turn: PLAY), ('mixed traffic', m
           f'explain {told:.3f} s, ratio to check {told / judged:.2f}; '
           f'run {found:.3f} s, ratio to check {found / judged:.2f}; '
           f'resident memory {peak(check, capture)} kB, {peak(explain, capture)} kB, {peak(run, capture)} kB')
+
+captures = {'PLAY and ACK': all_turns(lambda turn: PLAY), 'shuffled presets': shuffled_presets(), 'half as many': shuffled_presets()}
+for name, exchanges in captures.items():
+    write(f'{work}/{name}.csv', exchanges, RECORDS // 2 if name == 'half as many' else RECORDS)
+for verb in 'check', 'explain':
+    runs = [[seconds([program, verb], f'{work}/{name}.csv', f'{work}/lines') for name in captures] for _ in range(int(turns))]
+    play, shuffled, half = (min(column) for column in zip(*runs))
+    print(f'shuffled presets: {verb} {shuffled:.3f} s, ratio to PLAY and ACK {shuffled / play:.2f}, '
+          f'to half as many {shuffled / half:.2f}; '
+          f'resident memory {peak([program, verb], f"{work}/shuffled presets.csv")} kB')
 
 # The exchanges that contradict one another: how many are told, and how many records the first of them lies before the last.
 def told_apart(path):
