@@ -82,7 +82,8 @@ it's a part-002.csv" ]
     judge "$awk: no header" is_refused 'split.awk: line 1: expected the header time_us,wire,byte: 1,C,20'
     split_into '' part
     judge "$awk: nothing at all" is_refused 'split.awk: line 0: expected the header time_us,wire,byte'
-    split_into "$capture" none/part
+    # Under its option --posix gawk does not tell what became of a pipe, so it runs without.
+    awk=${awk% --posix} split_into "$capture" none/part
     judge "$awk: a folder that is not there" is_refused_last \
         "split.awk: line 14: the part none/part-001.csv can't be written"
     split_into "$capture"'22,C\n' part -v rows=6
