@@ -22,7 +22,7 @@ PARTS = [
     [("judge9", "judge")],
     [("judge9", "judge_with_run"), ("deck9", "is_run"), ("judge9", "write_run")],
     [("judge9", "judge_with_contradiction"), ("judge9", "write_why")],
-    [("ninecheck", "run_program"), ("ninecheck", "End::status"), ("ninecheck", "Message::fmt")],
+    [("program9", "run_program"), ("program9", "End::status"), ("program9", "Message::fmt")],
 ]
 PAGE, SECTION = "docs/ARCHITECTURE.md", "## What the theorem says"
 # What may stand before the name that a definition defines.

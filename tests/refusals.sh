@@ -1,11 +1,11 @@
 #!/usr/bin/env bash
-# Runs the two tests of `capture9` in which memory may be refused, with the first growth of memory refused, with the
+# Runs the two tests of the rows of `capture9` in which memory may be refused, with the first growth of memory refused, with the
 # second, and so on until a run refuses none. Each must tell row 0 while the header is read, then row 1, and then the
 # whole answer.
 # The last line is 'N passed, M failed', where a test counts once.
 set -u
 cd "$(dirname "$0")/.." || exit 1
-tests=${CAPTURE9_TESTS:-$PWD/crates/capture9/out/capture9_tests}
+tests=${BLOCK9_TESTS:-$PWD/crates/block9_tests/out/block9_tests_tests}
 . tests/lib/tools.sh
 need_tools cc=gcc
 
@@ -28,7 +28,7 @@ rows() {
     done
 }
 
-names=$("$tests" --list | grep -o 'tests::a_growth_refused_[a-z_]*')
+names=$("$tests" --list | grep -o 'tests::rows::a_growth_refused_[a-z_]*')
 [ -n "$names" ] || failed=1
 for name in $names; do
     if rows "$name" && [[ "$told" =~ ^(' 0')+(' 1')+' whole'$ ]]; then

@@ -55,7 +55,7 @@ whole_first w a rest b h =
     }
 
 pub whole_len : (w : Wire) (records : List LineByte) (b : Block) → IsWhole w records b → length records ≡ block_len records
-whole_len w [] b h = cc (h.spelled.spelled)
+whole_len w [] b h = refl
 whole_len w (a ∷ rest) b h = let f = whole_first w a rest b h in omega (arith, f.count, f.len)
 
 pub whole_long : (w : Wire) (records : List LineByte) (b : Block) → IsWhole w records b → 3 ≤ length records

@@ -99,6 +99,3 @@ pub(crate) fn sum_of(bytes: &[u8]) -> u8
     }
     total
 }
-
-#[cfg(test)]
-mod tests;

@@ -381,6 +381,3 @@ fn time_sense(block: &Block) -> Option<Command>
         _ => Some(Command::Unlisted { group: block.group }),
     }
 }
-
-#[cfg(test)]
-mod tests;

@@ -15,8 +15,6 @@ mod place;
 mod reason;
 mod reply;
 mod rules;
-#[cfg(test)]
-mod same;
 
 pub use block::Block;
 pub use command::Command;

@@ -88,6 +88,3 @@ impl Flags for NakBits {
         NakBits(bits)
     }
 }
-
-#[cfg(test)]
-mod tests;

@@ -298,6 +298,3 @@ impl Default for Pairer {
         Pairer::new()
     }
 }
-
-#[cfg(test)]
-mod tests;

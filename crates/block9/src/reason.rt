@@ -105,6 +105,3 @@ impl Reason {
         }
     }
 }
-
-#[cfg(test)]
-mod tests;

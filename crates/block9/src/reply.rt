@@ -52,6 +52,3 @@ pub fn reply_time_valid(command: &Command, reply: &Block) -> bool
         _ => true,
     }
 }
-
-#[cfg(test)]
-mod tests;

@@ -70,7 +70,7 @@ records_at-some s bytes p e =
       | inl lt ↦ enough_turns default_config (length bytes) (length p.2 + 1) p.1 p.2 lt (omega arith)
       | inr q ↦ rw (q.0, q.1) (none_at_start default_config (length bytes) ∙ sym (none_at_start default_config 1))
     ] in
-    rw (add-one, e) (ap (λ t. p.0 ∷ t) rest)
+    rw (add-one (length bytes), e) (ap (λ t. p.0 ∷ t) rest)
 
 records_at-none : (s : State) (bytes : List ℕ) → next_record default_config s [] [] bytes ≡ None → records_at s bytes ≡ []
 unfolding records_from

@@ -12,11 +12,7 @@ mod error;
 mod fields;
 pub mod laws;
 mod line_byte;
-#[cfg(test)]
-mod readers;
 mod records;
-#[cfg(test)]
-mod tests;
 
 pub use crate::capture::{Capture, read_capture};
 pub use crate::error::{CaptureError, CaptureKind};

@@ -2,20 +2,10 @@
 //! standard error.
 #![tactic(auto)]
 
-mod buffered;
-mod ending;
-mod judging;
-mod message;
-mod program;
 mod source;
-mod status;
-#[cfg(test)]
-mod tests;
-mod version;
 
-use crate::ending::{End, Message};
-use crate::program::run_program;
 use crate::source::Source;
+use program9::{End, Message, run_program};
 use std::process::ExitCode;
 use std::{env, fs, io};
 use words9::WordsFault;

@@ -4,10 +4,6 @@
 mod direction;
 mod laws;
 mod list_set;
-#[cfg(test)]
-mod same;
-#[cfg(test)]
-mod set_tests;
 mod span;
 mod span_list;
 mod span_set;

@@ -1,0 +1,26 @@
+//! Times, rows and blocks, with values by hand.
+mod block;
+mod command;
+mod nak;
+mod pairer;
+mod reason;
+mod reply;
+mod rows;
+mod time_sets;
+mod times;
+
+use std::fmt::Debug;
+use std::process::Abort;
+
+/// Holds that what was found in a case is what is wanted.
+///
+/// The tests hold all their values by this call: the proof of a function with a call costs a part of that of one with
+/// an assertion.
+fn same<T: PartialEq + Debug + Drop, C: Debug + Drop>(
+    rt: &impl Abort,
+    found: T,
+    wanted: T,
+    case: C,
+) {
+    assert_eq!(rt; found, wanted, "{case:?}");
+}

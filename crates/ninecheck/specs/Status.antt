@@ -1,9 +1,0 @@
--- The exit status of the program.
-use Rattle.std.specs.Prelude.{ℕ}
-use Rattle.ninecheck.specs.declared.ending.End.{End}
-use Rattle.ninecheck.specs.declared.ending.End.TheVariants as end
-
--- 2 where the words are no command, and else that of the outcome
-abbrev pub status_of : End → ℕ
-status_of (end.Usage text) = 2
-status_of (end.Told outcome) = outcome.status

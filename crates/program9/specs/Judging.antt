@@ -1,0 +1,51 @@
+-- How a judging ends whose report goes through a buffer.
+use Rattle.std.specs.Prelude.{◌≡◌, ◌⊎◌, ℕ, List, Option, Result, Ok, Err}
+use Rattle.std.specs.Io.KnownBytes.{Appends, Keeps}
+use Rattle.capture9.specs.Rows.{Rows}
+use Rattle.deck9.specs.declared.state.Hands.{Hands}
+use Rattle.judge9.specs.declared.error.JudgeError.{JudgeError}
+use Rattle.judge9.specs.declared.error.JudgeError.TheVariants as error
+use Rattle.judge9.specs.declared.run_verdict.RunVerdict.{RunVerdict}
+use Rattle.judge9.specs.declared.verdict.Verdict.{Verdict}
+use Rattle.judge9.specs.declared.why_verdict.WhyVerdict.{WhyVerdict}
+use Rattle.judge9.specs.Report.{AppendsPart}
+use Rattle.judge9.specs.RunText.{text_of_run}
+use Rattle.judge9.specs.RunVerdict.{IsJudgedRun, verdict_of}
+use Rattle.judge9.specs.WhyText.{text_of_why}
+use Rattle.judge9.specs.WhyVerdict.{IsJudgedWhy, verdict_of as verdict_of_why}
+use Rattle.program9.specs.Output.{IsFirstPart}
+
+-- of a judging that answered `judged`, after which the writer was to hold `all`: the result is that answer, and
+-- the writer holds all of it; or the result is a write fault, and the writer holds a first part
+abbrev pub HandsOn : Result Verdict JudgeError → Option (List ℕ) → Result Verdict JudgeError → Option (List ℕ) → Type 0
+HandsOn judged all result now = ((result ≡ judged) × Keeps all now) ⊎ ((result ≡ Err error.Write) × IsFirstPart now all)
+
+-- what writing the text of a run answers: where there is none the refusal, and nothing was written; else the verdict, and
+-- the text was written, or a write fault, and a first part of it was
+abbrev pub WritesRun : Hands → Result RunVerdict JudgeError → Result Verdict JudgeError → Option (List ℕ) → Option (List ℕ) → Type 0
+WritesRun hands (Err e) result old new = (result ≡ Err e) × Keeps old new
+WritesRun hands (Ok run) result old new =
+    ((result ≡ Ok (verdict_of run)) × Appends old new (text_of_run hands run)) ⊎ ((result ≡ Err error.Write) × AppendsPart old new (text_of_run hands run))
+
+-- a judging with a run, of these rows where they are known, and the writing of its text
+abbrev pub TellsRun : Hands → Option Rows → Option (List ℕ) → Result Verdict JudgeError → Option (List ℕ) → Type 0
+TellsRun hands known old judged all = (found : Result RunVerdict JudgeError) × IsJudgedRun hands known found × WritesRun hands found judged old all
+
+-- what writing the text of why a capture is a no answers: where there is none the refusal, and nothing was written; else
+-- the verdict, and the text was written, or a write fault, and a first part of it was, or want of memory, and nothing was
+abbrev pub WritesWhy : Hands → Result WhyVerdict JudgeError → Result Verdict JudgeError → Option (List ℕ) → Option (List ℕ) → Type 0
+WritesWhy hands (Err e) result old new = (result ≡ Err e) × Keeps old new
+WritesWhy hands (Ok why) result old new =
+    ((result ≡ Ok (verdict_of_why why)) × Appends old new (text_of_why hands why))
+    ⊎ (((result ≡ Err error.Write) × AppendsPart old new (text_of_why hands why)) ⊎ ((result ≡ Err error.OutOfMemory) × Keeps old new))
+
+-- a judging that says why no run remains, of these rows where they are known, and the writing of its text
+abbrev pub TellsWhy : Hands → Option Rows → Option (List ℕ) → Result Verdict JudgeError → Option (List ℕ) → Type 0
+TellsWhy hands known old judged all = (found : Result WhyVerdict JudgeError) × IsJudgedWhy hands known found × WritesWhy hands found judged old all
+
+-- some judging of this kind ended with this result, and the writer holds this now
+pub record EndsAs (Kind : Result Verdict JudgeError → Option (List ℕ) → Type 0) (result : Result Verdict JudgeError) (now : Option (List ℕ)) : Type 0 where
+  pub judged : Result Verdict JudgeError
+  pub all : Option (List ℕ)
+  pub is_judged : Kind judged all
+  pub hands_on : HandsOn judged all result now

@@ -1,0 +1,32 @@
+-- How the program ends: its status, and what it says on standard error.
+use Rattle.std.specs.Prelude.{Result, Ok, Err}
+use Rattle.capture9.specs.declared.error.CaptureError.{CaptureError}
+use Rattle.capture9.specs.declared.error.CaptureKind.{CaptureKind}
+use Rattle.capture9.specs.declared.error.CaptureKind.TheVariants as kind
+use Rattle.judge9.specs.declared.error.JudgeError.{JudgeError}
+use Rattle.judge9.specs.declared.error.JudgeError.TheVariants as error
+use Rattle.judge9.specs.declared.verdict.Verdict.{Verdict}
+use Rattle.judge9.specs.declared.verdict.Verdict.TheVariants as verdict
+use Rattle.program9.specs.declared.ending.Message.TheVariants as message
+use Rattle.program9.specs.declared.ending.Outcome.{Outcome}
+
+-- the end after a refusal of the capture, by its kind: a bad row, a reader that failed, or want of memory
+abbrev pub capture_outcome : CaptureKind → CaptureError → Outcome
+capture_outcome kind.Header e = record { status = 3; message = message.Unreadable e }
+capture_outcome kind.Fields e = record { status = 3; message = message.Unreadable e }
+capture_outcome kind.Time e = record { status = 3; message = message.Unreadable e }
+capture_outcome kind.Wire e = record { status = 3; message = message.Unreadable e }
+capture_outcome kind.Byte e = record { status = 3; message = message.Unreadable e }
+capture_outcome kind.Backwards e = record { status = 3; message = message.Unreadable e }
+capture_outcome kind.TooMany e = record { status = 3; message = message.Unreadable e }
+capture_outcome kind.Read e = record { status = 4; message = message.ReadFault e.row }
+capture_outcome kind.OutOfMemory e = record { status = 5; message = message.NoMemory }
+
+-- the status is 0 for yes, 1 for no, 3 for a bad row, 4 for a reader or a writer that failed, 5 for want of
+-- memory; only a verdict has no message
+abbrev pub outcome_of : Result Verdict JudgeError → Outcome
+outcome_of (Ok (verdict.Yes records exchanges tail)) = record { status = 0; message = message.Nothing }
+outcome_of (Ok (verdict.No at reason)) = record { status = 1; message = message.Nothing }
+outcome_of (Err (error.Capture e)) = capture_outcome e.kind e
+outcome_of (Err error.Write) = record { status = 4; message = message.WriteFault }
+outcome_of (Err error.OutOfMemory) = record { status = 5; message = message.NoMemory }

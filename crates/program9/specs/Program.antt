@@ -1,0 +1,107 @@
+-- How the program ends, by the words of its command line, the capture that they name and the writer.
+use Rattle.std.specs.Prelude.{◌≡◌, ◌≢◌, ◌⊎◌, ℕ, List, Option, Result, Ok, Err, IfErr, IfSome, Vec, String, map, option_map}
+use Rattle.std.specs.Global.{Global}
+use Rattle.std.specs.Io.KnownBytes.{Keeps}
+use Rattle.std.specs.IoError.{error_kind}
+use Rattle.std.specs.String.{string_bytes}
+use Rattle.std.specs.declared.io.Error.{Error}
+use Rattle.std.specs.declared.io.ErrorKind.{ErrorKind}
+use Rattle.std.specs.declared.io.ErrorKind.TheVariants.{FilesystemLoop, IsADirectory, NotADirectory, NotFound, OutOfMemory, PermissionDenied}
+use Rattle.capture9.specs.declared.error.CaptureError.{CaptureError}
+use Rattle.capture9.specs.declared.error.CaptureKind.TheVariants as kind
+use Rattle.capture9.specs.Rows.{Rows, rows_of}
+use Rattle.deck9.specs.declared.state.Hands.{Hands}
+use Rattle.judge9.specs.declared.error.JudgeError.{JudgeError}
+use Rattle.judge9.specs.declared.error.JudgeError.TheVariants as error
+use Rattle.judge9.specs.declared.verdict.Verdict.{Verdict}
+use Rattle.judge9.specs.declared.verdict.View.TheVariants as view
+use Rattle.judge9.specs.Judging.{CanBeResult, IsTheAnswer, StoppedBefore, answer_of}
+use Rattle.judge9.specs.Report.{Told}
+use Rattle.words9.specs.declared.task.Task.{Task}
+use Rattle.words9.specs.declared.task.Verb.{Verb}
+use Rattle.words9.specs.declared.task.Verb.TheVariants as verb
+use Rattle.words9.specs.declared.task.WordsFault.{WordsFault}
+use Rattle.words9.specs.declared.task.WordsFault.TheVariants as words
+use Rattle.words9.specs.Words.{AsksVersion, IsNoTask, IsTaskOf, MayAskVersion}
+use Rattle.program9.specs.declared.ending.End.{End}
+use Rattle.program9.specs.declared.ending.End.TheVariants as end
+use Rattle.program9.specs.declared.ending.Message.TheVariants as message
+use Rattle.program9.specs.declared.ending.Outcome.{Outcome}
+use Rattle.program9.specs.declared.ending.WhyUnopened.{WhyUnopened}
+use Rattle.program9.specs.declared.ending.WhyUnopened.TheVariants as why
+use Rattle.program9.specs.Judging.{EndsAs, TellsRun, TellsWhy}
+use Rattle.program9.specs.Outcome.{outcome_of}
+use Rattle.program9.specs.Version.{TellsVersion}
+
+-- the end for want of memory
+abbrev pub no_memory : Outcome
+no_memory = record { status = 5; message = message.NoMemory }
+
+-- why a capture was not opened, by the kind of its opener's error
+abbrev pub why_of : ErrorKind → WhyUnopened
+why_of NotFound = why.NotFound
+why_of PermissionDenied = why.PermissionDenied
+why_of IsADirectory = why.IsADirectory
+why_of NotADirectory = why.NotADirectory
+why_of FilesystemLoop = why.FilesystemLoop
+why_of _ = why.Other
+
+-- the end after a capture that was not opened: want of memory, or that this file can't be opened, and why
+abbrev pub outcome_of_kind : Option (String Global) → ErrorKind → Outcome
+outcome_of_kind file OutOfMemory = no_memory
+outcome_of_kind file k = record { status = 4; message = message.CannotOpen (record { file = file; why = why_of k }) }
+
+abbrev pub outcome_unopened : Option (String Global) → Error → Outcome
+outcome_unopened file e = outcome_of_kind file (error_kind e)
+
+-- what a judging with this verb tells: `check` the verdict, `explain` each exchange before it, `run` a run of the deck,
+-- `why` the replies that contradict one another
+abbrev pub TellsFor : Verb → Hands → Option Rows → Option (List ℕ) → Result Verdict JudgeError → Option (List ℕ) → Type 0
+TellsFor verb.Check hands known old judged all = Told view.Verdict hands known judged old all
+TellsFor verb.Explain hands known old judged all = Told view.Explain hands known judged old all
+TellsFor verb.Run hands known old judged all = TellsRun hands known old judged all
+TellsFor verb.Why hands known old judged all = TellsWhy hands known old judged all
+
+-- a capture, whose text is given where it is known, was judged with this verb and these hands: the result, and what the
+-- writer holds before and after
+pub record IsJudgedFor (verb : Verb) (hands : Hands) (capture : Option (List ℕ)) (old : Option (List ℕ)) (result : Result Verdict JudgeError) (now : Option (List ℕ)) : Type 0 where
+  pub answer : IfSome capture (λ text. IfSome (answer_of result) (IsTheAnswer hands (rows_of text)))
+  pub told : EndsAs (TellsFor verb hands (option_map rows_of capture) old) result now
+  pub stopped : IfSome capture (λ text. IfErr result (StoppedBefore hands (rows_of text)))
+  pub kind : (e : CaptureError) → result ≡ Err (error.Capture e) → e.kind ≢ kind.OutOfMemory
+  pub can_be : CanBeResult result
+
+-- a task's capture was opened so, and this is the end: it was not opened, and nothing is written; or it was judged as
+-- the task says; or memory for the buffer was refused, and nothing is written
+abbrev pub EndsOpened : {R : Type 0} → (R → Option (List ℕ)) → Task → Result R Error → Option (List ℕ) → Outcome → Option (List ℕ) → Type 0
+EndsOpened coming task (Err e) old end now = (end ≡ outcome_unopened task.file e) × Keeps old now
+EndsOpened coming task (Ok reader) old end now =
+    ((end ≡ no_memory) × Keeps old now)
+    ⊎ ((result : Result Verdict JudgeError) × IsJudgedFor task.verb task.hands (coming reader) old result now × (end ≡ outcome_of result))
+
+-- the task was carried out: its file was opened, or standard input where it names none, and this is the end
+pub record EndsTask {R : Type 0} (opens : Option (String Global) → Result R Error → Type 0) (coming : R → Option (List ℕ)) (task : Task) (old : Option (List ℕ)) (end : Outcome) (now : Option (List ℕ)) : Type 0 where
+  pub opened : Result R Error
+  pub is_opened : opens task.file opened
+  pub ends : EndsOpened coming task opened old end now
+
+-- the end where there is no task: the words are none, or ask for the version, or memory was refused
+abbrev pub EndsWithout : WordsFault → Option (List ℕ) → End → Option (List ℕ) → Type 0
+EndsWithout (words.Usage text) old told now = (told ≡ end.Usage text) × Keeps old now
+EndsWithout words.Version old told now = (outcome : Outcome) × (told ≡ end.Told outcome) × TellsVersion old outcome now
+EndsWithout words.NoMemory old told now = (told ≡ end.Told no_memory) × Keeps old now
+
+-- the end of the program on these words: they are no command, and nothing is written; or memory was refused before a
+-- task stood, and nothing is written; or they ask for the version, and that is told; or the task that they give was
+-- carried out
+abbrev pub EndsWords : {R : Type 0} → (Option (String Global) → Result R Error → Type 0) → (R → Option (List ℕ)) → List (List ℕ) → Option (List ℕ) → End → Option (List ℕ) → Type 0
+EndsWords opens coming words old (end.Usage text) now = IsNoTask words × ¬ (AsksVersion words) × Keeps old now
+EndsWords opens coming words old (end.Told outcome) now =
+    ((outcome ≡ no_memory) × Keeps old now)
+    ⊎ ((MayAskVersion words × TellsVersion old outcome now)
+    ⊎ ((task : Task) × IsTaskOf words task × EndsTask opens coming task old outcome now))
+
+-- the end of the program, by its words or by why there are none
+abbrev pub EndsProgram : {R : Type 0} → (Option (String Global) → Result R Error → Type 0) → (R → Option (List ℕ)) → Result (Vec (String Global) Global) WordsFault → Option (List ℕ) → End → Option (List ℕ) → Type 0
+EndsProgram opens coming (Err fault) old end now = EndsWithout fault old end now
+EndsProgram opens coming (Ok words) old end now = EndsWords opens coming (map (λ s. string_bytes s) words.items) old end now

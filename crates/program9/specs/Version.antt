@@ -1,0 +1,13 @@
+-- What the program says where it is asked for its version.
+use Rattle.std.specs.Prelude.{◌≡◌, ◌⊎◌, ℕ, List, Option}
+use Rattle.std.specs.Io.KnownBytes.{Appends}
+use Rattle.judge9.specs.Report.{AppendsPart}
+use Rattle.words9.specs.Words.{version_line}
+use Rattle.program9.specs.declared.ending.Message.TheVariants as message
+use Rattle.program9.specs.declared.ending.Outcome.{Outcome}
+
+-- its name and version were written, and the status is 0; or the writer failed, and a first part was written
+abbrev pub TellsVersion : Option (List ℕ) → Outcome → Option (List ℕ) → Type 0
+TellsVersion old end now =
+    ((end ≡ record { status = 0; message = message.Nothing }) × Appends old now version_line)
+    ⊎ ((end ≡ record { status = 4; message = message.WriteFault }) × AppendsPart old now version_line)

@@ -1,0 +1,51 @@
+-- The words for what is wrong, for what was expected, and for why a file was not opened.
+use Rattle.std.specs.Prelude.{ℕ, List, Option, Some, None, String, codes}
+use Rattle.std.specs.Global.{Global}
+use Rattle.std.specs.String.{string_bytes}
+use Rattle.capture9.specs.declared.error.CaptureKind.{CaptureKind}
+use Rattle.capture9.specs.declared.error.CaptureKind.TheVariants as kind
+use Rattle.program9.specs.declared.ending.WhyUnopened.{WhyUnopened}
+use Rattle.program9.specs.declared.ending.WhyUnopened.TheVariants as why
+
+-- the word or two for a kind of fault
+abbrev pub word_of : CaptureKind → List ℕ
+word_of kind.Header = codes "header"
+word_of kind.Fields = codes "fields"
+word_of kind.Time = codes "time"
+word_of kind.Wire = codes "wire"
+word_of kind.Byte = codes "byte"
+word_of kind.Backwards = codes "backwards"
+word_of kind.TooMany = codes "too many rows"
+word_of kind.Read = codes "read fault"
+word_of kind.OutOfMemory = codes "out of memory"
+
+-- what was expected where there is this fault
+abbrev pub expected_of : CaptureKind → List ℕ
+expected_of kind.Header = codes "expected the header time_us,wire,byte; convert/ makes captures of exports, see docs/CAPTURE.md"
+expected_of kind.Fields = codes "expected three fields: time_us,wire,byte"
+expected_of kind.Time = codes "expected 1 to 15 decimal digits, the time in microseconds"
+expected_of kind.Wire = codes "expected C for the controller's wire, or D for the deck's"
+expected_of kind.Byte = codes "expected two hexadecimal digits"
+expected_of kind.Backwards = codes "expected a time that is not below that of the row before"
+expected_of kind.TooMany = codes "expected at most 4000000 rows; convert/split.awk cuts a longer capture, see docs/CAPTURE.md"
+expected_of kind.Read = codes "expected a capture that can be read to its end"
+expected_of kind.OutOfMemory = codes "expected a row that has an end"
+
+-- the first line where a file was not opened: a directory is told as its first read would be
+abbrev pub first_line_of : WhyUnopened → List ℕ
+first_line_of why.IsADirectory = codes "read fault at row 0"
+first_line_of _ = codes "cannot open"
+
+-- what a file is called
+abbrev pub file_name_of : Option (String Global) → List ℕ
+file_name_of (Some name) = string_bytes name
+file_name_of None = codes "standard input"
+
+-- why it was not opened, as the system's own tools say it
+abbrev pub reason_of : WhyUnopened → List ℕ
+reason_of why.NotFound = codes "No such file or directory"
+reason_of why.PermissionDenied = codes "Permission denied"
+reason_of why.IsADirectory = codes "Is a directory"
+reason_of why.NotADirectory = codes "Not a directory"
+reason_of why.FilesystemLoop = codes "Too many levels of symbolic links"
+reason_of why.Other = codes "The system does not open it"

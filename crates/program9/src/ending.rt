@@ -1,0 +1,94 @@
+//! How the program ends: its status, and what it says on standard error.
+
+use capture9::CaptureError;
+use clap::Error;
+
+/// What is said on standard error, which its `Display` writes: two lines, without a line feed at the end, or nothing. The
+/// first line says what happened; the second what was expected, or what to look at.
+#[derive(Debug, Drop, PartialEq, Eq)]
+pub enum Message {
+    /// There is a verdict, or the version was told, and nothing is to be said beside it.
+    Nothing,
+    /// A row of the capture is bad, or its header. The kind is neither `Read` nor `OutOfMemory`.
+    Unreadable(CaptureError),
+    /// The reader failed or was interrupted at this data row, counted from 1; 0 stands for the header.
+    ReadFault(u32),
+    /// The capture was not opened. No result of `judge` ends so.
+    CannotOpen(Unopened),
+    /// The writer failed, was interrupted, or took no byte.
+    WriteFault,
+    /// A growth of memory was refused.
+    NoMemory,
+}
+
+/// A capture that was not opened.
+#[derive(Debug, Drop, PartialEq, Eq)]
+pub struct Unopened {
+    /// The file, by the name that the words give; standard input where there is none.
+    pub file: Option<String>,
+    /// Why not.
+    pub why: WhyUnopened,
+}
+
+/// Why a capture was not opened, by the kind of the error that its opener gave.
+#[derive(Clone, Copy, Debug, PartialEq, Eq)]
+pub enum WhyUnopened {
+    /// There is no such file.
+    NotFound,
+    /// The file may not be read.
+    PermissionDenied,
+    /// It is a directory. The system opens one, and refuses its first read, so its first line is that of such a read.
+    IsADirectory,
+    /// What should be a directory of the path is none.
+    NotADirectory,
+    /// Its symbolic links lead to one another.
+    FilesystemLoop,
+    /// Anything else.
+    Other,
+}
+
+/// How the program ends where its words are a command.
+#[derive(Debug, Drop, PartialEq, Eq)]
+pub struct Outcome {
+    /// The exit status: 0 yes, or the version; 1 no, 3 a capture that can't be read, 4 a reader or a writer that failed
+    /// or a file that can't be opened, 5 want of memory. (Words that are no command end with 2, and have no outcome.)
+    pub status: u8,
+    /// What is said on standard error.
+    pub message: Message,
+}
+
+impl Outcome {
+    ghost use Rattle.std.specs.Prelude.{◌≡◌};
+
+    /// The end with this status and this message.
+    pub(crate) const fn new(status: u8, message: Message) -> Outcome
+        ensures { result ≡ record { status = status; message = message } }
+    {
+        Outcome { status, message }
+    }
+}
+
+/// How the program ends.
+#[derive(Debug, Drop)]
+pub enum End {
+    /// The words are no command, or they ask for help. The `Display` of the error, where there is one, is the text for
+    /// the user; there is none where a word is not UTF-8.
+    Usage(Option<Error>),
+    /// A status, and what is said on standard error.
+    Told(Outcome),
+}
+
+impl End {
+    ghost use Rattle.std.specs.Prelude.{◌≡◌};
+    ghost use Rattle.program9.specs.Status.{status_of};
+
+    /// The exit status: 2 where the words are no command, and else that of the outcome.
+    pub fn status(&self) -> u8
+        ensures { result ≡ status_of self.now }
+    {
+        match self {
+            End::Usage(_) => 2,
+            End::Told(outcome) => outcome.status,
+        }
+    }
+}

@@ -1,0 +1,17 @@
+//! The program from the words of the command line to its end, without the files: what opens a capture is handed in, and so is
+//! the writer of the report. `ninecheck` hands in those of the machine.
+#![tactic(auto)]
+
+mod buffered;
+mod ending;
+mod judging;
+mod message;
+mod program;
+mod status;
+mod version;
+
+pub use buffered::Buffered;
+pub use ending::{End, Message, Outcome, Unopened, WhyUnopened};
+pub use judging::{judge_and_flush, judge_with_run_and_flush, judge_with_why_and_flush};
+pub use program::run_program;
+pub use status::outcome;

@@ -1,0 +1,114 @@
+//! The text of what is said on standard error.
+ghost use Rattle.std.specs.Prelude.{◌≡◌};
+ghost use Rattle.program9.specs.Word.{expected_of, file_name_of, first_line_of, reason_of, word_of};
+
+use crate::ending::{Message, WhyUnopened};
+use capture9::CaptureKind;
+use std::fmt;
+
+impl fmt::Display for Message {
+    ghost use Rattle.std.specs.Prelude.{Some};
+    ghost use Rattle.program9.specs.Text.{text_of};
+
+    ghost output = { λ message. Some (text_of message) };
+
+    fn fmt<W: fmt::Write>(&self, f: &mut fmt::Formatter<W>) -> fmt::Result {
+        match self {
+            Message::Nothing => Ok(()),
+            Message::Unreadable(e) => {
+                let (row, word, expected) = (e.row, word_of(e.kind), expected_of(e.kind));
+                write!(f, "unreadable at row {row}: {word}\n{expected}")
+            }
+            Message::ReadFault(row) => {
+                let row = *row;
+                write!(
+                    f,
+                    "read fault at row {row}\nexpected a capture that can be read to its end, and is no directory"
+                )
+            }
+            Message::CannotOpen(unopened) => {
+                let (first, reason) = (first_line_of(unopened.why), reason_of(unopened.why));
+                let file = file_name_of(&unopened.file);
+                write!(f, "{first}\n{file}: {reason}")
+            }
+            Message::WriteFault => write!(
+                f,
+                "write fault\nstandard output is full or closed, and has a first part of what was to be written"
+            ),
+            Message::NoMemory => write!(
+                f,
+                "out of memory\na row may have no end, or memory is short: see ulimit -v"
+            ),
+        }
+    }
+}
+
+/// What is wrong at a row, in a word or two.
+fn word_of<'a>(kind: CaptureKind) -> &'a str
+    ensures { result.now ≡ word_of kind }
+{
+    match kind {
+        CaptureKind::Header => "header",
+        CaptureKind::Fields => "fields",
+        CaptureKind::Time => "time",
+        CaptureKind::Wire => "wire",
+        CaptureKind::Byte => "byte",
+        CaptureKind::Backwards => "backwards",
+        CaptureKind::TooMany => "too many rows",
+        CaptureKind::Read => "read fault",
+        CaptureKind::OutOfMemory => "out of memory",
+    }
+}
+
+/// What was expected at a row where this is wrong.
+fn expected_of<'a>(kind: CaptureKind) -> &'a str
+    ensures { result.now ≡ expected_of kind }
+{
+    match kind {
+        CaptureKind::Header =>
+            "expected the header time_us,wire,byte; convert/ makes captures of exports, see docs/CAPTURE.md",
+        CaptureKind::Fields => "expected three fields: time_us,wire,byte",
+        CaptureKind::Time => "expected 1 to 15 decimal digits, the time in microseconds",
+        CaptureKind::Wire => "expected C for the controller's wire, or D for the deck's",
+        CaptureKind::Byte => "expected two hexadecimal digits",
+        CaptureKind::Backwards => "expected a time that is not below that of the row before",
+        CaptureKind::TooMany =>
+            "expected at most 4000000 rows; convert/split.awk cuts a longer capture, see docs/CAPTURE.md",
+        CaptureKind::Read => "expected a capture that can be read to its end",
+        CaptureKind::OutOfMemory => "expected a row that has an end",
+    }
+}
+
+/// The first line where a capture was not opened.
+fn first_line_of<'a>(why: WhyUnopened) -> &'a str
+    ensures { result.now ≡ first_line_of why }
+{
+    match why {
+        WhyUnopened::IsADirectory => "read fault at row 0",
+        _ => "cannot open",
+    }
+}
+
+/// What a file is called.
+fn file_name_of(file: &Option<String>) -> &str
+    ensures { result.now ≡ file_name_of file.now }
+{
+    match file {
+        Some(name) => name.as_str(),
+        None => "standard input",
+    }
+}
+
+/// Why a capture was not opened, as the system's own tools say it.
+fn reason_of<'a>(why: WhyUnopened) -> &'a str
+    ensures { result.now ≡ reason_of why }
+{
+    match why {
+        WhyUnopened::NotFound => "No such file or directory",
+        WhyUnopened::PermissionDenied => "Permission denied",
+        WhyUnopened::IsADirectory => "Is a directory",
+        WhyUnopened::NotADirectory => "Not a directory",
+        WhyUnopened::FilesystemLoop => "Too many levels of symbolic links",
+        WhyUnopened::Other => "The system does not open it",
+    }
+}

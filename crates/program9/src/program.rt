@@ -1,0 +1,133 @@
+//! From the words of the command line to how the program ends.
+ghost use Rattle.std.specs.Prelude.{◌≡◌};
+ghost use Rattle.std.specs.Fn.{FnOnceReturnsAt};
+ghost use Rattle.program9.specs.Output.{contents_behind, held_contents};
+ghost use Rattle.program9.specs.Program.{EndsProgram, EndsTask, EndsWithout, IsJudgedFor, outcome_unopened, why_of};
+
+use crate::buffered::Buffered;
+use crate::ending::{End, Message, Outcome, Unopened, WhyUnopened};
+use crate::judging::{judge_and_flush, judge_with_run_and_flush, judge_with_why_and_flush};
+use crate::status::outcome;
+use crate::version::tell_version;
+use deck9::Hands;
+use judge9::{JudgeError, Verdict, View};
+use std::alloc::Global;
+use std::io::{self, Read, Write};
+use words9::{Task, Verb, WordsFault, read_words};
+
+/// The program from its words, or from why there are none, to its end: reads the task, opens its capture, judges that
+/// and writes the report to `out`; or writes its version there. It answers how the program ends, and the writer as it left
+/// it.
+///
+/// `opener` is asked once, for the task's file, where there is a task. The end is
+///
+/// * `Usage` only where the words are no command, or could not be fetched as text: nothing is written;
+/// * the `Outcome` of the judging that the words ask for: with their verb, and with hands where they say so;
+/// * status 4 with `CannotOpen`, the file and the reason where `opener` failed: nothing is written;
+/// * status 0 where the words ask for the version: its line is written; or status 4 with `WriteFault`, and a first part of
+///   it;
+/// * status 5 with `NoMemory` where a growth of memory is refused.
+pub fn run_program<F: FnOnce(&Option<String>) -> io::Result<R>, R: Read + Drop, W: Write + Drop>(
+    alloc: Global,
+    words: Result<Vec<String>, WordsFault>,
+    opener: F,
+    out: W,
+) -> (End, W)
+    requires { F.IsAlwaysCallable opener }
+    ensures { EndsProgram (FnOnceReturnsAt F.FnOnce opener) R.remaining words (W.contents out) result.0 (W.contents result.1) }
+{
+    let words = match words {
+        Ok(words) => words,
+        Err(fault) => return end_without(fault, out),
+    };
+    match read_words(alloc, words) {
+        Ok(task) => {
+            let (end, out) = carry_out(alloc, task, opener, out);
+            (End::Told(end), out)
+        }
+        Err(fault) => end_without(fault, out),
+    }
+}
+
+/// The end where there is no task, and the writer as it is left.
+fn end_without<W: Write + Drop>(fault: WordsFault, out: W) -> (End, W)
+    ensures { EndsWithout fault (W.contents out) result.0 (W.contents result.1) }
+{
+    match fault {
+        WordsFault::Usage(text) => (End::Usage(text), out),
+        WordsFault::Version => {
+            let (end, out) = tell_version(out);
+            (End::Told(end), out)
+        }
+        WordsFault::NoMemory => (End::Told(Outcome::new(5, Message::NoMemory)), out),
+    }
+}
+
+/// Opens the task's capture, judges it and hands the report on.
+fn carry_out<F: FnOnce(&Option<String>) -> io::Result<R>, R: Read + Drop, W: Write + Drop>(
+    alloc: Global,
+    task: Task,
+    opener: F,
+    out: W,
+) -> (Outcome, W)
+    requires { F.IsAlwaysCallable opener }
+    ensures { EndsTask (FnOnceReturnsAt F.FnOnce opener) R.remaining task (W.contents out) result.0 (W.contents result.1) }
+{
+    let Task { verb, file, hands } = task;
+    let reader = match opener(&file) {
+        Ok(reader) => reader,
+        Err(e) => return (not_opened(file, &e), out),
+    };
+    let mut out = match Buffered::new(alloc, out) {
+        Ok(out) => out,
+        Err(out) => return (Outcome::new(5, Message::NoMemory), out),
+    };
+    let judged = judge_for(alloc, reader, &mut out, verb, hands);
+    (outcome(&judged), out.into_writer())
+}
+
+/// The end where the capture was not opened.
+fn not_opened(file: Option<String>, e: &io::Error) -> Outcome
+    ensures { result ≡ outcome_unopened file e.now }
+{
+    match e.kind() {
+        io::ErrorKind::OutOfMemory => Outcome::new(5, Message::NoMemory),
+        kind => {
+            let why = why_of(kind);
+            Outcome::new(4, Message::CannotOpen(Unopened { file, why }))
+        }
+    }
+}
+
+/// Why a capture was not opened whose opener failed so.
+fn why_of(kind: io::ErrorKind) -> WhyUnopened
+    ensures { result ≡ why_of kind }
+{
+    match kind {
+        io::ErrorKind::NotFound => WhyUnopened::NotFound,
+        io::ErrorKind::PermissionDenied => WhyUnopened::PermissionDenied,
+        io::ErrorKind::IsADirectory => WhyUnopened::IsADirectory,
+        io::ErrorKind::NotADirectory => WhyUnopened::NotADirectory,
+        io::ErrorKind::FilesystemLoop => WhyUnopened::FilesystemLoop,
+        _ => WhyUnopened::Other,
+    }
+}
+
+/// The judging that a verb asks for.
+fn judge_for<R: Read + Drop, W: Write + Drop>(
+    alloc: Global,
+    reader: R,
+    out: &mut Buffered<W>,
+    verb: Verb,
+    hands: Hands,
+) -> Result<Verdict, JudgeError>
+    ensures { IsJudgedFor verb hands (R.remaining reader) (held_contents W.contents out.old)
+        result (contents_behind W.contents out.new) }
+{
+    match verb {
+        Verb::Check => judge_and_flush(alloc, reader, out, View::Verdict, hands),
+        Verb::Explain => judge_and_flush(alloc, reader, out, View::Explain, hands),
+        Verb::Run => judge_with_run_and_flush(alloc, reader, out, hands),
+        Verb::Why => judge_with_why_and_flush(alloc, reader, out, hands),
+    }
+}

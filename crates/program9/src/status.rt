@@ -1,0 +1,33 @@
+//! From the result of a judging to how the program ends.
+ghost use Rattle.std.specs.Prelude.{◌≡◌};
+ghost use Rattle.program9.specs.Outcome.{outcome_of};
+
+use crate::ending::{Message, Outcome};
+use capture9::CaptureKind;
+use judge9::{JudgeError, Verdict};
+
+/// How the program ends after a judging; the statuses are this profile's choice. Takes no memory.
+///
+/// | `judge` answers | status | message |
+/// |---|---|---|
+/// | a yes | 0 | none |
+/// | a no | 1 | none |
+/// | a bad row, or a bad header | 3 | what is wrong, and the row |
+/// | that the reader failed | 4 | the row |
+/// | that the writer failed | 4 | a write fault |
+/// | want of memory, in either form | 5 | want of memory |
+pub fn outcome(judged: &Result<Verdict, JudgeError>) -> Outcome
+    ensures { result ≡ outcome_of judged.now }
+{
+    match judged {
+        Ok(Verdict::Yes { .. }) => Outcome::new(0, Message::Nothing),
+        Ok(Verdict::No { .. }) => Outcome::new(1, Message::Nothing),
+        Err(JudgeError::Capture(e)) => match e.kind {
+            CaptureKind::Read => Outcome::new(4, Message::ReadFault(e.row)),
+            CaptureKind::OutOfMemory => Outcome::new(5, Message::NoMemory),
+            _ => Outcome::new(3, Message::Unreadable(*e)),
+        },
+        Err(JudgeError::Write) => Outcome::new(4, Message::WriteFault),
+        Err(JudgeError::OutOfMemory) => Outcome::new(5, Message::NoMemory),
+    }
+}

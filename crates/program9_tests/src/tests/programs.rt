@@ -1,0 +1,195 @@
+//! The program from its words to its end, over readers and writers that are made here.
+
+use crate::tests::same;
+use crate::tests::writers::{Narrow, took, took_to_the_end};
+use program9::{End, Message, Outcome, Unopened, WhyUnopened, run_program};
+use std::alloc::{AllocError, Global};
+use std::io;
+use words9::WordsFault;
+
+/// PLAY and its acknowledgement.
+const PLAY: &str =
+    "time_us,wire,byte\n400,C,20\n800,C,01\n1200,C,21\n1600,D,10\n2000,D,01\n2400,D,11\n";
+
+/// What is answered to it.
+const YES: &str = "yes: records 6, exchanges 1, open 0\n";
+
+/// A status reply that the deck is not in local, and then one that it is: somebody has switched it.
+const SWITCHED: &str = "time_us,wire,byte\n\
+    400,C,61\n800,C,20\n1200,C,01\n1600,C,82\n2000,D,71\n2400,D,20\n2800,D,00\n3200,D,91\n\
+    3600,C,61\n4000,C,20\n4400,C,01\n4800,C,82\n5200,D,71\n5600,D,20\n6000,D,01\n6400,D,92\n";
+
+/// The words of a command line.
+fn words_of(alloc: Global, words: &[&str]) -> Result<Vec<String>, AllocError> {
+    let mut all = Vec::new(alloc);
+    for word in words {
+        all.push(String::from_str(alloc, word)?)?;
+    }
+    Ok(all)
+}
+
+/// What stands for the files: `switched.csv`, and PLAY on standard input. Nothing else can be opened.
+fn opened<'a>(file: &Option<String>) -> io::Result<&'a [u8]> {
+    match file {
+        None => Ok(PLAY.as_bytes()),
+        Some(name) => match name.as_str() {
+            "switched.csv" => Ok(SWITCHED.as_bytes()),
+            "" => Err(io::Error::from(io::ErrorKind::OutOfMemory)),
+            "forbidden.csv" => Err(io::Error::from(io::ErrorKind::PermissionDenied)),
+            "folder" => Err(io::Error::from(io::ErrorKind::IsADirectory)),
+            "play.csv/more" => Err(io::Error::from(io::ErrorKind::NotADirectory)),
+            "loop" => Err(io::Error::from(io::ErrorKind::FilesystemLoop)),
+            "busy" => Err(io::Error::from(io::ErrorKind::ResourceBusy)),
+            _ => Err(io::Error::from(io::ErrorKind::NotFound)),
+        },
+    }
+}
+
+/// The end of the program on these words, before this writer.
+fn end_on(rt: &HostRuntime, words: &[&str], writer: Narrow) -> (End, Narrow) {
+    let words = words_of(rt.alloc(), words).map_err(|_| WordsFault::NoMemory);
+    run_program(rt.alloc(), words, |file| opened(file), writer)
+}
+
+/// Whether the program ends so.
+fn is_told(end: &End, status: u8, message: Message) -> bool {
+    match end {
+        End::Usage(_) => false,
+        End::Told(outcome) => { end.status() == status && *outcome == Outcome { status, message } }
+    }
+}
+
+#[test]
+fn the_task_of_the_words_is_carried_out(rt: HostRuntime) {
+    let (yes, no) = (
+        "yes: records 16, exchanges 2, open 0\n",
+        "no at record 16: M1 no run remains\n",
+    );
+    let table: [(&[&str], u8, &str, &str); 12] = [
+        (&["check"], 0, YES, YES),
+        (&["check", "--hands"], 0, YES, YES),
+        (&["check", "switched.csv"], 1, no, no),
+        (&["check", "switched.csv", "--hands"], 0, yes, yes),
+        (&["explain"], 0, "record 6: PLAY -> ACK, ", YES),
+        (
+            &["explain", "switched.csv"],
+            1,
+            "record 8: STATUS SENSE -> ",
+            no,
+        ),
+        (
+            &["explain", "--hands", "switched.csv"],
+            0,
+            "record 8: STATUS SENSE -> ",
+            yes,
+        ),
+        (&["run"], 0, "record 6: goal PLAY, ", YES),
+        (
+            &["run", "--hands", "switched.csv"],
+            0,
+            "record 8: goal ",
+            yes,
+        ),
+        (&["why"], 0, YES, YES),
+        (&["why", "switched.csv"], 1, "records 1 to 8 at ", no),
+        (&["why", "--hands", "switched.csv"], 0, yes, yes),
+    ];
+    for (words, status, start, last) in &table {
+        let (end, writer) = end_on(&rt, *words, Narrow::new(rt.alloc(), usize::MAX));
+        same(&rt, is_told(&end, *status, Message::Nothing), true, *words);
+        same(
+            &rt,
+            writer.taken.starts_with(start.as_bytes()),
+            true,
+            *words,
+        );
+        took_to_the_end(&rt, &writer, last.as_bytes());
+    }
+}
+
+#[test]
+fn words_that_are_no_command_end_with_2(rt: HostRuntime) {
+    let table: [&[&str]; 4] = [
+        &[],
+        &["frob"],
+        &["check", "--hands", "--hands"],
+        &["--help"],
+    ];
+    for words in &table {
+        let (end, writer) = end_on(&rt, *words, Narrow::new(rt.alloc(), usize::MAX));
+        let is_usage = matches!(&end, End::Usage(Some(_)));
+        same(&rt, (end.status(), is_usage), (2, true), *words);
+        took(&rt, &writer, b"", 0, 0);
+    }
+}
+
+#[test]
+fn there_may_be_no_words(rt: HostRuntime) {
+    let writer = Narrow::new(rt.alloc(), usize::MAX);
+    let words = Err(WordsFault::Usage(None));
+    let (end, writer) = run_program(rt.alloc(), words, |file| opened(file), writer);
+    let is_usage = matches!(&end, End::Usage(None));
+    same(&rt, (end.status(), is_usage), (2, true), "no help");
+    let words = Err(WordsFault::NoMemory);
+    let (end, writer) = run_program(rt.alloc(), words, |file| opened(file), writer);
+    same(&rt, is_told(&end, 5, Message::NoMemory), true, "no memory");
+    took(&rt, &writer, b"", 0, 0);
+}
+
+#[test]
+fn a_file_that_is_not_opened(rt: HostRuntime) {
+    let table = [
+        ("absent.csv", WhyUnopened::NotFound),
+        ("forbidden.csv", WhyUnopened::PermissionDenied),
+        ("folder", WhyUnopened::IsADirectory),
+        ("play.csv/more", WhyUnopened::NotADirectory),
+        ("loop", WhyUnopened::FilesystemLoop),
+        ("busy", WhyUnopened::Other),
+    ];
+    for verb in ["check", "explain", "run", "why"] {
+        for (name, why) in &table {
+            let (end, writer) = end_on(&rt, &[verb, *name], Narrow::new(rt.alloc(), usize::MAX));
+            let file = Some(String::from_str(rt.alloc(), *name).expect(&rt, "memory"));
+            let unopened = Unopened { file, why: *why };
+            same(
+                &rt,
+                is_told(&end, 4, Message::CannotOpen(unopened)),
+                true,
+                *name,
+            );
+            took(&rt, &writer, b"", 0, 0);
+        }
+        let (end, writer) = end_on(&rt, &[verb, ""], Narrow::new(rt.alloc(), usize::MAX));
+        same(&rt, is_told(&end, 5, Message::NoMemory), true, verb);
+        took(&rt, &writer, b"", 0, 0);
+    }
+}
+
+#[test]
+fn the_version_is_told(rt: HostRuntime) {
+    let table: [&[&str]; 3] = [&["--version"], &["-V"], &["-V", "frob"]];
+    for words in &table {
+        let (end, writer) = end_on(&rt, *words, Narrow::new(rt.alloc(), usize::MAX));
+        same(&rt, is_told(&end, 0, Message::Nothing), true, *words);
+        took(&rt, &writer, b"ninecheck 1.0.0\n", 0, 1);
+    }
+    let (end, writer) = end_on(&rt, &["-V"], Narrow::new(rt.alloc(), 4));
+    same(&rt, is_told(&end, 4, Message::WriteFault), true, "no room");
+    took(&rt, &writer, b"nine", 1, 0);
+    let (end, writer) = end_on(&rt, &["-V"], Narrow::that_fails_to_flush(rt.alloc()));
+    same(&rt, is_told(&end, 4, Message::WriteFault), true, "no flush");
+    took_to_the_end(&rt, &writer, b"ninecheck 1.0.0\n");
+}
+
+#[test]
+fn a_writer_that_fails(rt: HostRuntime) {
+    for verb in ["check", "explain", "run", "why"] {
+        let (end, writer) = end_on(&rt, &[verb], Narrow::new(rt.alloc(), 4));
+        same(&rt, is_told(&end, 4, Message::WriteFault), true, verb);
+        let counts = (writer.taken.len(), writer.failures, writer.flushes);
+        same(&rt, counts, (4, 1, 0), verb);
+        let (end, writer) = end_on(&rt, &[verb], Narrow::that_fails_to_flush(rt.alloc()));
+        same(&rt, is_told(&end, 4, Message::WriteFault), true, verb);
+        took_to_the_end(&rt, &writer, YES.as_bytes());
+    }
+}
