@@ -4,7 +4,7 @@ use block9::Reason;
 use capture9::LineByte;
 
 /// Where the judging of all rows stopped, when it did so with a verdict.
-#[derive(Clone, Copy, Debug, PartialEq, Eq)]
+#[derive(Clone, Copy)]
 pub(crate) enum Ending {
     /// The rows came to their end, and all records keep the rules.
     End {

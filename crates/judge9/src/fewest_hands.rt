@@ -62,14 +62,9 @@ fn states_with_fewest_moves(
     exchanges: &[Exchange],
 ) -> Result<Vec<State>, AllocError> {
     let starts = starts_of_stretches(alloc, exchanges)?;
-    let mut states = states_of_stretches(alloc, exchanges, &starts)?;
-    for start in starts.iter() {
-        if let Some(before) = exchanges.get(..*start) {
-            switch_on_for_hand(before, &mut states);
-        }
-    }
-    switch_panels(exchanges, &mut states);
-    Ok(states)
+    let states = states_of_stretches(alloc, exchanges, &starts);
+    drop(starts);
+    states
 }
 
 /// The places at which the stretches begin, the first of them 0: a hand moves before the exchange at each other one.
@@ -120,23 +115,61 @@ fn last_moment(
     Ok(None)
 }
 
-/// The states after each exchange, where the deck goes through each stretch without a hand. The panel is off in all of
-/// them.
+/// The states after each exchange in such a run, where its stretches begin at these places.
 fn states_of_stretches(
     alloc: Global,
     exchanges: &[Exchange],
     starts: &[usize],
 ) -> Result<Vec<State>, AllocError> {
     let mut states = Vec::new(alloc);
+    match put_states(alloc, exchanges, starts, &mut states) {
+        Ok(()) => Ok(states),
+        Err(error) => {
+            drop(states);
+            Err(error)
+        }
+    }
+}
+
+/// Puts these states into `states`, which has none yet. They are found with the panel off in all of them, so it is
+/// switched afterwards.
+fn put_states(
+    alloc: Global,
+    exchanges: &[Exchange],
+    starts: &[usize],
+    states: &mut Vec<State>,
+) -> Result<(), AllocError> {
+    go_back_by_stretches(alloc, exchanges, starts, states)?;
+    states.reverse();
+    for start in starts {
+        switch_on_for_hand(between(exchanges, 0, *start), states);
+    }
+    switch_panels(exchanges, states);
+    Ok(())
+}
+
+/// Goes back through each stretch without a hand, and puts the states after each exchange behind `states`, the last one
+/// first.
+fn go_back_by_stretches(
+    alloc: Global,
+    exchanges: &[Exchange],
+    starts: &[usize],
+    states: &mut Vec<State>,
+) -> Result<(), AllocError> {
     let mut end = exchanges.len();
     for start in starts.iter().rev() {
-        if let Some(stretch) = exchanges.get(*start..end) {
-            go_back_untouched(alloc, stretch, &mut states)?;
-        }
+        go_back_untouched(alloc, between(exchanges, *start, end), states)?;
         end = *start;
     }
-    states.reverse();
-    Ok(states)
+    Ok(())
+}
+
+/// The exchanges from the one at `start` to the one before `end`, or none where there are no such places.
+fn between(exchanges: &[Exchange], start: usize, end: usize) -> &[Exchange] {
+    match exchanges.get(start..end) {
+        Some(stretch) => stretch,
+        None => &[],
+    }
 }
 
 /// Goes back through the exchanges of a stretch without a hand, and puts the states after each of them behind `states`,

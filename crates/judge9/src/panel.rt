@@ -4,7 +4,7 @@ use block9::{Exchange, NakBits};
 use deck9::{Effect, State};
 
 /// What a command that is acknowledged makes of the panel.
-#[derive(Clone, Copy, Debug, PartialEq, Eq)]
+#[derive(Clone, Copy)]
 enum Switch {
     /// It is on.
     On,
@@ -40,30 +40,44 @@ pub(crate) fn may_be_on_after(exchange: &Exchange, may_be_on: bool) -> bool {
 /// state and in those before it, back to the exchange that left the panel free.
 pub(crate) fn switch_on_for_hand(exchanges: &[Exchange], states: &mut [State]) {
     for at in (0..exchanges.len()).rev() {
-        let Some(state) = states.get_mut(at) else {
-            return;
-        };
-        if state.panel {
+        if !switch_on(&exchanges[at], states.get_mut(at)) {
             return;
         }
-        state.panel = true;
-        if switch_of(&exchanges[at]).is_some() {
-            return;
+    }
+}
+
+/// Switches the panel on in the state after an exchange, and tells whether it has to be switched on before the exchange
+/// too: not where it was on already, and not where the exchange switched it or left it free.
+fn switch_on(exchange: &Exchange, state: Option<&mut State>) -> bool {
+    match state {
+        Some(state) if !state.panel => {
+            state.panel = true;
+            switch_of(exchange).is_none()
         }
+        _ => false,
     }
 }
 
 /// Switches the panel in the states after each of the exchanges on and off, as the commands do. Where a command leaves it
 /// free, it stays as it is in that state, and as it is in the first one before all of them.
 pub(crate) fn switch_panels(exchanges: &[Exchange], states: &mut [State]) {
-    let mut is_on = states.first().is_some_and(|state| state.panel);
+    let mut is_on = match states.first() {
+        Some(state) => state.panel,
+        None => false,
+    };
     for (exchange, state) in exchanges.iter().zip(states.iter_mut()) {
-        is_on = match switch_of(exchange) {
-            Some(Switch::On) => true,
-            Some(Switch::Off) => false,
-            Some(Switch::Free) => state.panel,
-            None => is_on,
-        };
+        is_on = is_on_after(exchange, is_on, state.panel);
         state.panel = is_on;
+    }
+}
+
+/// Whether the panel is on after an exchange, where it is told whether it is on before it, and whether it is on behind it
+/// where the command leaves it free.
+fn is_on_after(exchange: &Exchange, is_on: bool, where_free: bool) -> bool {
+    match switch_of(exchange) {
+        Some(Switch::On) => true,
+        Some(Switch::Off) => false,
+        Some(Switch::Free) => where_free,
+        None => is_on,
     }
 }
