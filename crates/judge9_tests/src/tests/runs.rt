@@ -33,44 +33,160 @@ const SHOWS_PLAY: Sent<'static> = (&[0x61, 0x20, 0x12, 0x93], &[0x72, 0x20, 0x01
 const REMOTE: Sent<'static> = (&[0x61, 0x20, 0x01, 0x82], &[0x71, 0x20, 0x00, 0x91]);
 
 /// Exchanges, states, and whether these are a run.
-type Row<'a> = (&'a [Sent<'a>], &'a [State], bool);
+type Row<'a> = (&'a [Sent<'a>], &'a [Stood], bool);
 
-/// A deck in remote with nothing set and the panel off.
-fn deck(goal: Mode, shown: Mode) -> State {
-    State {
-        goal,
-        shown,
-        ins: Entry::Clear,
-        outs: Entry::Clear,
-        ains: Entry::Clear,
-        aouts: Entry::Clear,
-        local: false,
-        panel: false,
+/// A state of which no register but perhaps IN is set.
+#[derive(Clone, Copy)]
+struct Stood {
+    goal: Mode,
+    shown: Mode,
+    /// Where IN is set, that many frames after midnight.
+    in_frames: Option<u32>,
+    local: bool,
+    panel: bool,
+}
+
+/// A stopped deck in remote with nothing set and the panel off.
+const STOPPED: Stood = Stood {
+    goal: Mode::Stop,
+    shown: Mode::Stop,
+    in_frames: None,
+    local: false,
+    panel: false,
+};
+
+const STOPPED_IN_LOCAL: Stood = Stood {
+    local: true,
+    ..STOPPED
+};
+
+/// A deck in remote that goes for PLAY and shows STOP.
+const PLAYING: Stood = Stood {
+    goal: Mode::Play,
+    ..STOPPED
+};
+
+const SHOWING_PLAY: Stood = Stood {
+    shown: Mode::Play,
+    ..PLAYING
+};
+
+const SHOWING_REC: Stood = Stood {
+    shown: Mode::Rec,
+    ..PLAYING
+};
+
+const SHOWING_REWIND: Stood = Stood {
+    shown: Mode::Rewind,
+    ..PLAYING
+};
+
+const SHOWING_PLAY_TOUCHED: Stood = Stood {
+    panel: true,
+    ..SHOWING_PLAY
+};
+
+/// A stopped deck with IN set at midnight.
+const MARKED_0: Stood = Stood {
+    in_frames: Some(0),
+    ..STOPPED
+};
+
+const MARKED_1: Stood = Stood {
+    in_frames: Some(1),
+    ..STOPPED
+};
+
+const MARKED_5: Stood = Stood {
+    in_frames: Some(5),
+    ..STOPPED
+};
+
+const MARKED_LAST: Stood = Stood {
+    in_frames: Some(2_159_999),
+    ..STOPPED
+};
+
+/// The same, with IN set at 10:00:00:00 and at the frame after it.
+const MARKED_10: Stood = Stood {
+    in_frames: Some(900_000),
+    ..STOPPED
+};
+
+const MARKED_10_NEXT: Stood = Stood {
+    in_frames: Some(900_001),
+    ..STOPPED
+};
+
+/// The same with the panel on.
+const TOUCHED_0: Stood = Stood {
+    panel: true,
+    ..MARKED_0
+};
+
+const TOUCHED_5: Stood = Stood {
+    panel: true,
+    ..MARKED_5
+};
+
+const AS_MANY: &[Row<'static>] = &[
+    (&[], &[], true),
+    (&[PLAY], &[], false),
+    (&[], &[PLAYING], false),
+    (&[PLAY], &[PLAYING], true),
+    (&[PLAY, PLAY], &[PLAYING], false),
+];
+
+const MODES: &[Row<'static>] = &[
+    (&[PLAY], &[STOPPED], false),
+    (&[PLAY], &[STOPPED_IN_LOCAL], true),
+    (&[PLAY], &[SHOWING_PLAY_TOUCHED], false),
+    (&[PLAY, SHOWS_PLAY], &[SHOWING_REC, SHOWING_PLAY], true),
+    (&[PLAY, SHOWS_STOP], &[SHOWING_REC, SHOWING_PLAY], false),
+    // the deck comes to PLAY, and then to the end of the tape
+    (&[PLAY, SHOWS_STOP], &[SHOWING_REC, STOPPED], true),
+    (&[PLAY, REMOTE], &[SHOWING_REC, SHOWING_REWIND], false),
+];
+
+const SHIFTED: &[Row<'static>] = &[
+    (&[PRESET_10, SHIFT_MORE], &[MARKED_10, MARKED_10_NEXT], true),
+    (&[PRESET_10, SHIFT_MORE], &[MARKED_10, MARKED_10], false),
+    (&[SHIFT_MORE, SHIFT_LESS], &[MARKED_0, MARKED_LAST], true),
+    (&[SHIFT_LESS, SHIFT_LESS], &[MARKED_0, MARKED_1], false),
+];
+
+const TOUCHED: &[Row<'static>] = &[
+    (&[ENABLE, REMOTE], &[TOUCHED_0, TOUCHED_5], true),
+    (&[ENABLE, REMOTE], &[TOUCHED_0, MARKED_5], false),
+    (&[REMOTE, REMOTE], &[MARKED_0, TOUCHED_5], false),
+    (&[REMOTE, REMOTE], &[MARKED_0, MARKED_5], false),
+    (&[REMOTE, SHIFT_MORE], &[TOUCHED_0, TOUCHED_5], true),
+];
+
+/// What IN holds: a time that many frames after midnight, or nothing.
+fn entry_of(frames: Option<u32>) -> Entry {
+    match frames {
+        Some(frames) => Entry::At(TimeCode::from_frames(frames).unwrap_or_default()),
+        None => Entry::Clear,
     }
 }
 
-/// A stopped deck with IN set, that many frames after midnight.
-fn marked(frames: u32) -> State {
-    State {
-        ins: Entry::At(TimeCode::from_frames(frames).unwrap_or_default()),
-        ..deck(Mode::Stop, Mode::Stop)
+/// The states that these are.
+fn states(alloc: Global, stood: &[Stood]) -> Result<Vec<State>, AllocError> {
+    let mut states = Vec::new(alloc);
+    for state in stood {
+        states.push(State {
+            goal: state.goal,
+            shown: state.shown,
+            ins: entry_of(state.in_frames),
+            outs: Entry::Clear,
+            ains: Entry::Clear,
+            aouts: Entry::Clear,
+            local: state.local,
+            panel: state.panel,
+        })?;
     }
-}
-
-/// The state with the deck in local.
-fn in_local(state: State) -> State {
-    State {
-        local: true,
-        ..state
-    }
-}
-
-/// The state with the panel on.
-fn touched(state: State) -> State {
-    State {
-        panel: true,
-        ..state
-    }
+    Ok(states)
 }
 
 /// The exchanges that these blocks are.
@@ -93,99 +209,45 @@ fn exchanges(alloc: Global, sent: &[Sent]) -> Result<Vec<Exchange>, AllocError> 
     Ok(exchanges)
 }
 
+/// Compares what is answered for a row.
+fn tell_row(
+    rt: &impl Abort,
+    hands: Hands,
+    exchanges: &[Exchange],
+    states: &[State],
+    (sent, _, expected): &Row,
+) {
+    same(rt, exchanges.len(), sent.len(), sent);
+    let is_run = is_run(exchanges, states, hands);
+    same(rt, is_run, *expected, (sent, states));
+}
+
 /// Compares what is answered for each row.
 fn agree(rt: &impl Abort, alloc: Global, hands: Hands, rows: &[Row]) -> Result<(), Fail> {
-    for (sent, states, expected) in rows {
-        let exchanges = exchanges(alloc, sent)?;
-        same(rt, exchanges.len(), sent.len(), sent);
-        let is_run = is_run(exchanges.as_slice(), states, hands);
-        same(rt, is_run, *expected, (sent, states));
+    for row in rows {
+        let exchanges = exchanges(alloc, row.0)?;
+        let states = states(alloc, row.1)?;
+        tell_row(rt, hands, exchanges.as_slice(), states.as_slice(), row);
     }
     Ok(())
 }
 
 #[test]
 fn as_many_states_as_exchanges(rt: HostRuntime) -> Result<(), Fail> {
-    let rows: &[Row] = &[
-        (&[], &[], true),
-        (&[PLAY], &[], false),
-        (&[], &[deck(Mode::Play, Mode::Stop)], false),
-        (&[PLAY], &[deck(Mode::Play, Mode::Stop)], true),
-        (&[PLAY, PLAY], &[deck(Mode::Play, Mode::Stop)], false),
-    ];
-    agree(&rt, rt.alloc(), Hands::None, rows)
+    agree(&rt, rt.alloc(), Hands::None, AS_MANY)
 }
 
 #[test]
 fn a_goal_and_the_mode_that_is_shown(rt: HostRuntime) -> Result<(), Fail> {
-    let rows: &[Row] = &[
-        (&[PLAY], &[deck(Mode::Stop, Mode::Stop)], false),
-        (&[PLAY], &[in_local(deck(Mode::Stop, Mode::Stop))], true),
-        (&[PLAY], &[touched(deck(Mode::Play, Mode::Play))], false),
-        (
-            &[PLAY, SHOWS_PLAY],
-            &[deck(Mode::Play, Mode::Rec), deck(Mode::Play, Mode::Play)],
-            true,
-        ),
-        (
-            &[PLAY, SHOWS_STOP],
-            &[deck(Mode::Play, Mode::Rec), deck(Mode::Play, Mode::Play)],
-            false,
-        ),
-        // the deck comes to PLAY, and then to the end of the tape
-        (
-            &[PLAY, SHOWS_STOP],
-            &[deck(Mode::Play, Mode::Rec), deck(Mode::Stop, Mode::Stop)],
-            true,
-        ),
-        (
-            &[PLAY, REMOTE],
-            &[deck(Mode::Play, Mode::Rec), deck(Mode::Play, Mode::Rewind)],
-            false,
-        ),
-    ];
-    agree(&rt, rt.alloc(), Hands::None, rows)
+    agree(&rt, rt.alloc(), Hands::None, MODES)
 }
 
 #[test]
 fn a_register_that_is_shifted(rt: HostRuntime) -> Result<(), Fail> {
-    let rows: &[Row] = &[
-        (
-            &[PRESET_10, SHIFT_MORE],
-            &[marked(900_000), marked(900_001)],
-            true,
-        ),
-        (
-            &[PRESET_10, SHIFT_MORE],
-            &[marked(900_000), marked(900_000)],
-            false,
-        ),
-        (
-            &[SHIFT_MORE, SHIFT_LESS],
-            &[marked(0), marked(2_159_999)],
-            true,
-        ),
-        (&[SHIFT_LESS, SHIFT_LESS], &[marked(0), marked(1)], false),
-    ];
-    agree(&rt, rt.alloc(), Hands::None, rows)
+    agree(&rt, rt.alloc(), Hands::None, SHIFTED)
 }
 
 #[test]
 fn a_hand_on_the_panel(rt: HostRuntime) -> Result<(), Fail> {
-    let rows: &[Row] = &[
-        (
-            &[ENABLE, REMOTE],
-            &[touched(marked(0)), touched(marked(5))],
-            true,
-        ),
-        (&[ENABLE, REMOTE], &[touched(marked(0)), marked(5)], false),
-        (&[REMOTE, REMOTE], &[marked(0), touched(marked(5))], false),
-        (&[REMOTE, REMOTE], &[marked(0), marked(5)], false),
-        (
-            &[REMOTE, SHIFT_MORE],
-            &[touched(marked(0)), touched(marked(5))],
-            true,
-        ),
-    ];
-    agree(&rt, rt.alloc(), Hands::Allowed, rows)
+    agree(&rt, rt.alloc(), Hands::Allowed, TOUCHED)
 }
