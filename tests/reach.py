@@ -20,8 +20,8 @@ import sys
 # The parts, in the order of the page: the crate of each function, and its name, with its type before a method's.
 PARTS = [
     [("judge9", "judge")],
-    [("judge9", "judge_with_run"), ("deck9", "is_run"), ("judge9", "write_run")],
-    [("judge9", "judge_with_contradiction"), ("judge9", "write_why")],
+    [("judge9", "judge_with_run"), ("deck9", "is_run"), ("report9", "write_run")],
+    [("judge9", "judge_with_contradiction"), ("report9", "write_why")],
     [("program9", "run_program"), ("program9", "End::status"), ("program9", "Message::fmt")],
 ]
 PAGE, SECTION = "docs/ARCHITECTURE.md", "## What the theorem says"

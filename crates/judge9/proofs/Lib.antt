@@ -15,13 +15,5 @@ pub mod TellLemmas
 pub mod LimitLemmas
 pub mod ReasonLemmas
 pub mod BreakLemmas
-pub mod BreakLines
-pub mod PieceLemmas
-pub mod WriteLemmas
-pub mod RunLines
-pub mod BlockBytes
-pub mod ModeRow
-pub mod WordRow
-pub mod LinesAt
 pub mod OpenLemmas
 pub mod TextLemmas

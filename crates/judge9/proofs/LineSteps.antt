@@ -23,8 +23,9 @@ use Rattle.track9.specs.Knowledge.{IsKnowledge, IsKnown, IsKnownEntry}
 use Rattle.deck9.specs.Run.{Ends}
 use Rattle.judge9.specs.declared.verdict.View.{View}
 use Rattle.judge9.specs.declared.verdict.View.TheVariants as view
-use Rattle.judge9.specs.Explanation.{line_of_exchange}
-use Rattle.judge9.specs.Report.{AppendsPart, AreLines, IsExplained, records_of}
+use Rattle.text9.specs.Explanation.{line_of_exchange}
+use Rattle.judge9.specs.Report.{AreLines, IsExplained, records_of}
+use Rattle.text9.specs.Writing.{AppendsPart}
 use Rattle.judge9.specs.Working.{IsLineOf}
 
 -- ---- how many records exchanges have
@@ -111,12 +112,6 @@ explained_more view.Explain h es e n text line is more number =
     subst (λ l. AreLines h [] 0 (es ++ e ∷ []) (text ++ l)) (sym more.2) (lines_more h [] 0 es e more.0 n text is more.1 (omega arith))
 
 -- ---- what is written after other bytes
-
-pub part_after : (old now new : Option (List ℕ)) (text bytes : List ℕ) → Appends old now text → AppendsPart now new bytes → AppendsPart old new (text ++ bytes)
-part_after old now new text bytes h p =
-    let e : take (length text + p.0) (text ++ bytes) ≡ text ++ take p.0 bytes = take-append-add text bytes p.0 in
-    let len = p.1 in
-    (length text + p.0, simp length-append (omega arith), subst (λ t. Appends old new t) (sym e) (Appends-trans old now new text (take p.0 bytes) h p.2))
 
 pub none_after : (old now new : Option (List ℕ)) (text : List ℕ) → Appends old now text → Appends now new [] → Appends old new text
 none_after old now new text h k = subst (λ t. Appends old new t) (append-nil text) (Appends-trans old now new text [] h k)

@@ -37,7 +37,8 @@ use Rattle.judge9.specs.Verdict.{AreCounts, Breaks, IsFirstBreak}
 use Rattle.judge9.specs.Report.{IsVerdictAfter, Told, Written, line_of}
 use Rattle.judge9.specs.Working.{Explains, IsSame, Puts}
 use Rattle.judge9.proofs.LawLemmas.{answer_once}
-use Rattle.judge9.proofs.LineSteps.{none_after, part_after}
+use Rattle.judge9.proofs.LineSteps.{none_after}
+use Rattle.text9.proofs.WriteLemmas.{part_after}
 use Rattle.deck9.proofs.RunSearch.{run_start}
 use Rattle.judge9.specs.Working.Trail.{Follows}
 use Rattle.judge9.proofs.Seen.{Seen, given_of_some_text, rest_has, seen}

@@ -20,10 +20,11 @@ use Rattle.judge9.specs.declared.verdict.Verdict.{Verdict}
 use Rattle.judge9.specs.declared.verdict.Verdict.TheVariants as verdict
 use Rattle.judge9.specs.declared.verdict.View.{View}
 use Rattle.judge9.specs.declared.verdict.View.TheVariants as view
-use Rattle.judge9.specs.Explanation.{line_of_exchange}
+use Rattle.text9.specs.Explanation.{line_of_exchange}
 use Rattle.judge9.specs.Judging.{Answer, IsAnswer, IsTheAnswer, answer_of}
 use Rattle.judge9.specs.Judging.Answer.{judged, unreadable}
-use Rattle.judge9.specs.Report.{AppendsPart, AreLines, IsExplained, IsText, IsVerdictAfter, Told, Written, explained_of, last_line, line_of, records_of}
+use Rattle.judge9.specs.Report.{AreLines, IsExplained, IsText, IsVerdictAfter, Told, Written, explained_of, last_line, line_of, records_of}
+use Rattle.text9.specs.Writing.{AppendsPart}
 use Rattle.judge9.specs.Verdict.{IsFirstBreak, IsOk}
 use Rattle.judge9.proofs.CutSteps.{Grows, cut-exchange, cut-tail, kept_grows}
 use Rattle.judge9.proofs.LawLemmas.{answer_once, cut_tail, first_part, longer}

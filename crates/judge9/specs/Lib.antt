@@ -1,11 +1,8 @@
 pub mod Verdict
 pub mod Judging
 pub mod Error
-pub mod Explanation
 pub mod Report
 pub mod RunVerdict
-pub mod RunText
 pub mod OpenRecords
 pub mod WhyVerdict
-pub mod WhyText
 pub mod Working

@@ -22,7 +22,8 @@ use Rattle.judge9.specs.declared.verdict.Verdict.{Verdict}
 use Rattle.judge9.specs.declared.verdict.Verdict.TheVariants.{Yes, No}
 use Rattle.judge9.specs.declared.verdict.View.{View}
 use Rattle.judge9.specs.declared.verdict.View.TheVariants as view
-use Rattle.judge9.specs.Explanation.{line_of_exchange}
+use Rattle.text9.specs.Explanation.{line_of_exchange}
+use Rattle.text9.specs.Writing.{AppendsPart}
 use Rattle.judge9.specs.Judging.{Answer, IsAnswer, IsTheAnswer, answer_of}
 use Rattle.judge9.specs.Judging.Answer.{judged, unreadable}
 
@@ -70,10 +71,6 @@ pub record IsText (which : View) (hands : Hands) (rows : Rows) (answer : Answer)
   pub text : List ℕ
   pub explained : IsExplained which hands exchanges text
   pub is_whole : whole ≡ text ++ last_line answer
-
--- known bytes grow by a first part of these, which may be none or all of them
-abbrev pub AppendsPart : Option (List ℕ) → Option (List ℕ) → List ℕ → Type 0
-AppendsPart old new bytes = (n : ℕ) × (n ≤ length bytes) × Appends old new (take n bytes)
 
 -- a verdict for which these records are the ones that keep the rules: all of them, or those before the break
 abbrev pub IsVerdictAfter : List LineByte → Verdict → Type 0

@@ -1,6 +1,5 @@
 -- What the clauses of private functions cite. No public contract reaches it, so no reader has to believe it.
 pub mod Trail
-pub mod WhyText
 use Rattle.std.specs.Prelude.{◌≡◌, ◌≢◌, ⊤, ℕ, List, [], Option, Result, Ok, Err}
 use Rattle.std.specs.Option.{IfSome}
 use Rattle.std.specs.Result.{IfErr}
@@ -18,9 +17,10 @@ use Rattle.judge9.specs.declared.error.JudgeError.TheVariants as error
 use Rattle.judge9.specs.declared.verdict.Verdict.{Verdict}
 use Rattle.judge9.specs.declared.verdict.View.{View}
 use Rattle.judge9.specs.declared.verdict.View.TheVariants as view
-use Rattle.judge9.specs.Explanation.{line_of_exchange}
+use Rattle.text9.specs.Explanation.{line_of_exchange}
 use Rattle.judge9.specs.Judging.{CanBeResult, StoppedBefore}
-use Rattle.judge9.specs.Report.{AppendsPart, Told}
+use Rattle.judge9.specs.Report.{Told}
+use Rattle.text9.specs.Writing.{AppendsPart}
 
 -- the result of writing a line: it was written, a first part of it where the writer failed, and nothing where there
 -- was no memory for it
@@ -29,11 +29,6 @@ Puts line (Ok a) old new = Appends old new line
 Puts line (Err (error.Capture e)) old new = ⊥
 Puts line (Err error.Write) old new = AppendsPart old new line
 Puts line (Err error.OutOfMemory) old new = Appends old new []
-
--- the result of writing bytes straight to a writer: all were written, or a first part of them where the writer failed
-abbrev pub Writes : {A E : Type 0} → List ℕ → Result A E → Option (List ℕ) → Option (List ℕ) → Type 0
-Writes bytes (Ok a) old new = Appends old new bytes
-Writes bytes (Err e) old new = AppendsPart old new bytes
 
 -- the verdict that is told is this one
 abbrev pub IsSame : Verdict → Result Verdict JudgeError → Type 0

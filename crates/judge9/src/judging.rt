@@ -12,16 +12,15 @@ ghost use Rattle.deck9.specs.State.{IsFirst};
 ghost use Rattle.track9.specs.Tracker.{Possible};
 
 use crate::error::JudgeError;
-use crate::explanation::put_exchange_line;
 use crate::verdict::{Verdict, View};
 use crate::verdict_line::put_verdict_line;
-use crate::writing::put_all;
 use block9::{Exchange, Pairer, Reason, Step};
 use capture9::{CaptureError, CaptureKind, Records};
 use deck9::Hands;
 use std::alloc::Global;
 use std::io::{Read, Write};
 use tc25::SpanSet;
+use text9::{put_all, put_exchange_line};
 use track9::Tracker;
 
 /// Judges the capture that the reader gives, and writes the report that the view asks for.

@@ -8,7 +8,8 @@ ghost use Rattle.block9.specs.declared.pairer.Exchange.{Exchange};
 ghost use Rattle.capture9.specs.Rows.{Rows};
 ghost use Rattle.judge9.specs.Judging.{Answer, IsAnswer};
 ghost use Rattle.judge9.specs.Judging.Answer.{judged};
-ghost use Rattle.judge9.specs.Report.{AppendsPart, IsText, Told};
+ghost use Rattle.judge9.specs.Report.{IsText, Told};
+ghost use Rattle.text9.specs.Writing.{AppendsPart};
 ghost use Rattle.judge9.specs.Verdict.{Breaks, IsOk};
 ghost use Rattle.deck9.specs.Run.{HasRun};
 

@@ -3,40 +3,35 @@
 //! [`judge`] reads the records from a text, feeds them to a pairer, lets a tracker observe each exchange, and writes the
 //! report: where an explanation is asked for a line for each exchange, and the line of the verdict. The module [`laws`]
 //! states what holds of the definitions that its contract cites. [`judge_with_run`] hands a run of the deck out with a yes,
-//! [`write_run`] writes it, and `is_run` of the crate `deck9` says whether it is one. [`judge_with_contradiction`] says
-//! why a no is one: which records are open where a rule of pairing is broken, and which replies contradict one another
-//! where no run remains. [`write_why`] writes that.
+//! and `is_run` of the crate `deck9` says whether it is one. [`judge_with_contradiction`] says why a no is one: which records
+//! are open where a rule of pairing is broken, and which replies contradict one another where no run remains. The crate
+//! `report9` writes both.
 #![tactic(auto)]
 
 mod could_show;
 mod ending;
 mod error;
-mod explanation;
 mod fewest_hands;
 mod judging;
 pub mod laws;
 mod open_records;
 mod panel;
-mod pieces;
 mod run_judging;
-mod run_text;
 mod run_verdict;
 mod trail;
 mod trail_judging;
 mod verdict;
 mod verdict_line;
 mod why_judging;
-mod why_text;
 mod why_verdict;
-mod writing;
 
 pub use deck9::is_run;
 pub use error::JudgeError;
 pub use judging::judge;
+pub use open_records::asked_len;
 pub use run_judging::judge_with_run;
-pub use run_text::write_run;
 pub use run_verdict::RunVerdict;
 pub use verdict::{Verdict, View};
+pub use verdict_line::put_verdict_line;
 pub use why_judging::judge_with_contradiction;
-pub use why_text::write_why;
 pub use why_verdict::WhyVerdict;

@@ -8,7 +8,7 @@ use capture9::{LineByte, Wire};
 use std::alloc::{AllocError, Global};
 
 /// How many of the open records are the command's.
-pub(crate) fn asked_len(tail: &[LineByte]) -> usize
+pub fn asked_len(tail: &[LineByte]) -> usize
     ensures few { result ≤ length tail.now }
     ensures asked { take result tail.now ≡ asked_of tail.now }
     ensures answered { drop result tail.now ≡ answered_of tail.now }

@@ -2,14 +2,14 @@
 ghost use Rattle.std.specs.Prelude.{◌≡◌, ◌++◌, OnOk};
 ghost use Rattle.judge9.specs.Report.{line_of};
 
-use crate::pieces::{put_count, put_text, put_word};
 use crate::verdict::Verdict;
 use std::alloc::AllocError;
+use text9::{put_count, put_text, put_word};
 
 /// Puts the line of a verdict to the end of the buffer, with its line feed.
 ///
 /// An error comes where the buffer has to grow and is refused; then a part of the line may be there.
-pub(crate) fn put_verdict_line(line: &mut Vec<u8>, verdict: Verdict) -> Result<(), AllocError>
+pub fn put_verdict_line(line: &mut Vec<u8>, verdict: Verdict) -> Result<(), AllocError>
     ensures { OnOk result (line.new.items ≡ line.old.items ++ line_of verdict) }
 {
     match verdict {

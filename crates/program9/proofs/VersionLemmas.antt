@@ -2,7 +2,7 @@
 use Rattle.std.proofs.Common.{◌≡◌, ◌≤◌, ◌∙◌, ℕ, List, Option, ap, le_of_eq, length, refl, subst, take, take_all}
 use Rattle.std.specs.Io.KnownBytes.{Appends, Keeps}
 use Rattle.std.proofs.KnownBytes.{Appends-kept}
-use Rattle.judge9.specs.Report.{AppendsPart}
+use Rattle.text9.specs.Writing.{AppendsPart}
 use Rattle.words9.specs.Words.{version_line}
 
 pub cut-version : (old new : Option (List ℕ)) (bytes : List ℕ) (n : ℕ) → bytes ≡ version_line → n ≤ length bytes → Appends old new (take n bytes)

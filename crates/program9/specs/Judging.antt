@@ -8,10 +8,10 @@ use Rattle.judge9.specs.declared.error.JudgeError.TheVariants as error
 use Rattle.judge9.specs.declared.run_verdict.RunVerdict.{RunVerdict}
 use Rattle.judge9.specs.declared.verdict.Verdict.{Verdict}
 use Rattle.judge9.specs.declared.why_verdict.WhyVerdict.{WhyVerdict}
-use Rattle.judge9.specs.Report.{AppendsPart}
-use Rattle.judge9.specs.RunText.{text_of_run}
+use Rattle.text9.specs.Writing.{AppendsPart}
+use Rattle.report9.specs.RunText.{text_of_run}
 use Rattle.judge9.specs.RunVerdict.{IsJudgedRun, verdict_of}
-use Rattle.judge9.specs.WhyText.{text_of_why}
+use Rattle.report9.specs.WhyText.{text_of_why}
 use Rattle.judge9.specs.WhyVerdict.{IsJudgedWhy, verdict_of as verdict_of_why}
 use Rattle.program9.specs.Output.{IsFirstPart}
 

@@ -15,8 +15,9 @@ use capture9::{CaptureError, CaptureKind};
 use deck9::Hands;
 use judge9::{
     JudgeError, RunVerdict, Verdict, View, WhyVerdict, judge, judge_with_contradiction,
-    judge_with_run, write_run, write_why,
+    judge_with_run,
 };
+use report9::{write_run, write_why};
 use std::alloc::Global;
 use std::io::{Read, Write};
 

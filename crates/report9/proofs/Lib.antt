@@ -1,0 +1,6 @@
+mod RunLines
+mod BlockBytes
+mod ModeRow
+mod WordRow
+mod LinesAt
+mod BreakLines

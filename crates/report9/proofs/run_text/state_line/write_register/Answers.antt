@@ -1,0 +1,10 @@
+use Rattle.tc25.specs.Day.{text_of}
+use Rattle.text9.specs.Explanation.{text_of_register}
+use Rattle.text9.proofs.WriteLemmas.{piece_after, writes}
+use Rattle.report9.proofs.run_text.state_line.write_register.Goals as goal
+
+pub returns-in_ok-write_text-in-At : goal.returns-in_ok-write_text-in-At
+unfolding text_of_register
+returns-in_ok-write_text-in-At g c =
+    rw c.in-At.is (piece_after c.put_all.result _ _ _ c.args.label.now (text_of c.in-At.time) c.in_ok-write_text-in-At.ensures
+    (writes c.put_all.result _ _ _ (rw c.text.ensures at c.put_all.ensures.ok) (rw c.text.ensures at c.put_all.ensures.err)))

@@ -1,0 +1,12 @@
+use Rattle.std.proofs.lemmas.Result.{on_ok_weaker}
+use Rattle.report9.specs.WhyText.{words_if_whole}
+use Rattle.report9.proofs.BreakLines.{no_line, open_line}
+use Rattle.report9.proofs.why_text.break_lines.put_open_command.Goals as goal
+
+pub returns-in_default : goal.returns-in_default
+returns-in_default c = no_line c.args.before (words_if_whole c.args.command.now) c.args.asked.now _ c.in_default.ensures.cases
+
+pub returns : goal.returns
+returns c =
+    on_ok_weaker c.put_bytes.result (λ last. open_line c.args.before (words_if_whole c.args.command.now) c.args.asked.now _ _ _ _ _ _ c.in-Some.ensures.cases.0
+    c.in_ok-put_records.ensures c.in_ok-put_words_if_whole.ensures last) c.put_bytes.ensures

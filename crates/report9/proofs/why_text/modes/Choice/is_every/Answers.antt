@@ -1,0 +1,12 @@
+use Rattle.std.proofs.Common.{◌∙◌, sym}
+use Rattle.std.proofs.lemmas.List.Folds.{list_all_at}
+use Rattle.report9.specs.WhyText.{modes}
+use Rattle.report9.specs.Working.WhyText.{is_chosen}
+use Rattle.report9.proofs.ModeRow.{every_more}
+use Rattle.report9.proofs.why_text.modes.Choice.is_every.Goals as goal
+
+pub returns-then-not-has : goal.returns-then-not-has
+returns-then-not-has c = sym (list_all_at (is_chosen c.args.self) modes c.loop-mode.mode-index _ c.loop-mode-test.true (sym c.has.ensures ∙ c.if-not-has.true))
+
+pub loop-mode-preserved : goal.loop-mode-preserved
+loop-mode-preserved c = every_more (is_chosen c.args.self) modes c.loop-mode.mode-index _ c.loop-mode-test.true c.loop-mode.invariant (sym c.has.ensures ∙ c.if-not-has.false)

@@ -1,0 +1,3 @@
+pub mod RunText
+pub mod WhyText
+pub mod Working

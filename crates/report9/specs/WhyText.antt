@@ -1,0 +1,213 @@
+-- The text of why a capture is a no: where no run remains a line for each of the replies that contradict one another, and
+-- what the deck could show before the last of them; where a rule of pairing is broken a line for the records of the open
+-- command, one for those of its reply, and one for the record that breaks; and the line of the verdict.
+use Rattle.std.specs.Prelude.{ℕ, ◌+◌, ◌-◌, Bool, if◌then◌else◌, Option, Some, None, List, [], ◌∷◌, ◌++◌, length, codes}
+use Rattle.std.specs.Fmt.{decimal}
+use Rattle.std.specs.List.{list_all, list_any}
+use Rattle.tc25.specs.Day.{text_of, time_of}
+use Rattle.capture9.specs.declared.line_byte.LineByte.{LineByte}
+use Rattle.capture9.specs.declared.line_byte.Wire.{Wire}
+use Rattle.capture9.specs.declared.line_byte.Wire.TheVariants.{Controller, Deck}
+use Rattle.block9.specs.declared.block.Block.{Block}
+use Rattle.block9.specs.declared.command.Command.{Command}
+use Rattle.block9.specs.declared.command.Command.TheVariants.{CueUpWithData, InDataPreset, OutDataPreset, AudioInDataPreset, AudioOutDataPreset}
+use Rattle.block9.specs.declared.pairer.Exchange.{Exchange}
+use Rattle.block9.specs.declared.reason.Reason.{Reason}
+use Rattle.block9.specs.declared.reason.Reason.TheVariants.{NoRun}
+use Rattle.block9.specs.Block.{spelling}
+use Rattle.block9.specs.Command.{is_nak, name_of}
+use Rattle.block9.specs.Line.{bytes_of, last_time}
+use Rattle.block9.specs.Reason.{limit_of}
+use Rattle.track9.specs.declared.knowledge.Knowledge.{Knowledge}
+use Rattle.track9.specs.declared.mode_set.ModeSet.{ModeSet}
+use Rattle.track9.specs.ModeSet.{has}
+use Rattle.deck9.specs.declared.mode.Mode.{Mode}
+use Rattle.deck9.specs.declared.mode.Mode.TheVariants.{Stop, Play, Rec, FastForward, Rewind, Shuttle, Jog, Var, Cued, Eject}
+use Rattle.deck9.specs.declared.sense.Sense.{Sense}
+use Rattle.deck9.specs.declared.sense.Sense.TheVariants as sense
+use Rattle.deck9.specs.declared.state.Hands.{Hands}
+use Rattle.deck9.specs.Mode.{name_of as name_of_mode}
+use Rattle.deck9.specs.Shows.{datum, may_show, sense_of}
+use Rattle.why9.specs.Contradiction.{is_among}
+use Rattle.judge9.specs.declared.verdict.Verdict.TheVariants as verdict
+use Rattle.judge9.specs.declared.why_verdict.WhyVerdict.{WhyVerdict}
+use Rattle.judge9.specs.declared.why_verdict.WhyVerdict.TheVariants as why
+use Rattle.text9.specs.Explanation.{has_bit, hex_byte, text_of_fields}
+use Rattle.judge9.specs.OpenRecords.{answered_of, asked_of}
+use Rattle.judge9.specs.Report.{line_of, records_of}
+
+-- ---- pieces
+
+-- words in a row, with this before the first and that between two
+abbrev pub in_a_row : List ℕ → List ℕ → List (List ℕ) → List ℕ
+in_a_row before between [] = []
+in_a_row before between (word ∷ words) = before ++ word ++ in_a_row between between words
+
+-- a block's bytes as they were captured, as in 61 20 01 82
+abbrev pub hex_bytes : List ℕ → List ℕ → List ℕ
+hex_bytes before [] = []
+hex_bytes before (byte ∷ bytes) = before ++ hex_byte byte ++ hex_bytes (codes " ") bytes
+
+unfoldable pub text_of_block : Block → List ℕ
+text_of_block b = hex_bytes [] (spelling b)
+
+-- a word and a space, where there is a word
+abbrev pub with_space : Option (List ℕ) → List ℕ
+with_space None = []
+with_space (Some word) = word ++ codes " "
+
+-- a time and a space, where there is a time
+abbrev pub time_with_space : Option ℕ → List ℕ
+time_with_space None = []
+time_with_space (Some time) = text_of time ++ codes " "
+
+-- the modes in their order
+abbrev pub modes : List Mode
+modes = Stop ∷ Play ∷ Rec ∷ FastForward ∷ Rewind ∷ Shuttle ∷ Jog ∷ Var ∷ Cued ∷ Eject ∷ []
+
+-- the names of those of some modes that are chosen
+abbrev pub names_of : (Mode → Bool) → List Mode → List (List ℕ)
+names_of is_chosen [] = []
+names_of is_chosen (m ∷ ms) = if is_chosen m then name_of_mode m ∷ names_of is_chosen ms else names_of is_chosen ms
+
+-- the chosen modes, with bars between them, and `none` where none is
+unfoldable pub text_of_modes : (Mode → Bool) → List ℕ
+text_of_modes is_chosen = if list_any is_chosen modes then in_a_row [] (codes "|") (names_of is_chosen modes) else codes "none"
+
+-- ---- what was asked, and what was answered
+
+-- the valid time of a command that has one
+unfoldable pub time_in : Command → Option ℕ
+time_in (CueUpWithData time) = Some time
+time_in (InDataPreset time) = Some time
+time_in (OutDataPreset time) = Some time
+time_in (AudioInDataPreset time) = Some time
+time_in (AudioOutDataPreset time) = Some time
+time_in _ = None
+
+-- the name of a command that is listed, and its time
+unfoldable pub words_of : Command → List ℕ
+words_of c = with_space (name_of c) ++ time_with_space (time_in c)
+
+-- these, and the bytes of its block
+unfoldable pub text_of_asked : Exchange → List ℕ
+text_of_asked e = words_of e.command ++ text_of_block e.block
+
+-- what status data say by themselves, each where the reply carries its datum: LOCAL; the modes that may be shown; the
+-- registers
+abbrev pub local_said : Option ℕ → List (List ℕ)
+local_said None = []
+local_said (Some byte) = (codes "local " ++ (if has_bit byte 0x01 then codes "yes" else codes "no")) ∷ []
+
+abbrev pub shown_said : Option ℕ → Option ℕ → List (List ℕ)
+shown_said None None = []
+shown_said (Some byte) datum2 = (codes "shown " ++ text_of_modes (may_show (Some byte) datum2)) ∷ []
+shown_said None (Some byte) = (codes "shown " ++ text_of_modes (may_show None (Some byte))) ∷ []
+
+abbrev pub register_said : List ℕ → ℕ → ℕ → List ℕ
+register_said label byte bit = label ++ (if has_bit byte bit then codes "set" else codes "clear")
+
+abbrev pub registers_said : Option ℕ → List (List ℕ)
+registers_said None = []
+registers_said (Some byte) =
+    register_said (codes "in ") byte 0x01 ∷ register_said (codes "out ") byte 0x02
+    ∷ register_said (codes "ain ") byte 0x04 ∷ register_said (codes "aout ") byte 0x08 ∷ []
+
+abbrev pub said_by_status : ℕ → Block → List (List ℕ)
+said_by_status asked reply =
+    local_said (datum asked reply 0) ++ shown_said (datum asked reply 1) (datum asked reply 2) ++ registers_said (datum asked reply 3)
+
+-- the time before a reply's bytes: the valid one of a register
+abbrev pub time_told : Sense → Block → Option ℕ
+time_told (sense.Register r) reply = time_of reply.bytes.items
+time_told (sense.Status asked) reply = None
+time_told sense.Nothing reply = None
+
+-- the words after them: those of status data
+abbrev pub said : Sense → Block → List (List ℕ)
+said (sense.Register r) reply = []
+said (sense.Status asked) reply = if is_nak reply then [] else said_by_status asked reply
+said sense.Nothing reply = []
+
+unfoldable pub text_of_answered : Exchange → List ℕ
+text_of_answered e =
+    time_with_space (time_told (sense_of e.command) e.reply) ++ text_of_block e.reply
+    ++ in_a_row (codes ", says ") (codes ", ") (said (sense_of e.command) e.reply)
+
+-- ---- lines
+
+-- how a line of so many records begins; the record of this number is the last before them, and the first of them has this
+-- time
+unfoldable pub text_of_records : ℕ → ℕ → ℕ → List ℕ
+text_of_records at n time = (codes "records " ++ decimal (at + 1)) ++ (codes " to " ++ decimal (at + n)) ++ (codes " at " ++ decimal time)
+
+-- the line of an exchange whose reply is one of those that contradict; the record of this number is the last before it
+unfoldable pub line_of_contradicting : ℕ → Exchange → List ℕ
+line_of_contradicting at e =
+    text_of_records at (records_of e) e.time_us
+    ++ (codes ": " ++ text_of_asked e)
+    ++ (codes " -> " ++ text_of_answered e)
+    ++ codes "\n"
+
+-- the lines of those exchanges that stand at one of the places; the first of these exchanges stands at `place`
+abbrev pub lines_at : List ℕ → ℕ → ℕ → List Exchange → List ℕ
+lines_at places place at [] = []
+lines_at places place at (e ∷ es) =
+    (if is_among places place then line_of_contradicting at e else []) ++ lines_at places (place + 1) (at + records_of e) es
+
+-- the modes that the deck could show, and `any` where that is every one
+unfoldable pub text_of_shown : ModeSet → List ℕ
+text_of_shown set = if list_all (has set.0) modes then codes "any" else text_of_modes (has set.0)
+
+-- the line of what the deck could show
+unfoldable pub line_of_could_show : Hands → Knowledge → ModeSet → List ℕ
+line_of_could_show hands known shown = codes "could show: shown " ++ text_of_shown shown ++ text_of_fields hands known ++ codes "\n"
+
+-- ---- the lines of a record that breaks a rule of pairing
+
+-- the line of a block that is not whole, or whose reply is not: these words, and the bytes of its records
+unfoldable pub line_of_open : ℕ → List ℕ → List LineByte → List ℕ
+line_of_open at words [] = []
+line_of_open at words (r ∷ records) =
+    text_of_records at (length (r ∷ records)) r.time_us ++ (codes ": " ++ words) ++ hex_bytes [] (bytes_of (r ∷ records)) ++ codes "\n"
+
+-- what stands before the bytes of a command: its words, where it is whole
+abbrev pub words_if_whole : Option Command → List ℕ
+words_if_whole None = []
+words_if_whole (Some c) = words_of c
+
+abbrev pub letter_of : Wire → List ℕ
+letter_of Controller = codes "C "
+letter_of Deck = codes "D "
+
+-- how long a record comes after the last of those that are open, where there is one, and the limit of a reason of time
+abbrev pub since_told : List LineByte → LineByte → List ℕ
+since_told [] r = []
+since_told (first ∷ records) r = (codes ", " ++ decimal (r.time_us - last_time (first ∷ records))) ++ codes " after the record before"
+
+abbrev pub limit_told : Option ℕ → List ℕ
+limit_told None = []
+limit_told (Some limit) = codes ", limit " ++ decimal limit
+
+-- the line of the record that breaks: its wire and byte, how long after the record before it comes, and the limit
+unfoldable pub line_of_breaking : ℕ → Reason → List LineByte → LineByte → List ℕ
+line_of_breaking at reason tail r =
+    (codes "record " ++ decimal at) ++ (codes " at " ++ decimal r.time_us)
+    ++ (codes ": " ++ letter_of r.wire) ++ hex_byte r.byte
+    ++ since_told tail r ++ limit_told (limit_of reason) ++ codes "\n"
+
+-- these lines; so many records come before the open ones
+unfoldable pub lines_of_break : ℕ → ℕ → Reason → List LineByte → Option Command → LineByte → List ℕ
+lines_of_break before at reason tail command r =
+    line_of_open before (words_if_whole command) (asked_of tail)
+    ++ line_of_open (before + length (asked_of tail)) (codes "-> ") (answered_of tail)
+    ++ line_of_breaking at reason tail r
+
+-- ---- the whole text
+
+abbrev pub text_of_why : Hands → WhyVerdict → List ℕ
+text_of_why hands (why.Yes records exchanges tail) = line_of (verdict.Yes records exchanges tail)
+text_of_why hands (why.Break at reason tail command r) =
+    lines_of_break (at - (length tail.items + 1)) at reason tail.items command r ++ line_of (verdict.No at reason)
+text_of_why hands (why.Contradiction at exchanges places known shown) =
+    lines_at places.items 0 0 exchanges.items ++ line_of_could_show hands known shown ++ line_of (verdict.No at NoRun)

@@ -1,0 +1,154 @@
+//! The text of why a capture is a no: the records that are open before the one that breaks a rule, or the replies that
+//! contradict one another and what the deck could show before the last of them.
+mod block_bytes;
+mod break_lines;
+mod exchange_line;
+mod modes;
+mod said;
+
+ghost use Rattle.std.specs.Prelude.{◌≡◌, ◌⊎◌, ◌++◌, [], OnOk, IfErr};
+ghost use Rattle.std.specs.Io.KnownBytes.{Appends};
+ghost use Rattle.judge9.specs.Report.{line_of};
+ghost use Rattle.text9.specs.Writing.{AppendsPart};
+ghost use Rattle.judge9.specs.declared.verdict.Verdict.TheVariants as verdict;
+ghost use Rattle.report9.specs.WhyText.{line_of_could_show, lines_at, text_of_shown, text_of_why};
+
+use crate::run_text::records_of;
+use block9::{Exchange, Reason};
+use break_lines::put_break;
+use deck9::Hands;
+use exchange_line::put_contradicting;
+use judge9::{JudgeError, Verdict, WhyVerdict, put_verdict_line};
+use modes::{Choice, put_modes};
+use std::alloc::{AllocError, Global};
+use std::io::Write;
+use text9::{WriteFault, put_all, put_fields, put_text};
+use track9::{Knowledge, ModeSet};
+
+/// Writes why a capture is a no: where no run of the deck remains a line for each of the replies that contradict one
+/// another, then what the deck could show when it gave the last of them; where a rule of blocks, pairing or timing is
+/// broken a line for the records of the open command, one for those of its reply, and one for the record that breaks; and
+/// in each case the line of the verdict.
+///
+/// A line of open records tells their numbers, the time of the first of them in microseconds, the command's name and time
+/// where it is whole, and their bytes. The line of the record that breaks tells its number, time, wire and byte, how many
+/// microseconds it comes after the last open one, and the limit where the rule is one of time. A line of a reply tells the numbers of its exchange's records, the time of the first of them in microseconds, what
+/// was asked and what was answered, with the bytes of both blocks, and what the reply says of the deck. With
+/// `Hands::Allowed` it is told whether the panel is on.
+///
+/// The whole text is made before any of it is written. The writer is not flushed. The errors are:
+///
+/// * `OutOfMemory` where a growth of memory is refused: nothing was written.
+/// * `Write` where the writer failed, was interrupted or took no byte. No call is tried again, and what was taken until
+///   then is a first part of the text.
+pub fn write_why<W: Write>(
+    alloc: Global,
+    writer: &mut W,
+    verdict: &WhyVerdict,
+    hands: Hands,
+) -> Result<(), JudgeError>
+    ensures ok { OnOk result
+        (Appends (W.contents writer.old) (W.contents writer.new) (text_of_why hands verdict.now)) }
+    ensures write { result ≡ Err JudgeError.Write
+        → AppendsPart (W.contents writer.old) (W.contents writer.new) (text_of_why hands verdict.now) }
+    ensures memory { result ≡ Err JudgeError.OutOfMemory → writer.new ≡ writer.old }
+    ensures kinds { IfErr result (λ e. (e ≡ JudgeError.Write) ⊎ (e ≡ JudgeError.OutOfMemory)) }
+{
+    let mut text = Vec::new(alloc);
+    if put_why(&mut text, hands, verdict).is_err() {
+        return Err(JudgeError::OutOfMemory);
+    }
+    match put_all(writer, text.as_slice()) {
+        Ok(()) => Ok(()),
+        Err(WriteFault) => Err(JudgeError::Write),
+    }
+}
+
+/// Puts the whole text to the end of a buffer.
+fn put_why(text: &mut Vec<u8>, hands: Hands, verdict: &WhyVerdict) -> Result<(), AllocError>
+    ensures { OnOk result (text.new.items ≡ text.old.items ++ text_of_why hands verdict.now) }
+{
+    match verdict {
+        WhyVerdict::Yes {
+            records,
+            exchanges,
+            tail,
+        } => put_verdict_line(
+            text,
+            Verdict::Yes {
+                records: *records,
+                exchanges: *exchanges,
+                tail: *tail,
+            },
+        ),
+        WhyVerdict::Break {
+            at,
+            reason,
+            tail,
+            command,
+            breaking,
+        } => {
+            put_break(text, *at, *reason, tail.as_slice(), command, *breaking)?;
+            put_no(text, *at, *reason)
+        }
+        WhyVerdict::Contradiction {
+            at,
+            exchanges,
+            places,
+            known,
+            shown,
+        } => {
+            put_lines(text, places.as_slice(), exchanges.as_slice())?;
+            put_could_show(text, hands, known, *shown)?;
+            put_no(text, *at, Reason::NoRun)
+        }
+    }
+}
+
+/// Puts the line of a no.
+fn put_no(text: &mut Vec<u8>, at: u32, reason: Reason) -> Result<(), AllocError>
+    ensures { OnOk result (text.new.items ≡ text.old.items ++ line_of (verdict.No at reason)) }
+{
+    put_verdict_line(text, Verdict::No { at, reason })
+}
+
+/// Puts the lines of the exchanges that stand at these places.
+fn put_lines(text: &mut Vec<u8>, places: &[usize], exchanges: &[Exchange]) -> Result<(), AllocError>
+    ensures { OnOk result (text.new.items ≡ text.old.items ++ lines_at places.now 0 0 exchanges.now) }
+{
+    let mut at = 0u128;
+    for (place, exchange) in exchanges.iter().enumerate() {
+        if places.contains(&place) {
+            put_contradicting(text, at, exchange)?;
+        }
+        at += records_of(exchange) as u128;
+    }
+    Ok(())
+}
+
+/// Puts the line of what the deck could show.
+fn put_could_show(
+    text: &mut Vec<u8>,
+    hands: Hands,
+    known: &Knowledge,
+    shown: ModeSet,
+) -> Result<(), AllocError>
+    ensures { OnOk result (text.new.items ≡ text.old.items ++ line_of_could_show hands known.now shown) }
+{
+    put_text(text, "could show: shown ")?;
+    put_shown(text, shown)?;
+    put_fields(text, hands, known)?;
+    put_text(text, "\n")
+}
+
+/// Puts the modes that the deck could show, and `any` where that is every one.
+#[tactic(auto, unfolding(crate::specs::WhyText::text_of_shown))]
+fn put_shown(text: &mut Vec<u8>, shown: ModeSet) -> Result<(), AllocError>
+    ensures { OnOk result (text.new.items ≡ text.old.items ++ text_of_shown shown) }
+{
+    let choice = Choice::Of(shown);
+    if choice.is_every() {
+        return put_text(text, "any");
+    }
+    put_modes(text, choice)
+}

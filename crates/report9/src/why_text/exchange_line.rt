@@ -1,0 +1,119 @@
+//! The line of an exchange whose reply is one of those that contradict one another.
+ghost use Rattle.std.specs.Prelude.{◌≡◌, ◌≤◌, ◌^◌, ◌++◌, OnOk};
+ghost use Rattle.block9.specs.Command.{name_of};
+ghost use Rattle.deck9.specs.Shows.{sense_of};
+ghost use Rattle.report9.specs.WhyText.{line_of_contradicting, text_of_answered, text_of_asked, text_of_records, time_in, time_told, time_with_space, with_space, words_of};
+
+use crate::run_text::records_of;
+use crate::why_text::block_bytes::put_block;
+use crate::why_text::said::put_said;
+use block9::{Command, Exchange};
+use deck9::Sense;
+use std::alloc::AllocError;
+use tc25::TimeCode;
+use text9::{put_count, put_text, put_wide, put_word};
+
+/// Puts the line of an exchange: the numbers of its first and its last record, its time, what was asked and what was
+/// answered. `at` is how many records come before it.
+pub(super) fn put_contradicting(
+    line: &mut Vec<u8>,
+    at: u128,
+    exchange: &Exchange,
+) -> Result<(), AllocError>
+    requires { at ≤ 2 ^ 100 }
+    ensures { OnOk result (line.new.items ≡ line.old.items ++ line_of_contradicting at exchange.now) }
+{
+    put_records(line, at, records_of(exchange), exchange.time_us)?;
+    put_asked(line, ": ", exchange)?;
+    put_answered(line, " -> ", exchange)?;
+    put_text(line, "\n")
+}
+
+/// Puts how a line of records begins: the numbers of the first and the last, and the time of the first. `at` is how many
+/// records come before them.
+pub(super) fn put_records(
+    line: &mut Vec<u8>,
+    at: u128,
+    count: usize,
+    time_us: u64,
+) -> Result<(), AllocError>
+    requires { at ≤ 2 ^ 100 }
+    ensures { OnOk result (line.new.items ≡ line.old.items ++ text_of_records at count time_us) }
+{
+    put_wide(line, "records ", at + 1)?;
+    put_wide(line, " to ", at + count as u128)?;
+    put_count(line, " at ", time_us)
+}
+
+/// Puts a label and what was asked: the name of a command that is listed, its time, and the bytes of its block.
+fn put_asked(line: &mut Vec<u8>, label: &str, exchange: &Exchange) -> Result<(), AllocError>
+    ensures { OnOk result (line.new.items ≡ line.old.items ++ (label.now ++ text_of_asked exchange.now)) }
+{
+    put_text(line, label)?;
+    put_words(line, &exchange.command)?;
+    put_block(line, &exchange.block)
+}
+
+/// Puts the name of a command that is listed, and its time.
+pub(super) fn put_words(line: &mut Vec<u8>, command: &Command) -> Result<(), AllocError>
+    ensures { OnOk result (line.new.items ≡ line.old.items ++ words_of command.now) }
+{
+    put_name(line, command)?;
+    put_time(line, time_in(command))
+}
+
+/// Puts a label and what was answered: the time of a register, the bytes of the block, and what status data say.
+fn put_answered(line: &mut Vec<u8>, label: &str, exchange: &Exchange) -> Result<(), AllocError>
+    ensures { OnOk result (line.new.items ≡ line.old.items ++ (label.now ++ text_of_answered exchange.now)) }
+{
+    put_text(line, label)?;
+    put_time(line, time_told(exchange))?;
+    put_block(line, &exchange.reply)?;
+    put_said(line, exchange)
+}
+
+/// Puts the name of a command and a space, where it is listed.
+fn put_name(line: &mut Vec<u8>, command: &Command) -> Result<(), AllocError>
+    ensures { OnOk result (line.new.items ≡ line.old.items ++ with_space (name_of command.now)) }
+{
+    match command.name() {
+        Some(name) => put_word(line, name, " "),
+        None => Ok(()),
+    }
+}
+
+/// Puts a time and a space, where there is a time.
+fn put_time(line: &mut Vec<u8>, time: Option<TimeCode>) -> Result<(), AllocError>
+    ensures { OnOk result (line.new.items ≡ line.old.items ++ time_with_space time) }
+{
+    let Some(time) = time else {
+        return Ok(());
+    };
+    line.extend_from_slice(&time.text())?;
+    put_text(line, " ")
+}
+
+/// The valid time of a command that has one.
+#[tactic(auto, unfolding(crate::specs::WhyText::time_in))]
+fn time_in(command: &Command) -> Option<TimeCode>
+    ensures { result ≡ time_in command.now }
+{
+    match command {
+        Command::CueUpWithData { time }
+        | Command::InDataPreset { time }
+        | Command::OutDataPreset { time }
+        | Command::AudioInDataPreset { time }
+        | Command::AudioOutDataPreset { time } => Some(*time),
+        _ => None,
+    }
+}
+
+/// The time that a reply tells of a register, where it is valid.
+fn time_told(exchange: &Exchange) -> Option<TimeCode>
+    ensures { result ≡ time_told (sense_of exchange.now.command) exchange.now.reply }
+{
+    match Sense::of(&exchange.command) {
+        Sense::Register(_) => exchange.reply.time(),
+        Sense::Status(_) | Sense::Nothing => None,
+    }
+}
