@@ -1,8 +1,7 @@
 -- The lines of one exchange more.
-use Rattle.std.proofs.Common.{◌≡◌, ◌↔◌, ℕ, ◌+◌, ◌∙◌, List, [], ◌∷◌, ◌++◌, length, Option, refl, sym, ap, subst, arith, take, length-append}
+use Rattle.std.proofs.Common.{◌≡◌, ◌↔◌, ℕ, ◌+◌, ◌∙◌, List, [], ◌∷◌, ◌++◌, length, Option, refl, sym, ap, subst, arith, length-append}
 use Rattle.std.proofs.lemmas.List.{append_assoc, append-nil}
 use Rattle.std.proofs.KnownBytes.{Appends-trans}
-use Rattle.std.proofs.Math.Seq.{take-append-add}
 use Rattle.std.specs.Io.KnownBytes.{Appends}
 use Rattle.capture9.specs.declared.line_byte.LineByte.{LineByte}
 use Rattle.block9.specs.declared.block.Block.{Block}
@@ -25,7 +24,6 @@ use Rattle.judge9.specs.declared.verdict.View.{View}
 use Rattle.judge9.specs.declared.verdict.View.TheVariants as view
 use Rattle.text9.specs.Explanation.{line_of_exchange}
 use Rattle.judge9.specs.Report.{AreLines, IsExplained, records_of}
-use Rattle.text9.specs.Writing.{AppendsPart}
 use Rattle.judge9.specs.Working.{IsLineOf}
 
 -- ---- how many records exchanges have
