@@ -3,13 +3,11 @@ ghost use Rattle.std.specs.Prelude.{◌≡◌, ℕ, ◌%◌, ◌≤◌, IfSome, 
 ghost use Rattle.std.specs.List.{sum};
 
 use arrayvec::ArrayVec;
+use capture9::LineByte;
 use tc25::TimeCode;
 
 /// The most data bytes of a block.
 const MOST_DATA: usize = 15;
-
-/// The most bytes of a block before its sum: the first one, its code and its data.
-pub(crate) const MOST_BODY: usize = 17;
 
 /// A block: a group, a code, and 0 to 15 data bytes.
 ///
@@ -29,6 +27,7 @@ impl Block {
     ghost use Rattle.std.specs.Prelude.{◌≡◌, ◌≤◌, IfSome, IfNone, length};
     ghost use Rattle.tc25.specs.Day.{time_of};
     ghost use Rattle.block9.specs.Block.{Spells, first_datum, head_of};
+    ghost use Rattle.block9.specs.Line.{bytes_of};
     ghost use Rattle.block9.specs.Working.Body.{block_of, most_body};
 
     /// The block that these bytes spell, its sum included.
@@ -84,6 +83,23 @@ impl Block {
         Block {
             group: body[0] / 16,
             code: body[1],
+            bytes,
+        }
+    }
+
+    /// The block whose bytes before the sum are those of these records.
+    pub(crate) fn of_records(records: &[LineByte]) -> Block
+        requires code { 2 ≤ length records.now }
+        requires data { length records.now ≤ most_body }
+        ensures { result ≡ block_of (bytes_of records.now) }
+    {
+        let mut bytes = ArrayVec::new();
+        for record in &records[2..] {
+            bytes.push(record.byte);
+        }
+        Block {
+            group: records[0].byte / 16,
+            code: records[1].byte,
             bytes,
         }
     }

@@ -1,11 +1,10 @@
 //! Lists of records: the block that they begin, their bytes, and the times at which they begin and end.
-ghost use Rattle.std.specs.Prelude.{◌≡◌, ◌+◌, ◌≤◌, length};
+ghost use Rattle.std.specs.Prelude.{◌≡◌, ◌+◌, ◌%◌, ◌≤◌};
+ghost use Rattle.std.specs.List.{sum};
 ghost use Rattle.block9.specs.Line.{block_len, bytes_of, first_time, last_time};
 ghost use Rattle.block9.specs.Working.Body.{most_body};
 ghost use Rattle.block9.specs.Working.Table.{ends_block};
 
-use crate::block::MOST_BODY;
-use arrayvec::ArrayVec;
 use capture9::LineByte;
 
 /// How many records the block has that begins with these: 0 where there is none.
@@ -46,14 +45,13 @@ pub(crate) fn last_time(records: &[LineByte]) -> u64
     }
 }
 
-/// The bytes of the records, of which there are no more than a block's first byte, code and data.
-pub(crate) fn bytes_of(records: &[LineByte]) -> ArrayVec<u8, MOST_BODY>
-    requires { length records.now ≤ most_body }
-    ensures { result.items ≡ bytes_of records.now }
+/// The sum of the records' bytes, modulo 256. They are added where they stand, since a block's end comes every few records.
+pub(crate) fn byte_sum(records: &[LineByte]) -> u8
+    ensures { result ≡ sum (bytes_of records.now) % 256 }
 {
-    let mut bytes = ArrayVec::new();
+    let mut total = 0u8;
     for record in records {
-        bytes.push(record.byte);
+        total = total.wrapping_add(record.byte);
     }
-    bytes
+    total
 }

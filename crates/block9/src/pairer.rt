@@ -7,9 +7,9 @@ ghost use Rattle.block9.specs.Working.Body.{block_of};
 ghost use Rattle.block9.specs.Working.Held.{Closes, IsHeld, IsTurn, most_open};
 ghost use Rattle.block9.specs.Working.Table.{early_fault, ends_block, open_at, pairing, place_of, reply_fault};
 
-use crate::block::{Block, sum_of};
+use crate::block::Block;
 use crate::command::Command;
-use crate::line::{block_len, bytes_of, ends_block, first_time, last_time};
+use crate::line::{block_len, byte_sum, ends_block, first_time, last_time};
 use crate::place::Place;
 use crate::reason::Reason;
 use crate::reply::reply_time_valid;
@@ -138,11 +138,11 @@ fn end(tail: &[LineByte], asked: &mut Option<Asked>, line_byte: LineByte) -> Res
     ensures err { IfErr result (λ reason. pairing tail.now line_byte ≡ Some reason) }
 {
     let place = Place::of(tail);
-    let body = bytes_of(place.open_in(tail));
-    if sum_of(body.as_slice()) != line_byte.byte {
+    let open_block = place.open_in(tail);
+    if byte_sum(open_block) != line_byte.byte {
         return Err(Reason::WrongSum);
     }
-    let block = Block::of_body(body.as_slice());
+    let block = Block::of_records(open_block);
     match asked.take() {
         Some(command) => {
             let exchange = exchange_of(tail, command, block)?;
@@ -229,8 +229,8 @@ impl Pairer {
     ///
     /// `Err` is the first rule that the record breaks, in the order that [`Reason`] gives and
     /// `specs/Reason.antt` states, a line for each: the records so far keep the rules, and with this one they
-    /// do not. The tail stays as it was. Every later call answers the same reason and changes nothing. [`Reason::NoRun`] is never among
-    /// them.
+    /// do not. The tail stays as it was. Every later call answers the same reason and changes nothing.
+    /// [`Reason::NoRun`] is never among them.
     ///
     /// The rules are the protocol manual's; where it leaves a choice, this profile favours the deck.
     #[inline(always)] // two loops over records call it, and else it would be inlined in neither
