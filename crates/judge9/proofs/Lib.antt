@@ -15,5 +15,6 @@ pub mod TellLemmas
 pub mod LimitLemmas
 pub mod ReasonLemmas
 pub mod BreakLemmas
+pub mod TurnSteps
 pub mod OpenLemmas
 pub mod TextLemmas

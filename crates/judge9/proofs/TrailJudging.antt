@@ -1,5 +1,5 @@
 -- Where the judging of a text stands that keeps its trail, and what is kept at each of its ends.
-use Rattle.std.proofs.Common.{◌≡◌, ◌≢◌, ◌∙◌, IsTrue, ◌↔◌, inl, inr, Bool, false, ℕ, ◌+◌, List, [], ◌∷◌, ◌++◌, length, take, Option, None, Result, Ok, Err, refl, sym, ap, subst, arith, append_assoc}
+use Rattle.std.proofs.Common.{◌≡◌, ◌≢◌, ◌∙◌, IsTrue, ◌↔◌, inl, inr, Bool, false, ℕ, ◌+◌, List, [], ◌∷◌, ◌++◌, length, take, Option, None, Result, Ok, Err, refl, sym, ap, subst, arith, append_assoc, ◌<◌, ◌*◌, true}
 use Rattle.std.proofs.lemmas.List.{append-nil, length_push}
 use Rattle.std.proofs.Math.Seq.{take-append_seam}
 use Rattle.std.specs.Bool.{⊤}
@@ -7,7 +7,6 @@ use Rattle.capture9.specs.declared.error.CaptureError.{CaptureError}
 use Rattle.capture9.specs.declared.line_byte.LineByte.{LineByte}
 use Rattle.capture9.specs.Records.{GivesEnd, GivesRecord, GivesRefusal, Progress}
 use Rattle.capture9.specs.Rows.{Rows, no_rows}
-use Rattle.capture9.specs.declared.records.Standing.TheVariants.{Reading}
 use Rattle.block9.specs.declared.pairer.Exchange.{Exchange}
 use Rattle.block9.specs.declared.pairer.Step.{Step}
 use Rattle.block9.specs.declared.pairer.Step.TheVariants as step
@@ -26,13 +25,15 @@ use Rattle.judge9.specs.declared.ending.Ending.{Ending}
 use Rattle.judge9.specs.declared.ending.Ending.TheVariants as ending
 use Rattle.judge9.specs.declared.error.JudgeError.{JudgeError}
 use Rattle.judge9.specs.declared.error.JudgeError.TheVariants as error
+use Rattle.judge9.specs.declared.turn.Turn.TheVariants as turn
 use Rattle.judge9.specs.declared.verdict.Verdict.TheVariants.{Yes, No}
 use Rattle.judge9.specs.declared.verdict.View.TheVariants as view
 use Rattle.judge9.specs.Error.{refusal_of}
 use Rattle.judge9.specs.OpenRecords.{IsBreakAfter}
 use Rattle.judge9.specs.Verdict.{CanBeVerdict}
 use Rattle.judge9.specs.Working.{Judges}
-use Rattle.judge9.specs.Working.Trail.{Follows, IsTrail, KeepsTrail}
+use Rattle.judge9.specs.Working.Trail.{Follows, IsTrail, KeepsTrail, stretch_length}
+use Rattle.judge9.specs.Working.Turn.{IsFresh, Turned}
 use Rattle.judge9.proofs.BreakLemmas.{judges-break, judges-no, judges-no_run}
 use Rattle.judge9.proofs.DayLemmas.{cut_in_day}
 use Rattle.judge9.proofs.LimitLemmas.{can_be-yes, each_row, judges-memory, judges-refusal, judges-told}
@@ -40,10 +41,10 @@ use Rattle.judge9.proofs.Seen.{Seen, rest_has, seen}
 use Rattle.judge9.proofs.SoFar.{SoFar}
 use Rattle.judge9.specs.Report.{Told}
 use Rattle.judge9.proofs.CutSteps.{cut-exchange, exchanges_after}
-use Rattle.judge9.proofs.RunSteps.{no_run}
+use Rattle.judge9.proofs.RunSteps.{follows-start, no_run}
 use Rattle.judge9.proofs.SoFarSteps.{read-more, so_far-exchange, so_far-open, so_far-start}
 use Rattle.judge9.proofs.TellLemmas.{records_are, refused, told-memory, told-no, told-verdict, told-yes, told_after}
-use Rattle.judge9.proofs.TrailSteps.{trail-start}
+use Rattle.judge9.proofs.TurnSteps.{observed_more, observed_run, open_keeps, so_far-fresh}
 
 -- the records so far keep the rules, and the trail has their exchanges
 pub record WithTrail {R : Type 0} (hands : Hands) (rows : Option Rows) (progress : Progress R) (paired : Paired) (tracked : Tracked) (es : List Exchange) (trackers : List Tracked) (n : ℕ) : Type 0 where
@@ -51,16 +52,19 @@ pub record WithTrail {R : Type 0} (hands : Hands) (rows : Option Rows) (progress
   pub so_far : SoFar view.Verdict hands rows progress paired tracked None None n count
   pub same : so_far.cut_exchanges ≡ es
   pub trail : IsTrail hands es trackers
+  pub room : length es < length trackers * stretch_length
 
-pub with-start : {R : Type 0} (hands : Hands) (progress : Progress R) (paired : Paired) (tracked : Tracked) (es : List Exchange) (trackers : List Tracked) → progress.given ≡ 0 → progress.last_time ≡ 0 → progress.standing ≡ Reading → paired ≡ record { tail = []; last_time = None; reason = None } → Follows hands [] tracked → es ≡ [] → trackers ≡ []
-    → WithTrail hands progress.rows progress paired tracked es trackers 0
+pub with-start : {R : Type 0} (hands : Hands) (progress : Progress R) (paired : Paired) (tracked : Tracked) (es : List Exchange) (trackers : List Tracked) (n : ℕ) → IsFresh hands progress paired tracked n → es ≡ [] → IsTrail tracked.hands es trackers → length es < length trackers * stretch_length
+    → WithTrail hands progress.rows progress paired tracked es trackers n
 unfolding so_far-start
-with-start hands progress paired tracked es trackers given first reading new follows none no_trackers = record {
-  count = 0;
-  so_far = so_far-start view.Verdict hands progress paired tracked None given first reading new follows;
-  same = sym none;
-  trail = subst (λ (l : List Exchange). IsTrail hands l trackers) (sym none) (subst (λ (l : List Tracked). IsTrail hands [] l) (sym no_trackers) (trail-start hands));
-}
+with-start hands progress paired tracked es trackers n fresh none trail room =
+    subst (λ (k : ℕ). WithTrail hands progress.rows progress paired tracked es trackers k) (sym fresh.none_counted) (record {
+      count = 0;
+      so_far = so_far-start view.Verdict hands progress paired tracked None fresh.none_given fresh.no_time fresh.is_reading fresh.fed_nothing (follows-start hands tracked fresh.states fresh.hands);
+      same = sym none;
+      trail = subst (λ (h : Hands). IsTrail h es trackers) fresh.hands trail;
+      room = room;
+    })
 
 pub with-open : {R : Type 0} (hands : Hands) (rows : Option Rows) (progress after : Progress R) (paired next : Paired) (tracked : Tracked) (es : List Exchange) (trackers : List Tracked) (n : ℕ) (r : LineByte) (s : Step) → ((l : List Exchange) → exchanges_after l s ≡ l) → WithTrail hands rows progress paired tracked es trackers n
     → GivesRecord progress r after → Takes paired r s next → WithTrail hands rows after next tracked es trackers (n + 1)
@@ -70,16 +74,18 @@ with-open hands rows progress after paired next tracked es trackers n r s keeps 
   so_far = so_far-open view.Verdict hands rows progress after paired next tracked None None r s n w.count keeps w.so_far given takes;
   same = w.same;
   trail = w.trail;
+  room = w.room;
 }
 
 pub with-exchange : {R : Type 0} (hands : Hands) (rows : Option Rows) (progress after : Progress R) (paired next : Paired) (tracked observed : Tracked) (es more : List Exchange) (trackers later : List Tracked) (n : ℕ) (r : LineByte) (e : Exchange) → (w : WithTrail hands rows progress paired tracked es trackers n)
-    → GivesRecord progress r after → Takes paired r (step.Exchange e) next → Follows hands (w.so_far.cut_exchanges ++ e ∷ []) observed → HasRun hands (w.so_far.cut_exchanges ++ e ∷ []) → more ≡ es ++ e ∷ [] → IsTrail hands more later → WithTrail hands rows after next observed more later (n + 1)
+    → GivesRecord progress r after → Takes paired r (step.Exchange e) next → Follows hands (w.so_far.cut_exchanges ++ e ∷ []) observed → HasRun hands (w.so_far.cut_exchanges ++ e ∷ []) → more ≡ es ++ e ∷ [] → IsTrail hands more later → length more < length later * stretch_length → WithTrail hands rows after next observed more later (n + 1)
 unfolding so_far-exchange
-with-exchange hands rows progress after paired next tracked observed es more trackers later n r e w given takes follows run pushed trail = record {
+with-exchange hands rows progress after paired next tracked observed es more trackers later n r e w given takes follows run pushed trail room = record {
   count = w.count + 1;
   so_far = so_far-exchange view.Verdict hands rows progress after paired next tracked observed None None None r e n w.count [] w.so_far given takes follows run refl tt;
   same = ap (λ (l : List Exchange). l ++ e ∷ []) w.same ∙ sym pushed;
   trail = trail;
+  room = room;
 }
 
 pub with_state : {R : Type 0} (hands : Hands) (rows : Option Rows) (progress : Progress R) (paired : Paired) (tracked : Tracked) (es : List Exchange) (trackers : List Tracked) (n : ℕ) → WithTrail hands rows progress paired tracked es trackers n → (s : State) × Possible tracked.states s
@@ -216,3 +222,80 @@ keep-end hands rows progress ended paired tracked es trackers n w end = record {
 
     cut : Cut told.rows.records w.so_far.cut_exchanges paired.tail
     cut = subst (λ (l : List LineByte). Cut l w.so_far.cut_exchanges paired.tail) (sym records) w.so_far.cut
+
+-- memory was refused before the first turn
+pub keep-nothing : {R : Type 0} (hands : Hands) (progress : Progress R) (paired : Paired) (tracked : Tracked) (n : ℕ) (left : List LineByte) (fs : List Exchange) (us : List Tracked) (u : Tracked) → IsFresh hands progress paired tracked n → KeepsTrail hands progress.rows (Err error.OutOfMemory) left fs us u
+keep-nothing hands progress paired tracked n left fs us u fresh = record {
+  judges = judges-memory view.Verdict hands progress.rows None None (told-memory view.Verdict hands progress.rows progress paired tracked None None n 0 (so_far-fresh view.Verdict hands progress paired tracked None n fresh));
+  ends = tt;
+  no_write = λ q. cc;
+}
+
+-- ---- the same, turn by turn
+
+-- a turn that ends no exchange
+pub trail-turn : {R : Type 0} (hands : Hands) (rows : Option Rows) (progress after : Progress R) (paired next : Paired) (tracked seen : Tracked) (es : List Exchange) (trackers : List Tracked) (n k : ℕ) → WithTrail hands rows progress paired tracked es trackers n → Turned progress paired tracked n (Ok turn.Open) after next seen k
+    → WithTrail hands rows after next seen es trackers k
+trail-turn hands rows progress after paired next tracked seen es trackers n k w t =
+    let fed = t.2 in
+    subst (λ (u : Tracked). WithTrail hands rows after next u es trackers k) (sym t.3)
+    (subst (λ (x : ℕ). WithTrail hands rows after next tracked es trackers x) (sym fed.number)
+    (with-open hands rows progress after paired next tracked es trackers n fed.line_byte t.0 (open_keeps t.0 t.1) w fed.gives fed.takes))
+
+-- one that ends an exchange, which was pushed, and a tracker may have been marked
+pub trail-exchanged : {R : Type 0} (hands : Hands) (rows : Option Rows) (progress after : Progress R) (paired next : Paired) (tracked seen : Tracked) (es more : List Exchange) (trackers later : List Tracked) (n k : ℕ) (e : Exchange) → WithTrail hands rows progress paired tracked es trackers n
+    → Turned progress paired tracked n (Ok (turn.Exchange e)) after next seen k → more ≡ es ++ e ∷ [] → IsTrail seen.hands more later → length more < length later * stretch_length → WithTrail hands rows after next seen more later k
+trail-exchanged hands rows progress after paired next tracked seen es more trackers later n k e w t pushed trail room =
+    let fed = t.0 in
+    let follows = observed_more hands w.so_far.cut_exchanges e tracked seen true w.so_far.follows t.1 in
+    let run = observed_run hands w.so_far.cut_exchanges e tracked seen w.so_far.follows t.1 in
+    subst (λ (x : ℕ). WithTrail hands rows after next seen more later x) (sym fed.number)
+    (with-exchange hands rows progress after paired next tracked seen es more trackers later n fed.line_byte e w fed.gives fed.takes follows run pushed (subst (λ (h : Hands). IsTrail h more later) follows.hands trail) room)
+
+-- what the tracker keeps after it
+pub exchanged_follows : {R : Type 0} (hands : Hands) (rows : Option Rows) (progress after : Progress R) (paired next : Paired) (tracked seen : Tracked) (es more : List Exchange) (trackers : List Tracked) (n k : ℕ) (e : Exchange) → WithTrail hands rows progress paired tracked es trackers n
+    → Turned progress paired tracked n (Ok (turn.Exchange e)) after next seen k → more ≡ es ++ e ∷ [] → Follows seen.hands more seen
+exchanged_follows hands rows progress after paired next tracked seen es more trackers n k e w t pushed =
+    let follows = observed_more hands w.so_far.cut_exchanges e tracked seen true w.so_far.follows t.1 in
+    let same : w.so_far.cut_exchanges ++ e ∷ [] ≡ more = ap (λ (l : List Exchange). l ++ e ∷ []) w.same ∙ sym pushed in
+    subst (λ (l : List Exchange). Follows seen.hands l seen) same (subst (λ (h : Hands). Follows h (w.so_far.cut_exchanges ++ e ∷ []) seen) (sym follows.hands) follows)
+
+pub exchanged_hands : {R : Type 0} (hands : Hands) (rows : Option Rows) (progress after : Progress R) (paired next : Paired) (tracked seen : Tracked) (es : List Exchange) (trackers : List Tracked) (n k : ℕ) (e : Exchange) → WithTrail hands rows progress paired tracked es trackers n → Turned progress paired tracked n (Ok (turn.Exchange e)) after next seen k
+    → IsTrail seen.hands es trackers
+exchanged_hands hands rows progress after paired next tracked seen es trackers n k e w t =
+    subst (λ (h : Hands). IsTrail h es trackers) (sym (t.1.hands ∙ w.so_far.follows.hands)) w.trail
+
+-- the rows were refused, or memory was
+pub keep-stopped : {R : Type 0} (hands : Hands) (rows : Option Rows) (progress after : Progress R) (paired next : Paired) (tracked seen : Tracked) (es : List Exchange) (trackers : List Tracked) (n k : ℕ) (x : JudgeError) (left : List LineByte) (fs : List Exchange) (us : List Tracked) (u : Tracked) → WithTrail hands rows progress paired tracked es trackers n
+    → Turned progress paired tracked n (Err x) after next seen k → KeepsTrail hands rows (Err x) left fs us u
+keep-stopped hands rows progress after paired next tracked seen es trackers n k x left fs us u w (inl memory) =
+    subst (λ (y : JudgeError). KeepsTrail hands rows (Err y) left fs us u) (sym memory) (keep-memory hands rows progress paired tracked es trackers n left fs us u w)
+keep-stopped hands rows progress after paired next tracked seen es trackers n k x left fs us u w (inr refusal) =
+    keep-refusal hands rows progress after paired tracked es trackers n refusal.0 x left fs us u w refusal.1 refusal.2
+
+-- a rule of pairing is broken
+pub keep-turn_break : {R : Type 0} (hands : Hands) (rows : Option Rows) (progress after : Progress R) (paired next : Paired) (tracked seen : Tracked) (es : List Exchange) (trackers : List Tracked) (n k : ℕ) (reason : Reason) (line_byte : LineByte) → WithTrail hands rows progress paired tracked es trackers n
+    → Turned progress paired tracked n (Ok (turn.Break reason line_byte)) after next seen k → KeepsTrail hands rows (Ok (ending.Break k reason line_byte)) next.tail es trackers seen
+keep-turn_break hands rows progress after paired next tracked seen es trackers n k reason line_byte w t =
+    let spoils = t.0 in
+    subst (λ (u : Tracked). KeepsTrail hands rows (Ok (ending.Break k reason line_byte)) next.tail es trackers u) (sym t.1)
+    (subst (λ (x : ℕ). KeepsTrail hands rows (Ok (ending.Break x reason line_byte)) next.tail es trackers tracked) (sym spoils.number)
+    (keep-break hands rows progress after paired next tracked es trackers n line_byte reason w spoils.gives spoils.refuses))
+
+-- no run remains
+pub keep-turn_no_run : {R : Type 0} (hands : Hands) (rows : Option Rows) (progress after : Progress R) (paired next : Paired) (tracked seen : Tracked) (es more : List Exchange) (trackers later : List Tracked) (n k : ℕ) (e : Exchange) → WithTrail hands rows progress paired tracked es trackers n
+    → Turned progress paired tracked n (Ok (turn.NoRun e)) after next seen k → more ≡ es ++ e ∷ [] → KeepsTrail hands rows (Ok (ending.NoRun k)) next.tail more later seen
+keep-turn_no_run hands rows progress after paired next tracked seen es more trackers later n k e w t pushed =
+    let fed = t.0 in
+    let follows = observed_more hands w.so_far.cut_exchanges e tracked seen false w.so_far.follows t.1 in
+    subst (λ (x : ℕ). KeepsTrail hands rows (Ok (ending.NoRun x)) next.tail more later seen) (sym fed.number)
+    (keep-no_run hands rows progress after paired next tracked seen es more trackers later n fed.line_byte e false w fed.gives fed.takes follows t.1.remains refl pushed)
+
+-- no row is left
+pub keep-turn_end : {R : Type 0} (hands : Hands) (rows : Option Rows) (progress after : Progress R) (paired next : Paired) (tracked seen : Tracked) (es : List Exchange) (trackers : List Tracked) (n k : ℕ) → WithTrail hands rows progress paired tracked es trackers n → Turned progress paired tracked n (Ok turn.End) after next seen k
+    → KeepsTrail hands rows (Ok (ending.End k (length next.tail))) next.tail es trackers seen
+keep-turn_end hands rows progress after paired next tracked seen es trackers n k w t =
+    subst (λ (u : Tracked). KeepsTrail hands rows (Ok (ending.End k (length next.tail))) next.tail es trackers u) (sym t.same_tracker)
+    (subst (λ (p : Paired). KeepsTrail hands rows (Ok (ending.End k (length p.tail))) p.tail es trackers tracked) (sym t.same_pairer)
+    (subst (λ (x : ℕ). KeepsTrail hands rows (Ok (ending.End x (length paired.tail))) paired.tail es trackers tracked) (sym t.number)
+    (keep-end hands rows progress after paired tracked es trackers n w t.ends)))

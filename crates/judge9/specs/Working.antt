@@ -1,5 +1,6 @@
 -- What the clauses of private functions cite. No public contract reaches it, so no reader has to believe it.
 pub mod Trail
+pub mod Turn
 use Rattle.std.specs.Prelude.{◌≡◌, ◌≢◌, ⊤, ℕ, List, [], Option, Result, Ok, Err}
 use Rattle.std.specs.Option.{IfSome}
 use Rattle.std.specs.Result.{IfErr}

@@ -2,6 +2,7 @@
 ghost use Rattle.std.specs.Prelude.{◌≡◌};
 
 use capture9::{CaptureError, CaptureKind};
+use std::alloc::AllocError;
 use thiserror::Error;
 
 /// Why there is no verdict.
@@ -32,5 +33,16 @@ impl From<CaptureError> for JudgeError {
             CaptureKind::OutOfMemory => JudgeError::OutOfMemory,
             _ => JudgeError::Capture(e),
         }
+    }
+}
+
+impl From<AllocError> for JudgeError {
+    ghost use Rattle.std.specs.Prelude.{◌≡◌};
+    ghost use Rattle.judge9.specs.declared.error.JudgeError.TheVariants.{OutOfMemory};
+
+    ghost from_gives = { λ e refusal. refusal ≡ OutOfMemory };
+
+    fn from(_: AllocError) -> JudgeError {
+        JudgeError::OutOfMemory
     }
 }

@@ -1,21 +1,20 @@
-//! Judges a capture as it is read: one turn reads a row, feeds its record to the pairer, and where that makes an
-//! exchange whole lets the tracker observe it and tells its line.
-ghost use Rattle.std.specs.Prelude.{◌≡◌, ◌≢◌, ◌↔◌, IfSome, IfErr, option_map};
-ghost use Rattle.capture9.specs.declared.records.Standing.{Standing};
+//! Judges a capture as it is read, turn by turn, and tells the line of each exchange.
+ghost use Rattle.std.specs.Prelude.{◌≡◌, ◌≢◌, IfSome, IfErr, option_map};
 ghost use Rattle.capture9.specs.Rows.{rows_of};
 ghost use Rattle.judge9.specs.Judging.{CanBeResult, IsTheAnswer, StoppedBefore, answer_of};
 ghost use Rattle.judge9.specs.Report.{Told, line_of};
 ghost use Rattle.judge9.specs.Verdict.{CanBeVerdict};
 ghost use Rattle.judge9.specs.Working.{Explains, IsSame, Judges, Puts};
+ghost use Rattle.judge9.specs.Working.Turn.{IsFresh};
 ghost use Rattle.deck9.specs.declared.state.State.{State as AState};
-ghost use Rattle.deck9.specs.State.{IsFirst};
 ghost use Rattle.track9.specs.Tracker.{Possible};
 
 use crate::error::JudgeError;
+use crate::turn::{Judging, Turn};
 use crate::verdict::{Verdict, View};
 use crate::verdict_line::put_verdict_line;
-use block9::{Exchange, Pairer, Reason, Step};
-use capture9::{CaptureError, CaptureKind, Records};
+use block9::{Exchange, Reason};
+use capture9::{CaptureError, CaptureKind};
 use deck9::Hands;
 use std::alloc::Global;
 use std::io::{Read, Write};
@@ -84,63 +83,53 @@ pub fn judge<R: Read + Drop, W: Write>(
         → e.kind ≢ CaptureKind.OutOfMemory }
     ensures can_be { CanBeResult result }
 {
-    let Ok(mut tracker) = Tracker::<SpanSet>::new(alloc, hands) else {
+    let Ok(mut judging) = Judging::new(alloc, reader, hands) else {
         return Err(JudgeError::OutOfMemory);
     };
-    let mut rows = Records::new(alloc, reader);
     let mut line = Vec::new(alloc);
-    let verdict = judge_rows(&mut rows, &mut tracker, &mut line, writer, view, hands);
-    drop(tracker);
+    let verdict = judge_rows(&mut judging, &mut line, writer, view, hands);
+    drop(judging);
     verdict
 }
 
 /// Judges all the rows that are to come and tells of them. `line` is room for a line, whose content is not kept.
 fn judge_rows<R: Read + Drop, W: Write>(
-    rows: &mut Records<R>,
-    tracker: &mut Tracker<SpanSet>,
+    judging: &mut Judging<R>,
     line: &mut Vec<u8>,
     writer: &mut W,
     view: View,
     hands: Hands,
 ) -> Result<Verdict, JudgeError>
-    requires first { rows.old.given ≡ 0 }
-    requires fresh { rows.old.last_time ≡ 0 }
-    requires reading { rows.old.standing ≡ Standing.Reading }
-    requires states { (s : AState) → Possible tracker.old.states s ↔ IsFirst hands s }
-    requires hands { tracker.old.hands ≡ hands }
-    ensures { Judges view hands rows.old.rows result (W.contents writer.old) (W.contents writer.new) }
+    requires { IsFresh hands judging.old.rows judging.old.pairer judging.old.tracker judging.old.records }
+    ensures { Judges view hands judging.old.rows.rows result (W.contents writer.old) (W.contents writer.new) }
 {
-    let mut pairer = Pairer::new();
-    let mut records = 0u32;
     let mut exchanges = 0u32;
     'rows: loop {
-        let line_byte = match rows.next() {
-            Ok(Some(line_byte)) => line_byte,
-            Ok(None) => break 'rows,
-            Err(e) => return Err(JudgeError::from(e)),
-        };
-        records += 1;
-        let exchange = match pairer.feed(line_byte) {
-            Ok(Step::Waiting) => continue 'rows,
-            Ok(Step::Command) => continue 'rows,
-            Ok(Step::Exchange(exchange)) => exchange,
-            Err(reason) => return tell_no(line, writer, records, reason),
-        };
-        match tracker.observe(&exchange.command, &exchange.reply) {
-            Ok(true) => exchanges += 1,
-            Ok(false) => return tell_no(line, writer, records, Reason::NoRun),
-            Err(_) => return Err(JudgeError::OutOfMemory),
-        }
-        if let Err(e) = explain(line, writer, view, hands, records, &exchange, tracker) {
-            return Err(e);
+        match judging.turn()? {
+            Turn::Open => continue 'rows,
+            Turn::Exchange(exchange) => {
+                exchanges += 1;
+                explain(
+                    line,
+                    writer,
+                    view,
+                    hands,
+                    judging.records,
+                    &exchange,
+                    &judging.tracker,
+                )?;
+            }
+            Turn::NoRun(_) => return tell_no(line, writer, judging.records, Reason::NoRun),
+            Turn::Break(reason, _) => return tell_no(line, writer, judging.records, reason),
+            Turn::End => break 'rows,
         }
     }
-    let tail = pairer.tail_len() as u32;
+    let tail = judging.pairer.tail_len() as u32;
     tell(
         line,
         writer,
         Verdict::Yes {
-            records,
+            records: judging.records,
             exchanges,
             tail,
         },

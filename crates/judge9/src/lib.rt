@@ -20,6 +20,7 @@ mod run_judging;
 mod run_verdict;
 mod trail;
 mod trail_judging;
+mod turn;
 mod verdict;
 mod verdict_line;
 mod why_judging;

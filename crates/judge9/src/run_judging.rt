@@ -1,13 +1,10 @@
 //! Judges a capture and keeps its trail, so that a yes is handed out with a run of the deck.
-ghost use Rattle.std.specs.Prelude.{◌≡◌, ◌≢◌, ◌↔◌, IfSome, IfErr, option_map};
-ghost use Rattle.capture9.specs.declared.records.Standing.{Standing};
+ghost use Rattle.std.specs.Prelude.{◌≡◌, ◌≢◌, IfSome, IfErr, option_map};
 ghost use Rattle.capture9.specs.Rows.{rows_of};
 ghost use Rattle.judge9.specs.Judging.{CanBeResult, IsTheAnswer, StoppedBefore, answer_of};
 ghost use Rattle.judge9.specs.RunVerdict.{IsJudgedRun, judged_of};
 ghost use Rattle.judge9.specs.Working.Trail.{JudgesRun};
-ghost use Rattle.deck9.specs.declared.state.State.{State as AState};
-ghost use Rattle.deck9.specs.State.{IsFirst};
-ghost use Rattle.track9.specs.Tracker.{Possible};
+ghost use Rattle.judge9.specs.Working.Turn.{IsFresh};
 
 use crate::ending::Ending;
 use crate::error::JudgeError;
@@ -15,13 +12,12 @@ use crate::fewest_hands::states_of_run;
 use crate::run_verdict::RunVerdict;
 use crate::trail::Trail;
 use crate::trail_judging::keep_trail;
-use block9::{Pairer, Reason};
-use capture9::{CaptureError, CaptureKind, Records};
+use crate::turn::Judging;
+use block9::Reason;
+use capture9::{CaptureError, CaptureKind};
 use deck9::Hands;
 use std::alloc::Global;
 use std::io::Read;
-use tc25::SpanSet;
-use track9::Tracker;
 
 /// Judges the capture that the reader gives, as [`judge`](crate::judge) does, and hands out a yes with a run of the
 /// deck: the exchanges, and a state of the deck after each of them, such that some first state, drifts and steps of
@@ -54,34 +50,27 @@ pub fn judge_with_run<R: Read + Drop>(
     ensures write { result ≢ Err JudgeError.Write }
     ensures can_be { CanBeResult (judged_of result) }
 {
-    let Ok(mut tracker) = Tracker::<SpanSet>::new(alloc, hands) else {
+    let Ok(mut judging) = Judging::new(alloc, reader, hands) else {
         return Err(JudgeError::OutOfMemory);
     };
-    let mut rows = Records::new(alloc, reader);
-    let verdict = judge_rows(alloc, &mut rows, &mut tracker, hands);
-    drop(tracker);
+    let verdict = judge_rows(alloc, &mut judging, hands);
+    drop(judging);
     verdict
 }
 
 /// Judges all the rows that are to come and finds a run where the verdict is a yes.
 fn judge_rows<R: Read + Drop>(
     alloc: Global,
-    rows: &mut Records<R>,
-    tracker: &mut Tracker<SpanSet>,
+    judging: &mut Judging<R>,
     hands: Hands,
 ) -> Result<RunVerdict, JudgeError>
-    requires first { rows.old.given ≡ 0 }
-    requires fresh { rows.old.last_time ≡ 0 }
-    requires reading { rows.old.standing ≡ Standing.Reading }
-    requires states { (s : AState) → Possible tracker.old.states s ↔ IsFirst hands s }
-    requires hands { tracker.old.hands ≡ hands }
-    ensures { JudgesRun hands rows.old.rows result }
+    requires { IsFresh hands judging.old.rows judging.old.pairer judging.old.tracker judging.old.records }
+    ensures { JudgesRun hands judging.old.rows.rows result }
 {
-    let mut pairer = Pairer::new();
     let mut trail = Trail::new(alloc);
-    match keep_trail(rows, &mut pairer, tracker, &mut trail, hands) {
+    match keep_trail(judging, &mut trail, hands) {
         Ok(Ending::End { records, tail }) => {
-            let Ok(states) = states_of_run(alloc, hands, &trail, tracker) else {
+            let Ok(states) = states_of_run(alloc, hands, &trail, &judging.tracker) else {
                 return Err(JudgeError::OutOfMemory);
             };
             Ok(RunVerdict::Yes {

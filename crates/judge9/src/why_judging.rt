@@ -1,16 +1,13 @@
 //! Judges a capture and says why a no is one: what is open where a rule of pairing is broken, and which replies contradict
 //! one another where no run of the deck remains.
-ghost use Rattle.std.specs.Prelude.{◌≡◌, ◌≢◌, ◌↔◌, IfSome, IfOk, IfErr, option_map};
-ghost use Rattle.capture9.specs.declared.records.Standing.{Standing};
+ghost use Rattle.std.specs.Prelude.{◌≡◌, ◌≢◌, IfSome, IfOk, IfErr, option_map};
 ghost use Rattle.capture9.specs.Rows.{rows_of};
 ghost use Rattle.block9.specs.Line.{bytes_of};
 ghost use Rattle.judge9.specs.Judging.{CanBeResult, IsTheAnswer, StoppedBefore, answer_of};
 ghost use Rattle.judge9.specs.OpenRecords.{IsMeaning, asked_of};
 ghost use Rattle.judge9.specs.WhyVerdict.{IsJudgedWhy, judged_of};
 ghost use Rattle.judge9.specs.Working.Trail.{JudgesWhy};
-ghost use Rattle.deck9.specs.declared.state.State.{State as AState};
-ghost use Rattle.deck9.specs.State.{IsFirst};
-ghost use Rattle.track9.specs.Tracker.{Possible};
+ghost use Rattle.judge9.specs.Working.Turn.{IsFresh};
 
 use crate::could_show::could_show;
 use crate::ending::Ending;
@@ -18,14 +15,13 @@ use crate::error::JudgeError;
 use crate::open_records::open_command;
 use crate::trail::Trail;
 use crate::trail_judging::keep_trail;
+use crate::turn::Judging;
 use crate::why_verdict::WhyVerdict;
 use block9::{Command, Pairer};
-use capture9::{CaptureError, CaptureKind, LineByte, Records};
+use capture9::{CaptureError, CaptureKind, LineByte};
 use deck9::Hands;
 use std::alloc::{AllocError, Global};
 use std::io::Read;
-use tc25::SpanSet;
-use track9::Tracker;
 use why9::contradicting;
 
 /// Judges the capture that the reader gives, as [`judge`](crate::judge) does, and says why a no is one.
@@ -66,32 +62,25 @@ pub fn judge_with_contradiction<R: Read + Drop>(
     ensures write { result ≢ Err JudgeError.Write }
     ensures can_be { CanBeResult (judged_of result) }
 {
-    let Ok(mut tracker) = Tracker::<SpanSet>::new(alloc, hands) else {
+    let Ok(mut judging) = Judging::new(alloc, reader, hands) else {
         return Err(JudgeError::OutOfMemory);
     };
-    let mut rows = Records::new(alloc, reader);
-    let verdict = judge_rows(alloc, &mut rows, &mut tracker, hands);
-    drop(tracker);
+    let verdict = judge_rows(alloc, &mut judging, hands);
+    drop(judging);
     verdict
 }
 
 /// Judges all the rows that are to come and finds the replies that contradict one another where no run remains.
 fn judge_rows<R: Read + Drop>(
     alloc: Global,
-    rows: &mut Records<R>,
-    tracker: &mut Tracker<SpanSet>,
+    judging: &mut Judging<R>,
     hands: Hands,
 ) -> Result<WhyVerdict, JudgeError>
-    requires first { rows.old.given ≡ 0 }
-    requires fresh { rows.old.last_time ≡ 0 }
-    requires reading { rows.old.standing ≡ Standing.Reading }
-    requires states { (s : AState) → Possible tracker.old.states s ↔ IsFirst hands s }
-    requires hands { tracker.old.hands ≡ hands }
-    ensures { JudgesWhy hands rows.old.rows result }
+    requires { IsFresh hands judging.old.rows judging.old.pairer judging.old.tracker judging.old.records }
+    ensures { JudgesWhy hands judging.old.rows.rows result }
 {
-    let mut pairer = Pairer::new();
     let mut trail = Trail::new(alloc);
-    match keep_trail(rows, &mut pairer, tracker, &mut trail, hands) {
+    match keep_trail(judging, &mut trail, hands) {
         Ok(Ending::End { records, tail }) => Ok(WhyVerdict::Yes {
             records,
             exchanges: trail.into_exchanges().len() as u32,
@@ -104,7 +93,7 @@ fn judge_rows<R: Read + Drop>(
                 breaking,
             },
         ) => {
-            let Ok((tail, command)) = open_of(alloc, &pairer) else {
+            let Ok((tail, command)) = open_of(alloc, &judging.pairer) else {
                 return Err(JudgeError::OutOfMemory);
             };
             Ok(WhyVerdict::Break {

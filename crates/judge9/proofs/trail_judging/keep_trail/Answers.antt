@@ -1,82 +1,75 @@
-use Rattle.std.proofs.Common.{◌∙◌, ◌∷◌, ◌++◌, [], ℕ, Ok, ap, arith, refl, sym, subst}
+use Rattle.std.proofs.Common.{◌∙◌, ℕ, Ok, ap, sym, subst}
 use Rattle.std.specs.Global.{Vec}
-use Rattle.deck9.specs.declared.state.Hands.{Hands}
-use Rattle.judge9.specs.declared.ending.Ending.TheVariants as ending
 use Rattle.block9.specs.declared.pairer.Exchange.{Exchange}
-use Rattle.judge9.specs.Working.Trail.{IsTrail, KeepsTrail}
-use Rattle.judge9.proofs.TrailJudging.{keep-break, keep-end, keep-memory, keep-no_run, keep-refusal, with-exchange, with-open, with-start}
-use Rattle.judge9.proofs.RunSteps.{follows-more, follows-start, run_remains}
+use Rattle.judge9.specs.declared.ending.Ending.TheVariants as ending
+use Rattle.judge9.specs.Working.Trail.{KeepsTrail}
+use Rattle.judge9.proofs.TrailJudging.{exchanged_follows, exchanged_hands, keep-memory, keep-nothing, keep-stopped, keep-turn_break, keep-turn_end, keep-turn_no_run, trail-exchanged, trail-turn, with-start}
+use Rattle.judge9.proofs.TurnSteps.{handed_on}
 use Rattle.judge9.proofs.trail_judging.keep_trail.Goals as goal
+
+pub returns-in_err-mark : goal.returns-in_err-mark
+returns-in_err-mark g c =
+    handed_on (λ r. KeepsTrail c.args.hands c.args.judging.now.rows.rows r c.args.judging.now.pairer.tail c.mark.new.self.exchanges.items c.mark.new.self.trackers.items c.args.judging.now.tracker) _ c.from_residual.result c.from_residual.ensures.1
+    (keep-nothing _ _ _ _ _ _ _ _ _ c.requires.fresh)
 
 pub rows-init : goal.rows-init
 rows-init g c =
-    with-start c.args.hands c.args.rows.now c.args.pairer.now c.args.tracker.now c.args.trail.now.exchanges.items c.args.trail.now.trackers.items c.requires.first c.requires.fresh c.requires.reading c.requires.fed_nothing
-    (follows-start c.args.hands c.args.tracker.now c.requires.states c.requires.hands) c.requires.no_exchange c.requires.no_tracker
+    with-start _ _ _ _ _ _ _ c.requires.fresh (ap (λ (v : Vec Exchange). v.items) c.in_ok-mark.ensures.same ∙ c.requires.no_exchange) c.in_ok-mark.ensures.trail c.in_ok-mark.ensures.room
 
-pub returns-in-Err : goal.returns-in-Err
-returns-in-Err g c = keep-refusal _ _ _ _ _ _ _ _ _ _ _ _ _ _ _ c.rows.invariant c.in-Err.ensures.refused c.from.ensures
+pub returns-in_err-turn : goal.returns-in_err-turn
+returns-in_err-turn g c =
+    handed_on (λ r. KeepsTrail c.args.hands c.args.judging.now.rows.rows r c.turn.new.self.pairer.tail c.rows.trail.exchanges.items c.rows.trail.trackers.items c.turn.new.self.tracker) _ c.from_residual-in_err-turn.result c.from_residual-in_err-turn.ensures.1
+    (keep-stopped _ _ _ _ _ c.turn.new.self.pairer _ c.turn.new.self.tracker _ _ _ c.turn.new.self.records _ _ _ _ _ c.rows.invariant c.in_err-turn.ensures)
 
-pub feed-requires : goal.feed-requires
-feed-requires g c =
-    let given = rw c.in-Ok-Some.field-0-is at c.in-Ok-Some.ensures.given in
-    λ x e.
-    let before = c.rows.invariant.so_far.in_order x e in
-    let after = given.in_order in
-    omega arith
+pub rows-preserved-in-Open : goal.rows-preserved-in-Open
+rows-preserved-in-Open g c =
+    let turned = rw c.in-Open.is at c.in_ok-turn.ensures in
+    trail-turn _ _ _ _ _ _ _ _ _ _ _ _ c.rows.invariant turned
 
-pub rows-preserved-in-Ok-Waiting : goal.rows-preserved-in-Ok-Waiting
-rows-preserved-in-Ok-Waiting g c =
-    let given = rw c.in-Ok-Some.field-0-is at c.in-Ok-Some.ensures.given in
-    let takes = rw c.in-Ok-Waiting.field-0-is at (c.in-Ok-Waiting.ensures.takes c.rows.invariant.so_far.no_reason) in
-    with-open _ _ _ _ _ _ _ _ _ _ _ _ (λ es. refl) c.rows.invariant given takes
+pub returns-in_err-push-in-Exchange : goal.returns-in_err-push-in-Exchange
+returns-in_err-push-in-Exchange g c =
+    handed_on (λ r. KeepsTrail c.args.hands c.args.judging.now.rows.rows r c.turn.new.self.pairer.tail c.push.new.self.exchanges.items c.push.new.self.trackers.items c.turn.new.self.tracker) _ c.from_residual-in_err-push-in-Exchange.result c.from_residual-in_err-push-in-Exchange.ensures.1
+    (keep-memory _ _ _ _ _ _ _ _ _ _ _ _ c.rows.invariant)
 
-pub rows-preserved-in-Ok-Command : goal.rows-preserved-in-Ok-Command
-rows-preserved-in-Ok-Command g c =
-    let given = rw c.in-Ok-Some.field-0-is at c.in-Ok-Some.ensures.given in
-    let takes = rw c.in-Ok-Command.field-0-is at (c.in-Ok-Command.ensures.takes c.rows.invariant.so_far.no_reason) in
-    with-open _ _ _ _ _ _ _ _ _ _ _ _ (λ es. refl) c.rows.invariant given takes
+pub mark-requires-in-Exchange-clause-trail : goal.mark-requires-in-Exchange-clause-trail
+mark-requires-in-Exchange-clause-trail g c =
+    let turned = rw c.in-Exchange.is at c.in_ok-turn.ensures in
+    c.in_ok-push-in-Exchange.ensures.trail c.turn.new.self.tracker.hands (exchanged_hands _ _ _ _ _ _ _ _ _ _ _ _ _ c.rows.invariant turned)
 
-pub returns-in-Err-feed : goal.returns-in-Err-feed
-returns-in-Err-feed g c =
-    let given = rw c.in-Ok-Some.field-0-is at c.in-Ok-Some.ensures.given in
-    keep-break _ _ _ _ _ _ _ _ _ _ _ _ c.rows.invariant given (c.in-Err-feed.ensures.refuses c.rows.invariant.so_far.no_reason)
-
-pub returns-in_default : goal.returns-in_default
-returns-in_default g c = keep-memory _ _ _ _ _ _ _ _ _ _ _ _ c.rows.invariant
-
-pub returns-in_default-observe : goal.returns-in_default-observe
-returns-in_default-observe g c = keep-memory _ _ _ _ _ _ _ _ _ _ _ _ c.rows.invariant
-
-pub returns-in_default-push : goal.returns-in_default-push
-returns-in_default-push g c = keep-memory _ _ _ _ _ _ _ _ _ _ _ _ c.rows.invariant
-
-pub returns-then-not-remains : goal.returns-then-not-remains
-returns-then-not-remains g c =
-    let given = rw c.in-Ok-Some.field-0-is at c.in-Ok-Some.ensures.given in
-    let takes = rw c.in-Ok-Exchange.field-0-is at (c.in-Ok-Exchange.ensures.takes c.rows.invariant.so_far.no_reason) in
-    let far = c.rows.invariant.so_far in
-    let e = c.in-Ok-Exchange.exchange in
-    let reached = rw c.in-Ok-Exchange.field-0-is at c.in-Ok-observe.ensures.reached in
-    let follows = follows-more c.args.hands far.cut_exchanges e c.rows.tracker c.observe.new.self far.follows reached c.in-Ok-observe.ensures.hands in
-    let pushed = rw c.in-Ok-Exchange.field-0-is at c.in-Ok-push.ensures.exchanges ∙ ap (λ (v : Vec Exchange). v.items ++ e ∷ []) c.in-Ok.ensures.same in
-    keep-no_run _ _ _ _ _ _ _ _ _ _ _ _ _ _ _ _ c.rows.invariant given takes follows c.in-Ok-observe.ensures.remains c.if-not-remains.true pushed
+pub mark-requires-in-Exchange-clause-keeps : goal.mark-requires-in-Exchange-clause-keeps
+mark-requires-in-Exchange-clause-keeps g c =
+    let turned = rw c.in-Exchange.is at c.in_ok-turn.ensures in
+    exchanged_follows _ _ _ _ _ _ _ _ _ _ _ _ _ _ c.rows.invariant turned c.in_ok-push-in-Exchange.ensures.exchanges
 
 pub rows-preserved : goal.rows-preserved
 rows-preserved g c =
-    let given = rw c.in-Ok-Some.field-0-is at c.in-Ok-Some.ensures.given in
-    let takes = rw c.in-Ok-Exchange.field-0-is at (c.in-Ok-Exchange.ensures.takes c.rows.invariant.so_far.no_reason) in
-    let far = c.rows.invariant.so_far in
-    let e = c.in-Ok-Exchange.exchange in
-    let reached = rw c.in-Ok-Exchange.field-0-is at c.in-Ok-observe.ensures.reached in
-    let follows = follows-more c.args.hands far.cut_exchanges e c.rows.tracker c.observe.new.self far.follows reached c.in-Ok-observe.ensures.hands in
-    let remains = run_remains c.args.hands _ c.observe.new.self follows (c.in-Ok-observe.ensures.remains.0 c.if-not-remains.false) in
-    let pushed = rw c.in-Ok-Exchange.field-0-is at c.in-Ok-push.ensures.exchanges ∙ ap (λ (v : Vec Exchange). v.items ++ e ∷ []) c.in-Ok.ensures.same in
-    let marked = c.in-Ok.ensures.trail in
-    let trail = subst (λ (h : Hands). IsTrail h c.push.new.self.exchanges.items c.push.new.self.trackers.items) far.follows.hands (c.in-Ok-push.ensures.trail c.rows.tracker.hands marked) in
-    with-exchange _ _ _ _ _ _ _ _ _ _ _ _ _ _ _ c.rows.invariant given takes follows remains pushed trail
+    let turned = rw c.in-Exchange.is at c.in_ok-turn.ensures in
+    let marked = c.in_ok-mark-in-Exchange.ensures in
+    let pushed = ap (λ (v : Vec Exchange). v.items) marked.same ∙ c.in_ok-push-in-Exchange.ensures.exchanges in
+    trail-exchanged _ _ _ _ _ _ _ _ _ _ _ _ _ _ _ c.rows.invariant turned pushed marked.trail marked.room
+
+pub returns-in_err-mark-in-Exchange : goal.returns-in_err-mark-in-Exchange
+returns-in_err-mark-in-Exchange g c =
+    handed_on (λ r. KeepsTrail c.args.hands c.args.judging.now.rows.rows r c.turn.new.self.pairer.tail c.mark-in-Exchange.new.self.exchanges.items c.mark-in-Exchange.new.self.trackers.items c.turn.new.self.tracker) _ c.from_residual-in_err-mark-in-Exchange.result c.from_residual-in_err-mark-in-Exchange.ensures.1
+    (keep-memory _ _ _ _ _ _ _ _ _ _ _ _ c.rows.invariant)
+
+pub returns-in_err-push-in-NoRun : goal.returns-in_err-push-in-NoRun
+returns-in_err-push-in-NoRun g c =
+    handed_on (λ r. KeepsTrail c.args.hands c.args.judging.now.rows.rows r c.turn.new.self.pairer.tail c.push-in-NoRun.new.self.exchanges.items c.push-in-NoRun.new.self.trackers.items c.turn.new.self.tracker) _ c.from_residual-in_err-push-in-NoRun.result c.from_residual-in_err-push-in-NoRun.ensures.1
+    (keep-memory _ _ _ _ _ _ _ _ _ _ _ _ c.rows.invariant)
+
+pub returns-in-NoRun : goal.returns-in-NoRun
+returns-in-NoRun g c =
+    let turned = rw c.in-NoRun.is at c.in_ok-turn.ensures in
+    keep-turn_no_run _ _ _ _ _ _ _ _ _ _ _ _ _ _ _ c.rows.invariant turned c.in_ok-push-in-NoRun.ensures.exchanges
+
+pub returns-in-Break : goal.returns-in-Break
+returns-in-Break g c =
+    let turned = rw c.in-Break.is at c.in_ok-turn.ensures in
+    keep-turn_break _ _ _ _ _ _ _ _ _ _ _ _ _ _ c.rows.invariant turned
 
 pub returns : goal.returns
 returns g c =
-    let ended = rw c.in-Ok-None.field-0-is at c.in-Ok-None.ensures.ended in
-    let found = keep-end c.args.hands c.args.rows.now.rows _ _ c.rows.pairer c.rows.tracker _ _ c.rows.records c.rows.invariant ended in
-    subst (λ (k : ℕ). KeepsTrail c.args.hands c.args.rows.now.rows (Ok (ending.End c.rows.records k)) c.rows.pairer.tail c.rows.trail.exchanges.items c.rows.trail.trackers.items c.rows.tracker) (sym c.tail_len-tail.ensures.len) found
+    let turned = rw c.in-End.is at c.in_ok-turn.ensures in
+    let found = keep-turn_end _ _ _ _ _ _ _ _ _ _ _ _ c.rows.invariant turned in
+    subst (λ (k : ℕ). KeepsTrail c.args.hands c.args.judging.now.rows.rows (Ok (ending.End c.turn.new.self.records k)) c.turn.new.self.pairer.tail c.rows.trail.exchanges.items c.rows.trail.trackers.items c.turn.new.self.tracker) (sym c.tail_len.ensures.len) found

@@ -16,11 +16,11 @@ returns-in-Ok-could_show g c =
     let ended = rw c.in-Ok-NoRun.field-0-is at c.in-Ok-NoRun.ensures in
     let is = rw c.deref.ensures.value at c.in-Ok-contradicting.ensures in
     let shows = rw c.deref-in-Ok-NoRun.ensures.value at c.in-Ok-could_show.ensures in
-    why-no_run c.args.hands c.args.rows.now.rows c.in-Ok-NoRun.at _ c.keep_trail.new.trail.exchanges c.into_exchanges-exchanges.result _ c.keep_trail.new.tracker c.in-Ok-contradicting.places c.in-Ok-could_show.known c.in-Ok-could_show.shown ended
+    why-no_run c.args.hands c.args.judging.now.rows.rows c.in-Ok-NoRun.at _ c.keep_trail.new.trail.exchanges c.into_exchanges-exchanges.result _ c.keep_trail.new.judging.tracker c.in-Ok-contradicting.places c.in-Ok-could_show.known c.in-Ok-could_show.shown ended
     c.into_exchanges-exchanges.ensures is shows
 
 pub returns-in-Ok : goal.returns-in-Ok
 returns-in-Ok g c =
     let b = c.in-Ok-Break in
     let ended = rw b.field-0-is at b.ensures in
-    why-break c.args.hands c.args.rows.now.rows b.at b.reason b.breaking _ _ _ c.keep_trail.new.tracker c.in-Ok.tail c.in-Ok.command ended c.in-Ok.ensures.0 c.in-Ok.ensures.1
+    why-break c.args.hands c.args.judging.now.rows.rows b.at b.reason b.breaking _ _ _ c.keep_trail.new.judging.tracker c.in-Ok.tail c.in-Ok.command ended c.in-Ok.ensures.0 c.in-Ok.ensures.1
