@@ -32,9 +32,10 @@ use track9::{Knowledge, ModeSet};
 ///
 /// A line of open records tells their numbers, the time of the first of them in microseconds, the command's name and time
 /// where it is whole, and their bytes. The line of the record that breaks tells its number, time, wire and byte, how many
-/// microseconds it comes after the last open one, and the limit where the rule is one of time. A line of a reply tells the numbers of its exchange's records, the time of the first of them in microseconds, what
-/// was asked and what was answered, with the bytes of both blocks, and what the reply says of the deck. With
-/// `Hands::Allowed` it is told whether the panel is on.
+/// microseconds it comes after the last open one, and the limit where the rule is one of time. A line of a reply tells the
+/// numbers of its exchange's records, the time of the first of them in microseconds, what was asked and what was answered,
+/// with the bytes of both blocks, and what the reply says of the deck. With `Hands::Allowed` it is told whether the panel is
+/// on.
 ///
 /// The whole text is made before any of it is written. The writer is not flushed. The errors are:
 ///

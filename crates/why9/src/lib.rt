@@ -2,7 +2,7 @@
 //!
 //! Where an exchange is the first after which no state of the deck remains, its reply alone seldom says why.
 //! [`contradicting`] finds which replies contradict one another: no deck can have given them together, whatever it
-//! answered to everything else. Each of them is needed, and they are as near to the break as such replies can be.
+//! answered to everything else. Each of them is needed, and the first of them is as near to the break as it can be.
 #![tactic(auto)]
 
 mod question;

@@ -21,7 +21,7 @@ use std::alloc::{AllocError, Global};
 ///   that it gives for them.
 /// * `Err(Usage)` only where it does not take them, and they are not those that ask for the version. Words that ask for
 ///   help are not taken.
-/// * `Err(Version)` only where they ask for the version, and nothing before that is wrong.
+/// * `Err(Version)` only where they ask for the version, and that is, or may be, the first thing that stops the definition.
 /// * `Err(NoMemory)` where a growth of memory is refused.
 pub fn read_words(alloc: Global, words: Vec<String>) -> Result<Task, WordsFault>
     ensures task { IfOk result (IsTaskOf (map (λ s. string_bytes s) words.items)) }
