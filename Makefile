@@ -10,10 +10,15 @@ VERSION := $(shell cat VERSION)
 PROGRAM := crates/ninecheck/out/ninecheck
 PACKAGE := ninecheck-$(VERSION)-linux-x86_64
 
+# Where zsh looks below share/zsh: what Debian's own packages bring has a folder of its own there.
+ZSH_FOLDER ?= site-functions
+
+# Each path stands in quotes wherever it is used, since a root may have a blank.
 to := $(DESTDIR)$(PREFIX)
-completions := $(to)/share/bash-completion/completions/ninecheck \
-	$(to)/share/zsh/site-functions/_ninecheck \
-	$(to)/share/fish/vendor_completions.d/ninecheck.fish
+page := $(to)/share/man/man1/ninecheck.1
+for_bash := $(to)/share/bash-completion/completions/ninecheck
+for_zsh := $(to)/share/zsh/$(ZSH_FOLDER)/_ninecheck
+for_fish := $(to)/share/fish/vendor_completions.d/ninecheck.fish
 
 .PHONY: built install uninstall deb dist
 
@@ -26,20 +31,22 @@ install: built
 	install -D -m 644 -t "$(to)/share/ninecheck/convert" convert/*.awk
 	install -D -m 644 -t "$(to)/share/ninecheck/view" view/*.awk
 	install -D -m 644 -t "$(to)/share/ninecheck/examples" examples/*.csv examples/ANSWERS
+	install -D -m 644 -t "$(to)/share/ninecheck/examples/exports" examples/exports/*
+	install -D -m 644 -t "$(to)/share/ninecheck/examples/views" examples/views/*
 	install -D -m 644 -t "$(to)/share/doc/ninecheck" README.md VERSION docs/*.md
 	install -D -m 644 -t "$(to)/share/doc/ninecheck/pictures" docs/pictures/*.svg
-	install -D -m 644 man/ninecheck.1 "$(to)/share/man/man1/ninecheck.1"
-	install -D -m 644 completions/ninecheck.bash "$(to)/share/bash-completion/completions/ninecheck"
-	install -D -m 644 completions/ninecheck.zsh "$(to)/share/zsh/site-functions/_ninecheck"
-	install -D -m 644 completions/ninecheck.fish "$(to)/share/fish/vendor_completions.d/ninecheck.fish"
+	install -D -m 644 man/ninecheck.1 "$(page)"
+	install -D -m 644 completions/ninecheck.bash "$(for_bash)"
+	install -D -m 644 completions/ninecheck.zsh "$(for_zsh)"
+	install -D -m 644 completions/ninecheck.fish "$(for_fish)"
 
 uninstall:
-	rm -f "$(to)/bin/ninecheck" "$(to)/share/man/man1/ninecheck.1" $(foreach file,$(completions),"$(file)")
+	rm -f "$(to)/bin/ninecheck" "$(page)" "$(for_bash)" "$(for_zsh)" "$(for_fish)"
 	rm -rf "$(to)/lib/ninecheck" "$(to)/share/ninecheck" "$(to)/share/doc/ninecheck"
 
 deb: built
 	rm -rf out/deb
-	$(MAKE) --no-print-directory install DESTDIR=out/deb PREFIX=/usr
+	$(MAKE) --no-print-directory install DESTDIR=out/deb PREFIX=/usr ZSH_FOLDER=vendor-completions
 	mkdir -p out/deb/DEBIAN
 	sed 's/@VERSION@/$(VERSION)/' debian-control > out/deb/DEBIAN/control
 	dpkg-deb --root-owner-group --build out/deb out/ninecheck_$(VERSION)_amd64.deb

@@ -4,6 +4,7 @@ complete -c ninecheck -n __fish_use_subcommand -f -a explain -d 'A line for each
 complete -c ninecheck -n __fish_use_subcommand -f -a run -d 'One run of the deck, and the verdict'
 complete -c ninecheck -n __fish_use_subcommand -f -a why -d 'Why a no is one, and the verdict'
 complete -c ninecheck -n __fish_use_subcommand -f -a help -d 'What can be asked for'
-complete -c ninecheck -n '__fish_seen_subcommand_from check explain run why' -l hands -d "Somebody may have touched the deck's panel"
+complete -c ninecheck -n '__fish_seen_subcommand_from help' -f -a 'check explain run why help'
+complete -c ninecheck -n '__fish_seen_subcommand_from check explain run why; and not __fish_seen_subcommand_from help' -l hands -d "Somebody may have touched the deck's panel"
 complete -c ninecheck -s h -l help -d 'What can be asked for'
 complete -c ninecheck -n __fish_use_subcommand -s V -l version -d 'The version'

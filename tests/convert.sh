@@ -7,7 +7,7 @@ program=${NINECHECK:-$PWD/crates/ninecheck/out/ninecheck}
 
 . tests/lib/judge.sh
 . tests/lib/tools.sh
-need_tools mawk gawk busybox
+need_tools mawk gawk busybox python3 ts=moreutils
 
 work=$(mktemp -d)
 trap 'rm -rf "$work"' EXIT
@@ -264,21 +264,47 @@ printf 'time_us,wire,byte\n5,C,20\n6,C,01\n7,D,10\n8,C,20\n' > "$work/want"
 (cd "$work" && sh -c "$(sed -n 's/^    \(awk -F, .*\)/\1/p' "$OLDPWD/docs/CAPTURE.md")")
 judge "the page's command for the beginning" cmp "$work/begun.csv" "$work/want"
 
-# The page's commands that log two serial ports, with pipes in their place, and a `ts` of our own: its package brings a
-# `parallel` that is another one than that of tests/many.sh. Which wire comes first is left to the machine.
-mkdir "$work/bin"
-printf '#!/bin/sh\nawk "{ printf \\"%%.6f %%s\\\\n\\", NR / 1000, \\$0 }"\n' > "$work/bin/ts"
-chmod +x "$work/bin/ts"
-mkfifo "$work/controller" "$work/deck"
-sed -n '/^    {$/,/^    }/s/^    //p' docs/CAPTURE.md \
-    | sed "s#/dev/ttyUSB0#controller#; s#/dev/ttyUSB1#deck#" > "$work/log.sh"
-(cd "$work" && PATH="$work/bin:$PATH" sh log.sh) &
-printf '\40\01\41' > "$work/controller" &
-printf '\20\01\21' > "$work/deck"
-wait
-awk -v controller=C -v deck=D -f convert/log.awk < "$work/serial.log" > "$work/capture.csv"
-judge "the page's log of the controller" [ "$(grep -o 'C,..' "$work/capture.csv" | tr '\n' ' ')" = 'C,20 C,01 C,21 ' ]
-judge "the page's log of the deck" [ "$(grep -o 'D,..' "$work/capture.csv" | tr '\n' ' ')" = 'D,10 D,01 D,11 ' ]
+# The page's commands that log two serial ports and convert the log, as they stand, with two terminals in their place: each
+# wire's bytes are sent once its port is set as the page sets it. A terminal of a machine alone has no parity, so that is the
+# one thing which is not seen, and stty says that it could not do all.
+sed -n '/^    for port in /,/^$/s/^    //p' docs/CAPTURE.md > "$work/log.sh"
+python3 - "$work" > "$work/out" 2> "$work/err" <<'PY'
+import os, pty, subprocess, sys, termios, time
+work = sys.argv[1]
+ports = [pty.openpty(), pty.openpty()]
+commands = open(f'{work}/log.sh').read()
+for k, (_, port) in enumerate(ports):
+    commands = commands.replace(f'/dev/ttyUSB{k}', os.ttyname(port))
+
+def wait_for(is_so):
+    end = time.monotonic() + 60
+    while not is_so():
+        if time.monotonic() > end:
+            sys.exit('it takes too long')
+        time.sleep(0.01)
+
+def is_set(port):
+    iflag, _, cflag, lflag, _, speed, _ = termios.tcgetattr(port)
+    return (speed == termios.B38400 and cflag & termios.CSIZE == termios.CS8 and cflag & termios.PARODD
+            and not cflag & termios.CSTOPB and not lflag & (termios.ICANON | termios.ECHO) and not iflag & termios.IXON)
+
+def logged():
+    path = f'{work}/serial.log'
+    return len(open(path).readlines()) if os.path.exists(path) else 0
+
+logging = subprocess.Popen(['sh', '-c', commands], cwd=work)
+for k, sent in enumerate((bytes([0x20, 0x01, 0x21]), bytes([0x10, 0x01, 0x11]))):
+    wait_for(lambda: is_set(ports[k][1]))
+    os.write(ports[k][0], sent)
+    wait_for(lambda: logged() == 3 * k + 3)
+for line, port in ports:
+    os.close(line)
+    os.close(port)
+sys.exit(logging.wait())
+PY
+status=$?
+judge "the page's log of two ports" [ "$status" = 0 ]
+judge "the page's capture of two ports" [ "$(cut -d , -f 2,3 "$work/capture.csv" | tr '\n' ' ')" = 'wire,byte C,20 C,01 C,21 D,10 D,01 D,11 ' ]
 
 # What the converters have in common is the same in each.
 for converter in convert/*.awk; do

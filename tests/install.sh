@@ -1,12 +1,13 @@
 #!/usr/bin/env bash
-# Installs the built program into roots of its own, as files, as a package and as an archive, and runs it there as
-# somebody without rights to the repository. The last line is 'N passed, M failed'.
+# Installs the built program into roots of its own, whose paths have a blank, as files, as a package and as an archive, and
+# runs it there as somebody who can't read the copy of the repository that it was installed from. Has bash, zsh and fish
+# complete its words. The last line is 'N passed, M failed'.
 set -u
 cd "$(dirname "$0")/.." || exit 1
 
 . tests/lib/judge.sh
 . tests/lib/tools.sh
-need_tools mandoc make
+need_tools mandoc make zsh fish jq
 
 work=$(mktemp -d)
 trap 'rm -rf "$work"' EXIT
@@ -28,7 +29,7 @@ in_quiet() {
     [ "$status" = 0 ]
 }
 
-# as_nobody WORDS...: runs them in a folder whose name has a blank, as a user without rights to the repository.
+# as_nobody WORDS...: runs them in a folder whose name has a blank, as a user without rights.
 as_nobody() {
     (cd "$work/a folder" && setpriv --reuid=65534 --regid=65534 --clear-groups "$@") > "$work/out" 2> "$work/err"
     status=$?
@@ -44,10 +45,41 @@ run_installed() {
     expect "$name: a check" 0 'yes: records 6, exchanges 1, open 0' ''
     as_nobody "$root/bin/ninecheck" check "$root/share/ninecheck/examples/second-reply.csv"
     expect "$name: an example" 1 'no at record 7: P1 reply without a command' ''
-    (cd "$work/a folder" && awk -v rate=2000000 -f "$root/share/ninecheck/convert/sigrok.awk" \
-        < "$OLDPWD/examples/exports/sigrok.txt") > "$work/out" 2> "$work/err"
+    run_pages "$name" "$root"
+    : > "$work/out"
+    judge "$name: the man page's converter" [ -f "$root${example#/usr/local}" ]
+}
+# The man page's example names a converter where make puts it if it is told nothing else.
+example=$(grep -o '/usr/local/[^ ]*\.awk' man/ninecheck.1)
+
+# run_pages NAME ROOT: the commands of the installed pages on captures and on views, in a copy of the folder that has the
+# installed examples, converters and views, make what they make here.
+run_pages() {
+    local name=$1 root=$2 command export commands=0
+    rm -rf "$work/a copy"
+    cp -r "$root/share/ninecheck" "$work/a copy"
+    while IFS= read -r command; do
+        (cd "$work/a copy" && PATH="$root/bin:$PATH" bash -c "$command") > "$work/out" 2> "$work/err" < /dev/null
+        status=$?
+        judge "$name: $command" is_quiet
+        commands=$((commands + 1))
+        case $command in
+            *examples/exports/*)
+                export=${command##*examples/exports/}
+                export=${export%% *}
+                cmp "$work/a copy/capture.csv" "examples/exports/${export%.*}-capture.csv" > "$work/out" 2>&1
+                status=$?
+                judge "$name: the capture of $export" [ "$status" = 0 ] ;;
+        esac
+    done < <(sed -n 's/^    \(awk .*examples\/exports.*\)/\1/p' "$root/share/doc/ninecheck/CAPTURE.md"
+        sed -n 's/^    \$ //p' "$root/share/doc/ninecheck/VIEWS.md" | sed 's#\./ninecheck#ninecheck#')
+    judge "$name: the pages' commands: $commands" [ "$commands" = 15 ]
+    cmp "$work/a copy/late-reply.svg" docs/pictures/late-reply.svg > "$work/out" 2>&1
     status=$?
-    expect "$name: a converter" 0 "$(cat examples/exports/sigrok-capture.csv)" ''
+    judge "$name: the picture" [ "$status" = 0 ]
+}
+is_quiet() {
+    [ "$status" = 0 ] && [ ! -s "$work/err" ]
 }
 
 mkdir "$work/a folder"
@@ -57,6 +89,7 @@ copy="$work/copy of it"
 mkdir "$copy"
 cp -r Makefile VERSION README.md ninecheck debian-control convert view man completions examples docs "$copy"
 mkdir -p "$copy/crates/ninecheck/out"
+chmod 700 "$copy"
 
 (cd "$copy" && make install "DESTDIR=$work/none") > "$work/out" 2> "$work/err"
 status=$?
@@ -66,20 +99,71 @@ expect 'nothing is built' 2 '' 'nothing is built: run ./ninecheck check examples
 
 cp crates/ninecheck/out/ninecheck "$copy/crates/ninecheck/out/ninecheck"
 
-holds 'make install' make -C "$copy" install "DESTDIR=$work/place" PREFIX=/srv/nine
-run_installed 'installed' "$work/place/srv/nine"
-mv "$work/place/srv/nine/lib/ninecheck" "$work/place/srv/nine/lib/away"
+place="$work/a place"
+root="$place/srv/a nine"
+holds 'make install' make -C "$copy" install "DESTDIR=$place" 'PREFIX=/srv/a nine'
+run_installed 'installed' "$root"
+mv "$root/lib/ninecheck" "$root/lib/away"
 as_nobody ./nine check capture.csv
 expect 'installed without the program' 125 '' 'ninecheck: the program is missing: install it again'
-mv "$work/place/srv/nine/lib/away" "$work/place/srv/nine/lib/ninecheck"
-holds 'make uninstall' make -C "$copy" uninstall "DESTDIR=$work/place" PREFIX=/srv/nine
-find "$work/place" ! -type d > "$work/out"
+mv "$root/lib/away" "$root/lib/ninecheck"
+
+# offered_in_zsh ROOT WORDS: what zsh would put in place of the last of these words. It is asked in a terminal of its own, and
+# what is added to its list goes to a file too.
+offered_in_zsh() {
+    mkdir -p "$work/zsh"
+    : > "$work/zsh/offered"
+    cat > "$work/zsh/setup" <<END
+fpath=("$1" \$fpath)
+autoload -Uz compinit
+compinit -u -d "$work/zsh/dump"
+bindkey '^I' complete-word
+compadd() {
+    [[ \${@[1,(i)(-|--)]} != *-(O|A|D)\ * ]] || { builtin compadd "\$@"; return }
+    local -a found
+    builtin compadd -A found "\$@"
+    [[ -z \$found ]] || print -l -- \$found >> "$work/zsh/offered"
+    builtin compadd "\$@"
+}
+comppostfuncs=(exit)
+END
+    timeout 60 zsh -fc 'zmodload zsh/zpty; zpty z zsh -f -i; zpty -w z "source ${(q)1}"; zpty -w -n z "$2"$'"'\t'"'
+        while zpty -r z; do :; done' zsh "$work/zsh/setup" "$2" > "$work/zsh/said" 2> "$work/err"
+    status=$?
+    sort -u "$work/zsh/offered" | tr '\n' ' ' | sed 's/ $/\n/' > "$work/out"
+}
+
+# offered_in_fish ROOT WORDS: the same of fish, which looks below the share of each root for what it was given.
+offered_in_fish() {
+    mkdir -p "$work/fish"
+    PATH="$1/bin:$PATH" HOME=$work/fish XDG_DATA_DIRS=$1/share fish -c 'complete -C $argv[1]' "$2" > "$work/fish/offered" 2> "$work/err"
+    status=$?
+    cut -f 1 "$work/fish/offered" | LC_ALL=C sort | tr '\n' ' ' | sed 's/ $/\n/' > "$work/out"
+}
+
+export LC_ALL=C
+while IFS='|' read -r typed in_zsh in_fish; do
+    offered_in_zsh "$root/share/zsh/site-functions" "$typed"
+    expect "zsh: $typed" 0 "$in_zsh" ''
+    offered_in_fish "$root" "$typed"
+    expect "fish: $typed" 0 "$in_fish" ''
+done <<'END'
+ninecheck |check explain help run why|check explain help run why
+ninecheck e|explain|explain
+ninecheck -|--help --version -V -h|--help --version -V -h
+ninecheck why -|--hands --help -h|--hands --help -h
+ninecheck help |check explain help run why|check explain help run why
+ninecheck run examples/play|play.csv|examples/play.csv
+END
+
+holds 'make uninstall' make -C "$copy" uninstall "DESTDIR=$place" 'PREFIX=/srv/a nine'
+find "$place" ! -type d > "$work/out"
 : > "$work/err"
 status=0
 expect 'nothing is left' 0 '' ''
 
 holds 'make deb' make -C "$copy" deb
-deb="$work/deb"
+deb="$work/a deb"
 mkdir -p "$deb/var/lib/dpkg/updates" "$deb/var/lib/dpkg/info" "$deb/var/lib/dpkg/triggers"
 : > "$deb/var/lib/dpkg/status"
 chmod 755 "$deb"
@@ -87,6 +171,11 @@ package="$copy/out/ninecheck_$(cat VERSION)_amd64.deb"
 # The root is empty, so the C library, on which the package depends, is not in it.
 holds 'dpkg installs it' dpkg --root="$deb" --force-depends --log=/dev/null -i "$package"
 run_installed 'the package' "$deb/usr"
+# Debian's zsh looks there by itself, and the package has it there.
+zsh -fc 'print -l $fpath' > "$work/out"
+judge "the package's folder for zsh is one of zsh's own" grep -qx /usr/share/zsh/vendor-completions "$work/out"
+offered_in_zsh "$deb/usr/share/zsh/vendor-completions" 'ninecheck r'
+expect "the package's words in zsh" 0 'run' ''
 holds 'dpkg removes it' dpkg --root="$deb" --force-depends --log=/dev/null -r ninecheck
 find "$deb" ! -type d ! -path '*/var/lib/dpkg/*' > "$work/out"
 : > "$work/err"
@@ -94,9 +183,9 @@ status=0
 expect 'nothing of the package is left' 0 '' ''
 
 holds 'make dist' make -C "$copy" dist
-mkdir "$work/unpacked"
-tar -C "$work/unpacked" -xzf "$copy/out/ninecheck-$(cat VERSION)-linux-x86_64.tar.gz"
-run_installed 'the archive' "$work/unpacked/ninecheck-$(cat VERSION)-linux-x86_64"
+mkdir "$work/un packed"
+tar -C "$work/un packed" -xzf "$copy/out/ninecheck-$(cat VERSION)-linux-x86_64.tar.gz"
+run_installed 'the archive' "$work/un packed/ninecheck-$(cat VERSION)-linux-x86_64"
 
 # The script in the repository, by a symlink.
 ln -s "$PWD/ninecheck" "$work/linked"
@@ -104,7 +193,7 @@ ln -s "$PWD/ninecheck" "$work/linked"
 status=$?
 expect 'the script by a symlink' 0 'yes: records 6, exchanges 1, open 0' ''
 
-# complete WORDS...: what bash would put in place of the last word.
+# complete_words WORDS...: what bash would put in place of the last word.
 complete_words() {
     bash -c 'source completions/ninecheck.bash; COMP_WORDS=("$@"); COMP_CWORD=$(($# - 1)); _ninecheck; echo "${COMPREPLY[@]}"' \
         bash "$@" > "$work/out" 2> "$work/err"

@@ -19,6 +19,13 @@ show() {
     cat "$file"
 }
 
+# Where the machine has the `parallel` of moreutils, GNU's is asked for: the other one refuses the word `--version`.
+mkdir "$work/other"
+printf '#!/bin/sh\necho "parallel: invalid option" >&2\nexit 1\n' > "$work/other/parallel"
+chmod +x "$work/other/parallel"
+PATH=$work/other:$PATH missing_tools parallel > "$work/out"
+is_same 'another parallel is not GNU parallel' parallel "$work/out"
+
 # The commands of the page, in their order; each runs in $work with the built program on its path.
 mkdir "$work/bin" "$work/captures" "$work/captures/a night"
 ln -s "${NINECHECK:-$PWD/crates/ninecheck/out/ninecheck}" "$work/bin/ninecheck"

@@ -1,11 +1,12 @@
 #!/usr/bin/env bash
-# Runs each command that the README and the pages of docs/ show behind a dollar sign, as it stands there, and compares what is
-# shown below it. The last line is 'N passed, M failed'.
+# Runs the commands that the README and the pages of docs/ show, as they stand there: behind a dollar sign, with what is shown
+# below compared, and without one, as the table below says. A block that the table does not have has failed. The last line
+# is 'N passed, M failed'.
 set -u
 cd "$(dirname "$0")/.." || exit 1
 . tests/lib/judge.sh
 . tests/lib/tools.sh
-need_tools jq
+need_tools jq make
 
 work=$(mktemp -d)
 trap 'rm -rf "$work"' EXIT
@@ -14,34 +15,145 @@ trap 'rm -rf "$work"' EXIT
 mkdir "$work/here"
 ln -s "$PWD"/* "$work/here"
 
-# run_shown: the command in $command, which shows the lines in $work/want.
-run_shown() {
-    [ -n "$command" ] || return
-    (cd "$work/here" && bash -c "$command") > "$work/out" 2>&1 < /dev/null
-    judge "$page: $command" cmp -s "$work/out" "$work/want"
-    command=
+# in_here COMMAND: what it says, on both streams, is left in $work/out.
+in_here() {
+    (cd "$work/here" && bash -c "$1") > "$work/out" 2>&1 < /dev/null
+}
+
+# is_said NAME TEXT: the last run said this.
+is_said() {
+    printf '%s\n' "$2" > "$work/want"
+    judge "$1" cmp -s "$work/out" "$work/want"
 }
 
 show() {
     diff "$work/want" "$work/out" | head -n 10
 }
 
+# Blocks without a dollar sign, in the order of the pages: who runs it, the page, and how it begins. A script of tests that is
+# named here takes the block from the page; `text` is no command; the others are run by the function of this name below.
+blocks="run_it;README.md;./ninecheck check examples/play.csv
+text;docs/ARCHITECTURE.md;bytes
+sigrok.sh;docs/CAPTURE.md;sigrok-cli -d fx2lafw
+sigrok.sh;docs/CAPTURE.md;sigrok-cli -i recording.sr
+convert.sh;docs/CAPTURE.md;awk -v rate=2000000 -f convert/sigrok.awk < examples/exports/sigrok.txt
+convert.sh;docs/CAPTURE.md;awk -v controller=Editor -v deck=Deck -f convert/saleae.awk < examples/exports/saleae.csv
+convert.sh;docs/CAPTURE.md;awk -v controller=Editor -v deck=Deck -f convert/saleae.awk < examples/exports/saleae-older.csv
+convert.sh;docs/CAPTURE.md;awk -f convert/saleae.awk < examples/exports/saleae-older-two-files.csv
+convert.sh;docs/CAPTURE.md;awk -v controller=COM3 -v deck=COM4 -f convert/log.awk < examples/exports/serial.log
+convert.sh;docs/CAPTURE.md;awk -v controller=COM3 -v deck=COM4 -f convert/log.awk < examples/exports/serial-clock.log
+convert.sh;docs/CAPTURE.md;for port in /dev/ttyUSB0 /dev/ttyUSB1
+convert.sh;docs/CAPTURE.md;awk -v rate=2000000 -v from=0.02 -f convert/sigrok.awk < examples/exports/sigrok-damaged.txt
+refuse;docs/CAPTURE.md;sigrok.awk: line 10:
+convert.sh;docs/CAPTURE.md;awk -F,
+split;docs/CAPTURE.md;awk -v to=part -f convert/split.awk
+judge_it;docs/CAPTURE.md;./ninecheck check capture.csv
+many.sh;docs/MANY.md;find captures
+text;docs/MANY.md;1 captures/tuesday.csv:
+many.sh;docs/MANY.md;find captures
+many.sh;docs/MANY.md;cut
+text;docs/PROFILE.md;record N: COMMAND
+text;docs/PROFILE.md;record N: goal G
+text;docs/PROFILE.md;records A to B at T: COMMAND BYTES -> REPLY
+text;docs/PROFILE.md;records A to B at T: COMMAND BYTES
+text;docs/PROFILE.md;records 1067 to 1070 at 1999300:
+refuse_view;docs/VIEWS.md;delays.awk: line 3:"
+
+# The first of them builds nothing here, since the program is there; the second is the gate itself. The third installs below
+# a root of its own.
+run_it() {
+    in_here "${block[0]}"
+    is_said "$page: ${block[0]}" 'yes: records 6, exchanges 1, open 0'
+    : > "$work/want"
+    judge "$page: ${block[1]}" [ "${block[1]%% *}" = .ci/run ]
+    (cd "$work/here" && DESTDIR=$work/root bash -c "${block[2]}") > "$work/out" 2>&1 < /dev/null
+    judge "$page: ${block[2]}" [ "$("$work/root/usr/local/bin/ninecheck" --version)" = "ninecheck $(cat VERSION)" ]
+    judge "$page: no more than these" [ ${#block[@]} = 3 ]
+}
+
+refuse() {
+    in_here 'awk -v rate=2000000 -f convert/sigrok.awk < examples/exports/sigrok-damaged.txt'
+    is_said "$page: ${block[0]}" "${block[0]}"
+}
+
+split() {
+    printf 'time_us,wire,byte\n400,C,20\n800,C,01\n1200,C,21\n' > "$work/here/long.csv"
+    in_here "${block[0]}"
+    is_said "$page: ${block[0]}" part-001.csv
+    judge "$page: its part" cmp "$work/here/long.csv" "$work/here/part-001.csv"
+}
+
+judge_it() {
+    cp examples/second-reply.csv "$work/here/capture.csv"
+    in_here "${block[0]}"
+    is_said "$page: ${block[0]}" 'no at record 7: P1 reply without a command'
+}
+
+refuse_view() {
+    { head -n 2 examples/views/session.txt; echo 'yes: records 24, exchanges 3, open 0'; } > "$work/here/cut"
+    in_here 'awk -f view/delays.awk < cut'
+    is_said "$page: ${block[0]}" "${block[0]}"
+}
+
+# take_block: the block whose lines are in ${block[@]}, of which the first has a dollar sign or not.
+take_block() {
+    local line command= found
+    case ${block[0]} in
+        '$ '*)
+            for line in "${block[@]}" '$ '; do
+                case $line in
+                    '$ '*)
+                        if [ -n "$command" ]; then
+                            in_here "$command"
+                            judge "$page: $command" cmp -s "$work/out" "$work/want"
+                        fi
+                        command=${line#'$ '}
+                        : > "$work/want"
+                        [ -z "$command" ] || shown=$((shown + 1)) ;;
+                    *) echo "$line" >> "$work/want" ;;
+                esac
+            done
+            return ;;
+    esac
+    others=$((others + 1))
+    IFS=';' read -r who named begins <<< "$(sed -n "${others}p" <<< "$blocks")"
+    found=no
+    [ "$page" != "$named" ] || case ${block[0]} in "$begins"*) found=yes ;; esac
+    : > "$work/want"
+    : > "$work/out"
+    judge "$page: a block that is known: ${block[0]}" [ $found = yes ]
+    [ $found = yes ] || return
+    case $who in
+        text) ;;
+        *.sh) judge "$who reads $page" grep -q "$page" "tests/$who" ;;
+        *) $who ;;
+    esac
+}
+
+# A block is what stands behind four blanks below an empty line.
 shown=0
+others=0
 for page in README.md docs/*.md; do
-    command=
-    while IFS= read -r line; do
-        case $line in
-            '    $ '*)
-                run_shown
-                command=${line#'    $ '}
-                : > "$work/want"
-                shown=$((shown + 1)) ;;
-            '    '*) echo "${line#    }" >> "$work/want" ;;
-            *) run_shown ;;
-        esac
+    block=()
+    before=
+    while IFS= read -r line || [ -n "$line" ]; do
+        if [ "${line#    }" != "$line" ] && { [ -z "$before" ] || [ ${#block[@]} -gt 0 ]; }; then
+            block+=("${line#    }")
+        elif [ ${#block[@]} -gt 0 ]; then
+            take_block
+            block=()
+        fi
+        before=$line
     done < "$page"
-    run_shown
+    [ ${#block[@]} = 0 ] || take_block
 done
-judge "the commands that are shown: $shown" [ "$shown" = 15 ]
+judge "the commands with a dollar sign: $shown" [ "$shown" = 15 ]
+judge "the other blocks: $others" [ "$others" = "$(wc -l <<< "$blocks")" ]
+
+# The command that stands in a sentence: it joins two exports into the one that is stored.
+command=$(sed -n 's/.*(`\(cat [^`]*\)`).*/\1/p' docs/CAPTURE.md)
+awk -v to="$work/here" '/^Time/ { n++ } { print > (to (n == 1 ? "/controller.csv" : "/deck.csv")) }' examples/exports/saleae-older-two-files.csv
+in_here "$command"
+judge "docs/CAPTURE.md: $command" cmp "$work/here/both.csv" examples/exports/saleae-older-two-files.csv
 
 tell_counts

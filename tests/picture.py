@@ -1,11 +1,15 @@
 """Checks the pictures of view/picture.awk: that each awk draws the same, that the drawn bytes are those of the capture, that
-the record in question and the measured time stand out, and that no text lies on another or on a byte."""
+the record in question and the measured time stand out, and that no text lies on another or on a byte; and of the picture of
+each reason that rsvg-convert renders it, with the record in question on it."""
+import math
 import os
 import random
 import re
+import struct
 import subprocess
 import sys
 import tempfile
+import zlib
 import xml.etree.ElementTree as xml
 
 PROGRAM = os.environ.get('NINECHECK', 'crates/ninecheck/out/ninecheck')
@@ -177,6 +181,56 @@ def check_stored():
         judge(f'{stored} is shown', f'pictures/{name[:-4]}.svg' in page)
 
 
+def pixels_of(png):
+    """The pixels of a PNG of eight bits a channel, each as red, green and blue."""
+    wide, high, *form = struct.unpack('>IIBB', png[16:26])
+    each = {(8, 2): 3, (8, 6): 4}[tuple(form)]
+    at, packed = 8, b''
+    while at < len(png):
+        length, kind = struct.unpack('>I4s', png[at:at + 8])
+        packed += png[at + 8:at + 8 + length] if kind == b'IDAT' else b''
+        at += 12 + length
+    data, pixels, above = zlib.decompress(packed), [], bytearray(wide * each)
+    for begin in range(0, high * (wide * each + 1), wide * each + 1):
+        kind, row = data[begin], bytearray(data[begin + 1:begin + 1 + wide * each])
+        for k in range(len(row)):
+            left, across = (row[k - each], above[k - each]) if k >= each else (0, 0)
+            nearest = min((left, above[k], across), key=lambda one: abs(left + above[k] - across - one))
+            row[k] = (row[k] + (0, left, above[k], (left + above[k]) // 2, nearest)[kind]) % 256
+        pixels += [tuple(row[k:k + 3]) for k in range(0, len(row), each)]
+        above = row
+    return pixels
+
+
+def rendered(svg):
+    """The PNG of a picture, or nothing where rsvg-convert fails or says anything."""
+    done = subprocess.run(['rsvg-convert'], input=svg.encode(), capture_output=True)
+    return done.stdout if done.returncode == 0 and not done.stderr else b''
+
+
+def check_rendered():
+    """The picture of each reason is rendered as large as it says, and the box of the record in question is seen, with its
+    digits. That box alone is looked into: the picture is rendered once more with nothing else in its frame."""
+    pictures = sorted(os.listdir('docs/pictures'))
+    judge(f'a picture of each reason: {len(pictures)}', len(pictures) == 13)
+    for name in pictures:
+        svg = open(f'docs/pictures/{name}').read()
+        root = xml.fromstring(svg)
+        png = rendered(svg)
+        size = struct.unpack('>II', png[16:24]) if png else ()
+        judge(f'{name} is rendered: {size}', size == (math.ceil(float(root.get('width'))), int(root.get('height'))))
+        dark, = [rect for rect in root.findall(SVG + 'rect') if rect.get('fill') == '#b00020']
+        left, top, wide, high = (dark.get(side) for side in ('x', 'y', 'width', 'height'))
+        root.set('viewBox', f'{left} {top} {wide} {high}')
+        root.set('width', wide)
+        root.set('height', high)
+        png = rendered(xml.tostring(root, encoding='unicode'))
+        seen = pixels_of(png) if png else []
+        red, white = seen.count((0xb0, 0, 0x20)), sum(min(pixel) > 200 for pixel in seen)
+        judge(f'{name}: its box is dark red: {red} of {len(seen)}', red * 3 > len(seen))
+        judge(f'{name}: its digits are white: {white} of {len(seen)}', white * 50 > len(seen))
+
+
 def check_refusals(work):
     capture = 'examples/late-reply.csv'
     verdict = 'no at record 4: L1 late reply\n'
@@ -215,6 +269,7 @@ def main():
             check_capture(f'drawn {k}', path, k % 10 == 0)
         check_refusals(work)
         check_stored()
+        check_rendered()
     print(f'{passed} passed, {failed} failed')
     sys.exit(failed > 0)
 

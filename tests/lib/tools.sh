@@ -27,9 +27,15 @@ need_tools() {
 missing_tools() {
     local tool missing=
     for tool in "$@"; do
-        command -v "${tool%=*}" > /dev/null || missing="$missing $tool"
+        is_there "${tool%=*}" || missing="$missing $tool"
     done
     echo "${missing# }"
+}
+
+# is_there NAME: the tool of this name. The package moreutils has a `parallel` too, which takes other words than GNU's.
+is_there() {
+    command -v "$1" > /dev/null || return 1
+    [ "$1" != parallel ] || parallel --version < /dev/null 2> /dev/null | grep -q '^GNU parallel'
 }
 
 # The names of tools, and those of their packages.
