@@ -1,5 +1,5 @@
 -- Where the judging of a text stands that keeps its trail, and what is kept at each of its ends.
-use Rattle.std.proofs.Common.{◌≡◌, ◌≢◌, ◌∙◌, IsTrue, ◌↔◌, inl, inr, Bool, false, ℕ, ◌+◌, List, [], ◌∷◌, ◌++◌, length, take, Option, None, Result, Ok, Err, refl, sym, ap, subst, arith, append_assoc, ◌<◌, ◌*◌, true}
+use Rattle.std.proofs.Common.{zero, suc, ◌≡◌, ◌≢◌, ◌∙◌, IsTrue, ◌↔◌, inl, inr, Bool, false, ℕ, ◌+◌, List, [], ◌∷◌, ◌++◌, length, take, Option, None, Result, Ok, Err, refl, sym, ap, subst, arith, append_assoc, ◌<◌, ◌*◌, true}
 use Rattle.std.proofs.lemmas.List.{append-nil, length_push}
 use Rattle.std.proofs.Math.Seq.{take-append_seam}
 use Rattle.std.specs.Bool.{⊤}
@@ -25,6 +25,7 @@ use Rattle.judge9.specs.declared.ending.Ending.{Ending}
 use Rattle.judge9.specs.declared.ending.Ending.TheVariants as ending
 use Rattle.judge9.specs.declared.error.JudgeError.{JudgeError}
 use Rattle.judge9.specs.declared.error.JudgeError.TheVariants as error
+use Rattle.judge9.specs.declared.turn.Turn.{Turn}
 use Rattle.judge9.specs.declared.turn.Turn.TheVariants as turn
 use Rattle.judge9.specs.declared.verdict.Verdict.TheVariants.{Yes, No}
 use Rattle.judge9.specs.declared.verdict.View.TheVariants as view
@@ -33,7 +34,7 @@ use Rattle.judge9.specs.OpenRecords.{IsBreakAfter}
 use Rattle.judge9.specs.Verdict.{CanBeVerdict}
 use Rattle.judge9.specs.Working.{Judges}
 use Rattle.judge9.specs.Working.Trail.{Follows, IsTrail, KeepsTrail, stretch_length}
-use Rattle.judge9.specs.Working.Turn.{IsFresh, Turned}
+use Rattle.judge9.specs.Working.Turn.{AreOpen, ComesTo, IsFresh, Turned}
 use Rattle.judge9.proofs.BreakLemmas.{judges-break, judges-no, judges-no_run}
 use Rattle.judge9.proofs.DayLemmas.{cut_in_day}
 use Rattle.judge9.proofs.LimitLemmas.{can_be-yes, each_row, judges-memory, judges-refusal, judges-told}
@@ -44,7 +45,7 @@ use Rattle.judge9.proofs.CutSteps.{cut-exchange, exchanges_after}
 use Rattle.judge9.proofs.RunSteps.{follows-start, no_run}
 use Rattle.judge9.proofs.SoFarSteps.{read-more, so_far-exchange, so_far-open, so_far-start}
 use Rattle.judge9.proofs.TellLemmas.{records_are, refused, told-memory, told-no, told-verdict, told-yes, told_after}
-use Rattle.judge9.proofs.TurnSteps.{observed_more, observed_run, open_keeps, so_far-fresh}
+use Rattle.judge9.proofs.TurnSteps.{observed_more, observed_run, open_keeps, so_far-fresh, turned_on}
 
 -- the records so far keep the rules, and the trail has their exchanges
 pub record WithTrail {R : Type 0} (hands : Hands) (rows : Option Rows) (progress : Progress R) (paired : Paired) (tracked : Tracked) (es : List Exchange) (trackers : List Tracked) (n : ℕ) : Type 0 where
@@ -233,14 +234,22 @@ keep-nothing hands progress paired tracked n left fs us u fresh = record {
 
 -- ---- the same, turn by turn
 
--- a turn that ends no exchange
-pub trail-turn : {R : Type 0} (hands : Hands) (rows : Option Rows) (progress after : Progress R) (paired next : Paired) (tracked seen : Tracked) (es : List Exchange) (trackers : List Tracked) (n k : ℕ) → WithTrail hands rows progress paired tracked es trackers n → Turned progress paired tracked n (Ok turn.Open) after next seen k
-    → WithTrail hands rows after next seen es trackers k
-trail-turn hands rows progress after paired next tracked seen es trackers n k w t =
-    let fed = t.2 in
-    subst (λ (u : Tracked). WithTrail hands rows after next u es trackers k) (sym t.3)
-    (subst (λ (x : ℕ). WithTrail hands rows after next tracked es trackers x) (sym fed.number)
-    (with-open hands rows progress after paired next tracked es trackers n fed.line_byte t.0 (open_keeps t.0 t.1) w fed.gives fed.takes))
+-- after rows that end no exchange
+pub trail-opened : {R : Type 0} (k : ℕ) (hands : Hands) (rows : Option Rows) (progress front : Progress R) (paired fed : Paired) (tracked : Tracked) (es : List Exchange) (trackers : List Tracked) (n x : ℕ) → WithTrail hands rows progress paired tracked es trackers n → AreOpen k progress paired n front fed x → WithTrail hands rows front fed tracked es trackers x
+trail-opened zero hands rows progress front paired fed tracked es trackers n x w o =
+    subst (λ y. WithTrail hands rows y fed tracked es trackers x) (sym o.0)
+    (subst (λ p. WithTrail hands rows progress p tracked es trackers x) (sym o.1)
+    (subst (λ k. WithTrail hands rows progress paired tracked es trackers k) (sym o.2) w))
+trail-opened {R} (suc k) hands rows progress front paired fed tracked es trackers n x w o =
+    let more = o.6 in
+    subst (λ y. WithTrail hands rows front fed tracked es trackers y) (sym more.number)
+    (with-open hands rows o.0 front o.1 fed tracked es trackers o.2 more.line_byte o.3 (open_keeps o.3 o.5) (trail-opened {R = R} k hands rows progress o.0 paired o.1 tracked es trackers n o.2 w o.4) more.gives more.takes)
+
+-- what comes behind such rows
+pub trail_comes : {R : Type 0} (hands : Hands) (rows : Option Rows) (progress after : Progress R) (paired next : Paired) (tracked seen : Tracked) (es : List Exchange) (trackers : List Tracked) (n k : ℕ) (r : Result Turn JudgeError) (P : Type 0) → WithTrail hands rows progress paired tracked es trackers n → ComesTo progress paired tracked n r after next seen k
+    → ((front : Progress R) (fed : Paired) (x : ℕ) → WithTrail hands rows front fed tracked es trackers x → Turned front fed tracked x r after next seen k → P) → P
+trail_comes hands rows progress after paired next tracked seen es trackers n k r P w c at =
+    at c.front c.fed c.count (trail-opened c.many hands rows progress c.front paired c.fed tracked es trackers n c.count w c.are_open) (turned_on c.front after c.fed next c.kept tracked seen c.count k r c.same c.turned)
 
 -- one that ends an exchange, which was pushed, and a tracker may have been marked
 pub trail-exchanged : {R : Type 0} (hands : Hands) (rows : Option Rows) (progress after : Progress R) (paired next : Paired) (tracked seen : Tracked) (es more : List Exchange) (trackers later : List Tracked) (n k : ℕ) (e : Exchange) → WithTrail hands rows progress paired tracked es trackers n

@@ -1,5 +1,5 @@
 -- The invariant of a judging's loop from one turn to the next, and what is told where a turn ends it.
-use Rattle.std.proofs.Common.{◌≡◌, inl, inr, Bool, true, false, ℕ, ◌+◌, ◌++◌, ◌∷◌, List, [], length, Option, Result, Ok, Err, refl, sym, subst}
+use Rattle.std.proofs.Common.{◌≡◌, ◌<◌, ◌≤◌, ◌-◌, inl, inr, ap, arith, Bool, true, false, ℕ, zero, suc, ◌+◌, ◌++◌, ◌∷◌, List, [], length, Option, Result, Ok, Err, refl, sym, subst}
 use Rattle.std.specs.Result.{IsErrAnd}
 use Rattle.std.specs.Io.KnownBytes.{Appends}
 use Rattle.capture9.specs.declared.line_byte.LineByte.{LineByte}
@@ -15,6 +15,7 @@ use Rattle.deck9.specs.declared.state.Hands.{Hands}
 use Rattle.deck9.specs.Run.{HasRun}
 use Rattle.track9.specs.Tracker.{Possible, Tracked}
 use Rattle.judge9.specs.declared.error.JudgeError.{JudgeError}
+use Rattle.judge9.specs.declared.turn.Turn.{Turn}
 use Rattle.judge9.specs.declared.turn.Turn.TheVariants as turn
 use Rattle.judge9.specs.declared.verdict.Verdict.{Verdict}
 use Rattle.judge9.specs.declared.verdict.Verdict.TheVariants.{No, Yes}
@@ -22,7 +23,7 @@ use Rattle.judge9.specs.declared.verdict.View.{View}
 use Rattle.judge9.specs.Report.{line_of}
 use Rattle.judge9.specs.Working.{Explains, IsLineOf, IsSame, Judges, Puts}
 use Rattle.judge9.specs.Working.Trail.{Follows}
-use Rattle.judge9.specs.Working.Turn.{IsFresh, IsOpen, Observes, Turned}
+use Rattle.judge9.specs.Working.Turn.{AreOpen, ComesTo, IsFresh, IsOpen, Observes, Turned}
 use Rattle.judge9.proofs.BreakLemmas.{judges-break, judges-no_run}
 use Rattle.judge9.proofs.CutSteps.{exchanges_after}
 use Rattle.judge9.proofs.LimitLemmas.{can_be-yes, judges-line, judges-memory, judges-refusal, judges-told}
@@ -48,15 +49,27 @@ so_far-fresh which hands progress paired tracked now n fresh =
     subst (λ (k : ℕ). SoFar which hands progress.rows progress paired tracked now now k 0) (sym fresh.none_counted)
     (so_far-start which hands progress paired tracked now fresh.none_given fresh.no_time fresh.is_reading fresh.fed_nothing (follows-start hands tracked fresh.states fresh.hands))
 
--- after one that ends no exchange
-pub so_far-turn : {R : Type 0} (which : View) (hands : Hands) (rows : Option Rows) (progress after : Progress R) (paired next : Paired) (tracked seen : Tracked) (old now : Option (List ℕ)) (n m k : ℕ) → SoFar which hands rows progress paired tracked old now n m → Turned progress paired tracked n (Ok turn.Open) after next seen k
-    → SoFar which hands rows after next seen old now k m
-so_far-turn which hands rows progress after paired next tracked seen old now n m k h t =
-    let step = t.0 in
-    let fed = t.2 in
-    subst (λ (u : Tracked). SoFar which hands rows after next u old now k m) (sym t.3)
-    (subst (λ (x : ℕ). SoFar which hands rows after next tracked old now x m) (sym fed.number)
-    (so_far-open which hands rows progress after paired next tracked old now fed.line_byte step n m (open_keeps step t.1) h fed.gives fed.takes))
+-- after rows that end no exchange
+pub so_far-opened : {R : Type 0} (k : ℕ) (which : View) (hands : Hands) (rows : Option Rows) (progress front : Progress R) (paired fed : Paired) (tracked : Tracked) (old now : Option (List ℕ)) (n m x : ℕ) → SoFar which hands rows progress paired tracked old now n m → AreOpen k progress paired n front fed x
+    → SoFar which hands rows front fed tracked old now x m
+so_far-opened zero which hands rows progress front paired fed tracked old now n m x h o =
+    subst (λ y. SoFar which hands rows y fed tracked old now x m) (sym o.0)
+    (subst (λ p. SoFar which hands rows progress p tracked old now x m) (sym o.1)
+    (subst (λ k. SoFar which hands rows progress paired tracked old now k m) (sym o.2) h))
+so_far-opened {R} (suc k) which hands rows progress front paired fed tracked old now n m x h o =
+    let fed_more = o.6 in
+    let before = so_far-opened {R = R} k which hands rows progress o.0 paired o.1 tracked old now n m o.2 h o.4 in
+    subst (λ y. SoFar which hands rows front fed tracked old now y m) (sym fed_more.number)
+    (so_far-open which hands rows o.0 front o.1 fed tracked old now fed_more.line_byte o.3 o.2 m (open_keeps o.3 o.5) before fed_more.gives fed_more.takes)
+
+-- rows are not given back
+pub given-opened : {R : Type 0} (k : ℕ) (progress front : Progress R) (paired fed : Paired) (n x : ℕ) → AreOpen k progress paired n front fed x → progress.given ≤ front.given
+given-opened zero progress front paired fed n x o = let same : front.given ≡ progress.given = ap (λ y. y.given) o.0 in omega arith
+given-opened {R} (suc k) progress front paired fed n x o = let before = given-opened {R = R} k progress o.0 paired o.1 n o.2 o.4 in let more = o.6.gives.given in omega arith
+
+-- what comes next is told of the tracker as it was
+pub turned_on : {R : Type 0} (rows after : Progress R) (paired next : Paired) (kept tracked seen : Tracked) (n m : ℕ) (r : Result Turn JudgeError) → kept ≡ tracked → Turned rows paired kept n r after next seen m → Turned rows paired tracked n r after next seen m
+turned_on rows after paired next kept tracked seen n m r same t = subst (λ u. Turned rows paired u n r after next seen m) same t
 
 -- the tracker has observed one exchange more
 pub observed_more : (hands : Hands) (es : List Exchange) (e : Exchange) (tracked seen : Tracked) (b : Bool) → Follows hands es tracked → Observes tracked seen e b → Follows hands (es ++ e ∷ []) seen
@@ -125,3 +138,19 @@ judges-turn_end which hands rows progress after paired next tracked seen old now
     let put : Puts (line_of (yes n paired)) r now new = subst (λ (p : Paired). Puts (line_of (yes n p)) r now new) t.same_pairer (subst (λ (x : ℕ). Puts (line_of (yes x next)) r now new) t.number puts) in
     judges-told which hands rows (yes n paired) r old now new (told-yes which hands rows progress after paired tracked old now new n m r h t.ends told put)
     (can_be-yes which hands rows progress paired tracked old now n m h) told put
+
+-- ---- the same of what a judging comes to, behind rows that end no exchange
+
+-- a property of what is so far holds at the row at which something comes, where it holds of the rows before it
+pub comes : {R : Type 0} (which : View) (hands : Hands) (rows : Option Rows) (progress after : Progress R) (paired next : Paired) (tracked seen : Tracked) (old now : Option (List ℕ)) (n m k : ℕ) (r : Result Turn JudgeError) (P : Type 0) → SoFar which hands rows progress paired tracked old now n m → ComesTo progress paired tracked n r after next seen k
+    → ((front : Progress R) (fed : Paired) (x : ℕ) → SoFar which hands rows front fed tracked old now x m → Turned front fed tracked x r after next seen k → P) → P
+comes which hands rows progress after paired next tracked seen old now n m k r P h c at =
+    at c.front c.fed c.count (so_far-opened c.many which hands rows progress c.front paired c.fed tracked old now n m c.count h c.are_open) (turned_on c.front after c.fed next c.kept tracked seen c.count k r c.same c.turned)
+
+-- each exchange takes a row at least
+pub fewer_rows : {R : Type 0} (progress after : Progress R) (paired next : Paired) (tracked seen : Tracked) (n k : ℕ) (e : Exchange) → ComesTo progress paired tracked n (Ok (turn.Exchange e)) after next seen k → 4000000 - after.given < 4000000 - progress.given
+fewer_rows progress after paired next tracked seen n k e c =
+    let before = given-opened c.many progress c.front paired c.fed n c.count c.are_open in
+    let more = c.turned.0.gives.given in
+    let within = c.turned.0.gives.within in
+    omega arith

@@ -105,8 +105,7 @@ fn judge_rows<R: Read + Drop, W: Write>(
 {
     let mut exchanges = 0u32;
     'rows: loop {
-        match judging.turn()? {
-            Turn::Open => continue 'rows,
+        match judging.next()? {
             Turn::Exchange(exchange) => {
                 exchanges += 1;
                 explain(

@@ -24,8 +24,7 @@ pub(crate) fn keep_trail<R: Read + Drop>(
 {
     trail.mark(&judging.tracker)?;
     'rows: loop {
-        match judging.turn()? {
-            Turn::Open => continue 'rows,
+        match judging.next()? {
             Turn::Exchange(exchange) => {
                 trail.push(exchange)?;
                 trail.mark(&judging.tracker)?;

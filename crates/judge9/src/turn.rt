@@ -1,9 +1,10 @@
-//! One turn of a judging: it reads a row, feeds its record to the pairer, and where that makes an exchange whole lets the
-//! tracker observe it. Whoever judges a capture takes turns, and does its own with what they answer.
+//! How far the judging of a capture has come, and what it comes to next: rows are read and their records fed to the pairer up to
+//! the one that makes an exchange whole, which the tracker then observes. Whoever judges a capture asks for what is next, and
+//! does its own with what that is.
 ghost use Rattle.std.specs.Prelude.{◌≡◌, ◌≤◌, IfErr, IfOk, None, option_map};
 ghost use Rattle.std.specs.Option.{ForSome};
 ghost use Rattle.capture9.specs.Rows.{rows_of};
-ghost use Rattle.judge9.specs.Working.Turn.{IsFresh, Turned};
+ghost use Rattle.judge9.specs.Working.Turn.{ComesTo, IsFresh};
 
 use crate::error::JudgeError;
 use block9::{Exchange, Pairer, Reason, Step};
@@ -14,18 +15,16 @@ use std::io::Read;
 use tc25::SpanSet;
 use track9::Tracker;
 
-/// What the next row does.
+/// What a judging comes to next.
 #[derive(Drop)]
 pub(crate) enum Turn {
-    /// Its record keeps the rules and ends no exchange.
-    Open,
-    /// Its record ends this exchange, and some run of the deck gives its reply behind those before it.
+    /// An exchange, whose reply some run of the deck gives behind those before it.
     Exchange(Exchange),
-    /// Its record ends this exchange, and no run of the deck gives its reply behind those before it.
+    /// An exchange, whose reply no run of the deck gives behind those before it.
     NoRun(Exchange),
-    /// This record breaks this rule of blocks, pairing or timing.
+    /// A record that breaks this rule of blocks, pairing or timing.
     Break(Reason, LineByte),
-    /// There is none.
+    /// The end of the rows.
     End,
 }
 
@@ -57,25 +56,27 @@ impl<R: Read + Drop> Judging<R> {
         })
     }
 
-    /// Takes the next turn. Errors are those of the rows, and `OutOfMemory` where the tracker finds no room; no turn comes
-    /// after one, nor after a break or the end.
-    #[inline(always)] // two loops take turns, and else each exchange would be handed on through memory
-    pub(crate) fn turn(&mut self) -> Result<Turn, JudgeError>
+    /// Reads on to the next exchange, the first record that breaks a rule, or the end of the rows. Errors are those of the
+    /// rows, and `OutOfMemory` where the tracker finds no room; nothing is asked for after one, nor after a break or the end.
+    #[inline(always)] // two loops ask, and else each exchange would be handed on through memory
+    pub(crate) fn next(&mut self) -> Result<Turn, JudgeError>
         requires no_reason { self.old.pairer.reason ≡ None }
         requires in_order { ForSome self.old.pairer.last_time (λ time. time ≤ self.old.rows.last_time) }
         requires number { self.old.records ≡ self.old.rows.given }
-        ensures { Turned self.old.rows self.old.pairer self.old.tracker self.old.records result
+        ensures { ComesTo self.old.rows self.old.pairer self.old.tracker self.old.records result
             self.new.rows self.new.pairer self.new.tracker self.new.records }
     {
-        let Some(line_byte) = self.rows.next()? else {
-            return Ok(Turn::End);
-        };
-        self.records += 1;
-        let exchange = match self.pairer.feed(line_byte) {
-            Ok(Step::Waiting) => return Ok(Turn::Open),
-            Ok(Step::Command) => return Ok(Turn::Open),
-            Ok(Step::Exchange(exchange)) => exchange,
-            Err(reason) => return Ok(Turn::Break(reason, line_byte)),
+        let exchange = 'open: loop {
+            let Some(line_byte) = self.rows.next()? else {
+                return Ok(Turn::End);
+            };
+            self.records += 1;
+            match self.pairer.feed(line_byte) {
+                Ok(Step::Waiting) => continue 'open,
+                Ok(Step::Command) => continue 'open,
+                Ok(Step::Exchange(exchange)) => break 'open exchange,
+                Err(reason) => return Ok(Turn::Break(reason, line_byte)),
+            }
         };
         match self.tracker.observe(&exchange.command, &exchange.reply) {
             Ok(true) => Ok(Turn::Exchange(exchange)),

@@ -1,6 +1,6 @@
--- A turn of a judging: what the next row does to the rows that are still to come, to the pairer, to the tracker and to the
--- number of records.
-use Rattle.std.specs.Prelude.{◌≡◌, ◌↔◌, ◌⊎◌, ⊤, ℕ, ◌+◌, Bool, true, false, IsTrue, [], Result, Ok, Err, None}
+-- What a judging comes to next: what rows do to those that are still to come, to the pairer, to the tracker and to the number
+-- of records.
+use Rattle.std.specs.Prelude.{◌≡◌, ◌↔◌, ◌⊎◌, ⊤, ℕ, zero, suc, ◌+◌, Bool, true, false, IsTrue, [], Result, Ok, Err, None}
 use Rattle.capture9.specs.declared.error.CaptureError.{CaptureError}
 use Rattle.capture9.specs.declared.line_byte.LineByte.{LineByte}
 use Rattle.capture9.specs.declared.records.Standing.TheVariants.{Reading}
@@ -63,10 +63,26 @@ pub record EndsRows {R : Type 0} (rows after : Progress R) (paired next : Paired
   pub same_tracker : seen ≡ tracked
   pub number : m ≡ n
 
+-- this many rows were read, whose records end no exchange
+abbrev pub AreOpen : {R : Type 0} → ℕ → Progress R → Paired → ℕ → Progress R → Paired → ℕ → Type 0
+AreOpen zero rows paired n after next m = (after ≡ rows) × (next ≡ paired) × (m ≡ n)
+AreOpen {R} (suc k) rows paired n after next m = (mid : Progress R) × (p : Paired) × (x : ℕ) × (s : Step) × AreOpen k rows paired n mid p x × IsOpen s × Feeds mid after p next x m s
+
+-- what the next row does
 abbrev pub Turned : {R : Type 0} → Progress R → Paired → Tracked → ℕ → Result Turn JudgeError → Progress R → Paired → Tracked → ℕ → Type 0
-Turned rows paired tracked n (Ok turn.Open) after next seen m = (s : Step) × IsOpen s × Feeds rows after paired next n m s × (seen ≡ tracked)
 Turned rows paired tracked n (Ok (turn.Exchange e)) after next seen m = Feeds rows after paired next n m (step.Exchange e) × Observes tracked seen e true
 Turned rows paired tracked n (Ok (turn.NoRun e)) after next seen m = Feeds rows after paired next n m (step.Exchange e) × Observes tracked seen e false
 Turned rows paired tracked n (Ok (turn.Break reason r)) after next seen m = Spoils rows after paired next n m reason r × (seen ≡ tracked)
 Turned rows paired tracked n (Ok turn.End) after next seen m = EndsRows rows after paired next tracked seen n m
 Turned rows paired tracked n (Err x) after next seen m = (x ≡ error.OutOfMemory) ⊎ ((e : CaptureError) × GivesRefusal rows e after × (x ≡ refusal_of e))
+
+-- rows were read whose records end no exchange, and then came this
+pub record ComesTo {R : Type 0} (rows : Progress R) (paired : Paired) (tracked : Tracked) (n : ℕ) (result : Result Turn JudgeError) (after : Progress R) (next : Paired) (seen : Tracked) (m : ℕ) : Type 0 where
+  pub many : ℕ
+  pub front : Progress R
+  pub fed : Paired
+  pub count : ℕ
+  pub kept : Tracked
+  pub are_open : AreOpen many rows paired n front fed count
+  pub same : kept ≡ tracked
+  pub turned : Turned front fed kept count result after next seen m

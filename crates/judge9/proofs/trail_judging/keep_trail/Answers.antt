@@ -1,10 +1,11 @@
-use Rattle.std.proofs.Common.{◌∙◌, ℕ, Ok, ap, sym, subst}
+use Rattle.std.proofs.Common.{◌≡◌, None, ◌∙◌, ℕ, Ok, ap, sym, subst}
 use Rattle.std.specs.Global.{Vec}
 use Rattle.block9.specs.declared.pairer.Exchange.{Exchange}
+use Rattle.block9.specs.Pairer.{Paired}
 use Rattle.judge9.specs.declared.ending.Ending.TheVariants as ending
 use Rattle.judge9.specs.Working.Trail.{KeepsTrail}
-use Rattle.judge9.proofs.TrailJudging.{exchanged_follows, exchanged_hands, keep-memory, keep-nothing, keep-stopped, keep-turn_break, keep-turn_end, keep-turn_no_run, trail-exchanged, trail-turn, with-start}
-use Rattle.judge9.proofs.TurnSteps.{handed_on}
+use Rattle.judge9.proofs.TrailJudging.{exchanged_follows, exchanged_hands, keep-memory, keep-nothing, keep-stopped, keep-turn_break, keep-turn_end, keep-turn_no_run, trail_comes, trail-exchanged, with-start}
+use Rattle.judge9.proofs.TurnSteps.{fewer_rows, handed_on}
 use Rattle.judge9.proofs.trail_judging.keep_trail.Goals as goal
 
 pub returns-in_err-mark : goal.returns-in_err-mark
@@ -16,60 +17,66 @@ pub rows-init : goal.rows-init
 rows-init g c =
     with-start _ _ _ _ _ _ _ c.requires.fresh (ap (λ (v : Vec Exchange). v.items) c.in_ok-mark.ensures.same ∙ c.requires.no_exchange) c.in_ok-mark.ensures.trail c.in_ok-mark.ensures.room
 
-pub returns-in_err-turn : goal.returns-in_err-turn
-returns-in_err-turn g c =
-    handed_on (λ r. KeepsTrail c.args.hands c.args.judging.now.rows.rows r c.turn.new.self.pairer.tail c.rows.trail.exchanges.items c.rows.trail.trackers.items c.turn.new.self.tracker) _ c.from_residual-in_err-turn.result c.from_residual-in_err-turn.ensures.1
-    (keep-stopped _ _ _ _ _ c.turn.new.self.pairer _ c.turn.new.self.tracker _ _ _ c.turn.new.self.records _ _ _ _ _ c.rows.invariant c.in_err-turn.ensures)
-
-pub rows-preserved-in-Open : goal.rows-preserved-in-Open
-rows-preserved-in-Open g c =
-    let turned = rw c.in-Open.is at c.in_ok-turn.ensures in
-    trail-turn _ _ _ _ _ _ _ _ _ _ _ _ c.rows.invariant turned
+pub returns-in_err-exchange : goal.returns-in_err-exchange
+returns-in_err-exchange g c =
+    handed_on (λ r. KeepsTrail c.args.hands c.args.judging.now.rows.rows r c.next.new.self.pairer.tail c.rows.trail.exchanges.items c.rows.trail.trackers.items c.next.new.self.tracker) _ c.from_residual-in_err-exchange.result c.from_residual-in_err-exchange.ensures.1
+    (trail_comes _ _ _ _ _ c.next.new.self.pairer _ c.next.new.self.tracker _ _ _ c.next.new.self.records _ _ c.rows.invariant c.in_err-exchange.ensures
+    (λ front fed x w t. keep-stopped _ _ front _ fed c.next.new.self.pairer _ c.next.new.self.tracker _ _ x c.next.new.self.records _ _ _ _ _ w t))
 
 pub returns-in_err-push-in-Exchange : goal.returns-in_err-push-in-Exchange
 returns-in_err-push-in-Exchange g c =
-    handed_on (λ r. KeepsTrail c.args.hands c.args.judging.now.rows.rows r c.turn.new.self.pairer.tail c.push.new.self.exchanges.items c.push.new.self.trackers.items c.turn.new.self.tracker) _ c.from_residual-in_err-push-in-Exchange.result c.from_residual-in_err-push-in-Exchange.ensures.1
+    handed_on (λ r. KeepsTrail c.args.hands c.args.judging.now.rows.rows r c.next.new.self.pairer.tail c.push.new.self.exchanges.items c.push.new.self.trackers.items c.next.new.self.tracker) _ c.from_residual-in_err-push-in-Exchange.result c.from_residual-in_err-push-in-Exchange.ensures.1
     (keep-memory _ _ _ _ _ _ _ _ _ _ _ _ c.rows.invariant)
 
 pub mark-requires-in-Exchange-clause-trail : goal.mark-requires-in-Exchange-clause-trail
 mark-requires-in-Exchange-clause-trail g c =
-    let turned = rw c.in-Exchange.is at c.in_ok-turn.ensures in
-    c.in_ok-push-in-Exchange.ensures.trail c.turn.new.self.tracker.hands (exchanged_hands _ _ _ _ _ _ _ _ _ _ _ _ _ c.rows.invariant turned)
+    let come = rw c.in-Exchange.is at c.in_ok-exchange.ensures in
+    c.in_ok-push-in-Exchange.ensures.trail c.next.new.self.tracker.hands (trail_comes _ _ _ _ _ _ _ _ _ _ _ _ _ _ c.rows.invariant come (λ front fed x w t. exchanged_hands _ _ front _ fed _ _ _ _ _ x _ _ w t))
 
 pub mark-requires-in-Exchange-clause-keeps : goal.mark-requires-in-Exchange-clause-keeps
 mark-requires-in-Exchange-clause-keeps g c =
-    let turned = rw c.in-Exchange.is at c.in_ok-turn.ensures in
-    exchanged_follows _ _ _ _ _ _ _ _ _ _ _ _ _ _ c.rows.invariant turned c.in_ok-push-in-Exchange.ensures.exchanges
+    let come = rw c.in-Exchange.is at c.in_ok-exchange.ensures in
+    trail_comes _ _ _ _ _ _ _ _ _ _ _ _ _ _ c.rows.invariant come (λ front fed x w t. exchanged_follows _ _ front _ fed _ _ _ _ _ _ x _ _ w t c.in_ok-push-in-Exchange.ensures.exchanges)
 
 pub rows-preserved : goal.rows-preserved
 rows-preserved g c =
-    let turned = rw c.in-Exchange.is at c.in_ok-turn.ensures in
+    let come = rw c.in-Exchange.is at c.in_ok-exchange.ensures in
     let marked = c.in_ok-mark-in-Exchange.ensures in
     let pushed = ap (λ (v : Vec Exchange). v.items) marked.same ∙ c.in_ok-push-in-Exchange.ensures.exchanges in
-    trail-exchanged _ _ _ _ _ _ _ _ _ _ _ _ _ _ _ c.rows.invariant turned pushed marked.trail marked.room
+    trail_comes _ _ _ _ _ _ _ _ _ _ _ _ _ _ c.rows.invariant come (λ front fed x w t. trail-exchanged _ _ front _ fed _ _ _ _ _ _ _ x _ _ w t pushed marked.trail marked.room)
+
+pub rows-smaller : goal.rows-smaller
+rows-smaller g c =
+    let come = rw c.in-Exchange.is at c.in_ok-exchange.ensures in
+    fewer_rows _ _ _ _ _ _ _ _ _ come
 
 pub returns-in_err-mark-in-Exchange : goal.returns-in_err-mark-in-Exchange
 returns-in_err-mark-in-Exchange g c =
-    handed_on (λ r. KeepsTrail c.args.hands c.args.judging.now.rows.rows r c.turn.new.self.pairer.tail c.mark-in-Exchange.new.self.exchanges.items c.mark-in-Exchange.new.self.trackers.items c.turn.new.self.tracker) _ c.from_residual-in_err-mark-in-Exchange.result c.from_residual-in_err-mark-in-Exchange.ensures.1
+    handed_on (λ r. KeepsTrail c.args.hands c.args.judging.now.rows.rows r c.next.new.self.pairer.tail c.mark-in-Exchange.new.self.exchanges.items c.mark-in-Exchange.new.self.trackers.items c.next.new.self.tracker) _ c.from_residual-in_err-mark-in-Exchange.result c.from_residual-in_err-mark-in-Exchange.ensures.1
     (keep-memory _ _ _ _ _ _ _ _ _ _ _ _ c.rows.invariant)
 
 pub returns-in_err-push-in-NoRun : goal.returns-in_err-push-in-NoRun
 returns-in_err-push-in-NoRun g c =
-    handed_on (λ r. KeepsTrail c.args.hands c.args.judging.now.rows.rows r c.turn.new.self.pairer.tail c.push-in-NoRun.new.self.exchanges.items c.push-in-NoRun.new.self.trackers.items c.turn.new.self.tracker) _ c.from_residual-in_err-push-in-NoRun.result c.from_residual-in_err-push-in-NoRun.ensures.1
+    handed_on (λ r. KeepsTrail c.args.hands c.args.judging.now.rows.rows r c.next.new.self.pairer.tail c.push-in-NoRun.new.self.exchanges.items c.push-in-NoRun.new.self.trackers.items c.next.new.self.tracker) _ c.from_residual-in_err-push-in-NoRun.result c.from_residual-in_err-push-in-NoRun.ensures.1
     (keep-memory _ _ _ _ _ _ _ _ _ _ _ _ c.rows.invariant)
 
 pub returns-in-NoRun : goal.returns-in-NoRun
 returns-in-NoRun g c =
-    let turned = rw c.in-NoRun.is at c.in_ok-turn.ensures in
-    keep-turn_no_run _ _ _ _ _ _ _ _ _ _ _ _ _ _ _ c.rows.invariant turned c.in_ok-push-in-NoRun.ensures.exchanges
+    let come = rw c.in-NoRun.is at c.in_ok-exchange.ensures in
+    trail_comes _ _ _ _ _ _ _ _ _ _ _ _ _ _ c.rows.invariant come (λ front fed x w t. keep-turn_no_run _ _ front _ fed _ _ _ _ _ _ _ x _ _ w t c.in_ok-push-in-NoRun.ensures.exchanges)
 
 pub returns-in-Break : goal.returns-in-Break
 returns-in-Break g c =
-    let turned = rw c.in-Break.is at c.in_ok-turn.ensures in
-    keep-turn_break _ _ _ _ _ _ _ _ _ _ _ _ _ _ c.rows.invariant turned
+    let come = rw c.in-Break.is at c.in_ok-exchange.ensures in
+    trail_comes _ _ _ _ _ _ _ _ _ _ _ _ _ _ c.rows.invariant come (λ front fed x w t. keep-turn_break _ _ front _ fed _ _ _ _ _ x _ _ _ w t)
+
+pub tail_len-requires : goal.tail_len-requires
+tail_len-requires g c =
+    let come = rw c.in-End.is at c.in_ok-exchange.ensures in
+    trail_comes _ _ _ _ _ _ _ _ _ _ _ _ _ _ c.rows.invariant come (λ front fed x w t. subst (λ (p : Paired). p.reason ≡ None) (sym t.same_pairer) w.so_far.no_reason)
 
 pub returns : goal.returns
 returns g c =
-    let turned = rw c.in-End.is at c.in_ok-turn.ensures in
-    let found = keep-turn_end _ _ _ _ _ _ _ _ _ _ _ _ c.rows.invariant turned in
-    subst (λ (k : ℕ). KeepsTrail c.args.hands c.args.judging.now.rows.rows (Ok (ending.End c.turn.new.self.records k)) c.turn.new.self.pairer.tail c.rows.trail.exchanges.items c.rows.trail.trackers.items c.turn.new.self.tracker) (sym c.tail_len.ensures.len) found
+    let come = rw c.in-End.is at c.in_ok-exchange.ensures in
+    let found = trail_comes _ _ _ _ _ _ _ _ _ _ _ _ _ _ c.rows.invariant come (λ front fed x w t. keep-turn_end _ _ front _ fed _ _ _ _ _ x _ w t) in
+    subst (λ (k : ℕ). KeepsTrail c.args.hands c.args.judging.now.rows.rows (Ok (ending.End c.next.new.self.records k)) c.next.new.self.pairer.tail c.rows.trail.exchanges.items c.rows.trail.trackers.items c.next.new.self.tracker) (sym c.tail_len.ensures.len) found
