@@ -28,8 +28,9 @@ ask() {
         # shellcheck disable=SC2086
         "$program" why $words "$work/$number.csv"
         echo '- run'
-        # shellcheck disable=SC2086
-        "$program" run $words "$work/$number.csv"
+        "$program" run "$work/$number.csv"
+        echo '- run --hands'
+        "$program" run --hands "$work/$number.csv"
     done 2>&1
 }
 
@@ -73,8 +74,10 @@ judge 'captures without hands that are a no' at_least 500 'no run' 1
 judge 'captures with hands that are a no' at_least 500 'no run' 2
 judge 'captures without hands that are a yes' at_least 500 yes 1
 judge 'captures with hands that are a yes' at_least 500 yes 2
+compared=$(sed -n 's/^runs of a yes without hands, compared with those with hands: //p' "$work/compared")
+judge 'captures that nobody has to touch' [ "${compared:-0}" -ge 500 ]
 
-for how in left-out added earlier shown register local record yes state; do
+for how in left-out added earlier shown register local says time record yes state other-run panel; do
     spoil "$how"
     judge "results that are wrong: $how" is_refused 1
 done

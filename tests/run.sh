@@ -76,6 +76,12 @@ is_run() {
         [ "$status" = 0 ] && [ ! -s "$work/err" ] && has_lines "$(wc -l < "$work/explained")" && agrees "$panel"
 }
 
+# is_untouched FILE: a yes without hands. Nobody has to touch the deck, so the run with hands is the run without, but for the panel.
+is_untouched() {
+    "$program" run "$1" > "$work/untouched" < /dev/null && run "$1" --hands &&
+        [ "$status" = 0 ] && [ -s "$work/untouched" ] && sed 's/, panel o[nf]*$//' "$work/out" | cmp -s - "$work/untouched"
+}
+
 # The examples: a run where the answer is a yes, else the verdict's line alone, or nothing.
 while IFS='|' read -r file want_status want_out want_err; do
     case "$file" in '#'* | '') continue ;; esac
@@ -84,6 +90,7 @@ while IFS='|' read -r file want_status want_out want_err; do
         judge "examples/$file" is_run "examples/$file"
         judge "examples/$file with hands" is_run "examples/$file" --hands
         judge "examples/$file, its last line" [ "$(tail -n 1 "$work/out")" = "$want_out" ]
+        judge "examples/$file, with hands as without" is_untouched "examples/$file"
     else
         judge "examples/$file" is_text "$want_status" "$want_out" "$(both_lines "$want_err")"
     fi
@@ -193,6 +200,7 @@ awk 'function send(wire, bytes, n, k, byte) {
 judge 'many stretches' is_run "$work/long.csv"
 judge 'many stretches, the lines' has_lines 4403
 judge 'many stretches, with hands' is_run "$work/long.csv" --hands
+judge 'many stretches, with hands as without' is_untouched "$work/long.csv"
 
 # A pipe that closes while a long text is written ends the program, with two lines on standard error.
 {

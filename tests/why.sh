@@ -67,6 +67,187 @@ judge 'the dispute with hands' is_text 0 'yes: records 28, exchanges 3, open 0' 
 why "$work/capture.csv" --hands
 judge 'the dispute with hands, behind the file' is_text 0 'yes: records 28, exchanges 3, open 0' ''
 
+# is_no NAME TEXT [WORDS...]: the whole text of why the capture is a no by M1.
+is_no() {
+    why "$work/capture.csv" "${@:3}"
+    judge "$1" is_text 1 "$2" ''
+}
+
+# is_yes NAME COUNTS [WORDS...]: the whole text where the capture is a yes: the line of the verdict with these counts.
+is_yes() {
+    why "$work/capture.csv" "${@:3}"
+    judge "$1" is_text 0 "yes: $2, open 0" ''
+}
+
+# More that stands for blocks: PLAY; statuses of the mode that fit PLAY, REW, and no mode (the bits of REC and SHUTTLE); an entry
+# of IN, and senses that answer 05:00:00:00 and the frame after it; a shift of IN that is refused; LOCAL DISABLE; a command of
+# group 3, which is not listed.
+play="C 20 01 21 $ack"
+shows_play='C 61 20 12 93 D 72 20 01 00 93'
+shows_rew='C 61 20 12 93 D 72 20 08 00 9A'
+shows_no_mode='C 61 20 12 93 D 72 20 02 20 B4'
+entry="C 40 10 50 $ack"
+sensed_at_5='C 60 10 70 D 74 10 00 00 00 05 89'
+sensed_a_frame_on='C 60 10 70 D 74 10 01 00 00 05 8A'
+refused='D 11 12 01 24'
+disable="C 00 0C 0C $ack"
+unlisted="C 30 00 30 $ack"
+
+# After PLAY, and a status that shows it, a deck can show PLAY or STOP. That it is not in local is needed, since one in local may
+# have left PLAY undone, and pass PLAY and REW on the way to where it cues.
+capture_of "$remote $play $shows_play $shows_rew"
+is_no 'PLAY, and REW after it' 'records 1 to 8 at 400: STATUS SENSE 61 20 01 82 -> 71 20 00 91, says local no
+records 9 to 14 at 3600: PLAY 20 01 21 -> 10 01 11
+records 15 to 23 at 6000: STATUS SENSE 61 20 12 93 -> 72 20 01 00 93, says shown PLAY
+records 24 to 32 at 9600: STATUS SENSE 61 20 12 93 -> 72 20 08 00 9A, says shown REW
+could show: shown STOP|PLAY, in unknown, out unknown, local no, ain unknown, aout unknown
+no at record 32: M1 no run remains'
+capture_of "$play $shows_play $shows_rew"
+is_yes 'PLAY, and REW after it, of a deck that may be in local' 'records 24, exchanges 3'
+
+# What fits CUED fits EJECT without a cassette too. On the way to a cue a deck may show each mode but REC, and EJECT is there for one
+# that began without a cassette.
+capture_of "$remote C 24 31 04 03 02 01 5F $ack C 61 20 12 93 D 72 20 00 01 93 C 61 20 12 93 D 72 20 02 00 94"
+is_no 'a cue, and REC after it' 'records 1 to 8 at 400: STATUS SENSE 61 20 01 82 -> 71 20 00 91, says local no
+records 9 to 18 at 3600: CUE UP WITH DATA 01:02:03:04 24 31 04 03 02 01 5F -> 10 01 11
+records 19 to 27 at 7600: STATUS SENSE 61 20 12 93 -> 72 20 00 01 93, says shown CUED|EJECT
+records 28 to 36 at 11200: STATUS SENSE 61 20 12 93 -> 72 20 02 00 94, says shown REC
+could show: shown STOP|PLAY|FF|REW|SHUTTLE|JOG|VAR|CUED|EJECT, in unknown, out unknown, local no, ain unknown, aout unknown
+no at record 36: M1 no run remains'
+
+# 500 polls between the preset and a shift, and 500 between the shift and a sense that does not know of it: of the time, with
+# eleven records each, and of the status datum with the motion bits, with eight. So the shift begins 5,500 records after record
+# 18, which ends the preset, and the sense 4,000 after record 5524, which ends the shift.
+repeated() {
+    local k
+    for ((k = 0; k < $1; k++)); do echo "$2"; done
+}
+capture_of "$remote $preset $(repeated 500 'C 61 0C 01 6E D 74 04 00 00 00 01 79') C 40 18 58 $ack \
+    $(repeated 500 'C 61 20 11 92 D 71 20 20 B1') C 60 10 70 D 74 10 00 00 00 10 94"
+is_no 'a preset, a shift and a sense, far apart' 'records 1 to 8 at 400: STATUS SENSE 61 20 01 82 -> 71 20 00 91, says local no
+records 9 to 18 at 3600: IN DATA PRESET 10:00:00:00 44 14 00 00 00 10 68 -> 10 01 11
+records 5519 to 5524 at 2207600: IN SHIFT + 40 18 58 -> 10 01 11
+records 9525 to 9534 at 3810000: IN DATA SENSE 60 10 70 -> 10:00:00:00 74 10 00 00 00 10 94
+could show: shown any, in 10:00:00:01, out unknown, local no, ain unknown, aout unknown
+no at record 9534: M1 no run remains'
+
+# An IN point that was captured answers one time. Two are answered by a deck in local alone, which left the entry undone: its IN is
+# Clear, and so it answers anything.
+capture_of "$entry $sensed_at_5 $sensed_a_frame_on $remote"
+is_no 'an entry, and two senses' 'records 1 to 6 at 400: IN ENTRY 40 10 50 -> 10 01 11
+records 7 to 16 at 2800: IN DATA SENSE 60 10 70 -> 05:00:00:00 74 10 00 00 00 05 89
+records 17 to 26 at 6800: IN DATA SENSE 60 10 70 -> 05:00:00:01 74 10 01 00 00 05 8A
+records 27 to 34 at 10800: STATUS SENSE 61 20 01 82 -> 71 20 00 91, says local no
+could show: shown any, in clear, out unknown, local yes, ain unknown, aout unknown
+no at record 34: M1 no run remains'
+capture_of "$entry $sensed_at_5 $sensed_a_frame_on"
+is_yes 'an entry, and two senses, of a deck that may be in local' 'records 26, exchanges 3'
+
+# No mode has these data, whatever was told before, and whoever touches the deck.
+capture_of "$shows_no_mode"
+is_no 'a status that fits no mode' 'records 1 to 9 at 400: STATUS SENSE 61 20 12 93 -> 72 20 02 20 B4, says shown none
+could show: shown any, in unknown, out unknown, local unknown, ain unknown, aout unknown
+no at record 9: M1 no run remains'
+capture_of "$play C 00 1D 1D $ack $shows_no_mode"
+is_no 'a status that fits no mode, with hands' 'records 13 to 21 at 5200: STATUS SENSE 61 20 12 93 -> 72 20 02 20 B4, says shown none
+could show: shown any, in unknown, out unknown, local unknown, ain unknown, aout unknown, panel on
+no at record 21: M1 no run remains' --hands
+
+# What a status says alone: all four data that are judged, and two modes that fit. The status says too that the deck is not in
+# local, so it clears IN.
+capture_of "C 61 20 04 85 D 74 20 00 20 01 01 B6 C 40 20 60 $ack C 61 20 31 B2 D 71 20 01 92"
+is_no 'a register that was cleared' 'records 1 to 11 at 400: STATUS SENSE 61 20 04 85 -> 74 20 00 20 01 01 B6, says local no, shown STOP|CUED, in set, out clear, ain clear, aout clear
+records 12 to 17 at 4800: IN FLAG RESET 40 20 60 -> 10 01 11
+records 18 to 25 at 7200: STATUS SENSE 61 20 31 B2 -> 71 20 01 92, says in set, out clear, ain clear, aout clear
+could show: shown any, in clear, out clear, local no, ain clear, aout clear
+no at record 25: M1 no run remains'
+capture_of "C 61 20 01 82 D 71 20 01 92 $remote"
+is_no 'local twice' 'records 1 to 8 at 400: STATUS SENSE 61 20 01 82 -> 71 20 01 92, says local yes
+records 9 to 16 at 3600: STATUS SENSE 61 20 01 82 -> 71 20 00 91, says local no
+could show: shown any, in unknown, out unknown, local yes, ain unknown, aout unknown
+no at record 16: M1 no run remains'
+is_yes 'local twice, with hands' 'records 16, exchanges 2' --hands
+
+# The bytes are as they were captured: 64 80 80 C0 has flags, and reads as the last frame of the first second; C0 80 80 D1 as
+# 11:00:00:00. Bytes that are no time have none before them: the register is Clear.
+capture_of "$remote C 44 14 64 80 80 C0 7C $ack C 60 10 70 D 74 10 C0 80 80 D1 15"
+is_no 'times with flags' 'records 1 to 8 at 400: STATUS SENSE 61 20 01 82 -> 71 20 00 91, says local no
+records 9 to 18 at 3600: IN DATA PRESET 00:00:00:24 44 14 64 80 80 C0 7C -> 10 01 11
+records 19 to 28 at 7600: IN DATA SENSE 60 10 70 -> 11:00:00:00 74 10 C0 80 80 D1 15
+could show: shown any, in 00:00:00:24, out unknown, local no, ain unknown, aout unknown
+no at record 28: M1 no run remains'
+capture_of 'C 60 10 70 D 74 10 FF FF FF FF 80 C 61 20 31 B2 D 71 20 01 92'
+is_no 'bytes that are no time' 'records 1 to 10 at 400: IN DATA SENSE 60 10 70 -> 74 10 FF FF FF FF 80
+records 11 to 18 at 4400: STATUS SENSE 61 20 31 B2 -> 71 20 01 92, says in set, out clear, ain clear, aout clear
+could show: shown any, in clear, out unknown, local unknown, ain unknown, aout unknown
+no at record 18: M1 no run remains'
+
+# The audio registers: each preset and sensed, and one told to be Clear where IN and audio IN are Set.
+capture_of "$remote C 44 16 00 00 00 10 6A $ack C 60 12 72 D 74 12 00 00 00 11 97"
+is_no 'audio IN' 'records 1 to 8 at 400: STATUS SENSE 61 20 01 82 -> 71 20 00 91, says local no
+records 9 to 18 at 3600: AUDIO IN DATA PRESET 10:00:00:00 44 16 00 00 00 10 6A -> 10 01 11
+records 19 to 28 at 7600: AUDIO IN DATA SENSE 60 12 72 -> 11:00:00:00 74 12 00 00 00 11 97
+could show: shown any, in unknown, out unknown, local no, ain 10:00:00:00, aout unknown
+no at record 28: M1 no run remains'
+capture_of "$remote C 44 17 00 00 00 10 6B $ack C 60 13 73 D 74 13 00 00 00 11 98"
+is_no 'audio OUT' 'records 1 to 8 at 400: STATUS SENSE 61 20 01 82 -> 71 20 00 91, says local no
+records 9 to 18 at 3600: AUDIO OUT DATA PRESET 10:00:00:00 44 17 00 00 00 10 6B -> 10 01 11
+records 19 to 28 at 7600: AUDIO OUT DATA SENSE 60 13 73 -> 11:00:00:00 74 13 00 00 00 11 98
+could show: shown any, in unknown, out unknown, local no, ain unknown, aout 10:00:00:00
+no at record 28: M1 no run remains'
+capture_of "$remote C 44 17 00 00 00 10 6B $ack C 61 20 31 B2 D 71 20 05 96"
+is_no 'audio OUT told to be clear' 'records 1 to 8 at 400: STATUS SENSE 61 20 01 82 -> 71 20 00 91, says local no
+records 9 to 18 at 3600: AUDIO OUT DATA PRESET 10:00:00:00 44 17 00 00 00 10 6B -> 10 01 11
+records 19 to 26 at 7600: STATUS SENSE 61 20 31 B2 -> 71 20 05 96, says in set, out clear, ain set, aout clear
+could show: shown any, in unknown, out unknown, local no, ain unknown, aout 10:00:00:00
+no at record 26: M1 no run remains'
+
+# The dispute of a deck that somebody may touch: it is one behind LOCAL DISABLE alone, which is a line of it then. Where nobody may,
+# LOCAL DISABLE does nothing.
+capture_of "$disable $remote $preset $sensed_at_11"
+disputed='records 7 to 14 at 2800: STATUS SENSE 61 20 01 82 -> 71 20 00 91, says local no
+records 15 to 24 at 6000: IN DATA PRESET 10:00:00:00 44 14 00 00 00 10 68 -> 10 01 11
+records 25 to 34 at 10000: IN DATA SENSE 60 10 70 -> 11:00:00:00 74 10 00 00 00 11 95
+could show: shown any, in 10:00:00:00, out unknown, local no, ain unknown, aout unknown'
+is_no 'the dispute behind LOCAL DISABLE' "$disputed
+no at record 34: M1 no run remains"
+is_no 'the dispute behind LOCAL DISABLE, with hands' "records 1 to 6 at 400: LOCAL DISABLE 00 0C 0C -> 10 01 11
+$disputed, panel off
+no at record 34: M1 no run remains" --hands
+
+# A command that is not listed made the deck forget everything, local and the panel too. So neither what was told before it nor
+# itself is named: behind it a deck in local could have left the preset undone, and the last status says that it is in none.
+capture_of "$remote $preset $unlisted $preset $sensed_at_11 $remote"
+is_no 'what a deck has forgotten' 'records 25 to 34 at 10000: IN DATA PRESET 10:00:00:00 44 14 00 00 00 10 68 -> 10 01 11
+records 35 to 44 at 14000: IN DATA SENSE 60 10 70 -> 11:00:00:00 74 10 00 00 00 11 95
+records 45 to 52 at 18000: STATUS SENSE 61 20 01 82 -> 71 20 00 91, says local no
+could show: shown any, in unknown, out unknown, local yes, ain unknown, aout unknown
+no at record 52: M1 no run remains'
+capture_of "$disable $remote $preset $unlisted $disable $preset $sensed_at_11 $remote"
+is_no 'what a deck has forgotten, with hands' 'records 31 to 36 at 12400: LOCAL DISABLE 00 0C 0C -> 10 01 11
+records 37 to 46 at 14800: IN DATA PRESET 10:00:00:00 44 14 00 00 00 10 68 -> 10 01 11
+records 47 to 56 at 18800: IN DATA SENSE 60 10 70 -> 11:00:00:00 74 10 00 00 00 11 95
+records 57 to 64 at 22800: STATUS SENSE 61 20 01 82 -> 71 20 00 91, says local no
+could show: shown any, in unknown, out unknown, local yes, ain unknown, aout unknown, panel off
+no at record 64: M1 no run remains' --hands
+
+# A refusal says that a command was not done, which is needed where doing it would fit: a shift; and one that is not listed, which has
+# no name, and would have made the deck forget. A NAK says nothing more.
+capture_of "$remote $preset C 40 18 58 $refused C 60 10 70 D 74 10 01 00 00 10 95"
+is_no 'a refused shift' 'records 1 to 8 at 400: STATUS SENSE 61 20 01 82 -> 71 20 00 91, says local no
+records 9 to 18 at 3600: IN DATA PRESET 10:00:00:00 44 14 00 00 00 10 68 -> 10 01 11
+records 19 to 25 at 7600: IN SHIFT + 40 18 58 -> 11 12 01 24
+records 26 to 35 at 10400: IN DATA SENSE 60 10 70 -> 10:00:00:01 74 10 01 00 00 10 95
+could show: shown any, in 10:00:00:00, out unknown, local no, ain unknown, aout unknown
+no at record 35: M1 no run remains'
+capture_of "$remote $preset C 30 00 30 $refused $sensed_at_11"
+is_no 'a refused command that is not listed' 'records 1 to 8 at 400: STATUS SENSE 61 20 01 82 -> 71 20 00 91, says local no
+records 9 to 18 at 3600: IN DATA PRESET 10:00:00:00 44 14 00 00 00 10 68 -> 10 01 11
+records 19 to 25 at 7600: 30 00 30 -> 11 12 01 24
+records 26 to 35 at 10400: IN DATA SENSE 60 10 70 -> 11:00:00:00 74 10 00 00 00 11 95
+could show: shown any, in 10:00:00:00, out unknown, local no, ain unknown, aout unknown
+no at record 35: M1 no run remains'
+
 # What contradicts nothing has no line: PLAY, before the three and between them. What follows the break is not judged.
 capture_of "C 20 01 21 $ack $remote C 20 01 21 $ack $preset $sensed_at_11 C 20 01 22"
 why "$work/capture.csv"

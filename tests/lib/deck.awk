@@ -626,3 +626,35 @@ function moves_to_first(t) {
     if (comes_from_some(1, 0, t)) return 0
     return hands && comes_from_some(1, 1, t) ? 0 : -1
 }
+
+# ---- what a line of `why` tells of exchange i beside its records and names
+
+# is_listed(i): the tables of docs/PROFILE.md list its command
+function is_listed(i,    word) {
+    split(command_text[i], word, " ")
+    return (word[1] word[2]) in effect_of || command_text[i] ~ /^61 0C 0[12348] /
+}
+
+# the bytes of the command, behind the time where it is one that has to be valid
+function asked_text(i,    word) {
+    split(command_text[i], word, " ")
+    return (does[i] == "at" || word[1] word[2] == "2431" ? time_text(time_at(word, 3)) " " : "") command_text[i]
+}
+
+# the bytes of the reply, behind the time where it is that of a register, and before what status data say by themselves
+function answered_text(i) {
+    return (asks[i] == "register" && told[i] >= 0 ? time_text(told[i]) " " : "") reply_text[i] said_by(i)
+}
+
+function said_by(i,    m, r, modes, name, text) {
+    if (asks[i] != "status") return ""
+    if (datum[i, 0] >= 0) text = ", local " (has_bit(datum[i, 0], 1) ? "yes" : "no")
+    if (datum[i, 1] >= 0 || datum[i, 2] >= 0) {
+        for (m = 1; m <= 10; m++) if (fits(m, datum[i, 1], datum[i, 2])) modes = modes "|" mode_name[m]
+        text = text ", shown " (modes == "" ? "none" : substr(modes, 2))
+    }
+    split("in out ain aout", name, " ")
+    if (datum[i, 3] >= 0) for (r = 0; r < 4; r++)
+        text = text ", " name[r + 1] " " (has_bit(datum[i, 3], register_bit[r]) ? "set" : "clear")
+    return text == "" ? "" : ", says " substr(text, 3)
+}

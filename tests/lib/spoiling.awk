@@ -8,9 +8,13 @@
 # shown          `why` tells other modes that the deck could show
 # register       `why` tells something else of IN
 # local          `why` tells something else of local
+# says           `why` tells of status data what they do not say
+# time           `why` tells another time of a command or a register than its bytes do
 # record         `check` tells another record
 # yes            `check` tells a yes for a no
 # state          `run` has a state, without hands, that is in local where the others are not, or the other way round
+# other-run      `run --hands` has another state than `run`, where nobody has to touch the deck
+# panel          `run --hands` has the panel on where `run` has it off, or the other way round, where nobody has to touch the deck
 # hand           `run` has a state that wants more moves of a hand: wrong only where the fewest are wanted
 
 /^capture / {
@@ -30,7 +34,7 @@ function end_capture(    k) {
     if (number == "" || changed == 20) return
     read_capture(drawn[number])
     set_places(drawn_hands[number])
-    if (!change(begins["why"], begins["run"], begins["check"])) return
+    if (!change(begins["why"], begins["run"], begins["check"], begins["run --hands"])) return
     changed++
     for (k = 1; k <= lines; k++) if (text[k] != "") print text[k]
 }
@@ -42,7 +46,7 @@ function exchange_of(line,    word, i) {
 }
 
 function line_of(i) {
-    return "records " first_record[i] " to " last_record[i] " at " 400 * first_record[i] ": " command_text[i] " -> " reply_text[i]
+    return "records " first_record[i] " to " last_record[i] " at " 400 * first_record[i] ": " asked_text(i) " -> " answered_text(i)
 }
 
 # replace(K, FROM, TO): whether line k has this, and now has that
@@ -52,11 +56,23 @@ function replace(k, from, to,    at) {
     return at
 }
 
-# change(WHY, RUN, CHECK): changes the text, whose parts begin at these lines; whether it could
-function change(why, run, check,    k, i, could, s, t, u) {
+# change(WHY, RUN, CHECK, TOUCHED): changes the text, whose parts begin at these lines; whether it could
+function change(why, run, check, touched,    k, i, could, s, t, u) {
     could = run - 3
-    if (how == "left-out" || how == "added" || how == "earlier" || how == "shown" || how == "register" || how == "local")
+    if (" left-out added earlier shown register local says time " ~ " " how " ")
         if (text[why] !~ /^records/) return 0
+    if (how == "says") {
+        for (k = why; k < could; k++) {
+            if (replace(k, "says local no", "says local yes") || replace(k, "says local yes", "says local no")) return 1
+            if (replace(k, "shown none", "shown REC") || replace(k, "in set", "in clear") || replace(k, "in clear", "in set")) return 1
+            if (sub(/, says shown [^,]*/, ", says shown none", text[k])) return 1
+        }
+        return 0
+    }
+    if (how == "time") {
+        for (k = why; k < could; k++) if (sub(/[0-9][0-9]:[0-9][0-9]:[0-9][0-9]:[0-9][0-9] /, "05:05:05:05 ", text[k])) return 1
+        return 0
+    }
     if (how == "left-out") {
         text[why] = ""
         return why + 1 < could
@@ -76,13 +92,22 @@ function change(why, run, check,    k, i, could, s, t, u) {
         text[check] = "yes: records " records ", exchanges " exchanges ", open 0"
         return 1
     }
+    # without hands these are compared with one another alone
+    if (how == "other-run" || how == "panel") {
+        if (hands || text[run] !~ /^record/) return 0
+        k = touched + int(exchanges / 2)
+        if (how == "panel") return replace(k, ", panel off", ", panel on") || replace(k, ", panel on", ", panel off")
+        return replace(k, "aout clear", "aout 05:05:05:05") || sub(/aout [^,]*/, "aout clear", text[k])
+    }
+    if (hands) run = touched
     if (text[run] !~ /^record/) return 0
     if (how == "state") {
         if (hands || exchanges < 2) return 0
         for (i = 1; i <= exchanges; i++) if (does[i] == "forget-all") return 0
         return replace(run + 1, "local no", "local yes") || replace(run + 1, "local yes", "local no")
     }
-    if (how == "hand" && hands) for (i = 2; i < exchanges; i++) {
+    # where nobody has to touch the deck one run alone is right
+    if (how == "hand" && hands && text[check] ~ /^no/) for (i = 2; i < exchanges; i++) {
         k = run + i - 1
         if (!read_state(text[k - 1], last_record[i - 1], s)) return 0
         if (!read_state(text[k], last_record[i], t)) return 0
