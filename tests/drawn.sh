@@ -75,7 +75,7 @@ judge 'captures with hands that are a no' at_least 500 'no run' 2
 judge 'captures without hands that are a yes' at_least 500 yes 1
 judge 'captures with hands that are a yes' at_least 500 yes 2
 compared=$(sed -n 's/^runs of a yes without hands, compared with those with hands: //p' "$work/compared")
-judge 'captures that nobody has to touch' [ "${compared:-0}" -ge 500 ]
+judge 'captures that nobody has to touch' [ "${compared:-0}" -ge 1000 ]
 
 for how in left-out added earlier shown register local says time record yes state other-run panel; do
     spoil "$how"

@@ -1,11 +1,14 @@
 #!/usr/bin/env bash
 # How much processor time the program takes on 4,000,000 records, as ratios: `check` to a loop that only reads the same
 # rows with csv into one record, and `explain` and `run` into a file to `check`; on a capture of PLAY and its
-# acknowledgement, and on one of mixed traffic (status, time and register senses, presets, shifts). Then `why` to `check`,
-# both on a no: on mixed traffic whose last three exchanges contradict one another (at most 1.8 is wanted), and on one in
-# which the first of those three lies 400,000 exchanges before the last (at most 8). All are run in turn, fifteen times or as
-# often as the first word says, and the best time of each counts. It also says the greatest resident memory. Not part of the
-# gate. The program is the one that the gate or ./ninecheck built.
+# acknowledgement, and on one of mixed traffic (status, time and register senses, presets, shifts). Where valgrind is there,
+# it also counts the instructions that each of the four takes for a record, on the first 200,000 of them. Then `check` and
+# `explain` on presets in no order, as ratios to PLAY and to half as many presets. Then `why` to `check`, both on a no of as
+# many records as whole turns of mixed traffic allow: the last three exchanges contradict one another, or the first of those
+# three lies 94 exchanges before the last (at most 1.8 is wanted of both), or 400,000 (at most 8). All are run in turn,
+# fifteen times or as often as the first word says, and the best time of each counts. It also says the greatest resident
+# memory, that of `run` and of `why` on the same captures too. Not part of the gate. The program is the one that the gate or
+# ./ninecheck built.
 set -u
 turns=${1:-15}
 top=$(cd "$(dirname "$0")/../.." && pwd)
@@ -24,9 +27,10 @@ reader=$work/crates/read_rows/out/read_rows
 [ -x "$reader" ] || { cat "$work/log"; echo "the reading loop could not be built"; exit 1; }
 
 python3 - "$program" "$reader" "$work" "$turns" <<'PY'
-import os, random, subprocess, sys, time
+import os, random, re, shutil, subprocess, sys, time
 program, reader, work, turns = sys.argv[1:]
 RECORDS = 4000000
+COUNTED = 200000
 
 def block(head, code, *data):
     body = [head * 16 + len(data), code, *data]
@@ -60,10 +64,11 @@ def shuffled_presets():
     for frames in random.Random(9).sample(range(2160000), RECORDS // 10):
         yield block(4, 0x14, *time_bytes(frames)), ACK
 
-# A deck that is not in local, a preset, and a sense that answers another time.
+# A deck that is not in local, a preset of IN, and a sense that answers another time; and a preset of OUT.
 REMOTE = block(6, 0x20, 0x01), block(7, 0x20, 0x00)
 PRESET = block(4, 0x14, *time_bytes(900000)), ACK
 SENSED = block(6, 0x10), block(7, 0x10, *time_bytes(990000))
+OUT_PRESET = block(4, 0x15, *time_bytes(0)), ACK
 
 def all_turns(exchanges):
     turn = 0
@@ -71,19 +76,33 @@ def all_turns(exchanges):
         yield from exchanges(turn)
         turn += 1
 
-def contradicting_at_end():
-    for turn in range(RECORDS // sum(len(sent) for exchange in mixed(0) for sent in exchange) - 1):
+def length(exchanges):
+    return sum(len(sent) for exchange in exchanges for sent in exchange)
+
+TURN = length(mixed(0))
+
+# As many turns as there is room for, and then what `exchanges` gives each time it is asked.
+def behind_turns(exchanges):
+    for turn in range((RECORDS - length(exchanges())) // TURN):
         yield from mixed(turn)
-    yield from (REMOTE, PRESET, SENSED)
+    yield from exchanges()
+
+def contradicting_at_end():
+    return behind_turns(lambda: (REMOTE, PRESET, SENSED))
 
 # The first of those that contradict one another is the preset, since each status reply says that the deck is not in local.
-# Between it and the last are 399,999 exchanges that leave IN alone.
-def contradicting_from_afar():
-    yield from (REMOTE, PRESET)
-    yield block(4, 0x15, *time_bytes(0)), ACK
-    for turn in range(66666):
-        yield from mixed(turn, 1)
-    yield from (REMOTE, REMOTE, SENSED)
+# Between it and the last are so many turns that leave IN alone, and three exchanges more.
+def contradicting_across(turns_between):
+    def exchanges():
+        yield from (REMOTE, PRESET, OUT_PRESET)
+        for turn in range(turns_between):
+            yield from mixed(turn, 1)
+        yield from (REMOTE, REMOTE, SENSED)
+    return behind_turns(exchanges)
+
+# How many records the first of them lies before the last.
+def apart(turns_between):
+    return turns_between * TURN + length([PRESET, OUT_PRESET, REMOTE, REMOTE])
 
 def write(path, exchanges, most=RECORDS):
     now = records = 0
@@ -118,17 +137,30 @@ def peak(words, capture):
             time.sleep(0.01)
     return high
 
+# The instructions of a run for each of the records counted, what it takes beside them included.
+def instructions(words, capture):
+    with open(capture, 'rb') as text, open(f'{work}/lines', 'wb') as to:
+        counted = subprocess.run(['valgrind', '--tool=callgrind', '--callgrind-out-file=/dev/null', *words],
+                                 stdin=text, stdout=to, stderr=subprocess.PIPE, text=True, check=True)
+    return int(re.search(r'Collected : (\d+)', counted.stderr).group(1)) / COUNTED
+
+check, explain, run, why = ([program, verb] for verb in ('check', 'explain', 'run', 'why'))
 for name, exchanges in (('PLAY and ACK', lambda turn: PLAY), ('mixed traffic', mixed)):
     capture = f'{work}/capture.csv'
     write(capture, all_turns(exchanges))
-    check, explain, run = [program, 'check'], [program, 'explain'], [program, 'run']
     runs = [(seconds(check, capture, '/dev/null'), seconds([reader], capture, '/dev/null'),
              seconds(explain, capture, f'{work}/lines'), seconds(run, capture, f'{work}/lines')) for _ in range(int(turns))]
     judged, read, told, found = (min(column) for column in zip(*runs))
     print(f'{name}: check {judged:.3f} s, reading {read:.3f} s, ratio {judged / read:.2f}; '
           f'explain {told:.3f} s, ratio to check {told / judged:.2f}; '
           f'run {found:.3f} s, ratio to check {found / judged:.2f}; '
-          f'resident memory {peak(check, capture)} kB, {peak(explain, capture)} kB, {peak(run, capture)} kB')
+          f'resident memory {peak(check, capture)} kB, {peak(explain, capture)} kB, {peak(run, capture)} kB, '
+          f'of why {peak(why, capture)} kB')
+    if shutil.which('valgrind'):
+        write(capture, all_turns(exchanges), COUNTED)
+        read, judged, told, found = (instructions(words, capture) for words in ([reader], check, explain, run))
+        print(f'{name}: instructions a record: reading {read:.0f}, check {judged:.0f}, ratio {judged / read:.2f}; '
+              f'explain {told:.0f}, ratio to check {told / judged:.2f}; run {found:.0f}, ratio to check {found / judged:.2f}')
 
 captures = {'PLAY and ACK': all_turns(lambda turn: PLAY), 'shuffled presets': shuffled_presets(), 'half as many': shuffled_presets()}
 for name, exchanges in captures.items():
@@ -146,15 +178,15 @@ def told_apart(path):
         firsts = [int(line.split()[1]) for line in lines if line.startswith('records ')]
     return len(firsts), firsts[-1] - firsts[0]
 
-for name, exchanges, apart in (('contradicting at the end', contradicting_at_end(), 18),
-                               ('contradicting from afar', contradicting_from_afar(), 66666 * 58 + 36)):
+for name, exchanges, records in (('contradicting at the end', contradicting_at_end(), 18),
+                                 ('contradicting within 94', contradicting_across(15), apart(15)),
+                                 ('contradicting from afar', contradicting_across(66666), apart(66666))):
     capture = f'{work}/capture.csv'
     write(capture, exchanges)
-    check, why = [program, 'check'], [program, 'why']
     runs = [(seconds(check, capture, '/dev/null', 1), seconds(why, capture, f'{work}/lines', 1)) for _ in range(int(turns))]
-    if told_apart(f'{work}/lines') != (3, apart):
+    if told_apart(f'{work}/lines') != (3, records):
         sys.exit(f'{name}: {told_apart(f"{work}/lines")} was told')
     judged, sought = (min(column) for column in zip(*runs))
     print(f'{name}: check {judged:.3f} s; why {sought:.3f} s, ratio to check {sought / judged:.2f}; '
-          f'resident memory {peak(check, capture)} kB, {peak(why, capture)} kB')
+          f'resident memory {peak(check, capture)} kB, {peak(why, capture)} kB, of run {peak(run, capture)} kB')
 PY

@@ -10,6 +10,8 @@ const ROUNDS: [(u32, u32, u32); 3] = [
     (300_000, 600_000, 65_536),
 ];
 
+const LAST_CALLS: u32 = 128;
+
 fn next_drawn(drawn: u32) -> u32 {
     drawn.wrapping_mul(1_664_525).wrapping_add(1_013_904_223)
 }
@@ -30,6 +32,20 @@ fn make(spans: &mut Spans, pick: u32, rare: u32, frame: u32) {
     }
 }
 
+fn make_last(spans: &mut Spans, place: u32, frame: u32) {
+    if place % 16 != 0 {
+        spans.add(frame);
+        return;
+    }
+    match place / 16 % 8 {
+        0 | 3 | 6 => spans.shift_next(),
+        1 | 5 => spans.shift_prev(),
+        2 => spans.widen_next(),
+        4 => spans.widen_prev(),
+        _ => spans.keep_only(frame),
+    }
+}
+
 fn number_of(frame: Option<u32>) -> u64 {
     frame.map_or(0, |frame| u64::from(frame) + 1)
 }
@@ -39,12 +55,16 @@ fn main() {
         let mut spans = Spans(Vec::new());
         let mut drawn = width;
         let mut sum = 0u64;
-        for turn in 0..calls {
+        for turn in 0..calls + LAST_CALLS {
             drawn = next_drawn(drawn);
             let pick = drawn >> 4;
             drawn = next_drawn(drawn);
             let frame = (DAY - width / 2 + (drawn >> 8) % width) % DAY;
-            make(&mut spans, pick, rare, frame);
+            if turn < calls {
+                make(&mut spans, pick, rare, frame);
+            } else {
+                make_last(&mut spans, turn - calls, frame);
+            }
             let parts = [
                 spans.0.len() as u64,
                 number_of(spans.least()),
@@ -54,7 +74,7 @@ fn main() {
             for part in parts {
                 sum = sum.wrapping_mul(6_364_136_223_846_793_005).wrapping_add(part);
             }
-            if turn % 10_000 == 9_999 {
+            if turn % 10_000 == 9_999 || turn >= calls {
                 println!("{width} {turn} {} {sum}", spans.0.len());
             }
         }
