@@ -149,6 +149,12 @@ const UNLISTED_COMMANDS: &[Row] = &[
         38,
         &[0, 1, 2, 4],
     ),
+    // This one forgets local too, so nothing from before it is named.
+    (
+        &[REMOTE, PRESET_10, UNLISTED_3, PRESET_10, IN_11, REMOTE],
+        52,
+        &[3, 4, 5],
+    ),
 ];
 
 /// Without hands LOCAL DISABLE does nothing.
@@ -178,6 +184,14 @@ const TOUCHED: &[Row] = &[
         &[0, 1, 2, 3, 4],
     ),
     (&[REMOTE, SHOWS_NO_MODE], 17, &[1]),
+    // A panel that the deck may have forgotten has to be switched off again.
+    (
+        &[
+            DISABLE, REMOTE, PRESET_10, UNLISTED_3, DISABLE, PRESET_10, IN_11, REMOTE,
+        ],
+        64,
+        &[4, 5, 6, 7],
+    ),
 ];
 
 /// Exchanges of which some deck has a run, where nobody touches it, and the number of their records.

@@ -16,8 +16,12 @@ use std::test::Fail;
 /// How the exchanges of 28 records go on whose third reply breaks: nothing of it is judged.
 const GOES_ON: [&str; 4] = ["C 20 01 22", "D 10", IN_10, "C 60"];
 
-/// How many polls stand between the first replies and the last: 256 exchanges are a stretch of what is kept.
-const POLL_COUNTS: [usize; 7] = [0, 252, 253, 254, 255, 300, 600];
+/// How many polls stand between replies that contradict one another: 256 exchanges are a stretch of what is kept.
+const POLL_COUNTS: [usize; 8] = [0, 252, 253, 254, 255, 300, 500, 600];
+
+/// A deck that is not in local, a preset, and a sense that does not fit.
+const PRESET_AND_SENSED: &str =
+    "C 61 20 01 82 D 71 20 00 91 C 44 14 00 00 00 10 68 D 10 01 11 C 60 10 70 D 74 10 00 00 00 11 95";
 
 /// What is answered to a capture of these blocks.
 fn answer(
@@ -35,7 +39,7 @@ fn fault(kind: CaptureKind, row: u32) -> JudgeError {
     JudgeError::Capture(CaptureError { kind, row })
 }
 
-/// A capture of some exchanges, so many polls of the mode, and other exchanges.
+/// A capture of some exchanges, and of other parts, each behind so many polls of the mode.
 fn polled(
     alloc: Global,
     before: &[&str],
@@ -46,10 +50,10 @@ fn polled(
     for part in before {
         tap.put(part)?;
     }
-    for _ in 0..count {
-        tap.put(SHOWS_STOP)?;
-    }
     for part in behind {
+        for _ in 0..count {
+            tap.put(SHOWS_STOP)?;
+        }
         tap.put(part)?;
     }
     Ok(tap.text)
@@ -63,18 +67,19 @@ fn record(polls: usize, others: u32) -> u32 {
         .saturating_add(others)
 }
 
-/// Tells a preset, so many polls, and a sense that does not fit.
-fn tell_preset(rt: &impl Abort, alloc: Global, polls: usize) -> Result<(), AllocError> {
-    let text = polled(alloc, &[REMOTE, PRESET_10], polls, &[IN_11])?;
-    let last = polls.saturating_add(2);
-    let places = [0, 1, last];
+/// Tells a preset, so many polls, a shift, as many polls again, and a sense to which the shift is unknown.
+fn tell_shift(rt: &impl Abort, alloc: Global, polls: usize) -> Result<(), AllocError> {
+    let text = polled(alloc, &[REMOTE, PRESET_10], polls, &[SHIFT_MORE, IN_10])?;
+    let both = polls.saturating_mul(2);
+    let (shift, last) = (polls.saturating_add(2), both.saturating_add(3));
+    let places = [0, 1, shift, last];
     tell_text(
         rt,
         alloc,
         text.as_str(),
         Hands::None,
         last.saturating_add(1),
-        (record(polls, 28), &places),
+        (record(both, 34), &places),
     );
     Ok(())
 }
@@ -95,9 +100,9 @@ fn tell_local(rt: &impl Abort, alloc: Global, polls: usize) -> Result<(), AllocE
     Ok(())
 }
 
-/// Tells the same as in `tell_preset`, behind all the polls.
+/// Tells a preset and a sense that does not fit, behind all the polls.
 fn tell_late(rt: &impl Abort, alloc: Global, polls: usize) -> Result<(), AllocError> {
-    let text = polled(alloc, &[], polls, &[REMOTE, PRESET_10, IN_11])?;
+    let text = polled(alloc, &[], polls, &[PRESET_AND_SENSED])?;
     let (preset, last) = (polls.saturating_add(1), polls.saturating_add(2));
     let places = [polls, preset, last];
     tell_text(
@@ -114,7 +119,7 @@ fn tell_late(rt: &impl Abort, alloc: Global, polls: usize) -> Result<(), AllocEr
 #[test]
 fn far_apart(rt: HostRuntime) -> Result<(), Fail> {
     for polls in POLL_COUNTS {
-        tell_preset(&rt, rt.alloc(), polls)?;
+        tell_shift(&rt, rt.alloc(), polls)?;
         tell_local(&rt, rt.alloc(), polls)?;
         tell_late(&rt, rt.alloc(), polls)?;
     }
