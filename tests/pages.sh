@@ -66,8 +66,8 @@ run_it() {
     is_said "$page: ${block[0]}" 'yes: records 6, exchanges 1, open 0'
     : > "$work/want"
     judge "$page: ${block[1]}" [ "${block[1]%% *}" = .ci/run ]
-    (cd "$work/here" && DESTDIR=$work/root bash -c "${block[2]}") > "$work/out" 2>&1 < /dev/null
-    judge "$page: ${block[2]}" [ "$("$work/root/usr/local/bin/ninecheck" --version)" = "ninecheck $(cat VERSION)" ]
+    (cd "$work/here" && DESTDIR=$work/placed bash -c "${block[2]}") > "$work/out" 2>&1 < /dev/null
+    judge "$page: ${block[2]}" [ "$("$work/placed/usr/local/bin/ninecheck" --version)" = "ninecheck $(cat VERSION)" ]
     judge "$page: no more than these" [ ${#block[@]} = 3 ]
 }
 

@@ -8,7 +8,7 @@ use std::process::Abort;
 /// Takes a byte a call until its room is taken, and fails then. Its flush fails where it is told so. It counts the
 /// writes that failed, and the flushes.
 #[derive(Drop)]
-pub struct Narrow {
+pub(super) struct Narrow {
     pub taken: Vec<u8>,
     room: usize,
     can_flush: bool,
@@ -18,7 +18,7 @@ pub struct Narrow {
 
 impl Narrow {
     /// A writer with this room, whose flush does not fail.
-    pub fn new(alloc: Global, room: usize) -> Self {
+    pub(super) fn new(alloc: Global, room: usize) -> Self {
         Narrow {
             taken: Vec::new(alloc),
             room,
@@ -29,7 +29,7 @@ impl Narrow {
     }
 
     /// A writer that takes all, and whose flush fails.
-    pub fn that_fails_to_flush(alloc: Global) -> Self {
+    pub(super) fn that_fails_to_flush(alloc: Global) -> Self {
         Narrow {
             taken: Vec::new(alloc),
             room: usize::MAX,
@@ -66,7 +66,13 @@ impl Write for Narrow {
 }
 
 /// Holds what a writer took, how many of its writes failed, and how often it was flushed.
-pub fn took(rt: &impl Abort, writer: &Narrow, taken: &[u8], failures: usize, flushes: usize) {
+pub(super) fn took(
+    rt: &impl Abort,
+    writer: &Narrow,
+    taken: &[u8],
+    failures: usize,
+    flushes: usize,
+) {
     same(rt, writer.taken.as_slice(), taken, "what was taken");
     same(
         rt,
@@ -77,7 +83,7 @@ pub fn took(rt: &impl Abort, writer: &Narrow, taken: &[u8], failures: usize, flu
 }
 
 /// Holds that a writer took something that ends so, and was flushed once.
-pub fn took_to_the_end(rt: &impl Abort, writer: &Narrow, end: &[u8]) {
+pub(super) fn took_to_the_end(rt: &impl Abort, writer: &Narrow, end: &[u8]) {
     same(
         rt,
         writer.taken.ends_with(end),
