@@ -26,24 +26,13 @@ echo 'time_us,wire,byte' > "$work/crates/read_rows/stdin"
 reader=$work/crates/read_rows/out/read_rows
 [ -x "$reader" ] || { cat "$work/log"; echo "the reading loop could not be built"; exit 1; }
 
-python3 - "$program" "$reader" "$work" "$turns" <<'PY'
+PYTHONDONTWRITEBYTECODE=1 PYTHONPATH=$top/bench/lib python3 - "$program" "$reader" "$work" "$turns" <<'PY'
 import os, random, re, shutil, subprocess, sys, time
+from blocks import ACK, block, time_bytes
 program, reader, work, turns = sys.argv[1:]
 RECORDS = 4000000
 COUNTED = 200000
 
-def block(head, code, *data):
-    body = [head * 16 + len(data), code, *data]
-    return body + [sum(body) % 256]
-
-def bcd(n):
-    return n // 10 * 16 + n % 10
-
-def time_bytes(frames):
-    seconds = frames // 25
-    return [bcd(frames % 25), bcd(seconds % 60), bcd(seconds // 60 % 60), bcd(seconds // 3600 % 24)]
-
-ACK = block(1, 0x01)
 PLAY = [(block(2, 0x01), ACK)]
 
 # What an editor asks and sets while it looks for an edit, of IN (0) or of OUT (1); the deck is not in local, and IN is set.

@@ -14,25 +14,13 @@ work=$(mktemp -d)
 trap 'rm -rf "$work"' EXIT
 # The lines that a view holds back are kept here.
 export TMPDIR=$work
-python3 - "$program" "$top/view" "$work" <<'PY'
+PYTHONDONTWRITEBYTECODE=1 PYTHONPATH=$top/bench/lib python3 - "$program" "$top/view" "$work" <<'PY'
 import os, subprocess, sys, time
+from blocks import ACK, block, time_bytes
 program, views, work = sys.argv[1:]
 RECORDS = 4000000
 SECONDS, KILOBYTES = 60, 600000
 FRAME_US, BYTE_US, LATE_US = 40000, 400, 9288
-
-def block(head, code, *data):
-    body = [head * 16 + len(data), code, *data]
-    return body + [sum(body) % 256]
-
-def bcd(n):
-    return n // 10 * 16 + n % 10
-
-def time_bytes(frames):
-    seconds = frames // 25
-    return [bcd(frames % 25), bcd(seconds % 60), bcd(seconds // 60 % 60), bcd(seconds // 3600 % 24)]
-
-ACK = block(1, 0x01)
 
 # What is asked and answered in each frame. The deck is not in local, and plays.
 def frame(number):
