@@ -93,15 +93,15 @@ impl Block {
         requires data { length records.now ≤ most_body }
         ensures { result ≡ block_of (bytes_of records.now) }
     {
-        let mut bytes = ArrayVec::new();
-        for record in &records[2..] {
-            bytes.push(record.byte);
-        }
-        Block {
+        let mut block = Block {
             group: records[0].byte / 16,
             code: records[1].byte,
-            bytes,
+            bytes: ArrayVec::new(),
+        };
+        for record in &records[2..] {
+            block.bytes.push(record.byte);
         }
+        block
     }
 }
 

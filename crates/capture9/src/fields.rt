@@ -84,6 +84,7 @@ pub(crate) fn read_row(number: u32, before: u64, row: &ByteRecord) -> Result<Lin
 ///
 /// From ten seconds on a time has eight digits and more, and the first eight are read at once: digit by digit they would
 /// take a tenth of all the time that a capture takes.
+#[inline(always)] // else each time is handed on through memory
 fn read_time(field: &[u8]) -> Option<u64>
     ensures { result ≡ time_in field.now }
 {

@@ -121,6 +121,13 @@ impl<R: Read + Drop> Records<R> {
         self.read_row()
     }
 
+    /// How many records were given.
+    pub fn given(&self) -> u32
+        ensures { result ≡ self.now.given }
+    {
+        self.given
+    }
+
     /// Reads the first CSV record, which has to be the header.
     fn read_header(&mut self) -> Result<(), CaptureError>
         requires reading { self.old.standing ≡ Standing.Reading }

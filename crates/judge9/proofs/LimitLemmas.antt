@@ -11,11 +11,11 @@ use Rattle.capture9.proofs.RecordsLemmas.{refused-after}
 use Rattle.block9.specs.declared.pairer.Exchange.{Exchange}
 use Rattle.block9.specs.declared.reason.Reason.{Reason}
 use Rattle.block9.specs.Exchange.{Cut, IsExchange}
-use Rattle.block9.specs.Pairer.{Paired}
 use Rattle.block9.proofs.LineLemmas.{whole_len, whole_long}
 use Rattle.block9.proofs.StepLemmas.{block_len_low, tail_short}
 use Rattle.judge9.specs.declared.error.JudgeError.{JudgeError}
 use Rattle.judge9.specs.declared.error.JudgeError.TheVariants as error
+use Rattle.judge9.specs.declared.turn.Judging.{Judging}
 use Rattle.judge9.specs.declared.verdict.Verdict.{Verdict}
 use Rattle.judge9.specs.declared.verdict.Verdict.TheVariants.{Yes, No}
 use Rattle.judge9.specs.declared.verdict.View.{View}
@@ -28,7 +28,6 @@ use Rattle.judge9.proofs.SoFar.{SoFar}
 use Rattle.judge9.proofs.TellLemmas.{refused, told-refusal}
 use Rattle.judge9.specs.Working.{IsSame, Judges, Puts}
 use Rattle.deck9.specs.declared.state.Hands.{Hands}
-use Rattle.track9.specs.Tracker.{Tracked}
 
 -- an exchange has 6 to 36 records
 exchange_least : (front : List LineByte) (e : Exchange) → IsExchange front e → 6 ≤ length front
@@ -62,53 +61,50 @@ cut_most p (e ∷ es) t h =
     omega (arith, length-append h.0 h.1)
 
 -- a yes, a no and a refusal of the capture
-pub can_be-yes : {R : Type 0} (which : View) (hands : Hands) (rows : Option Rows) (progress : Progress R) (paired : Paired) (tracked : Tracked) (old now : Option (List ℕ)) (n m : ℕ) → SoFar which hands rows progress paired tracked old now n m → CanBeVerdict (Yes n m (length paired.tail))
-can_be-yes which hands rows progress paired tracked old now n m h =
+pub can_be-yes : {R : Type 0} {which : View} {hands : Hands} {rows : Option Rows} {j : Judging R} {old now : Option (List ℕ)} {m : ℕ} → SoFar which hands rows j old now m → CanBeVerdict (Yes j.rows.given m (length j.pairer.tail))
+can_be-yes {j = j} h =
     let records = h.number in
     let exchanges = h.exchange_number in
-    let least = cut_least h.items h.cut_exchanges paired.tail h.cut in
-    let most = cut_most h.items h.cut_exchanges paired.tail h.cut in record {
+    let least = cut_least h.items h.cut_exchanges j.pairer.tail h.cut in
+    let most = cut_most h.items h.cut_exchanges j.pairer.tail h.cut in record {
       few = h.within;
-      short = tail_short paired.tail (cut_tail h.items h.cut_exchanges paired.tail h.cut);
+      short = tail_short j.pairer.tail (cut_tail h.items h.cut_exchanges j.pairer.tail h.cut);
       enough = omega arith;
       no_more = omega arith;
     }
 
-pub can_be-no : {R : Type 0} (which : View) (hands : Hands) (rows : Option Rows) (progress given : Progress R) (paired : Paired) (tracked : Tracked) (old now : Option (List ℕ)) (r : LineByte) (reason : Reason) (n m : ℕ) → SoFar which hands rows progress paired tracked old now n m → GivesRecord progress r given → CanBeVerdict (No (n + 1) reason)
-can_be-no which hands rows progress given paired tracked old now r reason n m h gives =
-    record { counted = omega arith; few = let e = h.given in let g = gives.given in let w = gives.within in omega arith }
+pub can_be-no : {R : Type 0} {progress given : Progress R} {r : LineByte} (reason : Reason) → GivesRecord progress r given → CanBeVerdict (No given.given reason)
+can_be-no reason gives = record { counted = let g = gives.given in omega arith; few = gives.within }
 
-can_be-refusal : {R : Type 0} (which : View) (hands : Hands) (rows : Option Rows) (progress given : Progress R) (paired : Paired) (tracked : Tracked) (old now : Option (List ℕ)) (e : CaptureError) (n m : ℕ) → SoFar which hands rows progress paired tracked old now n m → GivesRefusal progress e given → CanBeRefusal e
-can_be-refusal which hands rows progress given paired tracked old now e n m h refusal = record { few = by given.is_headed refusal.place; at_its_row = refusal.place.at_its_row }
+can_be-refusal : {R : Type 0} {which : View} {hands : Hands} {rows : Option Rows} {j : Judging R} {given : Progress R} {old now : Option (List ℕ)} {m : ℕ} {e : CaptureError} → SoFar which hands rows j old now m → GivesRefusal j.rows e given → CanBeRefusal e
+can_be-refusal {given = given} {e = e} h refusal = record { few = by given.is_headed refusal.place; at_its_row = refusal.place.at_its_row }
   where
     by : (headed : Bool) → IsPlaced headed given.given e → e.row ≤ 4000001
-    by true placed = let place = placed.row in let same = refusal.given in let g = h.given in let w = h.within in omega arith
+    by true placed = let place = placed.row in let same = refusal.given in let w = h.within in omega arith
     by false placed = let place = placed.row in omega arith
 
 -- all the records before the row of a refusal keep the rules
-before_refusal : {R : Type 0} (which : View) (hands : Hands) (progress given : Progress R) (rows : Rows) (paired : Paired) (tracked : Tracked) (old now : Option (List ℕ)) (n m : ℕ) (e : CaptureError) → SoFar which hands (Some rows) progress paired tracked old now n m → GivesRefusal progress e given → IsOkBefore hands rows e
-before_refusal which hands progress given rows paired tracked old now n m e h refusal = record {
+before_refusal : {R : Type 0} {which : View} {hands : Hands} {rows : Rows} {j : Judging R} {given : Progress R} {old now : Option (List ℕ)} {m : ℕ} {e : CaptureError} → SoFar which hands (Some rows) j old now m → GivesRefusal j.rows e given → IsOkBefore hands rows e
+before_refusal {rows = rows} {j = j} {given = given} {e = e} h refusal = record {
   items = h.items;
   start = (h.read.0.records, ap (λ (x : Rows). x.records) h.read.2);
-  place = refused-after progress given e h.items refusal (h.given ∙ h.number);
+  place = refused-after j.rows given e h.items refusal h.number;
   has_header = by given.is_headed refusal.place refusal.has_header;
-  is_ok = record { exchanges = h.cut_exchanges; tail = paired.tail; cut = h.cut; run = h.run };
+  is_ok = record { exchanges = h.cut_exchanges; tail = j.pairer.tail; cut = h.cut; run = h.run };
 }
   where
     left_has : (o : Option Rows) → o ≡ Some h.read.0 → IfSome o HasHeader → HasHeader h.read.0
     left_has None same k = cc
     left_has (Some x) same k = let one : x ≡ h.read.0 = cc in subst HasHeader one k
 
-    by : (headed : Bool) → IsPlaced headed given.given e → (headed ≡ true → IfSome progress.rows HasHeader) → e.row ≢ 0 → HasHeader rows
+    by : (headed : Bool) → IsPlaced headed given.given e → (headed ≡ true → IfSome j.rows.rows HasHeader) → e.row ≢ 0 → HasHeader rows
     by true placed has low = λ wrong.
-        left_has progress.rows h.read.1 (has refl) (sym (ap (λ (x : Rows). x.fault) h.read.2) ∙ wrong)
+        left_has j.rows.rows h.read.1 (has refl) (sym (ap (λ (x : Rows). x.fault) h.read.2) ∙ wrong)
     by false placed has low = absurd (low placed.row)
 
-stopped-refusal : {R : Type 0} (which : View) (hands : Hands) (rows : Option Rows) (progress given : Progress R) (paired : Paired) (tracked : Tracked) (old now : Option (List ℕ)) (n m : ℕ) (e : CaptureError) (x : JudgeError) → SoFar which hands rows progress paired tracked old now n m → GivesRefusal progress e given → x ≡ refusal_of e
-    → IfSome rows (λ all. StoppedBefore hands all x)
-stopped-refusal which hands None progress given paired tracked old now n m e x h refusal same = tt
-stopped-refusal which hands (Some rows) progress given paired tracked old now n m e x h refusal same =
-    refused (StoppedBefore hands rows) e x same (λ _. before_refusal which hands progress given rows paired tracked old now n m e h refusal) tt
+stopped-refusal : {R : Type 0} {which : View} {hands : Hands} (rows : Option Rows) {j : Judging R} {given : Progress R} {old now : Option (List ℕ)} {m : ℕ} (e : CaptureError) (x : JudgeError) → SoFar which hands rows j old now m → GivesRefusal j.rows e given → x ≡ refusal_of e → IfSome rows (λ all. StoppedBefore hands all x)
+stopped-refusal None e x h refusal same = tt
+stopped-refusal {hands = hands} (Some rows) e x h refusal same = refused (StoppedBefore hands rows) e x same (λ _. before_refusal h refusal) tt
 
 -- ---- all that the result tells, at each end
 
@@ -137,13 +133,12 @@ judges-line which hands rows error.Write line old now new told puts =
 judges-line which hands rows error.OutOfMemory line old now new told puts =
     record { told = told; stopped = each_row rows _ (λ all. tt); is_kind = λ e q. cc; can_be = tt }
 
-pub judges-refusal : {R : Type 0} (which : View) (hands : Hands) (rows : Option Rows) (progress given : Progress R) (paired : Paired) (tracked : Tracked) (old now : Option (List ℕ)) (n m : ℕ) (e : CaptureError) (x : JudgeError) → SoFar which hands rows progress paired tracked old now n m → GivesRefusal progress e given → x ≡ refusal_of e
-    → Judges which hands rows (Err x) old now
-judges-refusal which hands rows progress given paired tracked old now n m e x h refusal same = record {
-  told = told-refusal which hands rows progress given paired tracked old now n m e x h refusal same;
-  stopped = stopped-refusal which hands rows progress given paired tracked old now n m e x h refusal same;
+pub judges-refusal : {R : Type 0} {which : View} {hands : Hands} {rows : Option Rows} {j : Judging R} {given : Progress R} {old now : Option (List ℕ)} {m : ℕ} {e : CaptureError} {x : JudgeError} → SoFar which hands rows j old now m → GivesRefusal j.rows e given → x ≡ refusal_of e → Judges which hands rows (Err x) old now
+judges-refusal {rows = rows} {e = e} {x = x} h refusal same = record {
+  told = told-refusal h refusal same;
+  stopped = stopped-refusal rows e x h refusal same;
   is_kind = λ d q wrong. apart e.kind refl d (sym same ∙ inner x d q) wrong;
-  can_be = refused (λ y. CanBeResult (Err y)) e x same (can_be-refusal which hands rows progress given paired tracked old now e n m h refusal) tt;
+  can_be = refused (λ y. CanBeResult (Err y)) e x same (can_be-refusal h refusal) tt;
 }
   where
     inner : (x : JudgeError) (d : CaptureError) → (let r : Result Verdict JudgeError = Err x in r) ≡ Err (error.Capture d) → x ≡ error.Capture d

@@ -21,12 +21,12 @@ use Rattle.block9.specs.declared.pairer.Step.TheVariants as step
 use Rattle.block9.specs.declared.reason.Reason.{Reason}
 use Rattle.block9.specs.Exchange.{Cut}
 use Rattle.block9.specs.Exchange.IsTail.{nothing}
-use Rattle.block9.specs.Pairer.{Paired, Takes}
 use Rattle.deck9.specs.declared.state.Hands.{Hands}
 use Rattle.deck9.specs.Run.{HasRun}
-use Rattle.track9.specs.Tracker.{Possible, Tracked}
+use Rattle.track9.specs.Tracker.{Possible}
 use Rattle.judge9.specs.declared.error.JudgeError.{JudgeError}
 use Rattle.judge9.specs.declared.error.JudgeError.TheVariants as error
+use Rattle.judge9.specs.declared.turn.Judging.{Judging}
 use Rattle.judge9.specs.declared.verdict.Verdict.{Verdict}
 use Rattle.judge9.specs.declared.verdict.Verdict.TheVariants.{Yes, No}
 use Rattle.judge9.specs.declared.verdict.View.{View}
@@ -41,6 +41,7 @@ use Rattle.judge9.proofs.LineSteps.{none_after}
 use Rattle.text9.proofs.WriteLemmas.{part_after}
 use Rattle.deck9.proofs.RunSearch.{run_start}
 use Rattle.judge9.specs.Working.Trail.{Follows}
+use Rattle.judge9.specs.Working.Turn.{Feeds}
 use Rattle.judge9.proofs.Seen.{Seen, given_of_some_text, rest_has, seen}
 use Rattle.judge9.proofs.SoFar.{SoFar}
 use Rattle.judge9.proofs.SoFarSteps.{cut-after, explained-start, read-more, shown-more}
@@ -89,9 +90,9 @@ pub starts : {rows left : Option Rows} {items : List LineByte} {mine : Rows} (s 
 starts s = (s.rest.records, records_are s)
 
 -- what is told after the records so far, of these rows
-unfoldable pub told_after : {R : Type 0} (which : View) (hands : Hands) (rows : Option Rows) (progress : Progress R) (paired : Paired) (tracked : Tracked) (old now new : Option (List ℕ)) (n m : ℕ) (h : SoFar which hands rows progress paired tracked old now n m) (all : Rows) (r : Result Verdict JudgeError) → IfSome rows (λ a. all ≡ a) → IfNone rows (IsOfSomeText all) → IsStartOf h.items all.records
+unfoldable pub told_after : {R : Type 0} {which : View} {hands : Hands} {rows : Option Rows} {j : Judging R} {old now new : Option (List ℕ)} {m : ℕ} (h : SoFar which hands rows j old now m) (all : Rows) (r : Result Verdict JudgeError) → IfSome rows (λ a. all ≡ a) → IfNone rows (IsOfSomeText all) → IsStartOf h.items all.records
     → IfSome (answer_of r) (IsTheAnswer hands all) → Written hands all h.items h.text r old new → Told which hands rows r old new
-told_after which hands rows progress paired tracked old now new n m h all r is_known of_a_text start answer written = record {
+told_after {j = j} h all r is_known of_a_text start answer written = record {
   rows = all;
   is_known = is_known;
   of_a_text = of_a_text;
@@ -99,7 +100,7 @@ told_after which hands rows progress paired tracked old now new n m h all r is_k
   items = h.items;
   start = start;
   exchanges = h.cut_exchanges;
-  tail = paired.tail;
+  tail = j.pairer.tail;
   cut = h.cut;
   run = h.run;
   text = h.text;
@@ -108,26 +109,26 @@ told_after which hands rows progress paired tracked old now new n m h all r is_k
 }
 
 -- a verdict that is told
-unfoldable pub told-verdict : {R : Type 0} (which : View) (hands : Hands) (rows : Option Rows) (progress : Progress R) (paired : Paired) (tracked : Tracked) (old now new : Option (List ℕ)) (n m : ℕ) (h : SoFar which hands rows progress paired tracked old now n m) (all : Rows) (v : Verdict) (r : Result Verdict JudgeError) → IfSome rows (λ a. all ≡ a) → IfNone rows (IsOfSomeText all) → IsStartOf h.items all.records
+unfoldable pub told-verdict : {R : Type 0} {which : View} {hands : Hands} {rows : Option Rows} {j : Judging R} {old now new : Option (List ℕ)} {m : ℕ} (h : SoFar which hands rows j old now m) (all : Rows) (v : Verdict) (r : Result Verdict JudgeError) → IfSome rows (λ a. all ≡ a) → IfNone rows (IsOfSomeText all) → IsStartOf h.items all.records
     → IsAnswer hands all (judged v) → IsVerdictAfter h.items v → IsSame v r → Puts (line_of v) r now new → Told which hands rows r old new
-told-verdict which hands rows progress paired tracked old now new n m h all v (Ok w) is_known of_a_text start is follows same puts =
-    told_after which hands rows progress paired tracked old now new n m h all (Ok w) is_known of_a_text start
+told-verdict {hands = hands} {old = old} {now = now} {new = new} h all v (Ok w) is_known of_a_text start is follows same puts =
+    told_after h all (Ok w) is_known of_a_text start
     (subst (λ (x : Verdict). IsTheAnswer hands all (judged x)) (sym same) (the_answer hands all (judged v) is))
     (subst (λ (x : Verdict). IsVerdictAfter h.items x × Appends old new (h.text ++ line_of x)) (sym same) (follows, Appends-trans old now new h.text (line_of v) h.wrote puts))
-told-verdict which hands rows progress paired tracked old now new n m h all v (Err (error.Capture e)) is_known of_a_text start is follows same puts = absurd puts
-told-verdict which hands rows progress paired tracked old now new n m h all v (Err error.Write) is_known of_a_text start is follows same puts =
-    told_after which hands rows progress paired tracked old now new n m h all (Err error.Write) is_known of_a_text start tt (inr (v, is, follows, part_after old now new h.text (line_of v) h.wrote puts))
-told-verdict which hands rows progress paired tracked old now new n m h all v (Err error.OutOfMemory) is_known of_a_text start is follows same puts =
-    told_after which hands rows progress paired tracked old now new n m h all (Err error.OutOfMemory) is_known of_a_text start tt (none_after old now new h.text h.wrote puts)
+told-verdict h all v (Err (error.Capture e)) is_known of_a_text start is follows same puts = absurd puts
+told-verdict {old = old} {now = now} {new = new} h all v (Err error.Write) is_known of_a_text start is follows same puts =
+    told_after h all (Err error.Write) is_known of_a_text start tt (inr (v, is, follows, part_after old now new h.text (line_of v) h.wrote puts))
+told-verdict {old = old} {now = now} {new = new} h all v (Err error.OutOfMemory) is_known of_a_text start is follows same puts =
+    told_after h all (Err error.OutOfMemory) is_known of_a_text start tt (none_after old now new h.text h.wrote puts)
 
 -- at the end of the rows
-unfoldable pub told-yes : {R : Type 0} (which : View) (hands : Hands) (rows : Option Rows) (progress ended : Progress R) (paired : Paired) (tracked : Tracked) (old now new : Option (List ℕ)) (n m : ℕ) (r : Result Verdict JudgeError) → (h : SoFar which hands rows progress paired tracked old now n m) → GivesEnd progress ended
-    → IsSame (Yes n m (length paired.tail)) r → Puts (line_of (Yes n m (length paired.tail))) r now new → Told which hands rows r old new
-told-yes which hands rows progress ended paired tracked old now new n m r h end same puts =
-    told-verdict which hands rows progress paired tracked old now new n m h s.all (Yes n m (length paired.tail)) r s.is_known (given_of_some_text s refl h.are_given.can_be) (starts s) (fault_is s ∙ ap (λ (x : Rows). x.fault) left, counts) h.number same puts
+unfoldable pub told-yes : {R : Type 0} {which : View} {hands : Hands} {rows : Option Rows} {j : Judging R} {ended : Progress R} {old now new : Option (List ℕ)} {m : ℕ} (r : Result Verdict JudgeError) → (h : SoFar which hands rows j old now m) → GivesEnd j.rows ended
+    → IsSame (Yes j.rows.given m (length j.pairer.tail)) r → Puts (line_of (Yes j.rows.given m (length j.pairer.tail))) r now new → Told which hands rows r old new
+told-yes {hands = hands} {rows = rows} {j = j} {m = m} r h end same puts =
+    told-verdict h s.all (Yes j.rows.given m (length j.pairer.tail)) r s.is_known (given_of_some_text s refl h.are_given.can_be) (starts s) (fault_is s ∙ ap (λ (x : Rows). x.fault) left, counts) h.number same puts
   where
-    s : Seen rows progress.rows h.items no_rows
-    s = seen rows progress.rows h.items no_rows h.read
+    s : Seen rows j.rows.rows h.items no_rows
+    s = seen rows j.rows.rows h.items no_rows h.read
 
     left : s.rest ≡ no_rows
     left = rest_has (λ rest. rest ≡ no_rows) s refl end.none_left
@@ -135,11 +136,11 @@ told-yes which hands rows progress ended paired tracked old now new n m r h end 
     records : s.all.records ≡ h.items
     records = records_are s ∙ ap (λ (x : Rows). h.items ++ x.records) left ∙ append-nil h.items
 
-    counts : AreCounts hands s.all.records n m (length paired.tail)
+    counts : AreCounts hands s.all.records j.rows.given m (length j.pairer.tail)
     counts = record {
       cut_exchanges = h.cut_exchanges;
-      cut_tail = paired.tail;
-      cut = subst (λ (l : List LineByte). Cut l h.cut_exchanges paired.tail) (sym records) h.cut;
+      cut_tail = j.pairer.tail;
+      cut = subst (λ (l : List LineByte). Cut l h.cut_exchanges j.pairer.tail) (sym records) h.cut;
       run = h.run;
       number = h.number ∙ ap length (sym records);
       exchange_number = h.exchange_number;
@@ -147,48 +148,51 @@ told-yes which hands rows progress ended paired tracked old now new n m r h end 
     }
 
 -- at a record that breaks a rule
-unfoldable pub told-no : {R : Type 0} (which : View) (hands : Hands) (rows : Option Rows) (progress given : Progress R) (paired : Paired) (tracked : Tracked) (old now new : Option (List ℕ)) (n m : ℕ) (next : LineByte) (reason : Reason) (r : Result Verdict JudgeError) → (h : SoFar which hands rows progress paired tracked old now n m) → GivesRecord progress next given → Breaks hands h.items next reason
-    → IsSame (No (n + 1) reason) r → Puts (line_of (No (n + 1) reason)) r now new → Told which hands rows r old new
-told-no which hands rows progress given paired tracked old now new n m next reason r h gives breaks same puts =
-    told-verdict which hands rows progress paired tracked old now new n m h s.all (No (n + 1) reason) r s.is_known (given_of_some_text s refl (given-more h.items progress given next h.are_given gives).can_be) (next ∷ s.rest.records, split) is (let e = h.number in omega arith) same puts
+unfoldable pub told-no : {R : Type 0} {which : View} {hands : Hands} {rows : Option Rows} {j : Judging R} {given : Progress R} {old now new : Option (List ℕ)} {m : ℕ} {next : LineByte} {reason : Reason} (r : Result Verdict JudgeError) → (h : SoFar which hands rows j old now m) → GivesRecord j.rows next given → Breaks hands h.items next reason
+    → IsSame (No given.given reason) r → Puts (line_of (No given.given reason)) r now new → Told which hands rows r old new
+told-no {hands = hands} {rows = rows} {j = j} {given = given} {next = next} {reason = reason} r h gives breaks same puts =
+    told-verdict h s.all (No given.given reason) r s.is_known (given_of_some_text s refl (given-more h.items j.rows given next h.are_given gives).can_be) (next ∷ s.rest.records, split) is number same puts
   where
+    number : given.given ≡ length h.items + 1
+    number = let n = h.number in let g = gives.given in omega arith
+
     s : Seen rows given.rows (h.items ++ next ∷ []) no_rows
-    s = seen rows given.rows (h.items ++ next ∷ []) no_rows (read-more rows progress.rows given.rows h.items next h.read gives.rows)
+    s = seen rows given.rows (h.items ++ next ∷ []) no_rows (read-more rows j.rows.rows given.rows h.items next h.read gives.rows)
 
     split : s.all.records ≡ h.items ++ next ∷ s.rest.records
     split = records_are s ∙ append_assoc h.items (next ∷ []) s.rest.records
 
-    is : IsFirstBreak hands s.all.records (n + 1) reason
-    is = record { before = h.items; next = next; after = s.rest.records; split = split; number = let e = h.number in omega arith; breaks = breaks }
+    is : IsFirstBreak hands s.all.records given.given reason
+    is = record { before = h.items; next = next; after = s.rest.records; split = split; number = number; breaks = breaks }
 
 -- at want of memory
-pub told-memory : {R : Type 0} (which : View) (hands : Hands) (rows : Option Rows) (progress : Progress R) (paired : Paired) (tracked : Tracked) (old now : Option (List ℕ)) (n m : ℕ) → SoFar which hands rows progress paired tracked old now n m → Told which hands rows (Err error.OutOfMemory) old now
-told-memory which hands rows progress paired tracked old now n m h =
-    let s = seen rows progress.rows h.items no_rows h.read in
-    told_after which hands rows progress paired tracked old now now n m h s.all (Err error.OutOfMemory) s.is_known (given_of_some_text s refl h.are_given.can_be) (starts s) tt h.wrote
+pub told-memory : {R : Type 0} {which : View} {hands : Hands} {rows : Option Rows} {j : Judging R} {old now : Option (List ℕ)} {m : ℕ} → SoFar which hands rows j old now m → Told which hands rows (Err error.OutOfMemory) old now
+told-memory {rows = rows} {j = j} h =
+    let s = seen rows j.rows.rows h.items no_rows h.read in
+    told_after h s.all (Err error.OutOfMemory) s.is_known (given_of_some_text s refl h.are_given.can_be) (starts s) tt h.wrote
 
 -- at a refusal of the capture
-pub told-refusal : {R : Type 0} (which : View) (hands : Hands) (rows : Option Rows) (progress given : Progress R) (paired : Paired) (tracked : Tracked) (old now : Option (List ℕ)) (n m : ℕ) (e : CaptureError) (x : JudgeError) → SoFar which hands rows progress paired tracked old now n m → GivesRefusal progress e given → x ≡ refusal_of e → Told which hands rows (Err x) old now
-told-refusal which hands rows progress given paired tracked old now n m e x h refusal same =
+pub told-refusal : {R : Type 0} {which : View} {hands : Hands} {rows : Option Rows} {j : Judging R} {given : Progress R} {old now : Option (List ℕ)} {m : ℕ} {e : CaptureError} {x : JudgeError} → SoFar which hands rows j old now m → GivesRefusal j.rows e given → x ≡ refusal_of e → Told which hands rows (Err x) old now
+told-refusal {which = which} {hands = hands} {rows = rows} {j = j} {given = given} {old = old} {now = now} {e = e} {x = x} h refusal same =
     refused (λ y. Told which hands rows (Err y) old now) e x same
-    (told_after which hands rows progress paired tracked old now now n m h s.all (Err (error.Capture e)) s.is_known of_a_text (starts s) (answer_of-capture e (IsTheAnswer hands s.all) (λ t. the_answer hands s.all (unreadable e) (is t)))
-    (refused-after progress given e h.items refusal (h.given ∙ h.number), h.wrote))
-    (told-memory which hands rows progress paired tracked old now n m h)
+    (told_after h s.all (Err (error.Capture e)) s.is_known of_a_text (starts s) (answer_of-capture e (IsTheAnswer hands s.all) (λ t. the_answer hands s.all (unreadable e) (is t)))
+    (refused-after j.rows given e h.items refusal h.number, h.wrote))
+    (told-memory h)
   where
     -- what a refusal leaves where nothing is known of the rows: the bad row, where it is a fault of the text
     mine : Bool → Rows
     mine true = bad_row e.kind e.row
     mine false = no_rows
 
-    s : Seen rows progress.rows h.items (mine (is_of_text e.kind))
-    s = seen rows progress.rows h.items (mine (is_of_text e.kind)) h.read
+    s : Seen rows j.rows.rows h.items (mine (is_of_text e.kind))
+    s = seen rows j.rows.rows h.items (mine (is_of_text e.kind)) h.read
 
     no_records : (b : Bool) → (mine b).records ≡ []
     no_records true = refl
     no_records false = refl
 
     can : (b : Bool) → is_of_text e.kind ≡ b → CanBeRows (record { records = h.items; fault = (mine b).fault })
-    can true t = given-refused h.items progress given e h.are_given h.is_reading refusal t
+    can true t = given-refused h.items j.rows given e h.are_given h.is_reading refusal t
     can false t = h.are_given.can_be
 
     of_a_text : IfNone rows (IsOfSomeText s.all)
@@ -199,31 +203,32 @@ told-refusal which hands rows progress given paired tracked old now n m e x h re
         let left : s.rest ≡ bad_row e.kind e.row = rest_has (λ rest. rest ≡ bad_row e.kind e.row) s (ap mine t) (refusal.fault t) in
         let records : s.all.records ≡ h.items = records_are s ∙ ap (λ (x : Rows). h.items ++ x.records) left ∙ append-nil h.items in (
           fault_is s ∙ ap (λ (x : Rows). x.fault) left,
-          record { exchanges = h.cut_exchanges; tail = paired.tail; cut = subst (λ (l : List LineByte). Cut l h.cut_exchanges paired.tail) (sym records) h.cut; run = h.run },
+          record { exchanges = h.cut_exchanges; tail = j.pairer.tail; cut = subst (λ (l : List LineByte). Cut l h.cut_exchanges j.pairer.tail) (sym records) h.cut; run = h.run },
         )
 
 -- where the line of an exchange was not written whole
-pub told-line : {R : Type 0} (which : View) (hands : Hands) (rows : Option Rows) (progress given : Progress R) (paired next : Paired) (tracked observed : Tracked) (old now new : Option (List ℕ)) (n m : ℕ) (r : LineByte) (e : Exchange) (x : JudgeError) → (h : SoFar which hands rows progress paired tracked old now n m) → GivesRecord progress r given → Takes paired r (step.Exchange e) next
-    → Follows hands (h.cut_exchanges ++ e ∷ []) observed → HasRun hands (h.cut_exchanges ++ e ∷ []) → Explains which hands (n + 1) e (Possible observed.states) (Err x) now new → Told which hands rows (Err x) old new
-told-line which hands rows progress given paired next tracked observed old now new n m r e (error.Capture c) h gives takes follows run line = absurd line.puts
-told-line which hands rows progress given paired next tracked observed old now new n m r e error.OutOfMemory h gives takes follows run line =
-    let s = seen rows progress.rows h.items no_rows h.read in
-    told_after which hands rows progress paired tracked old now new n m h s.all (Err error.OutOfMemory) s.is_known (given_of_some_text s refl h.are_given.can_be) (starts s) tt (none_after old now new h.text h.wrote line.puts)
-told-line which hands rows progress given paired next tracked observed old now new n m r e error.Write h gives takes follows run line =
-    let s = seen rows given.rows (h.items ++ r ∷ []) no_rows (read-more rows progress.rows given.rows h.items r h.read gives.rows) in
+pub told-line : {R : Type 0} {which : View} {hands : Hands} {rows : Option Rows} {j k : Judging R} {old now new : Option (List ℕ)} {m : ℕ} {e : Exchange} (x : JudgeError) → (h : SoFar which hands rows j old now m) → Feeds j k (step.Exchange e) → Follows hands (h.cut_exchanges ++ e ∷ []) k.tracker
+    → HasRun hands (h.cut_exchanges ++ e ∷ []) → Explains which hands k.rows.given e (Possible k.tracker.states) (Err x) now new → Told which hands rows (Err x) old new
+told-line (error.Capture c) h feeds follows run line = absurd line.puts
+told-line {rows = rows} {j = j} {old = old} {now = now} {new = new} error.OutOfMemory h feeds follows run line =
+    let s = seen rows j.rows.rows h.items no_rows h.read in
+    told_after h s.all (Err error.OutOfMemory) s.is_known (given_of_some_text s refl h.are_given.can_be) (starts s) tt (none_after old now new h.text h.wrote line.puts)
+told-line {rows = rows} {j = j} {k = k} {old = old} {now = now} {new = new} {e = e} error.Write h feeds follows run line =
+    let r = feeds.line_byte in
+    let s = seen rows k.rows.rows (h.items ++ r ∷ []) no_rows (read-more rows j.rows.rows k.rows.rows h.items r h.read feeds.gives.rows) in
     record {
       rows = s.all;
       is_known = s.is_known;
-      of_a_text = given_of_some_text s refl (given-more h.items progress given r h.are_given gives).can_be;
+      of_a_text = given_of_some_text s refl (given-more h.items j.rows k.rows r h.are_given feeds.gives).can_be;
       answer = tt;
       items = h.items ++ r ∷ [];
       start = starts s;
       exchanges = h.cut_exchanges ++ e ∷ [];
-      tail = next.tail;
-      cut = cut-after h.items h.cut_exchanges r (step.Exchange e) paired next h.cut takes;
+      tail = k.pairer.tail;
+      cut = cut-after h.items h.cut_exchanges h.cut feeds.takes;
       run = run;
       text = h.text ++ line.line;
-      explained = shown-more which hands rows progress paired next tracked observed old now r e n m line.line h takes follows line.is_line;
+      explained = shown-more line.line h feeds follows line.is_line;
       written = inl (part_after old now new h.text line.line h.wrote line.puts);
     }
 

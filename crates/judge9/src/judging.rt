@@ -100,7 +100,7 @@ fn judge_rows<R: Read + Drop, W: Write>(
     view: View,
     hands: Hands,
 ) -> Result<Verdict, JudgeError>
-    requires { IsFresh hands judging.old.rows judging.old.pairer judging.old.tracker judging.old.records }
+    requires { IsFresh hands judging.old }
     ensures { Judges view hands judging.old.rows.rows result (W.contents writer.old) (W.contents writer.new) }
 {
     let mut exchanges = 0u32;
@@ -113,13 +113,13 @@ fn judge_rows<R: Read + Drop, W: Write>(
                     writer,
                     view,
                     hands,
-                    judging.records,
+                    judging.rows.given(),
                     &exchange,
                     &judging.tracker,
                 )?;
             }
-            Turn::NoRun(_) => return tell_no(line, writer, judging.records, Reason::NoRun),
-            Turn::Break(reason, _) => return tell_no(line, writer, judging.records, reason),
+            Turn::NoRun(_) => return tell_no(line, writer, judging.rows.given(), Reason::NoRun),
+            Turn::Break(reason, _) => return tell_no(line, writer, judging.rows.given(), reason),
             Turn::End => break 'rows,
         }
     }
@@ -128,7 +128,7 @@ fn judge_rows<R: Read + Drop, W: Write>(
         line,
         writer,
         Verdict::Yes {
-            records: judging.records,
+            records: judging.rows.given(),
             exchanges,
             tail,
         },

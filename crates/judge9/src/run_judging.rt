@@ -64,7 +64,7 @@ fn judge_rows<R: Read + Drop>(
     judging: &mut Judging<R>,
     hands: Hands,
 ) -> Result<RunVerdict, JudgeError>
-    requires { IsFresh hands judging.old.rows judging.old.pairer judging.old.tracker judging.old.records }
+    requires { IsFresh hands judging.old }
     ensures { JudgesRun hands judging.old.rows.rows result }
 {
     let mut trail = Trail::new(alloc);

@@ -17,7 +17,7 @@ pub(crate) fn keep_trail<R: Read + Drop>(
     trail: &mut Trail,
     hands: Hands,
 ) -> Result<Ending, JudgeError>
-    requires fresh { IsFresh hands judging.old.rows judging.old.pairer judging.old.tracker judging.old.records }
+    requires fresh { IsFresh hands judging.old }
     requires no_exchange { trail.old.exchanges.items ≡ [] }
     requires no_tracker { trail.old.trackers.items ≡ [] }
     ensures { KeepsTrail hands judging.old.rows.rows result judging.new.pairer.tail trail.new.exchanges.items trail.new.trackers.items judging.new.tracker }
@@ -32,12 +32,13 @@ pub(crate) fn keep_trail<R: Read + Drop>(
             Turn::NoRun(exchange) => {
                 trail.push(exchange)?;
                 return Ok(Ending::NoRun {
-                    at: judging.records,
+                    at: judging.rows.given(),
                 });
             }
             Turn::Break(reason, breaking) => {
+                let at = judging.rows.given();
                 return Ok(Ending::Break {
-                    at: judging.records,
+                    at,
                     reason,
                     breaking,
                 });
@@ -46,7 +47,7 @@ pub(crate) fn keep_trail<R: Read + Drop>(
         }
     }
     Ok(Ending::End {
-        records: judging.records,
+        records: judging.rows.given(),
         tail: judging.pairer.tail_len() as u32,
     })
 }

@@ -4,7 +4,7 @@
 ghost use Rattle.std.specs.Prelude.{◌≡◌, ◌≤◌, IfErr, IfOk, None, option_map};
 ghost use Rattle.std.specs.Option.{ForSome};
 ghost use Rattle.capture9.specs.Rows.{rows_of};
-ghost use Rattle.judge9.specs.Working.Turn.{ComesTo, IsFresh};
+ghost use Rattle.judge9.specs.Working.Turn.{ComesTo, IsFresh, IsObserved};
 
 use crate::error::JudgeError;
 use block9::{Exchange, Pairer, Reason, Step};
@@ -37,14 +37,12 @@ pub(crate) struct Judging<R: Read + Drop> {
     pub(crate) pairer: Pairer,
     /// The states that the deck could be in.
     pub(crate) tracker: Tracker<SpanSet>,
-    /// How many records there were.
-    pub(crate) records: u32,
 }
 
 impl<R: Read + Drop> Judging<R> {
     /// The judging of what the reader gives. It reads nothing yet; an error comes where memory is refused.
     pub(crate) fn new(alloc: Global, reader: R, hands: Hands) -> Result<Judging<R>, AllocError>
-        ensures fresh { IfOk result (λ j. IsFresh hands j.rows j.pairer j.tracker j.records) }
+        ensures fresh { IfOk result (IsFresh hands) }
         ensures rows { IfOk result (λ j. j.rows.rows ≡ option_map rows_of (R.remaining reader)) }
     {
         let tracker = Tracker::new(alloc, hands)?;
@@ -52,7 +50,6 @@ impl<R: Read + Drop> Judging<R> {
             rows: Records::new(alloc, reader),
             pairer: Pairer::new(),
             tracker,
-            records: 0,
         })
     }
 
@@ -62,22 +59,31 @@ impl<R: Read + Drop> Judging<R> {
     pub(crate) fn next(&mut self) -> Result<Turn, JudgeError>
         requires no_reason { self.old.pairer.reason ≡ None }
         requires in_order { ForSome self.old.pairer.last_time (λ time. time ≤ self.old.rows.last_time) }
-        requires number { self.old.records ≡ self.old.rows.given }
-        ensures { ComesTo self.old.rows self.old.pairer self.old.tracker self.old.records result
-            self.new.rows self.new.pairer self.new.tracker self.new.records }
+        ensures { ComesTo self.old result self.new }
     {
-        let exchange = 'open: loop {
-            let Some(line_byte) = self.rows.next()? else {
-                return Ok(Turn::End);
+        'open: loop {
+            // by arms, since `?` would put each record aside
+            let line_byte = match self.rows.next() {
+                Ok(Some(line_byte)) => line_byte,
+                Ok(None) => return Ok(Turn::End),
+                Err(error) => return Err(JudgeError::from(error)),
             };
-            self.records += 1;
             match self.pairer.feed(line_byte) {
-                Ok(Step::Waiting) => continue 'open,
-                Ok(Step::Command) => continue 'open,
-                Ok(Step::Exchange(exchange)) => break 'open exchange,
+                Ok(Step::Waiting) => {}
+                Ok(Step::Command) => {}
+                Ok(Step::Exchange(exchange)) => return self.observe(exchange),
                 Err(reason) => return Ok(Turn::Break(reason, line_byte)),
             }
-        };
+        }
+    }
+
+    /// Whether a state of the deck remains with this exchange.
+    #[inline(always)] // as above
+    fn observe(&mut self, exchange: Exchange) -> Result<Turn, JudgeError>
+        ensures rows { self.new.rows ≡ self.old.rows }
+        ensures pairer { self.new.pairer ≡ self.old.pairer }
+        ensures observed { IsObserved self.old.tracker exchange result self.new.tracker }
+    {
         match self.tracker.observe(&exchange.command, &exchange.reply) {
             Ok(true) => Ok(Turn::Exchange(exchange)),
             Ok(false) => Ok(Turn::NoRun(exchange)),

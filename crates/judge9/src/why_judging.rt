@@ -76,7 +76,7 @@ fn judge_rows<R: Read + Drop>(
     judging: &mut Judging<R>,
     hands: Hands,
 ) -> Result<WhyVerdict, JudgeError>
-    requires { IsFresh hands judging.old.rows judging.old.pairer judging.old.tracker judging.old.records }
+    requires { IsFresh hands judging.old }
     ensures { JudgesWhy hands judging.old.rows.rows result }
 {
     let mut trail = Trail::new(alloc);

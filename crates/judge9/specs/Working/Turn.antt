@@ -1,15 +1,14 @@
--- What a judging comes to next: what rows do to those that are still to come, to the pairer, to the tracker and to the number
--- of records.
-use Rattle.std.specs.Prelude.{◌≡◌, ◌↔◌, ◌⊎◌, ⊤, ℕ, zero, suc, ◌+◌, Bool, true, false, IsTrue, [], Result, Ok, Err, None}
+-- What a judging comes to next: what rows do to those that are still to come, to the pairer and to the tracker.
+use Rattle.std.specs.Prelude.{◌≡◌, ◌↔◌, ◌⊎◌, ⊤, ℕ, zero, suc, Bool, true, false, IsTrue, [], Result, Ok, Err, None}
 use Rattle.capture9.specs.declared.error.CaptureError.{CaptureError}
 use Rattle.capture9.specs.declared.line_byte.LineByte.{LineByte}
 use Rattle.capture9.specs.declared.records.Standing.TheVariants.{Reading}
-use Rattle.capture9.specs.Records.{GivesEnd, GivesRecord, GivesRefusal, Progress}
+use Rattle.capture9.specs.Records.{GivesEnd, GivesRecord, GivesRefusal}
 use Rattle.block9.specs.declared.pairer.Exchange.{Exchange}
 use Rattle.block9.specs.declared.pairer.Step.{Step}
 use Rattle.block9.specs.declared.pairer.Step.TheVariants as step
 use Rattle.block9.specs.declared.reason.Reason.{Reason}
-use Rattle.block9.specs.Pairer.{Paired, Refuses, Takes}
+use Rattle.block9.specs.Pairer.{Refuses, Takes}
 use Rattle.deck9.specs.declared.state.Hands.{Hands}
 use Rattle.deck9.specs.declared.state.State.{State}
 use Rattle.deck9.specs.State.{IsFirst}
@@ -17,26 +16,25 @@ use Rattle.deck9.specs.Step.{AreReached, Exchanges}
 use Rattle.track9.specs.Tracker.{Possible, Tracked}
 use Rattle.judge9.specs.declared.error.JudgeError.{JudgeError}
 use Rattle.judge9.specs.declared.error.JudgeError.TheVariants as error
+use Rattle.judge9.specs.declared.turn.Judging.{Judging}
 use Rattle.judge9.specs.declared.turn.Turn.{Turn}
 use Rattle.judge9.specs.declared.turn.Turn.TheVariants as turn
 use Rattle.judge9.specs.Error.{refusal_of}
 
 -- nothing was judged yet
-pub record IsFresh {R : Type 0} (h : Hands) (rows : Progress R) (paired : Paired) (tracked : Tracked) (n : ℕ) : Type 0 where
-  pub none_given : rows.given ≡ 0
-  pub no_time : rows.last_time ≡ 0
-  pub is_reading : rows.standing ≡ Reading
-  pub fed_nothing : paired ≡ record { tail = []; last_time = None; reason = None }
-  pub states : (s : State) → Possible tracked.states s ↔ IsFirst h s
-  pub hands : tracked.hands ≡ h
-  pub none_counted : n ≡ 0
+pub record IsFresh {R : Type 0} (h : Hands) (j : Judging R) : Type 0 where
+  pub none_given : j.rows.given ≡ 0
+  pub no_time : j.rows.last_time ≡ 0
+  pub is_reading : j.rows.standing ≡ Reading
+  pub fed_nothing : j.pairer ≡ record { tail = []; last_time = None; reason = None }
+  pub states : (s : State) → Possible j.tracker.states s ↔ IsFirst h s
+  pub hands : j.tracker.hands ≡ h
 
 -- a record was given, and the pairer took this step with it
-pub record Feeds {R : Type 0} (rows after : Progress R) (paired next : Paired) (n m : ℕ) (s : Step) : Type 0 where
+pub record Feeds {R : Type 0} (j k : Judging R) (s : Step) : Type 0 where
   pub line_byte : LineByte
-  pub gives : GivesRecord rows line_byte after
-  pub takes : Takes paired line_byte s next
-  pub number : m ≡ n + 1
+  pub gives : GivesRecord j.rows line_byte k.rows
+  pub takes : Takes j.pairer line_byte s k.pairer
 
 -- a step that ends no exchange
 abbrev pub IsOpen : Step → Type 0
@@ -45,10 +43,10 @@ IsOpen step.Command = ⊤
 IsOpen (step.Exchange e) = ⊥
 
 -- this record was given, and broke this rule
-pub record Spoils {R : Type 0} (rows after : Progress R) (paired next : Paired) (n m : ℕ) (reason : Reason) (r : LineByte) : Type 0 where
-  pub gives : GivesRecord rows r after
-  pub refuses : Refuses paired r reason next
-  pub number : m ≡ n + 1
+pub record Spoils {R : Type 0} (j k : Judging R) (reason : Reason) (r : LineByte) : Type 0 where
+  pub gives : GivesRecord j.rows r k.rows
+  pub refuses : Refuses j.pairer r reason k.pairer
+  pub same_tracker : k.tracker ≡ j.tracker
 
 -- an exchange was observed, and this is whether a state remains
 pub record Observes (old new : Tracked) (e : Exchange) (b : Bool) : Type 0 where
@@ -56,33 +54,43 @@ pub record Observes (old new : Tracked) (e : Exchange) (b : Bool) : Type 0 where
   pub hands : new.hands ≡ old.hands
   pub remains : IsTrue b ↔ ((s : State) × Possible new.states s)
 
+-- what the tracker makes of an exchange
+abbrev pub IsObserved : Tracked → Exchange → Result Turn JudgeError → Tracked → Type 0
+IsObserved old e (Ok (turn.Exchange f)) new = (f ≡ e) × Observes old new e true
+IsObserved old e (Ok (turn.NoRun f)) new = (f ≡ e) × Observes old new e false
+IsObserved old e (Ok (turn.Break reason r)) new = ⊥
+IsObserved old e (Ok turn.End) new = ⊥
+IsObserved old e (Err x) new = x ≡ error.OutOfMemory
+
 -- there was no row
-pub record EndsRows {R : Type 0} (rows after : Progress R) (paired next : Paired) (tracked seen : Tracked) (n m : ℕ) : Type 0 where
-  pub ends : GivesEnd rows after
-  pub same_pairer : next ≡ paired
-  pub same_tracker : seen ≡ tracked
-  pub number : m ≡ n
+pub record EndsRows {R : Type 0} (j k : Judging R) : Type 0 where
+  pub ends : GivesEnd j.rows k.rows
+  pub same_pairer : k.pairer ≡ j.pairer
+  pub same_tracker : k.tracker ≡ j.tracker
+
+-- a row was read whose record ends no exchange
+pub record Waits {R : Type 0} (j k : Judging R) : Type 0 where
+  pub step : Step
+  pub feeds : Feeds j k step
+  pub is_open : IsOpen step
+  pub same_tracker : k.tracker ≡ j.tracker
 
 -- this many rows were read, whose records end no exchange
-abbrev pub AreOpen : {R : Type 0} → ℕ → Progress R → Paired → ℕ → Progress R → Paired → ℕ → Type 0
-AreOpen zero rows paired n after next m = (after ≡ rows) × (next ≡ paired) × (m ≡ n)
-AreOpen {R} (suc k) rows paired n after next m = (mid : Progress R) × (p : Paired) × (x : ℕ) × (s : Step) × AreOpen k rows paired n mid p x × IsOpen s × Feeds mid after p next x m s
+abbrev pub AreOpen : {R : Type 0} → ℕ → Judging R → Judging R → Type 0
+AreOpen zero j k = k ≡ j
+AreOpen {R} (suc n) j k = (mid : Judging R) × AreOpen n j mid × Waits mid k
 
 -- what the next row does
-abbrev pub Turned : {R : Type 0} → Progress R → Paired → Tracked → ℕ → Result Turn JudgeError → Progress R → Paired → Tracked → ℕ → Type 0
-Turned rows paired tracked n (Ok (turn.Exchange e)) after next seen m = Feeds rows after paired next n m (step.Exchange e) × Observes tracked seen e true
-Turned rows paired tracked n (Ok (turn.NoRun e)) after next seen m = Feeds rows after paired next n m (step.Exchange e) × Observes tracked seen e false
-Turned rows paired tracked n (Ok (turn.Break reason r)) after next seen m = Spoils rows after paired next n m reason r × (seen ≡ tracked)
-Turned rows paired tracked n (Ok turn.End) after next seen m = EndsRows rows after paired next tracked seen n m
-Turned rows paired tracked n (Err x) after next seen m = (x ≡ error.OutOfMemory) ⊎ ((e : CaptureError) × GivesRefusal rows e after × (x ≡ refusal_of e))
+abbrev pub Turned : {R : Type 0} → Judging R → Result Turn JudgeError → Judging R → Type 0
+Turned j (Ok (turn.Exchange e)) k = Feeds j k (step.Exchange e) × Observes j.tracker k.tracker e true
+Turned j (Ok (turn.NoRun e)) k = Feeds j k (step.Exchange e) × Observes j.tracker k.tracker e false
+Turned j (Ok (turn.Break reason r)) k = Spoils j k reason r
+Turned j (Ok turn.End) k = EndsRows j k
+Turned j (Err x) k = (x ≡ error.OutOfMemory) ⊎ ((e : CaptureError) × GivesRefusal j.rows e k.rows × (x ≡ refusal_of e))
 
 -- rows were read whose records end no exchange, and then came this
-pub record ComesTo {R : Type 0} (rows : Progress R) (paired : Paired) (tracked : Tracked) (n : ℕ) (result : Result Turn JudgeError) (after : Progress R) (next : Paired) (seen : Tracked) (m : ℕ) : Type 0 where
+pub record ComesTo {R : Type 0} (j : Judging R) (result : Result Turn JudgeError) (k : Judging R) : Type 0 where
   pub many : ℕ
-  pub front : Progress R
-  pub fed : Paired
-  pub count : ℕ
-  pub kept : Tracked
-  pub are_open : AreOpen many rows paired n front fed count
-  pub same : kept ≡ tracked
-  pub turned : Turned front fed kept count result after next seen m
+  pub front : Judging R
+  pub are_open : AreOpen many j front
+  pub turned : Turned front result k

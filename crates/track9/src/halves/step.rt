@@ -78,6 +78,7 @@ impl<S: TimeSet> Halves<S> {
     }
 
     /// The states after a drift and an effect, which a deck in local may leave undone, and any where `may_stay`.
+    #[inline(always)] // else the effect is handed on through memory
     fn apply(&mut self, alloc: Global, may_stay: bool, effect: &Effect) -> Result<(), AllocError>
         requires { TwoWhole self.old }
         ensures ok { OnOk result (HasEffect may_stay effect.now (two_drifted self.old) self.new) }

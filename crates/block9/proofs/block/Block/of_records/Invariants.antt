@@ -1,7 +1,17 @@
-use Rattle.std.proofs.Common.{◌≡◌, take}
+use Rattle.std.proofs.Common.{◌≡◌, ℕ, ◌/◌, List, slice_index_or, take}
+use Rattle.capture9.specs.declared.line_byte.LineByte.{LineByte}
+use Rattle.capture9.specs.declared.line_byte.Wire.TheVariants.{Controller}
 use Rattle.block9.specs.Line.{bytes_of}
 use Rattle.block9.proofs.block.Block.of_records.Given as goal
 
--- the data so far
+-- the byte of a record of these
+abbrev byte_at : List LineByte → ℕ → ℕ
+byte_at records place = (slice_index_or records place (record { time_us = 0; wire = Controller; byte = 0 })).byte
+
+-- the group, the code, and the data so far
 abbrev pub invariant-loop-record : goal.invariant-loop-record
-invariant-loop-record l = l.bytes.items ≡ bytes_of (take l.record-index l.record-items)
+invariant-loop-record l = record {
+  group : l.block.group ≡ byte_at l.fn.records 0 / 16;
+  code : l.block.code ≡ byte_at l.fn.records 1;
+  so_far : l.block.bytes.items ≡ bytes_of (take l.record-index l.record-items);
+}
