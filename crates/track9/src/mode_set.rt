@@ -42,10 +42,17 @@ impl ModeSet {
     const EJECT: ModeSet = ModeSet(0x200);
 
     /// The modes on the way to REC: STOP and PLAY.
-    const BEFORE_REC: ModeSet = ModeSet(0x003);
+    const BEFORE_REC: ModeSet = ModeSet(ModeSet::STOP.0 | ModeSet::PLAY.0);
 
     /// The modes on the way to CUED: STOP, and each in which the tape moves, but REC.
-    const BEFORE_CUED: ModeSet = ModeSet(0x0FB);
+    const BEFORE_CUED: ModeSet = ModeSet(
+        ModeSet::BEFORE_REC.0
+            | ModeSet::FAST_FORWARD.0
+            | ModeSet::REWIND.0
+            | ModeSet::SHUTTLE.0
+            | ModeSet::JOG.0
+            | ModeSet::VAR.0,
+    );
 
     /// The flags in the order of their bits.
     const FLAGS: &'static [Flag<ModeSet>] = &[
