@@ -60,21 +60,6 @@ memory hands rows v j = judges-memory view.Verdict hands rows None None (told_le
 
 -- ---- a run
 
-pub run-memory : (hands : Hands) (rows : Option Rows) (e : Ending) (left : List LineByte) (es : List Exchange) (ts : List Tracked) (t : Tracked) → KeepsTrail hands rows (Ok e) left es ts t → JudgesRun hands rows (Err error.OutOfMemory)
-run-memory hands rows e left es ts t k = record { judges = memory hands rows _ k.judges; run = tt; no_write = λ q. cc }
-
-pub run-stopped : (hands : Hands) (rows : Option Rows) (x : JudgeError) (left : List LineByte) (es : List Exchange) (ts : List Tracked) (t : Tracked) → KeepsTrail hands rows (Err x) left es ts t → JudgesRun hands rows (Err x)
-run-stopped hands rows x left es ts t k = record { judges = k.judges; run = tt; no_write = λ q. k.no_write (again x q) }
-  where
-    again : (x : JudgeError) → (let r : Result RunVerdict JudgeError = Err x in r) ≡ Err error.Write → (let r : Result Ending JudgeError = Err x in r) ≡ Err error.Write
-    again x q = cc
-
-pub run-break : (hands : Hands) (rows : Option Rows) (at : ℕ) (reason : Reason) (r : LineByte) (left : List LineByte) (es : List Exchange) (ts : List Tracked) (t : Tracked) → KeepsTrail hands rows (Ok (ending.Break at reason r)) left es ts t → JudgesRun hands rows (Ok (run.No at reason))
-run-break hands rows at reason r left es ts t k = record { judges = k.judges; run = tt; no_write = λ q. cc }
-
-pub run-no_run : (hands : Hands) (rows : Option Rows) (at : ℕ) (left : List LineByte) (es : List Exchange) (ts : List Tracked) (t : Tracked) → KeepsTrail hands rows (Ok (ending.NoRun at)) left es ts t → JudgesRun hands rows (Ok (run.No at NoRun))
-run-no_run hands rows at left es ts t k = record { judges = k.judges; run = tt; no_write = λ q. cc }
-
 pub run-yes : (hands : Hands) (rows : Option Rows) (n m : ℕ) (left : List LineByte) (exchanges given : Vec Exchange) (ts : List Tracked) (t : Tracked) (states : Vec State) → KeepsTrail hands rows (Ok (ending.End n m)) left exchanges.items ts t → IsRun t.hands exchanges.items states.items → given ≡ exchanges → JudgesRun hands rows (Ok (run.Yes n m given states))
 run-yes hands rows n m left exchanges given ts t states k is_run same =
     subst (λ (v : Vec Exchange). JudgesRun hands rows (Ok (run.Yes n m v states))) (sym same)
@@ -87,19 +72,6 @@ run-nothing hands rows =
     record { rows = told.rows; is_known = told.is_known; of_a_text = told.of_a_text; answer = tt; run = tt }
 
 -- ---- why no run remains
-
-pub why-memory : (hands : Hands) (rows : Option Rows) (e : Ending) (left : List LineByte) (es : List Exchange) (ts : List Tracked) (t : Tracked) → KeepsTrail hands rows (Ok e) left es ts t → JudgesWhy hands rows (Err error.OutOfMemory)
-why-memory hands rows e left es ts t k = record { judges = memory hands rows _ k.judges; why = tt; no_write = λ q. cc }
-
-pub why-stopped : (hands : Hands) (rows : Option Rows) (x : JudgeError) (left : List LineByte) (es : List Exchange) (ts : List Tracked) (t : Tracked) → KeepsTrail hands rows (Err x) left es ts t → JudgesWhy hands rows (Err x)
-why-stopped hands rows x left es ts t k = record { judges = k.judges; why = tt; no_write = λ q. k.no_write (again x q) }
-  where
-    again : (x : JudgeError) → (let r : Result WhyVerdict JudgeError = Err x in r) ≡ Err error.Write → (let r : Result Ending JudgeError = Err x in r) ≡ Err error.Write
-    again x q = cc
-
-pub why-yes : (hands : Hands) (rows : Option Rows) (n m k : ℕ) (left : List LineByte) (es : List Exchange) (ts : List Tracked) (t : Tracked) → KeepsTrail hands rows (Ok (ending.End n m)) left es ts t → k ≡ length es → JudgesWhy hands rows (Ok (why.Yes n k m))
-why-yes hands rows n m k left es ts t keeps same =
-    subst (λ (x : ℕ). JudgesWhy hands rows (Ok (why.Yes n x m))) (sym same) (record { judges = keeps.judges; why = tt; no_write = λ q. cc })
 
 pub why-break : (hands : Hands) (rows : Option Rows) (at : ℕ) (reason : Reason) (r : LineByte) (left : List LineByte) (es : List Exchange) (ts : List Tracked) (t : Tracked) (tail : Vec LineByte) (command : Option Command) → KeepsTrail hands rows (Ok (ending.Break at reason r)) left es ts t
     → tail.items ≡ left → IsMeaning (bytes_of (asked_of left)) command → JudgesWhy hands rows (Ok (why.Break at reason tail command r))

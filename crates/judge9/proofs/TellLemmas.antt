@@ -50,11 +50,6 @@ use Rattle.judge9.proofs.SoFarSteps.{cut-after, explained-start, read-more, show
 pub the_answer : (hands : Hands) (rows : Rows) (answer : Answer) → IsAnswer hands rows answer → IsTheAnswer hands rows answer
 the_answer hands rows answer h = record { is_answer = h; only = λ other k. answer_once hands rows other answer k h }
 
--- what is said of all the rows is said of the text's rows
-pub over_text : (o : Option (List ℕ)) (rows : Option Rows) (P : Rows → Type 0) → rows ≡ option_map rows_of o → IfSome rows P → IfSome o (λ text. P (rows_of text))
-over_text None rows P e h = tt
-over_text (Some text) rows P e h = let Q : Option Rows → Type 0 = λ r. IfSome r P in subst Q e h
-
 -- a refusal that was told
 answer_of-capture : (e : CaptureError) (P : Answer → Type 0) → (IsTrue (is_of_text e.kind) → P (unreadable e)) → IfSome (answer_of (Err (error.Capture e))) P
 answer_of-capture e P f = by (is_of_text e.kind) f

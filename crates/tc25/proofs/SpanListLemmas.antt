@@ -28,14 +28,6 @@ around_suc (l ∷ ls) (suc p) h = ap (λ xs. l ++ xs) (around_suc ls p (omega ar
 pub around : (ls : List (List Span)) (p : ℕ) → p < length ls → end_to_end ls ≡ end_to_end (take p ls) ++ (get_or ls p [] ++ end_to_end (drop (p + 1) ls))
 around ls p h = rw (add-one p) (around_suc ls p h)
 
-around_set_suc : (ls : List (List Span)) (p : ℕ) (xs : List Span) → p < length ls → end_to_end (set ls p xs) ≡ end_to_end (take p ls) ++ (xs ++ end_to_end (drop (suc p) ls))
-around_set_suc [] p xs h = absurd (omega arith)
-around_set_suc (l ∷ ls) zero xs h = refl
-around_set_suc (l ∷ ls) (suc p) xs h = ap (λ ys. l ++ ys) (around_set_suc ls p xs (omega arith)) ∙ sym (append_assoc l _ _)
-
-pub around_set : (ls : List (List Span)) (p : ℕ) (xs : List Span) → p < length ls → end_to_end (set ls p xs) ≡ end_to_end (take p ls) ++ (xs ++ end_to_end (drop (p + 1) ls))
-around_set ls p xs h = rw (add-one p) (around_set_suc ls p xs h)
-
 take_set_suc : (ls : List (List Span)) (p : ℕ) (xs : List Span) → p < length ls → end_to_end (take (suc p) (set ls p xs)) ≡ end_to_end (take p ls) ++ xs
 take_set_suc [] p xs h = absurd (omega arith)
 take_set_suc (l ∷ ls) zero xs h = append-nil xs
@@ -449,11 +441,6 @@ length_more vs i v h at = ap length (behind_more vs i v h at) ∙ length-append 
 pub spans_more : (vs : List (Vec Span Global)) (i : ℕ) (v : Vec Span Global) (xs ys whole : List Span) → i < length vs → v ≡ get_or vs i v → xs ++ end_to_end (drop i (lists_in vs)) ≡ whole → ys ≡ xs ++ v.items → ys ++ end_to_end (drop (i + 1) (lists_in vs)) ≡ whole
 spans_more vs i v xs ys whole h at kept is =
     rw is (append_assoc xs v.items _ ∙ ap (λ zs. xs ++ zs) (sym (behind_more vs i v h at)) ∙ kept)
-
-pub spans_all : (vs : List (Vec Span Global)) (n : ℕ) (xs whole : List Span) → length vs ≤ n → xs ++ end_to_end (drop n (lists_in vs)) ≡ whole → xs ≡ whole
-spans_all vs n xs whole le kept =
-    let none = drop_all n (lists_in vs) (omega (arith, lists_in-length vs)) in
-    sym (append-nil xs) ∙ ap (λ ls. xs ++ end_to_end ls) (sym none) ∙ kept
 
 -- ---- a frame added, and the list met by the next
 

@@ -482,18 +482,6 @@ canonical_take low (s ∷ xs) (suc n) c = (c.0, c.1, canonical_take (s.last + 2)
 pub canonical_front : (xs : List Span) (n : ℕ) → IsCanonical 0 xs → IsCanonical 0 (take n xs)
 canonical_front xs n c = canonical_take 0 xs n c
 
-pub canonical_rest : (xs : List Span) → IsCanonical 0 xs → IsCanonical 0 (drop 1 xs)
-canonical_rest [] c = tt
-canonical_rest (s ∷ xs) c = canonical_from 0 (s.last + 2) xs (omega arith) c.2
-
-pub without_first-dropped : (xs : List Span) (d : Span) → 0 < length xs → (get_or xs 0 d).last ≡ 0 → without_first xs ≡ drop 1 xs
-without_first-dropped [] d some at_edge = refl
-without_first-dropped (x ∷ xs) d some at_edge = rw (eq-eqb x.last 0 at_edge) refl
-
-pub without_first-kept : (xs : List Span) (d : Span) → 0 < length xs → ((get_or xs 0 d).last ≡ 0 → ⊥) → without_first xs ≡ xs
-without_first-kept [] d some after = refl
-without_first-kept (x ∷ xs) d some after = rw (ne_eqb x.last 0 after) refl
-
 -- ---- round the day
 
 moved_from-far_edge : (d : Direction) → moved_from d (far_edge_of d) ≡ edge_of d

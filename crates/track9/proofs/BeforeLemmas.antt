@@ -171,16 +171,6 @@ no_origin h v a dead off (s, there, (d, drift, fits)) = by s.panel refl
 
 -- ---- steps
 
--- a time that was read is the one that the bytes read as
-pub reads_time : (bytes : List ℕ) (read t : ℕ) → time_of bytes ≡ Some read → (read ≡ t) ↔ ReadsAs bytes t
-reads_time bytes read t found = (
-  λ same. ReadsAs-from_time_of bytes t (found ∙ ap Some same),
-  λ reads. some_same (sym found ∙ time_of-from_ReadsAs bytes t reads),
-)
-
-pub reads_none : (bytes : List ℕ) (t : ℕ) → time_of bytes ≡ None → ReadsAs bytes t → ⊥
-reads_none bytes t found reads = none_some (sym found ∙ time_of-from_ReadsAs bytes t reads)
-
 -- a reply that agrees with the state before agrees with the one after, and the other way round
 shows_after : (h : Hands) (c : Command) (reply : Block) (d t : State) → Does h (effect_of c) d t → Shows d c reply → Shows t c reply
 shows_after h c reply d t does shows = by (sense_of c) refl shows

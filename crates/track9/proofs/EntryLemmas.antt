@@ -204,9 +204,6 @@ some_allowed es h = elim (or_cases es.may_clear (not (is_nil (set.items es.times
 pub nothing_allowed : (es : Entries) → some_entry es ≡ false → (e : Entry) → Allows es e → ⊥
 nothing_allowed es none e a = false≢true (sym none ∙ allowed_some es e a)
 
-day_has : set.contains every_time 0 ≡ true
-day_has = day_in 0 (omega arith)
-
 becomes_some : (c : Change) (d : Entry) → (e : Entry) × Becomes c d e
 becomes_some SetSomewhere d = (At 0, (0, omega arith, refl))
 becomes_some (SetAt t) d = (At t, refl)

@@ -101,10 +101,6 @@ few_settled n p h = by _
     by true = h
     by false = few_no_states n
 
-pub few_if : (n : Presets) (b : Bool) (p q : PartStates) → FewIn n p → FewIn n q → FewIn n (if b then p else q)
-few_if n true p q h k = h
-few_if n false p q h k = k
-
 few_put_at : (n : Presets) (r q : Register) (es : Entries) (p : PartStates) → FewIn n p → FewTimes (count_of r n) es → FewTimes (count_of q n) (entries_of q (with_entries r es p))
 few_put_at n RegIn RegIn es p old new = new
 few_put_at n RegOut RegOut es p old new = new

@@ -34,12 +34,3 @@ leads Goes count keeps f h whole dead each = record {
 
 pub two_same : (g h : TwoParts) → g.remote ≡ h.remote → g.local ≡ h.local → g ≡ h
 two_same g h p q = ap (λ (r : PartStates). let k : TwoParts = record g { remote = r } in k) p ∙ ap (λ (l : PartStates). let k : TwoParts = record h { local = l } in k) q
-
--- the same by another name of what leads there
-pub leads_as : (Goes Other : State → State → Type 0) (count other : Presets → Presets) (h g : TwoParts) → ((s t : State) → Goes s t → Other s t) → ((s t : State) → Other s t → Goes s t) → ((n : Presets) → other n ≡ count n)
-    → LeadsOn Goes count h g → LeadsOn Other other h g
-leads_as Goes Other count other h g there back same by = record {
-  reached = λ pn. reached_by (InTwo pn h) (InTwo pn g) Goes Other there back (by.reached pn);
-  whole = by.whole;
-  few = λ n few. subst (λ m. TwoFew m g) (sym (same n)) (by.few n few);
-}

@@ -52,9 +52,5 @@ state_there p g m a b c d l pn pair in_a in_b in_c in_d =
 pub two_there : (h : TwoParts) (l pn : Bool) (s : State) → HasState (in_local h l) l pn s → InTwo pn h s
 two_there h l pn s there = (there.panel, subst (λ b. InPart (in_local h b) s) (sym there.local) there.inside)
 
--- both parts without states
-pub none_two : (h : TwoParts) → is_live h.remote ≡ false → is_live h.local ≡ false → some_two h ≡ false
-none_two h a b = rw (a, b) refl
-
 pub no_member : (v : StateSet) → some_two v.off ≡ false → is_panel_live v ≡ false → ((s : State) × Possible v s) → ⊥
 no_member v off on w = false≢true (sym (rw (off, on) refl) ∙ some_live v w.0 w.1)

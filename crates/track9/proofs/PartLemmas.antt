@@ -86,12 +86,6 @@ put_panel RegOut e s = refl
 put_panel RegAudioIn e s = refl
 put_panel RegAudioOut e s = refl
 
-pub put_pairs_same : (r : Register) (es : Entries) (p : PartStates) → (with_entries r es p).pairs ≡ p.pairs
-put_pairs_same RegIn es p = refl
-put_pairs_same RegOut es p = refl
-put_pairs_same RegAudioIn es p = refl
-put_pairs_same RegAudioOut es p = refl
-
 -- other pairs leave the registers
 pub same_entries : (r : Register) (p : PartStates) (q : List ModeSet) → entries_of r (with_pairs q p) ≡ entries_of r p
 same_entries RegIn p q = refl

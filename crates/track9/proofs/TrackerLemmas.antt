@@ -35,13 +35,6 @@ use Rattle.track9.proofs.WholeLemmas.{whole_in, whole_of}
 pub first_kept : (h : Hands) (n : Presets) (v : StateSet) → v ≡ first_states h → IsKept n v
 first_kept h n v e = subst (IsKept n) (sym e) (record { whole = first_whole h; few = first_few h n })
 
-pub first_hands : (h : Hands) (v : StateSet) → v ≡ first_states h → hands_of v ≡ h
-first_hands h v e = ap hands_of e ∙ by h
-  where
-    by : (h : Hands) → hands_of (first_states h) ≡ h
-    by hands.None = refl
-    by hands.Allowed = refl
-
 pub first_possible : (h : Hands) (v : StateSet) → v ≡ first_states h → (s : State) → Possible v s ↔ IsFirst h s
 first_possible h v e s = subst (λ v. Possible v s ↔ IsFirst h s) (sym e) (first_is h s, is_first h s)
 
@@ -121,9 +114,6 @@ are_times v r l pn whole t = (
 
 one_set : (X : State → Type 0) (r : Register) (l pn : Bool) (a b : Times) → AreTimes X r l pn a → AreTimes X r l pn b → a ≡ b
 one_set X r l pn a b h k = same_times a b (λ t. same_test (set.contains a t) (set.contains b t) (λ x. (k t).1 ((h t).0 x)) (λ x. (h t).1 ((k t).0 x)))
-
-spans_in : StateSet → Register → Bool → Bool → ℕ
-spans_in v r l pn = span_count (entries_of r (part_of v l pn)).times
 
 is_most : (a b c d n : ℕ) → n ≡ max (max a b) (max c d) → (a ≤ n) × (b ≤ n) × (c ≤ n) × (d ≤ n)
 is_most a b c d n e = (omega arith, omega arith, omega arith, omega arith)
