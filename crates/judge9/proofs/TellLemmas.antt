@@ -3,6 +3,7 @@ use Rattle.std.proofs.Common.{◌≡◌, inl, inr, IsTrue, if◌then◌else◌, 
 use Rattle.std.proofs.lemmas.List.{append_assoc, append-nil}
 use Rattle.std.proofs.KnownBytes.{Appends-nil, Appends-trans}
 use Rattle.std.specs.Option.{IfNone, IfSome, option_map}
+use Rattle.std.specs.Result.{IfErr}
 use Rattle.std.specs.Io.KnownBytes.{Appends}
 use Rattle.capture9.specs.declared.error.CaptureError.{CaptureError}
 use Rattle.capture9.specs.declared.error.CaptureKind.{CaptureKind}
@@ -30,12 +31,12 @@ use Rattle.judge9.specs.declared.turn.Judging.{Judging}
 use Rattle.judge9.specs.declared.verdict.Verdict.{Verdict}
 use Rattle.judge9.specs.declared.verdict.Verdict.TheVariants.{Yes, No}
 use Rattle.judge9.specs.declared.verdict.View.{View}
-use Rattle.judge9.specs.Judging.{Answer, IsAnswer, IsTheAnswer, answer_of}
+use Rattle.judge9.specs.Judging.{Answer, IsAnswer, IsTheAnswer, StoppedBefore, answer_of}
 use Rattle.judge9.specs.Judging.Answer.{judged, unreadable}
 use Rattle.judge9.specs.Error.{refusal_by, refusal_of}
 use Rattle.judge9.specs.Verdict.{AreCounts, Breaks, IsFirstBreak}
 use Rattle.judge9.specs.Report.{IsVerdictAfter, Told, Written, line_of}
-use Rattle.judge9.specs.Working.{Explains, IsSame, Puts}
+use Rattle.judge9.specs.Working.{Explains, IsSame, Judges, Puts}
 use Rattle.judge9.proofs.LawLemmas.{answer_once}
 use Rattle.judge9.proofs.LineSteps.{none_after}
 use Rattle.text9.proofs.WriteLemmas.{part_after}
@@ -49,6 +50,18 @@ use Rattle.judge9.proofs.SoFarSteps.{cut-after, explained-start, read-more, show
 -- the only answer, of an answer
 pub the_answer : (hands : Hands) (rows : Rows) (answer : Answer) → IsAnswer hands rows answer → IsTheAnswer hands rows answer
 the_answer hands rows answer h = record { is_answer = h; only = λ other k. answer_once hands rows other answer k h }
+
+-- what is told of the rows of a text is told of the text
+pub answer_of_text : {which : View} {hands : Hands} {result : Result Verdict JudgeError} {old new : Option (List ℕ)} (text : Option (List ℕ))
+    → Judges which hands (option_map rows_of text) result old new → IfSome text (λ t. IfSome (answer_of result) (IsTheAnswer hands (rows_of t)))
+answer_of_text None j = tt
+answer_of_text {hands = hands} {result = result} (Some t) j =
+    let Answered : Rows → Type 0 = λ rows. IfSome (answer_of result) (IsTheAnswer hands rows) in subst Answered j.told.is_known j.told.answer
+
+pub stopped_of_text : {which : View} {hands : Hands} {result : Result Verdict JudgeError} {old new : Option (List ℕ)} (text : Option (List ℕ))
+    → Judges which hands (option_map rows_of text) result old new → IfSome text (λ t. IfErr result (StoppedBefore hands (rows_of t)))
+stopped_of_text None j = tt
+stopped_of_text (Some t) j = j.stopped
 
 -- a refusal that was told
 answer_of-capture : (e : CaptureError) (P : Answer → Type 0) → (IsTrue (is_of_text e.kind) → P (unreadable e)) → IfSome (answer_of (Err (error.Capture e))) P
