@@ -12,12 +12,12 @@ use Rattle.block9.proofs.CutLemmas.{cut_once, exchange_less, tail_by_kept}
 use Rattle.deck9.specs.declared.state.Hands.{Hands}
 use Rattle.deck9.specs.Run.{HasRun}
 use Rattle.track9.specs.Tracker.{Tracked}
-use Rattle.judge9.specs.declared.error.JudgeError.{JudgeError}
+use Rattle.verdict9.specs.declared.error.JudgeError.{JudgeError}
 use Rattle.judge9.specs.declared.turn.Judging.{Judging}
-use Rattle.judge9.specs.declared.verdict.Verdict.{Verdict}
-use Rattle.judge9.specs.declared.verdict.Verdict.TheVariants.{No}
-use Rattle.judge9.specs.declared.verdict.View.{View}
-use Rattle.judge9.specs.Report.{line_of}
+use Rattle.verdict9.specs.declared.verdict.Verdict.{Verdict}
+use Rattle.verdict9.specs.declared.verdict.Verdict.TheVariants.{No}
+use Rattle.verdict9.specs.declared.verdict.View.{View}
+use Rattle.verdict9.specs.Lines.{line_of}
 use Rattle.judge9.specs.Verdict.{Breaks, IsOk}
 use Rattle.judge9.specs.Working.{IsSame, Judges, Puts}
 use Rattle.judge9.proofs.CutSteps.{cut-exchange}

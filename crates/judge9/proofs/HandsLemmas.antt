@@ -6,7 +6,7 @@ use Rattle.capture9.specs.Rows.{Rows}
 use Rattle.block9.specs.declared.reason.Reason.{Reason}
 use Rattle.deck9.specs.declared.state.Hands.TheVariants as hands
 use Rattle.deck9.proofs.LawLemmas.{run_with_hands}
-use Rattle.judge9.specs.declared.verdict.Verdict.TheVariants as verdict
+use Rattle.verdict9.specs.declared.verdict.Verdict.TheVariants as verdict
 use Rattle.judge9.specs.Judging.{IsAnswer}
 use Rattle.judge9.specs.Judging.Answer.{judged}
 use Rattle.judge9.specs.Verdict.{IsFirstBreak, IsOk}

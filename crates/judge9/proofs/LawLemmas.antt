@@ -1,5 +1,5 @@
 -- The laws on lists of records that keep the rules, and on answers.
-use Rattle.std.proofs.Common.{◌≡◌, ◌⊎◌, inl, inr, ℕ, ◌<◌, ◌≤◌, ◌∙◌, List, [], ◌∷◌, ◌++◌, length, Some, None, sym, ap, subst, arith}
+use Rattle.std.proofs.Common.{◌≡◌, ◌⊎◌, inl, inr, ℕ, ◌<◌, ◌≤◌, ◌∙◌, List, [], ◌∷◌, ◌++◌, length, length-append, Some, None, refl, sym, ap, subst, arith}
 use Rattle.std.proofs.lemmas.List.{append_assoc, append-nil}
 use Rattle.std.proofs.lemmas.Bool.{cases_lt}
 use Rattle.capture9.specs.declared.line_byte.LineByte.{LineByte}
@@ -13,7 +13,7 @@ use Rattle.block9.proofs.OrderLemmas.{first_once}
 use Rattle.block9.proofs.CutLemmas.{cut_once, kept_less, tail_by_kept}
 use Rattle.deck9.specs.declared.state.Hands.{Hands}
 use Rattle.deck9.specs.Run.{HasRun}
-use Rattle.judge9.specs.declared.verdict.Verdict.TheVariants as verdict
+use Rattle.verdict9.specs.declared.verdict.Verdict.TheVariants as verdict
 use Rattle.judge9.specs.Verdict.{Applies, IsOk, Breaks, IsFirstBreak, AreCounts}
 use Rattle.judge9.specs.Judging.{Answer, IsAnswer}
 use Rattle.judge9.specs.Judging.Answer.{judged, unreadable}
@@ -49,15 +49,19 @@ pub first_part : (h : Hands) (q p : List LineByte) → IsOk h (p ++ q) → IsOk 
 first_part h [] p ok = subst (IsOk h) (append-nil p) ok
 first_part h (x ∷ q) p ok = ok_less h p x (first_part h q (p ++ x ∷ []) (subst (IsOk h) (sym (append_assoc p (x ∷ []) q)) ok))
 
--- of two lists in one, the longer begins with the shorter and the element after it
+-- of two lists in one, the longer begins with the shorter
+pub shorter : {X : Type 0} (a x b y : List X) → a ++ x ≡ b ++ y → length a ≤ length b → (m : List X) × (b ≡ a ++ m)
+shorter [] x b y e h = (b, refl)
+shorter (c ∷ a) x [] y e h = absurd (omega arith)
+shorter (c ∷ a) x (d ∷ b) y e h =
+    let head : c ≡ d = cc in
+    let tails : a ++ x ≡ b ++ y = cc in
+    let found = shorter a x b y tails (omega arith) in
+    (found.0, ap (λ z. z ∷ b) (sym head) ∙ ap (λ l. c ∷ l) found.1)
+
+-- and with the element after it
 pub longer : {X : Type 0} (a : List X) (x : X) (y b z : List X) → a ++ x ∷ y ≡ b ++ z → length a < length b → (more : List X) × (b ≡ (a ++ x ∷ []) ++ more)
-longer a x y [] z e h = absurd (omega arith)
-longer [] x y (b ∷ bs) z e h = let same : x ≡ b = cc in (bs, ap (λ w. w ∷ bs) (sym same))
-longer (a ∷ rest) x y (b ∷ bs) z e h =
-    let head : a ≡ b = cc in
-    let tails : rest ++ x ∷ y ≡ bs ++ z = cc in
-    let found = longer rest x y bs z tails (omega arith) in
-    (found.0, ap (λ w. w ∷ bs) (sym head) ∙ ap (λ l. a ∷ l) found.1)
+longer a x y b z e h = shorter (a ++ x ∷ []) y b z (append_assoc a (x ∷ []) y ∙ e) (omega (arith, length-append a (x ∷ [])))
 
 -- one reason
 pub breaks_once : (h : Hands) (p : List LineByte) (r : LineByte) (x y : Reason) → Breaks h p r x → Breaks h p r y → x ≡ y

@@ -16,5 +16,4 @@ pub mod LimitLemmas
 pub mod ReasonLemmas
 pub mod BreakLemmas
 pub mod TurnSteps
-pub mod OpenLemmas
 pub mod TextLemmas

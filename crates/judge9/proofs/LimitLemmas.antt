@@ -13,15 +13,16 @@ use Rattle.block9.specs.declared.reason.Reason.{Reason}
 use Rattle.block9.specs.Exchange.{Cut, IsExchange}
 use Rattle.block9.proofs.LineLemmas.{whole_len, whole_long}
 use Rattle.block9.proofs.StepLemmas.{block_len_low, tail_short}
-use Rattle.judge9.specs.declared.error.JudgeError.{JudgeError}
-use Rattle.judge9.specs.declared.error.JudgeError.TheVariants as error
+use Rattle.verdict9.specs.declared.error.JudgeError.{JudgeError}
+use Rattle.verdict9.specs.declared.error.JudgeError.TheVariants as error
 use Rattle.judge9.specs.declared.turn.Judging.{Judging}
-use Rattle.judge9.specs.declared.verdict.Verdict.{Verdict}
-use Rattle.judge9.specs.declared.verdict.Verdict.TheVariants.{Yes, No}
-use Rattle.judge9.specs.declared.verdict.View.{View}
-use Rattle.judge9.specs.Error.{refusal_by, refusal_of}
+use Rattle.verdict9.specs.declared.verdict.Verdict.{Verdict}
+use Rattle.verdict9.specs.declared.verdict.Verdict.TheVariants.{Yes, No}
+use Rattle.verdict9.specs.declared.verdict.View.{View}
+use Rattle.verdict9.specs.Error.{refusal_by, refusal_of}
 use Rattle.judge9.specs.Judging.{CanBeRefusal, CanBeResult, IsOkBefore, StoppedBefore}
-use Rattle.judge9.specs.Report.{Told, line_of}
+use Rattle.verdict9.specs.Lines.{line_of}
+use Rattle.judge9.specs.Report.{Told}
 use Rattle.judge9.specs.Verdict.{CanBeVerdict}
 use Rattle.judge9.proofs.LawLemmas.{cut_tail}
 use Rattle.judge9.proofs.SoFar.{SoFar}
@@ -117,9 +118,7 @@ unfoldable pub judges-told : (which : View) (hands : Hands) (rows : Option Rows)
 judges-told which hands rows v (Ok w) old now new told can same puts =
     record { told = told; stopped = each_row rows _ (λ all. tt); is_kind = λ e q. cc; can_be = subst CanBeVerdict (sym same) can }
 judges-told which hands rows v (Err (error.Capture e)) old now new told can same puts = absurd puts
-judges-told which hands rows v (Err error.Write) old now new told can same puts =
-    record { told = told; stopped = each_row rows _ (λ all. tt); is_kind = λ e q. cc; can_be = tt }
-judges-told which hands rows v (Err error.OutOfMemory) old now new told can same puts =
+judges-told which hands rows v (Err x) old now new told can same puts =
     record { told = told; stopped = each_row rows _ (λ all. tt); is_kind = λ e q. cc; can_be = tt }
 
 pub judges-memory : (which : View) (hands : Hands) (rows : Option Rows) (old now : Option (List ℕ)) → Told which hands rows (Err error.OutOfMemory) old now → Judges which hands rows (Err error.OutOfMemory) old now
@@ -128,9 +127,7 @@ judges-memory which hands rows old now told =
 
 pub judges-line : (which : View) (hands : Hands) (rows : Option Rows) (x : JudgeError) (line : List ℕ) (old now new : Option (List ℕ)) → Told which hands rows (Err x) old new → Puts {A = Unit {0}} line (Err x) now new → Judges which hands rows (Err x) old new
 judges-line which hands rows (error.Capture e) line old now new told puts = absurd puts
-judges-line which hands rows error.Write line old now new told puts =
-    record { told = told; stopped = each_row rows _ (λ all. tt); is_kind = λ e q. cc; can_be = tt }
-judges-line which hands rows error.OutOfMemory line old now new told puts =
+judges-line which hands rows x line old now new told puts =
     record { told = told; stopped = each_row rows _ (λ all. tt); is_kind = λ e q. cc; can_be = tt }
 
 pub judges-refusal : {R : Type 0} {which : View} {hands : Hands} {rows : Option Rows} {j : Judging R} {given : Progress R} {old now : Option (List ℕ)} {m : ℕ} {e : CaptureError} {x : JudgeError} → SoFar which hands rows j old now m → GivesRefusal j.rows e given → x ≡ refusal_of e → Judges which hands rows (Err x) old now
@@ -149,11 +146,4 @@ judges-refusal {rows = rows} {e = e} {x = x} h refusal same = record {
 
     apart : (k : CaptureKind) → e.kind ≡ k → (d : CaptureError) → refusal_of e ≡ error.Capture d → d.kind ≡ kind.OutOfMemory → ⊥
     apart kind.OutOfMemory is d q wrong = let memory : refusal_of e ≡ error.OutOfMemory = ap (λ k. refusal_by k e) is in let both : error.OutOfMemory ≡ error.Capture d = sym memory ∙ q in cc
-    apart kind.Header is d q wrong = other kind.Header is d (sym (ap (λ k. refusal_by k e) is) ∙ q) wrong (λ same. cc)
-    apart kind.Fields is d q wrong = other kind.Fields is d (sym (ap (λ k. refusal_by k e) is) ∙ q) wrong (λ same. cc)
-    apart kind.Time is d q wrong = other kind.Time is d (sym (ap (λ k. refusal_by k e) is) ∙ q) wrong (λ same. cc)
-    apart kind.Wire is d q wrong = other kind.Wire is d (sym (ap (λ k. refusal_by k e) is) ∙ q) wrong (λ same. cc)
-    apart kind.Byte is d q wrong = other kind.Byte is d (sym (ap (λ k. refusal_by k e) is) ∙ q) wrong (λ same. cc)
-    apart kind.Backwards is d q wrong = other kind.Backwards is d (sym (ap (λ k. refusal_by k e) is) ∙ q) wrong (λ same. cc)
-    apart kind.TooMany is d q wrong = other kind.TooMany is d (sym (ap (λ k. refusal_by k e) is) ∙ q) wrong (λ same. cc)
-    apart kind.Read is d q wrong = other kind.Read is d (sym (ap (λ k. refusal_by k e) is) ∙ q) wrong (λ same. cc)
+    apart k is d q wrong = other k is d (sym (ap (λ k. refusal_by k e) is) ∙ q) wrong (λ same. cc)

@@ -20,10 +20,11 @@ use Rattle.deck9.specs.declared.state.Register.TheVariants.{RegIn, RegOut, RegAu
 use Rattle.deck9.specs.declared.state.State.{State}
 use Rattle.track9.specs.Knowledge.{IsKnowledge, IsKnown, IsKnownEntry}
 use Rattle.deck9.specs.Run.{Ends}
-use Rattle.judge9.specs.declared.verdict.View.{View}
-use Rattle.judge9.specs.declared.verdict.View.TheVariants as view
+use Rattle.verdict9.specs.declared.verdict.View.{View}
+use Rattle.verdict9.specs.declared.verdict.View.TheVariants as view
 use Rattle.text9.specs.Explanation.{line_of_exchange}
-use Rattle.judge9.specs.Report.{AreLines, IsExplained, records_of}
+use Rattle.verdict9.specs.Lines.{records_of}
+use Rattle.judge9.specs.Report.{AreLines, IsExplained}
 use Rattle.judge9.specs.Working.{IsLineOf}
 
 -- ---- how many records exchanges have

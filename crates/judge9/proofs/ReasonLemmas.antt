@@ -23,19 +23,8 @@ use Rattle.judge9.proofs.LawLemmas.{cut_tail, kept_of}
 -- ---- the reasons before the last one are those of pairing
 
 same_before_last : (h : Hands) (es : List Exchange) (t : List LineByte) (r : LineByte) (y : Reason) → rank y < 12 → (Holds y t r → Applies h es t r y) × (Applies h es t r y → Holds y t r)
-same_before_last h es t r ReplyWithoutCommand low = (λ k. k, λ k. k)
-same_before_last h es t r ReplyInsideCommand low = (λ k. k, λ k. k)
-same_before_last h es t r CommandBeforeReply low = (λ k. k, λ k. k)
-same_before_last h es t r NoReply low = (λ k. k, λ k. k)
-same_before_last h es t r CommandInsideReply low = (λ k. k, λ k. k)
-same_before_last h es t r LateReply low = (λ k. k, λ k. k)
-same_before_last h es t r ByteGap low = (λ k. k, λ k. k)
-same_before_last h es t r WrongGroup low = (λ k. k, λ k. k)
-same_before_last h es t r WrongSum low = (λ k. k, λ k. k)
-same_before_last h es t r InvalidCommandTime low = (λ k. k, λ k. k)
-same_before_last h es t r WrongReply low = (λ k. k, λ k. k)
-same_before_last h es t r InvalidReplyTime low = (λ k. k, λ k. k)
 same_before_last h es t r NoRun low = absurd (omega arith)
+same_before_last h es t r y low = (λ k. k, λ k. k)
 
 not_last : (y : Reason) → (y ≡ NoRun → ⊥) → rank y < 12
 not_last y other = by (cases_lt (rank y) 12)

@@ -16,15 +16,15 @@ use Rattle.track9.specs.Tracker.{Tracked}
 use Rattle.why9.specs.Contradiction.{IsContradiction}
 use Rattle.judge9.specs.declared.ending.Ending.{Ending}
 use Rattle.judge9.specs.declared.ending.Ending.TheVariants as ending
-use Rattle.judge9.specs.declared.error.JudgeError.{JudgeError}
-use Rattle.judge9.specs.declared.error.JudgeError.TheVariants as error
-use Rattle.judge9.specs.declared.run_verdict.RunVerdict.{RunVerdict}
-use Rattle.judge9.specs.declared.run_verdict.RunVerdict.TheVariants as run
-use Rattle.judge9.specs.declared.verdict.Verdict.{Verdict}
-use Rattle.judge9.specs.declared.verdict.View.TheVariants as view
-use Rattle.judge9.specs.declared.why_verdict.WhyVerdict.{WhyVerdict}
-use Rattle.judge9.specs.declared.why_verdict.WhyVerdict.TheVariants as why
-use Rattle.judge9.specs.OpenRecords.{IsBreakAfter, IsMeaning, asked_of}
+use Rattle.verdict9.specs.declared.error.JudgeError.{JudgeError}
+use Rattle.verdict9.specs.declared.error.JudgeError.TheVariants as error
+use Rattle.verdict9.specs.declared.run_verdict.RunVerdict.{RunVerdict}
+use Rattle.verdict9.specs.declared.run_verdict.RunVerdict.TheVariants as run
+use Rattle.verdict9.specs.declared.verdict.Verdict.{Verdict}
+use Rattle.verdict9.specs.declared.verdict.View.TheVariants as view
+use Rattle.verdict9.specs.declared.why_verdict.WhyVerdict.{WhyVerdict}
+use Rattle.verdict9.specs.declared.why_verdict.WhyVerdict.TheVariants as why
+use Rattle.verdict9.specs.OpenRecords.{IsBreakAfter, IsMeaning, asked_of}
 use Rattle.judge9.specs.Report.{Told}
 use Rattle.judge9.specs.RunVerdict.{IsJudgedRun}
 use Rattle.track9.specs.declared.knowledge.Knowledge.{Knowledge}

@@ -11,7 +11,7 @@ use Rattle.block9.specs.Exchange.{Cut}
 use Rattle.deck9.specs.declared.state.Hands.{Hands}
 use Rattle.deck9.specs.Run.{HasRun}
 use Rattle.judge9.specs.declared.turn.Judging.{Judging}
-use Rattle.judge9.specs.declared.verdict.View.{View}
+use Rattle.verdict9.specs.declared.verdict.View.{View}
 use Rattle.judge9.specs.Report.{IsExplained}
 use Rattle.judge9.specs.Working.Trail.{Follows}
 

@@ -18,8 +18,8 @@ use Rattle.deck9.specs.declared.state.Hands.{Hands}
 use Rattle.deck9.specs.Run.{Ends, HasRun}
 use Rattle.track9.specs.Tracker.{Possible, Tracked}
 use Rattle.judge9.specs.declared.turn.Judging.{Judging}
-use Rattle.judge9.specs.declared.verdict.View.{View}
-use Rattle.judge9.specs.declared.verdict.View.TheVariants as view
+use Rattle.verdict9.specs.declared.verdict.View.{View}
+use Rattle.verdict9.specs.declared.verdict.View.TheVariants as view
 use Rattle.judge9.specs.Report.{IsExplained}
 use Rattle.judge9.specs.Working.{IsLineOf}
 use Rattle.judge9.proofs.CutSteps.{cut-step, exchanges_after}
@@ -64,9 +64,8 @@ later {r = r} given takes x e =
 
 -- a step that ends no exchange leaves those before it
 pub open_keeps : (s : Step) → IsOpen s → (es : List Exchange) → exchanges_after es s ≡ es
-open_keeps step.Waiting open_step es = refl
-open_keeps step.Command open_step es = refl
 open_keeps (step.Exchange e) open_step es = absurd open_step
+open_keeps s open_step es = refl
 
 -- after a row that ends no exchange
 unfoldable pub so_far-open : {R : Type 0} {which : View} {hands : Hands} {rows : Option Rows} {j k : Judging R} {old now : Option (List ℕ)} {m : ℕ} → SoFar which hands rows j old now m → Waits j k → SoFar which hands rows k old now m

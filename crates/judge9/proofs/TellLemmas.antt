@@ -25,17 +25,18 @@ use Rattle.block9.specs.Exchange.IsTail.{nothing}
 use Rattle.deck9.specs.declared.state.Hands.{Hands}
 use Rattle.deck9.specs.Run.{HasRun}
 use Rattle.track9.specs.Tracker.{Possible}
-use Rattle.judge9.specs.declared.error.JudgeError.{JudgeError}
-use Rattle.judge9.specs.declared.error.JudgeError.TheVariants as error
+use Rattle.verdict9.specs.declared.error.JudgeError.{JudgeError}
+use Rattle.verdict9.specs.declared.error.JudgeError.TheVariants as error
 use Rattle.judge9.specs.declared.turn.Judging.{Judging}
-use Rattle.judge9.specs.declared.verdict.Verdict.{Verdict}
-use Rattle.judge9.specs.declared.verdict.Verdict.TheVariants.{Yes, No}
-use Rattle.judge9.specs.declared.verdict.View.{View}
+use Rattle.verdict9.specs.declared.verdict.Verdict.{Verdict}
+use Rattle.verdict9.specs.declared.verdict.Verdict.TheVariants.{Yes, No}
+use Rattle.verdict9.specs.declared.verdict.View.{View}
 use Rattle.judge9.specs.Judging.{Answer, IsAnswer, IsTheAnswer, StoppedBefore, answer_of}
 use Rattle.judge9.specs.Judging.Answer.{judged, unreadable}
-use Rattle.judge9.specs.Error.{refusal_by, refusal_of}
+use Rattle.verdict9.specs.Error.{refusal_by, refusal_of}
 use Rattle.judge9.specs.Verdict.{AreCounts, Breaks, IsFirstBreak}
-use Rattle.judge9.specs.Report.{IsVerdictAfter, Told, Written, line_of}
+use Rattle.verdict9.specs.Lines.{line_of}
+use Rattle.judge9.specs.Report.{IsVerdictAfter, Told, Written}
 use Rattle.judge9.specs.Working.{Explains, IsSame, Judges, Puts}
 use Rattle.judge9.proofs.LawLemmas.{answer_once}
 use Rattle.judge9.proofs.LineSteps.{none_after}
@@ -73,15 +74,8 @@ answer_of-capture e P f = by (is_of_text e.kind) f
 
 -- a refusal of the capture stays whole, or is want of memory
 refusal_cases : (P : JudgeError → Type 0) (k : CaptureKind) (e : CaptureError) → P (error.Capture e) → P error.OutOfMemory → P (refusal_by k e)
-refusal_cases P kind.Header e whole memory = whole
-refusal_cases P kind.Fields e whole memory = whole
-refusal_cases P kind.Time e whole memory = whole
-refusal_cases P kind.Wire e whole memory = whole
-refusal_cases P kind.Byte e whole memory = whole
-refusal_cases P kind.Backwards e whole memory = whole
-refusal_cases P kind.TooMany e whole memory = whole
-refusal_cases P kind.Read e whole memory = whole
 refusal_cases P kind.OutOfMemory e whole memory = memory
+refusal_cases P _ e whole memory = whole
 
 -- a fact on the refusal that is answered
 pub refused : (P : JudgeError → Type 0) (e : CaptureError) (x : JudgeError) → x ≡ refusal_of e → P (error.Capture e) → P error.OutOfMemory → P x
@@ -240,38 +234,25 @@ told-line {rows = rows} {j = j} {k = k} {old = old} {now = now} {new = new} {e =
       written = inl (part_after old now new h.text line.line h.wrote line.puts);
     }
 
+-- before a row is read
+told_unread : (which : View) (hands : Hands) {rows : Option Rows} (all : Rows) {old : Option (List ℕ)} → IfSome rows (λ a. all ≡ a) → IfNone rows (IsOfSomeText all) → Told which hands rows (Err error.OutOfMemory) old old
+told_unread which hands all {old} is_known of_a_text = record {
+  rows = all;
+  is_known = is_known;
+  of_a_text = of_a_text;
+  answer = tt;
+  items = [];
+  start = (all.records, refl);
+  exchanges = [];
+  tail = [];
+  cut = (refl, nothing refl);
+  run = run_start hands;
+  text = [];
+  explained = explained-start which hands;
+  written = Appends-nil old;
+}
+
 -- where there was no memory for the tracker, and nothing was read
 pub told-nothing : (which : View) (hands : Hands) (rows : Option Rows) (old : Option (List ℕ)) → Told which hands rows (Err error.OutOfMemory) old old
-told-nothing which hands rows old = by rows
-  where
-    by : (o : Option Rows) → Told which hands o (Err error.OutOfMemory) old old
-    by None = record {
-      rows = no_rows;
-      is_known = tt;
-      of_a_text = some-text no_rows no_rows-can_be;
-      answer = tt;
-      items = [];
-      start = (no_rows.records, refl);
-      exchanges = [];
-      tail = [];
-      cut = (refl, nothing refl);
-      run = run_start hands;
-      text = [];
-      explained = explained-start which hands;
-      written = Appends-nil old;
-    }
-    by (Some all) = record {
-      rows = all;
-      is_known = refl;
-      of_a_text = tt;
-      answer = tt;
-      items = [];
-      start = (all.records, refl);
-      exchanges = [];
-      tail = [];
-      cut = (refl, nothing refl);
-      run = run_start hands;
-      text = [];
-      explained = explained-start which hands;
-      written = Appends-nil old;
-    }
+told-nothing which hands None old = told_unread which hands no_rows tt (some-text no_rows no_rows-can_be)
+told-nothing which hands (Some all) old = told_unread which hands all refl tt

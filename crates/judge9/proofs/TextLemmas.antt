@@ -14,20 +14,21 @@ use Rattle.block9.proofs.CutLemmas.{cut_once, kept_less, tail_by_kept}
 use Rattle.deck9.specs.declared.state.Hands.{Hands}
 use Rattle.deck9.specs.Run.{HasRun}
 use Rattle.track9.proofs.OneKnowledge.{known_of_ends}
-use Rattle.judge9.specs.declared.error.JudgeError.{JudgeError}
-use Rattle.judge9.specs.declared.error.JudgeError.TheVariants as error
-use Rattle.judge9.specs.declared.verdict.Verdict.{Verdict}
-use Rattle.judge9.specs.declared.verdict.Verdict.TheVariants as verdict
-use Rattle.judge9.specs.declared.verdict.View.{View}
-use Rattle.judge9.specs.declared.verdict.View.TheVariants as view
+use Rattle.verdict9.specs.declared.error.JudgeError.{JudgeError}
+use Rattle.verdict9.specs.declared.error.JudgeError.TheVariants as error
+use Rattle.verdict9.specs.declared.verdict.Verdict.{Verdict}
+use Rattle.verdict9.specs.declared.verdict.Verdict.TheVariants as verdict
+use Rattle.verdict9.specs.declared.verdict.View.{View}
+use Rattle.verdict9.specs.declared.verdict.View.TheVariants as view
 use Rattle.text9.specs.Explanation.{line_of_exchange}
 use Rattle.judge9.specs.Judging.{Answer, IsAnswer, IsTheAnswer, answer_of}
 use Rattle.judge9.specs.Judging.Answer.{judged, unreadable}
-use Rattle.judge9.specs.Report.{AreLines, IsExplained, IsText, IsVerdictAfter, Told, Written, explained_of, last_line, line_of, records_of}
+use Rattle.verdict9.specs.Lines.{line_of, records_of}
+use Rattle.judge9.specs.Report.{AreLines, IsExplained, IsText, IsVerdictAfter, Told, Written, explained_of, last_line}
 use Rattle.text9.specs.Writing.{AppendsPart}
 use Rattle.judge9.specs.Verdict.{IsFirstBreak, IsOk}
 use Rattle.judge9.proofs.CutSteps.{Grows, cut-exchange, cut-tail, kept_grows}
-use Rattle.judge9.proofs.LawLemmas.{answer_once, cut_tail, first_part, longer}
+use Rattle.judge9.proofs.LawLemmas.{answer_once, cut_tail, first_part, longer, shorter}
 use Rattle.judge9.proofs.RunSteps.{run_less}
 
 -- ---- the first records have the first exchanges
@@ -85,15 +86,6 @@ explained_once view.Verdict h es text whole run a b = b ∙ sym a
 explained_once view.Explain h es text whole run a b = lines_once h [] 0 es text whole run a b
 
 -- ---- the records that were judged are the first of those that the report explains
-
-shorter : {X : Type 0} (a x b y : List X) → a ++ x ≡ b ++ y → length a ≤ length b → (m : List X) × (b ≡ a ++ m)
-shorter [] x b y e h = (b, refl)
-shorter (c ∷ a) x [] y e h = absurd (omega arith)
-shorter (c ∷ a) x (d ∷ b) y e h =
-    let head : c ≡ d = cc in
-    let tails : a ++ x ≡ b ++ y = cc in
-    let found = shorter a x b y tails (omega arith) in
-    (found.0, ap (λ z. z ∷ b) (sym head) ∙ ap (λ l. c ∷ l) found.1)
 
 taken : (h : Hands) (rows : Rows) (at : ℕ) (reason : Reason) → (b : IsFirstBreak h rows.records at reason) → explained_of rows (judged (verdict.No at reason)) ≡ b.before
 taken h rows at reason b =

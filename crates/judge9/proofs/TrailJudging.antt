@@ -21,14 +21,14 @@ use Rattle.deck9.proofs.RunLemmas.{some_end}
 use Rattle.why9.specs.Contradiction.{BreaksAtLast}
 use Rattle.judge9.specs.declared.ending.Ending.{Ending}
 use Rattle.judge9.specs.declared.ending.Ending.TheVariants as ending
-use Rattle.judge9.specs.declared.error.JudgeError.{JudgeError}
-use Rattle.judge9.specs.declared.error.JudgeError.TheVariants as error
+use Rattle.verdict9.specs.declared.error.JudgeError.{JudgeError}
+use Rattle.verdict9.specs.declared.error.JudgeError.TheVariants as error
 use Rattle.judge9.specs.declared.turn.Judging.{Judging}
 use Rattle.judge9.specs.declared.turn.Turn.{Turn}
 use Rattle.judge9.specs.declared.turn.Turn.TheVariants as turn
-use Rattle.judge9.specs.declared.verdict.Verdict.TheVariants.{Yes, No}
-use Rattle.judge9.specs.declared.verdict.View.TheVariants as view
-use Rattle.judge9.specs.OpenRecords.{IsBreakAfter}
+use Rattle.verdict9.specs.declared.verdict.Verdict.TheVariants.{Yes, No}
+use Rattle.verdict9.specs.declared.verdict.View.TheVariants as view
+use Rattle.verdict9.specs.OpenRecords.{IsBreakAfter}
 use Rattle.judge9.specs.Verdict.{CanBeVerdict}
 use Rattle.judge9.specs.Working.{Judges}
 use Rattle.judge9.specs.Working.Trail.{Follows, IsTrail, KeepsTrail, stretch_length}

@@ -10,14 +10,14 @@ use Rattle.block9.specs.declared.pairer.Step.TheVariants as step
 use Rattle.block9.specs.Pairer.{Paired, Takes}
 use Rattle.deck9.specs.declared.state.Hands.{Hands}
 use Rattle.track9.specs.Tracker.{Possible}
-use Rattle.judge9.specs.declared.error.JudgeError.{JudgeError}
+use Rattle.verdict9.specs.declared.error.JudgeError.{JudgeError}
 use Rattle.judge9.specs.declared.turn.Judging.{Judging}
 use Rattle.judge9.specs.declared.turn.Turn.{Turn}
 use Rattle.judge9.specs.declared.turn.Turn.TheVariants as turn
-use Rattle.judge9.specs.declared.verdict.Verdict.{Verdict}
-use Rattle.judge9.specs.declared.verdict.Verdict.TheVariants.{Yes}
-use Rattle.judge9.specs.declared.verdict.View.{View}
-use Rattle.judge9.specs.Report.{line_of}
+use Rattle.verdict9.specs.declared.verdict.Verdict.{Verdict}
+use Rattle.verdict9.specs.declared.verdict.Verdict.TheVariants.{Yes}
+use Rattle.verdict9.specs.declared.verdict.View.{View}
+use Rattle.verdict9.specs.Lines.{line_of}
 use Rattle.judge9.specs.Working.{Explains, IsLineOf, IsSame, Judges, Puts}
 use Rattle.judge9.specs.Working.Turn.{AreOpen, ComesTo, EndsRows, Feeds, IsObserved, Observes, Turned}
 use Rattle.judge9.proofs.LimitLemmas.{can_be-yes, judges-line, judges-memory, judges-refusal, judges-told}
@@ -74,9 +74,8 @@ turned-observed j k {line_byte = line_byte} {e = e} r gives takes same_rows same
     by : (r : Result Turn JudgeError) → IsObserved j.tracker e r k.tracker → Turned j r k
     by (Ok (turn.Exchange f)) o = (feeds f o.0, observes f true o.0 o.1)
     by (Ok (turn.NoRun f)) o = (feeds f o.0, observes f false o.0 o.1)
-    by (Ok (turn.Break reason x)) o = absurd o
-    by (Ok turn.End) o = absurd o
     by (Err x) o = inl o
+    by _ o = absurd o
 
 -- an exchange, whose line was written
 pub so_far-exchanged : {R : Type 0} {which : View} {hands : Hands} {rows : Option Rows} {j k : Judging R} {old now new : Option (List ℕ)} {m : ℕ} {e : Exchange} (line : List ℕ) → SoFar which hands rows j old now m → Turned j (Ok (turn.Exchange e)) k

@@ -9,10 +9,10 @@ use Rattle.capture9.specs.Error.{IsAfter, IsAtItsRow, is_of_text}
 use Rattle.capture9.specs.Fields.{most_rows}
 use Rattle.capture9.specs.Rows.{HasHeader, Rows}
 use Rattle.deck9.specs.declared.state.Hands.{Hands}
-use Rattle.judge9.specs.declared.error.JudgeError.{JudgeError}
-use Rattle.judge9.specs.declared.error.JudgeError.TheVariants as error
-use Rattle.judge9.specs.declared.verdict.Verdict.{Verdict}
-use Rattle.judge9.specs.declared.verdict.Verdict.TheVariants as verdict
+use Rattle.verdict9.specs.declared.error.JudgeError.{JudgeError}
+use Rattle.verdict9.specs.declared.error.JudgeError.TheVariants as error
+use Rattle.verdict9.specs.declared.verdict.Verdict.{Verdict}
+use Rattle.verdict9.specs.declared.verdict.Verdict.TheVariants as verdict
 use Rattle.judge9.specs.Verdict.{AreCounts, CanBeVerdict, IsFirstBreak, IsOk}
 
 -- a verdict, or the fault of the first bad row of a text that can't be read to its end

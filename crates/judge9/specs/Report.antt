@@ -16,27 +16,17 @@ use Rattle.track9.specs.declared.knowledge.Knowledge.{Knowledge}
 use Rattle.deck9.specs.declared.state.Hands.{Hands}
 use Rattle.track9.specs.Knowledge.{IsKnowledge}
 use Rattle.deck9.specs.Run.{Ends, HasRun}
-use Rattle.judge9.specs.declared.error.JudgeError.{JudgeError}
-use Rattle.judge9.specs.declared.error.JudgeError.TheVariants as error
-use Rattle.judge9.specs.declared.verdict.Verdict.{Verdict}
-use Rattle.judge9.specs.declared.verdict.Verdict.TheVariants.{Yes, No}
-use Rattle.judge9.specs.declared.verdict.View.{View}
-use Rattle.judge9.specs.declared.verdict.View.TheVariants as view
+use Rattle.verdict9.specs.Lines.{line_of, records_of}
+use Rattle.verdict9.specs.declared.error.JudgeError.{JudgeError}
+use Rattle.verdict9.specs.declared.error.JudgeError.TheVariants as error
+use Rattle.verdict9.specs.declared.verdict.Verdict.{Verdict}
+use Rattle.verdict9.specs.declared.verdict.Verdict.TheVariants.{Yes, No}
+use Rattle.verdict9.specs.declared.verdict.View.{View}
+use Rattle.verdict9.specs.declared.verdict.View.TheVariants as view
 use Rattle.text9.specs.Explanation.{line_of_exchange}
 use Rattle.text9.specs.Writing.{AppendsPart}
 use Rattle.judge9.specs.Judging.{Answer, IsAnswer, IsTheAnswer, answer_of}
 use Rattle.judge9.specs.Judging.Answer.{judged, unreadable}
-
--- the line of a verdict, with its line feed
-abbrev pub line_of : Verdict → List ℕ
-line_of (Yes records exchanges tail) =
-    codes "yes: records " ++ decimal records ++ codes ", exchanges " ++ decimal exchanges ++ codes ", open " ++ decimal tail ++ codes "\n"
-line_of (No at reason) =
-    codes "no at record " ++ decimal at ++ codes ": " ++ name_of reason ++ codes " " ++ text_of reason ++ codes "\n"
-
--- how many records an exchange has
-abbrev pub records_of : Exchange → ℕ
-records_of e = length (spelling e.block) + length (spelling e.reply)
 
 -- the lines of exchanges: `before` are those that come before them, and end with the record of this number; each
 -- line names the exchange's last record, and shows what is known of all states that the runs up to it end in

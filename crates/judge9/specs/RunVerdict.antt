@@ -7,11 +7,11 @@ use Rattle.capture9.specs.Rows.{Rows}
 use Rattle.capture9.specs.SomeText.{IsOfSomeText}
 use Rattle.block9.specs.Exchange.{Cut}
 use Rattle.deck9.specs.declared.state.Hands.{Hands}
-use Rattle.judge9.specs.declared.error.JudgeError.{JudgeError}
-use Rattle.judge9.specs.declared.run_verdict.RunVerdict.{RunVerdict}
-use Rattle.judge9.specs.declared.run_verdict.RunVerdict.TheVariants as run
-use Rattle.judge9.specs.declared.verdict.Verdict.{Verdict}
-use Rattle.judge9.specs.declared.verdict.Verdict.TheVariants as verdict
+use Rattle.verdict9.specs.declared.error.JudgeError.{JudgeError}
+use Rattle.verdict9.specs.declared.run_verdict.RunVerdict.{RunVerdict}
+use Rattle.verdict9.specs.declared.run_verdict.RunVerdict.TheVariants as run
+use Rattle.verdict9.specs.declared.verdict.Verdict.{Verdict}
+use Rattle.verdict9.specs.declared.verdict.Verdict.TheVariants as verdict
 use Rattle.judge9.specs.Judging.{IsTheAnswer, answer_of}
 use Rattle.deck9.specs.Run.{IsRun}
 

@@ -9,8 +9,8 @@ use Rattle.block9.specs.Exchange.{Cut, IsExchange}
 use Rattle.block9.specs.Reason.{Holds, IsFirst, order}
 use Rattle.deck9.specs.declared.state.Hands.{Hands}
 use Rattle.deck9.specs.Run.{HasRun}
-use Rattle.judge9.specs.declared.verdict.Verdict.{Verdict}
-use Rattle.judge9.specs.declared.verdict.Verdict.TheVariants.{Yes, No}
+use Rattle.verdict9.specs.declared.verdict.Verdict.{Verdict}
+use Rattle.verdict9.specs.declared.verdict.Verdict.TheVariants.{Yes, No}
 
 -- the records keep the rules: those of blocks, pairing and timing, by which they can be cut into exchanges and a
 -- tail; and some run of the deck gives exactly the replies of these exchanges

@@ -18,13 +18,13 @@ use Rattle.track9.specs.declared.mode_set.ModeSet.{ModeSet}
 use Rattle.track9.specs.Knowledge.{IsKnowledge}
 use Rattle.track9.specs.ModeSet.{has}
 use Rattle.why9.specs.Contradiction.{IsContradiction}
-use Rattle.judge9.specs.declared.error.JudgeError.{JudgeError}
-use Rattle.judge9.specs.declared.verdict.Verdict.{Verdict}
-use Rattle.judge9.specs.declared.verdict.Verdict.TheVariants as verdict
-use Rattle.judge9.specs.declared.why_verdict.WhyVerdict.{WhyVerdict}
-use Rattle.judge9.specs.declared.why_verdict.WhyVerdict.TheVariants as why
+use Rattle.verdict9.specs.declared.error.JudgeError.{JudgeError}
+use Rattle.verdict9.specs.declared.verdict.Verdict.{Verdict}
+use Rattle.verdict9.specs.declared.verdict.Verdict.TheVariants as verdict
+use Rattle.verdict9.specs.declared.why_verdict.WhyVerdict.{WhyVerdict}
+use Rattle.verdict9.specs.declared.why_verdict.WhyVerdict.TheVariants as why
 use Rattle.judge9.specs.Judging.{IsTheAnswer, answer_of}
-use Rattle.judge9.specs.OpenRecords.{IsBreakAfter, IsMeaning, asked_of}
+use Rattle.verdict9.specs.OpenRecords.{IsBreakAfter, IsMeaning, asked_of}
 
 -- the verdict alone
 abbrev pub verdict_of : WhyVerdict → Verdict

@@ -2,17 +2,15 @@
 ghost use Rattle.std.specs.Prelude.{◌≡◌, ◌≢◌, IfSome, IfErr, option_map};
 ghost use Rattle.capture9.specs.Rows.{rows_of};
 ghost use Rattle.judge9.specs.Judging.{CanBeResult, IsTheAnswer, StoppedBefore, answer_of};
-ghost use Rattle.judge9.specs.Report.{Told, line_of};
+ghost use Rattle.verdict9.specs.Lines.{line_of};
+ghost use Rattle.judge9.specs.Report.{Told};
 ghost use Rattle.judge9.specs.Verdict.{CanBeVerdict};
 ghost use Rattle.judge9.specs.Working.{Explains, IsSame, Judges, Puts};
 ghost use Rattle.judge9.specs.Working.Turn.{IsFresh};
 ghost use Rattle.deck9.specs.declared.state.State.{State as AState};
 ghost use Rattle.track9.specs.Tracker.{Possible};
 
-use crate::error::JudgeError;
 use crate::turn::{Judging, Turn};
-use crate::verdict::{Verdict, View};
-use crate::verdict_line::put_verdict_line;
 use block9::{Exchange, Reason};
 use capture9::{CaptureError, CaptureKind};
 use deck9::Hands;
@@ -21,6 +19,7 @@ use std::io::{Read, Write};
 use tc25::SpanSet;
 use text9::{put_all, put_exchange_line};
 use track9::Tracker;
+use verdict9::{JudgeError, Verdict, View, put_verdict_line};
 
 /// Judges the capture that the reader gives, and writes the report that the view asks for.
 ///

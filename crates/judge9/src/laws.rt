@@ -13,11 +13,10 @@ ghost use Rattle.text9.specs.Writing.{AppendsPart};
 ghost use Rattle.judge9.specs.Verdict.{Breaks, IsOk};
 ghost use Rattle.deck9.specs.Run.{HasRun};
 
-use crate::error::JudgeError;
-use crate::verdict::{Verdict, View};
 use block9::Reason;
 use capture9::LineByte;
 use deck9::Hands;
+use verdict9::{JudgeError, Verdict, View};
 
 /// A list of records has at most one cut into exchanges and a tail.
 pub fn one_cut()

@@ -10,29 +10,18 @@
 
 mod could_show;
 mod ending;
-mod error;
 mod fewest_hands;
 mod judging;
 pub mod laws;
-mod open_records;
 mod panel;
 mod run_judging;
-mod run_verdict;
 mod trail;
 mod trail_judging;
 mod turn;
-mod verdict;
-mod verdict_line;
 mod why_judging;
-mod why_verdict;
 
 pub use deck9::is_run;
-pub use error::JudgeError;
 pub use judging::judge;
-pub use open_records::asked_len;
 pub use run_judging::judge_with_run;
-pub use run_verdict::RunVerdict;
-pub use verdict::{Verdict, View};
-pub use verdict_line::put_verdict_line;
+pub use verdict9::{JudgeError, RunVerdict, Verdict, View, WhyVerdict};
 pub use why_judging::judge_with_contradiction;
-pub use why_verdict::WhyVerdict;

@@ -7,9 +7,7 @@ ghost use Rattle.judge9.specs.Working.Trail.{JudgesRun};
 ghost use Rattle.judge9.specs.Working.Turn.{IsFresh};
 
 use crate::ending::Ending;
-use crate::error::JudgeError;
 use crate::fewest_hands::states_of_run;
-use crate::run_verdict::RunVerdict;
 use crate::trail::Trail;
 use crate::trail_judging::keep_trail;
 use crate::turn::Judging;
@@ -18,6 +16,7 @@ use capture9::{CaptureError, CaptureKind};
 use deck9::Hands;
 use std::alloc::Global;
 use std::io::Read;
+use verdict9::{JudgeError, RunVerdict};
 
 /// Judges the capture that the reader gives, as [`judge`](crate::judge) does, and hands out a yes with a run of the
 /// deck: the exchanges, and a state of the deck after each of them, such that some first state, drifts and steps of

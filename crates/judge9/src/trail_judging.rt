@@ -4,11 +4,11 @@ ghost use Rattle.judge9.specs.Working.Trail.{KeepsTrail};
 ghost use Rattle.judge9.specs.Working.Turn.{IsFresh};
 
 use crate::ending::Ending;
-use crate::error::JudgeError;
 use crate::trail::Trail;
 use crate::turn::{Judging, Turn};
 use deck9::Hands;
 use std::io::Read;
+use verdict9::JudgeError;
 
 /// Judges all the rows that are to come, and keeps their exchanges in the trail: where no run remains, with the one
 /// that breaks. The pairer keeps what is open at the end, or before the record that breaks.

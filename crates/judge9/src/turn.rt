@@ -6,7 +6,6 @@ ghost use Rattle.std.specs.Option.{ForSome};
 ghost use Rattle.capture9.specs.Rows.{rows_of};
 ghost use Rattle.judge9.specs.Working.Turn.{ComesTo, IsFresh, IsObserved};
 
-use crate::error::JudgeError;
 use block9::{Exchange, Pairer, Reason, Step};
 use capture9::{LineByte, Records};
 use deck9::Hands;
@@ -14,6 +13,7 @@ use std::alloc::{AllocError, Global};
 use std::io::Read;
 use tc25::SpanSet;
 use track9::Tracker;
+use verdict9::JudgeError;
 
 /// What a judging comes to next.
 #[derive(Drop)]

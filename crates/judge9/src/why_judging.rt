@@ -4,24 +4,22 @@ ghost use Rattle.std.specs.Prelude.{◌≡◌, ◌≢◌, IfSome, IfOk, IfErr, o
 ghost use Rattle.capture9.specs.Rows.{rows_of};
 ghost use Rattle.block9.specs.Line.{bytes_of};
 ghost use Rattle.judge9.specs.Judging.{CanBeResult, IsTheAnswer, StoppedBefore, answer_of};
-ghost use Rattle.judge9.specs.OpenRecords.{IsMeaning, asked_of};
+ghost use Rattle.verdict9.specs.OpenRecords.{IsMeaning, asked_of};
 ghost use Rattle.judge9.specs.WhyVerdict.{IsJudgedWhy, judged_of};
 ghost use Rattle.judge9.specs.Working.Trail.{JudgesWhy};
 ghost use Rattle.judge9.specs.Working.Turn.{IsFresh};
 
 use crate::could_show::could_show;
 use crate::ending::Ending;
-use crate::error::JudgeError;
-use crate::open_records::open_command;
 use crate::trail::Trail;
 use crate::trail_judging::keep_trail;
 use crate::turn::Judging;
-use crate::why_verdict::WhyVerdict;
 use block9::{Command, Pairer};
 use capture9::{CaptureError, CaptureKind, LineByte};
 use deck9::Hands;
 use std::alloc::{AllocError, Global};
 use std::io::Read;
+use verdict9::{JudgeError, WhyVerdict, open_command};
 use why9::contradicting;
 
 /// Judges the capture that the reader gives, as [`judge`](crate::judge) does, and says why a no is one.

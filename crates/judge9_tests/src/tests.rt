@@ -10,6 +10,7 @@ mod fewest_hands;
 mod hostile;
 mod lines;
 mod long;
+mod open_records;
 mod parts;
 mod read_faults;
 mod readers;

@@ -4,10 +4,10 @@ use Rattle.std.specs.Option.{IfSome}
 use Rattle.std.specs.Result.{IfErr}
 use Rattle.capture9.specs.Rows.{rows_of}
 use Rattle.deck9.specs.declared.state.Hands.{Hands}
-use Rattle.judge9.specs.declared.error.JudgeError.{JudgeError}
-use Rattle.judge9.specs.declared.error.JudgeError.TheVariants as error
-use Rattle.judge9.specs.declared.verdict.Verdict.{Verdict}
-use Rattle.judge9.specs.declared.why_verdict.WhyVerdict.{WhyVerdict}
+use Rattle.verdict9.specs.declared.error.JudgeError.{JudgeError}
+use Rattle.verdict9.specs.declared.error.JudgeError.TheVariants as error
+use Rattle.verdict9.specs.declared.verdict.Verdict.{Verdict}
+use Rattle.verdict9.specs.declared.why_verdict.WhyVerdict.{WhyVerdict}
 use Rattle.judge9.specs.Judging.{IsTheAnswer, StoppedBefore, answer_of}
 use Rattle.judge9.specs.WhyVerdict.{judged_of}
 use Rattle.program9.specs.Judging.{HandsOn, WritesWhy}

@@ -7,7 +7,7 @@ use Rattle.block9.specs.declared.command.Command.{Command}
 use Rattle.block9.specs.declared.reason.Reason.{Reason}
 use Rattle.block9.specs.Line.{bytes_of, last_time}
 use Rattle.block9.proofs.SpellingLemmas.{last_time-last}
-use Rattle.judge9.specs.OpenRecords.{answered_of, asked_of}
+use Rattle.verdict9.specs.OpenRecords.{answered_of, asked_of}
 use Rattle.report9.specs.WhyText.{hex_bytes, line_of_breaking, line_of_open, lines_of_break, since_told, text_of_records, words_if_whole}
 use Rattle.text9.proofs.PieceLemmas.{pieces2, pieces3}
 

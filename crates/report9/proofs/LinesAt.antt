@@ -2,7 +2,7 @@
 use Rattle.std.proofs.Common.{◌≡◌, ◌∙◌, ℕ, suc, ◌+◌, ◌<◌, if◌then◌else◌, List, [], ◌∷◌, ◌++◌, length, drop, get_or, drop-cons, arith, sym, ap, append_assoc}
 use Rattle.block9.specs.declared.pairer.Exchange.{Exchange}
 use Rattle.why9.specs.Contradiction.{is_among}
-use Rattle.judge9.specs.Report.{records_of}
+use Rattle.verdict9.specs.Lines.{records_of}
 use Rattle.report9.specs.WhyText.{line_of_contradicting, lines_at}
 
 -- one exchange more

@@ -6,7 +6,7 @@ use Rattle.std.specs.Io.KnownBytes.{Appends}
 use Rattle.block9.specs.declared.pairer.Exchange.{Exchange}
 use Rattle.deck9.specs.declared.state.Hands.{Hands}
 use Rattle.deck9.specs.declared.state.State.{State}
-use Rattle.judge9.specs.Report.{records_of}
+use Rattle.verdict9.specs.Lines.{records_of}
 use Rattle.text9.specs.Writing.{AppendsPart}
 use Rattle.report9.specs.RunText.{line_of_state, lines_of_run}
 use Rattle.text9.proofs.WriteLemmas.{first_part, part_after}

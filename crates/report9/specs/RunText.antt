@@ -10,11 +10,11 @@ use Rattle.deck9.specs.declared.state.Entry.{Entry}
 use Rattle.deck9.specs.declared.state.Entry.TheVariants.{Clear, At}
 use Rattle.deck9.specs.declared.state.Hands.{Hands}
 use Rattle.deck9.specs.declared.state.State.{State}
-use Rattle.judge9.specs.declared.run_verdict.RunVerdict.{RunVerdict}
-use Rattle.judge9.specs.declared.run_verdict.RunVerdict.TheVariants as run
-use Rattle.judge9.specs.declared.verdict.Verdict.TheVariants as verdict
+use Rattle.verdict9.specs.declared.run_verdict.RunVerdict.{RunVerdict}
+use Rattle.verdict9.specs.declared.run_verdict.RunVerdict.TheVariants as run
+use Rattle.verdict9.specs.declared.verdict.Verdict.TheVariants as verdict
 use Rattle.text9.specs.Explanation.{text_of_knowledge}
-use Rattle.judge9.specs.Report.{line_of, records_of}
+use Rattle.verdict9.specs.Lines.{line_of, records_of}
 
 -- all that can be known of a register: what it holds
 abbrev pub known_entry : Entry → KnownEntry

@@ -29,12 +29,12 @@ use Rattle.deck9.specs.declared.state.Hands.{Hands}
 use Rattle.deck9.specs.Mode.{name_of as name_of_mode}
 use Rattle.deck9.specs.Shows.{datum, may_show, sense_of}
 use Rattle.why9.specs.Contradiction.{is_among}
-use Rattle.judge9.specs.declared.verdict.Verdict.TheVariants as verdict
-use Rattle.judge9.specs.declared.why_verdict.WhyVerdict.{WhyVerdict}
-use Rattle.judge9.specs.declared.why_verdict.WhyVerdict.TheVariants as why
+use Rattle.verdict9.specs.declared.verdict.Verdict.TheVariants as verdict
+use Rattle.verdict9.specs.declared.why_verdict.WhyVerdict.{WhyVerdict}
+use Rattle.verdict9.specs.declared.why_verdict.WhyVerdict.TheVariants as why
 use Rattle.text9.specs.Explanation.{has_bit, hex_byte, text_of_fields}
-use Rattle.judge9.specs.OpenRecords.{answered_of, asked_of}
-use Rattle.judge9.specs.Report.{line_of, records_of}
+use Rattle.verdict9.specs.OpenRecords.{answered_of, asked_of}
+use Rattle.verdict9.specs.Lines.{line_of, records_of}
 
 -- ---- pieces
 

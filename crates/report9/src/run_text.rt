@@ -3,17 +3,17 @@ mod state_line;
 
 ghost use Rattle.std.specs.Prelude.{◌≡◌, ◌≤◌, OnErr, OnOk, IfErr};
 ghost use Rattle.std.specs.Io.KnownBytes.{Appends};
-ghost use Rattle.judge9.specs.Report.{line_of, records_of};
+ghost use Rattle.verdict9.specs.Lines.{line_of, records_of};
 ghost use Rattle.text9.specs.Writing.{AppendsPart, Writes};
 ghost use Rattle.report9.specs.RunText.{lines_of_run, text_of_run};
-ghost use Rattle.judge9.specs.declared.verdict.Verdict.TheVariants as verdict;
+ghost use Rattle.verdict9.specs.declared.verdict.Verdict.TheVariants as verdict;
 
 use block9::{Exchange, Reason};
 use deck9::{Hands, State};
-use judge9::{JudgeError, RunVerdict};
 use state_line::write_state_line;
 use std::io::Write;
 use text9::{WriteFault, write_count, write_text, write_word};
+use verdict9::{JudgeError, RunVerdict};
 
 /// Writes the text of a run: for a yes a line for each exchange, with the number of its last record and the state after
 /// it, and then the line of the verdict; for a no that line alone.

@@ -8,9 +8,9 @@ mod said;
 
 ghost use Rattle.std.specs.Prelude.{◌≡◌, ◌⊎◌, ◌++◌, [], OnOk, IfErr};
 ghost use Rattle.std.specs.Io.KnownBytes.{Appends};
-ghost use Rattle.judge9.specs.Report.{line_of};
+ghost use Rattle.verdict9.specs.Lines.{line_of};
 ghost use Rattle.text9.specs.Writing.{AppendsPart};
-ghost use Rattle.judge9.specs.declared.verdict.Verdict.TheVariants as verdict;
+ghost use Rattle.verdict9.specs.declared.verdict.Verdict.TheVariants as verdict;
 ghost use Rattle.report9.specs.WhyText.{line_of_could_show, lines_at, text_of_shown, text_of_why};
 
 use crate::run_text::records_of;
@@ -18,12 +18,12 @@ use block9::{Exchange, Reason};
 use break_lines::put_break;
 use deck9::Hands;
 use exchange_line::put_contradicting;
-use judge9::{JudgeError, Verdict, WhyVerdict, put_verdict_line};
 use modes::{Choice, put_modes};
 use std::alloc::{AllocError, Global};
 use std::io::Write;
 use text9::{WriteFault, put_all, put_fields, put_text};
 use track9::{Knowledge, ModeSet};
+use verdict9::{JudgeError, Verdict, WhyVerdict, put_verdict_line};
 
 /// Writes why a capture is a no: where no run of the deck remains a line for each of the replies that contradict one
 /// another, then what the deck could show when it gave the last of them; where a rule of blocks, pairing or timing is

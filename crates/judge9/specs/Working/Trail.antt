@@ -16,14 +16,14 @@ use Rattle.track9.specs.Tracker.{Possible, Tracked}
 use Rattle.why9.specs.Contradiction.{BreaksAtLast}
 use Rattle.judge9.specs.declared.ending.Ending.{Ending}
 use Rattle.judge9.specs.declared.ending.Ending.TheVariants as ending
-use Rattle.judge9.specs.declared.error.JudgeError.{JudgeError}
-use Rattle.judge9.specs.declared.error.JudgeError.TheVariants as error
-use Rattle.judge9.specs.declared.run_verdict.RunVerdict.{RunVerdict}
-use Rattle.judge9.specs.declared.verdict.Verdict.{Verdict}
-use Rattle.judge9.specs.declared.verdict.Verdict.TheVariants as verdict
-use Rattle.judge9.specs.declared.verdict.View.TheVariants as view
-use Rattle.judge9.specs.declared.why_verdict.WhyVerdict.{WhyVerdict}
-use Rattle.judge9.specs.OpenRecords.{IsBreakAfter}
+use Rattle.verdict9.specs.declared.error.JudgeError.{JudgeError}
+use Rattle.verdict9.specs.declared.error.JudgeError.TheVariants as error
+use Rattle.verdict9.specs.declared.run_verdict.RunVerdict.{RunVerdict}
+use Rattle.verdict9.specs.declared.verdict.Verdict.{Verdict}
+use Rattle.verdict9.specs.declared.verdict.Verdict.TheVariants as verdict
+use Rattle.verdict9.specs.declared.verdict.View.TheVariants as view
+use Rattle.verdict9.specs.declared.why_verdict.WhyVerdict.{WhyVerdict}
+use Rattle.verdict9.specs.OpenRecords.{IsBreakAfter}
 use Rattle.judge9.specs.RunVerdict.{HasItsRun, judged_of}
 use Rattle.judge9.specs.WhyVerdict.{HasItsWhy}
 use Rattle.judge9.specs.WhyVerdict.{judged_of as why_judged_of}

@@ -14,12 +14,12 @@ use Rattle.deck9.specs.declared.state.State.{State}
 use Rattle.deck9.specs.State.{IsFirst}
 use Rattle.deck9.specs.Step.{AreReached, Exchanges}
 use Rattle.track9.specs.Tracker.{Possible, Tracked}
-use Rattle.judge9.specs.declared.error.JudgeError.{JudgeError}
-use Rattle.judge9.specs.declared.error.JudgeError.TheVariants as error
+use Rattle.verdict9.specs.declared.error.JudgeError.{JudgeError}
+use Rattle.verdict9.specs.declared.error.JudgeError.TheVariants as error
 use Rattle.judge9.specs.declared.turn.Judging.{Judging}
 use Rattle.judge9.specs.declared.turn.Turn.{Turn}
 use Rattle.judge9.specs.declared.turn.Turn.TheVariants as turn
-use Rattle.judge9.specs.Error.{refusal_of}
+use Rattle.verdict9.specs.Error.{refusal_of}
 
 -- nothing was judged yet
 pub record IsFresh {R : Type 0} (h : Hands) (j : Judging R) : Type 0 where

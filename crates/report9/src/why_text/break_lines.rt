@@ -7,9 +7,9 @@ use crate::why_text::block_bytes::put_next;
 use crate::why_text::exchange_line::{put_records, put_words};
 use block9::{Command, Reason};
 use capture9::{LineByte, Wire};
-use judge9::asked_len;
 use std::alloc::AllocError;
 use text9::{put_count, put_hex, put_text, put_word};
+use verdict9::asked_len;
 
 /// Puts the line of the open command, that of its reply, each where it has records, and that of the record that breaks.
 pub(super) fn put_break(

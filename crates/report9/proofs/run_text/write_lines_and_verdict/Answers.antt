@@ -1,6 +1,6 @@
 use Rattle.std.proofs.Common.{length}
-use Rattle.judge9.specs.declared.verdict.Verdict.TheVariants as verdict
-use Rattle.judge9.specs.Report.{line_of}
+use Rattle.verdict9.specs.declared.verdict.Verdict.TheVariants as verdict
+use Rattle.verdict9.specs.Lines.{line_of}
 use Rattle.report9.specs.RunText.{lines_of_run}
 use Rattle.text9.proofs.WriteLemmas.{piece_after}
 use Rattle.report9.proofs.run_text.write_lines_and_verdict.Goals as goal

@@ -1,7 +1,7 @@
 use Rattle.std.proofs.Common.{◌∙◌, ◌+◌, ◌-◌, ◌++◌, ap, length, sym}
 use Rattle.std.proofs.lemmas.Result.{on_ok_weaker}
-use Rattle.judge9.specs.declared.verdict.Verdict.TheVariants.{No}
-use Rattle.judge9.specs.Report.{line_of}
+use Rattle.verdict9.specs.declared.verdict.Verdict.TheVariants.{No}
+use Rattle.verdict9.specs.Lines.{line_of}
 use Rattle.report9.specs.WhyText.{lines_of_break, text_of_why}
 use Rattle.text9.proofs.PieceLemmas.{pieces2}
 use Rattle.report9.proofs.why_text.put_why.Goals as goal

@@ -1,6 +1,6 @@
 use Rattle.std.proofs.Common.{◌++◌, codes}
 use Rattle.std.proofs.lemmas.Result.{on_ok_weaker}
-use Rattle.judge9.specs.Report.{records_of}
+use Rattle.verdict9.specs.Lines.{records_of}
 use Rattle.report9.specs.WhyText.{line_of_contradicting, text_of_answered, text_of_asked, text_of_records}
 use Rattle.text9.proofs.PieceLemmas.{pieces4}
 use Rattle.report9.proofs.why_text.exchange_line.put_contradicting.Goals as goal

@@ -8,7 +8,7 @@ use Rattle.block9.specs.declared.command.Command.{Command}
 use Rattle.block9.specs.Block.{Spells}
 use Rattle.block9.specs.Command.{command_of}
 use Rattle.block9.proofs.LineLemmas.{spelled_once}
-use Rattle.judge9.specs.OpenRecords.{IsMeaning, answered_of, asked_of, is_asked}
+use Rattle.verdict9.specs.OpenRecords.{IsMeaning, answered_of, asked_of, is_asked}
 
 -- the first records, so many, are the command's
 pub record AreAsked (tail : List LineByte) (n : ℕ) : Type 0 where

@@ -24,7 +24,7 @@ pub enum JudgeError {
 
 impl From<CaptureError> for JudgeError {
     ghost use Rattle.std.specs.Prelude.{◌≡◌};
-    ghost use Rattle.judge9.specs.Error.{refusal_of};
+    ghost use Rattle.verdict9.specs.Error.{refusal_of};
 
     ghost from_gives = { λ e refusal. refusal ≡ refusal_of e };
 
@@ -38,7 +38,7 @@ impl From<CaptureError> for JudgeError {
 
 impl From<AllocError> for JudgeError {
     ghost use Rattle.std.specs.Prelude.{◌≡◌};
-    ghost use Rattle.judge9.specs.declared.error.JudgeError.TheVariants.{OutOfMemory};
+    ghost use Rattle.verdict9.specs.declared.error.JudgeError.TheVariants.{OutOfMemory};
 
     ghost from_gives = { λ e refusal. refusal ≡ OutOfMemory };
 

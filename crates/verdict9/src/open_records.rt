@@ -1,7 +1,7 @@
 //! The records that are open where a record breaks a rule: those of a command, and behind them those of its reply.
 ghost use Rattle.std.specs.Prelude.{◌≡◌, ◌≤◌, IfOk, drop, length, take};
 ghost use Rattle.block9.specs.Line.{bytes_of};
-ghost use Rattle.judge9.specs.OpenRecords.{IsMeaning, answered_of, asked_of, is_asked};
+ghost use Rattle.verdict9.specs.OpenRecords.{IsMeaning, answered_of, asked_of, is_asked};
 
 use block9::{Block, Command};
 use capture9::{LineByte, Wire};
@@ -31,8 +31,10 @@ fn is_asked(wire: Wire) -> bool
     }
 }
 
-/// What the open command means, where it is whole.
-pub(crate) fn open_command(alloc: Global, tail: &[LineByte]) -> Result<Option<Command>, AllocError>
+/// What the command means that these open records begin with, where it is whole and means something.
+///
+/// An error comes where memory for its bytes is refused.
+pub fn open_command(alloc: Global, tail: &[LineByte]) -> Result<Option<Command>, AllocError>
     ensures { IfOk result (IsMeaning (bytes_of (asked_of tail.now))) }
 {
     let bytes = bytes_of(alloc, &tail[..asked_len(tail)])?;

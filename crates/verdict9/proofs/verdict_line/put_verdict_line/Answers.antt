@@ -2,7 +2,7 @@ use Rattle.std.proofs.Common.{codes}
 use Rattle.std.specs.Fmt.{decimal}
 use Rattle.std.proofs.lemmas.Result.{on_ok_weaker}
 use Rattle.text9.proofs.PieceLemmas.{pieces_of_yes}
-use Rattle.judge9.proofs.verdict_line.put_verdict_line.Goals as goal
+use Rattle.verdict9.proofs.verdict_line.put_verdict_line.Goals as goal
 
 pub returns-in_ok-put_count-in-Yes-3 : goal.returns-in_ok-put_count-in-Yes-3
 returns-in_ok-put_count-in-Yes-3 c =

@@ -1,6 +1,6 @@
 //! The line that reports a verdict, put to the end of a buffer.
 ghost use Rattle.std.specs.Prelude.{◌≡◌, ◌++◌, OnOk};
-ghost use Rattle.judge9.specs.Report.{line_of};
+ghost use Rattle.verdict9.specs.Lines.{line_of};
 
 use crate::verdict::Verdict;
 use std::alloc::AllocError;

@@ -1,6 +1,6 @@
 use Rattle.std.proofs.Common.{◌≡◌, ◌∙◌, arith, length, subst, sym}
-use Rattle.judge9.proofs.OpenLemmas.{AreAsked, answered_all, answered_end, asked-more, asked-start, asked_all, asked_end}
-use Rattle.judge9.proofs.open_records.asked_len.Goals as goal
+use Rattle.verdict9.proofs.OpenLemmas.{AreAsked, answered_all, answered_end, asked-more, asked-start, asked_all, asked_end}
+use Rattle.verdict9.proofs.open_records.asked_len.Goals as goal
 
 pub loop-place-init : goal.loop-place-init
 loop-place-init c = asked-start c.args.tail.now

@@ -1,0 +1,48 @@
+//! Which of some open records are the command's, and what it means, by hand.
+
+use super::same;
+use block9::Command;
+use capture9::{LineByte, Wire};
+use std::alloc::{AllocError, Global};
+use std::test::Fail;
+use verdict9::{asked_len, open_command};
+
+/// Bytes of the controller and of the deck behind them, how many are the command's, and what it means.
+type Row<'a> = (&'a [u8], &'a [u8], usize, Option<Command>);
+
+/// 20 01 21 is PLAY; with another sum it is no block.
+const ROWS: [Row; 7] = [
+    (&[], &[], 0, None),
+    (&[0x20], &[], 1, None),
+    (&[0x20, 0x01], &[], 2, None),
+    (&[0x20, 0x01, 0x21], &[], 3, Some(Command::Play)),
+    (&[0x20, 0x01, 0x21], &[0x10, 0x01], 3, Some(Command::Play)),
+    (&[0x20, 0x01, 0x22], &[0x10], 3, None),
+    (&[], &[0x10, 0x01], 0, None),
+];
+
+/// The records of these bytes.
+fn records(alloc: Global, asked: &[u8], answered: &[u8]) -> Result<Vec<LineByte>, AllocError> {
+    let mut records = Vec::new(alloc);
+    for (wire, bytes) in [(Wire::Controller, asked), (Wire::Deck, answered)] {
+        for byte in bytes {
+            records.push(LineByte {
+                time_us: 400,
+                wire,
+                byte: *byte,
+            })?;
+        }
+    }
+    Ok(records)
+}
+
+#[test]
+fn of_a_command(rt: HostRuntime) -> Result<(), Fail> {
+    for (asked, answered, len, meaning) in &ROWS {
+        let tail = records(rt.alloc(), asked, answered)?;
+        same(&rt, asked_len(tail.as_slice()), *len, asked);
+        let command = open_command(rt.alloc(), tail.as_slice())?;
+        same(&rt, command, *meaning, asked);
+    }
+    Ok(())
+}
