@@ -4,7 +4,7 @@ use Rattle.std.proofs.lemmas.Bool.{cases_lt}
 use Rattle.capture9.specs.declared.line_byte.LineByte.{LineByte}
 use Rattle.block9.specs.declared.pairer.Exchange.{Exchange}
 use Rattle.block9.specs.declared.reason.Reason.{Reason}
-use Rattle.block9.specs.declared.reason.Reason.TheVariants.{WrongGroup, WrongSum, ByteGap, ReplyWithoutCommand, ReplyInsideCommand, CommandBeforeReply, CommandInsideReply, WrongReply, InvalidCommandTime, InvalidReplyTime, LateReply, NoReply, NoRun}
+use Rattle.block9.specs.declared.reason.Reason.TheVariants.{NoRun}
 use Rattle.block9.specs.Exchange.{Cut, IsExchange, IsKept}
 use Rattle.block9.specs.Line.{last_time}
 use Rattle.block9.specs.Reason.{Holds, IsFirst, IsReason, order}

@@ -1,12 +1,11 @@
 -- What a judging with its trail tells where it ends: a run of the deck, or why none remains.
-use Rattle.std.proofs.Common.{◌≡◌, ℕ, List, [], length, take, Option, None, Result, Ok, Err, sym, subst}
+use Rattle.std.proofs.Common.{◌≡◌, ℕ, List, [], take, Option, None, Ok, Err, sym, subst}
 use Rattle.std.specs.Global.{Vec}
 use Rattle.capture9.specs.declared.line_byte.LineByte.{LineByte}
 use Rattle.capture9.specs.Rows.{Rows}
 use Rattle.block9.specs.declared.command.Command.{Command}
 use Rattle.block9.specs.declared.pairer.Exchange.{Exchange}
 use Rattle.block9.specs.declared.reason.Reason.{Reason}
-use Rattle.block9.specs.declared.reason.Reason.TheVariants.{NoRun}
 use Rattle.block9.specs.Exchange.{Cut}
 use Rattle.block9.specs.Line.{bytes_of}
 use Rattle.deck9.specs.declared.state.Hands.{Hands}
@@ -14,15 +13,11 @@ use Rattle.deck9.specs.declared.state.State.{State}
 use Rattle.deck9.specs.Run.{IsRun}
 use Rattle.track9.specs.Tracker.{Tracked}
 use Rattle.why9.specs.Contradiction.{IsContradiction}
-use Rattle.judge9.specs.declared.ending.Ending.{Ending}
 use Rattle.judge9.specs.declared.ending.Ending.TheVariants as ending
-use Rattle.verdict9.specs.declared.error.JudgeError.{JudgeError}
 use Rattle.verdict9.specs.declared.error.JudgeError.TheVariants as error
-use Rattle.verdict9.specs.declared.run_verdict.RunVerdict.{RunVerdict}
 use Rattle.verdict9.specs.declared.run_verdict.RunVerdict.TheVariants as run
 use Rattle.verdict9.specs.declared.verdict.Verdict.{Verdict}
 use Rattle.verdict9.specs.declared.verdict.View.TheVariants as view
-use Rattle.verdict9.specs.declared.why_verdict.WhyVerdict.{WhyVerdict}
 use Rattle.verdict9.specs.declared.why_verdict.WhyVerdict.TheVariants as why
 use Rattle.verdict9.specs.OpenRecords.{IsBreakAfter, IsMeaning, asked_of}
 use Rattle.judge9.specs.Report.{Told}

@@ -1,17 +1,14 @@
 -- The text of a report, and how much of it was written.
-use Rattle.std.specs.Prelude.{◌≡◌, ◌⊎◌, ℕ, ◌+◌, ◌-◌, List, [], ◌∷◌, ◌++◌, codes, length, take, Option, Result, Ok, Err}
+use Rattle.std.specs.Prelude.{◌≡◌, ◌⊎◌, ℕ, ◌+◌, ◌-◌, List, [], ◌∷◌, ◌++◌, length, take, Option, Result, Ok, Err}
 use Rattle.std.specs.Option.{IfNone, IfSome}
 use Rattle.std.specs.Io.KnownBytes.{Appends}
-use Rattle.std.specs.Fmt.{decimal}
 use Rattle.capture9.specs.declared.line_byte.LineByte.{LineByte}
 use Rattle.capture9.specs.Capture.{IsStartOf}
 use Rattle.capture9.specs.Error.{IsAfter}
 use Rattle.capture9.specs.Rows.{Rows}
 use Rattle.capture9.specs.SomeText.{IsOfSomeText}
 use Rattle.block9.specs.declared.pairer.Exchange.{Exchange}
-use Rattle.block9.specs.Block.{spelling}
 use Rattle.block9.specs.Exchange.{Cut}
-use Rattle.block9.specs.Reason.{name_of, text_of}
 use Rattle.track9.specs.declared.knowledge.Knowledge.{Knowledge}
 use Rattle.deck9.specs.declared.state.Hands.{Hands}
 use Rattle.track9.specs.Knowledge.{IsKnowledge}
