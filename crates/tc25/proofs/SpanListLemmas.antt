@@ -1,8 +1,9 @@
 -- Spans in several lists: where a frame goes, and what becomes of the whole where one list changes.
-use Rattle.std.proofs.Common.{ℕ, ◌≡◌, ◌+◌, ◌-◌, ◌*◌, ◌<◌, ◌≤◌, Bool, true, false, cond, ltb, leb, ◌||◌, List, [], ◌∷◌, ◌++◌, min, max, length, get_or, take, drop, set, None, Vec, refl, sym, ap, subst, ◌∙◌, inl, inr, add-one, append-nil, append_assoc, length-append, Result, Ok, Err, arith, zero, suc}
-use Rattle.std.proofs.lemmas.Bool.{cases_Bool, cases_lt, ltb-false, lt-ltb, le-ltb, le-leb, lt-leb}
+use Rattle.std.proofs.Common.{ℕ, ◌≡◌, ◌+◌, ◌-◌, ◌*◌, ◌<◌, ◌≤◌, Bool, true, false, cond, leb, ◌||◌, List, [], ◌∷◌, ◌++◌, length, get_or, take, drop, set, None, Vec, refl, sym, ap, subst, ◌∙◌, add-one, append-nil, append_assoc, length-append, Result, Ok, Err, arith, zero, suc}
+use Rattle.std.proofs.lemmas.Bool.{lt-ltb, lt-leb}
+use native.Mathlib.Nat.{suc-add}
 use Rattle.std.proofs.lemmas.Bool.Decides.{nat_tests}
-use Rattle.std.proofs.lemmas.List.{drop_all, get_or-map, get_or-set_same, length-map, set-get_or, take-append-drop, take-set}
+use Rattle.std.proofs.lemmas.List.{drop_all, drop-set-lt, get_or-map, get_or-set_same, length-map, map-set, take-append-drop, take-set}
 use Rattle.std.proofs.lemmas.List.Edits.{get_or-insert_below}
 use Rattle.std.specs.List.{insert, remove}
 use Rattle.std.specs.List.Sorted.{IsNonDecreasingBy}
@@ -20,23 +21,15 @@ use Rattle.tc25.proofs.SpansLemmas.{canonical_from, uncovered_below, grown}
 
 -- ---- the whole, around the list at a place
 
-around_suc : (ls : List (List Span)) (p : ℕ) → p < length ls → end_to_end ls ≡ end_to_end (take p ls) ++ (get_or ls p [] ++ end_to_end (drop (suc p) ls))
-around_suc [] p h = absurd (omega arith)
-around_suc (l ∷ ls) zero h = refl
-around_suc (l ∷ ls) (suc p) h = ap (λ xs. l ++ xs) (around_suc ls p (omega arith)) ∙ sym (append_assoc l _ _)
-
 pub around : (ls : List (List Span)) (p : ℕ) → p < length ls → end_to_end ls ≡ end_to_end (take p ls) ++ (get_or ls p [] ++ end_to_end (drop (p + 1) ls))
-around ls p h = rw (add-one p) (around_suc ls p h)
+around [] p h = absurd (omega arith)
+around (l ∷ ls) zero h = refl
+around (l ∷ ls) (suc p) h = rw suc-add (ap (λ xs. l ++ xs) (around ls p (omega arith)) ∙ sym (append_assoc l _ _))
 
-take_set_suc : (ls : List (List Span)) (p : ℕ) (xs : List Span) → p < length ls → end_to_end (take (suc p) (set ls p xs)) ≡ end_to_end (take p ls) ++ xs
-take_set_suc [] p xs h = absurd (omega arith)
-take_set_suc (l ∷ ls) zero xs h = append-nil xs
-take_set_suc (l ∷ ls) (suc p) xs h = ap (λ ys. l ++ ys) (take_set_suc ls p xs (omega arith)) ∙ sym (append_assoc l _ _)
-
-drop_set_suc : (ls : List (List Span)) (p : ℕ) (xs : List Span) → drop (suc p) (set ls p xs) ≡ drop (suc p) ls
-drop_set_suc [] p xs = refl
-drop_set_suc (l ∷ ls) zero xs = refl
-drop_set_suc (l ∷ ls) (suc p) xs = drop_set_suc ls p xs
+take_set_next : (ls : List (List Span)) (p : ℕ) (xs : List Span) → p < length ls → end_to_end (take (p + 1) (set ls p xs)) ≡ end_to_end (take p ls) ++ xs
+take_set_next [] p xs h = absurd (omega arith)
+take_set_next (l ∷ ls) zero xs h = append-nil xs
+take_set_next (l ∷ ls) (suc p) xs h = rw suc-add (ap (λ ys. l ++ ys) (take_set_next ls p xs (omega arith)) ∙ sym (append_assoc l _ _))
 
 -- a list that is cut in two leaves the whole as it was
 cut_suc : (ls : List (List Span)) (p n : ℕ) (lower upper : List Span) → p < length ls → upper ≡ drop n (get_or ls p []) → lower ≡ take n (get_or (insert ls (suc p) upper) p [])
@@ -45,10 +38,6 @@ cut_suc [] p n lower upper h up low = absurd (omega arith)
 cut_suc (l ∷ ls) zero n lower upper h up low = rw (low, up) (sym (append_assoc (take n l) (drop n l) (end_to_end ls)) ∙ ap (λ xs. xs ++ end_to_end ls) (take-append-drop n l))
 cut_suc (l ∷ ls) (suc p) n lower upper h up low = ap (λ xs. l ++ xs) (cut_suc ls p n lower upper (omega arith) up low)
 
-pub cut_is : (l : List Span) (ls : List (List Span)) (p n : ℕ) (lower upper : List Span) → p ≤ length ls → upper ≡ drop n (get_or (l ∷ ls) p []) → lower ≡ take n (get_or (l ∷ insert ls p upper) p [])
-    → end_to_end (set (l ∷ insert ls p upper) p lower) ≡ end_to_end (l ∷ ls)
-cut_is l ls p n lower upper h up low = cut_suc (l ∷ ls) p n lower upper (omega arith) up low
-
 -- ---- no list is empty
 
 pub filled_at : (ls : List (List Span)) (p : ℕ) → AllFilled ls → p < length ls → 0 < length (get_or ls p [])
@@ -56,32 +45,30 @@ filled_at [] p f h = absurd (omega arith)
 filled_at (l ∷ ls) zero f h = f.0
 filled_at (l ∷ ls) (suc p) f h = filled_at ls p f.1 (omega arith)
 
-pub filled_set : (ls : List (List Span)) (p : ℕ) (xs : List Span) → AllFilled ls → 0 < length xs → AllFilled (set ls p xs)
-filled_set [] p xs f some = f
-filled_set (l ∷ ls) zero xs f some = (some, f.1)
-filled_set (l ∷ ls) (suc p) xs f some = (f.0, filled_set ls p xs f.1 some)
+pub filled_set : (vs : List (Vec Span Global)) (p : ℕ) (v : Vec Span Global) → AllFilled (lists_in vs) → 0 < length v.items → AllFilled (lists_in (set vs p v))
+filled_set [] p v f some = f
+filled_set (w ∷ vs) zero v f some = (some, f.1)
+filled_set (w ∷ vs) (suc p) v f some = (f.0, filled_set vs p v f.1 some)
 
-pub filled_insert : (ls : List (List Span)) (p : ℕ) (xs : List Span) → AllFilled ls → 0 < length xs → AllFilled (insert ls p xs)
-filled_insert [] zero xs f some = (some, tt)
-filled_insert [] (suc p) xs f some = (some, tt)
-filled_insert (l ∷ ls) zero xs f some = (some, f)
-filled_insert (l ∷ ls) (suc p) xs f some = (f.0, filled_insert ls p xs f.1 some)
+pub filled_insert : (vs : List (Vec Span Global)) (p : ℕ) (v : Vec Span Global) → AllFilled (lists_in vs) → 0 < length v.items → AllFilled (lists_in (insert vs p v))
+filled_insert [] zero v f some = (some, tt)
+filled_insert [] (suc p) v f some = (some, tt)
+filled_insert (w ∷ vs) zero v f some = (some, f)
+filled_insert (w ∷ vs) (suc p) v f some = (f.0, filled_insert vs p v f.1 some)
 
-pub filled_remove : (ls : List (List Span)) (p : ℕ) → AllFilled ls → AllFilled (remove ls p)
+pub filled_remove : (vs : List (Vec Span Global)) (p : ℕ) → AllFilled (lists_in vs) → AllFilled (lists_in (remove vs p))
 filled_remove [] zero f = tt
 filled_remove [] (suc p) f = tt
-filled_remove (l ∷ ls) zero f = f.1
-filled_remove (l ∷ ls) (suc p) f = (f.0, filled_remove ls p f.1)
+filled_remove (w ∷ vs) zero f = f.1
+filled_remove (w ∷ vs) (suc p) f = (f.0, filled_remove vs p f.1)
 
 -- ---- vectors, and the lists in them
 
-lists_in-length : (vs : List (Vec Span Global)) → length (lists_in vs) ≡ length vs
+pub lists_in-length : (vs : List (Vec Span Global)) → length (lists_in vs) ≡ length vs
 lists_in-length vs = length-map vs (λ (v : Vec Span Global). v.items)
 
 pub lists_in-set : (vs : List (Vec Span Global)) (p : ℕ) (v : Vec Span Global) → lists_in (set vs p v) ≡ set (lists_in vs) p v.items
-lists_in-set [] p v = refl
-lists_in-set (w ∷ vs) zero v = refl
-lists_in-set (w ∷ vs) (suc p) v = ap (λ ls. w.items ∷ ls) (lists_in-set vs p v)
+lists_in-set vs p v = map-set (λ (w : Vec Span Global). w.items) vs p v
 
 pub lists_in-insert : (vs : List (Vec Span Global)) (p : ℕ) (v : Vec Span Global) → lists_in (insert vs p v) ≡ insert (lists_in vs) p v.items
 lists_in-insert [] zero v = refl
@@ -102,10 +89,7 @@ lists_in-at vs p v h at = get_or-map (λ (w : Vec Span Global). w.items) vs p v 
 
 pub canonical_behind : (low : ℕ) (us bs : List Span) → IsCanonical low (us ++ bs) → IsCanonical low bs
 canonical_behind low [] bs c = c
-canonical_behind low (s ∷ us) bs c =
-    let from = c.0 in
-    let ordered = c.1.0 in
-    canonical_from low (s.last + 2) bs (omega arith) (canonical_behind (s.last + 2) us bs c.2)
+canonical_behind low (s ∷ us) bs c = canonical_from low (s.last + 2) bs (omega arith) (canonical_behind (s.last + 2) us bs c.2)
 
 pub canonical_front_of : (low : ℕ) (us bs : List Span) → IsCanonical low (us ++ bs) → IsCanonical low us
 canonical_front_of low [] bs c = tt
@@ -149,9 +133,7 @@ begins_from low (v ∷ vs) f c (suc k) d h = begins_from low vs f.1 (canonical_b
 
 past_begin : (low : ℕ) (xs ys : List Span) → IsCanonical low (xs ++ ys) → 0 < length xs → IsCanonical (begin_of xs) ys
 past_begin low [] ys c some = absurd (omega arith)
-past_begin low (s ∷ xs) ys c some =
-    let ordered = c.1.0 in
-    canonical_from s.first (s.last + 2) ys (omega arith) (canonical_behind (s.last + 2) xs ys c.2)
+past_begin low (s ∷ xs) ys c some = canonical_from s.first (s.last + 2) ys (omega arith) (canonical_behind (s.last + 2) xs ys c.2)
 
 pub begins_rise : (low : ℕ) (vs : List (Vec Span Global)) → AllFilled (lists_in vs) → IsCanonical low (end_to_end (lists_in vs)) → IsNonDecreasingBy (λ (v : Vec Span Global). begin_of v.items) vs
 begins_rise low [] f c i j d le h = absurd (omega arith)
@@ -188,22 +170,19 @@ place_is f first vs n filled c fits below above = record {
         let h : m < length (lists_in vs) = omega (arith, lists_in-length vs) in
         let b = begin_in vs m (omega arith) in
         let some = filled_at (lists_in vs) m filled h in
-        let after = get_or (lists_in vs) m [] ++ end_to_end (drop (suc m) (lists_in vs)) in
-        let whole = around_suc (lists_in vs) m h in
+        let after = get_or (lists_in vs) m [] ++ end_to_end (drop (m + 1) (lists_in vs)) in
+        let whole = around (lists_in vs) m h in
         let parted : first ++ end_to_end (lists_in vs) ≡ (first ++ end_to_end (take m (lists_in vs))) ++ after = ap (λ xs. first ++ xs) whole ∙ sym (append_assoc first _ after) in
         end_before f 0 (first ++ end_to_end (take m (lists_in vs))) after (subst (IsCanonical 0) parted c)
-        (omega (arith, length-append (get_or (lists_in vs) m []) (end_to_end (drop (suc m) (lists_in vs)))))
-        (rw (begin_of-append (get_or (lists_in vs) m []) (end_to_end (drop (suc m) (lists_in vs))) some, b.1) (below m b.0 (omega arith)))
+        (omega (arith, length-append (get_or (lists_in vs) m []) (end_to_end (drop (m + 1) (lists_in vs)))))
+        (rw (begin_of-append (get_or (lists_in vs) m []) (end_to_end (drop (m + 1) (lists_in vs))) some, b.1) (below m b.0 (omega arith)))
 
 -- ---- what is covered, and one frame more
 
 pub covered_at : (f : ℕ) (us ps bs : List Span) → EndBefore f us → IsCanonical (f + 1) bs → is_covered f (us ++ (ps ++ bs)) ≡ is_covered f ps
 covered_at f [] [] bs e c = uncovered_below (f + 1) bs c f (omega arith)
 covered_at f [] (s ∷ ps) bs e c = ap (λ b. in_span f s || b) (covered_at f [] ps bs e c)
-covered_at f (s ∷ us) ps bs e c =
-    let ends = e.0 in
-    let here : in_span f s ≡ false = grind (arith, nat_tests) in
-    ap (λ b. b || is_covered f (us ++ (ps ++ bs))) here ∙ covered_at f us ps bs e.1 c
+covered_at f (s ∷ us) ps bs e c = let later = covered_at f us ps bs e.1 c in grind (arith, nat_tests)
 
 pub with_frame-past : (f : ℕ) (us xs : List Span) → EndBefore f us → with_frame f (us ++ xs) ≡ us ++ with_frame f xs
 with_frame-past f [] xs e = refl
@@ -211,22 +190,15 @@ with_frame-past f (s ∷ us) xs e = rw (lt-ltb (s.last + 1) f e.0) (ap (λ ys. s
 
 pub some_with_frame : (f : ℕ) (xs : List Span) → 0 < length (with_frame f xs)
 some_with_frame f [] = omega arith
-some_with_frame f (s ∷ xs) =
-    elim (cases_Bool (ltb (s.last + 1) f)) [
-      | inl later ↦ rw later (omega arith)
-      | inr near ↦ rw near (elim (cases_Bool (ltb (f + 1) s.first)) [
-        | inl before ↦ rw before (omega arith)
-        | inr touch ↦ rw touch (some_glued (grown f s) xs)
-      ])
-    ]
+some_with_frame f (s ∷ xs) = let glued = some_glued (grown f s) xs in grind (arith, nat_tests)
   where
     some_glued : (s : Span) (xs : List Span) → 0 < length (glue s xs)
     some_glued s [] = omega arith
-    some_glued s (t ∷ xs) = elim (cases_Bool (leb t.first (s.last + 1))) [ inl touch ↦ rw touch (omega arith) | inr apart ↦ rw apart (omega arith) ]
+    some_glued s (t ∷ xs) = grind (arith, nat_tests)
 
 glue-apart_from : (s : Span) (xs : List Span) → IsCanonical (s.last + 2) xs → glue s xs ≡ s ∷ xs
 glue-apart_from s [] c = refl
-glue-apart_from s (t ∷ xs) c = let from = c.0 in rw (lt-leb t.first (s.last + 1) (omega arith)) refl
+glue-apart_from s (t ∷ xs) c = rw (lt-leb t.first (s.last + 1) (omega arith)) refl
 
 meet-canonical : (s : Span) (ps bs : List Span) → IsCanonical (s.last + 2) (ps ++ bs) → meet (s ∷ ps) bs ≡ s ∷ (ps ++ bs)
 meet-canonical s [] bs c = glue-apart_from s bs c
@@ -244,32 +216,20 @@ meet-nil (s ∷ t ∷ xs) = ap (λ ys. s ∷ ys) (meet-nil (t ∷ xs))
 glue-meets : (s : Span) (last : ℕ) (ps bs : List Span) → IsCanonical (last + 2) (ps ++ bs) → s.last ≤ last + 1 → glue s (ps ++ bs) ≡ meet (glue s ps) bs
 glue-meets s last [] bs c le = refl
 glue-meets s last (t ∷ ps) bs c le =
-    elim (cases_Bool (leb t.first (s.last + 1))) [
-      | inl touch ↦ rw touch (sym (meet-canonical (record { first = s.first; last = t.last }) ps bs c.2))
-      | inr apart ↦ rw apart (ap (λ ys. s ∷ ys) (sym (meet-canonical t ps bs c.2)))
-    ]
+    let touching = meet-canonical (record { first = s.first; last = t.last }) ps bs c.2 in
+    let apart = meet-canonical t ps bs c.2 in
+    grind (arith, nat_tests)
 
 -- a frame that goes into the first of two lists
 pub with_frame-meets : (f low : ℕ) (ps bs : List Span) → IsCanonical low (ps ++ bs) → IsCanonical (f + 1) bs → with_frame f (ps ++ bs) ≡ meet (with_frame f ps) bs
 with_frame-meets f low [] [] c above = refl
-with_frame-meets f low [] (q ∷ bs) c above =
-    let from = above.0 in
-    let ordered = above.1.0 in
-    elim (cases_lt (f + 1) q.first) [
-      | inl before ↦ rw (le-ltb (q.last + 1) f (omega arith), lt-ltb (f + 1) q.first before, lt-leb q.first (f + 1) before) refl
-      | inr touch ↦
-          let least : min q.first f ≡ f = omega arith in
-          let greatest : max q.last f ≡ q.last = omega arith in
-          rw (le-ltb (q.last + 1) f (omega arith), le-ltb (f + 1) q.first touch, le-leb q.first (f + 1) touch, least, greatest) (glue-apart_from (record { first = f; last = q.last }) bs above.2)
-    ]
+with_frame-meets f low [] (q ∷ bs) c above = let glued = glue-apart_from (record { first = f; last = q.last }) bs above.2 in grind (arith, nat_tests)
 with_frame-meets f low (s ∷ ps) bs c above =
-    elim (cases_Bool (ltb (s.last + 1) f)) [
-      | inl later ↦ rw later (ap (λ ys. s ∷ ys) (with_frame-meets f (s.last + 2) ps bs c.2 above) ∙ sym (meet-more s (with_frame f ps) bs (some_with_frame f ps)))
-      | inr near ↦ rw near (elim (cases_Bool (ltb (f + 1) s.first)) [
-        | inl before ↦ rw before (ap (λ ys. point f ∷ ys) (sym (meet-canonical s ps bs c.2)))
-        | inr touch ↦ rw touch (let high = ltb-false (s.last + 1) f near in glue-meets (grown f s) s.last ps bs c.2 (omega arith))
-      ])
-    ]
+    let later = with_frame-meets f (s.last + 2) ps bs c.2 above in
+    let more = meet-more s (with_frame f ps) bs (some_with_frame f ps) in
+    let apart = meet-canonical s ps bs c.2 in
+    let glued = glue-meets (grown f s) s.last ps bs c.2 in
+    grind (arith, nat_tests)
 
 -- the whole with a frame, where it goes into the list at a place
 pub with_frame-at : (f : ℕ) (ls : List (List Span)) (p : ℕ) → IsCanonical 0 (end_to_end ls) → IsListPlace f ls p
@@ -283,59 +243,36 @@ with_frame-at f ls p c place =
 
 -- ---- where two lists meet
 
-pub meet-apart : (ps bs : List Span) (d : Span) → 0 < length ps → (get_or ps (length ps - 1) d).last + 1 < begin_of bs → meet ps bs ≡ ps ++ bs
-meet-apart [] bs d some apart = absurd (omega arith)
-meet-apart (s ∷ []) [] d some apart = refl
-meet-apart (s ∷ []) (q ∷ bs) d some apart = rw (lt-leb q.first (s.last + 1) apart) refl
-meet-apart (s ∷ t ∷ ps) bs d some apart = ap (λ ys. s ∷ ys) (meet-apart (t ∷ ps) bs d (omega arith) (subst (λ n. (get_or (s ∷ t ∷ ps) n d).last + 1 < begin_of bs) (one_less (length ps)) apart))
-  where
-    one_less : (n : ℕ) → suc (suc n) - 1 ≡ suc (suc n - 1)
-    one_less n = omega arith
-
-pub meet-touching : (ps bs : List Span) (q d : Span) → 0 < length ps → q.first ≤ (get_or ps (length ps - 1) d).last + 1 → meet ps (q ∷ bs) ≡ ended_at q.last ps ++ bs
-meet-touching [] bs q d some touch = absurd (omega arith)
-meet-touching (s ∷ []) bs q d some touch = rw (le-leb q.first (s.last + 1) touch) refl
-meet-touching (s ∷ t ∷ ps) bs q d some touch = ap (λ ys. s ∷ ys) (meet-touching (t ∷ ps) bs q d (omega arith) (subst (λ n. q.first ≤ (get_or (s ∷ t ∷ ps) n d).last + 1) (one_less (length ps)) touch))
-  where
-    one_less : (n : ℕ) → suc (suc n) - 1 ≡ suc (suc n - 1)
-    one_less n = omega arith
+-- the last span of the one list and the first of the other touch, or they do not
+pub meets : (ps ns spans : List Span) (n : ℕ) (d : Span) → length ps ≡ suc n → 0 < length ns
+    → meet ps (ns ++ spans) ≡ cond (leb (get_or ns 0 d).first ((get_or ps n d).last + 1)) (ended_at (get_or ns 0 d).last ps ++ drop 1 (ns ++ spans)) (ps ++ (ns ++ spans))
+meets [] ns spans n d some more = absurd (omega arith)
+meets (s ∷ []) [] spans n d some more = absurd (omega arith)
+meets (s ∷ []) (q ∷ ns) spans zero d some more = refl
+meets (s ∷ []) (q ∷ ns) spans (suc n) d some more = absurd (omega arith)
+meets (s ∷ t ∷ ps) ns spans zero d some more = absurd (omega arith)
+meets (s ∷ t ∷ ps) ns spans (suc n) d some more = let later = meets (t ∷ ps) ns spans n d (omega arith) more in grind arith
 
 -- ---- how many spans there can be
 
-spans_fit : (low : ℕ) (xs : List Span) → IsCanonical low xs → low ≤ day + 2 → low + 2 * length xs ≤ day + 2
+pub spans_fit : (low : ℕ) (xs : List Span) → IsCanonical low xs → low ≤ day + 2 → low + 2 * length xs ≤ day + 2
 spans_fit low [] c le = omega arith
-spans_fit low (s ∷ xs) c le =
-    let from = c.0 in
-    let ordered = c.1.0 in
-    let in_day = c.1.1 in
-    let later = spans_fit (s.last + 2) xs c.2 (omega arith) in
-    omega arith
-
-pub few_spans : (xs : List Span) → IsCanonical 0 xs → length xs ≤ 1080001
-few_spans xs c = let fit = spans_fit 0 xs c (omega arith) in omega arith
+spans_fit low (s ∷ xs) c le = let later = spans_fit (s.last + 2) xs c.2 (omega arith) in omega arith
 
 -- ---- one list changed, as calls do it
 
 -- the list at a place, read from its vector
 pub list_at : (first : List Span) (vs : List (Vec Span Global)) (p i : ℕ) (v : Vec Span Global) → 1 ≤ p → i ≡ p - 1 → p ≤ length vs → v ≡ get_or vs i v → get_or (first ∷ lists_in vs) p [] ≡ v.items
 list_at first vs zero i v pos e fits at = absurd (omega arith)
-list_at first vs (suc p) i v pos e fits at =
-    let same : p ≡ i = omega arith in
-    rw same (lists_in-at vs i v (omega arith) at)
+list_at first vs (suc p) i v pos e fits at = let same : p ≡ i = omega arith in rw same (lists_in-at vs i v (omega arith) at)
 
 pub lists_set : (first : List Span) (vs : List (Vec Span Global)) (p i : ℕ) (old new : Vec Span Global) (change : List Span → List Span) → 1 ≤ p → i ≡ p - 1 → p ≤ length vs → old ≡ get_or vs i old → new.items ≡ change old.items
     → first ∷ lists_in (set vs i new) ≡ set (first ∷ lists_in vs) p (change (get_or (first ∷ lists_in vs) p []))
 lists_set first vs zero i old new change pos e fits at is = absurd (omega arith)
 lists_set first vs (suc p) i old new change pos e fits at is =
     let same : i ≡ p = omega arith in
-    ap (λ ls. first ∷ ls) (
-    lists_in-set vs i new
-    ∙ ap (λ xs. set (lists_in vs) i xs) (is ∙ ap change (sym (lists_in-at vs i old (omega arith) at)))
-    ∙ ap (λ k. set (lists_in vs) k (change (get_or (lists_in vs) k []))) same)
-
-pub lists_kept : (first : List Span) (vs : List (Vec Span Global)) (p i : ℕ) (old new : Vec Span Global) → 1 ≤ p → i ≡ p - 1 → p ≤ length vs → old ≡ get_or vs i old → new.items ≡ old.items
-    → first ∷ lists_in (set vs i new) ≡ first ∷ lists_in vs
-lists_kept first vs p i old new pos e fits at is = lists_set first vs p i old new (λ xs. xs) pos e fits at is ∙ set-get_or (first ∷ lists_in vs) p []
+    let read = lists_in-at vs p old (omega arith) (rw same at at) in
+    rw same (ap (λ ls. first ∷ ls) (lists_in-set vs p new ∙ ap (set (lists_in vs) p) (is ∙ ap change (sym read))))
 
 pub filled_vector : (vs : List (Vec Span Global)) (i : ℕ) (v : Vec Span Global) → AllFilled (lists_in vs) → i < length vs → v ≡ get_or vs i v → 0 < length v.items
 filled_vector vs i v f h at = subst (λ xs. 0 < length xs) (lists_in-at vs i v h at) (filled_at (lists_in vs) i f (omega (arith, lists_in-length vs)))
@@ -371,34 +308,22 @@ dropped_first ([] ∷ ls) zero h some = absurd (omega arith)
 dropped_first ((s ∷ l) ∷ ls) zero h some = refl
 dropped_first (l ∷ ls) (suc i) h some = ap (λ xs. l ++ xs) (dropped_first ls i (omega arith) some) ∙ sym (append_assoc l _ _)
 
-behind_first : (first : List Span) (ls : List (List Span)) (i : ℕ) (xs : List Span) → xs ≡ end_to_end (take i ls) ++ drop 1 (end_to_end (drop i ls))
-    → first ++ xs ≡ end_to_end (take (i + 1) (first ∷ ls)) ++ drop 1 (end_to_end (drop (i + 1) (first ∷ ls)))
-behind_first first ls i xs is = rw (add-one i, is) (sym (append_assoc first (end_to_end (take i ls)) (drop 1 (end_to_end (drop i ls)))))
-
 pub list_dropped : (first : List Span) (vs : List (Vec Span Global)) (i : ℕ) (v : Vec Span Global) → i < length vs → v ≡ get_or vs i v → length v.items ≡ 1
     → first ++ end_to_end (lists_in (remove vs i)) ≡ end_to_end (take (i + 1) (first ∷ lists_in vs)) ++ drop 1 (end_to_end (drop (i + 1) (first ∷ lists_in vs)))
 list_dropped first vs i v h at one =
-    behind_first first (lists_in vs) i _ (
-    ap end_to_end (lists_in-remove vs i)
-    ∙ removed_one (lists_in vs) i (omega (arith, lists_in-length vs)) (ap length (lists_in-at vs i v h at) ∙ one))
+    rw (add-one i) (
+    ap (λ ls. first ++ end_to_end ls) (lists_in-remove vs i)
+    ∙ removed_one (first ∷ lists_in vs) (suc i) (omega (arith, lists_in-length vs)) (ap length (lists_in-at vs i v h at) ∙ one))
 
 pub first_dropped : (first : List Span) (vs : List (Vec Span Global)) (i : ℕ) (old new : Vec Span Global) → i < length vs → old ≡ get_or vs i old → 0 < length old.items → new.items ≡ drop 1 old.items
     → first ++ end_to_end (lists_in (set vs i new)) ≡ end_to_end (take (i + 1) (first ∷ lists_in vs)) ++ drop 1 (end_to_end (drop (i + 1) (first ∷ lists_in vs)))
 first_dropped first vs i old new h at some is =
     let read = lists_in-at vs i old h at in
-    behind_first first (lists_in vs) i _ (
-    ap end_to_end (lists_in-set vs i new ∙ ap (λ xs. set (lists_in vs) i xs) (is ∙ ap (drop 1) (sym read)))
-    ∙ dropped_first (lists_in vs) i (omega (arith, lists_in-length vs)) (subst (λ xs. 0 < length xs) (sym read) some))
+    rw (add-one i) (
+    ap (λ ls. first ++ end_to_end ls) (lists_in-set vs i new ∙ ap (set (lists_in vs) i) (is ∙ ap (drop 1) (sym read)))
+    ∙ dropped_first (first ∷ lists_in vs) (suc i) (omega (arith, lists_in-length vs)) (subst (λ xs. 0 < length xs) (sym read) some))
 
--- ---- what `meeting` answers, and what the join makes of it
-
-pub meets_apart : (ps ns spans : List Span) (d : Span) → 0 < length ps → 0 < length ns → (get_or ps (length ps - 1) d).last + 1 < (get_or ns 0 d).first → meet ps (ns ++ spans) ≡ ps ++ (ns ++ spans)
-meets_apart ps [] spans d some more apart = absurd (omega arith)
-meets_apart ps (n ∷ ns) spans d some more apart = meet-apart ps (n ∷ ns ++ spans) d some apart
-
-pub meets_touching : (ps ns spans : List Span) (d : Span) → 0 < length ps → 0 < length ns → (get_or ns 0 d).first ≤ (get_or ps (length ps - 1) d).last + 1 → meet ps (ns ++ spans) ≡ ended_at (get_or ns 0 d).last ps ++ drop 1 (ns ++ spans)
-meets_touching ps [] spans d some more touch = absurd (omega arith)
-meets_touching ps (n ∷ ns) spans d some more touch = meet-touching ps (ns ++ spans) n d some touch
+-- ---- what the join makes of it
 
 behind_split : (ls : List (List Span)) (k : ℕ) → k < length ls → end_to_end (drop k ls) ≡ get_or ls k [] ++ end_to_end (drop (suc k) ls)
 behind_split [] k h = absurd (omega arith)
@@ -410,23 +335,17 @@ pub join_touching : (ls changed : List (List Span)) (p last : ℕ) (final : List
     → ((spans : List Span) → meet (get_or ls p []) (get_or ls (p + 1) [] ++ spans) ≡ ended_at last (get_or ls p []) ++ drop 1 (get_or ls (p + 1) [] ++ spans))
     → final ≡ end_to_end (take p ls) ++ meet (get_or ls p []) (end_to_end (drop (p + 1) ls))
 join_touching ls changed p last final h is ends meets =
-    let behind = behind_split ls (p + 1) h in
-    ends ∙ rw (is, add-one p, take_set_suc ls p (ended_at last (get_or ls p [])) (omega arith), drop_set_suc ls p (ended_at last (get_or ls p []))) (
+    ends ∙ rw (is, take_set_next ls p (ended_at last (get_or ls p [])) (omega arith), drop-set-lt (p + 1) ls p (ended_at last (get_or ls p [])) (omega arith)) (
     append_assoc (end_to_end (take p ls)) (ended_at last (get_or ls p [])) _
-    ∙ ap (λ xs. end_to_end (take p ls) ++ xs) (rw (rw (add-one p) at behind) (sym (rw (add-one p) at (meets (end_to_end (drop (suc (p + 1)) ls)))))))
+    ∙ ap (λ xs. end_to_end (take p ls) ++ xs) (rw (behind_split ls (p + 1) h) (sym (meets (end_to_end (drop (suc (p + 1)) ls))))))
 
 pub join_apart : (ls : List (List Span)) (p : ℕ) → p + 1 < length ls
     → ((spans : List Span) → meet (get_or ls p []) (get_or ls (p + 1) [] ++ spans) ≡ get_or ls p [] ++ (get_or ls (p + 1) [] ++ spans))
     → end_to_end ls ≡ end_to_end (take p ls) ++ meet (get_or ls p []) (end_to_end (drop (p + 1) ls))
-join_apart ls p h meets =
-    let behind = behind_split ls (p + 1) h in
-    around ls p (omega arith)
-    ∙ ap (λ xs. end_to_end (take p ls) ++ xs) (ap (λ xs. get_or ls p [] ++ xs) behind ∙ sym (meets (end_to_end (drop (suc (p + 1)) ls))) ∙ ap (meet (get_or ls p [])) (sym behind))
+join_apart ls p h meets = around ls p (omega arith) ∙ ap (λ xs. end_to_end (take p ls) ++ xs) (rw (behind_split ls (p + 1) h) (sym (meets _)))
 
 pub join_last : (ls : List (List Span)) (p : ℕ) → p < length ls → length ls ≤ p + 1 → end_to_end ls ≡ end_to_end (take p ls) ++ meet (get_or ls p []) (end_to_end (drop (p + 1) ls))
-join_last ls p h end =
-    let none = drop_all (p + 1) ls end in
-    around ls p h ∙ rw none (ap (λ xs. end_to_end (take p ls) ++ xs) (append-nil (get_or ls p []) ∙ sym (meet-nil (get_or ls p []))))
+join_last ls p h end = around ls p h ∙ ap (λ xs. end_to_end (take p ls) ++ xs) (rw (drop_all (p + 1) ls end) (append-nil _ ∙ sym (meet-nil (get_or ls p []))))
 
 -- ---- one list after the other
 
@@ -438,27 +357,17 @@ behind_more vs i v h at =
 pub length_more : (vs : List (Vec Span Global)) (i : ℕ) (v : Vec Span Global) → i < length vs → v ≡ get_or vs i v → length (end_to_end (drop i (lists_in vs))) ≡ length v.items + length (end_to_end (drop (i + 1) (lists_in vs)))
 length_more vs i v h at = ap length (behind_more vs i v h at) ∙ length-append v.items (end_to_end (drop (i + 1) (lists_in vs)))
 
-pub spans_more : (vs : List (Vec Span Global)) (i : ℕ) (v : Vec Span Global) (xs ys whole : List Span) → i < length vs → v ≡ get_or vs i v → xs ++ end_to_end (drop i (lists_in vs)) ≡ whole → ys ≡ xs ++ v.items → ys ++ end_to_end (drop (i + 1) (lists_in vs)) ≡ whole
-spans_more vs i v xs ys whole h at kept is =
-    rw is (append_assoc xs v.items _ ∙ ap (λ zs. xs ++ zs) (sym (behind_more vs i v h at)) ∙ kept)
-
 -- ---- a frame added, and the list met by the next
 
 pub added_is : (f : ℕ) (ls changed : List (List Span)) (p : ℕ) (final : List Span) → IsCanonical 0 (end_to_end ls) → IsListPlace f ls p → changed ≡ set ls p (with_frame f (get_or ls p []))
     → final ≡ end_to_end (take p changed) ++ meet (get_or changed p []) (end_to_end (drop (p + 1) changed)) → final ≡ with_frame f (end_to_end ls)
 added_is f ls changed p final c place is ends =
-    let at = get_or-set_same ls p (with_frame f (get_or ls p [])) [] place.fits in
-    ends ∙ rw (is, take-set ls p (with_frame f (get_or ls p [])), at, add-one p, drop_set_suc ls p (with_frame f (get_or ls p []))) (sym (rw (add-one p) at (with_frame-at f ls p c place)))
+    let xs = with_frame f (get_or ls p []) in
+    ends ∙ rw (is, take-set ls p xs, get_or-set_same ls p xs [] place.fits, drop-set-lt (p + 1) ls p xs (omega arith)) (sym (with_frame-at f ls p c place))
 
 -- the list at a place after it was changed
 pub changed_at : (ls changed : List (List Span)) (p : ℕ) (xs : List Span) → p < length ls → changed ≡ set ls p xs → get_or changed p [] ≡ xs
 changed_at ls changed p xs h is = rw is (get_or-set_same ls p xs [] h)
-
-pub place_fits : (first : List Span) (vs : List (Vec Span Global)) (p : ℕ) → p < length vs → p + 1 < length (first ∷ lists_in vs)
-place_fits first vs p h = omega (arith, lists_in-length vs)
-
-pub place_ends : (first : List Span) (vs : List (Vec Span Global)) (p : ℕ) → p ≤ length vs → length vs ≤ p → (p < length (first ∷ lists_in vs)) × (length (first ∷ lists_in vs) ≤ p + 1)
-place_ends first vs p h g = (omega (arith, lists_in-length vs), omega (arith, lists_in-length vs))
 
 -- ---- the whole, and the list at the place of a frame
 
@@ -480,7 +389,7 @@ begun_still first vs zero begun fits some = some
 begun_still first vs (suc p) begun fits some = begun (omega arith)
 
 pub filled_inserted : (done : Bool) (vs ws : List (Vec Span Global)) (p : ℕ) (v : Vec Span Global) → ws ≡ cond done (insert vs p v) vs → AllFilled (lists_in vs) → 0 < length v.items → AllFilled (lists_in ws)
-filled_inserted true vs ws p v is f some = rw (is, lists_in-insert vs p v) (filled_insert (lists_in vs) p v.items f some)
+filled_inserted true vs ws p v is f some = rw is (filled_insert vs p v f some)
 filled_inserted false vs ws p v is f some = rw is f
 
 pub inserted_behind : (first : List Span) (vs ws : List (Vec Span Global)) (p : ℕ) (v : Vec Span Global) → p ≤ length vs → ws ≡ insert vs p v → get_or (first ∷ lists_in ws) p [] ≡ get_or (first ∷ lists_in vs) p []
@@ -491,7 +400,7 @@ inserted_behind first vs ws p v fits is =
 pub halves_are : (first : List Span) (vs ws : List (Vec Span Global)) (p n : ℕ) (v : Vec Span Global) (cut : List (List Span)) → p ≤ length vs → v.items ≡ drop n (get_or (first ∷ lists_in vs) p []) → ws ≡ insert vs p v
     → cut ≡ set (first ∷ lists_in ws) p (take n (get_or (first ∷ lists_in ws) p [])) → end_to_end cut ≡ end_to_end (first ∷ lists_in vs)
 halves_are first vs ws p n v cut fits upper inserted is =
-    rw (is, inserted, lists_in-insert vs p v) (cut_is first (lists_in vs) p n _ v.items (omega (arith, lists_in-length vs)) upper refl)
+    rw (is, inserted, lists_in-insert vs p v) (cut_suc (first ∷ lists_in vs) p n _ v.items (omega (arith, lists_in-length vs)) upper refl)
 
 -- ---- whether there is one span
 

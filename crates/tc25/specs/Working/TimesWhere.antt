@@ -1,5 +1,5 @@
 -- That the sets which tests make are below the day: the law that each `TimeSet` keeps.
-use Rattle.std.proofs.Common.{ℕ, ◌≡◌, Bool, eqb, ltb, ◌&&◌, ◌||◌, nat_eq, sym, ap, ◌∙◌, arith, zero, suc}
+use Rattle.std.proofs.Common.{ℕ, ◌≡◌, Bool, ltb, ◌&&◌, nat_eq, sym, ap, ◌∙◌, arith, zero, suc}
 use Rattle.std.proofs.lemmas.Bool.{and_parts, ltb-true}
 use Rattle.std.proofs.lemmas.Bool.Decides.{nat_tests}
 use Rattle.std.specs.List.{list_any}
@@ -9,11 +9,7 @@ use Rattle.tc25.specs.Times.{BelowDay, numbers_below, frames_below, every_time, 
 
 list_any-numbers_below : (n f : ℕ) → list_any (λ y. nat_eq y f) (numbers_below n) ≡ ltb f n
 list_any-numbers_below zero f = grind (arith, nat_tests)
-list_any-numbers_below (suc n) f =
-    ap (λ b. eqb n f || b) (list_any-numbers_below n f) ∙ one_more n f
-  where
-    one_more : (n f : ℕ) → (eqb n f || ltb f n) ≡ ltb f (suc n)
-    one_more n f = grind (arith, nat_tests)
+list_any-numbers_below (suc n) f = let later = list_any-numbers_below n f in grind (arith, nat_tests)
 
 pub contains-frames_below : (n f : ℕ) → set.contains (frames_below n) f ≡ ltb f n
 unfolding frames_below

@@ -1,20 +1,18 @@
 -- Each turn joins a span to the current one, or begins a new one.
 use Rattle.std.proofs.Common.{◌+◌, ◌<◌, ◌≤◌, ◌∙◌, ap, subst, arith, length, get_or}
+use Rattle.std.proofs.lemmas.Grind.{drop_more_same}
 use Rattle.tc25.specs.Working.SpanMoves.{widened_span}
 use Rattle.tc25.specs.declared.span.Span.{Span}
-use Rattle.tc25.proofs.SpansLemmas.{canonical_at, same_at, same_rest_next, same_rest_set, step_touching, step_apart, widened_in_day}
+use Rattle.tc25.proofs.SpansLemmas.{canonical_at, same_at, same_rest_set, step_touching, step_apart, widened_in_day}
 use Rattle.tc25.proofs.spans.widen_all.Goals as goal
 use Rattle.tc25.proofs.spans.widen_all.Goals.{then-span-current, else-span-current}
 
 pub widened-span-requires : goal.widened-span-requires
 widened-span-requires c =
-    let xs = c.args.spans.now in
-    let ys = c.loop-index.spans in
-    let i = c.loop-index.index in
-    let within : i < length xs = omega arith in
-    let there : i < length ys = omega arith in
     let d : Span = record { first = 0; last = 0 } in
-    rw (same_at ys xs i d there within c.loop-index.invariant.to_come) (canonical_at 0 xs c.requires i d within).1.1
+    let span = canonical_at 0 c.args.spans.now c.requires c.loop-index.index d (omega arith) in
+    let same = same_at c.loop-index.spans c.args.spans.now c.loop-index.index d (omega arith) (omega arith) c.loop-index.invariant.to_come in
+    grind arith
 
 pub loop-index-preserved : goal.loop-index-preserved
 loop-index-preserved c =
@@ -26,15 +24,14 @@ loop-index-preserved c =
     let w = widened_span c.args.direction in
     let kept = c.loop-index.invariant in
     let within : i < length xs = omega arith in
-    let there : i < length ys = omega arith in
     let d : Span = record { first = 0; last = 0 } in
-    let read = c.widened-span.ensures ∙ ap w (same_at ys xs i d there within kept.to_come) in
+    let read = c.widened-span.ensures ∙ ap w (same_at ys xs i d (omega arith) within kept.to_come) in
     let of_day = widened_in_day c.args.direction (get_or xs i d) (canonical_at 0 xs c.requires i d within).1.1 in
     elim c.if-span-current.branch [
       | then-span-current b ↦ rw (b.spans-is, b.current-is, b.kept-is, read) (record {
         behind = omega arith;
         in_day = of_day;
-        to_come = same_rest_next ys xs i kept.to_come;
+        to_come = drop_more_same ys xs i kept.to_come;
         whole = step_touching w xs ys _ i k s d within kept.whole (subst (λ (x : Span). x.first ≤ s.last + 1) read b.if-span-current.true);
       })
       | else-span-current b ↦ rw (b.spans-is, b.current-is, b.kept-is, read) (record {

@@ -10,18 +10,16 @@ use Rattle.tc25.proofs.span_list.SpanList.add.Goals as goal
 
 pub add_at-requires-clause-canonical : goal.add_at-requires-clause-canonical
 add_at-requires-clause-canonical c =
-    let l = c.cut.new.self in
-    let canonical : IsCanonical 0 (end_to_end (lists_of l)) = rw c.cut.ensures c.requires.canonical in
-    canonical_list (lists_of l) c.place_of-place.result c.place_of-place.ensures.fits canonical
+    let canonical : IsCanonical 0 (end_to_end (lists_of c.cut.new.self)) = rw c.cut.ensures c.requires.canonical in
+    canonical_list (lists_of c.cut.new.self) c.place_of-place.result c.place_of-place.ensures.fits canonical
 
 pub join-requires-clause-canonical : goal.join-requires-clause-canonical
 join-requires-clause-canonical c =
     let l = c.cut.new.self in
-    let p = c.place_of-place.result in
     let fits = c.place_of-place.ensures.fits in
     let canonical : IsCanonical 0 (end_to_end (lists_of l)) = rw c.cut.ensures c.requires.canonical in
-    let list = canonical_with 0 c.args.frame _ (canonical_list (lists_of l) p fits canonical) (omega arith) c.requires.in_day in
-    subst (IsCanonical 0) (sym (changed_at (lists_of l) (lists_of c.add_at.new.self) p _ fits c.in_ok-add_at.ensures.ok)) list
+    let list = canonical_with 0 c.args.frame _ (canonical_list (lists_of l) c.place_of-place.result fits canonical) (omega arith) c.requires.in_day in
+    subst (IsCanonical 0) (sym (changed_at (lists_of l) (lists_of c.add_at.new.self) c.place_of-place.result _ fits c.in_ok-add_at.ensures.ok)) list
 
 pub join-requires-clause-some : goal.join-requires-clause-some
 join-requires-clause-some c =

@@ -21,8 +21,7 @@ invariant_of-self c =
 pub shorten-requires-clause-some : goal.shorten-requires-clause-some
 shorten-requires-clause-some c =
     let l = c.args.self.now in
-    let xs = c.list-list.result.now in
-    let long : 512 ≤ length xs = omega arith in
+    let long : 512 ≤ length c.list-list.result.now = omega arith in
     let behind = inserted_behind l.first.items l.rest.items c.insert.new.self.items c.args.place c.in_ok-upper.upper c.requires c.in_ok-insert.ensures.items in
     (omega arith, rw behind (omega (arith, ap length c.list-list.ensures)))
 

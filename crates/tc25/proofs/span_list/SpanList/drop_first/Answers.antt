@@ -1,16 +1,10 @@
 -- The span goes, and where it was alone the list.
-use Rattle.std.proofs.Common.{◌≡◌, ◌<◌, ◌∙◌, sym, ap, arith, length, length-set, length-drop}
-use Rattle.tc25.proofs.SpanListLemmas.{filled_remove, filled_set, filled_vector, first_dropped, list_dropped, lists_in-at, lists_in-remove, lists_in-set}
+use Rattle.std.proofs.Common.{◌≡◌, ◌<◌, arith, length, length-drop}
+use Rattle.tc25.proofs.SpanListLemmas.{filled_remove, filled_set, filled_vector, first_dropped, list_dropped, lists_in-at}
 use Rattle.tc25.proofs.span_list.SpanList.drop_first.Goals as goal
 
-pub invariant_of-self : goal.invariant_of-self
-invariant_of-self c =
-    let l = c.args.self.now in
-    let i = c.args.index in
-    record {
-      begun = λ h. l.begun (omega arith);
-      filled = rw (c.remove.ensures.items, lists_in-remove) (filled_remove _ i l.filled);
-    }
+pub invariant_of-self-clause-filled : goal.invariant_of-self-clause-filled
+invariant_of-self-clause-filled c = rw c.remove.ensures.items (filled_remove c.args.self.now.rest.items c.args.index c.args.self.now.filled)
 
 pub remove-requires-else-len-eq1 : goal.remove-requires-else-len-eq1
 remove-requires-else-len-eq1 c =
@@ -18,19 +12,15 @@ remove-requires-else-len-eq1 c =
     let some = filled_vector l.rest.items c.args.index c.index_mut.result.now l.filled c.requires c.index_mut.ensures.value in
     omega arith
 
-pub invariant_of-self-else-len-eq1 : goal.invariant_of-self-else-len-eq1
-invariant_of-self-else-len-eq1 c =
+pub invariant_of-self-else-len-eq1-clause-filled : goal.invariant_of-self-else-len-eq1-clause-filled
+invariant_of-self-else-len-eq1-clause-filled c =
     let l = c.args.self.now in
     let i = c.args.index in
     let v = c.index_mut.result.now in
     let new = c.remove-else-len-eq1.new.self in
     let some = filled_vector l.rest.items i v l.filled c.requires c.index_mut.ensures.value in
-    let same = ap length (sym (lists_in-at l.rest.items i v c.requires c.index_mut.ensures.value) ∙ lists_in-at l.rest.items i c.index.result.now c.requires c.index.ensures) in
-    let left : 0 < length new.items = rw c.remove-else-len-eq1.ensures.items (omega (arith, length-drop 1 v.items, c.if-len-eq1.false)) in
-    record {
-      begun = λ h. l.begun (omega (arith, length-set l.rest.items i new));
-      filled = rw lists_in-set (filled_set _ i new.items l.filled left);
-    }
+    let left : 0 < length new.items = grind (arith, lists_in-at, length-drop) in
+    filled_set _ i new l.filled left
 
 pub returns-then-len-eq1 : goal.returns-then-len-eq1
 returns-then-len-eq1 c =

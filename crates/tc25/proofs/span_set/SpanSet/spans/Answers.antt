@@ -5,6 +5,4 @@ use Rattle.tc25.proofs.SpanSetLemmas.{span_count-spans}
 use Rattle.tc25.proofs.span_set.SpanSet.spans.Goals as goal
 
 pub returns : goal.returns
-returns c =
-    let s = c.args.self.now in
-    c.len.ensures ∙ sym (span_count-spans (spans_of s.spans) s.canonical)
+returns c = c.len.ensures ∙ sym (span_count-spans (spans_of c.args.self.now.spans) c.args.self.now.canonical)

@@ -1,7 +1,8 @@
 -- The one span has each frame of the day.
+use Rattle.std.proofs.Common.{arith}
+use Rattle.std.proofs.lemmas.Bool.Decides.{nat_tests}
 use Rattle.tc25.proofs.TimesLemmas.{times_where-every}
-use Rattle.tc25.proofs.SpanSetLemmas.{day_is_covered}
 use Rattle.tc25.proofs.span_set.SpanSetTimeSet.all.Goals as goal
 
 pub returns : goal.returns
-returns c = times_where-every _ (λ f h. rw (c.from_spans.ensures, c.in_ok-from_slice.ensures.items) (day_is_covered f h))
+returns c = times_where-every _ (λ f h. rw (c.from_spans.ensures, c.in_ok-from_slice.ensures.items) (grind (arith, nat_tests)))
