@@ -1,48 +1,64 @@
--- A state that an exchange leads to another one from: drifts to a pattern of states, and whole steps.
-use Rattle.std.proofs.Common.{◌≡◌, ◌⊎◌, inl, inr, ◌||◌, Bool, true, false, Option, Some, None, IfNone, IfSome, ℕ, List, ◌↔◌, refl, sym, ap, ◌∙◌, subst}
+-- Some state of a set, and a state that an exchange leads to another one from: drifts to a pattern of states, and whole steps.
+use Rattle.std.proofs.Common.{◌↔◌, ◌≡◌, ◌⊎◌, inl, inr, ◌||◌, Bool, true, false, Option, Some, None, IfNone, IfSome, List, refl, sym, ap, ◌∙◌, subst}
 use Rattle.std.proofs.lemmas.Bool.{and_from, and_parts, eq-eqb, false≢true, or_left, or_right}
-use Rattle.tc25.specs.Day.{ReadsAs, time_of}
-use Rattle.tc25.proofs.DayLemmas.{ReadsAs-from_time_of, time_of-from_ReadsAs}
-use Rattle.block9.specs.declared.block.Block.{Block}
-use Rattle.block9.specs.declared.command.Command.{Command}
-use Rattle.block9.specs.Command.{is_nak}
-use Rattle.track9.specs.declared.asked.Asked.{Asked}
-use Rattle.deck9.specs.declared.effect.Effect.TheVariants as effect
-use Rattle.deck9.specs.declared.mode.Mode.{Mode}
-use Rattle.deck9.specs.declared.mode.Mode.TheVariants.{Stop}
-use Rattle.track9.specs.declared.mode_set.ModeSet.{ModeSet}
-use Rattle.deck9.specs.declared.sense.Sense.{Sense}
-use Rattle.deck9.specs.declared.sense.Sense.TheVariants as sense
-use Rattle.deck9.specs.declared.state.Entry.{Entry}
-use Rattle.deck9.specs.declared.state.Hands.{Hands}
-use Rattle.deck9.specs.declared.state.Hands.TheVariants as hands
-use Rattle.deck9.specs.declared.state.Register.{Register}
-use Rattle.deck9.specs.declared.state.Register.TheVariants.{RegIn, RegOut, RegAudioIn, RegAudioOut}
-use Rattle.deck9.specs.declared.state.State.{State}
-use Rattle.deck9.specs.Drift.{KeepsRest, PairReaches}
-use Rattle.deck9.specs.Effect.{Does, effect_of}
-use Rattle.deck9.specs.Mode.{index_of, is_mode, is_one_of, on_the_way}
-use Rattle.track9.specs.ModeSet.{has}
-use Rattle.deck9.specs.Shows.{Agrees, Shows, sense_of}
-use Rattle.deck9.specs.State.{IsState, entry_of}
-use Rattle.deck9.specs.Step.{Exchanges, Step, done, ignored, refused}
-use Rattle.track9.specs.Tracker.{Allows, InPart, PartStates, Possible, StateSet, TwoParts, entries_of, in_local, has_pair, shown_with}
-use Rattle.track9.specs.Working.Asked.{Fits, Is, IsAsked, IsUndone, LeadsTo, PairRunsTo, RunsTo, asked_before, asked_of, just_state}
-use Rattle.track9.specs.Working.Pairs.{both, drifted, drifted_with, goals_of, is_some, masked}
-use Rattle.track9.specs.Working.Parts.{HasState}
-use Rattle.track9.specs.Working.States.{AreBelow, InTwo, hands_by, hands_of, is_panel_live, on_two, two_of}
-use Rattle.track9.proofs.AskedLemmas.{fits_just, fits_self, found_from, found_none, found_to, none_some, some_same}
+use Rattle.track9.specs.Working.Deck.{Agrees, At, Block, Clear, Command, Does, Entry, Exchanges, Hands, IsState, KeepsRest, Mode, PairReaches, RegAudioIn, RegAudioOut, RegIn}
+use Rattle.track9.specs.Working.Deck.{RegOut, Register, Sense, Shows, State, Step, Stop, done, effect_of, entry_of, ignored, index_of, is_mode, is_nak, is_one_of, on_the_way}
+use Rattle.track9.specs.Working.Deck.{refused, sense_of}
+use Rattle.track9.proofs.Sets.{Allows, AreBelow, Asked, Entries, Fits, HasState, InPart, InTwo, Is, IsAsked, IsUndone, LeadsTo, ModeSet, PairRunsTo, PartStates, Possible, RunsTo}
+use Rattle.track9.proofs.Sets.{StateSet, TwoParts, asked_before, asked_of, both, drifted, drifted_with, entries_of, goals_of, goes, hands_by, hands_of, has, has_pair, in_local}
+use Rattle.track9.proofs.Sets.{is_panel_live, is_some, just_state, masked, on_two, shown_with, some_entry, some_pair, some_two, two_of}
+use Rattle.track9.proofs.AskedLemmas.{fits_just, fits_self, found_from, found_none, found_to}
 use Rattle.deck9.proofs.DriftLemmas.{drift_from_pairs}
-use Rattle.track9.proofs.KnownModes.{goal_to}
-use Rattle.track9.proofs.MemberLemmas.{some_goal, state_there}
-use Rattle.track9.proofs.ModeLemmas.{has-and}
-use Rattle.track9.proofs.PairLemmas.{drifted_from, drifted_to, mode_some, pairs_some}
-use Rattle.track9.proofs.PartLemmas.{same_entry, shown_by_goal}
-use Rattle.track9.proofs.ReachLemmas.{to_two}
+use Rattle.track9.proofs.KnownModes.{goal_to, goal_from}
+use Rattle.track9.proofs.PairLemmas.{drifted_from, drifted_to, has-and, mode_some, pairs_some, goes_from, some_mode}
+use Rattle.track9.proofs.PartLemmas.{each_register, same_entry, shown_by_goal}
+use Rattle.track9.proofs.ReachLemmas.{drift_panel, drift_state, mechanics, off_drift, possible_state, to_two}
 use Rattle.track9.proofs.SenseLemmas.{masked_has}
-use Rattle.track9.proofs.SetDriftLemmas.{drift_panel, drift_state, mechanics, off_drift, possible_state}
-use Rattle.track9.proofs.ForgetLemmas.{two_live, two_none}
+use Rattle.track9.proofs.ForgetLemmas.{two_live, two_none, some_live}
 use Rattle.track9.proofs.StepLemmas.{sense_effect, status_effect}
+use Rattle.track9.proofs.EntryLemmas.{from_empty, some_allowed}
+use Rattle.deck9.specs.declared.effect.Effect.TheVariants as effect
+use Rattle.deck9.specs.declared.sense.Sense.TheVariants as sense
+use Rattle.deck9.specs.declared.state.Hands.TheVariants as hands
+use Rattle.std.specs.FinSet as set
+
+-- ---- some state of a set
+
+-- where there is a pair there is a goal
+pub some_goal : (p : List ModeSet) → some_pair p ≡ true → is_some (goals_of p) ≡ true
+some_goal p h =
+    let m = some_mode (goes p) h in
+    let g = goes_from p m.0 m.1 in
+    mode_some (goals_of p) g.0 (goal_to p g.0 m.0 g.1)
+
+-- and a mode that is shown with it
+pub some_shown : (p : List ModeSet) (g : Mode) → has (goals_of p).0 g ≡ true → is_some (shown_with p g) ≡ true
+some_shown p g h = let m = goal_from p g h in mode_some (shown_with p g) m.0 m.1
+
+-- entries without a time are Clear
+pub clear_alone : (es : Entries) → some_entry es ≡ true → es.times ≡ set.empty → es.may_clear ≡ true
+clear_alone es some none = by (some_allowed es some)
+  where
+    by : (e : Entry) × Allows es e → es.may_clear ≡ true
+    by (Clear, a) = a
+    by (At t, a) = from_empty t (subst (λ s. set.contains s t ≡ true) none a)
+
+pub if_none : {A : Type 0} {P Q : Type 0} (o : Option A) → IfNone o P → (P → Q) → IfNone o Q
+if_none None h f = f h
+if_none (Some x) h f = tt
+
+-- a state made of a pair and of four entries
+pub state_there : (p : PartStates) (g m : Mode) (a b c d : Entry) (l pn : Bool) → has_pair p.pairs g m ≡ true → Allows p.ins a → Allows p.outs b → Allows p.ains c → Allows p.aouts d
+    → HasState p l pn (record { goal = g; shown = m; ins = a; outs = b; ains = c; aouts = d; local = l; panel = pn })
+state_there p g m a b c d l pn pair in_a in_b in_c in_d =
+    let s : State = record { goal = g; shown = m; ins = a; outs = b; ains = c; aouts = d; local = l; panel = pn } in
+    record { inside = record { pair = pair; registers = each_register _ in_a in_b in_c in_d }; local = refl; panel = refl }
+
+pub two_there : (h : TwoParts) (l pn : Bool) (s : State) → HasState (in_local h l) l pn s → InTwo pn h s
+two_there h l pn s there = (there.panel, subst (λ b. InPart (in_local h b) s) (sym there.local) there.inside)
+
+pub no_member : (v : StateSet) → some_two v.off ≡ false → is_panel_live v ≡ false → ((s : State) × Possible v s) → ⊥
+no_member v off on w = false≢true (sym (rw (off, on) refl) ∙ some_live v w.0 w.1)
 
 -- ---- pairs
 
@@ -112,14 +128,8 @@ pub runs_there : (p : PartStates) (a : Asked) (f n : Mode) (x y z w : Entry) (l 
 runs_there p a f n x y z w l pair (g, m, goal, mode, reaches) i o ai ao local panel =
     let d : State = record { goal = g; shown = m; ins = x; outs = y; ains = z; aouts = w; local = l; panel = false } in (
       state_there p f n x y z w l false pair i.0 o.0 ai.0 ao.0,
-      (d, refl, reaches, record { goal = goal; shown = mode; registers = each d i.1 o.1 ai.1 ao.1; local = local; panel = panel }),
+      (d, refl, reaches, record { goal = goal; shown = mode; registers = each_register _ i.1 o.1 ai.1 ao.1; local = local; panel = panel }),
     )
-  where
-    each : (d : State) → Is a.ins d.ins → Is a.outs d.outs → Is a.ains d.ains → Is a.aouts d.aouts → (r : Register) → Is (asked_of r a) (entry_of r d)
-    each d i o ai ao RegIn = i
-    each d i o ai ao RegOut = o
-    each d i o ai ao RegAudioIn = ai
-    each d i o ai ao RegAudioOut = ao
 
 -- ---- a set of states
 
@@ -128,39 +138,23 @@ runs_lead h a s (d, kept, reaches, fits) = (d, drift_from_pairs h s d (inl (kept
 
 -- where there is a state with the panel on hands are allowed
 pub panel_hands : (v : StateSet) (s : State) → InPart (in_local (on_two v.on) s.local) s → hands_of v ≡ hands.Allowed
-panel_hands v s i = by v.on i
-  where
-    by : (o : Option TwoParts) → InPart (in_local (on_two o) s.local) s → hands_by o ≡ hands.Allowed
-    by None i = two_none s i
-    by (Some h) i = refl
+panel_hands v s i = (elim v.on as (λ o. InPart (in_local (on_two o) s.local) s → hands_by o ≡ hands.Allowed) [ None ↦ λ i. two_none s i | Some h ↦ λ i. refl ]) i
 
 -- a hand makes any state with the panel on
 pub hand_leads : (h : Hands) (a : Asked) (s : State) → h ≡ hands.Allowed → IsAsked a → Is a.panel true → s.panel ≡ true → LeadsTo h a s
 hand_leads h a s allowed (d, valid, fits) asked on =
     let e : State = record d { panel = true } in
-    (e, drift_from_pairs h s e (inr (allowed, on, refl, same d valid)), record { goal = fits.goal; shown = fits.shown; registers = each d fits; local = fits.local; panel = asked })
-  where
-    same : (d : State) → IsState d → IsState (record d { panel = true })
-    same d valid RegIn = valid RegIn
-    same d valid RegOut = valid RegOut
-    same d valid RegAudioIn = valid RegAudioIn
-    same d valid RegAudioOut = valid RegAudioOut
-
-    each : (d : State) → Fits a d → (r : Register) → Is (asked_of r a) (entry_of r (record d { panel = true }))
-    each d fits RegIn = fits.registers RegIn
-    each d fits RegOut = fits.registers RegOut
-    each d fits RegAudioIn = fits.registers RegAudioIn
-    each d fits RegAudioOut = fits.registers RegAudioOut
+    let there : IsState e = each_register _ (valid RegIn) (valid RegOut) (valid RegAudioIn) (valid RegAudioOut) in
+    let f = fits.registers in
+    let fit : Fits a e = record { goal = fits.goal; shown = fits.shown; registers = each_register _ (f RegIn) (f RegOut) (f RegAudioIn) (f RegAudioOut); local = fits.local; panel = asked } in
+    (e, drift_from_pairs h s e (inr (allowed, on, refl, there)), fit)
 
 abbrev pub NoneRuns : PartStates → Bool → Asked → Type 0
 NoneRuns p l a = ((s : State) × HasState p l false s × RunsTo a s) → ⊥
 
 pub none_runs : (h : TwoParts) (a : Asked) → NoneRuns h.remote false a → NoneRuns h.local true a → ((s : State) × InTwo false h s × RunsTo a s) → ⊥
-none_runs h a remote local (s, there, runs) = by s.local refl
-  where
-    by : (l : Bool) → s.local ≡ l → ⊥
-    by false e = remote (s, record { inside = subst (λ l. InPart (in_local h l) s) e there.1; local = e; panel = there.0 }, runs)
-    by true e = local (s, record { inside = subst (λ l. InPart (in_local h l) s) e there.1; local = e; panel = there.0 }, runs)
+none_runs h a remote local (s, there, runs) =
+    (elim s.local as (λ l. NoneRuns (in_local h l) l a) [ false ↦ remote | true ↦ local ]) (s, record { inside = there.1; local = refl; panel = there.0 }, runs)
 
 pub no_origin : (h : Hands) (v : StateSet) (a : Asked) → (Is a.panel true → is_panel_live v ≡ false) → (((s : State) × InTwo false v.off s × RunsTo a s) → ⊥) → ((s : State) × Possible v s × LeadsTo h a s) → ⊥
 no_origin h v a dead off (s, there, (d, drift, fits)) = by s.panel refl
@@ -172,27 +166,16 @@ no_origin h v a dead off (s, there, (d, drift, fits)) = by s.panel refl
 -- ---- steps
 
 -- a reply that agrees with the state before agrees with the one after, and the other way round
-shows_after : (h : Hands) (c : Command) (reply : Block) (d t : State) → Does h (effect_of c) d t → Shows d c reply → Shows t c reply
-shows_after h c reply d t does shows = by (sense_of c) refl shows
+shows_same : (h : Hands) (c : Command) (reply : Block) (d t : State) → Does h (effect_of c) d t → Shows d c reply ↔ Shows t c reply
+shows_same h c reply d t does = by (sense_of c) refl
   where
     same : effect_of c ≡ effect.Nothing → t ≡ d
     same none = subst (λ e. Does h e d t) none does
 
-    by : (q : Sense) → sense_of c ≡ q → Agrees q d reply → Agrees q t reply
-    by (sense.Register r) e a = subst (λ u. Agrees (sense.Register r) u reply) (sym (same (sense_effect c r e))) a
-    by (sense.Status asked) e a = subst (λ u. Agrees (sense.Status asked) u reply) (sym (same (status_effect c asked e))) a
-    by sense.Nothing e a = tt
-
-shows_before : (h : Hands) (c : Command) (reply : Block) (d t : State) → Does h (effect_of c) d t → Shows t c reply → Shows d c reply
-shows_before h c reply d t does shows = by (sense_of c) refl shows
-  where
-    same : effect_of c ≡ effect.Nothing → t ≡ d
-    same none = subst (λ e. Does h e d t) none does
-
-    by : (q : Sense) → sense_of c ≡ q → Agrees q t reply → Agrees q d reply
-    by (sense.Register r) e a = subst (λ u. Agrees (sense.Register r) u reply) (same (sense_effect c r e)) a
-    by (sense.Status asked) e a = subst (λ u. Agrees (sense.Status asked) u reply) (same (status_effect c asked e)) a
-    by sense.Nothing e a = tt
+    by : (q : Sense) → sense_of c ≡ q → Agrees q d reply ↔ Agrees q t reply
+    by (sense.Register r) e = subst (λ u. Agrees (sense.Register r) d reply ↔ Agrees (sense.Register r) u reply) (sym (same (sense_effect c r e))) (λ a. a, λ a. a)
+    by (sense.Status asked) e = subst (λ u. Agrees (sense.Status asked) d reply ↔ Agrees (sense.Status asked) u reply) (sym (same (status_effect c asked e))) (λ a. a, λ a. a)
+    by sense.Nothing e = (λ a. tt, λ a. tt)
 
 -- ---- whole exchanges
 
@@ -202,11 +185,8 @@ nak_leads h c reply s t nak (d, drift, fits) = (d, drift, refused nak (sym (fits
 pub nak_back : (h : Hands) (c : Command) (reply : Block) (s t : State) → is_nak reply ≡ true → Exchanges h c reply s t → LeadsTo h (just_state t) s
 nak_back h c reply s t nak (d, drift, step) = (d, drift, by step)
   where
-    same : t ≡ d → Fits (just_state t) d
-    same e = subst (λ u. Fits (just_state u) d) (sym e) (fits_self d)
-
     by : Step h c reply d t → Fits (just_state t) d
-    by (refused was e) = same e
+    by (refused was e) = subst (λ u. Fits (just_state u) d) (sym e) (fits_self d)
     by (done was shows does) = absurd (false≢true (sym was ∙ nak))
     by (ignored was shows may local e) = absurd (false≢true (sym was ∙ nak))
 
@@ -217,7 +197,7 @@ undone_leads h c reply s t nak shows (may, local) (d, drift, fits) =
 
 pub asked_leads : (h : Hands) (c : Command) (reply : Block) (s t : State) (a : Asked) → is_nak reply ≡ false → Shows t c reply → IsState t → asked_before h (effect_of c) t ≡ Some a → LeadsTo h a s → Exchanges h c reply s t
 asked_leads h c reply s t a nak shows valid found (d, drift, fits) =
-    let does = found_from h (effect_of c) t d a valid found fits in (d, drift, done nak (shows_before h c reply d t does shows) does)
+    let does = found_from h (effect_of c) t d a valid found fits in (d, drift, done nak ((shows_same h c reply d t does).1 shows) does)
 
 -- the reply agrees with the state after
 pub exchange_shows : (h : Hands) (c : Command) (reply : Block) (s t : State) → is_nak reply ≡ false → Exchanges h c reply s t → Shows t c reply
@@ -225,18 +205,17 @@ exchange_shows h c reply s t nak (d, drift, step) = by step
   where
     by : Step h c reply d t → Shows t c reply
     by (refused was e) = absurd (false≢true (sym nak ∙ was))
-    by (done was shows does) = shows_after h c reply d t does shows
+    by (done was shows does) = (shows_same h c reply d t does).0 shows
     by (ignored was shows may local e) = subst (λ u. Shows u c reply) (sym e) shows
 
 -- no state leads to the target by a pattern that was found
-NoneLeads : Hands → StateSet → Option Asked → Type 0
+abbrev pub NoneLeads : Hands → StateSet → Option Asked → Type 0
 NoneLeads h v None = Unit {0}
 NoneLeads h v (Some a) = ((s : State) × Possible v s × LeadsTo h a s) → ⊥
 
-no_exchange : (h : Hands) (c : Command) (reply : Block) (v : StateSet) (t : State) (o : Option Asked) → is_nak reply ≡ false → AreBelow v
+pub no_exchange : (h : Hands) (c : Command) (reply : Block) (v : StateSet) (t : State) (o : Option Asked) → is_nak reply ≡ false → AreBelow v
     → (((s : State) × Possible v s × IsUndone c t × LeadsTo h (just_state t) s) → ⊥) → asked_before h (effect_of c) t ≡ o → NoneLeads h v o
     → ((s : State) × Possible v s × Exchanges h c reply s t) → ⊥
-unfolding NoneLeads
 no_exchange h c reply v t o nak below undone found none (s, there, (d, drift, step)) = by step
   where
     asked : (o : Option Asked) → asked_before h (effect_of c) t ≡ o → NoneLeads h v o → Does h (effect_of c) d t → ⊥
@@ -248,14 +227,3 @@ no_exchange h c reply v t o nak below undone found none (s, there, (d, drift, st
     by (done was shows does) = asked o found none does
     by (ignored was shows may local e) =
         undone (s, there, (may, ap (λ (u : State). u.local) e ∙ local), (d, drift, subst (λ u. Fits (just_state u) d) (sym e) (fits_self d)))
-
-pub none_found : (h : Hands) (c : Command) (reply : Block) (v : StateSet) (t : State) → is_nak reply ≡ false → AreBelow v
-    → (((s : State) × Possible v s × IsUndone c t × LeadsTo h (just_state t) s) → ⊥) → asked_before h (effect_of c) t ≡ None → ((s : State) × Possible v s × Exchanges h c reply s t) → ⊥
-unfolding NoneLeads
-none_found h c reply v t nak below undone found w = no_exchange h c reply v t None nak below undone found tt w
-
-pub none_leads : (h : Hands) (c : Command) (reply : Block) (v : StateSet) (t : State) (a : Asked) → is_nak reply ≡ false → AreBelow v
-    → (((s : State) × Possible v s × IsUndone c t × LeadsTo h (just_state t) s) → ⊥) → asked_before h (effect_of c) t ≡ Some a → (((s : State) × Possible v s × LeadsTo h a s) → ⊥)
-    → ((s : State) × Possible v s × Exchanges h c reply s t) → ⊥
-unfolding NoneLeads
-none_leads h c reply v t a nak below undone found none w = no_exchange h c reply v t (Some a) nak below undone found none w

@@ -1,20 +1,14 @@
 -- How often a register's times begin: at most once more than there were presets to it.
-use Rattle.std.proofs.Common.{◌≡◌, ℕ, ◌≤◌, ◌+◌, Bool, true, false, if◌then◌else◌, Option, Some, None, refl, sym, subst, arith}
+use Rattle.std.proofs.Common.{◌≡◌, ℕ, ◌≤◌, ◌+◌, Bool, true, false, Option, Some, None, refl, sym, subst, arith}
 use Rattle.std.specs.FinSet as set
-use Rattle.tc25.specs.Times.{BelowDay, Times, begin_count, every_time, just}
+use Rattle.track9.specs.Working.Deck.{BelowDay, Change, Effect, Next, Prev, Recall, RegAudioIn, RegAudioOut, RegIn, RegOut, Register, Reset, SetAt, SetSomewhere, Times}
+use Rattle.track9.specs.Working.Deck.{begin_count, every_time, just}
 use Rattle.tc25.proofs.CountLemmas.{begin_count-empty, begin_count-every_time, begin_count-insert, begin_count-just, begin_count-next, begin_count-prev, begin_count-span_count, begin_count-widened_next, begin_count-widened_prev, span_count-in_day}
-use Rattle.deck9.specs.declared.effect.Change.{Change}
-use Rattle.deck9.specs.declared.effect.Change.TheVariants.{SetSomewhere, SetAt, Next, Prev, Reset, Recall}
-use Rattle.deck9.specs.declared.effect.Effect.{Effect}
 use Rattle.deck9.specs.declared.effect.Effect.TheVariants as effect
-use Rattle.track9.specs.Presets.{Presets}
-use Rattle.deck9.specs.declared.state.Register.{Register}
-use Rattle.deck9.specs.declared.state.Register.TheVariants.{RegIn, RegOut, RegAudioIn, RegAudioOut}
-use Rattle.track9.specs.Presets.{count_of, one_more, with_one}
-use Rattle.track9.specs.Tracker.{Entries, PartStates, entries_of}
-use Rattle.track9.specs.Working.Entries.{agreeing, changed, said, widened}
-use Rattle.track9.specs.Working.Parts.{all_states, changed_entries, changed_part, no_states, settled, with_entries}
-use Rattle.track9.specs.Working.States.{TwoFew, all_or_none, counted}
+use Rattle.track9.proofs.Sets.{Entries, PartStates, Presets, TwoFew, agreeing, all_or_none, all_states, changed, changed_entries, changed_part, count_of, counted, entries_of}
+use Rattle.track9.proofs.Sets.{no_states, one_more, said, settled, widened, with_entries, with_one}
+use Rattle.std.proofs.lemmas.Bool.{cond_both}
+use Rattle.track9.proofs.PartLemmas.{each_put}
 
 -- no more beginnings than this
 abbrev pub FewTimes : ℕ → Entries → Type 0
@@ -34,26 +28,18 @@ few_just : (n t : ℕ) → begin_count (just t) ≤ n + 1
 few_just n t = omega (arith, begin_count-just t)
 
 pub few_all_states : (n : Presets) → FewIn n all_states
-few_all_states n RegIn = few_every n.ins
-few_all_states n RegOut = few_every n.outs
-few_all_states n RegAudioIn = few_every n.ains
-few_all_states n RegAudioOut = few_every n.aouts
+few_all_states n RegIn = few_every _
+few_all_states n _ = few_every _
 
 pub few_no_states : (n : Presets) → FewIn n no_states
-few_no_states n RegIn = few_none n.ins
-few_no_states n RegOut = few_none n.outs
-few_no_states n RegAudioIn = few_none n.ains
-few_no_states n RegAudioOut = few_none n.aouts
+few_no_states n RegIn = few_none _
+few_no_states n _ = few_none _
 
 -- ---- entries
 
 pub few_agreeing : (n : ℕ) (o : Option ℕ) (es : Entries) → FewTimes n (agreeing o es)
 few_agreeing n None es = few_none n
-few_agreeing n (Some t) es = by (set.contains es.times t)
-  where
-    by : (b : Bool) → begin_count (if b then just t else set.empty) ≤ n + 1
-    by true = few_just n t
-    by false = few_none n
+few_agreeing n (Some t) es = cond_both (set.contains es.times t) (just t) set.empty (λ s. begin_count s ≤ n + 1) (λ e. few_just n t) (λ e. few_none n)
 
 pub few_said : (n : ℕ) (o : Option Bool) (es : Entries) → FewTimes n es → FewTimes n (said o es)
 few_said n None es h = h
@@ -95,41 +81,18 @@ few_changed true c es n below after h = widened_few c es n below after h
 -- ---- parts
 
 pub few_settled : (n : Presets) (p : PartStates) → FewIn n p → FewIn n (settled p)
-few_settled n p h = by _
-  where
-    by : (b : Bool) → FewIn n (if b then p else no_states)
-    by true = h
-    by false = few_no_states n
-
-few_put_at : (n : Presets) (r q : Register) (es : Entries) (p : PartStates) → FewIn n p → FewTimes (count_of r n) es → FewTimes (count_of q n) (entries_of q (with_entries r es p))
-few_put_at n RegIn RegIn es p old new = new
-few_put_at n RegOut RegOut es p old new = new
-few_put_at n RegAudioIn RegAudioIn es p old new = new
-few_put_at n RegAudioOut RegAudioOut es p old new = new
-few_put_at n RegIn q es p old new = old q
-few_put_at n RegOut q es p old new = old q
-few_put_at n RegAudioIn q es p old new = old q
-few_put_at n RegAudioOut q es p old new = old q
+few_settled n p h = cond_both _ p no_states (FewIn n) (λ e. h) (λ e. few_no_states n)
 
 pub few_put : (n : Presets) (r : Register) (es : Entries) (p : PartStates) → FewIn n p → FewTimes (count_of r n) es → FewIn n (with_entries r es p)
-few_put n RegIn es p old new = λ q. few_put_at n RegIn q es p old new
-few_put n RegOut es p old new = λ q. few_put_at n RegOut q es p old new
-few_put n RegAudioIn es p old new = λ q. few_put_at n RegAudioIn q es p old new
-few_put n RegAudioOut es p old new = λ q. few_put_at n RegAudioOut q es p old new
+few_put n r es p old new = each_put (λ q es. FewTimes (count_of q n) es) r es p old new
 
 -- ---- counts
 
 -- a change counts for its register, and no register loses by it
 count_more : (c : Change) (r : Register) (n : Presets) → count_of r (counted (effect.Change r c) n) ≡ counted_to c (count_of r n)
 count_more (SetAt t) RegIn n = refl
-count_more (SetAt t) RegOut n = refl
-count_more (SetAt t) RegAudioIn n = refl
-count_more (SetAt t) RegAudioOut n = refl
-count_more SetSomewhere r n = refl
-count_more Next r n = refl
-count_more Prev r n = refl
-count_more Reset r n = refl
-count_more Recall r n = refl
+count_more (SetAt t) _ n = refl
+count_more _ r n = refl
 
 -- one preset more
 few_up : (n : ℕ) (es : Entries) → BelowDay es.times → FewTimes n es → FewTimes (one_more n) es
@@ -140,16 +103,10 @@ few_one_more n RegIn RegIn p below h = few_up n.ins p.ins (below RegIn) (h RegIn
 few_one_more n RegOut RegOut p below h = few_up n.outs p.outs (below RegOut) (h RegOut)
 few_one_more n RegAudioIn RegAudioIn p below h = few_up n.ains p.ains (below RegAudioIn) (h RegAudioIn)
 few_one_more n RegAudioOut RegAudioOut p below h = few_up n.aouts p.aouts (below RegAudioOut) (h RegAudioOut)
-few_one_more n RegIn q p below h = h q
-few_one_more n RegOut q p below h = h q
-few_one_more n RegAudioIn q p below h = h q
-few_one_more n RegAudioOut q p below h = h q
+few_one_more n _ q p below h = h q
 
 pub few_counted : (e : Effect) (n : Presets) (p : PartStates) → ((q : Register) → BelowDay (entries_of q p).times) → FewIn n p → FewIn (counted e n) p
-few_counted (effect.Change RegIn (SetAt t)) n p below h = λ q. few_one_more n RegIn q p below h
-few_counted (effect.Change RegOut (SetAt t)) n p below h = λ q. few_one_more n RegOut q p below h
-few_counted (effect.Change RegAudioIn (SetAt t)) n p below h = λ q. few_one_more n RegAudioIn q p below h
-few_counted (effect.Change RegAudioOut (SetAt t)) n p below h = λ q. few_one_more n RegAudioOut q p below h
+few_counted (effect.Change r (SetAt t)) n p below h = λ q. few_one_more n r q p below h
 few_counted _ n p below h = h
 
 pub few_changed_part : (may_stay : Bool) (r : Register) (c : Change) (n : Presets) (p : PartStates) → ((q : Register) → BelowDay (entries_of q p).times)

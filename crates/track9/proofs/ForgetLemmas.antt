@@ -1,16 +1,11 @@
 -- What is forgotten: states of a part, and of all parts.
 use Rattle.std.proofs.Common.{◌≡◌, inl, inr, Bool, true, false, if◌then◌else◌, refl, sym, ◌∙◌, subst}
-use Rattle.std.proofs.lemmas.Bool.{false≢true, or_cases, or_left, or_right}
+use Rattle.std.proofs.lemmas.Bool.{cond_both, false≢true, or_cases, or_left, or_right}
 use Rattle.deck9.specs.declared.effect.Effect.TheVariants as effect
-use Rattle.deck9.specs.declared.state.Hands.{Hands}
+use Rattle.track9.specs.Working.Deck.{AreReached, Does, Hands, IsFirst, IsState, State}
 use Rattle.deck9.specs.declared.state.Hands.TheVariants as hands
-use Rattle.deck9.specs.declared.state.State.{State}
-use Rattle.deck9.specs.Effect.{Does}
-use Rattle.deck9.specs.State.{IsFirst, IsState}
-use Rattle.deck9.specs.Step.{AreReached}
-use Rattle.track9.specs.Tracker.{InPart, PartStates, Possible, StateSet, TwoParts, has_pair, in_local}
-use Rattle.track9.specs.Working.Parts.{Whole, all_states, forgotten_part, is_live}
-use Rattle.track9.specs.Working.States.{AreWhole, DoesOrNot, InTwo, TwoWhole, all_forgotten, all_or_none, first_states, is_panel_live, some_state, some_two, two_of}
+use Rattle.track9.proofs.Sets.{AreWhole, DoesOrNot, InPart, InTwo, PartStates, Possible, StateSet, TwoParts, TwoWhole, Whole, all_forgotten, all_or_none, all_states}
+use Rattle.track9.proofs.Sets.{first_states, forgotten_part, has_pair, in_local, is_live, is_panel_live, on_two, some_state, some_two, two_of}
 use Rattle.track9.proofs.PartLemmas.{a_state, all_in, any_entries_in, in_all, in_any_entries, in_pairs, state_live}
 use Rattle.track9.proofs.ReachLemmas.{ReachedIn, of_two, to_two}
 
@@ -34,11 +29,8 @@ registers_reached h l pn p whole live = record {
 
 -- a state is in a part that is live
 pub two_live : (h : TwoParts) (s : State) → InPart (in_local h s.local) s → some_two h ≡ true
-two_live h s i = by s.local i
-  where
-    by : (l : Bool) → InPart (in_local h l) s → some_two h ≡ true
-    by false i = or_left (is_live h.remote) _ (state_live h.remote s i)
-    by true i = or_right (is_live h.remote) _ (state_live h.local s i)
+two_live h s i =
+    (elim s.local as (λ l. InPart (in_local h l) s → some_two h ≡ true) [ false ↦ λ i. or_left _ _ (state_live h.remote s i) | true ↦ λ i. or_right _ _ (state_live h.local s i) ]) i
 
 -- and there is one, with any value of the panel, where a part is live
 pub two_state : (h : TwoParts) (pn : Bool) → TwoWhole h → some_two h ≡ true → (s : State) × InTwo pn h s
@@ -50,43 +42,30 @@ two_state h pn whole live =
 
 -- every state is one of all, and none is one of none
 pub two_all : (t : State) → IsState t → InPart (in_local (all_or_none true) t.local) t
-two_all t h = by t.local
-  where
-    by : (l : Bool) → InPart (in_local (all_or_none true) l) t
-    by false = in_all t h
-    by true = in_all t h
+two_all t h = elim t.local as (λ l. InPart (in_local (all_or_none true) l) t) [ true ↦ in_all t h | false ↦ in_all t h ]
 
 pub all_two : (t : State) → InPart (in_local (all_or_none true) t.local) t → IsState t
-all_two t i = by t.local i
-  where
-    by : (l : Bool) → InPart (in_local (all_or_none true) l) t → IsState t
-    by false i = all_in t i
-    by true i = all_in t i
+all_two t i = (elim t.local as (λ l. InPart (in_local (all_or_none true) l) t → IsState t) [ true ↦ all_in t | false ↦ all_in t ]) i
 
 pub two_none : {P : Type 0} (t : State) → InPart (in_local (all_or_none false) t.local) t → P
 two_none t i = absurd (false≢true (two_live (all_or_none false) t i))
 
 pub forget_reached : (may_stay : Bool) (h : TwoParts) → TwoWhole h → (pn : Bool) → AreReached (InTwo pn h) (DoesOrNot may_stay effect.ForgetAll) (InTwo pn (all_forgotten h))
 forget_reached may_stay h whole pn = (
-  λ t i. from (some_two h) refl t i,
+  λ t i. cond_both (some_two h) (all_or_none true) h (λ g. InTwo pn g t → (s : State) × InTwo pn h s × DoesOrNot may_stay effect.ForgetAll s t)
+      (λ live i. let w = two_state h pn whole live in (w.0, w.1, inl (all_two t i.1, i.0 ∙ sym w.1.0))) (λ dead i. absurd (false≢true (sym dead ∙ two_live h t i.1))) i,
   λ s t i does. elim does [
     | inl d ↦ (d.1 ∙ i.0, subst (λ (b : Bool). InPart (in_local (if b then all_or_none true else h) t.local) t) (sym (two_live h s i.1)) (two_all t d.0))
     | inr (may, local, e) ↦ absurd (false≢true may)
   ],
 )
-  where
-    from : (b : Bool) → some_two h ≡ b → (t : State) → InTwo pn (if b then all_or_none true else h) t → (s : State) × InTwo pn h s × DoesOrNot may_stay effect.ForgetAll s t
-    from true live t i = let w = two_state h pn whole live in (w.0, w.1, inl (all_two t i.1, i.0 ∙ sym w.1.0))
-    from false dead t i = absurd (false≢true (sym dead ∙ two_live h t i.1))
 
 -- ---- all states
 
 pub some_live : (v : StateSet) (s : State) → Possible v s → some_state v ≡ true
-some_live v s i = by s.panel refl
-  where
-    by : (pn : Bool) → s.panel ≡ pn → some_state v ≡ true
-    by true on = or_right (some_two v.off) _ (two_live (two_of v true) s (to_two v s true on i).1)
-    by false off = or_left (some_two v.off) _ (two_live v.off s (to_two v s false off i).1)
+some_live v s i =
+    (elim s.panel as (λ pn. InTwo pn (two_of v pn) s → some_state v ≡ true) [ true ↦ λ on. or_right _ _ (two_live (on_two v.on) s on.1) | false ↦ λ off. or_left _ _ (two_live v.off s off.1) ])
+    (to_two v s s.panel refl i)
 
 pub live_some : (v : StateSet) → AreWhole v → some_state v ≡ true → (s : State) × Possible v s
 live_some v whole live =

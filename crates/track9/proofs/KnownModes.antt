@@ -1,55 +1,34 @@
 -- What is known of modes.
-use Rattle.std.proofs.Common.{◌≡◌, ◌≢◌, ◌↔◌, ◌⊎◌, inl, inr, ℕ, ◌<◌, ◌==◌, ◌&&◌, ◌||◌, not, Bool, true, false, if◌then◌else◌, refl, sym, ap, ◌∙◌, subst, arith, bit_and, List}
-use Rattle.std.proofs.lemmas.Bool.{and_parts, false≢true, or_cases}
+use Rattle.std.proofs.Common.{◌≡◌, ◌≢◌, ◌↔◌, inl, inr, ℕ, ◌<◌, ◌==◌, ◌&&◌, ◌||◌, not, Bool, true, false, if◌then◌else◌, refl, sym, ap, ◌∙◌, subst, arith, bit_and, List}
+use Rattle.std.proofs.lemmas.Bool.{and_from, and_parts, both_ways, cases_Bool, cond_both, false_from_ne_true, false≢true, or_cases, or_left, or_right, true_from_ne_false}
 use Rattle.std.proofs.lemmas.Bool.Decides.{nat_tests}
 use Rattle.std.proofs.lemmas.Nat.Bits.{bit_at-lt, same_from_bits_below}
 use Rattle.std.specs.Int.{bit_at}
-use Rattle.track9.specs.declared.knowledge.Known.{Known}
+use Rattle.track9.proofs.Sets.{AreWhole, IsKnown, Known, KnowsModes, ModeSet, Possible, StateSet, bit_of, by_goal, either, goal_if_shown, goals_in, goals_of, goes, has, has_pair}
+use Rattle.track9.proofs.Sets.{is_live, is_panel_live, is_some, known_fact, modes, part_of, shown_in, shown_with, some_state, some_two, two_of}
 use Rattle.track9.specs.declared.knowledge.Known.TheVariants as known
-use Rattle.deck9.specs.declared.mode.Mode.{Mode}
-use Rattle.deck9.specs.declared.mode.Mode.TheVariants.{Stop, Play, Rec, FastForward, Rewind, Shuttle, Jog, Var, Cued, Eject}
-use Rattle.track9.specs.declared.mode_set.ModeSet.{ModeSet}
-use Rattle.deck9.specs.declared.state.State.{State}
-use Rattle.track9.specs.Knowledge.{IsKnown}
-use Rattle.deck9.specs.Mode.{index_of, is_mode}
-use Rattle.track9.specs.ModeSet.{bit_of, has}
-use Rattle.track9.specs.Tracker.{Possible, StateSet, has_pair, shown_with}
-use Rattle.track9.specs.Working.Knowing.{KnowsModes, goals_in, known_fact, shown_in}
-use Rattle.track9.specs.Working.Pairs.{by_goal, either, goal_if_shown, goals_of, goes, is_some, modes}
-use Rattle.track9.specs.Working.Parts.{is_live}
-use Rattle.track9.specs.Working.States.{AreWhole, is_panel_live, part_of, some_state, some_two, two_of}
+use Rattle.track9.specs.Working.Deck.{Cued, Eject, FastForward, Jog, Mode, Play, Rec, Rewind, Shuttle, State, Stop, Var, index_of, is_mode}
 use Rattle.track9.proofs.ForgetLemmas.{live_some}
-use Rattle.track9.proofs.ModeLemmas.{has-and, has-bit}
+use Rattle.track9.proofs.PairLemmas.{all_has, goes_from, goes_to, has-and, has-bit, has-or, just_is, just_mode, mode_just, mode_self, mode_some, nothing_has, or2, some_mode, some_or_none, ten_bits}
 use Rattle.deck9.proofs.ModeLemmas.{index-mode_of, is_mode-same, mode_of}
-use Rattle.track9.proofs.PairLemmas.{all_has, all_modes, find_mode, goes_from, goes_to, just_is, just_mode, left2, mode_just, mode_self, mode_some, none_of, nothing_has, or2, right2, some_mode, ten_bits}
 use Rattle.track9.proofs.PartLemmas.{a_state, in_pairs, shown_by_goal, state_live}
 use Rattle.track9.proofs.ReachLemmas.{impossible, possible}
 use Rattle.track9.proofs.WholeLemmas.{whole_in, whole_of}
+use Rattle.std.proofs.Math.Bool.{and-true, or-true}
+use Rattle.tc25.proofs.TimesLemmas.{same_test}
 
 -- ---- one mode alone
 
 -- the ten bits alone
 has_ten : (s : ℕ) (n : Mode) → has (bit_and s 0x3FF) n ≡ has s n
-has_ten s n = has-and s 0x3FF n ∙ ap (λ b. has s n && b) (all_has n) ∙ both (has s n)
-  where
-    both : (b : Bool) → (b && true) ≡ b
-    both true = refl
-    both false = refl
+has_ten s n = has-and s 0x3FF n ∙ ap (λ b. has s n && b) (all_has n) ∙ and-true (has s n)
 
 pub single : (s : ModeSet) (m : Mode) → bit_and s.0 0x3FF ≡ bit_of m → (n : Mode) → has s.0 n ≡ true → n ≡ m
 single s m bits n h = just_mode m n (ap (λ b. has b n) (sym bits) ∙ has_ten s.0 n ∙ h)
 
 bit_of-lt : (m : Mode) → bit_of m < 1024
 bit_of-lt Stop = omega arith
-bit_of-lt Play = omega arith
-bit_of-lt Rec = omega arith
-bit_of-lt FastForward = omega arith
-bit_of-lt Rewind = omega arith
-bit_of-lt Shuttle = omega arith
-bit_of-lt Jog = omega arith
-bit_of-lt Var = omega arith
-bit_of-lt Cued = omega arith
-bit_of-lt Eject = omega arith
+bit_of-lt _ = omega arith
 
 same_bit : (a b : ℕ) → a < 2 → b < 2 → (a == 1) ≡ (b == 1) → a ≡ b
 same_bit a b p q h = grind (arith, nat_tests)
@@ -58,19 +37,14 @@ same_bit a b p q h = grind (arith, nat_tests)
 alone : (s : ModeSet) (m : Mode) → has s.0 m ≡ true → ((n : Mode) → (has s.0 n && not (is_mode n m)) ≡ false) → bit_and s.0 0x3FF ≡ bit_of m
 alone s m there others = same_from_bits_below 10 (bit_and s.0 0x3FF) (bit_of m) (ten_bits s.0) (bit_of-lt m) (λ i h.
     let n = mode_of i in
-    let here : has (bit_and s.0 0x3FF) n ≡ has (bit_of m) n = has_ten s.0 n ∙ same n (is_mode n m) refl ∙ sym (just_is m n) in
+    let here : has (bit_and s.0 0x3FF) n ≡ has (bit_of m) n = has_ten s.0 n ∙ same n ∙ sym (just_is m n) in
     let at : (bit_at (bit_and s.0 0x3FF) (index_of n) == 1) ≡ (bit_at (bit_of m) (index_of n) == 1) = sym (has-bit (bit_and s.0 0x3FF) n) ∙ here ∙ has-bit (bit_of m) n in
     same_bit (bit_at (bit_and s.0 0x3FF) i) (bit_at (bit_of m) i) (bit_at-lt (bit_and s.0 0x3FF) i) (bit_at-lt (bit_of m) i)
     (subst (λ k. (bit_at (bit_and s.0 0x3FF) k == 1) ≡ (bit_at (bit_of m) k == 1)) (index-mode_of i h) at))
   where
-    flip : (b c : Bool) → (b && not c) ≡ false → c ≡ false → b ≡ false
-    flip true true h e = e
-    flip true false h e = absurd (false≢true (sym h))
-    flip false c h e = refl
-
-    same : (n : Mode) (b : Bool) → is_mode n m ≡ b → has s.0 n ≡ is_mode n m
-    same n true e = subst (λ k. has s.0 k ≡ true) (sym (is_mode-same n m e)) there ∙ sym e
-    same n false e = flip (has s.0 n) (is_mode n m) (others n) e ∙ sym e
+    same : (n : Mode) → has s.0 n ≡ is_mode n m
+    same n = same_test (has s.0 n) (is_mode n m) (λ h. true_from_ne_false _ (λ e. both_ways _ (others n) (and_from _ _ h (ap not e))))
+        (λ e. subst (λ k. has s.0 k ≡ true) (sym (is_mode-same n m e)) there)
 
 -- a set with nine modes missing has the tenth
 pub last_mode : (s : ModeSet) → is_some s ≡ true → has s.0 Stop ≡ false → has s.0 Play ≡ false → has s.0 Rec ≡ false → has s.0 FastForward ≡ false → has s.0 Rewind ≡ false → has s.0 Shuttle ≡ false
@@ -78,22 +52,14 @@ pub last_mode : (s : ModeSet) → is_some s ≡ true → has s.0 Stop ≡ false 
 last_mode s some a b c d e f g h i = let w = some_mode s some in by w.0 w.1
   where
     by : (m : Mode) → has s.0 m ≡ true → has s.0 Eject ≡ true
-    by Stop t = absurd (false≢true (sym a ∙ t))
-    by Play t = absurd (false≢true (sym b ∙ t))
-    by Rec t = absurd (false≢true (sym c ∙ t))
-    by FastForward t = absurd (false≢true (sym d ∙ t))
-    by Rewind t = absurd (false≢true (sym e ∙ t))
-    by Shuttle t = absurd (false≢true (sym f ∙ t))
-    by Jog t = absurd (false≢true (sym g ∙ t))
-    by Var t = absurd (false≢true (sym h ∙ t))
-    by Cued t = absurd (false≢true (sym i ∙ t))
     by Eject t = t
+    by _ t = cc
 
 pub two_modes : (s : ModeSet) (m : Mode) → has s.0 m ≡ true → (bit_and s.0 0x3FF ≡ bit_of m → ⊥) → (m n : Mode) × (has s.0 m ≡ true) × (has s.0 n ≡ true) × (m ≢ n)
 two_modes s m there not_one =
-    elim (find_mode (λ n. has s.0 n && not (is_mode n m)) all_modes) [
+    elim (some_or_none (λ n. has s.0 n && not (is_mode n m))) [
       | inl w ↦ let both = and_parts (has s.0 w.0) (not (is_mode w.0 m)) w.1 in (m, w.0, there, both.0, other w.0 both.1)
-      | inr none ↦ absurd (not_one (alone s m there (none_of (λ n. has s.0 n && not (is_mode n m)) none)))
+      | inr none ↦ absurd (not_one (alone s m there none))
     ]
   where
     other : (n : Mode) → not (is_mode n m) ≡ true → m ≢ n
@@ -104,13 +70,10 @@ two_modes s m there not_one =
 pub goal_from : (p : List ModeSet) (g : Mode) → has (goals_of p).0 g ≡ true → (m : Mode) × (has_pair p g m ≡ true)
 goal_from p g h =
     let w = goes_from (by_goal (goal_if_shown p)) g h in
-    by (is_some (shown_with p w.0)) w.0 refl (subst (λ (x : ModeSet). has x.0 g ≡ true) (shown_by_goal (goal_if_shown p) w.0) w.1)
-  where
-    by : (b : Bool) → (f : Mode) → is_some (shown_with p f) ≡ b → has (if b then modes (bit_of f) else modes 0).0 g ≡ true → (m : Mode) × (has_pair p g m ≡ true)
-    by true f e there =
-        let w = some_mode (shown_with p f) e in
-        (w.0, subst (λ k. has_pair p k w.0 ≡ true) (sym (just_mode f g there)) w.1)
-    by false f e there = absurd (false≢true (sym (nothing_has g) ∙ there))
+    cond_both (is_some (shown_with p w.0)) (modes (bit_of w.0)) (modes 0) (λ x. has x.0 g ≡ true → (m : Mode) × (has_pair p g m ≡ true))
+    (λ some there. let n = some_mode (shown_with p w.0) some in (n.0, subst (λ k. has_pair p k n.0 ≡ true) (sym (just_mode w.0 g there)) n.1))
+    (λ none there. absurd (false≢true (sym (nothing_has g) ∙ there)))
+    (subst (λ (x : ModeSet). has x.0 g ≡ true) (shown_by_goal (goal_if_shown p) w.0) w.1)
 
 pub goal_to : (p : List ModeSet) (g m : Mode) → has_pair p g m ≡ true → has (goals_of p).0 g ≡ true
 goal_to p g m h =
@@ -128,25 +91,9 @@ in_four f v m h = elim (or2 _ _ m h) [
 
 four_in : (f : List ModeSet → ModeSet) (v : StateSet) (m : Mode) (l pn : Bool) → has (f (part_of v l pn).pairs).0 m ≡ true
     → has (either (either (f (part_of v false false).pairs) (f (part_of v true false).pairs)) (either (f (part_of v false true).pairs) (f (part_of v true true).pairs))).0 m ≡ true
-four_in f v m l pn h = by l pn h
-  where
-    a : ModeSet
-    a = f (part_of v false false).pairs
-
-    b : ModeSet
-    b = f (part_of v true false).pairs
-
-    c : ModeSet
-    c = f (part_of v false true).pairs
-
-    d : ModeSet
-    d = f (part_of v true true).pairs
-
-    by : (l pn : Bool) → has (f (part_of v l pn).pairs).0 m ≡ true → has (either (either (f (part_of v false false).pairs) (f (part_of v true false).pairs)) (either (f (part_of v false true).pairs) (f (part_of v true true).pairs))).0 m ≡ true
-    by false false h = left2 (either a b) (either c d) m (left2 a b m h)
-    by true false h = left2 (either a b) (either c d) m (right2 a b m h)
-    by false true h = right2 (either a b) (either c d) m (left2 c d m h)
-    by true true h = right2 (either a b) (either c d) m (right2 c d m h)
+four_in f v m false false h = simp (has-or, h)
+four_in f v m _ false h = simp (has-or, h, or-true)
+four_in f v m _ _ h = simp (has-or, h, or-true)
 
 -- a pair of a part is one of a state
 pair_state : (v : StateSet) (l pn : Bool) (g m : Mode) → AreWhole v → has_pair (part_of v l pn).pairs g m ≡ true → (s : State) × Possible v s × (s.goal ≡ g) × (s.shown ≡ m)
@@ -206,40 +153,18 @@ shown_some v set e whole live = let w = live_some v whole live in subst (λ x. i
 -- what is known of a fact of all states, by whether there is one where it is false and one where it is true
 fact_by : (X : State → Type 0) (field : State → Bool) (a b : Bool) → ((s : State) → X s → field s ≡ false → a ≡ true) → ((s : State) → X s → field s ≡ true → b ≡ true)
     → (a ≡ true → (s : State) × X s × (field s ≡ false)) → (b ≡ true → (s : State) × X s × (field s ≡ true)) → ((s : State) × X s) → IsKnown X field (known_fact a b)
-fact_by X field true true p q r s some =
-    let a = r refl in
-    let b = s refl in
-    (a.0, b.0, a.1, b.1, λ e. false≢true (sym a.2 ∙ e ∙ b.2))
-fact_by X field true false p q r s some = λ t i. by t i (field t) refl
-  where
-    by : (t : State) → X t → (c : Bool) → field t ≡ c → c ≡ false
-    by t i false e = refl
-    by t i true e = absurd (false≢true (q t i e))
-fact_by X field false true p q r s some = λ t i. by t i (field t) refl
-  where
-    by : (t : State) → X t → (c : Bool) → field t ≡ c → c ≡ true
-    by t i true e = refl
-    by t i false e = absurd (false≢true (p t i e))
-fact_by X field false false p q r s some = absurd (by (field some.0) refl)
-  where
-    by : (c : Bool) → field some.0 ≡ c → ⊥
-    by false e = false≢true (p some.0 some.1 e)
-    by true e = false≢true (q some.0 some.1 e)
-
-either_live : (a b : Bool) → (a ≡ true) ⊎ (b ≡ true) → (a || b) ≡ true
-either_live true b h = refl
-either_live false b (inl h) = absurd (false≢true h)
-either_live false b (inr h) = h
+fact_by X field true true p q r s some = let a = r refl in let b = s refl in (a.0, b.0, a.1, b.1, λ e. false≢true (sym a.2 ∙ e ∙ b.2))
+fact_by X field true false p q r s some = λ t i. false_from_ne_true (field t) (λ e. false≢true (q t i e))
+fact_by X field false true p q r s some = λ t i. true_from_ne_false (field t) (λ e. false≢true (p t i e))
+fact_by X field false false p q r s some = absurd (elim (cases_Bool (field some.0)) [ inl e ↦ false≢true (q some.0 some.1 e) | inr e ↦ false≢true (p some.0 some.1 e) ])
 
 live_state : (v : StateSet) (l pn : Bool) → AreWhole v → is_live (part_of v l pn) ≡ true → (s : State) × Possible v s × (s.local ≡ l) × (s.panel ≡ pn)
 live_state v l pn whole live = let w = a_state (part_of v l pn) l pn (whole_in (two_of v pn) (whole_of v whole pn) l) live in (w.0, possible v w.0 l pn w.2 w.3 w.1, w.2, w.3)
 
 local_live : (v : StateSet) (l : Bool) (s : State) → Possible v s → s.local ≡ l → (is_live (part_of v l false) || is_live (part_of v l true)) ≡ true
-local_live v l s i e = by s.panel refl
-  where
-    by : (pn : Bool) → s.panel ≡ pn → (is_live (part_of v l false) || is_live (part_of v l true)) ≡ true
-    by false q = either_live _ _ (inl (state_live (part_of v l false) s (impossible v s l false e q i)))
-    by true q = either_live _ _ (inr (state_live (part_of v l true) s (impossible v s l true e q i)))
+local_live v l s i e =
+    (elim s.panel as (λ pn. is_live (part_of v l pn) ≡ true → (is_live (part_of v l false) || is_live (part_of v l true)) ≡ true) [ false ↦ or_left _ _ | true ↦ or_right _ _ ])
+    (state_live (part_of v l s.panel) s (impossible v s l s.panel e refl i))
 
 of_local : (v : StateSet) (l : Bool) → AreWhole v → (is_live (part_of v l false) || is_live (part_of v l true)) ≡ true → (s : State) × Possible v s × (s.local ≡ l)
 of_local v l whole live = elim (or_cases (is_live (part_of v l false)) (is_live (part_of v l true)) live) [
@@ -248,11 +173,9 @@ of_local v l whole live = elim (or_cases (is_live (part_of v l false)) (is_live 
 ]
 
 panel_live : (v : StateSet) (pn : Bool) (s : State) → Possible v s → s.panel ≡ pn → (is_live (part_of v false pn) || is_live (part_of v true pn)) ≡ true
-panel_live v pn s i e = by s.local refl
-  where
-    by : (l : Bool) → s.local ≡ l → (is_live (part_of v false pn) || is_live (part_of v true pn)) ≡ true
-    by false q = either_live _ _ (inl (state_live (part_of v false pn) s (impossible v s false pn q e i)))
-    by true q = either_live _ _ (inr (state_live (part_of v true pn) s (impossible v s true pn q e i)))
+panel_live v pn s i e =
+    (elim s.local as (λ l. is_live (part_of v l pn) ≡ true → (is_live (part_of v false pn) || is_live (part_of v true pn)) ≡ true) [ false ↦ or_left _ _ | true ↦ or_right _ _ ])
+    (state_live (part_of v s.local pn) s (impossible v s s.local pn refl e i))
 
 of_panel : (v : StateSet) (pn : Bool) → AreWhole v → (is_live (part_of v false pn) || is_live (part_of v true pn)) ≡ true → (s : State) × Possible v s × (s.panel ≡ pn)
 of_panel v pn whole live = elim (or_cases (is_live (part_of v false pn)) (is_live (part_of v true pn)) live) [

@@ -1,6 +1,5 @@
 pub mod AskedLemmas
 pub mod BeforeLemmas
-pub mod ChangeLemmas
 pub mod EffectLemmas
 pub mod EntryLemmas
 pub mod FewLemmas
@@ -8,9 +7,6 @@ pub mod ForgetLemmas
 pub mod GoalLemmas
 pub mod KnownEntries
 pub mod KnownModes
-pub mod LeadLemmas
-pub mod MemberLemmas
-pub mod ModeLemmas
 pub mod OneKnowledge
 pub mod PairLemmas
 pub mod PanelLemmas
@@ -18,7 +14,7 @@ pub mod PassLemmas
 pub mod PartLemmas
 pub mod ReachLemmas
 pub mod SenseLemmas
-pub mod SetDriftLemmas
+pub mod Sets
 pub mod StepLemmas
 pub mod TrackerLemmas
 pub mod WholeLemmas

@@ -1,22 +1,11 @@
 -- At most one thing is known of states, of which there is one.
-use Rattle.std.proofs.Common.{◌≡◌, Bool, true, ℕ, List, refl, sym, ap, ◌∙◌}
-use Rattle.std.proofs.lemmas.Bool.{false≢true}
+use Rattle.std.proofs.Common.{◌≡◌, Bool, List, refl, sym, ap, ◌∙◌}
 use Rattle.block9.specs.declared.pairer.Exchange.{Exchange}
-use Rattle.track9.specs.declared.knowledge.Known.{Known}
+use Rattle.track9.proofs.Sets.{IsKnowledge, IsKnown, IsKnownEntry, Knowledge, Known, KnownEntry}
 use Rattle.track9.specs.declared.knowledge.Known.TheVariants as known
-use Rattle.track9.specs.declared.knowledge.KnownEntry.{KnownEntry}
 use Rattle.track9.specs.declared.knowledge.KnownEntry.TheVariants as entry
-use Rattle.track9.specs.declared.knowledge.Knowledge.{Knowledge}
-use Rattle.deck9.specs.declared.mode.Mode.{Mode}
-use Rattle.deck9.specs.declared.state.Entry.{Entry}
-use Rattle.deck9.specs.declared.state.Entry.TheVariants.{Clear, At}
-use Rattle.deck9.specs.declared.state.Hands.{Hands}
-use Rattle.deck9.specs.declared.state.Register.{Register}
-use Rattle.deck9.specs.declared.state.Register.TheVariants.{RegIn, RegOut, RegAudioIn, RegAudioOut}
-use Rattle.deck9.specs.declared.state.State.{State}
-use Rattle.track9.specs.Knowledge.{IsKnowledge, IsKnown, IsKnownEntry}
+use Rattle.track9.specs.Working.Deck.{Hands, Mode, RegAudioIn, RegAudioOut, RegIn, RegOut, Register, State}
 use Rattle.deck9.specs.Run.{Ends, HasRun}
-use Rattle.deck9.specs.State.{entry_of, is_set}
 use Rattle.deck9.proofs.RunLemmas.{some_end}
 
 known_once : {A : Type 0} (X : State → Type 0) (field : State → A) (a b : Known A) → ((s : State) × X s) → IsKnown X field a → IsKnown X field b → a ≡ b
@@ -25,44 +14,28 @@ known_once X field (known.Is v) known.Unknown some h k = absurd (k.4 (h k.0 k.2 
 known_once X field known.Unknown (known.Is w) some h k = absurd (h.4 (k h.0 h.2 ∙ sym (k h.1 h.3)))
 known_once X field known.Unknown known.Unknown some h k = refl
 
-at_once : (t u : ℕ) → At t ≡ At u → t ≡ u
-at_once t u e = cc
-
-clear_set : {P : Type 0} (e : Entry) → e ≡ Clear → is_set e ≡ true → P
-clear_set e clear h = absurd (false≢true (sym (ap is_set clear) ∙ h))
-
-at_clear : {P : Type 0} (e : Entry) (t : ℕ) → e ≡ At t → e ≡ Clear → P
-at_clear e t at clear = clear_set e clear (ap is_set at)
-
 entry_once : (X : State → Type 0) (r : Register) (a b : KnownEntry) → ((s : State) × X s) → IsKnownEntry X r a → IsKnownEntry X r b → a ≡ b
 entry_once X r entry.Clear entry.Clear some h k = refl
-entry_once X r entry.Clear (entry.At u) some h k = at_clear (entry_of r some.0) u (k some.0 some.1) (h some.0 some.1)
-entry_once X r entry.Clear entry.SetSomewhere some h k = clear_set (entry_of r some.0) (h some.0 some.1) (k.0 some.0 some.1)
-entry_once X r entry.Clear entry.Unknown some h k = clear_set (entry_of r k.1) (h k.1 k.3) k.5
-entry_once X r (entry.At t) entry.Clear some h k = at_clear (entry_of r some.0) t (h some.0 some.1) (k some.0 some.1)
-entry_once X r (entry.At t) (entry.At u) some h k = ap entry.At (at_once t u (sym (h some.0 some.1) ∙ k some.0 some.1))
-entry_once X r (entry.At t) entry.SetSomewhere some h k = absurd (k.1.4 (h k.1.0 k.1.2 ∙ sym (h k.1.1 k.1.3)))
-entry_once X r (entry.At t) entry.Unknown some h k = at_clear (entry_of r k.0) t (h k.0 k.2) k.4
-entry_once X r entry.SetSomewhere entry.Clear some h k = clear_set (entry_of r some.0) (k some.0 some.1) (h.0 some.0 some.1)
-entry_once X r entry.SetSomewhere (entry.At u) some h k = absurd (h.1.4 (k h.1.0 h.1.2 ∙ sym (k h.1.1 h.1.3)))
 entry_once X r entry.SetSomewhere entry.SetSomewhere some h k = refl
-entry_once X r entry.SetSomewhere entry.Unknown some h k = clear_set (entry_of r k.0) k.4 (h.0 k.0 k.2)
-entry_once X r entry.Unknown entry.Clear some h k = clear_set (entry_of r h.1) (k h.1 h.3) h.5
-entry_once X r entry.Unknown (entry.At u) some h k = at_clear (entry_of r h.0) u (k h.0 h.2) h.4
-entry_once X r entry.Unknown entry.SetSomewhere some h k = clear_set (entry_of r h.0) h.4 (k.0 h.0 h.2)
 entry_once X r entry.Unknown entry.Unknown some h k = refl
+entry_once X r entry.SetSomewhere entry.Unknown some h k = cc (k.4, h.0 k.0 k.2)
+entry_once X r entry.Unknown entry.SetSomewhere some h k = cc (h.4, k.0 h.0 h.2)
+entry_once X r (entry.At t) entry.SetSomewhere some h k = absurd (k.1.4 (h k.1.0 k.1.2 ∙ sym (h k.1.1 k.1.3)))
+entry_once X r entry.SetSomewhere (entry.At u) some h k = absurd (h.1.4 (k h.1.0 h.1.2 ∙ sym (k h.1.1 h.1.3)))
+entry_once X r (entry.At t) entry.Unknown some h k = cc (h k.0 k.2, k.4)
+entry_once X r entry.Unknown (entry.At u) some h k = cc (k h.0 h.2, h.4)
+entry_once X r entry.Clear entry.SetSomewhere some h k = cc (h some.0 some.1, k.0 some.0 some.1)
+entry_once X r entry.SetSomewhere entry.Clear some h k = cc (k some.0 some.1, h.0 some.0 some.1)
+entry_once X r entry.Clear entry.Unknown some h k = cc (h k.1 k.3, k.5)
+entry_once X r entry.Unknown entry.Clear some h k = cc (k h.1 h.3, h.5)
+entry_once X r _ _ some h k = cc (h some.0 some.1, k some.0 some.1)
 
 same_knowledge : (k l : Knowledge) → k.goal ≡ l.goal → k.shown ≡ l.shown → k.ins ≡ l.ins → k.outs ≡ l.outs → k.ains ≡ l.ains → k.aouts ≡ l.aouts → k.local ≡ l.local → k.panel ≡ l.panel → k ≡ l
-same_knowledge k l a b c d e f g h =
-    let mk : Knowledge → Knowledge = λ k. k in
-    ap (λ (x : Known Mode). mk (record { goal = x; shown = k.shown; ins = k.ins; outs = k.outs; ains = k.ains; aouts = k.aouts; local = k.local; panel = k.panel })) a
-    ∙ ap (λ (x : Known Mode). mk (record { goal = l.goal; shown = x; ins = k.ins; outs = k.outs; ains = k.ains; aouts = k.aouts; local = k.local; panel = k.panel })) b
-    ∙ ap (λ (x : KnownEntry). mk (record { goal = l.goal; shown = l.shown; ins = x; outs = k.outs; ains = k.ains; aouts = k.aouts; local = k.local; panel = k.panel })) c
-    ∙ ap (λ (x : KnownEntry). mk (record { goal = l.goal; shown = l.shown; ins = l.ins; outs = x; ains = k.ains; aouts = k.aouts; local = k.local; panel = k.panel })) d
-    ∙ ap (λ (x : KnownEntry). mk (record { goal = l.goal; shown = l.shown; ins = l.ins; outs = l.outs; ains = x; aouts = k.aouts; local = k.local; panel = k.panel })) e
-    ∙ ap (λ (x : KnownEntry). mk (record { goal = l.goal; shown = l.shown; ins = l.ins; outs = l.outs; ains = l.ains; aouts = x; local = k.local; panel = k.panel })) f
-    ∙ ap (λ (x : Known Bool). mk (record { goal = l.goal; shown = l.shown; ins = l.ins; outs = l.outs; ains = l.ains; aouts = l.aouts; local = x; panel = k.panel })) g
-    ∙ ap (λ (x : Known Bool). mk (record { goal = l.goal; shown = l.shown; ins = l.ins; outs = l.outs; ains = l.ains; aouts = l.aouts; local = l.local; panel = x })) h
+same_knowledge k l a b c d e f g h = by (λ q r s t u v w x. record { goal = q; shown = r; ins = s; outs = t; ains = u; aouts = v; local = w; panel = x })
+  where
+    by : (make : Known Mode → Known Mode → KnownEntry → KnownEntry → KnownEntry → KnownEntry → Known Bool → Known Bool → Knowledge)
+        → make k.goal k.shown k.ins k.outs k.ains k.aouts k.local k.panel ≡ make l.goal l.shown l.ins l.outs l.ains l.aouts l.local l.panel
+    by make = cc
 
 pub one_knowledge : (X : State → Type 0) (k l : Knowledge) → ((s : State) × X s) → IsKnowledge X k → IsKnowledge X l → k ≡ l
 one_knowledge X k l some h i =

@@ -1,21 +1,56 @@
--- A drift of pairs, one pair at a time.
-use Rattle.std.proofs.Common.{◌≡◌, ◌⊎◌, inl, inr, ℕ, ◌<◌, ◌==◌, not, ◌||◌, Bool, true, false, if◌then◌else◌, List, [], ◌∷◌, refl, sym, ap, ◌∙◌, subst, arith, bit_and, bit_or, mod-lt}
-use Rattle.std.proofs.lemmas.Bool.{or_cases, or_left, or_right, false≢true, cases_eq, eq-eqb}
+-- Sets of modes, one bit at a time, and a drift of pairs, one pair at a time.
+use Rattle.std.proofs.Common.{◌&&◌, ◌≡◌, ◌⊎◌, inl, inr, ℕ, ◌<◌, ◌==◌, not, ◌||◌, Bool, true, false, List, [], ◌∷◌, refl, sym, ap, ◌∙◌, subst, arith, bit_and, bit_or, mod-lt, ◌*◌, ◌^◌, min, max}
+use Rattle.std.proofs.lemmas.Bool.{and_parts, cond_both, or_cases, or_left, or_right, false≢true, both_ways, cases_Bool, cases_eq, eq-eqb, false_from_ne_true}
 use Rattle.std.proofs.lemmas.Bool.Decides.{nat_tests}
 use Rattle.std.proofs.lemmas.Nat.{and_mask, pow_pos}
-use Rattle.std.proofs.lemmas.Nat.Bits.{same_from_bits_below, bit_at-pow_other, bit_at-pow_same, bit_at-zero, bit_at-lt}
+use Rattle.std.proofs.lemmas.Nat.Bits.{same_from_bits_below, bit_at-pow_other, bit_at-pow_same, bit_at-zero, bit_at-lt, and_pow, bit_at_and, bit_at_or}
 use Rattle.std.specs.Int.{bit_at}
 use Rattle.tc25.proofs.TimesLemmas.{same_test}
-use Rattle.deck9.specs.declared.mode.Mode.{Mode}
-use Rattle.deck9.specs.declared.mode.Mode.TheVariants.{Stop, Play, Rec, FastForward, Rewind, Shuttle, Jog, Var, Cued, Eject}
-use Rattle.track9.specs.declared.mode_set.ModeSet.{ModeSet}
-use Rattle.deck9.specs.Drift.{PairReaches}
-use Rattle.deck9.specs.Mode.{index_of, is_mode, is_one_of, on_the_way}
-use Rattle.track9.specs.ModeSet.{bit_of, has}
-use Rattle.track9.specs.Tracker.{has_pair, shown_with}
-use Rattle.track9.specs.Working.Pairs.{drifted_with, either, goes, halted, is_some, kept_goal, modes, of_modes, way}
+use Rattle.track9.specs.Working.Deck.{Cued, Eject, FastForward, Jog, Mode, PairReaches, Play, Rec, Rewind, Shuttle, Stop, Var, index_of, is_mode, is_one_of, on_the_way}
+use Rattle.track9.proofs.Sets.{ModeSet, bit_of, drifted_with, either, goes, halted, has, has_pair, is_some, kept_goal, modes, of_modes, shown_with, way}
 use Rattle.deck9.proofs.ModeLemmas.{index-mode_of, is_mode-same, mode_of, same_mode}
-use Rattle.track9.proofs.ModeLemmas.{has-or, has-and, has-bit}
+use Rattle.std.specs.List.{list_any}
+use Rattle.std.proofs.Math.Bool.{or-false, or-true, or_assoc}
+use Rattle.track9.specs.ModeSet.{bit_of, has}
+
+scaled : (b k : ℕ) → b < 2 → (b * 2 ^ k == 2 ^ k) ≡ (b == 1)
+scaled b k h = grind (arith, nat_tests, pow_pos k)
+
+max_bit : (x y : ℕ) → x < 2 → y < 2 → (max x y == 1) ≡ ((x == 1) || (y == 1))
+max_bit x y p q = grind (arith, nat_tests)
+
+min_bit : (x y : ℕ) → x < 2 → y < 2 → (min x y == 1) ≡ ((x == 1) && (y == 1))
+min_bit x y p q = grind (arith, nat_tests)
+
+-- a set has a mode where its bit is 1
+pub has-bit : (set : ℕ) (m : Mode) → has set m ≡ (bit_at set (index_of m) == 1)
+has-bit set m = ap (λ x. x == bit_of m) (and_pow set (index_of m)) ∙ scaled (bit_at set (index_of m)) (index_of m) (bit_at-lt set (index_of m))
+
+pub has-or : (a b : ℕ) (m : Mode) → has (bit_or a b) m ≡ (has a m || has b m)
+has-or a b m =
+    has-bit (bit_or a b) m ∙ ap (λ n. n == 1) (bit_at_or a b (index_of m))
+    ∙ max_bit _ _ (bit_at-lt a (index_of m)) (bit_at-lt b (index_of m))
+    ∙ sym (rw (has-bit a m, has-bit b m) refl)
+
+pub has-and : (a b : ℕ) (m : Mode) → has (bit_and a b) m ≡ (has a m && has b m)
+has-and a b m =
+    has-bit (bit_and a b) m ∙ ap (λ n. n == 1) (bit_at_and a b (index_of m))
+    ∙ min_bit _ _ (bit_at-lt a (index_of m)) (bit_at-lt b (index_of m))
+    ∙ sym (rw (has-bit a m, has-bit b m) refl)
+
+-- what is asked of every mode is asked of this one
+pub has_every : (asked : Mode → Bool) (m : Mode)
+    → list_any (λ x. is_mode m x && asked x) (Stop ∷ Play ∷ Rec ∷ FastForward ∷ Rewind ∷ Shuttle ∷ Jog ∷ Var ∷ Cued ∷ Eject ∷ []) ≡ asked m
+has_every asked Stop = or-false (asked Stop)
+has_every asked Play = or-false (asked Play)
+has_every asked Rec = or-false (asked Rec)
+has_every asked FastForward = or-false (asked FastForward)
+has_every asked Rewind = or-false (asked Rewind)
+has_every asked Shuttle = or-false (asked Shuttle)
+has_every asked Jog = or-false (asked Jog)
+has_every asked Var = or-false (asked Var)
+has_every asked Cued = or-false (asked Cued)
+has_every asked Eject = or-false (asked Eject)
 
 -- ---- one mode
 
@@ -39,15 +74,7 @@ just_is m n = same_test (has (bit_of m) n) (is_mode n m)
 
 pub all_has : (m : Mode) → has 1023 m ≡ true
 all_has Stop = refl
-all_has Play = refl
-all_has Rec = refl
-all_has FastForward = refl
-all_has Rewind = refl
-all_has Shuttle = refl
-all_has Jog = refl
-all_has Var = refl
-all_has Cued = refl
-all_has Eject = refl
+all_has _ = refl
 
 pub nothing_has : (m : Mode) → has 0 m ≡ false
 nothing_has m = has-bit 0 m ∙ ap (λ b. b == 1) (bit_at-zero (index_of m))
@@ -59,35 +86,23 @@ of_modes_has (x ∷ ms) m = has-or (bit_of x) (of_modes ms).0 m ∙ ap (λ b. b 
 
 -- ---- some mode
 
-pub NoneOf : (Mode → Bool) → List Mode → Type 0
-NoneOf f [] = Unit {0}
-NoneOf f (m ∷ ms) = (f m ≡ false) × NoneOf f ms
-
-pub find_mode : (f : Mode → Bool) (ms : List Mode) → ((m : Mode) × (f m ≡ true)) ⊎ NoneOf f ms
-unfolding NoneOf
-find_mode f [] = inr tt
-find_mode f (m ∷ ms) = next (f m) refl (find_mode f ms)
-  where
-    next : (b : Bool) → f m ≡ b → ((m : Mode) × (f m ≡ true)) ⊎ NoneOf f ms → ((m : Mode) × (f m ≡ true)) ⊎ ((f m ≡ false) × NoneOf f ms)
-    next true e rest = inl (m, e)
-    next false e (inl w) = inl w
-    next false e (inr none) = inr (e, none)
-
-pub all_modes : List Mode
+-- every mode
+abbrev pub all_modes : List Mode
 all_modes = Stop ∷ Play ∷ Rec ∷ FastForward ∷ Rewind ∷ Shuttle ∷ Jog ∷ Var ∷ Cued ∷ Eject ∷ []
 
-pub none_of : (f : Mode → Bool) → NoneOf f all_modes → (m : Mode) → f m ≡ false
-unfolding NoneOf all_modes
-none_of f h Stop = h.0
-none_of f h Play = h.1.0
-none_of f h Rec = h.1.1.0
-none_of f h FastForward = h.1.1.1.0
-none_of f h Rewind = h.1.1.1.1.0
-none_of f h Shuttle = h.1.1.1.1.1.0
-none_of f h Jog = h.1.1.1.1.1.1.0
-none_of f h Var = h.1.1.1.1.1.1.1.0
-none_of f h Cued = h.1.1.1.1.1.1.1.1.0
-none_of f h Eject = h.1.1.1.1.1.1.1.1.1.0
+find_mode : (f : Mode → Bool) (ms : List Mode) → list_any f ms ≡ true → (m : Mode) × (f m ≡ true)
+find_mode f [] h = absurd (false≢true h)
+find_mode f (m ∷ ms) h = elim (or_cases (f m) (list_any f ms) h) [ inl here ↦ (m, here) | inr rest ↦ find_mode f ms rest ]
+
+any_mode : (f : Mode → Bool) (m : Mode) → f m ≡ true → list_any f all_modes ≡ true
+any_mode f Stop h = simp h
+any_mode f _ h = simp (h, or-true)
+
+pub some_or_none : (f : Mode → Bool) → ((m : Mode) × (f m ≡ true)) ⊎ ((m : Mode) → f m ≡ false)
+some_or_none f = elim (cases_Bool (list_any f all_modes)) [
+  | inl some ↦ inl (find_mode f all_modes some)
+  | inr none ↦ inr (λ m. false_from_ne_true (f m) (λ h. both_ways (list_any f all_modes) none (any_mode f m h)))
+]
 
 pub ten_bits : (n : ℕ) → bit_and n 1023 < 1024
 ten_bits n = rw (and_mask n 10) (mod-lt n (pow_pos 10))
@@ -102,10 +117,7 @@ no_mode n none = same_from_bits_below 10 (bit_and n 1023) 0 (ten_bits n) (pow_po
     low b h k = grind (arith, nat_tests)
 
 pub some_mode : (s : ModeSet) → is_some s ≡ true → (m : Mode) × (has s.0 m ≡ true)
-some_mode s h = elim (find_mode (has s.0) all_modes) [
-  | inl w ↦ w
-  | inr none ↦ absurd (false≢true (ap (λ n. not (n == 0)) (sym (no_mode s.0 (none_of (has s.0) none))) ∙ h))
-]
+some_mode s h = elim (some_or_none (has s.0)) [ inl w ↦ w | inr none ↦ absurd (false≢true (ap (λ n. not (n == 0)) (sym (no_mode s.0 none)) ∙ h)) ]
 
 pub mode_some : (s : ModeSet) (m : Mode) → has s.0 m ≡ true → is_some s ≡ true
 mode_some s m h = elim (cases_eq (bit_and s.0 1023) 0) [
@@ -123,12 +135,8 @@ kept_from true s g m h = elim (or_cases _ _ (sym (has-or (bit_or s.0 (bit_of g))
 ]
 
 halted_from : (b : Bool) (g m : Mode) → has (halted b g).0 m ≡ true → (b ≡ true) × (g ≡ Stop) × (m ≡ Stop)
-halted_from false g m h = absurd (false≢true (sym (nothing_has m) ∙ h))
-halted_from true g m h = at (is_mode g Stop) refl h
-  where
-    at : (b : Bool) → is_mode g Stop ≡ b → has (if b then modes (bit_of Stop) else modes 0).0 m ≡ true → (true ≡ true) × (g ≡ Stop) × (m ≡ Stop)
-    at true e h = (refl, is_mode-same g Stop e, just_mode Stop m h)
-    at false e h = absurd (false≢true (sym (nothing_has m) ∙ h))
+halted_from b g m h = cond_both (b && is_mode g Stop) (modes (bit_of Stop)) (modes 0) (λ x. has x.0 m ≡ true → (b ≡ true) × (g ≡ Stop) × (m ≡ Stop))
+    (λ e h. let w = and_parts b (is_mode g Stop) e in (w.0, is_mode-same g Stop w.1, just_mode Stop m h)) (λ e h. absurd (false≢true (sym (nothing_has m) ∙ h))) h
 
 pub or2 : (a b : ModeSet) (m : Mode) → has (either a b).0 m ≡ true → (has a.0 m ≡ true) ⊎ (has b.0 m ≡ true)
 or2 a b m h = or_cases _ _ (sym (has-or a.0 b.0 m) ∙ h)
@@ -139,106 +147,15 @@ left2 a b m h = has-or a.0 b.0 m ∙ or_left (has a.0 m) (has b.0 m) h
 pub right2 : (a b : ModeSet) (m : Mode) → has b.0 m ≡ true → has (either a b).0 m ≡ true
 right2 a b m h = has-or a.0 b.0 m ∙ or_right (has a.0 m) (has b.0 m) h
 
--- the modes shown with the goals up to one of them
-abbrev to_play : List ModeSet → ModeSet
-to_play p = either (shown_with p Stop) (shown_with p Play)
+-- a mode may be shown where it is shown with some goal
+goes_any : (p : List ModeSet) (m : Mode) → has (goes p).0 m ≡ list_any (λ g. has_pair p g m) all_modes
+goes_any p m = simp (has-or, or_assoc, or-false)
 
-abbrev to_rec : List ModeSet → ModeSet
-to_rec p = either (to_play p) (shown_with p Rec)
-
-abbrev to_fast_forward : List ModeSet → ModeSet
-to_fast_forward p = either (to_rec p) (shown_with p FastForward)
-
-abbrev to_rewind : List ModeSet → ModeSet
-to_rewind p = either (to_fast_forward p) (shown_with p Rewind)
-
-abbrev to_shuttle : List ModeSet → ModeSet
-to_shuttle p = either (to_rewind p) (shown_with p Shuttle)
-
-abbrev to_jog : List ModeSet → ModeSet
-to_jog p = either (to_shuttle p) (shown_with p Jog)
-
-abbrev to_var : List ModeSet → ModeSet
-to_var p = either (to_jog p) (shown_with p Var)
-
-abbrev to_cued : List ModeSet → ModeSet
-to_cued p = either (to_var p) (shown_with p Cued)
-
--- a mode of all that may be shown is shown with some goal
 pub goes_from : (p : List ModeSet) (m : Mode) → has (goes p).0 m ≡ true → (g : Mode) × (has_pair p g m ≡ true)
-goes_from p m h = by_eject (or2 (to_cued p) (shown_with p Eject) m h)
-  where
-    by_play : (has (shown_with p Stop).0 m ≡ true) ⊎ (has (shown_with p Play).0 m ≡ true) → (g : Mode) × (has_pair p g m ≡ true)
-    by_play (inl e) = (Stop, e)
-    by_play (inr e) = (Play, e)
-
-    by_rec : (has (to_play p).0 m ≡ true) ⊎ (has (shown_with p Rec).0 m ≡ true) → (g : Mode) × (has_pair p g m ≡ true)
-    by_rec (inl e) = by_play (or2 (shown_with p Stop) (shown_with p Play) m e)
-    by_rec (inr e) = (Rec, e)
-
-    by_fast_forward : (has (to_rec p).0 m ≡ true) ⊎ (has (shown_with p FastForward).0 m ≡ true) → (g : Mode) × (has_pair p g m ≡ true)
-    by_fast_forward (inl e) = by_rec (or2 (to_play p) (shown_with p Rec) m e)
-    by_fast_forward (inr e) = (FastForward, e)
-
-    by_rewind : (has (to_fast_forward p).0 m ≡ true) ⊎ (has (shown_with p Rewind).0 m ≡ true) → (g : Mode) × (has_pair p g m ≡ true)
-    by_rewind (inl e) = by_fast_forward (or2 (to_rec p) (shown_with p FastForward) m e)
-    by_rewind (inr e) = (Rewind, e)
-
-    by_shuttle : (has (to_rewind p).0 m ≡ true) ⊎ (has (shown_with p Shuttle).0 m ≡ true) → (g : Mode) × (has_pair p g m ≡ true)
-    by_shuttle (inl e) = by_rewind (or2 (to_fast_forward p) (shown_with p Rewind) m e)
-    by_shuttle (inr e) = (Shuttle, e)
-
-    by_jog : (has (to_shuttle p).0 m ≡ true) ⊎ (has (shown_with p Jog).0 m ≡ true) → (g : Mode) × (has_pair p g m ≡ true)
-    by_jog (inl e) = by_shuttle (or2 (to_rewind p) (shown_with p Shuttle) m e)
-    by_jog (inr e) = (Jog, e)
-
-    by_var : (has (to_jog p).0 m ≡ true) ⊎ (has (shown_with p Var).0 m ≡ true) → (g : Mode) × (has_pair p g m ≡ true)
-    by_var (inl e) = by_jog (or2 (to_shuttle p) (shown_with p Jog) m e)
-    by_var (inr e) = (Var, e)
-
-    by_cued : (has (to_var p).0 m ≡ true) ⊎ (has (shown_with p Cued).0 m ≡ true) → (g : Mode) × (has_pair p g m ≡ true)
-    by_cued (inl e) = by_var (or2 (to_jog p) (shown_with p Var) m e)
-    by_cued (inr e) = (Cued, e)
-
-    by_eject : (has (to_cued p).0 m ≡ true) ⊎ (has (shown_with p Eject).0 m ≡ true) → (g : Mode) × (has_pair p g m ≡ true)
-    by_eject (inl e) = by_cued (or2 (to_var p) (shown_with p Cued) m e)
-    by_eject (inr e) = (Eject, e)
-
-from_cued : (p : List ModeSet) (m : Mode) → has (to_cued p).0 m ≡ true → has (goes p).0 m ≡ true
-from_cued p m h = left2 (to_cued p) (shown_with p Eject) m h
-
-from_var : (p : List ModeSet) (m : Mode) → has (to_var p).0 m ≡ true → has (goes p).0 m ≡ true
-from_var p m h = from_cued p m (left2 (to_var p) (shown_with p Cued) m h)
-
-from_jog : (p : List ModeSet) (m : Mode) → has (to_jog p).0 m ≡ true → has (goes p).0 m ≡ true
-from_jog p m h = from_var p m (left2 (to_jog p) (shown_with p Var) m h)
-
-from_shuttle : (p : List ModeSet) (m : Mode) → has (to_shuttle p).0 m ≡ true → has (goes p).0 m ≡ true
-from_shuttle p m h = from_jog p m (left2 (to_shuttle p) (shown_with p Jog) m h)
-
-from_rewind : (p : List ModeSet) (m : Mode) → has (to_rewind p).0 m ≡ true → has (goes p).0 m ≡ true
-from_rewind p m h = from_shuttle p m (left2 (to_rewind p) (shown_with p Shuttle) m h)
-
-from_fast_forward : (p : List ModeSet) (m : Mode) → has (to_fast_forward p).0 m ≡ true → has (goes p).0 m ≡ true
-from_fast_forward p m h = from_rewind p m (left2 (to_fast_forward p) (shown_with p Rewind) m h)
-
-from_rec : (p : List ModeSet) (m : Mode) → has (to_rec p).0 m ≡ true → has (goes p).0 m ≡ true
-from_rec p m h = from_fast_forward p m (left2 (to_rec p) (shown_with p FastForward) m h)
-
-from_play : (p : List ModeSet) (m : Mode) → has (to_play p).0 m ≡ true → has (goes p).0 m ≡ true
-from_play p m h = from_rec p m (left2 (to_play p) (shown_with p Rec) m h)
+goes_from p m h = find_mode (λ g. has_pair p g m) all_modes (sym (goes_any p m) ∙ h)
 
 pub goes_to : (p : List ModeSet) (g m : Mode) → has_pair p g m ≡ true → has (goes p).0 m ≡ true
-goes_to p Stop m h = from_play p m (left2 (shown_with p Stop) (shown_with p Play) m h)
-goes_to p Play m h = from_play p m (right2 (shown_with p Stop) (shown_with p Play) m h)
-goes_to p Rec m h = from_rec p m (right2 (to_play p) (shown_with p Rec) m h)
-goes_to p FastForward m h = from_fast_forward p m (right2 (to_rec p) (shown_with p FastForward) m h)
-goes_to p Rewind m h = from_rewind p m (right2 (to_fast_forward p) (shown_with p Rewind) m h)
-goes_to p Shuttle m h = from_shuttle p m (right2 (to_rewind p) (shown_with p Shuttle) m h)
-goes_to p Jog m h = from_jog p m (right2 (to_shuttle p) (shown_with p Jog) m h)
-goes_to p Var m h = from_var p m (right2 (to_jog p) (shown_with p Var) m h)
-goes_to p Cued m h = from_cued p m (right2 (to_var p) (shown_with p Cued) m h)
-goes_to p Eject m h = right2 (to_cued p) (shown_with p Eject) m h
+goes_to p g m h = goes_any p m ∙ any_mode (λ g. has_pair p g m) g h
 
 pub drifted_from : (p : List ModeSet) (g m : Mode) → has (drifted_with p g).0 m ≡ true → (f : Mode) × (n : Mode) × (has_pair p f n ≡ true) × PairReaches f n g m
 drifted_from p g m h = elim (or_cases _ _ (sym (has-or (kept_goal (is_some (shown_with p g)) (shown_with p g) g).0 (halted (is_some (goes p)) g).0 m) ∙ h)) [

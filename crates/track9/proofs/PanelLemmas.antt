@@ -1,40 +1,26 @@
 -- Exchanges where hands are allowed on the panel.
 use Rattle.std.proofs.Common.{◌≡◌, inl, inr, Bool, true, false, if◌then◌else◌, [], Option, Some, None, refl, sym, ap, ◌∙◌, subst}
-use Rattle.std.proofs.lemmas.Bool.{false≢true}
+use Rattle.std.proofs.lemmas.Bool.{cond_both, false≢true}
 use Rattle.std.specs.Ordering.{nat_cmp}
 use Rattle.std.specs.FinSet as set
-use Rattle.tc25.specs.Times.{BelowDay}
-use Rattle.block9.specs.declared.block.Block.{Block}
-use Rattle.block9.specs.declared.command.Command.{Command}
-use Rattle.block9.specs.Command.{is_nak}
-use Rattle.deck9.specs.declared.effect.Effect.{Effect}
+use Rattle.track9.specs.Working.Deck.{Agrees, AreReached, BelowDay, Block, Command, Does, Drift, Effect, Exchanges, Hands, IsState, RegIn}
+use Rattle.track9.specs.Working.Deck.{Register, Sense, State, Step, done, effect_of, ignored, is_nak, is_of_goal_or_register, refused, sense_of}
 use Rattle.deck9.specs.declared.effect.Effect.TheVariants as effect
-use Rattle.track9.specs.Presets.{Presets}
-use Rattle.deck9.specs.declared.sense.Sense.{Sense}
+use Rattle.track9.proofs.Sets.{AllLeadOn, Allows, AreBelow, AreFew, AreWhole, Exchanged, Follows, InPart, InTwo, LeadsOn, Possible, Presets, StateSet, TwoBelow, TwoFew, TwoParts}
+use Rattle.track9.proofs.Sets.{TwoWhole, acknowledged, after_panel, all_or_none, counted, entries_of, first_states, hands_by, hands_of, in_local, is_panel_live, is_wide}
+use Rattle.track9.proofs.Sets.{presets_after, some_state, some_two, switched, two_drifted, two_of}
 use Rattle.deck9.specs.declared.sense.Sense.TheVariants as sense
-use Rattle.deck9.specs.declared.state.Hands.{Hands}
 use Rattle.deck9.specs.declared.state.Hands.TheVariants as hands
-use Rattle.deck9.specs.declared.state.Register.{Register}
-use Rattle.deck9.specs.declared.state.Register.TheVariants.{RegIn, RegOut, RegAudioIn, RegAudioOut}
-use Rattle.deck9.specs.declared.state.State.{State}
-use Rattle.deck9.specs.Drift.{Drift}
-use Rattle.deck9.specs.Effect.{Does, effect_of}
-use Rattle.deck9.specs.Laws.{is_of_goal_or_register}
 use Rattle.deck9.proofs.LawLemmas.{ignored_by_effect}
-use Rattle.track9.specs.Presets.{presets_after}
-use Rattle.deck9.specs.Shows.{Agrees, sense_of}
-use Rattle.deck9.specs.State.{IsState, entry_of}
-use Rattle.deck9.specs.Step.{AreReached, Exchanges, Step, done, ignored, refused}
-use Rattle.track9.specs.Tracker.{Allows, InPart, Possible, StateSet, TwoParts, entries_of, in_local}
-use Rattle.track9.specs.Working.States.{AllLeadOn, AreBelow, AreFew, AreWhole, Exchanged, Follows, InTwo, LeadsOn, TwoBelow, TwoFew, TwoWhole, acknowledged, after_panel, all_or_none, counted, first_states, hands_by, hands_of, is_panel_live, is_wide, some_state, some_two, switched, two_drifted, two_of}
 use Rattle.deck9.proofs.DriftLemmas.{drift_from_pairs}
+use Rattle.track9.specs.Working.States.{either_panel}
 use Rattle.track9.proofs.EffectLemmas.{does_panel, drift_whole}
 use Rattle.track9.proofs.FewLemmas.{few_two}
 use Rattle.track9.proofs.ForgetLemmas.{all_two, first_is, is_first, live_some, some_live, two_all, two_live, two_none, two_state}
-use Rattle.track9.proofs.ReachLemmas.{by_panel, of_two, reached_by, to_two}
-use Rattle.track9.proofs.SetDriftLemmas.{drift_panel, drift_reached, drift_state, mechanics, off_drift, possible_state, same_drift, state_is}
+use Rattle.track9.proofs.ReachLemmas.{by_panel, drift_panel, drift_reached, drift_state, mechanics, of_two, off_drift, possible_state, reached_by, same_drift, state_is, to_two}
 use Rattle.track9.proofs.StepLemmas.{drift_few, presets_of, sense_effect, status_effect}
 use Rattle.track9.proofs.WholeLemmas.{whole_two}
+use Rattle.deck9.proofs.RunSearch.{read_panel}
 
 -- ---- where hands are not allowed
 
@@ -89,14 +75,9 @@ pub record IsNarrow (Goes : Hands → State → State → Type 0) : Type 0 where
   pub panel : (s t : State) → DriftsAndGoes Goes hands.None s t → t.panel ≡ s.panel
 
 pub does_same : (h k : Hands) (e : Effect) (s t : State) → is_wide e ≡ false → Does h e s t → Does k e s t
-does_same h k effect.Nothing s t narrow d = d
-does_same h k (effect.Go g) s t narrow d = d
-does_same h k effect.KeepOrStop s t narrow d = d
-does_same h k (effect.Change r c) s t narrow d = d
 does_same h k (effect.Panel on) s t narrow d = absurd (false≢true (sym narrow))
-does_same h k effect.ForgetTape s t narrow d = d
-does_same h k effect.ForgetRegisters s t narrow d = d
 does_same h k effect.ForgetAll s t narrow d = absurd (false≢true (sym narrow))
+does_same h k _ s t narrow d = d
 
 step_same : (h k : Hands) (c : Command) (reply : Block) (s t : State) → is_wide (acknowledged c reply) ≡ false → Step h c reply s t → Step k c reply s t
 step_same h k c reply s t narrow (refused nak e) = refused nak e
@@ -175,11 +156,8 @@ wide_asks c wide = by (sense_of c) refl
 
 -- what was acknowledged
 not_nak : (c : Command) (reply : Block) (e : Effect) → acknowledged c reply ≡ e → is_wide e ≡ true → (is_nak reply ≡ false) × (effect_of c ≡ e)
-not_nak c reply e was wide = by (is_nak reply) refl
-  where
-    by : (b : Bool) → is_nak reply ≡ b → (is_nak reply ≡ false) × (effect_of c ≡ e)
-    by false nak = (nak, sym (ap (λ (b : Bool). if b then effect.Nothing else effect_of c) nak) ∙ was)
-    by true nak = absurd (false≢true (ap is_wide (sym (ap (λ (b : Bool). if b then effect.Nothing else effect_of c) nak) ∙ was) ∙ wide))
+not_nak c reply e was wide = cond_both (is_nak reply) effect.Nothing (effect_of c) (λ x. x ≡ e → (is_nak reply ≡ false) × (effect_of c ≡ e))
+    (λ nak was. absurd (false≢true (ap is_wide was ∙ wide))) (λ ok was. (ok, was)) was
 
 wide_counts : (c : Command) (reply : Block) (e : Effect) (n : Presets) → acknowledged c reply ≡ e → is_wide e ≡ true → counted e n ≡ n → presets_after c reply true n ≡ n
 wide_counts c reply e n was wide same = let w = not_nak c reply e was wide in presets_of c reply n w.0 ∙ ap (λ e. counted e n) w.1 ∙ same
@@ -188,14 +166,10 @@ wide_step : (c : Command) (reply : Block) (e : Effect) (d t : State) → acknowl
 wide_step c reply e d t was wide step = by (not_nak c reply e was wide) step
   where
     never_both : (e : Effect) → is_wide e ≡ true → is_of_goal_or_register e ≡ true → ⊥
-    never_both (effect.Panel on) wide may = false≢true may
-    never_both effect.ForgetAll wide may = false≢true may
-    never_both effect.Nothing wide may = false≢true may
     never_both (effect.Go g) wide may = false≢true wide
     never_both effect.KeepOrStop wide may = false≢true wide
     never_both (effect.Change r x) wide may = false≢true wide
-    never_both effect.ForgetTape wide may = false≢true may
-    never_both effect.ForgetRegisters wide may = false≢true may
+    never_both _ wide may = false≢true may
 
     by : (is_nak reply ≡ false) × (effect_of c ≡ e) → Step hands.Allowed c reply d t → Does hands.Allowed e d t
     by w (refused nak same) = absurd (false≢true (sym w.0 ∙ nak))
@@ -207,22 +181,16 @@ step_wide c reply e d t was wide does =
     let w = not_nak c reply e was wide in
     done w.0 (subst (λ q. Agrees q d reply) (sym (wide_asks c (ap is_wide w.1 ∙ wide))) tt) (subst (λ e. Does hands.Allowed e d t) (sym w.1) does)
 
-same_entry : (r : Register) (t : State) (b : Bool) → entry_of r (record t { panel = b }) ≡ entry_of r t
-same_entry RegIn t b = refl
-same_entry RegOut t b = refl
-same_entry RegAudioIn t b = refl
-same_entry RegAudioOut t b = refl
-
 -- a part does not tell the panel
 in_panel : (h : TwoParts) (t : State) (b : Bool) → InPart (in_local h t.local) t → InTwo b h (record t { panel = b })
-in_panel h t b i = (refl, record { pair = i.pair; registers = λ r. subst (λ e. Allows (entries_of r (in_local h t.local)) e) (sym (same_entry r t b)) (i.registers r) })
+in_panel h t b i = (refl, record { pair = i.pair; registers = λ r. subst (λ e. Allows (entries_of r (in_local h t.local)) e) (sym (read_panel r t b)) (i.registers r) })
 
 there : (on : Bool) (h : TwoParts) → two_of (switched on h) on ≡ h
 there false h = refl
 there true h = refl
 
 -- with the other value of the panel there is none
-only : (on : Bool) (h : TwoParts) (t : State) → Possible (switched on h) t → InTwo on h t
+pub only : (on : Bool) (h : TwoParts) (t : State) → Possible (switched on h) t → InTwo on h t
 only on h t i = by on t.panel refl i
   where
     by : (on pn : Bool) → t.panel ≡ pn → Possible (switched on h) t → InTwo on h t
@@ -235,40 +203,37 @@ abbrev pub DriftsAndDoes : Effect → State → State → Type 0
 DriftsAndDoes e s t = (d : State) × Drift hands.Allowed s d × Does hands.Allowed e d t
 
 pub panel_reached : (on : Bool) (v : StateSet) → AreWhole v → AreBelow v → AreReached (Possible v) (DriftsAndDoes (effect.Panel on)) (Possible (after_panel on v))
-panel_reached on v whole below = (λ t i. from (is_panel_live v) refl t i, λ s t i w. to (is_panel_live v) refl s t i w)
+panel_reached on v whole below = (from, to)
   where
-    from : (b : Bool) → is_panel_live v ≡ b → (t : State) → Possible (switched on (if b then all_or_none true else two_drifted v.off)) t → (s : State) × Possible v s × DriftsAndDoes (effect.Panel on) s t
-    from true live t i =
+    from : (t : State) → Possible (after_panel on v) t → (s : State) × Possible v s × DriftsAndDoes (effect.Panel on) s t
+    from t i = cond_both (is_panel_live v) (all_or_none true) (two_drifted v.off) (λ h. Possible (switched on h) t → (s : State) × Possible v s × DriftsAndDoes (effect.Panel on) s t)
+        (λ live i.
         let j = only on (all_or_none true) t i in
         let s = two_state (two_of v true) true whole.on live in
         let d : State = record t { panel = true } in
-        (s.0, of_two v s.0 true s.1, (d, hand_drift s.0 d s.1.0 refl (all_two d (in_panel (all_or_none true) t true j.1).1), ap (λ b. record t { panel = b }) j.0))
-    from false dead t i =
+        (s.0, of_two v s.0 true s.1, (d, hand_drift s.0 d s.1.0 refl (all_two d (in_panel (all_or_none true) t true j.1).1), ap (λ b. record t { panel = b }) j.0)))
+        (λ dead i.
         let j = only on (two_drifted v.off) t i in
         let d : State = record t { panel = false } in
         let a = (drift_reached v.off false).0 d (in_panel (two_drifted v.off) t false j.1) in
-        (a.0, of_two v a.0 false a.1, (d, same_drift hands.Allowed a.0 d a.2, ap (λ b. record t { panel = b }) j.0))
+        (a.0, of_two v a.0 false a.1, (d, same_drift hands.Allowed a.0 d a.2, ap (λ b. record t { panel = b }) j.0))) i
 
-    to : (b : Bool) → is_panel_live v ≡ b → (s t : State) → Possible v s → DriftsAndDoes (effect.Panel on) s t → Possible (switched on (if b then all_or_none true else two_drifted v.off)) t
-    to b live s t i (d, drift, same) =
-        subst (Possible (switched on (if b then all_or_none true else two_drifted v.off))) (sym same) (of_two (switched on (if b then all_or_none true else two_drifted v.off)) (record d { panel = on }) on
-        (subst (λ h. InTwo on h (record d { panel = on })) (sym (there on (if b then all_or_none true else two_drifted v.off))) (in_panel (if b then all_or_none true else two_drifted v.off) d on (left b live s i d drift))))
-      where
-        left : (b : Bool) → is_panel_live v ≡ b → (s : State) → Possible v s → (d : State) → Drift hands.Allowed s d → InPart (in_local (if b then all_or_none true else two_drifted v.off) d.local) d
-        left true live s i d drift = two_all d (drift_state hands.Allowed s d (possible_state v s below i) drift)
-        left false dead s i d drift = by s.panel refl
-          where
-            by : (pn : Bool) → s.panel ≡ pn → InPart (in_local (two_drifted v.off) d.local) d
-            by false off = ((drift_reached v.off false).1 s d (to_two v s false off i) (off_drift hands.Allowed s d off drift)).1
-            by true on = absurd (false≢true (sym dead ∙ two_live (two_of v true) s (to_two v s true on i).1))
+    off : (s d : State) → Possible v s → Drift hands.Allowed s d → is_panel_live v ≡ false → (pn : Bool) → s.panel ≡ pn → InPart (in_local (two_drifted v.off) d.local) d
+    off s d i drift dead false e = ((drift_reached v.off false).1 s d (to_two v s false e i) (off_drift hands.Allowed s d e drift)).1
+    off s d i drift dead true e = absurd (false≢true (sym dead ∙ two_live (two_of v true) s (to_two v s true e i).1))
+
+    to : (s t : State) → Possible v s → DriftsAndDoes (effect.Panel on) s t → Possible (after_panel on v) t
+    to s t i (d, drift, same) =
+        let left = cond_both (is_panel_live v) (all_or_none true) (two_drifted v.off) (λ h. InPart (in_local h d.local) d)
+        (λ live. two_all d (drift_state hands.Allowed s d (possible_state v s below i) drift)) (λ dead. off s d i drift dead s.panel refl) in
+        subst (Possible (after_panel on v)) (sym same) (of_two (after_panel on v) (record d { panel = on }) on
+        (subst (λ h. InTwo on h (record d { panel = on })) (sym (there on (either_panel v))) (in_panel (either_panel v) d on left)))
 
 pub known_whole : (v : StateSet) → AreWhole v → (b : Bool) → TwoWhole (if b then all_or_none true else two_drifted v.off)
-known_whole v whole true = whole_two true
-known_whole v whole false = drift_whole v.off whole.off
+known_whole v whole b = cond_both b (all_or_none true) (two_drifted v.off) TwoWhole (λ on. whole_two true) (λ off. drift_whole v.off whole.off)
 
 pub known_few : (v : StateSet) (n : Presets) → AreFew n v → (b : Bool) → TwoFew n (if b then all_or_none true else two_drifted v.off)
-known_few v n few true = few_two n true
-known_few v n few false = drift_few n v.off (few false)
+known_few v n few b = cond_both b (all_or_none true) (two_drifted v.off) (TwoFew n) (λ on. few_two n true) (λ off. drift_few n v.off (few false))
 
 pub follows_panel : (c : Command) (reply : Block) (on : Bool) (v w : StateSet) → acknowledged c reply ≡ effect.Panel on → w ≡ after_panel on v → AreWhole v → AreBelow v → Follows hands.Allowed c reply v w
 follows_panel c reply on v w was same whole below = subst (Follows hands.Allowed c reply v) (sym same) (record {
@@ -299,39 +264,23 @@ first_whole hands.None = record { off = whole_two true; on = whole_two false }
 first_whole hands.Allowed = record { off = whole_two true; on = whole_two true }
 
 pub first_few : (h : Hands) (n : Presets) → AreFew n (first_states h)
-first_few hands.None n false = few_two n true
 first_few hands.None n true = few_two n false
-first_few hands.Allowed n false = few_two n true
 first_few hands.Allowed n true = few_two n true
+first_few _ n _ = few_two n true
 
 pub leads_forgotten : (Goes : State → State → Type 0) (count : Presets → Presets) (v w : StateSet) → hands_of v ≡ hands.Allowed → w ≡ (if some_state v then first_states hands.Allowed else v) → AreWhole v
     → ((s t : State) → IsState t → Goes s t) → ((s t : State) → Possible v s → Goes s t → IsState t) → ((n : Presets) → count n ≡ n) → AllLeadOn hands.Allowed Goes count v w
 leads_forgotten Goes count v w allowed same whole there back counts = subst (AllLeadOn hands.Allowed Goes count v) (sym same) (record {
-  reached = (λ t i. from (some_state v) refl t i, λ s t i w. to s t i w);
-  hands = with_hands (some_state v);
-  whole = are_whole (some_state v);
-  few = λ n few. subst (λ m. AreFew m (if some_state v then first_states hands.Allowed else v)) (sym (counts n)) (are_few n few (some_state v));
+  reached = (
+    λ t i. cond_both (some_state v) (first_states hands.Allowed) v (λ w. Possible w t → (s : State) × Possible v s × Goes s t)
+        (λ live i. let s = live_some v whole live in (s.0, s.1, there s.0 t (first_is hands.Allowed t i))) (λ dead i. absurd (false≢true (sym dead ∙ some_live v t i))) i,
+    λ s t i goes. subst (λ (b : Bool). Possible (if b then first_states hands.Allowed else v) t) (sym (some_live v s i)) (is_first hands.Allowed t (back s t i goes)),
+  );
+  hands = cond_both (some_state v) (first_states hands.Allowed) v (λ w. hands_of w ≡ hands.Allowed) (λ live. refl) (λ dead. allowed);
+  whole = cond_both (some_state v) (first_states hands.Allowed) v AreWhole (λ live. first_whole hands.Allowed) (λ dead. whole);
+  few = λ n few. subst (λ m. AreFew m (if some_state v then first_states hands.Allowed else v)) (sym (counts n))
+      (cond_both (some_state v) (first_states hands.Allowed) v (AreFew n) (λ live. first_few hands.Allowed n) (λ dead. few));
 })
-  where
-    from : (b : Bool) → some_state v ≡ b → (t : State) → Possible (if b then first_states hands.Allowed else v) t → (s : State) × Possible v s × Goes s t
-    from true live t i = let s = live_some v whole live in (s.0, s.1, there s.0 t (first_is hands.Allowed t i))
-    from false dead t i = absurd (false≢true (sym dead ∙ some_live v t i))
-
-    to : (s t : State) → Possible v s → Goes s t → Possible (if some_state v then first_states hands.Allowed else v) t
-    to s t i goes =
-        subst (λ (b : Bool). Possible (if b then first_states hands.Allowed else v) t) (sym (some_live v s i)) (is_first hands.Allowed t (back s t i goes))
-
-    with_hands : (b : Bool) → hands_of (if b then first_states hands.Allowed else v) ≡ hands.Allowed
-    with_hands true = refl
-    with_hands false = allowed
-
-    are_whole : (b : Bool) → AreWhole (if b then first_states hands.Allowed else v)
-    are_whole true = first_whole hands.Allowed
-    are_whole false = whole
-
-    are_few : (n : Presets) → AreFew n v → (b : Bool) → AreFew n (if b then first_states hands.Allowed else v)
-    are_few n few true = first_few hands.Allowed n
-    are_few n few false = few
 
 pub follows_forget : (c : Command) (reply : Block) (v w : StateSet) → acknowledged c reply ≡ effect.ForgetAll → hands_of v ≡ hands.Allowed → w ≡ (if some_state v then first_states hands.Allowed else v) → AreWhole v
     → Follows hands.Allowed c reply v w
@@ -345,10 +294,5 @@ below_off v none off = record { off = off; on = rw none (λ l. by l) }
   where
     by : (l : Bool) → (r : Register) → BelowDay (entries_of r (in_local (all_or_none false) l)).times
     by false RegIn = none_below
-    by false RegOut = none_below
-    by false RegAudioIn = none_below
-    by false RegAudioOut = none_below
-    by true RegIn = none_below
-    by true RegOut = none_below
-    by true RegAudioIn = none_below
-    by true RegAudioOut = none_below
+    by _ RegIn = none_below
+    by _ _ = none_below

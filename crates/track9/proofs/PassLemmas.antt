@@ -1,38 +1,30 @@
 -- Commands whose reply is not known.
 use Rattle.std.proofs.Common.{◌≡◌, ◌⊎◌, ◌↔◌, inl, inr, Bool, true, false, if◌then◌else◌, [], Some, refl, sym, ap, ◌∙◌, subst}
-use Rattle.block9.specs.declared.command.Command.{Command}
-use Rattle.deck9.specs.declared.effect.Effect.{Effect}
+use Rattle.track9.specs.Working.Deck.{AreReached, CanPass, Command, Does, Drift, Effect, Hands, IsState, Passes, State, effect_of}
 use Rattle.deck9.specs.declared.effect.Effect.TheVariants as effect
-use Rattle.deck9.specs.declared.state.Hands.{Hands}
 use Rattle.deck9.specs.declared.state.Hands.TheVariants as hands
-use Rattle.deck9.specs.declared.state.State.{State}
-use Rattle.deck9.specs.Contradict.{CanPass, Passes}
-use Rattle.deck9.specs.Drift.{Drift}
-use Rattle.deck9.specs.Effect.{Does, effect_of}
-use Rattle.deck9.specs.State.{IsState}
-use Rattle.deck9.specs.Step.{AreReached}
 use Rattle.track9.specs.Presets.{Presets, with_command}
 use Rattle.track9.specs.Tracker.{Possible, StateSet, TwoParts, in_local}
 use Rattle.track9.specs.Working.States.{AllLeadOn, AreBelow, AreFew, AreWhole, DoesOrNot, FollowsPassed, HasEffect, InTwo, LeadsOn, Passed, TwoBelow, TwoFew, TwoWhole, after_panel, all_drifted, all_or_none, counted, first_states, hands_of, is_panel_live, is_wide, panel_passed, some_state, two_drifted}
-use Rattle.track9.proofs.EffectLemmas.{does_panel, drift_below, drift_whole, or_true}
+use Rattle.track9.proofs.EffectLemmas.{does_panel, drift_below, drift_whole}
 use Rattle.track9.proofs.FewLemmas.{few_two}
 use Rattle.track9.proofs.ForgetLemmas.{two_all, two_none}
-use Rattle.track9.proofs.PanelLemmas.{DriftsAndGoes, does_same, known_few, known_whole, leads_both, leads_forgotten, leads_off, panel_reached}
-use Rattle.track9.proofs.ReachLemmas.{of_two, reached_then, to_two}
-use Rattle.track9.proofs.SetDriftLemmas.{drift_reached, drift_state, mechanics, possible_state, state_is}
+use Rattle.track9.proofs.PanelLemmas.{DriftsAndGoes, does_same, only, known_few, known_whole, leads_both, leads_forgotten, leads_off, panel_reached}
+use Rattle.track9.proofs.ReachLemmas.{drift_reached, drift_state, mechanics, of_two, possible_state, reached_then, state_is, to_two}
 use Rattle.track9.proofs.StepLemmas.{command_counts, drift_few}
 use Rattle.track9.proofs.WholeLemmas.{whole_two}
+use Rattle.std.proofs.Math.Bool.{or-true}
+use Rattle.track9.specs.Working.States.{either_panel}
 
 passes_back : (e : Effect) (s t : State) → IsState s → (t ≡ s) ⊎ Does hands.None e s t → DoesOrNot true e s t
 passes_back e s t valid (inr does) = inl does
 passes_back effect.Nothing s t valid (inl same) = inl same
-passes_back (effect.Go g) s t valid (inl same) = inr (refl, or_true s.local, same)
 passes_back effect.KeepOrStop s t valid (inl same) = inl (inl same)
-passes_back (effect.Change r c) s t valid (inl same) = inr (refl, or_true s.local, same)
 passes_back (effect.Panel on) s t valid (inl same) = inl same
 passes_back effect.ForgetTape s t valid (inl same) = rw same (inl (valid, refl, refl))
 passes_back effect.ForgetRegisters s t valid (inl same) = rw same (inl (valid, refl, refl, refl, refl))
 passes_back effect.ForgetAll s t valid (inl same) = rw same (inl (valid, refl))
+passes_back _ s t valid (inl same) = inr (refl, or-true s.local, same)
 
 -- a drift, and then nothing or the effect
 pub passed_effect : (c : Command) (e : Effect) (h g : TwoParts) → e ≡ effect_of c → TwoBelow h → HasEffect true e (two_drifted h) g → Passed c h g
@@ -81,11 +73,7 @@ drift_leads h whole = record {
 all_drift : (v : StateSet) → AreWhole v → AreBelow v → AllLeadOn hands.Allowed (DriftsAndGoes (λ h s t. t ≡ s) hands.Allowed) (λ n. n) v (all_drifted v)
 all_drift v whole below = leads_both (λ h s t. t ≡ s) (λ n. n) v (two_drifted v.off) (all_or_none (is_panel_live v)) (all_drifted v) refl
     (record { same = λ h k s t e. e; panel = λ s t w. ap (λ (u : State). u.panel) w.2 ∙ ap (λ (u : State). u.panel) (mechanics s w.0 w.1).0 }) whole below (drift_leads v.off whole.off)
-    (subst (λ g. LeadsOn (DriftsAndGoes (λ h s t. t ≡ s) hands.None) (λ n. n) (all_or_none (is_panel_live v)) g) (same (is_panel_live v)) (drift_leads (all_or_none (is_panel_live v)) (whole_two (is_panel_live v))))
-  where
-    same : (b : Bool) → two_drifted (all_or_none b) ≡ all_or_none b
-    same true = refl
-    same false = refl
+    (subst (λ g. LeadsOn (DriftsAndGoes (λ h s t. t ≡ s) hands.None) (λ n. n) (all_or_none (is_panel_live v)) g) (elim (is_panel_live v) as (λ b. two_drifted (all_or_none b) ≡ all_or_none b) [ true ↦ refl | false ↦ refl ]) (drift_leads (all_or_none (is_panel_live v)) (whole_two (is_panel_live v))))
 
 -- a state after a passed switch is one of those that stayed, or one of those that the switch leads to
 passed_from : (on : Bool) (v : StateSet) (t : State) → Possible (panel_passed on v) t → Possible (all_drifted v) t ⊎ Possible (after_panel on v) t
@@ -115,13 +103,8 @@ stays_passed on v t valid i = by on t.panel refl i
     by false true e i = of_two (panel_passed false v) t true (to_two (all_drifted v) t true e i)
 
 goes_passed : (on : Bool) (v : StateSet) (t : State) → Possible (after_panel on v) t → Possible (panel_passed on v) t
-goes_passed on v t i = by on t.panel refl i
-  where
-    by : (on pn : Bool) → t.panel ≡ pn → Possible (after_panel on v) t → Possible (panel_passed on v) t
-    by true false e i = two_none t (to_two (after_panel true v) t false e i).1
-    by true true e i = of_two (panel_passed true v) t true (to_two (after_panel true v) t true e i)
-    by false false e i = of_two (panel_passed false v) t false (to_two (after_panel false v) t false e i)
-    by false true e i = two_none t (to_two (after_panel false v) t true e i).1
+goes_passed true v t i = of_two (panel_passed true v) t true (only true (either_panel v) t i)
+goes_passed false v t i = of_two (panel_passed false v) t false (only false (either_panel v) t i)
 
 pub passed_panel : (c : Command) (on : Bool) (v w : StateSet) → effect_of c ≡ effect.Panel on → w ≡ panel_passed on v → AreWhole v → AreBelow v → FollowsPassed hands.Allowed c v w
 passed_panel c on v w is same whole below = subst (FollowsPassed hands.Allowed c v) (sym same) (record {

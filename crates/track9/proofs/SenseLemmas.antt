@@ -1,23 +1,12 @@
 -- A register's time or status data that were read: which states of a part agree with them.
-use Rattle.std.proofs.Common.{◌≡◌, ◌&&◌, ℕ, List, Bool, true, false, if◌then◌else◌, Option, refl, sym, ap, ◌∙◌, subst}
-use Rattle.std.proofs.lemmas.Bool.{and_from, and_parts}
-use Rattle.tc25.specs.Day.{time_of}
-use Rattle.block9.specs.declared.block.Block.{Block}
-use Rattle.deck9.specs.declared.mode.Mode.{Mode}
-use Rattle.track9.specs.declared.mode_set.ModeSet.{ModeSet}
-use Rattle.deck9.specs.declared.state.Register.{Register}
-use Rattle.deck9.specs.declared.state.Register.TheVariants.{RegIn, RegOut, RegAudioIn, RegAudioOut}
-use Rattle.deck9.specs.declared.state.State.{State}
-use Rattle.track9.specs.ModeSet.{has}
-use Rattle.deck9.specs.Shows.{Says, ShowsStatus, Tells, datum, may_show}
-use Rattle.deck9.specs.State.{entry_of, is_set}
-use Rattle.track9.specs.Tracker.{Allows, InPart, PartStates, entries_of, has_pair, shown_with}
-use Rattle.track9.specs.Working.Entries.{agreeing}
-use Rattle.track9.specs.Working.Pairs.{both, masked}
-use Rattle.track9.specs.Working.Parts.{no_states, said_part, sensed_part, shown_part, status_part, with_entries, with_pairs}
+use Rattle.std.proofs.Common.{◌≡◌, ◌&&◌, ℕ, List, Bool, true, if◌then◌else◌, Option, refl, sym, ap, ◌∙◌, subst}
+use Rattle.std.proofs.lemmas.Bool.{cond_both, and_from, and_parts}
+use Rattle.track9.specs.Working.Deck.{Block, Mode, RegAudioIn, RegAudioOut, RegIn, RegOut, Register, Says, ShowsStatus, State, Tells, datum, entry_of, is_set, may_show, time_of}
+use Rattle.track9.proofs.Sets.{Allows, InPart, ModeSet, PartStates, agreeing, both, entries_of, has, has_pair, masked, no_states, said_part, sensed_part, shown_part, shown_with}
+use Rattle.track9.proofs.Sets.{status_part, with_entries, with_pairs}
 use Rattle.track9.proofs.EntryLemmas.{says_from, says_to, tells_from, tells_to}
-use Rattle.track9.proofs.ModeLemmas.{has-and}
-use Rattle.track9.proofs.PartLemmas.{four, in_none, in_put, own, put_back, read_put, settled_from, settled_to, shown_by_goal}
+use Rattle.track9.proofs.PairLemmas.{has-and}
+use Rattle.track9.proofs.PartLemmas.{each_register, in_none, in_put, own, put_back, read_put, settled_from, settled_to, shown_by_goal}
 use Rattle.track9.proofs.ReachLemmas.{ReachedIn}
 
 -- the register tells these bytes, and nothing changes
@@ -72,7 +61,7 @@ shown_from mask d p t i =
     let b = says_from 0x02 d p.outs t.outs (there.registers RegOut) in
     let c = says_from 0x04 d p.ains t.ains (there.registers RegAudioIn) in
     let e = says_from 0x08 d p.aouts t.aouts (there.registers RegAudioOut) in (
-      record { pair = pair.0; registers = four p t a.0 b.0 c.0 e.0 },
+      record { pair = pair.0; registers = each_register _ a.0 b.0 c.0 e.0 },
       record { shown = pair.1; ins = a.1; outs = b.1; ains = c.1; aouts = e.1 },
     )
 
@@ -80,7 +69,7 @@ shown_to : (mask : ModeSet) (d : Option ℕ) (p : PartStates) (t : State) → In
 shown_to mask d p t i h =
     settled_to (shown_factors mask d p) t (record {
       pair = masked_has mask p.pairs t.goal t.shown ∙ and_from (has_pair p.pairs t.goal t.shown) (has mask.0 t.shown) i.pair h.shown;
-      registers = four (shown_factors mask d p) t (says_to 0x01 d p.ins t.ins (i.registers RegIn) h.ins) (says_to 0x02 d p.outs t.outs (i.registers RegOut) h.outs)
+      registers = each_register _ (says_to 0x01 d p.ins t.ins (i.registers RegIn) h.ins) (says_to 0x02 d p.outs t.outs (i.registers RegOut) h.outs)
           (says_to 0x04 d p.ains t.ains (i.registers RegAudioIn) h.ains) (says_to 0x08 d p.aouts t.aouts (i.registers RegAudioOut) h.aouts);
     })
 
@@ -91,32 +80,15 @@ pub status_reached : (asked : ℕ) (reply : Block) (agrees : Bool) (mask : ModeS
 status_reached asked reply agrees mask l pn p there back modes =
     let d = datum asked reply 3 in
     record {
-      from = λ t el ep i. from agrees refl t el ep i;
+      from = λ t el ep i. cond_both agrees (shown_part mask d p) no_states (λ q. InPart q t → (s : State) × InPart p s × (s.local ≡ l) × (s.panel ≡ pn) × StatusOf asked reply s t)
+          (λ e i.
+          let w = shown_from mask d p t i in
+          let local = subst (λ b. Says 0x01 b (datum asked reply 0)) (sym el) (there e) in
+          (t, w.0, el, ep, (record { local = local; shown = sym (modes t.shown) ∙ w.1.shown; ins = w.1.ins; outs = w.1.outs; ains = w.1.ains; aouts = w.1.aouts }, refl)))
+          (λ e i. in_none t i) i;
       to = λ s t el ep i goes.
           let status = goes.0 in
           let agreed : FitsStatus mask d s = record { shown = modes s.shown ∙ status.shown; ins = status.ins; outs = status.outs; ains = status.ains; aouts = status.aouts } in
           subst (λ (b : Bool). InPart (if b then shown_part mask d p else no_states) t) (sym (back (subst (λ b. Says 0x01 b (datum asked reply 0)) el status.local)))
           (subst (λ u. InPart (shown_part mask d p) u) (sym goes.1) (shown_to mask d p s i agreed));
     }
-  where
-    from : (b : Bool) → agrees ≡ b → (t : State) → t.local ≡ l → t.panel ≡ pn → InPart (if b then shown_part mask (datum asked reply 3) p else no_states) t
-        → (s : State) × InPart p s × (s.local ≡ l) × (s.panel ≡ pn) × StatusOf asked reply s t
-    from false e t el ep i = in_none t i
-    from true e t el ep i =
-        let w = shown_from mask (datum asked reply 3) p t i in (
-          t,
-          w.0,
-          el,
-          ep,
-          (
-            record {
-              local = subst (λ b. Says 0x01 b (datum asked reply 0)) (sym el) (there e);
-              shown = sym (modes t.shown) ∙ w.1.shown;
-              ins = w.1.ins;
-              outs = w.1.outs;
-              ains = w.1.ains;
-              aouts = w.1.aouts;
-            },
-            refl,
-          ),
-        )

@@ -1,34 +1,22 @@
 -- What a tracker keeps, remains and counts.
 use Rattle.std.proofs.Common.{◌≡◌, ◌⊎◌, inl, inr, ◌↔◌, ◌&&◌, not, ℕ, ◌≤◌, ◌+◌, max, Bool, true, false, None, IsTrue, if◌then◌else◌, refl, sym, ap, ◌∙◌, subst, arith}
 use Rattle.std.proofs.Math.Nat.{max-zero}
-use Rattle.std.proofs.lemmas.Bool.{cases_eq, false≢true}
+use Rattle.std.proofs.lemmas.Bool.{false_from_ne_true, false≢true}
 use Rattle.std.specs.Ordering.{nat_cmp}
 use Rattle.std.specs.FinSet as set
-use Rattle.tc25.specs.Times.{Times, begin_count, span_count}
+use Rattle.track9.specs.Working.Deck.{AreReached, At, Block, Command, Exchanges, Hands, IsFirst, RegIn, Register, State, Times}
+use Rattle.track9.specs.Working.Deck.{is_nak, span_count}
 use Rattle.tc25.proofs.CountLemmas.{begin_count-empty, span_count-begin_count}
 use Rattle.tc25.proofs.TimesLemmas.{same_test, same_times}
-use Rattle.block9.specs.declared.block.Block.{Block}
-use Rattle.block9.specs.declared.command.Command.{Command}
-use Rattle.block9.specs.Command.{is_nak}
-use Rattle.track9.specs.Presets.{Presets}
-use Rattle.deck9.specs.declared.state.Entry.TheVariants.{At}
-use Rattle.deck9.specs.declared.state.Hands.{Hands}
-use Rattle.deck9.specs.declared.state.Hands.TheVariants as hands
-use Rattle.deck9.specs.declared.state.Register.{Register}
-use Rattle.deck9.specs.declared.state.Register.TheVariants.{RegIn, RegOut, RegAudioIn, RegAudioOut}
-use Rattle.deck9.specs.declared.state.State.{State}
-use Rattle.track9.specs.Presets.{AreTimes, IsSpanCount, count_of, presets_after, with_command}
-use Rattle.deck9.specs.State.{IsFirst, entry_of, with_entry}
-use Rattle.deck9.specs.Step.{AreReached, Exchanges}
-use Rattle.track9.specs.Tracker.{Allows, InPart, Possible, StateSet, Tracked, entries_of, in_local}
-use Rattle.track9.specs.Working.Parts.{is_live}
-use Rattle.track9.specs.Working.States.{AreFew, AreWhole, Follows, FollowsPassed, IsKept, first_states, all_or_none, hands_of, on_two, part_of, some_state, two_of}
+use Rattle.track9.proofs.Sets.{AreFew, AreTimes, AreWhole, Follows, FollowsPassed, IsKept, IsSpanCount, Possible, Presets, StateSet, Tracked, all_or_none}
+use Rattle.track9.proofs.Sets.{count_of, entries_of, first_states, hands_of, in_local, is_live, on_two, part_of, presets_after, some_state, two_of, with_command}
 use Rattle.track9.proofs.PanelLemmas.{first_few, first_whole}
-use Rattle.track9.proofs.EntryLemmas.{no_times}
+use Rattle.track9.proofs.EntryLemmas.{allowed_some, no_times}
 use Rattle.track9.proofs.ForgetLemmas.{first_is, is_first, live_some, some_live}
-use Rattle.track9.proofs.PartLemmas.{a_state, entry_put, in_put, put_local, put_panel, put_same}
-use Rattle.track9.proofs.ReachLemmas.{impossible, possible}
+use Rattle.track9.proofs.PartLemmas.{a_state}
+use Rattle.track9.proofs.ReachLemmas.{possible}
 use Rattle.track9.proofs.WholeLemmas.{whole_in, whole_of}
+use Rattle.track9.proofs.KnownEntries.{of_part, part_of_entry}
 
 -- ---- before the first exchange
 
@@ -48,40 +36,26 @@ remains_where b v e whole = (λ h. live_some v whole (sym e ∙ h), λ w. e ∙ 
 -- what holds of the states inside holds of the tracker's
 pub reached_from : (t : Tracked) (v w : StateSet) (n : Presets) (Goes : Hands → State → State → Type 0) → record { states = v; hands = hands_of v; presets = n } ≡ t → AreReached (Possible v) (Goes (hands_of v)) (Possible w)
     → AreReached (Possible t.states) (Goes t.hands) (Possible w)
-reached_from t v w n Goes same reached =
-    let P : Tracked → Type 0 = λ t. AreReached (Possible t.states) (Goes t.hands) (Possible w) in subst P same reached
+reached_from t v w n Goes same reached = rw (← same) reached
 
 -- from no state none is reached
 pub over_false : (t : Tracked) (v w : StateSet) (n : Presets) (c : Command) (reply : Block) (b : Bool) → record { states = v; hands = hands_of v; presets = n } ≡ t → Follows (hands_of v) c reply v w → b ≡ some_state w
     → (((s : State) × Possible t.states s) → ⊥) → b ≡ false
-over_false t v w n c reply b same follows e none = by (some_state w) refl
-  where
-    by : (live : Bool) → some_state w ≡ live → b ≡ false
-    by false dead = e ∙ dead
-    by true live =
-        let a = live_some w follows.whole live in
-        let from = (reached_from t v w n (λ h. Exchanges h c reply) same follows.reached).0 a.0 a.1 in
-        absurd (none (from.0, from.1))
+over_false t v w n c reply b same follows e none = e ∙ false_from_ne_true (some_state w) (λ live.
+    let a = live_some w follows.whole live in
+    let from = (reached_from t v w n (λ h. Exchanges h c reply) same follows.reached).0 a.0 a.1 in
+    none (from.0, from.1))
 
 dead_few : (n : Presets) (v : StateSet) → AreWhole v → some_state v ≡ false → AreFew n v
 dead_few n v whole dead pn l r =
-    let none = no_times (entries_of r (part_of v l pn)) (whole_in (two_of v pn) (whole_of v whole pn) l r ∙ dead_in (is_live (part_of v l pn)) refl) in
-    rw none (few_none (count_of r n))
-  where
-    few_none : (k : ℕ) → begin_count set.empty ≤ k + 1
-    few_none k = omega (arith, begin_count-empty)
-
-    dead_in : (b : Bool) → is_live (part_of v l pn) ≡ b → b ≡ false
-    dead_in false e = refl
-    dead_in true live = let w = a_state (part_of v l pn) l pn (whole_in (two_of v pn) (whole_of v whole pn) l) live in absurd (false≢true (sym dead ∙ some_live v w.0 (possible v w.0 l pn w.2 w.3 w.1)))
+    let dead_in : is_live (part_of v l pn) ≡ false = false_from_ne_true _ (λ live.
+    let w = a_state (part_of v l pn) l pn (whole_in (two_of v pn) (whole_of v whole pn) l) live in false≢true (sym dead ∙ some_live v w.0 (possible v w.0 l pn w.2 w.3 w.1))) in
+    rw (no_times (entries_of r (part_of v l pn)) (whole_in (two_of v pn) (whole_of v whole pn) l r ∙ dead_in)) (omega (arith, begin_count-empty))
 
 kept_few : (c : Command) (reply : Block) (v w : StateSet) (h : Hands) (n : Presets) (b : Bool) → b ≡ some_state w → AreFew n v → Follows h c reply v w → AreFew (presets_after c reply b n) w
 kept_few c reply v w h n true e few follows = follows.few n few
-kept_few c reply v w h n false e few follows = by (is_nak reply)
-  where
-    by : (nak : Bool) → AreFew (if not nak && false then with_command c n else n) w
-    by true = dead_few n w follows.whole (sym e)
-    by false = dead_few n w follows.whole (sym e)
+kept_few c reply v w h n false e few follows =
+    let none : AreFew n w = dead_few n w follows.whole (sym e) in elim (is_nak reply) as (λ nak. AreFew (if not nak && false then with_command c n else n) w) [ true ↦ none | false ↦ none ]
 
 pub kept_after : (c : Command) (reply : Block) (v w : StateSet) (h : Hands) (n m : Presets) (b : Bool) → b ≡ some_state w → m ≡ presets_after c reply b n → IsKept n v → Follows h c reply v w → IsKept m w
 kept_after c reply v w h n m b e counts kept follows =
@@ -96,36 +70,15 @@ kept_passed c v w h n m counts kept follows = subst (λ m. IsKept m w) (sym coun
 -- the times of a register in a part are those of its states
 are_times : (v : StateSet) (r : Register) (l pn : Bool) → AreWhole v → AreTimes (Possible v) r l pn (entries_of r (part_of v l pn)).times
 are_times v r l pn whole t = (
-  λ there. by (is_live (part_of v l pn)) refl there,
-  λ w. subst (λ e. Allows (entries_of r (part_of v l pn)) e) w.4 ((impossible v w.0 l pn w.2 w.3 w.1).registers r),
+  λ there. part_of_entry v r l pn (At t) whole (sym (whole_in (two_of v pn) (whole_of v whole pn) l r) ∙ allowed_some (entries_of r (part_of v l pn)) (At t) there) there,
+  λ w. of_part v r l pn (At t) w,
 )
-  where
-    by : (b : Bool) → is_live (part_of v l pn) ≡ b → set.contains (entries_of r (part_of v l pn)).times t ≡ true
-        → (s : State) × Possible v s × (s.local ≡ l) × (s.panel ≡ pn) × (entry_of r s ≡ At t)
-    by true live there =
-        let w = a_state (part_of v l pn) l pn (whole_in (two_of v pn) (whole_of v whole pn) l) live in
-        let p = part_of v l pn in
-        let s = with_entry r (At t) w.0 in
-        let inside : InPart p s = subst (λ q. InPart q s) (put_same r p) (in_put r (entries_of r p) p (At t) w.0 w.1 there) in
-        (s, possible v s l pn (put_local r (At t) w.0 ∙ w.2) (put_panel r (At t) w.0 ∙ w.3) inside, put_local r (At t) w.0 ∙ w.2, put_panel r (At t) w.0 ∙ w.3, entry_put r (At t) w.0)
-    by false dead there =
-        let none = no_times (entries_of r (part_of v l pn)) (whole_in (two_of v pn) (whole_of v whole pn) l r ∙ dead) in
-        absurd (false≢true (sym (set.contains-empty nat_cmp t) ∙ ap (λ x. set.contains x t) (sym none) ∙ there))
 
 one_set : (X : State → Type 0) (r : Register) (l pn : Bool) (a b : Times) → AreTimes X r l pn a → AreTimes X r l pn b → a ≡ b
 one_set X r l pn a b h k = same_times a b (λ t. same_test (set.contains a t) (set.contains b t) (λ x. (k t).1 ((h t).0 x)) (λ x. (h t).1 ((k t).0 x)))
 
-is_most : (a b c d n : ℕ) → n ≡ max (max a b) (max c d) → (a ≤ n) × (b ≤ n) × (c ≤ n) × (d ≤ n)
-is_most a b c d n e = (omega arith, omega arith, omega arith, omega arith)
-
 is_one : (a b c d n : ℕ) → n ≡ max (max a b) (max c d) → (a ≡ n) ⊎ ((b ≡ n) ⊎ ((c ≡ n) ⊎ (d ≡ n)))
-is_one a b c d n e = elim (cases_eq a n) [
-  | inl p ↦ inl p
-  | inr p ↦ elim (cases_eq b n) [
-    | inl q ↦ inr (inl q)
-    | inr q ↦ elim (cases_eq c n) [ inl r ↦ inr (inr (inl r)) | inr r ↦ inr (inr (inr (omega arith))) ]
-  ]
-]
+is_one a b c d n e = grind arith
 
 pub span_count_is : (v : StateSet) (r : Register) (n : ℕ) → AreWhole v
     → n ≡ max (max (span_count (entries_of r (part_of v false false)).times) (span_count (entries_of r (part_of v true false)).times)) (max (span_count (entries_of r (part_of v false true)).times) (span_count (entries_of r (part_of v true true)).times))
@@ -140,14 +93,10 @@ span_count_is v r n whole e = record {
   ];
 }
   where
-    four : (span_count (entries_of r (part_of v false false)).times ≤ n) × (span_count (entries_of r (part_of v true false)).times ≤ n) × (span_count (entries_of r (part_of v false true)).times ≤ n) × (span_count (entries_of r (part_of v true true)).times ≤ n)
-    four = is_most _ _ _ _ n e
-
     each : (l pn : Bool) → span_count (entries_of r (part_of v l pn)).times ≤ n
-    each false false = four.0
-    each true false = four.1
-    each false true = four.2
-    each true true = four.3
+    each false false = omega arith
+    each _ false = omega arith
+    each _ _ = omega arith
 
 none_left : (p : ℕ → Bool) → set.len (set.retain (set.empty {R = nat_cmp}) p) ≡ 0
 none_left p =
@@ -169,27 +118,15 @@ spans_off v r n none e = e ∙ sym (max-zero _) ∙ ap (λ k. max (max (span_cou
       where
         by : (l : Bool) (r : Register) → span_count (entries_of r (in_local (all_or_none false) l)).times ≡ 0
         by false RegIn = span_none
-        by false RegOut = span_none
-        by false RegAudioIn = span_none
-        by false RegAudioOut = span_none
-        by true RegIn = span_none
-        by true RegOut = span_none
-        by true RegAudioIn = span_none
-        by true RegAudioOut = span_none
-
-few_spans : (s : Times) (k : ℕ) → begin_count s ≤ k + 1 → span_count s ≤ k + 2
-few_spans s k h = omega (arith, span_count-begin_count s, h)
-
-most_of : (a b c d n k : ℕ) → n ≡ max (max a b) (max c d) → a ≤ k → b ≤ k → c ≤ k → d ≤ k → n ≤ k
-most_of a b c d n k e p q r s = omega arith
+        by _ RegIn = span_none
+        by _ _ = span_none
 
 pub spans_few : (v : StateSet) (r : Register) (n : ℕ) (m : Presets) → AreFew m v
     → n ≡ max (max (span_count (entries_of r (part_of v false false)).times) (span_count (entries_of r (part_of v true false)).times)) (max (span_count (entries_of r (part_of v false true)).times) (span_count (entries_of r (part_of v true true)).times))
     → n ≤ count_of r m + 2
 spans_few v r n m few e =
-    most_of _ _ _ _ n (count_of r m + 2) e
-    (few_spans (entries_of r (part_of v false false)).times (count_of r m) (few false false r)) (few_spans (entries_of r (part_of v true false)).times (count_of r m) (few false true r))
-    (few_spans (entries_of r (part_of v false true)).times (count_of r m) (few true false r)) (few_spans (entries_of r (part_of v true true)).times (count_of r m) (few true true r))
+    let each : (l pn : Bool) → span_count (entries_of r (part_of v l pn)).times ≤ count_of r m + 2 = λ l pn. omega (arith, span_count-begin_count (entries_of r (part_of v l pn)).times, few pn l r) in
+    omega (arith, each false false, each true false, each false true, each true true)
 
 -- a tracker with a state is live
 pub remaining_live : (t : Tracked) (v : StateSet) (n : Presets) → record { states = v; hands = hands_of v; presets = n } ≡ t → ((s : State) × Possible t.states s) → some_state v ≡ true

@@ -1,79 +1,42 @@
 -- Each factor of a part keeps something, or none does.
 use Rattle.std.proofs.Common.{◌≡◌, inl, ◌&&◌, Bool, true, false, if◌then◌else◌, refl, sym, ap, ◌∙◌, subst, List}
-use Rattle.std.proofs.lemmas.Bool.{and_parts}
+use Rattle.std.proofs.lemmas.Bool.{and_parts, cond_both}
 use Rattle.tc25.proofs.TimesLemmas.{same_test}
-use Rattle.deck9.specs.declared.effect.Change.{Change}
-use Rattle.deck9.specs.declared.mode.Mode.{Mode}
-use Rattle.track9.specs.declared.mode_set.ModeSet.{ModeSet}
-use Rattle.deck9.specs.declared.state.Register.{Register}
-use Rattle.deck9.specs.declared.state.Register.TheVariants.{RegIn, RegOut, RegAudioIn, RegAudioOut}
-use Rattle.track9.specs.ModeSet.{has}
-use Rattle.track9.specs.Tracker.{Entries, PartStates, StateSet, TwoParts, entries_of, in_local}
-use Rattle.track9.specs.Working.Entries.{some_entry}
-use Rattle.track9.specs.Working.Pairs.{drifted, drifted_with, goes, some_pair}
-use Rattle.track9.specs.Working.Parts.{Whole, all_states, changed_entries, changed_part, drifted_part, forgotten_part, gone_pairs, gone_part, is_live, no_states, settled, with_entries, with_pairs}
-use Rattle.track9.specs.Working.States.{AreWhole, TwoWhole, all_or_none, two_of}
+use Rattle.track9.specs.Working.Deck.{Change, Mode, RegIn, Register}
+use Rattle.track9.proofs.Sets.{AreWhole, Entries, ModeSet, PartStates, StateSet, TwoParts, TwoWhole, Whole, all_or_none, all_states, changed_entries, changed_part, drifted}
+use Rattle.track9.proofs.Sets.{drifted_part, drifted_with, entries_of, forgotten_part, goes, gone_pairs, gone_part, has, in_local, is_live, no_states, settled, some_entry}
+use Rattle.track9.proofs.Sets.{some_pair, two_of, with_entries, with_pairs}
 use Rattle.track9.proofs.EntryLemmas.{changed_some, no_entry, widened_some}
 use Rattle.track9.proofs.GoalLemmas.{goal_pair_goes}
 use Rattle.track9.proofs.PairLemmas.{drifted_from, drifted_to, goes_from, pairs_some, some_mode}
-use Rattle.track9.proofs.PartLemmas.{same_entries, shown_by_goal}
-
-some_put : (r q : Register) (es : Entries) (p : PartStates) (b : Bool) → ((q : Register) → some_entry (entries_of q p) ≡ b) → some_entry es ≡ b → some_entry (entries_of q (with_entries r es p)) ≡ b
-some_put RegIn RegIn es p b old new = new
-some_put RegOut RegOut es p b old new = new
-some_put RegAudioIn RegAudioIn es p b old new = new
-some_put RegAudioOut RegAudioOut es p b old new = new
-some_put RegIn q es p b old new = old q
-some_put RegOut q es p b old new = old q
-some_put RegAudioIn q es p b old new = old q
-some_put RegAudioOut q es p b old new = old q
+use Rattle.track9.proofs.PartLemmas.{each_put, each_register, same_entries, shown_by_goal}
 
 whole_put : (r : Register) (es : Entries) (p : PartStates) → Whole p → some_entry es ≡ is_live p → Whole (with_entries r es p)
-whole_put RegIn es p old new = λ q. some_put RegIn q es p _ old new
-whole_put RegOut es p old new = λ q. some_put RegOut q es p _ old new
-whole_put RegAudioIn es p old new = λ q. some_put RegAudioIn q es p _ old new
-whole_put RegAudioOut es p old new = λ q. some_put RegAudioOut q es p _ old new
+whole_put RegIn es p old new = each_put (λ q es. some_entry es ≡ is_live p) RegIn es p old new
+whole_put r es p old new = each_put (λ q es. some_entry es ≡ is_live p) r es p old new
 
 whole_pairs : (q : List ModeSet) (p : PartStates) → Whole p → some_pair q ≡ is_live p → Whole (with_pairs q p)
 whole_pairs q p old same = λ r. ap some_entry (same_entries r p q) ∙ old r ∙ sym same
 
 pub whole_all : Whole all_states
 whole_all RegIn = refl
-whole_all RegOut = refl
-whole_all RegAudioIn = refl
-whole_all RegAudioOut = refl
+whole_all _ = refl
 
 pub whole_none : Whole no_states
 whole_none RegIn = no_entry
-whole_none RegOut = no_entry
-whole_none RegAudioIn = no_entry
-whole_none RegAudioOut = no_entry
+whole_none _ = no_entry
 
 pub whole_settled : (p : PartStates) → Whole (settled p)
-whole_settled p = by (is_live p && some_entry p.ins && some_entry p.outs && some_entry p.ains && some_entry p.aouts) refl
-  where
-    each : (p : PartStates) → some_entry p.ins ≡ is_live p → some_entry p.outs ≡ is_live p → some_entry p.ains ≡ is_live p → some_entry p.aouts ≡ is_live p → Whole p
-    each p a b c d RegIn = a
-    each p a b c d RegOut = b
-    each p a b c d RegAudioIn = c
-    each p a b c d RegAudioOut = d
-
-    by : (b : Bool) → (is_live p && some_entry p.ins && some_entry p.outs && some_entry p.ains && some_entry p.aouts) ≡ b → Whole (if b then p else no_states)
-    by false e = whole_none
-    by true e =
-        let d = and_parts (is_live p && some_entry p.ins && some_entry p.outs && some_entry p.ains) (some_entry p.aouts) e in
-        let c = and_parts (is_live p && some_entry p.ins && some_entry p.outs) (some_entry p.ains) d.0 in
-        let b = and_parts (is_live p && some_entry p.ins) (some_entry p.outs) c.0 in
-        let a = and_parts (is_live p) (some_entry p.ins) b.0 in
-        each p (a.1 ∙ sym a.0) (b.1 ∙ sym a.0) (c.1 ∙ sym a.0) (d.1 ∙ sym a.0)
+whole_settled p = cond_both _ p no_states Whole (λ e.
+    let d = and_parts (is_live p && some_entry p.ins && some_entry p.outs && some_entry p.ains) (some_entry p.aouts) e in
+    let c = and_parts (is_live p && some_entry p.ins && some_entry p.outs) (some_entry p.ains) d.0 in
+    let b = and_parts (is_live p && some_entry p.ins) (some_entry p.outs) c.0 in
+    let a = and_parts (is_live p) (some_entry p.ins) b.0 in
+    each_register _ (a.1 ∙ sym a.0) (b.1 ∙ sym a.0) (c.1 ∙ sym a.0) (d.1 ∙ sym a.0)) (λ e. whole_none)
 
 -- a part that stays where it has no states
 pub whole_live : (p q : PartStates) → Whole p → (is_live p ≡ true → Whole q) → Whole (if is_live p then q else p)
-whole_live p q whole h = by (is_live p) refl
-  where
-    by : (b : Bool) → is_live p ≡ b → Whole (if b then q else p)
-    by true live = h live
-    by false dead = whole
+whole_live p q whole h = cond_both (is_live p) q p Whole h (λ dead. whole)
 
 pub whole_goal : (may_stay : Bool) (goal : Mode) (p : PartStates) → Whole p → is_live p ≡ true → Whole (gone_part may_stay goal p)
 whole_goal may_stay goal p whole live =

@@ -2,6 +2,7 @@
 -- contract reaches it, so no reader has to believe it.
 pub mod Asked
 pub mod Codes
+pub mod Deck
 pub mod Entries
 pub mod Knowing
 pub mod Pairs

@@ -1,29 +1,15 @@
 -- Which states an effect may have led from: a pattern of fields, each fixed or free.
 use Rattle.std.specs.Prelude.{◌≡◌, ◌==◌, if◌then◌else◌, Bool, true, false, ⊤, Option, Some, None, option_map, List}
-use Rattle.tc25.specs.Day.{next_frame, prev_frame}
+use Rattle.track9.specs.Working.Deck.{At, Change, Clear, Command, Drift, Effect, Entry, Hands, IsState, KeepsRest, Mode, Next, PairReaches, Prev, Recall, RegAudioIn, RegAudioOut}
+use Rattle.track9.specs.Working.Deck.{RegIn, RegOut, Register, Reset, SetAt, SetSomewhere, State, entry_of, is_mode, moved_entry, next_frame, prev_frame}
 use Rattle.track9.specs.declared.asked.Asked.{Asked}
-use Rattle.block9.specs.declared.command.Command.{Command}
-use Rattle.deck9.specs.declared.effect.Change.{Change}
-use Rattle.deck9.specs.declared.effect.Change.TheVariants.{SetSomewhere, SetAt, Next, Prev, Reset, Recall}
-use Rattle.deck9.specs.declared.effect.Effect.{Effect}
 use Rattle.deck9.specs.declared.effect.Effect.TheVariants as effect
-use Rattle.deck9.specs.declared.mode.Mode.{Mode}
 use Rattle.deck9.specs.declared.mode.Mode.TheVariants as mode
 use Rattle.track9.specs.declared.pairs.Pair.{Pair}
 use Rattle.track9.specs.declared.mode_set.ModeSet.{ModeSet}
-use Rattle.deck9.specs.declared.state.Entry.{Entry}
-use Rattle.deck9.specs.declared.state.Entry.TheVariants.{Clear, At}
-use Rattle.deck9.specs.declared.state.Hands.{Hands}
 use Rattle.deck9.specs.declared.state.Hands.TheVariants as hands
-use Rattle.deck9.specs.declared.state.Register.{Register}
-use Rattle.deck9.specs.declared.state.Register.TheVariants.{RegIn, RegOut, RegAudioIn, RegAudioOut}
-use Rattle.deck9.specs.declared.state.State.{State}
-use Rattle.deck9.specs.Drift.{Drift, KeepsRest, PairReaches}
-use Rattle.deck9.specs.Effect.{moved_entry}
 use Rattle.deck9.specs.Local.{may_ignore}
-use Rattle.deck9.specs.Mode.{is_mode}
 use Rattle.track9.specs.ModeSet.{bit_of, has}
-use Rattle.deck9.specs.State.{IsState, entry_of}
 use Rattle.track9.specs.Tracker.{has_pair}
 use Rattle.track9.specs.Working.Pairs.{modes}
 

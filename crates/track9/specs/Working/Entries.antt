@@ -1,10 +1,7 @@
 -- How the entries that a register may have change.
 use Rattle.std.specs.Prelude.{ℕ, ◌||◌, not, if◌then◌else◌, Bool, true, false, List, [], ◌∷◌, Option, Some, None}
 use Rattle.std.specs.FinSet as set
-use Rattle.tc25.specs.Day.{next_frame, prev_frame}
-use Rattle.tc25.specs.Times.{Times, every_time, just, image}
-use Rattle.deck9.specs.declared.effect.Change.{Change}
-use Rattle.deck9.specs.declared.effect.Change.TheVariants.{SetSomewhere, SetAt, Next, Prev, Reset, Recall}
+use Rattle.track9.specs.Working.Deck.{Change, Next, Prev, Recall, Reset, SetAt, SetSomewhere, Times, every_time, image, just, next_frame, prev_frame}
 use Rattle.track9.specs.Tracker.{Entries}
 
 abbrev pub entries : Bool → Times → Entries

@@ -4,13 +4,9 @@ use Rattle.track9.specs.declared.knowledge.Known.{Known}
 use Rattle.track9.specs.declared.knowledge.Known.TheVariants as known
 use Rattle.track9.specs.declared.knowledge.KnownEntry.{KnownEntry}
 use Rattle.track9.specs.declared.knowledge.KnownEntry.TheVariants as entry
-use Rattle.deck9.specs.declared.mode.Mode.{Mode}
+use Rattle.track9.specs.Working.Deck.{At, Clear, Entry, Mode, Register, is_set}
 use Rattle.track9.specs.declared.mode_set.ModeSet.{ModeSet}
-use Rattle.deck9.specs.declared.state.Entry.{Entry}
-use Rattle.deck9.specs.declared.state.Entry.TheVariants.{Clear, At}
-use Rattle.deck9.specs.declared.state.Register.{Register}
 use Rattle.track9.specs.ModeSet.{has}
-use Rattle.deck9.specs.State.{is_set}
 use Rattle.track9.specs.Tracker.{Allows, PartStates, StateSet, TwoParts, entries_of}
 use Rattle.track9.specs.Working.Pairs.{either, goals_of, goes}
 use Rattle.track9.specs.Working.Parts.{is_live}

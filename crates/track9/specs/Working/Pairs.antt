@@ -1,9 +1,7 @@
 -- How pairs of a goal and a shown mode change.
 use Rattle.std.specs.Prelude.{◌==◌, ◌&&◌, not, if◌then◌else◌, Bool, [], ◌∷◌, bit_and, bit_or, ℕ, List}
-use Rattle.deck9.specs.declared.mode.Mode.{Mode}
-use Rattle.deck9.specs.declared.mode.Mode.TheVariants.{Stop, Play, Rec, FastForward, Rewind, Shuttle, Jog, Var, Cued, Eject}
+use Rattle.track9.specs.Working.Deck.{Cued, Eject, FastForward, Jog, Mode, Play, Rec, Rewind, Shuttle, Stop, Var, is_mode, on_the_way}
 use Rattle.track9.specs.declared.mode_set.ModeSet.{ModeSet}
-use Rattle.deck9.specs.Mode.{is_mode, on_the_way}
 use Rattle.track9.specs.ModeSet.{bit_of}
 use Rattle.track9.specs.Tracker.{shown_with}
 

@@ -1,11 +1,7 @@
 -- How the states with one value of local and one of panel change.
 use Rattle.std.specs.Prelude.{ℕ, ◌≡◌, ◌==◌, ◌&&◌, not, Bool, true, false, if◌then◌else◌, Option, Some, None, bit_and, option_map, List}
-use Rattle.deck9.specs.declared.effect.Change.{Change}
-use Rattle.deck9.specs.declared.mode.Mode.{Mode}
+use Rattle.track9.specs.Working.Deck.{Change, Mode, RegAudioIn, RegAudioOut, RegIn, RegOut, Register, State}
 use Rattle.track9.specs.declared.mode_set.ModeSet.{ModeSet}
-use Rattle.deck9.specs.declared.state.Register.{Register}
-use Rattle.deck9.specs.declared.state.Register.TheVariants.{RegIn, RegOut, RegAudioIn, RegAudioOut}
-use Rattle.deck9.specs.declared.state.State.{State}
 use Rattle.track9.specs.Tracker.{Entries, InPart, PartStates, entries_of}
 use Rattle.track9.specs.Working.Entries.{agreeing, all_entries, changed, no_entries, said, some_entry, widened}
 use Rattle.track9.specs.Working.Pairs.{all_pairs, drifted, gone, joined, masked, no_pairs, some_pair}

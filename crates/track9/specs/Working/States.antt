@@ -1,27 +1,12 @@
 -- How a set of states changes.
 use Rattle.std.specs.Prelude.{ℕ, ◌≡◌, ◌≤◌, ◌+◌, ◌⊎◌, ◌||◌, Bool, true, false, if◌then◌else◌, Option, Some, None}
-use Rattle.tc25.specs.Times.{BelowDay, begin_count}
-use Rattle.block9.specs.declared.block.Block.{Block}
-use Rattle.block9.specs.declared.command.Command.{Command}
-use Rattle.block9.specs.Command.{is_nak}
-use Rattle.deck9.specs.declared.effect.Change.{Change}
-use Rattle.deck9.specs.declared.effect.Change.TheVariants.{SetAt}
-use Rattle.deck9.specs.declared.effect.Effect.{Effect}
+use Rattle.track9.specs.Working.Deck.{AreReached, BelowDay, Block, Change, Command, Does, Effect, Exchanges, Hands, Mode, Passes, Register, SetAt, ShowsStatus, State}
+use Rattle.track9.specs.Working.Deck.{begin_count, effect_of, is_nak, is_of_goal_or_register}
 use Rattle.deck9.specs.declared.effect.Effect.TheVariants as effect
-use Rattle.deck9.specs.declared.mode.Mode.{Mode}
 use Rattle.track9.specs.declared.mode_set.ModeSet.{ModeSet}
-use Rattle.deck9.specs.declared.state.Hands.{Hands}
 use Rattle.deck9.specs.declared.state.Hands.TheVariants as hands
-use Rattle.track9.specs.Presets.{Presets}
-use Rattle.deck9.specs.declared.state.Register.{Register}
-use Rattle.deck9.specs.declared.state.State.{State}
+use Rattle.track9.specs.Presets.{Presets, count_of, presets_after, with_command, with_one}
 use Rattle.track9.specs.declared.halves.LocalFits.{LocalFits}
-use Rattle.deck9.specs.Contradict.{Passes}
-use Rattle.deck9.specs.Effect.{Does, effect_of}
-use Rattle.deck9.specs.Laws.{is_of_goal_or_register}
-use Rattle.track9.specs.Presets.{count_of, presets_after, with_command, with_one}
-use Rattle.deck9.specs.Shows.{ShowsStatus}
-use Rattle.deck9.specs.Step.{AreReached, Exchanges}
 use Rattle.track9.specs.Tracker.{InPart, PartStates, Possible, StateSet, TwoParts, entries_of, in_local}
 use Rattle.track9.specs.Working.Entries.{agreeing}
 use Rattle.track9.specs.Working.Parts.{Whole, all_states, aside, changed_entries, changed_part, drifted_part, forgotten_part, gone_part, is_live, no_states, put_aside, put_settled, status_part, where_live}

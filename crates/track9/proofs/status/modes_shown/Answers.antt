@@ -1,7 +1,7 @@
 use Rattle.std.proofs.Common.{◌≡◌, ◌∙◌, arith, sym}
 use Rattle.std.proofs.lemmas.List.Folds.{list_any_more}
 use Rattle.deck9.specs.Shows.{may_show}
-use Rattle.track9.proofs.ModeLemmas.{has_every}
+use Rattle.track9.proofs.PairLemmas.{has_every}
 use Rattle.track9.proofs.status.modes_shown.Goals as goal
 
 pub loop-mode-preserved : goal.loop-mode-preserved

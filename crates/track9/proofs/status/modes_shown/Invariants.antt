@@ -1,7 +1,6 @@
 use Rattle.std.proofs.Common.{◌≡◌, ◌&&◌, take}
 use Rattle.std.specs.List.{list_any}
-use Rattle.deck9.specs.Mode.{is_mode}
-use Rattle.deck9.specs.Shows.{may_show}
+use Rattle.track9.specs.Working.Deck.{is_mode, may_show}
 use Rattle.deck9.specs.declared.mode.Mode.{Mode as AMode}
 use Rattle.track9.specs.ModeSet.{has}
 use Rattle.track9.proofs.status.modes_shown.Given as goal

@@ -1,6 +1,6 @@
 use Rattle.std.proofs.Common.{◌∙◌, ap}
 use Rattle.track9.specs.ModeSet.{has}
-use Rattle.track9.proofs.ModeLemmas.{has-or}
+use Rattle.track9.proofs.PairLemmas.{has-or}
 use Rattle.track9.proofs.mode_set.ModeSet.or.Goals as goal
 
 pub returns-clause-has : goal.returns-clause-has

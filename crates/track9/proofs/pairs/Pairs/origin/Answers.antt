@@ -1,11 +1,7 @@
 use Rattle.std.proofs.Common.{◌≡◌, true, ◌∙◌, sym, ap, subst}
 use Rattle.std.proofs.lemmas.Bool.{and_parts, false≢true}
-use Rattle.track9.specs.declared.mode_set.ModeSet.{ModeSet}
-use Rattle.track9.specs.ModeSet.{has}
-use Rattle.track9.specs.Tracker.{has_pair}
-use Rattle.track9.specs.Working.Pairs.{both, goals_of, is_some, masked}
-use Rattle.track9.proofs.BeforeLemmas.{origin_there, reached_parts}
-use Rattle.track9.proofs.MemberLemmas.{some_shown}
+use Rattle.track9.proofs.Sets.{ModeSet, both, goals_of, has, has_pair, is_some, masked}
+use Rattle.track9.proofs.BeforeLemmas.{origin_there, reached_parts, some_shown}
 use Rattle.track9.proofs.pairs.Pairs.origin.Goals as goal
 
 pub returns-then-not-is_some-clause-none : goal.returns-then-not-is_some-clause-none

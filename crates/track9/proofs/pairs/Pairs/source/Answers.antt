@@ -1,10 +1,7 @@
 use Rattle.std.proofs.Common.{◌≡◌, ◌||◌, inl, inr, true, false, ◌∙◌, sym, subst}
-use Rattle.track9.specs.declared.mode_set.ModeSet.{ModeSet}
+use Rattle.track9.proofs.Sets.{ModeSet, has, is_some}
 use Rattle.deck9.specs.Mode.{is_one_of, on_the_way}
-use Rattle.track9.specs.ModeSet.{has}
-use Rattle.track9.specs.Working.Pairs.{is_some}
-use Rattle.track9.proofs.BeforeLemmas.{source_goal, source_halted}
-use Rattle.track9.proofs.MemberLemmas.{some_shown}
+use Rattle.track9.proofs.BeforeLemmas.{some_shown, source_goal, source_halted}
 use Rattle.track9.proofs.pairs.Pairs.source.Goals.{else-is_some-via-then-is_some+else-has-2, else-is_some-via-else-is_some}
 use Rattle.track9.proofs.pairs.Pairs.source.Goals as goal
 

@@ -1,7 +1,5 @@
 use Rattle.std.proofs.Common.{◌≡◌, true, ◌∙◌, sym, subst}
-use Rattle.track9.specs.Tracker.{Allows}
-use Rattle.track9.specs.Working.Entries.{some_entry}
-use Rattle.track9.specs.Working.Knowing.{KnowsOf}
+use Rattle.track9.proofs.Sets.{Allows, KnowsOf, some_entry}
 use Rattle.track9.proofs.part.Part.known.Goals as goal
 
 pub known-requires : goal.known-requires

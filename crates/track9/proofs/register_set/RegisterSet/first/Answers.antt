@@ -1,6 +1,6 @@
 use Rattle.std.proofs.Common.{◌∙◌, sym, ap}
 use Rattle.track9.specs.Tracker.{Entries}
-use Rattle.track9.proofs.MemberLemmas.{clear_alone}
+use Rattle.track9.proofs.BeforeLemmas.{clear_alone}
 use Rattle.track9.proofs.register_set.RegisterSet.first.Goals as goal
 
 pub returns-in-None : goal.returns-in-None

@@ -1,11 +1,9 @@
-use Rattle.std.proofs.Common.{◌∙◌, sym, ap, subst}
+use Rattle.std.proofs.Common.{◌∙◌, Some, None, sym, ap, subst}
 use Rattle.std.proofs.lemmas.Bool.{false≢true}
 use Rattle.deck9.specs.Effect.{effect_of}
-use Rattle.track9.specs.Working.Asked.{IsAsked, LeadsTo, asked_before}
-use Rattle.track9.specs.Working.States.{hands_of}
+use Rattle.track9.proofs.Sets.{IsAsked, LeadsTo, asked_before, hands_of}
 use Rattle.track9.proofs.AskedLemmas.{fits_self, found_state}
-use Rattle.track9.proofs.BeforeLemmas.{asked_leads, exchange_shows, if_none_so, if_some_so, nak_back, nak_leads, none_found, none_leads, undone_leads}
-use Rattle.track9.proofs.MemberLemmas.{if_none}
+use Rattle.track9.proofs.BeforeLemmas.{asked_leads, exchange_shows, if_none, if_none_so, if_some_so, nak_back, nak_leads, no_exchange, undone_leads}
 use Rattle.track9.proofs.states.States.before.Goals as goal
 
 pub origin-requires-clause-asked : goal.origin-requires-clause-asked
@@ -44,9 +42,9 @@ returns-in_err-asked-clause-none g c =
     let t = c.args.target.now in
     let found = sym (c.before-2.ensures ∙ ap (λ h. asked_before h c.of-effect.result t) c.hands.ensures ∙ ap (λ e. asked_before (hands_of c.args.self.now) e t) c.of-effect.ensures) ∙ c.in_err-asked.was in
     if_none_so c.from_residual.result
-    (none_found (hands_of c.args.self.now) c.args.command.now c.args.reply.now c.args.self.now t (sym c.is_nak.ensures ∙ c.if-is_nak.false) c.below_day.ensures
+    (no_exchange (hands_of c.args.self.now) c.args.command.now c.args.reply.now c.args.self.now t None (sym c.is_nak.ensures ∙ c.if-is_nak.false) c.below_day.ensures
     c.in_default.ensures.none
-    found)
+    found tt)
 
 pub origin-requires-2-clause-asked : goal.origin-requires-2-clause-asked
 origin-requires-2-clause-asked g c =
@@ -70,6 +68,6 @@ returns-clause-none g c =
     let t = c.args.target.now in
     let found = sym (c.before-2.ensures ∙ ap (λ h. asked_before h c.of-effect.result t) c.hands.ensures ∙ ap (λ e. asked_before (hands_of c.args.self.now) e t) c.of-effect.ensures) ∙ c.in_ok-asked.was in
     if_none c.origin-2.result c.origin-2.ensures.none (λ none.
-    none_leads (hands_of c.args.self.now) c.args.command.now c.args.reply.now c.args.self.now t c.in_ok-asked.asked (sym c.is_nak.ensures ∙ c.if-is_nak.false) c.below_day.ensures
+    no_exchange (hands_of c.args.self.now) c.args.command.now c.args.reply.now c.args.self.now t (Some c.in_ok-asked.asked) (sym c.is_nak.ensures ∙ c.if-is_nak.false) c.below_day.ensures
     c.in_default.ensures.none
     found none)

@@ -1,6 +1,5 @@
 use Rattle.std.proofs.Common.{Option, ap, subst}
-use Rattle.track9.specs.Tracker.{StateSet, TwoParts}
-use Rattle.track9.specs.Working.States.{Exchanged}
+use Rattle.track9.proofs.Sets.{Exchanged, StateSet, TwoParts}
 use Rattle.track9.proofs.PanelLemmas.{follows_both}
 use Rattle.track9.proofs.states.States.exchange_both.Goals as goal
 

@@ -1,6 +1,5 @@
 use Rattle.std.proofs.Common.{subst}
-use Rattle.track9.specs.Tracker.{StateSet}
-use Rattle.track9.specs.Working.Knowing.{TwoKnow}
+use Rattle.track9.proofs.Sets.{StateSet, TwoKnow}
 use Rattle.track9.proofs.KnownEntries.{entry_known}
 use Rattle.track9.proofs.states.States.known_entry.Goals as goal
 

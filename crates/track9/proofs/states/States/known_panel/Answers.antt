@@ -1,6 +1,5 @@
 use Rattle.std.proofs.Common.{◌∙◌, ap}
-use Rattle.track9.specs.Tracker.{StateSet}
-use Rattle.track9.specs.Working.States.{some_two}
+use Rattle.track9.proofs.Sets.{StateSet, some_two}
 use Rattle.track9.proofs.KnownModes.{panel_known}
 use Rattle.track9.proofs.states.States.known_panel.Goals as goal
 

@@ -1,7 +1,6 @@
 use Rattle.std.proofs.Common.{◌≡◌, false, subst}
-use Rattle.track9.specs.Tracker.{StateSet}
-use Rattle.track9.specs.Working.States.{some_two}
-use Rattle.track9.proofs.MemberLemmas.{if_none, no_member}
+use Rattle.track9.proofs.Sets.{StateSet, some_two}
+use Rattle.track9.proofs.BeforeLemmas.{if_none, no_member}
 use Rattle.track9.proofs.states.States.member.Goals as goal
 
 pub returns-clause-none : goal.returns-clause-none

@@ -1,10 +1,7 @@
 use Rattle.std.proofs.Common.{true, false, subst}
-use Rattle.track9.specs.Tracker.{Possible, StateSet}
-use Rattle.track9.specs.Working.Asked.{RunsTo}
-use Rattle.track9.specs.Working.States.{InTwo, hands_of}
+use Rattle.track9.proofs.Sets.{InTwo, Possible, RunsTo, StateSet, hands_of}
 use Rattle.deck9.specs.declared.state.State.{State}
-use Rattle.track9.proofs.BeforeLemmas.{hand_leads, if_some_so, no_origin, panel_hands, runs_lead}
-use Rattle.track9.proofs.MemberLemmas.{if_none}
+use Rattle.track9.proofs.BeforeLemmas.{hand_leads, if_none, if_some_so, no_origin, panel_hands, runs_lead}
 use Rattle.track9.proofs.ReachLemmas.{of_two}
 use Rattle.track9.proofs.states.States.origin.Goals as goal
 

@@ -1,6 +1,5 @@
 use Rattle.std.proofs.Common.{Option, ap, subst}
-use Rattle.track9.specs.Tracker.{StateSet, TwoParts}
-use Rattle.track9.specs.Working.States.{Passed}
+use Rattle.track9.proofs.Sets.{Passed, StateSet, TwoParts}
 use Rattle.track9.proofs.PassLemmas.{passed_both}
 use Rattle.track9.proofs.states.States.pass_both.Goals as goal
 

@@ -1,9 +1,6 @@
 use Rattle.std.proofs.Common.{◌≡◌, true, false, subst, List}
-use Rattle.track9.specs.declared.mode_set.ModeSet.{ModeSet}
-use Rattle.deck9.specs.declared.state.Entry.{Entry}
-use Rattle.deck9.specs.declared.state.Register.TheVariants.{RegIn, RegOut, RegAudioIn, RegAudioOut}
-use Rattle.track9.specs.Tracker.{Allows, has_pair}
-use Rattle.track9.specs.Working.Asked.{Is}
+use Rattle.track9.proofs.Sets.{Allows, Is, ModeSet, has_pair}
+use Rattle.track9.specs.Working.Deck.{Entry, RegAudioIn, RegAudioOut, RegIn, RegOut}
 use Rattle.track9.proofs.BeforeLemmas.{if_none_so, no_entry_runs, runs_there}
 use Rattle.track9.proofs.states.before.origin_in.Goals as goal
 

@@ -1,17 +1,11 @@
 use Rattle.std.proofs.Common.{◌≡◌, true, ◌∙◌, sym, subst}
-use Rattle.track9.specs.declared.mode_set.ModeSet.{ModeSet}
+use Rattle.track9.proofs.Sets.{Allows, ModeSet, has, has_pair, is_some, some_entry}
 use Rattle.deck9.specs.declared.state.Register.TheVariants.{RegIn, RegOut, RegAudioIn, RegAudioOut}
-use Rattle.track9.specs.ModeSet.{has}
-use Rattle.track9.specs.Tracker.{Allows, has_pair}
-use Rattle.track9.specs.Working.Entries.{some_entry}
-use Rattle.track9.specs.Working.Pairs.{is_some, some_pair}
-use Rattle.track9.proofs.MemberLemmas.{some_goal, some_shown, state_there}
+use Rattle.track9.proofs.BeforeLemmas.{some_goal, some_shown, state_there}
 use Rattle.track9.proofs.states.member.first_in.Goals as goal
 
 pub first-goal-requires : goal.first-goal-requires
-first-goal-requires g c =
-    subst (λ s. is_some s ≡ true) (sym c.goals.ensures)
-    (some_goal c.pairs-pairs.result.0 (subst (λ p. some_pair p ≡ true) (sym c.pairs-pairs.ensures) c.requires.live))
+first-goal-requires g c = rw (c.goals.ensures, c.pairs-pairs.ensures) (some_goal c.args.part.now.pairs c.requires.live)
 
 pub first-requires : goal.first-requires
 first-requires g c =

@@ -1,15 +1,10 @@
-use Rattle.std.proofs.Common.{◌≤◌, ◌+◌, subst}
-use Rattle.track9.specs.Presets.{IsSpanCount, count_of}
-use Rattle.track9.specs.Tracker.{Possible, Tracked}
 use Rattle.track9.proofs.TrackerLemmas.{span_count_is, spans_few}
 use Rattle.track9.proofs.tracker.Tracker+SpanSet.spans.Goals as goal
 
 pub returns-clause-exact : goal.returns-clause-exact
 returns-clause-exact c =
-    let P : Tracked → Type 0 = λ t. IsSpanCount (Possible t.states) c.args.register c.spans.result in
-    subst P c.self.view_is (span_count_is c.self.inside.states c.args.register c.spans.result c.self.invariant.whole c.spans.ensures)
+    rw (← c.self.view_is) (span_count_is c.self.inside.states c.args.register c.spans.result c.self.invariant.whole c.spans.ensures)
 
 pub returns-clause-few : goal.returns-clause-few
 returns-clause-few c =
-    let P : Tracked → Type 0 = λ t. c.spans.result ≤ count_of c.args.register t.presets + 2 in
-    subst P c.self.view_is (spans_few c.self.inside.states c.args.register c.spans.result c.self.inside.presets c.self.invariant.few c.spans.ensures)
+    rw (← c.self.view_is) (spans_few c.self.inside.states c.args.register c.spans.result c.self.inside.presets c.self.invariant.few c.spans.ensures)

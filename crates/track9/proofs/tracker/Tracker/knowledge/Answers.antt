@@ -1,7 +1,3 @@
-use Rattle.std.proofs.Common.{subst}
-use Rattle.track9.specs.declared.knowledge.Knowledge.{Knowledge}
-use Rattle.track9.specs.Knowledge.{IsKnowledge}
-use Rattle.track9.specs.Tracker.{Possible, Tracked}
 use Rattle.track9.proofs.TrackerLemmas.{remaining_live}
 use Rattle.track9.proofs.tracker.Tracker.knowledge.Goals as goal
 
@@ -31,18 +27,7 @@ known_panel-requires-clause-some g c = remaining_live c.args.self.now c.self.ins
 
 pub returns : goal.returns
 returns g c =
-    let k : Knowledge = record {
-      goal = c.known_goal.result;
-      shown = c.known_shown.result;
-      ins = c.known_entry.result;
-      outs = c.known_entry-2.result;
-      ains = c.known_entry-3.result;
-      aouts = c.known_entry-4.result;
-      local = c.known_local.result;
-      panel = c.known_panel.result;
-    } in
-    let P : Tracked → Type 0 = λ t. IsKnowledge (Possible t.states) k in
-    subst P c.self.view_is (record {
+    rw (← c.self.view_is) (record {
       goal = c.known_goal.ensures;
       shown = c.known_shown.ensures;
       ins = c.known_entry.ensures;

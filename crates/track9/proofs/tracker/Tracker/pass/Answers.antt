@@ -1,6 +1,5 @@
 use Rattle.deck9.specs.Contradict.{Passes}
-use Rattle.track9.specs.Working.States.{hands_of}
-use Rattle.track9.specs.Tracker.{Possible}
+use Rattle.track9.proofs.Sets.{Possible, hands_of}
 use Rattle.track9.proofs.PassLemmas.{pass_remains}
 use Rattle.track9.proofs.TrackerLemmas.{kept_passed, reached_from}
 use Rattle.track9.proofs.tracker.Tracker.pass.Goals as goal
