@@ -1,11 +1,10 @@
 -- A block that gets one record more: how it begins, goes on and ends.
-use Rattle.std.proofs.Common.{◌≡◌, ◌≢◌, ℕ, ◌+◌, ◌/◌, ◌%◌, ◌<◌, ◌∙◌, List, [], ◌∷◌, ◌++◌, length, refl, sym, ap, subst, true, false, arith}
+use Rattle.std.proofs.Common.{◌≡◌, ◌≢◌, ℕ, ◌+◌, ◌/◌, ◌%◌, ◌<◌, ◌∙◌, List, [], ◌∷◌, ◌++◌, length, sym, ap, subst, true, false, arith}
 use Rattle.std.proofs.lemmas.Bool.Decides.{nat_tests}
 use Rattle.std.proofs.lemmas.List.{length_push, same_from_push, map-append, length-map}
 use Rattle.std.specs.List.{sum}
 use Rattle.capture9.specs.declared.line_byte.LineByte.{LineByte}
 use Rattle.capture9.specs.declared.line_byte.Wire.{Wire}
-use Rattle.capture9.specs.declared.line_byte.Wire.TheVariants.{Controller, Deck}
 use Rattle.block9.specs.declared.block.Block.{Block}
 use Rattle.block9.specs.Block.{IsBlock, body_of}
 use Rattle.block9.specs.Line.{IsWhole, IsBegun, allows, block_len, bytes_of, group_in}
@@ -15,23 +14,19 @@ use Rattle.block9.proofs.LineLemmas.{GoesOn, linked_less, linked_last, linked_mo
 
 -- a group that some wire allows is below 16
 pub allows_below : (w : Wire) (group : ℕ) → allows w group ≡ true → group < 16
-allows_below Controller group h = grind (arith, nat_tests)
-allows_below Deck group h = grind (arith, nat_tests)
+allows_below w group h = grind (arith, nat_tests)
 
 pub ends_true : (records : List LineByte) → ends_block records ≡ true → length records + 1 ≡ block_len records
-ends_true [] h = cc
-ends_true (a ∷ rest) h = grind (arith, nat_tests)
+ends_true records h = grind (arith, nat_tests)
 
 pub ends_false : (records : List LineByte) → ends_block records ≡ false → length records + 1 ≢ block_len records
-ends_false [] h = λ e. absurd (omega arith)
-ends_false (a ∷ rest) h = λ e. grind (arith, nat_tests)
+ends_false records h = λ e. grind (arith, nat_tests)
 
 pub true_ends : (a : LineByte) (rest : List LineByte) → length (a ∷ rest) + 1 ≡ block_len (a ∷ rest) → ends_block (a ∷ rest) ≡ true
 true_ends a rest e = grind (arith, nat_tests)
 
 pub false_ends : (records : List LineByte) → length records + 1 < block_len records → ends_block records ≡ false
-false_ends [] e = refl
-false_ends (a ∷ rest) e = grind (arith, nat_tests)
+false_ends records e = grind (arith, nat_tests)
 
 -- the first record of a block
 pub begun_first : (w : Wire) (r : LineByte) → r.wire ≡ w → allows w (group_in r.byte) ≡ true → IsBegun w (r ∷ [])
@@ -52,8 +47,6 @@ pub record BodyOf (records : List LineByte) (b : Block) : Type 0 where
   pub body : bytes_of records ≡ body_of b
 
 pub body_is : (w : Wire) (records : List LineByte) → IsBegun w records → ends_block records ≡ true → BodyOf records (block_of (bytes_of records))
-body_is w [] h e = cc
-body_is w (a ∷ []) h e = absurd (let n = ends_true (a ∷ []) e in omega arith)
 body_is w (a ∷ c ∷ rest) h e =
     let n = ends_true (a ∷ c ∷ rest) e in
     let low = allows_below w (a.byte / 16) h.allowed in
@@ -62,14 +55,13 @@ body_is w (a ∷ c ∷ rest) h e =
       block = record { group = low; data_bytes = omega (arith, len, n) };
       body = ap (λ (x : ℕ). let bytes : List ℕ = x ∷ bytes_of (c ∷ rest) in bytes) (omega (arith, len, n));
     }
+body_is w records h e = absurd (let n = ends_true records e in omega arith)
 
 pub bytes_of-push : (records : List LineByte) (r : LineByte) → bytes_of (records ++ r ∷ []) ≡ bytes_of records ++ r.byte ∷ []
 bytes_of-push records r = map-append (λ (r : LineByte). r.byte) records (r ∷ [])
 
 -- a record that ends its block with the right sum
 pub whole_now : (w : Wire) (records : List LineByte) (r : LineByte) → IsBegun w records → GoesOn w records r → ends_block records ≡ true → r.byte ≡ sum (bytes_of records) % 256 → IsWhole w (records ++ r ∷ []) (block_of (bytes_of records))
-whole_now w [] r h g e s = cc
-whole_now w (a ∷ []) r h g e s = absurd (let n = ends_true (a ∷ []) e in omega arith)
 whole_now w (a ∷ c ∷ rest) r h g e s =
     let body = body_is w (a ∷ c ∷ rest) h e in
     let b = block_of (bytes_of (a ∷ c ∷ rest)) in
@@ -82,6 +74,7 @@ whole_now w (a ∷ c ∷ rest) r h g e s =
       };
       allowed = h.allowed;
     }
+whole_now w records r h g e s = absurd (let n = ends_true records e in omega arith)
 
 -- a begun block without its last record: none, or a begun block that the record goes on with
 pub record Continues (w : Wire) (records : List LineByte) (r : LineByte) : Type 0 where

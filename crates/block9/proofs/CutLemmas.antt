@@ -1,12 +1,11 @@
 -- How lists are cut: a cut is the only one, a prefix of what is kept is kept, and the tail alone decides what a record does.
-use Rattle.std.proofs.Common.{◌≡◌, ℕ, ◌-◌, ◌<◌, ◌∙◌, List, [], ◌∷◌, ◌++◌, length, take, refl, sym, ap, subst, true, Some, None, arith, length-append}
+use Rattle.std.proofs.Common.{◌≡◌, ◌-◌, ◌<◌, ◌≤◌, ◌∙◌, List, [], ◌∷◌, ◌++◌, length, take, refl, sym, ap, subst, true, None, arith, length-append}
 use Rattle.std.proofs.lemmas.List.{append_assoc, append-nil, same_from_push, length_push}
 use Rattle.capture9.specs.declared.line_byte.LineByte.{LineByte}
 use Rattle.capture9.specs.declared.line_byte.Wire.TheVariants.{Controller, Deck}
 use Rattle.block9.specs.declared.block.Block.{Block}
 use Rattle.block9.specs.declared.command.Command.{Command}
 use Rattle.block9.specs.declared.pairer.Exchange.{Exchange}
-use Rattle.block9.specs.declared.place.Place.TheVariants.{InCommand, InReply}
 use Rattle.block9.specs.Block.{Spells}
 use Rattle.block9.specs.Command.{command_of, fits, is_reply_time_valid}
 use Rattle.block9.specs.Line.{IsBegun, IsWhole, block_len, bytes_of, first_time, last_time}
@@ -16,7 +15,7 @@ use Rattle.block9.specs.Working.Table.{pairing}
 use Rattle.block9.proofs.LineLemmas.{whole_len, whole_long, block_len-append, whole_parts, spelled_once}
 use Rattle.block9.proofs.BlockSteps.{begun_less, whole_less}
 use Rattle.block9.proofs.TableLemmas as table
-use Rattle.block9.proofs.TailLemmas.{apart, idle_kept, in_command_kept, after_command_kept, in_reply_of, in_reply_kept, meaning_in_reply}
+use Rattle.block9.proofs.TailLemmas.{apart, idle_kept, in_command_kept, after_command_kept, in_reply_of, in_reply_kept}
 
 -- a last record is the last one of the second of two parts
 pub last_apart : (t c d : List LineByte) (r : LineByte) → t ++ r ∷ [] ≡ c ++ d → 0 < length d → (d' : List LineByte) × (d ≡ d' ++ r ∷ []) × (t ≡ c ++ d')
@@ -33,28 +32,22 @@ tail_less t r (nothing e) = absurd (let n = length_push t r in let m : length (t
 tail_less [] r (in_command h) = (nothing refl, idle_kept r h)
 tail_less (a ∷ rest) r (in_command h) =
     let parts = begun_less Controller a rest r h in
-    (in_command parts.0.begun, in_command_kept (a ∷ rest) r parts.0 (table.none_open InCommand (a ∷ rest) (a ∷ rest) r parts.1))
+    (in_command parts.0.begun, in_command_kept (a ∷ rest) r parts.0 (let waits = parts.1 in rw waits refl))
 tail_less t r (after_command b c h) =
     let parts = whole_less Controller t r b h.whole in (
       in_command parts.continues.begun,
-      in_command_kept t r parts.continues (table.none_end InCommand t t r parts.sum_right
-          (table.some_command _ c (ap command_of (sym parts.block) ∙ h.meaning))),
+      in_command_kept t r parts.continues (table.right_command t r c parts.sum_right (ap command_of (sym parts.block) ∙ h.meaning)),
     )
 tail_less t r (in_reply command reply b c e hc hd soon) =
     let parts = last_apart t command reply r e hd.begun in
     in_reply_less t command parts.0 r b c parts.2 hc (subst (λ (l : List LineByte). IsBegun Deck l) parts.1 hd) (subst (λ (l : List LineByte). IsInTime command l) parts.1 soon)
   where
     in_reply_less : (t command front : List LineByte) (r : LineByte) (b : Block) (c : Command) → t ≡ command ++ front → IsCommand command b c → IsBegun Deck (front ++ r ∷ []) → IsInTime command (front ++ r ∷ []) → IsTail t × (pairing t r ≡ None)
-    in_reply_less t command [] r b c e hc hd soon =
-        let same : t ≡ command = e ∙ append-nil command in
-        let P : List LineByte → Type 0 = λ l. IsTail l × (pairing l r ≡ None) in
-        subst P (sym same) (after_command b c hc, after_command_kept command r b hc.whole hd soon)
+    in_reply_less t command [] r b c e hc hd soon = let same : t ≡ command = e ∙ append-nil command in rw same (after_command b c hc, after_command_kept command r b hc.whole hd soon)
     in_reply_less t command (a ∷ rest) r b c e hc hd soon =
-        let parts = begun_less Deck a rest r hd in
-        let P : List LineByte → Type 0 = λ l. IsTail l × (pairing l r ≡ None) in
-        subst P (sym e) (
-          in_reply command (a ∷ rest) b c refl hc parts.0.begun (record { later = soon.later; soon = soon.soon }),
-          in_reply_kept command (a ∷ rest) (command ++ a ∷ rest) r (in_reply_of command (a ∷ rest) b hc.whole (omega arith)) parts.0 (table.none_open InReply (command ++ a ∷ rest) (a ∷ rest) r parts.1),
+        let parts = begun_less Deck a rest r hd in (
+          in_reply command (a ∷ rest) b c e hc parts.0.begun (record { later = soon.later; soon = soon.soon }),
+          in_reply_kept command (a ∷ rest) t b r (in_reply_of command (a ∷ rest) t b e hc.whole (omega arith)) parts.0 (let waits = parts.1 in rw waits refl),
         )
 
 -- an exchange without its last record is a tail, and the record broke no rule
@@ -68,47 +61,42 @@ exchange_less t r e h =
     ended t command [] same hc hd soon kind valid = absurd (let n = whole_long Deck (r ∷ []) e.reply hd in omega arith)
     ended t command (a ∷ rest) same hc hd soon kind valid =
         let parts = whole_less Deck (a ∷ rest) r e.reply hd in
-        let place = in_reply_of command (a ∷ rest) e.block hc.whole (omega arith) in
-        let meant = ap command_of (meaning_in_reply command (a ∷ rest) (command ++ a ∷ rest) e.block hc.whole place) ∙ hc.meaning in
-        let P : List LineByte → Type 0 = λ l. IsTail l × (pairing l r ≡ None) in
-        subst P (sym same) (
-          in_reply command (a ∷ rest) e.block e.command refl hc parts.continues.begun (record { later = soon.later; soon = soon.soon }),
-          in_reply_kept command (a ∷ rest) (command ++ a ∷ rest) r place parts.continues
-              (table.none_end InReply (command ++ a ∷ rest) (a ∷ rest) r parts.sum_right
-              (table.some_reply _ e.command _ meant (ap (λ (x : Block). fits e.command x) (sym parts.block) ∙ kind) (ap (λ (x : Block). is_reply_time_valid e.command x) (sym parts.block) ∙ valid))),
+        let place = in_reply_of command (a ∷ rest) t e.block same hc.whole (omega arith) in
+        let meant = ap command_of place.body ∙ hc.meaning in (
+          in_reply command (a ∷ rest) e.block e.command same hc parts.continues.begun (record { later = soon.later; soon = soon.soon }),
+          in_reply_kept command (a ∷ rest) t e.block r place parts.continues
+              (table.right_reply t (a ∷ rest) r e.command meant parts.sum_right (ap (fits e.command) (sym parts.block) ∙ kind) (ap (is_reply_time_valid e.command) (sym parts.block) ∙ valid)),
         )
 
 -- no tail begins with a whole exchange
 pub tail_no_exchange : (t front rest : List LineByte) (e : Exchange) → IsTail t → IsExchange front e → t ≡ front ++ rest → ⊥
-tail_no_exchange t front rest e (nothing same) h split =
-    let n : length t ≡ 0 = ap length same in
-    let m : length t ≡ length (front ++ rest) = ap length split in
-    let k : length front ≡ length (h.asked ++ h.answered) = ap length h.split in
-    let long = whole_long Controller h.asked e.block h.command.whole in
-    absurd (omega (arith, length-append front rest, length-append h.asked h.answered))
-tail_no_exchange t front rest e (in_command begun) h split =
-    let whole : t ≡ h.asked ++ (h.answered ++ rest) = split ∙ ap (λ (l : List LineByte). l ++ rest) h.split ∙ append_assoc h.asked h.answered rest in
-    let len = whole_len Controller h.asked e.block h.command.whole in
-    let long = whole_long Controller h.asked e.block h.command.whole in
-    let same : block_len t ≡ block_len h.asked = ap block_len whole ∙ block_len-append h.asked (h.answered ++ rest) (omega arith) in
-    let short = begun.short in
-    let m : length t ≡ length (h.asked ++ (h.answered ++ rest)) = ap length whole in
-    absurd (omega (arith, length-append h.asked (h.answered ++ rest)))
-tail_no_exchange t front rest e (after_command b c command) h split =
-    let whole : t ++ [] ≡ h.asked ++ (h.answered ++ rest) = append-nil t ∙ split ∙ ap (λ (l : List LineByte). l ++ rest) h.split ∙ append_assoc h.asked h.answered rest in
-    let parts = whole_parts Controller Controller t h.asked [] (h.answered ++ rest) b e.block command.whole h.command.whole whole in
-    let long = whole_long Deck h.answered e.reply h.reply in
-    let n : length (h.answered ++ rest) ≡ 0 = ap length (sym parts.1) in
-    absurd (omega (arith, length-append h.answered rest))
-tail_no_exchange t front rest e (in_reply command reply b c same hc hd soon) h split =
-    let whole : command ++ reply ≡ h.asked ++ (h.answered ++ rest) = sym same ∙ split ∙ ap (λ (l : List LineByte). l ++ rest) h.split ∙ append_assoc h.asked h.answered rest in
-    let parts = whole_parts Controller Controller command h.asked reply (h.answered ++ rest) b e.block hc.whole h.command.whole whole in
-    let len = whole_len Deck h.answered e.reply h.reply in
-    let long = whole_long Deck h.answered e.reply h.reply in
-    let first : block_len reply ≡ block_len h.answered = ap block_len parts.1 ∙ block_len-append h.answered rest (omega arith) in
-    let short = hd.short in
-    let m : length reply ≡ length (h.answered ++ rest) = ap length parts.1 in
-    absurd (omega (arith, length-append h.answered rest))
+tail_no_exchange t front rest e tail h split = by tail
+  where
+    whole : t ≡ h.asked ++ (h.answered ++ rest)
+    whole = split ∙ ap (λ (l : List LineByte). l ++ rest) h.split ∙ append_assoc h.asked h.answered rest
+
+    -- more than the command is there
+    long : (block_len t < length t) × (3 ≤ length t)
+    long =
+        let count : length t ≡ length (h.asked ++ (h.answered ++ rest)) = ap length whole in
+        let len = whole_len Controller h.asked e.block h.command.whole in
+        let some = whole_long Controller h.asked e.block h.command.whole in
+        let more = whole_long Deck h.answered e.reply h.reply in
+        let same : block_len t ≡ block_len h.asked = ap block_len whole ∙ block_len-append h.asked (h.answered ++ rest) (omega arith) in
+        omega (arith, length-append h.asked (h.answered ++ rest), length-append h.answered rest)
+
+    by : IsTail t → ⊥
+    by (nothing same) = let none : length t ≡ 0 = ap length same in let some = long.1 in omega arith
+    by (in_command begun) = let short = begun.short in let more = long.0 in omega arith
+    by (after_command b c command) = let all = whole_len Controller t b command.whole in let more = long.0 in omega arith
+    by (in_reply command reply b c same hc hd soon) =
+        let parts = whole_parts Controller Controller command h.asked reply (h.answered ++ rest) b e.block hc.whole h.command.whole (sym same ∙ whole) in
+        let len = whole_len Deck h.answered e.reply h.reply in
+        let some = whole_long Deck h.answered e.reply h.reply in
+        let first : block_len reply ≡ block_len h.answered = ap block_len parts.1 ∙ block_len-append h.answered rest (omega arith) in
+        let count : length reply ≡ length (h.answered ++ rest) = ap length parts.1 in
+        let short = hd.short in
+        omega (arith, length-append h.answered rest)
 
 -- an exchange at the head of a list is the only one there
 pub record SameFront (d e : Exchange) (a b x y : List LineByte) : Type 0 where
@@ -124,26 +112,10 @@ exchange_once d e a b x y h k same =
     let replies = whole_parts Deck Deck h.answered k.answered x y d.reply e.reply h.reply k.reply commands.1 in
     let blocks : d.block ≡ e.block = spelled_once (bytes_of k.asked) d.block e.block (subst (λ (l : List LineByte). Spells (bytes_of l) d.block) commands.0 h.command.whole.spelled) k.command.whole.spelled in
     let answers : d.reply ≡ e.reply = spelled_once (bytes_of k.answered) d.reply e.reply (subst (λ (l : List LineByte). Spells (bytes_of l) d.reply) replies.0 h.reply.spelled) k.reply.spelled in
-    let meant : Some d.command ≡ Some e.command = sym h.command.meaning ∙ ap command_of blocks ∙ k.command.meaning in
-    let command : d.command ≡ e.command = cc in
     let fronts : a ≡ b = h.split ∙ ap (λ (l : List LineByte). l ++ h.answered) commands.0 ∙ ap (λ (l : List LineByte). k.asked ++ l) replies.0 ∙ sym k.split in
     let last : last_time h.asked ≡ last_time k.asked = ap last_time commands.0 in
     let first : first_time h.answered ≡ first_time k.answered = ap first_time replies.0 in
-    let time : d.time_us ≡ e.time_us = h.time ∙ ap first_time fronts ∙ sym k.time in
-    let delays = h.delay in
-    let delays_too = k.delay in
-    let delay : d.delay_us ≡ e.delay_us = omega arith in
-    record {
-      exchanges = same_exchange d e command blocks answers time delay;
-      fronts = fronts;
-      rests = replies.1;
-    }
-  where
-    same_exchange : (d e : Exchange) → d.command ≡ e.command → d.block ≡ e.block → d.reply ≡ e.reply → d.time_us ≡ e.time_us → d.delay_us ≡ e.delay_us → d ≡ e
-    same_exchange d e p q r s u =
-        let put : Command → Block → Block → ℕ → ℕ → Exchange = λ c b a t n. record { command = c; block = b; reply = a; time_us = t; delay_us = n } in
-        ap (λ c. put c d.block d.reply d.time_us d.delay_us) p ∙ ap (λ b. put e.command b d.reply d.time_us d.delay_us) q ∙ ap (λ a. put e.command e.block a d.time_us d.delay_us) r
-        ∙ ap (λ t. put e.command e.block e.reply t d.delay_us) s ∙ ap (λ n. put e.command e.block e.reply e.time_us n) u
+    record { exchanges = grind arith; fronts = fronts; rests = replies.1 }
 
 -- a list has at most one cut
 pub cut_once : (p : List LineByte) (ds es : List Exchange) (t u : List LineByte) → Cut p ds t → Cut p es u → (ds ≡ es) × (t ≡ u)

@@ -2,8 +2,9 @@
 use Rattle.block9.proofs.TailLemmas.{place_in_command}
 use Rattle.capture9.specs.declared.line_byte.Wire.TheVariants.{Controller}
 use Rattle.block9.specs.declared.block.Block.{Block}
-use Rattle.std.proofs.Common.{◌≡◌, ℕ, ◌≤◌, ◌%◌, ◌∙◌, ap, sym, subst, refl, true, false, Option, Some, None, List, [], ◌∷◌, ◌++◌}
+use Rattle.std.proofs.Common.{◌≡◌, arith, ℕ, ◌≤◌, ◌%◌, ◌∙◌, ap, sym, subst, refl, true, false, Option, Some, None, List, [], ◌∷◌, ◌++◌}
 use Rattle.std.specs.List.{sum}
+use Rattle.std.specs.Option.{ForSome}
 use Rattle.capture9.specs.declared.line_byte.LineByte.{LineByte}
 use Rattle.block9.specs.declared.command.Command.{Command}
 use Rattle.block9.specs.declared.pairer.Asked.{Asked}
@@ -21,8 +22,8 @@ use Rattle.block9.specs.Working.Body.{block_of}
 use Rattle.block9.specs.Working.Held.{Closes, HoldsInPairer, IsHeld, IsTurn}
 use Rattle.block9.specs.Working.Table.{ends_block, meaning_fault, open_at, pairing, place_of, reply_fault, sum_fault, command_fault}
 use Rattle.block9.proofs.ReasonLemmas.{reason_broken, table_reason}
-use Rattle.block9.proofs.StepLemmas.{closes, held_tail, last_time-tail_after, reply_parts, tail_short, waits, begun_now, commands}
-use Rattle.block9.proofs.TableLemmas as table
+use Rattle.block9.proofs.StepLemmas.{closes, held_tail, in_order, last_time-tail_after, reply_parts, tail_short, waits, begun_now, commands}
+use Rattle.std.proofs.lemmas.Bool.Decides.{nat_tests}
 
 -- ---- the table at the last record of a block
 
@@ -31,7 +32,7 @@ pub says_meaning : (t : List LineByte) (r : LineByte) (m : Option Reason) → Is
 says_meaning t r m turn right meant =
     let early = turn.0 in
     let ends = sym turn.1 in
-    let summed : sum_fault (open_at (place_of t) t) r ≡ None = table.true_test _ _ (table.true_eq _ _ right) in
+    let summed : sum_fault (open_at (place_of t) t) r ≡ None = grind (arith, nat_tests) in
     rw (early, ends, summed) meant
 
 -- and that is what is said of a command, or of a reply to the one that is held
@@ -41,10 +42,7 @@ command_meaning t h ends = let place = place_in_command Controller t (begun_now 
 pub reply_meaning : (t : List LineByte) (a : Asked) → IsHeld t (Some a) → ends_block (open_at (place_of t) t) ≡ true
     → meaning_fault (place_of t) t (open_at (place_of t) t) ≡ reply_fault (Some a.command) (block_of (bytes_of (open_at (place_of t) t)))
 reply_meaning t a h ends =
-    let parts = reply_parts t a h ends in
-    let place = parts.place.place in
-    let meant = parts.meant in
-    rw place (rw meant refl)
+    let parts = reply_parts t a h ends in let place = parts.place.place in let meant = parts.meant in rw (place, meant)
 
 -- ---- what the last record of a block does
 
@@ -52,7 +50,7 @@ pub ends_command : (t : List LineByte) (r : LineByte) (b : Block) (c : Command) 
     → b ≡ block_of (bytes_of (open_at (place_of t) t)) → command_of b ≡ Some c → IsCommand (t ++ r ∷ []) b c
 ends_command t r b c held later turn right is_block meant =
     let ends = sym turn.1 in
-    let quiet = says_meaning t r None turn right (command_meaning t held ends ∙ table.some_command _ c (ap command_of (sym is_block) ∙ meant)) in
+    let quiet = says_meaning t r None turn right (command_meaning t held ends ∙ ap (λ b. command_fault (command_of b)) (sym is_block) ∙ ap command_fault meant) in
     let same : block_of (bytes_of t) ≡ b = sym (is_block ∙ ap (λ (p : Place). block_of (bytes_of (open_at p t))) (place_in_command Controller t (begun_now t held ends))) in
     record { whole = subst (λ (b : Block). IsWhole Controller (t ++ r ∷ []) b) same (commands t r held later quiet ends).1.whole; meaning = meant }
 
@@ -62,15 +60,15 @@ ends_exchange t a r e held later turn right read kind valid =
     let ends = sym turn.1 in
     let parts = reply_parts t a held ends in
     let reply : e.reply ≡ block_of (bytes_of (open_at (place_of t) t)) = read.reply ∙ sym (ap (λ (p : Place). block_of (bytes_of (open_at p t))) parts.place.place) in
-    let none : reply_fault (Some a.command) (block_of (bytes_of (open_at (place_of t) t))) ≡ None =
-    table.some_reply (Some a.command) e.command _ (ap (λ (c : Command). Some c) (sym read.command)) (ap (fits e.command) (sym reply) ∙ kind) (ap (is_reply_time_valid e.command) (sym reply) ∙ valid) in
+    let none : reply_fault (Some a.command) (block_of (bytes_of (open_at (place_of t) t))) ≡ None = let same = read.command in cc in
     closes t a r e parts later (says_meaning t r None turn right (reply_meaning t a held ends ∙ none)) ends read
 
 -- ---- what is held afterwards
 
-pub held_waiting : (t : List LineByte) (o : Option Asked) (r : LineByte) (last : Option ℕ) → HoldsInPairer t o last → last_time t ≤ r.time_us → IsTurn t r false
+pub held_waiting : (t : List LineByte) (o : Option Asked) (r : LineByte) (last : Option ℕ) → HoldsInPairer t o last → ForSome last (λ time. time ≤ r.time_us) → IsTurn t r false
     → HoldsInPairer (t ++ r ∷ []) o (Some r.time_us) × Does t r step.Waiting
-held_waiting t o r last h later turn =
+held_waiting t o r last h known turn =
+    let later = in_order last (last_time t) r.time_us h.in_order known in
     let early = turn.0 in
     let ends = sym turn.1 in
     let quiet : pairing t r ≡ None = rw (early, ends) refl in
@@ -87,11 +85,12 @@ pub takes : (items : List LineByte) (old new : Paired) (r : LineByte) (s : Step)
 takes items old new r s same done tail last_time reason =
     record { does = subst (λ (l : List LineByte). Does l r s) same done; tail = tail ∙ ap (λ (l : List LineByte). tail_after l r s) same; last_time = last_time; reason = reason }
 
-pub refuses : (items : List LineByte) (o : Option Asked) (old new : Paired) (r : LineByte) (reason : Reason) → items ≡ old.tail → IsHeld items o → last_time items ≤ r.time_us → pairing items r ≡ Some reason
+pub refuses : (items : List LineByte) (o : Option Asked) (last : Option ℕ) (old new : Paired) (r : LineByte) (reason : Reason) → items ≡ old.tail → HoldsInPairer items o last
+    → ForSome last (λ time. time ≤ r.time_us) → pairing items r ≡ Some reason
     → new.tail ≡ items → new.last_time ≡ Some r.time_us → new.reason ≡ Some reason → Refuses old r reason new
-refuses items o old new r reason same held later told tail_same last_time known =
-    let tail = held_tail items o held in
-    let why = table_reason items r reason tail later told in
+refuses items o last old new r reason same h in_time told tail_same last_time known =
+    let tail = held_tail items o h.held in
+    let why = table_reason items r reason tail (in_order last _ r.time_us h.in_order in_time) told in
     record {
       is_reason = subst (λ (l : List LineByte). IsReason l r reason) same why;
       not_kept = subst (λ (l : List LineByte). IsKept (l ++ r ∷ []) → ⊥) same (reason_broken items r reason tail why);

@@ -17,13 +17,8 @@ closing : (t : List LineByte) (a : Asked) (r : LineByte) → IsHeld t (Some a) �
 closing t a r h later quiet ends =
     let parts = reply_parts t a h ends in
     let fits = delay_fits t a parts in
-    let e : Exchange = record {
-      command = a.command;
-      block = a.block;
-      reply = block_of (bytes_of (drop (block_len t) t));
-      time_us = first_time t;
-      delay_us = first_time (drop (block_len t) t) - last_time (take (block_len t) t);
-    } in
+    let delay = first_time (drop (block_len t) t) - last_time (take (block_len t) t) in
+    let e : Exchange = record { command = a.command; block = a.block; reply = block_of (bytes_of (drop (block_len t) t)); time_us = first_time t; delay_us = delay } in
     exchange_kept (t ++ r ∷ []) e (closes t a r e parts later quiet ends (record { block = refl; command = refl; reply = refl; time = refl; delay = omega arith }))
 
 -- a record that breaks no line of the table, after a tail

@@ -63,31 +63,25 @@ whole_long w [] b h = cc (h.spelled.spelled)
 whole_long w (a ∷ rest) b h = let f = whole_first w a rest b h in omega (arith, f.len)
 
 pub block_len-append : (xs ys : List LineByte) → 0 < length xs → block_len (xs ++ ys) ≡ block_len xs
-block_len-append [] ys h = absurd (omega arith)
-block_len-append (a ∷ xs) ys h = refl
+block_len-append xs ys h = grind arith
 
 -- two lists that begin with parts of one length have these parts in common
 pub same_parts : {X : Type 0} (a b x y : List X) → length a ≡ length b → a ++ x ≡ b ++ y → (a ≡ b) × (x ≡ y)
 same_parts [] [] x y h e = (refl, e)
-same_parts [] (b ∷ bs) x y h e = absurd (omega arith)
-same_parts (a ∷ more) [] x y h e = absurd (omega arith)
 same_parts (a ∷ more) (b ∷ others) x y h e =
     let heads : a ≡ b = cc in
     let tails : more ++ x ≡ others ++ y = cc in
     let rest = same_parts more others x y (omega arith) tails in
     (let t = rest.0 in cc, rest.1)
+same_parts a b x y h e = absurd (omega arith)
 
 -- a whole block is no beginning of another one
 pub whole_parts : (v w : Wire) (c d x y : List LineByte) (a b : Block) → IsWhole v c a → IsWhole w d b → c ++ x ≡ d ++ y → (c ≡ d) × (x ≡ y)
 whole_parts v w c d x y a b hc hd e =
-    let lc = whole_len v c a hc in
-    let ld = whole_len w d b hd in
-    let pc = whole_long v c a hc in
-    let pd = whole_long w d b hd in
-    let bc = block_len-append c x (omega arith) in
-    let bd = block_len-append d y (omega arith) in
     let same : block_len (c ++ x) ≡ block_len (d ++ y) = ap block_len e in
-    same_parts c d x y (omega arith) e
+    let long = whole_long v c a hc in
+    let long_too = whole_long w d b hd in
+    same_parts c d x y (omega (arith, whole_len v c a hc, whole_len w d b hd, block_len-append c x (omega arith), block_len-append d y (omega arith))) e
 
 -- a block's body gives it back
 pub block_of-body_of : (b : Block) → length b.bytes.items ≤ 15 → block_of (body_of b) ≡ b
@@ -104,5 +98,4 @@ spelled_once bytes a b ha hb =
 
 -- the first record stays the first
 pub first_time-push_any : (records : List LineByte) (r : LineByte) → 0 < length records → first_time (records ++ r ∷ []) ≡ first_time records
-first_time-push_any [] r h = absurd (omega arith)
-first_time-push_any (a ∷ rest) r h = refl
+first_time-push_any records r h = grind arith

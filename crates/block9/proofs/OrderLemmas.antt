@@ -1,5 +1,5 @@
 -- The first of the reasons that hold, in a list and in the order in which they count.
-use Rattle.std.proofs.Common.{◌≡◌, ◌⊎◌, inl, inr, ℕ, ◌+◌, ◌<◌, ◌≤◌, ◌∙◌, List, [], ◌∷◌, length, get_or, refl, sym, ap, subst, arith}
+use Rattle.std.proofs.Common.{◌≡◌, inl, inr, ℕ, ◌+◌, ◌<◌, ◌≤◌, ◌∙◌, List, [], ◌∷◌, length, get_or, refl, sym, ap, subst, arith}
 use Rattle.std.proofs.lemmas.Bool.{cases_lt}
 use Rattle.block9.specs.declared.reason.Reason.{Reason}
 use Rattle.block9.specs.declared.reason.Reason.TheVariants.{WrongGroup, WrongSum, ByteGap, ReplyWithoutCommand, ReplyInsideCommand, CommandBeforeReply, CommandInsideReply, WrongReply, InvalidCommandTime, InvalidReplyTime, LateReply, NoReply, NoRun}
@@ -36,37 +36,13 @@ rank InvalidReplyTime = 11
 rank NoRun = 12
 
 at_rank : (x : Reason) → get_or order (rank x) NoRun ≡ x
-at_rank ReplyWithoutCommand = refl
-at_rank ReplyInsideCommand = refl
-at_rank CommandBeforeReply = refl
-at_rank NoReply = refl
-at_rank CommandInsideReply = refl
-at_rank LateReply = refl
-at_rank ByteGap = refl
-at_rank WrongGroup = refl
-at_rank WrongSum = refl
-at_rank InvalidCommandTime = refl
-at_rank WrongReply = refl
-at_rank InvalidReplyTime = refl
-at_rank NoRun = refl
+at_rank x = grind arith
 
 pub rank_once : (x y : Reason) → rank x ≡ rank y → x ≡ y
 rank_once x y e = sym (at_rank x) ∙ ap (λ n. get_or order n NoRun) e ∙ at_rank y
 
 pub rank_low : (x : Reason) → rank x < 13
-rank_low ReplyWithoutCommand = omega arith
-rank_low ReplyInsideCommand = omega arith
-rank_low CommandBeforeReply = omega arith
-rank_low NoReply = omega arith
-rank_low CommandInsideReply = omega arith
-rank_low LateReply = omega arith
-rank_low ByteGap = omega arith
-rank_low WrongGroup = omega arith
-rank_low WrongSum = omega arith
-rank_low InvalidCommandTime = omega arith
-rank_low WrongReply = omega arith
-rank_low InvalidReplyTime = omega arith
-rank_low NoRun = omega arith
+rank_low x = grind arith
 
 -- the reasons of a list stand at the places from this one on
 abbrev pub Ranked : ℕ → List Reason → Type 0
@@ -79,11 +55,12 @@ order_ranked = (refl, (refl, (refl, (refl, (refl, (refl, (refl, (refl, (refl, (r
 -- a reason that holds, where no earlier one does
 pub first_from : (holds : Reason → Type 0) (n : ℕ) (xs : List Reason) (x : Reason) → Ranked n xs → n ≤ rank x → rank x < n + length xs → holds x → ((y : Reason) → holds y → rank x ≤ rank y) → IsFirst holds xs x
 first_from holds n [] x e low high h least = absurd (omega arith)
-first_from holds n (y ∷ ys) x e low high h least = by (cases_lt n (rank x)) (λ p. first_from holds (n + 1) ys x e.1 p (omega arith) h least)
-  where
-    by : (n < rank x) ⊎ (rank x ≤ n) → (n + 1 ≤ rank x → IsFirst holds ys x) → IsFirst holds (y ∷ ys) x
-    by (inl p) more = inr (λ k. (let l = least y k in let q = e.0 in absurd (omega arith)), more (omega arith))
-    by (inr p) more = let same = rank_once x y (let q = e.0 in omega arith) in inl (same, subst holds same h)
+first_from holds n (y ∷ ys) x e low high h least =
+    let here = e.0 in
+    elim (cases_lt n (rank x)) [
+      | inl p ↦ inr (λ k. (let l = least y k in absurd (omega arith)), first_from holds (n + 1) ys x e.1 (omega arith) (omega arith) h least)
+      | inr p ↦ let same = rank_once x y (omega arith) in inl (same, subst holds same h)
+    ]
 
 pub in_order_first : (holds : Reason → Type 0) (x : Reason) → holds x → ((y : Reason) → holds y → rank x ≤ rank y) → IsFirst holds order x
 in_order_first holds x h least = first_from holds 0 order x order_ranked (omega arith) (rank_low x) h least
@@ -92,11 +69,12 @@ in_order_first holds x h least = first_from holds 0 order x order_ranked (omega 
 pub first_least : (holds : Reason → Type 0) (n : ℕ) (xs : List Reason) (x y : Reason) → Ranked n xs → n ≤ rank y → rank y < n + length xs → IsFirst holds xs x → holds y → rank x ≤ rank y
 first_least holds n [] x y e low high h k = absurd h
 first_least holds n (z ∷ zs) x y e low high (inl h) k = let same = ap rank h.0 in let q = e.0 in omega arith
-first_least holds n (z ∷ zs) x y e low high (inr h) k = by (cases_lt n (rank y)) (λ p. first_least holds (n + 1) zs x y e.1 p (omega arith) h.1 k)
-  where
-    by : (n < rank y) ⊎ (rank y ≤ n) → (n + 1 ≤ rank y → rank x ≤ rank y) → rank x ≤ rank y
-    by (inl p) more = more (omega arith)
-    by (inr p) more = let same = rank_once y z (let q = e.0 in omega arith) in absurd (h.0 (subst holds same k))
+first_least holds n (z ∷ zs) x y e low high (inr h) k =
+    let here = e.0 in
+    elim (cases_lt n (rank y)) [
+      | inl p ↦ first_least holds (n + 1) zs x y e.1 (omega arith) (omega arith) h.1 k
+      | inr p ↦ let same = rank_once y z (omega arith) in absurd (h.0 (subst holds same k))
+    ]
 
 pub first_in_order : (holds : Reason → Type 0) (x y : Reason) → IsFirst holds order x → holds y → rank x ≤ rank y
 first_in_order holds x y h k = first_least holds 0 order x y order_ranked (omega arith) (rank_low y) h k
@@ -105,22 +83,9 @@ first_in_order holds x y h k = first_least holds 0 order x y order_ranked (omega
 
 -- a reason before the last one stays the first
 pub first_before_last : (holds more : Reason → Type 0) (x : Reason) → ((y : Reason) → rank y < 12 → (holds y → more y) × (more y → holds y)) → rank x < 12 → IsFirst holds order x → IsFirst more order x
-first_before_last holds more x same low h = in_order_first more x ((same x low).0 (first_holds holds order x h)) least
-  where
-    least : (y : Reason) → more y → rank x ≤ rank y
-    least y k = by (cases_lt (rank y) 12)
-      where
-        by : (rank y < 12) ⊎ (12 ≤ rank y) → rank x ≤ rank y
-        by (inl p) = first_in_order holds x y h ((same y p).1 k)
-        by (inr p) = omega arith
+first_before_last holds more x same low h =
+    in_order_first more x ((same x low).0 (first_holds holds order x h)) (λ y k. elim (cases_lt (rank y) 12) [ inl p ↦ first_in_order holds x y h ((same y p).1 k) | inr p ↦ omega arith ])
 
 -- where none before it holds, the last one is the first
 pub last_is_first : (more : Reason → Type 0) → ((y : Reason) → rank y < 12 → more y → ⊥) → more NoRun → IsFirst more order NoRun
-last_is_first more none h = in_order_first more NoRun h least
-  where
-    least : (y : Reason) → more y → rank NoRun ≤ rank y
-    least y k = by (cases_lt (rank y) 12)
-      where
-        by : (rank y < 12) ⊎ (12 ≤ rank y) → rank NoRun ≤ rank y
-        by (inl p) = absurd (none y p k)
-        by (inr p) = omega arith
+last_is_first more none h = in_order_first more NoRun h (λ y k. elim (cases_lt (rank y) 12) [ inl p ↦ absurd (none y p k) | inr p ↦ omega arith ])

@@ -1,5 +1,5 @@
 -- Which bytes spell a block.
-use Rattle.std.proofs.Common.{◌≡◌, ◌≢◌, ℕ, suc, ◌+◌, ◌-◌, ◌*◌, ◌%◌, ◌∙◌, List, [], ◌∷◌, ◌++◌, length, sym, ap, Some, arith}
+use Rattle.std.proofs.Common.{◌≡◌, ℕ, suc, ◌+◌, ◌-◌, ◌*◌, ◌%◌, ◌∙◌, List, [], ◌∷◌, ◌++◌, length, sym, ap, Some, arith}
 use Rattle.std.proofs.lemmas.List.{same_from_push}
 use Rattle.std.specs.List.{sum, slice_get}
 use Rattle.capture9.specs.declared.line_byte.LineByte.{LineByte}
@@ -23,12 +23,6 @@ spelled_len bytes (a ∷ body) last first b e f h =
     let same : length (a ∷ body) ≡ length (body_of b) = ap length parts.0 in
     let low_half : first % 16 ≡ length b.bytes.items = ap (λ n. n % 16) head ∙ low in
     omega arith
-
-pub no_spelling_len : (bytes body : List ℕ) (last first : ℕ) → bytes ≡ body ++ last ∷ [] → Some first ≡ slice_get body 0 → length body ≢ first % 16 + 2 → (b : Block) → Spells bytes b → ⊥
-no_spelling_len bytes body last first e f other b h = other (spelled_len bytes body last first b e f h)
-
-pub no_spelling_sum : (bytes body : List ℕ) (last : ℕ) → bytes ≡ body ++ last ∷ [] → sum body % 256 ≢ last → (b : Block) → Spells bytes b → ⊥
-no_spelling_sum bytes body last e other b h = other (sym (spelled_parts bytes body last b e h).1)
 
 -- the last record's time
 pub last_time-last : (records : List LineByte) (last : LineByte) → Some last ≡ slice_get records (length records - 1) → last.time_us ≡ last_time records

@@ -7,7 +7,6 @@ use Rattle.block9.specs.declared.block.Block.{Block}
 use Rattle.block9.specs.declared.command.Command.{Command}
 use Rattle.block9.specs.declared.pairer.Exchange.{Exchange}
 use Rattle.block9.specs.declared.place.Place.{Place}
-use Rattle.block9.specs.declared.place.Place.TheVariants.{InCommand, InReply}
 use Rattle.block9.specs.Working.Body.{block_of}
 use Rattle.block9.specs.Command.{command_of, fits, is_reply_time_valid}
 use Rattle.block9.specs.Line.{IsBegun, IsWhole, block_len, bytes_of, first_time, last_time}
@@ -22,7 +21,7 @@ use Rattle.std.specs.Option.{ForSome}
 use Rattle.block9.proofs.LineLemmas.{last_time-push, whole_len, whole_parts, first_time-push_any}
 use Rattle.block9.proofs.BlockSteps.{begun_more, whole_now}
 use Rattle.block9.proofs.TableLemmas as table
-use Rattle.block9.proofs.TailLemmas.{InReplyOf, place_in_command, place_of_command, kept_idle, kept_in_command, kept_after_command, in_reply_of, kept_in_reply, meaning_in_reply}
+use Rattle.block9.proofs.TailLemmas.{InReplyOf, place_in_command, place_of_command, kept_idle, kept_in_command, kept_after_command, in_reply_of, kept_in_reply}
 
 -- ---- what is held
 
@@ -41,8 +40,7 @@ tail_held t (in_reply command reply b c e hc hd soon) = (Some (record { command 
 
 -- where the last record of a block is to come and no command is held, a command is begun
 pub begun_now : (t : List LineByte) → IsHeld t None → ends_block (open_at (place_of t) t) ≡ true → IsBegun Controller t
-begun_now t (inl e) ends = absurd (let none : ends_block (open_at (place_of t) t) ≡ false = ap (λ (l : List LineByte). ends_block (open_at (place_of l) l)) e in cc)
-begun_now t (inr h) ends = h
+begun_now t h ends = grind arith
 
 -- and where one is held, its reply is begun: the parts of the tail
 pub record ReplyParts (t : List LineByte) (a : Asked) : Type 0 where
@@ -52,32 +50,19 @@ pub record ReplyParts (t : List LineByte) (a : Asked) : Type 0 where
   pub is_command : IsCommand command a.block a.command
   pub begun : IsBegun Deck reply
   pub in_time : IsInTime command reply
-  pub place : InReplyOf command reply t
+  pub place : InReplyOf command reply t a.block
   -- the command as the table reads it off the tail
   pub meant : command_of (block_of (bytes_of (take (block_len t - 1) t))) ≡ Some a.command
 
 pub reply_parts : (t : List LineByte) (a : Asked) → IsHeld t (Some a) → ends_block (open_at (place_of t) t) ≡ true → ReplyParts t a
 reply_parts t a (inl h) ends = absurd (let none : ends_block (open_at (place_of t) t) ≡ false = ap (λ (p : Place). ends_block (open_at p t)) (place_of_command Controller t a.block h.whole) in cc)
 reply_parts t a (inr (command, reply, e, hc, hd, soon)) ends =
-    let place : InReplyOf command reply t = subst (λ (l : List LineByte). InReplyOf command reply l) (sym e) (in_reply_of command reply a.block hc.whole hd.begun) in
-    record {
-      command = command;
-      reply = reply;
-      split = e;
-      is_command = hc;
-      begun = hd;
-      in_time = soon;
-      place = place;
-      meant = ap command_of (meaning_in_reply command reply t a.block hc.whole place) ∙ hc.meaning;
-    }
+    let place = in_reply_of command reply t a.block e hc.whole hd.begun in
+    record { command = command; reply = reply; split = e; is_command = hc; begun = hd; in_time = soon; place = place; meant = ap command_of place.body ∙ hc.meaning }
 
 -- the reply's first record is not before the command's last one
 pub delay_fits : (t : List LineByte) (a : Asked) → ReplyParts t a → last_time (take (block_len t) t) ≤ first_time (drop (block_len t) t)
-delay_fits t a parts =
-    let last = ap last_time parts.place.first in
-    let first = ap first_time parts.place.current in
-    let later = parts.in_time.later in
-    omega arith
+delay_fits t a parts = grind arith
 
 -- no list that goes on after a whole command is a command
 pub beyond_command : (command more : List LineByte) (b d : Block) → IsWhole Controller command b → 0 < length more → IsWhole Controller (command ++ more) d → ⊥
@@ -104,15 +89,15 @@ waits t None r (inl e) later quiet ends =
     subst (λ (l : List LineByte). StillHeld (l ++ r ∷ []) None) (sym e) still
 waits t None r (inr h) later quiet ends =
     let same : ends_block t ≡ false = sym (ap (λ (p : Place). ends_block (open_at p t)) (place_in_command Controller t h)) ∙ ends in
-    let more = begun_more Controller t r h (kept_in_command t r h later quiet).1 same in
+    let more = begun_more Controller t r h (kept_in_command t r h later quiet).0 same in
     record { held = inr more; no_command = λ b c k. begun_not_whole (t ++ r ∷ []) b more k.whole }
 waits t (Some a) r (inl h) later quiet ends =
     let next = kept_after_command t r a.block h.whole later quiet in
     record { held = inr (t, r ∷ [], refl, h, next.0, next.1); no_command = λ d x k. beyond_command t (r ∷ []) a.block d h.whole (omega arith) k.whole }
 waits t (Some a) r (inr (command, reply, e, hc, hd, soon)) later quiet ends =
-    let place : InReplyOf command reply t = subst (λ (l : List LineByte). InReplyOf command reply l) (sym e) (in_reply_of command reply a.block hc.whole hd.begun) in
+    let place = in_reply_of command reply t a.block e hc.whole hd.begun in
     let same : ends_block reply ≡ false = sym (ap (λ (p : Place). ends_block (open_at p t)) place.place ∙ ap ends_block place.current) ∙ ends in
-    let more = begun_more Deck reply r hd (kept_in_reply command reply t r place later quiet).1 same in
+    let more = begun_more Deck reply r hd (kept_in_reply command reply t a.block r place later quiet).0 same in
     let whole : t ++ r ∷ [] ≡ command ++ (reply ++ r ∷ []) = ap (λ (l : List LineByte). l ++ r ∷ []) e ∙ append_assoc command reply (r ∷ []) in
     let first = first_time-push_any reply r hd.begun in
     let in_time : IsInTime command (reply ++ r ∷ []) = record { later = let a = soon.later in omega arith; soon = let a = soon.soon in omega arith } in
@@ -128,19 +113,16 @@ commands t r held later quiet ends =
     let h = begun_now t held ends in
     let same : ends_block t ≡ true = sym (ap (λ (p : Place). ends_block (open_at p t)) (place_in_command Controller t h)) ∙ ends in
     let next = kept_in_command t r h later quiet in
-    let parts = table.end_none InCommand t t r next.0.at_end same in
-    let meaning = table.command_some _ parts.1 in
-    (meaning.0, record { whole = whole_now Controller t r h next.1 same parts.0; meaning = meaning.1 })
+    let right = table.command_right t r next.1 same in
+    (right.1, record { whole = whole_now Controller t r h next.0 same right.0; meaning = right.2 })
 
 -- a record that ends a reply
 pub closes : (t : List LineByte) (a : Asked) (r : LineByte) (e : Exchange) → ReplyParts t a → last_time t ≤ r.time_us → pairing t r ≡ None → ends_block (open_at (place_of t) t) ≡ true → Closes t a e → IsExchange (t ++ r ∷ []) e
 closes t a r e parts later quiet ends read =
     let same : ends_block parts.reply ≡ true = sym (ap (λ (p : Place). ends_block (open_at p t)) parts.place.place ∙ ap ends_block parts.place.current) ∙ ends in
-    let next = kept_in_reply parts.command parts.reply t r parts.place later quiet in
-    let at_end : table.end_none_of InReply t parts.reply r = subst (λ (l : List LineByte). table.end_none_of InReply t l r) parts.place.current next.0.at_end in
-    let end = table.end_none InReply t parts.reply r at_end same in
+    let next = kept_in_reply parts.command parts.reply t a.block r parts.place later quiet in
     let reply : e.reply ≡ block_of (bytes_of parts.reply) = read.reply ∙ ap (λ (l : List LineByte). block_of (bytes_of l)) parts.place.current in
-    let right = table.reply_some _ e.command (block_of (bytes_of parts.reply)) (parts.meant ∙ ap (λ (c : Command). Some c) (sym read.command)) end.1 in
+    let right = table.reply_right t parts.reply r e.command (parts.meant ∙ ap (λ (c : Command). Some c) (sym read.command)) next.1 same in
     let first = first_time-push_any parts.reply r parts.begun.begun in
     let last = ap last_time parts.place.first in
     let head = ap first_time parts.place.current in
@@ -153,28 +135,20 @@ closes t a r e parts later quiet ends read =
       answered = parts.reply ++ r ∷ [];
       split = ap (λ (l : List LineByte). l ++ r ∷ []) parts.split ∙ append_assoc parts.command parts.reply (r ∷ []);
       command = rw (read.block, read.command) parts.is_command;
-      reply = subst (λ (b : Block). IsWhole Deck (parts.reply ++ r ∷ []) b) (sym reply) (whole_now Deck parts.reply r parts.begun next.1 same end.0);
+      reply = subst (λ (b : Block). IsWhole Deck (parts.reply ++ r ∷ []) b) (sym reply) (whole_now Deck parts.reply r parts.begun next.0 same right.0);
       in_time = record { later = let a = parts.in_time.later in omega arith; soon = let a = parts.in_time.soon in omega arith };
       time = read.time ∙ sym begins;
       delay = omega arith;
-      kind = ap (λ (b : Block). fits e.command b) reply ∙ right.0;
-      valid_time = ap (λ (b : Block). is_reply_time_valid e.command b) reply ∙ right.1;
+      kind = ap (λ (b : Block). fits e.command b) reply ∙ right.1;
+      valid_time = ap (λ (b : Block). is_reply_time_valid e.command b) reply ∙ right.2;
     }
 
 -- a tail has at most 35 records: a command of 18 and all but the last of a reply
 pub block_len_low : (t : List LineByte) → block_len t ≤ 18
-block_len_low [] = omega arith
-block_len_low (a ∷ rest) = omega arith
+block_len_low t = grind arith
 
 pub tail_short : (t : List LineByte) → IsTail t → length t ≤ 35
-tail_short t (nothing e) = let n : length t ≡ 0 = ap length e in omega arith
-tail_short t (in_command h) = let s = h.short in let l = block_len_low t in omega arith
-tail_short t (after_command b c h) = let s = whole_len Controller t b h.whole in let l = block_len_low t in omega arith
-tail_short t (in_reply command reply b c e hc hd soon) =
-    let n : length t ≡ length (command ++ reply) = ap length e in
-    let s = whole_len Controller command b hc.whole in
-    let d = hd.short in
-    omega (arith, length-append command reply, block_len_low command, block_len_low reply)
+tail_short t h = grind (arith, whole_len, block_len_low, length-append)
 
 -- what it leaves is a tail, with no record after the one that was fed
 pub still_tail : (t : List LineByte) (r : LineByte) (s : Step) → Does t r s → IsTail (tail_after t r s)
@@ -183,11 +157,8 @@ still_tail t r step.Command h = after_command h.0 h.1 h.2
 still_tail t r (step.Exchange e) h = nothing refl
 
 pub last_time-tail_after : (t : List LineByte) (r : LineByte) (s : Step) → last_time (tail_after t r s) ≤ r.time_us
-last_time-tail_after t r step.Waiting = let e = last_time-push t r in omega arith
-last_time-tail_after t r step.Command = let e = last_time-push t r in omega arith
-last_time-tail_after t r (step.Exchange e) = omega arith
+last_time-tail_after t r s = let e = last_time-push t r in grind arith
 
 -- a record that is fed is not before the tail
 pub in_order : (last : Option ℕ) (before now : ℕ) → IsNotBefore last before → ForSome last (λ time. time ≤ now) → before ≤ now
-in_order None before now h k = omega arith
-in_order (Some time) before now h k = let t = k time refl in omega arith
+in_order last before now h k = grind arith

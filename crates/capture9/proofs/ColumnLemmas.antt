@@ -17,8 +17,5 @@ not-three fields i within e = λ three. omega (arith, at-none fields i e)
 pub three : (fields : List (List ℕ)) (a b c : List ℕ) → length fields ≡ 3
     → Some a ≡ field_at fields 0 → Some b ≡ field_at fields 1 → Some c ≡ field_at fields 2 → fields ≡ a ∷ b ∷ c ∷ []
 unfolding field_at
-three [] a b c size x y z = absurd (omega arith)
-three (p ∷ []) a b c size x y z = absurd (omega arith)
-three (p ∷ q ∷ []) a b c size x y z = absurd (omega arith)
 three (p ∷ q ∷ r ∷ []) a b c size x y z = cc
-three (p ∷ q ∷ r ∷ s ∷ rest) a b c size x y z = absurd (omega arith)
+three fields a b c size x y z = absurd (omega arith)

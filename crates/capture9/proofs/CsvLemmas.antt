@@ -1,7 +1,7 @@
 -- The CSV records of a text as head and tail, and what a read of one does to those that are left.
 use Rattle.std.proofs.Common.{◌≡◌, ◌<◌, ◌+◌, ℕ, zero, suc, List, [], ◌∷◌, length, Option, Some, None, Bool, true, false, refl, sym, ap, ◌∙◌, ◌⊎◌, inl, inr, arith, add-one, option_map}
 use Rattle.std.specs.Prelude.{IfSome}
-use Rattle.csv.specs.Machine.{Read, ends_at_end, field_after, fields_after, is_end, next_record, step}
+use Rattle.csv.specs.Machine.{Read, field_after, fields_after, is_end, next_record, step}
 use Rattle.csv.specs.Reading.{NextIs, ReadRecord, ReadsNext, default_config, pending_of, records_from, source_of}
 use Rattle.csv.specs.declared.parser.Config.{Config}
 use Rattle.csv.specs.declared.parser.State.{State}
@@ -19,11 +19,7 @@ falls-more c bytes p h = record { falls = elim h.falls [ inl lt ↦ inl (omega a
 next_falls : (cfg : Config) (s : State) (fields : List (List ℕ)) (field bytes : List ℕ) (p : Read)
     → next_record cfg s fields field bytes ≡ Some p → Falls bytes p
 unfolding next_record
-next_falls cfg s fields field [] p e = by (ends_at_end s) refl e
-  where
-    by : (b : Bool) → ends_at_end s ≡ b → next_record cfg s fields field [] ≡ Some p → Falls [] p
-    by true q e = let same = rw q at e in record { falls = inr (cc, cc) }
-    by false q e = let same = rw q at e in cc
+next_falls cfg s fields field [] p e = record { falls = grind arith }
 next_falls cfg s fields field (c ∷ rest) p e =
     by (is_end (step cfg s c).1) refl e (λ f. falls-more c rest p (next_falls cfg (step cfg s c).0 (fields_after (step cfg s c).1 fields field) (field_after (step cfg s c).1 c field) rest p f))
   where
@@ -85,8 +81,8 @@ takes-next s s2 bytes after found fields (Some p) e h = rw (records_at-some s by
 takes-fields : (s s2 : State) (before after : Option (List ℕ)) (found : Bool) (fields : List (List ℕ)) → ReadsNext default_config s before after found fields s2
     → IfSome (option_map (records_at s) before) (λ unread. TakesFields unread found fields (option_map (records_at s2) after))
 takes-fields s s2 None after found fields h = tt
-takes-fields s s2 (Some bytes) None found fields h = absurd h
 takes-fields s s2 (Some bytes) (Some rest) found fields h = takes-next s s2 bytes rest found fields _ refl h
+takes-fields s s2 before after found fields h = absurd h
 
 -- once a reader has looked for a byte order mark, the bytes that are left are those that it reads from
 source-pending : {R : Type 0} (remaining : R → Option (List ℕ)) (r : Reader R) → r.bom_checked ≡ true → source_of remaining r ≡ pending_of (remaining r.rdr) r

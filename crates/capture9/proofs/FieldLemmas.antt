@@ -1,7 +1,8 @@
 -- Decimal digits, read one at a time.
-use Rattle.std.proofs.Common.{◌≡◌, ◌<◌, ◌≤◌, ◌+◌, ◌-◌, ◌*◌, ◌^◌, ℕ, suc, ap, List, [], ◌∷◌, ◌++◌, length, length-append, pow-add, drop, get_or, true, false, Bool, ◌&&◌, Some, None, nat_le, refl, ◌∙◌, arith, add-one, lit<, length-drop, drop-cons}
-use Rattle.std.specs.Prelude.{if◌then◌else◌}
+use Rattle.std.proofs.Common.{◌≡◌, ◌<◌, ◌≤◌, ◌+◌, ◌-◌, ◌*◌, ◌^◌, ℕ, suc, List, [], ◌∷◌, ◌++◌, length, length-append, pow-add, drop, get_or, true, ◌&&◌, Some, None, nat_le, refl, ◌∙◌, arith, add-one, lit<, length-drop, drop-cons}
 use Rattle.std.proofs.Math.Nat.{mul-le-mul_left, mul-le-mul_right, pow-le-pow_right, pow-suc}
+use Rattle.std.proofs.Math.Bool.{and_assoc}
+use Rattle.std.proofs.lemmas.Bool.{and_parts}
 use Rattle.std.proofs.lemmas.Bool.Decides.{nat_tests}
 use Rattle.std.specs.Char.{digit_value, is_ascii_digit}
 use Rattle.std.specs.Str.{all_ascii_digits}
@@ -61,14 +62,10 @@ pub all_ascii_digits-step : (field : List ℕ) (at c : ℕ) → at < length fiel
     → all_ascii_digits (drop at field) ≡ all_ascii_digits (drop (at + 1) field)
 all_ascii_digits-step field at c within here is_digit = rw (drop-cons field at 0 within, ← here, is_digit, add-one) refl
 
-both : (a b : Bool) → (a && b) ≡ true → (a ≡ true) × (b ≡ true)
-both true b h = (refl, h)
-both false b h = cc
-
 decimal_value-lt : (field : List ℕ) → all_ascii_digits field ≡ true → decimal_value field < 10 ^ length field
 decimal_value-lt [] h = lit< tt
 decimal_value-lt (c ∷ rest) h =
-    let each = both (is_ascii_digit c) (all_ascii_digits rest) h in
+    let each = and_parts (is_ascii_digit c) (all_ascii_digits rest) h in
     let digit : digit_value c ≤ 9 = rw (digit_value-digit c each.0) (digit-le c each.0) in
     let value : digit_value c * 10 ^ length rest ≤ 9 * 10 ^ length rest = mul-le-mul_right (10 ^ length rest) digit in
     rw pow-suc (omega (arith, decimal_value-lt rest each.1))
@@ -76,19 +73,10 @@ decimal_value-lt (c ∷ rest) h =
 -- a time has at most fifteen digits
 pub time_in-lt : (field : List ℕ) (time : ℕ) → time_in field ≡ Some time → time < 10 ^ 15
 time_in-lt field time e =
-    by (nat_le 1 (length field)) (nat_le (length field) 15) (all_ascii_digits field) refl refl e
-  where
-    by : (some few digits : Bool) → nat_le (length field) 15 ≡ few → all_ascii_digits field ≡ digits
-        → (if some && few && digits then Some (decimal_value field) else None) ≡ Some time → time < 10 ^ 15
-    by true true true size all same =
-        let few : length field ≤ 15 = grind (arith, nat_tests) in
-        let positive : 0 < 10 = lit< tt in
-        let most : 10 ^ length field ≤ 10 ^ 15 = pow-le-pow_right positive few in
-        let value : decimal_value field ≡ time = cc in
-        omega (arith, decimal_value-lt field all)
-    by true true false size all same = cc
-    by true false digits size all same = cc
-    by false few digits size all same = cc
+    let read : (length field ≤ 15) × (all_ascii_digits field ≡ true) × (decimal_value field ≡ time) = grind (arith, nat_tests) in
+    let positive : 0 < 10 = lit< tt in
+    let most : 10 ^ length field ≤ 10 ^ 15 = pow-le-pow_right positive read.0 in
+    omega (arith, decimal_value-lt field read.1)
 
 -- ---- digits in two parts
 
@@ -101,41 +89,18 @@ decimal_value-append (x ∷ xs) ys = rw (length-append xs ys, pow-add 10 (length
 
 all_ascii_digits-append : (xs ys : List ℕ) → all_ascii_digits (xs ++ ys) ≡ (all_ascii_digits xs && all_ascii_digits ys)
 all_ascii_digits-append [] ys = refl
-all_ascii_digits-append (x ∷ xs) ys = rw (all_ascii_digits-append xs ys) (by (is_ascii_digit x))
-  where
-    by : (b : Bool) → (b && (all_ascii_digits xs && all_ascii_digits ys)) ≡ ((b && all_ascii_digits xs) && all_ascii_digits ys)
-    by true = refl
-    by false = refl
+all_ascii_digits-append (x ∷ xs) ys = rw (all_ascii_digits-append xs ys) (grind arith)
 
 -- where the first part is none, the whole is none; else the second part goes on after it
 pub digits_after-none : (xs ys : List ℕ) → digits_after 0 xs ≡ None → digits_after 0 (xs ++ ys) ≡ None
-digits_after-none xs ys h = by (all_ascii_digits xs) refl h
-  where
-    by : (b : Bool) → all_ascii_digits xs ≡ b → (if b then Some (0 * 10 ^ length xs + decimal_value xs) else None) ≡ None → digits_after 0 (xs ++ ys) ≡ None
-    by true e h = cc
-    by false e h = rw (all_ascii_digits-append xs ys, e) refl
+digits_after-none xs ys h = grind (arith, all_ascii_digits-append)
 
 pub digits_after-some : (n : ℕ) (xs ys : List ℕ) → digits_after 0 xs ≡ Some n → digits_after 0 (xs ++ ys) ≡ digits_after n ys
-digits_after-some n xs ys h = by (all_ascii_digits xs) refl h
-  where
-    by : (b : Bool) → all_ascii_digits xs ≡ b → (if b then Some (0 * 10 ^ length xs + decimal_value xs) else None) ≡ Some n → digits_after 0 (xs ++ ys) ≡ digits_after n ys
-    by true e h =
-        let same : 0 * 10 ^ length xs + decimal_value xs ≡ n = cc in
-        let value : decimal_value xs ≡ n = omega arith in
-        let whole : 0 * 10 ^ length (xs ++ ys) + (n * 10 ^ length ys + decimal_value ys) ≡ n * 10 ^ length ys + decimal_value ys = omega arith in
-        rw (all_ascii_digits-append xs ys, e, decimal_value-append xs ys, value, whole) refl
-    by false e h = cc
+digits_after-some n xs ys h = grind (arith, all_ascii_digits-append, decimal_value-append)
 
 -- eight digits leave room for seven more
 pub eight-low : (xs : List ℕ) (n : ℕ) → digits_after 0 xs ≡ Some n → length xs ≡ 8 → n < 10 ^ 8
-eight-low xs n h size = by (all_ascii_digits xs) refl h
-  where
-    by : (b : Bool) → all_ascii_digits xs ≡ b → (if b then Some (0 * 10 ^ length xs + decimal_value xs) else None) ≡ Some n → n < 10 ^ 8
-    by true e h =
-        let same : 0 * 10 ^ length xs + decimal_value xs ≡ n = cc in
-        let low : decimal_value xs < 10 ^ 8 = rw size at (decimal_value-lt xs e) in
-        omega arith
-    by false e h = cc
+eight-low xs n h size = let low = decimal_value-lt xs in grind (arith, decimal_value-lt)
 
 pub room-after : (n k : ℕ) → n < 10 ^ 8 → k ≤ 7 → (n + 1) * 10 ^ k ≤ 10 ^ 15
 room-after n k low short =
@@ -154,51 +119,17 @@ time_in-digits field some few =
 
 -- ---- eight digits at once
 
-regroup : (p q r : Bool) → (p && (q && r)) ≡ ((p && q) && r)
-regroup true q r = refl
-regroup false q r = refl
-
 -- they are digits where each of them is, two by two
 pub all-eight : (xs : List ℕ) → length xs ≡ 8
     → all_ascii_digits xs ≡ ((is_ascii_digit (get_or xs 0 0) && is_ascii_digit (get_or xs 1 0)) && ((is_ascii_digit (get_or xs 2 0) && is_ascii_digit (get_or xs 3 0))
     && ((is_ascii_digit (get_or xs 4 0) && is_ascii_digit (get_or xs 5 0)) && ((is_ascii_digit (get_or xs 6 0) && is_ascii_digit (get_or xs 7 0)) && true))))
-all-eight (a ∷ b ∷ c ∷ d ∷ e ∷ f ∷ g ∷ h ∷ []) size =
-    regroup (is_ascii_digit a) (is_ascii_digit b) _
-    ∙ ap (λ (t : Bool). (is_ascii_digit a && is_ascii_digit b) && t)
-    (regroup (is_ascii_digit c) (is_ascii_digit d) _
-    ∙ ap (λ (t : Bool). (is_ascii_digit c && is_ascii_digit d) && t)
-    (regroup (is_ascii_digit e) (is_ascii_digit f) _
-    ∙ ap (λ (t : Bool). (is_ascii_digit e && is_ascii_digit f) && t) (regroup (is_ascii_digit g) (is_ascii_digit h) true)))
-all-eight [] size = absurd (omega arith)
-all-eight (a ∷ []) size = absurd (omega arith)
-all-eight (a ∷ b ∷ []) size = absurd (omega arith)
-all-eight (a ∷ b ∷ c ∷ []) size = absurd (omega arith)
-all-eight (a ∷ b ∷ c ∷ d ∷ []) size = absurd (omega arith)
-all-eight (a ∷ b ∷ c ∷ d ∷ e ∷ []) size = absurd (omega arith)
-all-eight (a ∷ b ∷ c ∷ d ∷ e ∷ f ∷ []) size = absurd (omega arith)
-all-eight (a ∷ b ∷ c ∷ d ∷ e ∷ f ∷ g ∷ []) size = absurd (omega arith)
-all-eight (a ∷ b ∷ c ∷ d ∷ e ∷ f ∷ g ∷ h ∷ i ∷ more) size = absurd (omega arith)
+all-eight (a ∷ b ∷ c ∷ d ∷ e ∷ f ∷ g ∷ h ∷ []) size = simp and_assoc
+all-eight xs size = absurd (omega arith)
 
 -- what their bytes come to: each `0` is 48 too many
 pub value-eight : (xs : List ℕ) → length xs ≡ 8 → all_ascii_digits xs ≡ true
     → decimal_value xs + 533333328
     ≡ ((get_or xs 0 0 * 10 + get_or xs 1 0) * 100 + (get_or xs 2 0 * 10 + get_or xs 3 0)) * 10000 + ((get_or xs 4 0 * 10 + get_or xs 5 0) * 100 + (get_or xs 6 0 * 10 + get_or xs 7 0))
 value-eight (a ∷ b ∷ c ∷ d ∷ e ∷ f ∷ g ∷ h ∷ []) size all =
-    let p = both (is_ascii_digit a) _ all in
-    let q = both (is_ascii_digit b) _ p.1 in
-    let r = both (is_ascii_digit c) _ q.1 in
-    let s = both (is_ascii_digit d) _ r.1 in
-    let t = both (is_ascii_digit e) _ s.1 in
-    let u = both (is_ascii_digit f) _ t.1 in
-    let v = both (is_ascii_digit g) _ u.1 in
-    let w = both (is_ascii_digit h) _ v.1 in
-    omega (arith, value-digit a p.0, value-digit b q.0, value-digit c r.0, value-digit d s.0, value-digit e t.0, value-digit f u.0, value-digit g v.0, value-digit h w.0)
-value-eight [] size all = absurd (omega arith)
-value-eight (a ∷ []) size all = absurd (omega arith)
-value-eight (a ∷ b ∷ []) size all = absurd (omega arith)
-value-eight (a ∷ b ∷ c ∷ []) size all = absurd (omega arith)
-value-eight (a ∷ b ∷ c ∷ d ∷ []) size all = absurd (omega arith)
-value-eight (a ∷ b ∷ c ∷ d ∷ e ∷ []) size all = absurd (omega arith)
-value-eight (a ∷ b ∷ c ∷ d ∷ e ∷ f ∷ []) size all = absurd (omega arith)
-value-eight (a ∷ b ∷ c ∷ d ∷ e ∷ f ∷ g ∷ []) size all = absurd (omega arith)
-value-eight (a ∷ b ∷ c ∷ d ∷ e ∷ f ∷ g ∷ h ∷ i ∷ more) size all = absurd (omega arith)
+    grind (arith, value-digit, and_parts)
+value-eight xs size all = absurd (omega arith)

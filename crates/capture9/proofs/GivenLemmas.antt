@@ -1,9 +1,9 @@
 -- The records that a `Records` has given, as rows that some text can hold.
 use Rattle.std.proofs.Common.{◌≡◌, ◌<◌, ◌-◌, ◌^◌, ◌∙◌, ◌++◌, ℕ, suc, List, [], ◌∷◌, length, Bool, true, false, Some, None, get_or, refl, sym, subst, arith}
 use Rattle.std.specs.Prelude.{IsTrue}
-use Rattle.std.proofs.lemmas.List.{length_push}
-use Rattle.std.proofs.lemmas.List.Elements.{All-nil, All-push}
-use Rattle.std.proofs.lemmas.List.Sorted.{IsNonDecreasingBy-push, IsNonDecreasingBy-short}
+use Rattle.std.proofs.lemmas.List.{length_push, nil_from_length}
+use Rattle.std.proofs.lemmas.List.Elements.{All-push}
+use Rattle.std.proofs.lemmas.List.Sorted.{IsNonDecreasingBy-push}
 use Rattle.capture9.specs.declared.error.CaptureError.{CaptureError}
 use Rattle.capture9.specs.declared.error.CaptureKind.{CaptureKind}
 use Rattle.capture9.specs.declared.line_byte.LineByte.{LineByte}
@@ -22,14 +22,10 @@ pub record AreGiven {R : Type 0} (items : List LineByte) (progress : Progress R)
   pub last_time : progress.last_time ≡ last_time 0 items
 
 pub no_rows-can_be : CanBeRows no_rows
-no_rows-can_be = record { limit = omega arith; in_order = IsNonDecreasingBy-short _ [] (omega arith); in_range = All-nil _; bytes = All-nil _; fault = tt }
+no_rows-can_be = grind arith
 
 pub given-none : {R : Type 0} (progress : Progress R) → progress.given ≡ 0 → progress.last_time ≡ 0 → AreGiven [] progress
-given-none progress given time = record {
-  can_be = no_rows-can_be;
-  given = given;
-  last_time = time;
-}
+given-none progress given time = record { can_be = no_rows-can_be; given = given; last_time = time }
 
 last-push : (before : ℕ) (items : List LineByte) (r : LineByte) → last_time before (items ++ r ∷ []) ≡ r.time_us
 last-push before [] r = refl
@@ -59,10 +55,6 @@ given-more items progress after r h gives = record {
     count : after.given ≡ length (items ++ r ∷ [])
     count = let old = h.given in let new = gives.given in let long = length_push items r in omega arith
 
-nothing : (items : List LineByte) → length items ≡ 0 → items ≡ []
-nothing [] none = refl
-nothing (r ∷ rest) none = absurd (omega arith)
-
 -- a refusal of the text after these records
 pub given-refused : {R : Type 0} (items : List LineByte) (progress after : Progress R) (e : CaptureError) → AreGiven items progress → progress.standing ≡ Reading → GivesRefusal progress e after → IsTrue (is_of_text e.kind)
     → CanBeRows (record { records = items; fault = Some e })
@@ -85,5 +77,5 @@ given-refused items progress after e h reads refusal text = record {
         can-follow e.kind items e.row text at_its_row (omega arith) h.can_be.limit (λ late. let low = refusal.backwards reads late in let time = h.last_time in omega arith)
     by false placed =
         let P : CaptureKind → Type 0 = λ k. CanFollow k items e.row in
-        let none : items ≡ [] = nothing items (sym h.given ∙ sym refusal.given ∙ placed.none_given refl) in
+        let none : items ≡ [] = nil_from_length items (sym h.given ∙ sym refusal.given ∙ placed.none_given refl) in
         subst P (sym (at_its_row.header.1 placed.row)) (none, placed.row)

@@ -1,13 +1,14 @@
 -- What a row is read as, against the rules of a row, each on its own.
-use Rattle.std.proofs.Common.{◌≡◌, ◌<◌, ◌≤◌, ◌+◌, ◌++◌, ℕ, List, [], ◌∷◌, length, All, Bool, true, false, Option, Some, None, Result, Ok, Err, nat_lt, refl, ap, subst, arith}
+use Rattle.std.proofs.Common.{◌≡◌, ◌<◌, ◌≤◌, ◌+◌, ◌++◌, ℕ, List, [], ◌∷◌, length, Bool, true, false, Option, Some, None, Result, Ok, Err, nat_lt, refl, ap, subst, arith}
 use Rattle.std.specs.Prelude.{if◌then◌else◌}
 use Rattle.std.proofs.lemmas.Bool.Decides.{nat_tests}
-use Rattle.std.proofs.lemmas.List.Elements.{All-cons, All-nil}
+use Rattle.std.specs.List.{AllByRecursion}
+use Rattle.std.proofs.lemmas.List.Elements.{All-from_recursion}
 use Rattle.capture9.specs.declared.error.CaptureKind.{CaptureKind}
 use Rattle.capture9.specs.declared.error.CaptureKind.TheVariants as kind
 use Rattle.capture9.specs.declared.line_byte.LineByte.{LineByte}
 use Rattle.capture9.specs.declared.line_byte.Wire.{Wire}
-use Rattle.capture9.specs.Fields.{byte_in, is_header, most_rows, time_in, wire_in}
+use Rattle.capture9.specs.Fields.{byte_in, hex_digit_of, pair_value, is_header, most_rows, time_in, wire_in}
 use Rattle.capture9.specs.RowRules.{AreGood, AreLeft, HasFirstPart, IsFirstOf, RowBreaks, Spell, last_time, row_kinds}
 use Rattle.capture9.specs.Rows.{Rows, fields_record, headed_rows, record_of, row_of, row_then, rows_from}
 
@@ -16,64 +17,16 @@ abbrev pub IsRead : ℕ → ℕ → List (List ℕ) → Result LineByte CaptureK
 IsRead number before fields (Ok r) = Spell fields r × ((k : CaptureKind) → ¬ (RowBreaks k number before fields))
 IsRead number before fields (Err k) = IsFirstOf (λ j. RowBreaks j number before fields) row_kinds k
 
--- one kind more that the row does not break
-one-more : (number before : ℕ) (fields : List (List ℕ)) (k : CaptureKind) (rest : List CaptureKind) → ¬ (RowBreaks k number before fields)
-    → All (λ j. ¬ (RowBreaks j number before fields)) rest → All (λ j. ¬ (RowBreaks j number before fields)) (k ∷ rest)
-one-more number before fields k rest h more = All-cons (λ j. ¬ (RowBreaks j number before fields)) k rest h more
-
-none-yet : (number before : ℕ) (fields : List (List ℕ)) → All (λ j. ¬ (RowBreaks j number before fields)) []
-none-yet number before fields = All-nil _
-
-fields-broken : (number before : ℕ) (fields : List (List ℕ)) → ¬ (most_rows < number) → ¬ (length fields ≡ 3) → IsFirstOf (λ j. RowBreaks j number before fields) row_kinds kind.Fields
-fields-broken number before fields few not_three = record {
-  before = kind.TooMany ∷ [];
-  after = kind.Time ∷ kind.Wire ∷ kind.Byte ∷ kind.Backwards ∷ [];
-  split = refl;
-  holds = not_three;
-  none_before = one-more number before fields kind.TooMany [] few (none-yet number before fields);
-}
+-- the first of the rules that a row breaks, by those before it that it keeps
+first-of : (P : CaptureKind → Type 0) (before after : List CaptureKind) (k : CaptureKind) → AllByRecursion (λ j. ¬ (P j)) before → P k → IsFirstOf P (before ++ k ∷ after) k
+first-of P before after k none holds = record { before = before; after = after; split = refl; holds = holds; none_before = All-from_recursion (λ j. ¬ (P j)) before none }
 
 record-read : (number before : ℕ) (a b c : List ℕ) (time : Option ℕ) (wire : Option Wire) (byte : Option ℕ) → ¬ (most_rows < number)
     → time_in a ≡ time → wire_in b ≡ wire → byte_in c ≡ byte → IsRead number before (a ∷ b ∷ c ∷ []) (record_of before time wire byte)
-record-read number before a b c None wire byte few t w y = record {
-  before = kind.TooMany ∷ kind.Fields ∷ [];
-  after = kind.Wire ∷ kind.Byte ∷ kind.Backwards ∷ [];
-  split = refl;
-  holds = t;
-  none_before = one-more number before fields kind.TooMany (kind.Fields ∷ []) few
-      (one-more number before fields kind.Fields [] (λ h. h refl)
-      (none-yet number before fields));
-}
-  where
-    fields : List (List ℕ)
-    fields = a ∷ b ∷ c ∷ []
-record-read number before a b c (Some time) None byte few t w y = record {
-  before = kind.TooMany ∷ kind.Fields ∷ kind.Time ∷ [];
-  after = kind.Byte ∷ kind.Backwards ∷ [];
-  split = refl;
-  holds = w;
-  none_before = one-more number before fields kind.TooMany (kind.Fields ∷ kind.Time ∷ []) few
-      (one-more number before fields kind.Fields (kind.Time ∷ []) (λ h. h refl)
-      (one-more number before fields kind.Time [] (λ h. cc)
-      (none-yet number before fields)));
-}
-  where
-    fields : List (List ℕ)
-    fields = a ∷ b ∷ c ∷ []
-record-read number before a b c (Some time) (Some wire) None few t w y = record {
-  before = kind.TooMany ∷ kind.Fields ∷ kind.Time ∷ kind.Wire ∷ [];
-  after = kind.Backwards ∷ [];
-  split = refl;
-  holds = y;
-  none_before = one-more number before fields kind.TooMany (kind.Fields ∷ kind.Time ∷ kind.Wire ∷ []) few
-      (one-more number before fields kind.Fields (kind.Time ∷ kind.Wire ∷ []) (λ h. h refl)
-      (one-more number before fields kind.Time (kind.Wire ∷ []) (λ h. cc)
-      (one-more number before fields kind.Wire [] (λ h. cc)
-      (none-yet number before fields))));
-}
-  where
-    fields : List (List ℕ)
-    fields = a ∷ b ∷ c ∷ []
+record-read number before a b c None wire byte few t w y = first-of _ (kind.TooMany ∷ kind.Fields ∷ []) _ kind.Time (few, (λ h. h refl, tt)) t
+record-read number before a b c (Some time) None byte few t w y = first-of _ (kind.TooMany ∷ kind.Fields ∷ kind.Time ∷ []) _ kind.Wire (few, (λ h. h refl, (λ h. cc, tt))) w
+record-read number before a b c (Some time) (Some wire) None few t w y =
+    first-of _ (kind.TooMany ∷ kind.Fields ∷ kind.Time ∷ kind.Wire ∷ []) _ kind.Byte (few, (λ h. h refl, (λ h. cc, (λ h. cc, tt)))) y
 record-read number before a b c (Some time) (Some wire) (Some byte) few t w y = by (nat_lt time before) refl
   where
     fields : List (List ℕ)
@@ -82,47 +35,25 @@ record-read number before a b c (Some time) (Some wire) (Some byte) few t w y = 
     none : ¬ (time < before) → (k : CaptureKind) → ¬ (RowBreaks k number before fields)
     none low kind.TooMany = few
     none low kind.Fields = λ h. h refl
-    none low kind.Time = λ h. cc
-    none low kind.Wire = λ h. cc
-    none low kind.Byte = λ h. cc
     none low kind.Backwards = λ h. let same : Some time ≡ Some h.0 = cc in let one : time ≡ h.0 = cc in let high = h.2 in low (omega arith)
-    none low kind.Header = λ h. h
-    none low kind.Read = λ h. h
-    none low kind.OutOfMemory = λ h. h
+    none low k = λ h. grind arith
 
     by : (backwards : Bool) → nat_lt time before ≡ backwards
         → IsRead number before fields (if backwards then Err kind.Backwards else Ok (record { time_us = time; wire = wire; byte = byte }))
-    by true q = record {
-      before = kind.TooMany ∷ kind.Fields ∷ kind.Time ∷ kind.Wire ∷ kind.Byte ∷ [];
-      after = [];
-      split = refl;
-      holds = (time, t, let low : time < before = grind (arith, nat_tests) in low);
-      none_before = one-more number before fields kind.TooMany (kind.Fields ∷ kind.Time ∷ kind.Wire ∷ kind.Byte ∷ []) few
-          (one-more number before fields kind.Fields (kind.Time ∷ kind.Wire ∷ kind.Byte ∷ []) (λ h. h refl)
-          (one-more number before fields kind.Time (kind.Wire ∷ kind.Byte ∷ []) (λ h. cc)
-          (one-more number before fields kind.Wire (kind.Byte ∷ []) (λ h. cc)
-          (one-more number before fields kind.Byte [] (λ h. cc) (none-yet number before fields)))));
-    }
+    by true q =
+        first-of _ (kind.TooMany ∷ kind.Fields ∷ kind.Time ∷ kind.Wire ∷ kind.Byte ∷ []) _ kind.Backwards (few, (λ h. h refl, (λ h. cc, (λ h. cc, (λ h. cc, tt)))))
+        (time, t, let low : time < before = grind (arith, nat_tests) in low)
     by false q = ((t, w, y), none (λ h. let high : before ≤ time = grind (arith, nat_tests) in omega arith))
 
 fields-read : (number before : ℕ) (fields : List (List ℕ)) → ¬ (most_rows < number) → IsRead number before fields (fields_record before fields)
-fields-read number before [] few = fields-broken number before [] few (λ h. absurd (omega arith))
-fields-read number before (a ∷ []) few = fields-broken number before (a ∷ []) few (λ h. absurd (omega arith))
-fields-read number before (a ∷ b ∷ []) few = fields-broken number before (a ∷ b ∷ []) few (λ h. absurd (omega arith))
 fields-read number before (a ∷ b ∷ c ∷ []) few = record-read number before a b c (time_in a) (wire_in b) (byte_in c) few refl refl refl
-fields-read number before (a ∷ b ∷ c ∷ d ∷ rest) few = fields-broken number before (a ∷ b ∷ c ∷ d ∷ rest) few (λ h. absurd (omega arith))
+fields-read number before fields few = first-of _ (kind.TooMany ∷ []) _ kind.Fields (few, tt) (λ h. absurd (omega arith))
 
 pub row-read : (number before : ℕ) (fields : List (List ℕ)) → IsRead number before fields (row_of number before fields)
 row-read number before fields = by (nat_lt most_rows number) refl
   where
     by : (many : Bool) → nat_lt most_rows number ≡ many → IsRead number before fields (if many then Err kind.TooMany else fields_record before fields)
-    by true q = record {
-      before = [];
-      after = kind.Fields ∷ kind.Time ∷ kind.Wire ∷ kind.Byte ∷ kind.Backwards ∷ [];
-      split = refl;
-      holds = let over : most_rows < number = grind (arith, nat_tests) in over;
-      none_before = none-yet number before fields;
-    }
+    by true q = first-of _ [] _ kind.TooMany tt (let over : most_rows < number = grind (arith, nat_tests) in over)
     by false q = fields-read number before fields (λ h. let within : number ≤ most_rows = grind (arith, nat_tests) in omega arith)
 
 -- the same of rows from a number on, after a row of this time
@@ -164,3 +95,36 @@ pub first-part : (header : List (List ℕ)) (rows records : List (List (List ℕ
 first-part header rows records same good =
     let m = part-from 1 0 rows in
     rw (same, good) (record { good = m.good; left = m.left; split = m.split; are_good = m.are_good; are_left = m.are_left })
+
+-- ---- what follows of a row that was read, and of one that comes too early
+
+hex-lt : (c d : ℕ) → hex_digit_of c ≡ Some d → d < 16
+hex-lt c d e = grind (arith, nat_tests)
+
+pair-lt : (high low : Option ℕ) (b : ℕ) → ((d : ℕ) → high ≡ Some d → d < 16) → ((d : ℕ) → low ≡ Some d → d < 16) → pair_value high low ≡ Some b → b < 256
+pair-lt high low b h l e = grind arith
+
+byte-lt : (field : List ℕ) (b : ℕ) → byte_in field ≡ Some b → b < 256
+byte-lt (x ∷ y ∷ []) b e = pair-lt (hex_digit_of x) (hex_digit_of y) b (hex-lt x) (hex-lt y) e
+byte-lt field b e = cc
+
+spell-byte : (fields : List (List ℕ)) (r : LineByte) → Spell fields r → r.byte < 256
+spell-byte (a ∷ b ∷ c ∷ []) r h = byte-lt c r.byte h.2
+spell-byte fields r h = absurd h
+
+earlier : (fields : List (List ℕ)) (number before : ℕ) → RowBreaks kind.Backwards number before fields → 0 < before
+earlier (a ∷ b ∷ c ∷ []) number before h = let low = h.2 in omega arith
+earlier fields number before h = absurd h
+
+-- the byte of a record that was read
+pub row-byte : (number before : ℕ) (fields : List (List ℕ)) (r : LineByte) → row_of number before fields ≡ Ok r → r.byte < 256
+row-byte number before fields r e =
+    let P : Result LineByte CaptureKind → Type 0 = IsRead number before fields in
+    spell-byte fields r (subst P e (row-read number before fields)).0
+
+-- a time below the one before comes only after a time above 0
+pub row-backwards : (number before : ℕ) (fields : List (List ℕ)) (k : CaptureKind) → row_of number before fields ≡ Err k → k ≡ kind.Backwards → 0 < before
+row-backwards number before fields k e is =
+    let P : Result LineByte CaptureKind → Type 0 = IsRead number before fields in
+    let Q : CaptureKind → Type 0 = λ j. RowBreaks j number before fields in
+    earlier fields number before (subst Q is (subst P e (row-read number before fields)).holds)

@@ -1,5 +1,5 @@
 -- A text for rows that some text can hold.
-use Rattle.std.proofs.Common.{◌≡◌, ◌≢◌, ◌<◌, ◌≤◌, ◌+◌, ◌-◌, ◌*◌, ◌/◌, ◌%◌, ◌^◌, ◌∙◌, ◌++◌, ℕ, zero, suc, List, [], ◌∷◌, length, All, map, Bool, true, false, Option, Some, None, nat_lt, get_or, Ok, refl, ap, arith, append-nil, codes, pow-suc, div-lt_iff_lt-mul, mod-lt, div-add-mod', lit<}
+use Rattle.std.proofs.Common.{◌≡◌, ◌≢◌, ◌<◌, ◌≤◌, ◌+◌, ◌-◌, ◌*◌, ◌/◌, ◌%◌, ◌^◌, ◌∙◌, ◌++◌, ℕ, zero, suc, List, [], ◌∷◌, length, All, map, true, false, Option, Some, None, nat_lt, get_or, Ok, refl, ap, arith, append-nil, codes, pow-suc, div-lt_iff_lt-mul, mod-lt, div-add-mod', lit<}
 use Rattle.std.specs.Prelude.{if◌then◌else◌}
 use Rattle.std.specs.List.Sorted.{IsNonDecreasingBy}
 use Rattle.std.specs.Char.{digit_value, is_ascii_digit}
@@ -69,14 +69,7 @@ hex d = if nat_lt d 10 then 48 + d else 55 + d
 
 hex-read : (d : ℕ) → d < 16 → hex_digit_of (hex d) ≡ Some d
 unfolding hex
-hex-read d h = by (nat_lt d 10) refl
-  where
-    value : (c : ℕ) → digit_value c ≡ d → hex_digit_of c ≡ Some d
-    value c e = rw e (let low : nat_lt d 16 ≡ true = grind (arith, nat_tests) in rw low refl)
-
-    by : (b : Bool) → nat_lt d 10 ≡ b → hex_digit_of (if b then 48 + d else 55 + d) ≡ Some d
-    by true q = value (48 + d) (grind (arith, nat_tests))
-    by false q = value (55 + d) (grind (arith, nat_tests))
+hex-read d h = grind (arith, nat_tests)
 
 byte-read : (b : ℕ) → b < 256 → byte_in (hex (b / 16) ∷ hex (b % 16) ∷ []) ≡ Some b
 byte-read b h =
@@ -92,17 +85,15 @@ letter Deck = codes "D"
 
 letter-read : (w : Wire) → wire_in (letter w) ≡ Some w
 unfolding letter
-letter-read Controller = refl
-letter-read Deck = refl
+letter-read w = grind arith
 
 abbrev spelled : LineByte → List (List ℕ)
 spelled r = digits 15 r.time_us ∷ letter r.wire ∷ (hex (r.byte / 16) ∷ hex (r.byte % 16) ∷ []) ∷ []
 
 spelled-read : (number before : ℕ) (r : LineByte) → number ≤ most_rows → before ≤ r.time_us → r.time_us < 10 ^ 15 → r.byte < 256 → row_of number before (spelled r) ≡ Ok r
 spelled-read number before r within order range byte =
-    let few : nat_lt most_rows number ≡ false = grind (arith, nat_tests) in
-    let late : nat_lt r.time_us before ≡ false = grind (arith, nat_tests) in
-    rw (few, time-read r.time_us range, letter-read r.wire, byte-read r.byte byte, late) refl
+    let few : (nat_lt most_rows number ≡ false) × (nat_lt r.time_us before ≡ false) = grind (arith, nat_tests) in
+    rw (few.0, time-read r.time_us range, letter-read r.wire, byte-read r.byte byte, few.1) refl
 
 -- a row that breaks this rule first
 abbrev bad_fields : CaptureKind → List (List ℕ)
@@ -110,11 +101,7 @@ bad_fields kind.Time = [] ∷ [] ∷ [] ∷ []
 bad_fields kind.Wire = codes "0" ∷ [] ∷ [] ∷ []
 bad_fields kind.Byte = codes "0" ∷ codes "C" ∷ [] ∷ []
 bad_fields kind.Backwards = codes "0" ∷ codes "C" ∷ codes "00" ∷ []
-bad_fields kind.Header = [] ∷ []
-bad_fields kind.Fields = [] ∷ []
-bad_fields kind.TooMany = [] ∷ []
-bad_fields kind.Read = [] ∷ []
-bad_fields kind.OutOfMemory = [] ∷ []
+bad_fields _ = [] ∷ []
 
 -- the rows of these records, and then others
 rows_then : List LineByte → List (List (List ℕ)) → List (List (List ℕ))
@@ -176,22 +163,16 @@ next-place items row place = omega arith
 bad-read : (k : CaptureKind) (items : List LineByte) (row : ℕ) → CanFollow k items row → k ≢ kind.Header
     → rows_from (1 + length items) (last_time 0 items) (map read_back (bad_fields k ∷ [])) ≡ bad_row k row
 bad-read kind.Header items row follows other = absurd (other refl)
-bad-read kind.Fields items row follows other = rw (next-few items row follows, next-place items row follows.0) refl
-bad-read kind.Time items row follows other = rw (next-few items row follows, next-place items row follows.0) refl
-bad-read kind.Wire items row follows other = rw (next-few items row follows, next-place items row follows.0) refl
-bad-read kind.Byte items row follows other = rw (next-few items row follows, next-place items row follows.0) refl
 bad-read kind.Backwards items row follows other =
     let late = follows.1 in
     let backwards : nat_lt 0 (last_time 0 items) ≡ true = grind (arith, nat_tests) in
     rw (next-few items row follows.0, backwards, next-place items row follows.0.0) refl
 bad-read kind.TooMany items row follows other =
-    let full = follows.0 in
-    let last = follows.1 in
-    let many : nat_lt most_rows (1 + length items) ≡ true = let high : most_rows < 1 + length items = omega arith in grind (arith, nat_tests) in
-    let place : 1 + length items ≡ row = omega arith in
-    rw (many, place) refl
+    let many : (nat_lt most_rows (1 + length items) ≡ true) × (1 + length items ≡ row) = grind (arith, nat_tests) in
+    rw (many.0, many.1) refl
 bad-read kind.Read items row follows other = absurd follows
 bad-read kind.OutOfMemory items row follows other = absurd follows
+bad-read k items row follows other = rw (next-few items row follows, next-place items row follows.0) refl
 
 -- a text of these records and then others
 text-then : (items : List LineByte) (rest : List (List (List ℕ))) (tail : Rows) (fault : Option CaptureError) → CanBeRows (record { records = items; fault = fault })
@@ -219,14 +200,7 @@ text-of items (Some e) h = by e.kind items e.row h
     by : (k : CaptureKind) (items : List LineByte) (row : ℕ) → (let fault : CaptureError = record { kind = k; row = row } in CanBeRows (record { records = items; fault = Some fault }))
         → (text : List ℕ) × (rows_of text ≡ record { records = items; fault = Some (record { kind = k; row = row }) })
     by kind.Header items row h = let follows = h.fault in ([], rw (follows.0, follows.1) empty-text)
-    by kind.Fields items row h = text-faulty kind.Fields items row h (λ e. cc)
-    by kind.Time items row h = text-faulty kind.Time items row h (λ e. cc)
-    by kind.Wire items row h = text-faulty kind.Wire items row h (λ e. cc)
-    by kind.Byte items row h = text-faulty kind.Byte items row h (λ e. cc)
-    by kind.Backwards items row h = text-faulty kind.Backwards items row h (λ e. cc)
-    by kind.TooMany items row h = text-faulty kind.TooMany items row h (λ e. cc)
-    by kind.Read items row h = absurd h.fault
-    by kind.OutOfMemory items row h = absurd h.fault
+    by k items row h = text-faulty k items row h (λ e. cc)
 
 pub some-text : (rows : Rows) → CanBeRows rows → IsOfSomeText rows
 some-text rows h = text-of rows.records rows.fault h

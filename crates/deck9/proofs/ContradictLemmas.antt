@@ -1,6 +1,5 @@
 -- Runs that believe some replies.
-use Rattle.std.proofs.Common.{ℕ, ◌≡◌, ◌↔◌, ◌+◌, ◌<◌, inl, inr, Bool, true, false, List, [], ◌∷◌, ◌++◌, length, refl, sym, ap, ◌∙◌, subst, arith}
-use Rattle.std.proofs.lemmas.Bool.{false≢true}
+use Rattle.std.proofs.Common.{ℕ, ◌≡◌, ◌↔◌, ◌+◌, ◌<◌, inl, inr, Bool, true, false, List, [], ◌∷◌, ◌++◌, length, refl, ap, ◌∙◌, subst, arith}
 use Rattle.std.proofs.lemmas.List.Elements.{All-head, All-tail}
 use Rattle.std.specs.List.{All}
 use Rattle.block9.specs.declared.block.Block.{Block}
@@ -15,7 +14,7 @@ use Rattle.deck9.specs.Effect.{effect_of}
 use Rattle.deck9.specs.Laws.{AreAnswered, IsRightReply, MayReply, SetsInDay}
 use Rattle.deck9.specs.Run.{HasRun, IsRunFrom}
 use Rattle.deck9.specs.State.{IsFirst}
-use Rattle.deck9.specs.Step.{Step, done, ignored, refused}
+use Rattle.deck9.specs.Step.{Step, done, refused}
 use Rattle.deck9.proofs.ReplyLemmas.{block}
 use Rattle.deck9.proofs.RestLemmas.{first_does}
 use Rattle.deck9.proofs.RunSearch.{first_drifts}
@@ -23,19 +22,15 @@ use Rattle.deck9.proofs.RunSearch.{first_drifts}
 -- ---- one command
 
 step_passes : (h : Hands) (c : Command) (reply : Block) (s t : State) → Step h c reply s t → CanPass h c s t
-step_passes h c reply s t (refused nak same) = inl same
-step_passes h c reply s t (done other shown does) = inr does
-step_passes h c reply s t (ignored other shown may local same) = inl same
+step_passes h c reply s t step = grind arith
 
 abbrev SomeStep : Hands → Command → State → State → Type 0
 SomeStep h c s t = (reply : Block) × IsRightReply c reply × Step h c reply s t
 
 by_nak : (h : Hands) (c : Command) (s t : State) → t ≡ s → SomeStep h c s t
 unfolding fits is_reply_time_valid
-by_nak h (command.CurrentTimeSense selector) s t same =
-    (block 1 0x12 (0 ∷ []), record { block = record { group = omega arith; data_bytes = omega arith }; kind = refl; valid_time = refl }, refused refl same)
 by_nak h c s t same =
-    (block 1 0x12 (0 ∷ []), record { block = record { group = omega arith; data_bytes = omega arith }; kind = refl; valid_time = refl }, refused refl same)
+    (block 1 0x12 (0 ∷ []), record { block = record { group = omega arith; data_bytes = omega arith }; kind = grind arith; valid_time = grind arith }, refused refl same)
 
 pub pass_steps : (h : Hands) (c : Command) (s t : State) → CanPass h c s t → SomeStep h c s t
 unfolding fits is_reply_time_valid
@@ -56,32 +51,26 @@ some_reply h c s t = (pass_steps h c s t, λ w. step_passes h c w.0 s t w.2)
 -- ---- whatever else was answered
 
 answered : (h : Hands) (b : Bool) (e : Exchange) (s t : State) → MayDo h b e s t → (reply : Block) × MayReply b e reply × Step h e.command reply s t
-answered h true e s t step = (e.reply, refl, step)
-answered h false e s t passes = pass_steps h e.command s t passes
+answered h b e s t does = grind (arith, pass_steps)
 
 believed : (h : Hands) (b : Bool) (e : Exchange) (reply : Block) (s t : State) → MayReply b e reply → Step h e.command reply s t → MayDo h b e s t
-believed h true e reply s t same step = subst (λ r. Step h e.command r s t) same step
-believed h false e reply s t right step = step_passes h e.command reply s t step
+believed h b e reply s t right step = grind (arith, step_passes)
 
 all_answered : (h : Hands) (b : ℕ → Bool) (es : List Exchange) (s : State) (ts : List State) → IsBelievingFrom h b s es ts
     → (fs : List Exchange) × AreAnswered b es fs × IsRunFrom h s fs ts
 all_answered h b [] s [] run = ([], tt, tt)
-all_answered h b [] s (t ∷ ts) run = absurd run
-all_answered h b (e ∷ es) s [] run = absurd run
 all_answered h b (e ∷ es) s (t ∷ ts) (d, drift, does, run) =
     let one = answered h (b 0) e d t does in
     let rest = all_answered h (behind_first b) es t ts run in
     (record e { reply = one.0 } ∷ rest.0, (one.0, one.1, refl, rest.1), ((d, drift, one.2), rest.2))
+all_answered h b es s ts run = absurd run
 
 all_believed : (h : Hands) (b : ℕ → Bool) (es fs : List Exchange) (s : State) (ts : List State) → AreAnswered b es fs → IsRunFrom h s fs ts → IsBelievingFrom h b s es ts
 all_believed h b [] [] s [] same run = tt
-all_believed h b [] [] s (t ∷ ts) same run = absurd run
-all_believed h b [] (f ∷ fs) s ts same run = absurd same
-all_believed h b (e ∷ es) [] s ts same run = absurd same
-all_believed h b (e ∷ es) (f ∷ fs) s [] same run = absurd run
 all_believed h b (e ∷ es) (f ∷ fs) s (t ∷ ts) (reply, may, made, same) run =
     let step = subst (λ (g : Exchange). Step h g.command g.reply run.0.0 t) made run.0.2 in
     (run.0.0, run.0.1, believed h (b 0) e reply run.0.0 t may step, all_believed h (behind_first b) es fs t ts same run.1)
+all_believed h b es fs s ts same run = grind arith
 
 pub whatever_else : (h : Hands) (b : ℕ → Bool) (es : List Exchange) → HasBelieving h b es ↔ ((fs : List Exchange) × AreAnswered b es fs × HasRun h fs)
 whatever_else h b es = (
@@ -93,15 +82,13 @@ whatever_else h b es = (
 
 all_is_run : (h : Hands) (es : List Exchange) (s : State) (ts : List State) → IsBelievingFrom h (λ k. true) s es ts → IsRunFrom h s es ts
 all_is_run h [] s [] run = tt
-all_is_run h [] s (t ∷ ts) run = absurd run
-all_is_run h (e ∷ es) s [] run = absurd run
 all_is_run h (e ∷ es) s (t ∷ ts) (d, drift, step, run) = ((d, drift, step), all_is_run h es t ts run)
+all_is_run h es s ts run = absurd run
 
 run_is_all : (h : Hands) (es : List Exchange) (s : State) (ts : List State) → IsRunFrom h s es ts → IsBelievingFrom h (λ k. true) s es ts
 run_is_all h [] s [] run = tt
-run_is_all h [] s (t ∷ ts) run = absurd run
-run_is_all h (e ∷ es) s [] run = absurd run
 run_is_all h (e ∷ es) s (t ∷ ts) ((d, drift, step), run) = (d, drift, step, run_is_all h es t ts run)
+run_is_all h es s ts run = absurd run
 
 pub believing_all : (h : Hands) (es : List Exchange) → HasBelieving h (λ k. true) es ↔ HasRun h es
 believing_all h es = (
@@ -110,18 +97,14 @@ believing_all h es = (
 )
 
 does_fewer : (h : Hands) (more fewer : Bool) (e : Exchange) (s t : State) → (fewer ≡ true → more ≡ true) → MayDo h more e s t → MayDo h fewer e s t
-does_fewer h true true e s t le does = does
-does_fewer h true false e s t le does = step_passes h e.command e.reply s t does
-does_fewer h false true e s t le does = absurd (false≢true (le refl))
-does_fewer h false false e s t le does = does
+does_fewer h more fewer e s t le does = grind (arith, step_passes)
 
 runs_fewer : (h : Hands) (more fewer : ℕ → Bool) (es : List Exchange) (s : State) (ts : List State) → ((k : ℕ) → fewer k ≡ true → more k ≡ true)
     → IsBelievingFrom h more s es ts → IsBelievingFrom h fewer s es ts
 runs_fewer h more fewer [] s [] le run = tt
-runs_fewer h more fewer [] s (t ∷ ts) le run = absurd run
-runs_fewer h more fewer (e ∷ es) s [] le run = absurd run
 runs_fewer h more fewer (e ∷ es) s (t ∷ ts) le (d, drift, does, run) =
     (d, drift, does_fewer h (more 0) (fewer 0) e d t (le 0) does, runs_fewer h (behind_first more) (behind_first fewer) es t ts (λ k. le (k + 1)) run)
+runs_fewer h more fewer es s ts le run = absurd run
 
 pub believing_fewer : (h : Hands) (more fewer : ℕ → Bool) (es : List Exchange) → ((k : ℕ) → fewer k ≡ true → more k ≡ true) → HasBelieving h more es → HasBelieving h fewer es
 believing_fewer h more fewer es le w = record { first = w.first; is_first = w.is_first; after = w.after; is_run = runs_fewer h more fewer es w.first w.after le w.is_run }
@@ -130,16 +113,13 @@ believing_fewer h more fewer es le w = record { first = w.first; is_first = w.is
 
 -- no passed command leads out of the first states
 first_passes : (h : Hands) (e : Exchange) (s t : State) → SetsInDay e → IsFirst h s → CanPass h e.command s t → IsFirst h t
-first_passes h e s t sets first (inl same) = subst (IsFirst h) (sym same) first
-first_passes h e s t sets first (inr does) = first_does h (effect_of e.command) s t sets first does
+first_passes h e s t sets first passes = let does = first_does h (effect_of e.command) s t sets first in grind arith
 
 pass_of : (h : Hands) (b : Bool) (e : Exchange) (s t : State) → b ≡ false → MayDo h b e s t → CanPass h e.command s t
-pass_of h true e s t none does = absurd (false≢true (sym none))
-pass_of h false e s t none does = does
+pass_of h b e s t none does = grind arith
 
 keeps : (h : Hands) (b : Bool) (e : Exchange) (s : State) → b ≡ false → MayDo h b e s s
-keeps h true e s none = absurd (false≢true (sym none))
-keeps h false e s none = inl refl
+keeps h b e s none = grind arith
 
 rest_of : (h : Hands) (b : ℕ → Bool) (es fs : List Exchange) (s : State) (ts : List State) → All SetsInDay es → ((k : ℕ) → k < length es → b k ≡ false) → IsFirst h s
     → IsBelievingFrom h b s (es ++ fs) ts → HasBelieving h (λ k. b (length es + k)) fs

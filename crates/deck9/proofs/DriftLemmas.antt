@@ -1,51 +1,29 @@
 -- A drift reaches four pairs.
-use Rattle.std.proofs.Common.{◌≡◌, ◌⊎◌, inl, inr, true, List, [], ◌∷◌, refl, sym, ap, ◌∙◌, subst}
+use Rattle.std.proofs.Common.{arith, ◌≡◌, ◌⊎◌, inl, inr, true, List, [], ◌∷◌, refl, ap, ◌∙◌, subst}
 use Rattle.deck9.specs.Drift.{Drift, DriftsTo, Move, Moves, PairReaches, arrives, halts, handled, passes}
 use Rattle.deck9.specs.Mode.{is_one_of, on_the_way}
-use Rattle.deck9.specs.State.{IsEntry, IsState, entry_of}
+use Rattle.deck9.specs.State.{IsState}
 use Rattle.deck9.specs.declared.mode.Mode.{Mode}
-use Rattle.deck9.specs.declared.mode.Mode.TheVariants.{Stop, Play, Rec, FastForward, Rewind, Shuttle, Jog, Var, Cued, Eject}
+use Rattle.deck9.specs.declared.mode.Mode.TheVariants.{Stop}
 use Rattle.deck9.specs.declared.state.State.{State}
-use Rattle.deck9.specs.declared.state.Register.{Register}
-use Rattle.deck9.specs.declared.state.Register.TheVariants.{RegIn, RegOut, RegAudioIn, RegAudioOut}
 use Rattle.deck9.specs.declared.state.Hands.{Hands}
 
 -- the four pairs, with one move before
 first_pairs : (g m n g' m' : Mode) → ((n ≡ g) ⊎ (is_one_of (on_the_way g) n ≡ true)) → PairReaches g n g' m' → PairReaches g m g' m'
-first_pairs g m n g' m' step (inr stop) = inr stop
-first_pairs g m n g' m' step (inl (same, inl stays)) = inl (same, elim step [ inl e ↦ inr (inl (stays ∙ e)) | inr e ↦ inr (inr (rw stays e)) ])
-first_pairs g m n g' m' step (inl (same, inr rest)) = inl (same, inr rest)
+first_pairs g m n g' m' step reach = grind arith
 
 stop_way : (m : Mode) → is_one_of (on_the_way Stop) m ≡ true → m ≡ Stop
-stop_way Stop h = refl
-stop_way Play h = cc
-stop_way Rec h = cc
-stop_way FastForward h = cc
-stop_way Rewind h = cc
-stop_way Shuttle h = cc
-stop_way Jog h = cc
-stop_way Var h = cc
-stop_way Cued h = cc
-stop_way Eject h = cc
+stop_way m h = grind arith
 
 from_stop : (g m g' m' : Mode) → PairReaches Stop Stop g' m' → PairReaches g m g' m'
-from_stop g m g' m' (inr stop) = inr stop
-from_stop g m g' m' (inl (same, inl e)) = inr (same, e)
-from_stop g m g' m' (inl (same, inr (inl e))) = inr (same, e)
-from_stop g m g' m' (inl (same, inr (inr e))) = inr (same, stop_way m' e)
+from_stop g m g' m' reach = grind (arith, stop_way)
 
 carry : (h : Hands) (s t : State) (n : Mode) → ((n ≡ s.goal) ⊎ (is_one_of (on_the_way s.goal) n ≡ true)) → DriftsTo h (record s { shown = n }) t → DriftsTo h s t
 carry h s t n step (inl p) = inl (p.0, first_pairs s.goal s.shown n t.goal t.shown step p.1)
 carry h s t n step (inr p) = inr p
 
 pub same_entries : (u t : State) → t ≡ record u { goal = t.goal; shown = t.shown } → IsState u → IsState t
-same_entries u t e h = λ r. subst (λ (v : State). IsEntry (entry_of r v)) (sym e) (at r)
-  where
-    at : (r : Register) → IsEntry (entry_of r (record u { goal = t.goal; shown = t.shown }))
-    at RegIn = h RegIn
-    at RegOut = h RegOut
-    at RegAudioIn = h RegAudioIn
-    at RegAudioOut = h RegAudioOut
+same_entries u t e h = λ r. let before = h r in grind arith
 
 -- one move before a drift
 before : (h : Hands) (s u t : State) → Move h s u → DriftsTo h u t → DriftsTo h s t

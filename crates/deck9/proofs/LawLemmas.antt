@@ -1,6 +1,5 @@
 -- What the definitions of drifts, steps and runs come to.
-use Rattle.std.proofs.Common.{◌≡◌, ◌↔◌, inl, inr, ◌==◌, if◌then◌else◌, Bool, true, false, List, [], ◌∷◌, ◌++◌, refl, sym, ap, ◌∙◌, subst}
-use Rattle.std.proofs.lemmas.Bool.{false≢true}
+use Rattle.std.proofs.Common.{arith, ◌≡◌, ◌↔◌, inl, inr, ◌==◌, if◌then◌else◌, Bool, true, false, List, [], ◌∷◌, ◌++◌, refl, sym, ap, subst}
 use Rattle.block9.specs.declared.block.Block.{Block}
 use Rattle.block9.specs.declared.command.Command.{Command}
 use Rattle.block9.specs.declared.command.Command.TheVariants as command
@@ -9,19 +8,17 @@ use Rattle.block9.specs.Command.{is_nak}
 use Rattle.deck9.specs.declared.effect.Effect.{Effect}
 use Rattle.deck9.specs.declared.effect.Effect.TheVariants as effect
 use Rattle.deck9.specs.declared.sense.Sense.{Sense}
-use Rattle.deck9.specs.declared.sense.Sense.TheVariants as sense
 use Rattle.deck9.specs.declared.state.Entry.{Entry}
 use Rattle.deck9.specs.declared.state.Hands.{Hands}
 use Rattle.deck9.specs.declared.state.Hands.TheVariants as hands
 use Rattle.deck9.specs.declared.state.Register.{Register}
-use Rattle.deck9.specs.declared.state.Register.TheVariants.{RegIn, RegOut, RegAudioIn, RegAudioOut}
 use Rattle.deck9.specs.declared.state.State.{State}
 use Rattle.deck9.specs.Drift.{Drift, Moves}
-use Rattle.deck9.specs.Effect.{Becomes, Does, effect_of}
+use Rattle.deck9.specs.Effect.{Does, effect_of}
 use Rattle.deck9.specs.Laws.{is_of_goal_or_register}
 use Rattle.deck9.specs.Local.{may_ignore}
 use Rattle.deck9.specs.Run.{HasRun, IsRunFrom}
-use Rattle.deck9.specs.Shows.{Agrees, Tells, sense_of}
+use Rattle.deck9.specs.Shows.{Agrees, sense_of}
 use Rattle.deck9.specs.State.{IsEntry, IsState, with_entry}
 use Rattle.deck9.specs.Step.{Exchanges, Step, done, ignored, refused}
 use Rattle.deck9.proofs.DriftLemmas.{drift_from_pairs, pairs_from_drift}
@@ -39,12 +36,7 @@ drift_join h s t u d e = (d.0 ++ e.0, moves_join h d.0 e.0 s t u d.1 e.1)
 -- ---- a NAK
 
 pub nak_stays : (h : Hands) (c : Command) (reply : Block) (s t : State) → is_nak reply ≡ true → Step h c reply s t ↔ (t ≡ s)
-nak_stays h c reply s t nak = (stays, refused nak)
-  where
-    stays : Step h c reply s t → t ≡ s
-    stays (refused n same) = same
-    stays (done other shown does) = absurd (false≢true (sym other ∙ nak))
-    stays (ignored other shown may local same) = same
+nak_stays h c reply s t nak = (λ step. grind arith, refused nak)
 
 -- ---- hands: the same states with the panel on or off, as LOCAL ENABLE and DISABLE leave it
 
@@ -52,31 +44,17 @@ abbrev with_panel : Bool → State → State
 with_panel on s = record s { panel = on }
 
 put_beside : (r : Register) (e : Entry) (on : Bool) (s : State) → with_panel on (with_entry r e s) ≡ with_entry r e (with_panel on s)
-put_beside RegIn e on s = refl
-put_beside RegOut e on s = refl
-put_beside RegAudioIn e on s = refl
-put_beside RegAudioOut e on s = refl
+put_beside r e on s = grind arith
 
 pub valid_beside : (on : Bool) (s : State) → IsState s → IsState (with_panel on s)
 valid_beside on s valid = λ r. subst IsEntry (sym (read_panel r s on)) (valid r)
 
 does_beside : (f : Effect) (on : Bool) (s t : State) → Does hands.None f s t → (off : Bool) × Does hands.Allowed f (with_panel on s) (with_panel off t)
-does_beside effect.Nothing on s t same = (on, ap (with_panel on) same)
-does_beside (effect.Go g) on s t goes = (on, ap (with_panel on) goes)
-does_beside effect.KeepOrStop on s t (inl same) = (on, inl (ap (with_panel on) same))
-does_beside effect.KeepOrStop on s t (inr goes) = (on, inr (ap (with_panel on) goes))
-does_beside (effect.Change r c) on s t (e, becomes, put) =
-    (on, (e, subst (λ x. Becomes c x e) (sym (read_panel r s on)) becomes, ap (with_panel on) put ∙ put_beside r e on s))
 does_beside (effect.Panel new) on s t same = (new, ap (with_panel new) same)
-does_beside effect.ForgetTape on s t (valid, local, panel) = (on, (valid_beside on t valid, local, refl))
-does_beside effect.ForgetRegisters on s t (valid, goal, shown, local, panel) = (on, (valid_beside on t valid, goal, shown, local, refl))
-does_beside effect.ForgetAll on s t (valid, panel) = (on, valid_beside on t valid)
+does_beside f on s t does = (on, grind (arith, read_panel, put_beside, valid_beside))
 
 agrees_beside : (asked : Sense) (on : Bool) (s : State) (reply : Block) → Agrees asked s reply → Agrees asked (with_panel on s) reply
-agrees_beside (sense.Register r) on s reply tells = subst (λ e. Tells e reply.bytes.items) (sym (read_panel r s on)) tells
-agrees_beside (sense.Status asked) on s reply shows =
-    record { local = shows.local; shown = shows.shown; ins = shows.ins; outs = shows.outs; ains = shows.ains; aouts = shows.aouts }
-agrees_beside sense.Nothing on s reply nothing = tt
+agrees_beside asked on s reply shows = grind (arith, read_panel)
 
 step_beside : (c : Command) (reply : Block) (on : Bool) (s t : State) → Step hands.None c reply s t → (off : Bool) × Step hands.Allowed c reply (with_panel on s) (with_panel off t)
 step_beside c reply on s t (refused nak same) = (on, refused nak (ap (with_panel on) same))
@@ -97,12 +75,11 @@ exchange_beside c reply on s t (d, drift, step) =
 
 run_beside : (es : List Exchange) (on : Bool) (s : State) (ts : List State) → IsRunFrom hands.None s es ts → (us : List State) × IsRunFrom hands.Allowed (with_panel on s) es us
 run_beside [] on s [] r = ([], tt)
-run_beside [] on s (t ∷ ts) r = absurd r
-run_beside (e ∷ es) on s [] r = absurd r
 run_beside (e ∷ es) on s (t ∷ ts) r =
     let first = exchange_beside e.command e.reply on s t r.0 in
     let rest = run_beside es first.0 t ts r.1 in
     (with_panel first.0 t ∷ rest.0, (first.1, rest.1))
+run_beside es on s ts r = absurd r
 
 pub run_with_hands : (es : List Exchange) → HasRun hands.None es → HasRun hands.Allowed es
 run_with_hands es r =
@@ -113,10 +90,7 @@ run_with_hands es r =
 
 -- whatever its group, what is not listed makes the deck forget, and is not left undone
 forgets_all : (tape registers nothing : Bool) → is_of_goal_or_register (if tape then effect.ForgetTape else (if registers then effect.ForgetRegisters else (if nothing then effect.Nothing else effect.ForgetAll))) ≡ false
-forgets_all true registers nothing = refl
-forgets_all false true nothing = refl
-forgets_all false false true = refl
-forgets_all false false false = refl
+forgets_all tape registers nothing = grind arith
 
 pub ignored_by_effect : (c : Command) → may_ignore c ≡ is_of_goal_or_register (effect_of c)
 ignored_by_effect (command.Unlisted group) = sym (forgets_all (group == 2) (group == 4) (group == 6))

@@ -1,6 +1,7 @@
 -- Modes and their places.
-use Rattle.std.proofs.Common.{◌≡◌, ℕ, zero, suc, ◌<◌, ◌==◌, if◌then◌else◌, true, refl, sym, ap, ◌∙◌, arith}
+use Rattle.std.proofs.Common.{◌≡◌, ℕ, ◌<◌, ◌==◌, if◌then◌else◌, true, sym, ap, ◌∙◌, arith}
 use Rattle.std.proofs.lemmas.Bool.{eqb-true}
+use Rattle.std.proofs.lemmas.Bool.Decides.{nat_tests}
 use Rattle.deck9.specs.Mode.{index_of, is_mode}
 use Rattle.deck9.specs.declared.mode.Mode.{Mode}
 use Rattle.deck9.specs.declared.mode.Mode.TheVariants.{Stop, Play, Rec, FastForward, Rewind, Shuttle, Jog, Var, Cued, Eject}
@@ -9,29 +10,10 @@ abbrev pub mode_of : ℕ → Mode
 mode_of n = if n == 0 then Stop else (if n == 1 then Play else (if n == 2 then Rec else (if n == 3 then FastForward else (if n == 4 then Rewind else (if n == 5 then Shuttle else (if n == 6 then Jog else (if n == 7 then Var else (if n == 8 then Cued else (Eject)))))))))
 
 pub mode_of-index : (m : Mode) → mode_of (index_of m) ≡ m
-mode_of-index Stop = refl
-mode_of-index Play = refl
-mode_of-index Rec = refl
-mode_of-index FastForward = refl
-mode_of-index Rewind = refl
-mode_of-index Shuttle = refl
-mode_of-index Jog = refl
-mode_of-index Var = refl
-mode_of-index Cued = refl
-mode_of-index Eject = refl
+mode_of-index m = grind (arith, nat_tests)
 
 pub index-mode_of : (n : ℕ) → n < 10 → index_of (mode_of n) ≡ n
-index-mode_of zero h = refl
-index-mode_of (suc zero) h = refl
-index-mode_of (suc (suc zero)) h = refl
-index-mode_of (suc (suc (suc zero))) h = refl
-index-mode_of (suc (suc (suc (suc zero)))) h = refl
-index-mode_of (suc (suc (suc (suc (suc zero))))) h = refl
-index-mode_of (suc (suc (suc (suc (suc (suc zero)))))) h = refl
-index-mode_of (suc (suc (suc (suc (suc (suc (suc zero))))))) h = refl
-index-mode_of (suc (suc (suc (suc (suc (suc (suc (suc zero)))))))) h = refl
-index-mode_of (suc (suc (suc (suc (suc (suc (suc (suc (suc zero))))))))) h = refl
-index-mode_of (suc (suc (suc (suc (suc (suc (suc (suc (suc (suc r)))))))))) h = absurd (omega (arith, h))
+index-mode_of n h = grind (arith, nat_tests)
 
 pub same_mode : (a b : Mode) → index_of a ≡ index_of b → a ≡ b
 same_mode a b h = sym (mode_of-index a) ∙ ap mode_of h ∙ mode_of-index b

@@ -1,5 +1,5 @@
 -- A right reply to each command in each state, and a step with it.
-use Rattle.std.proofs.Common.{ℕ, ◌≡◌, ◌-◌, ◌/◌, ◌<◌, ◌≤◌, Bool, true, false, nat_lt, if◌then◌else◌, List, [], ◌∷◌, length, Option, Some, None, refl, inl, arith}
+use Rattle.std.proofs.Common.{ℕ, ◌≡◌, ◌-◌, ◌/◌, ◌<◌, ◌≤◌, true, false, List, [], ◌∷◌, length, Some, None, refl, inl, arith}
 use Rattle.std.proofs.lemmas.Bool.Decides.{nat_tests}
 use Rattle.std.proofs.lemmas.Grind.{common_steps}
 use Rattle.std.proofs.lemmas.Option.{slice_get_past}
@@ -14,7 +14,6 @@ use Rattle.deck9.specs.declared.effect.Change.TheVariants.{SetSomewhere, SetAt, 
 use Rattle.deck9.specs.declared.effect.Effect.{Effect}
 use Rattle.deck9.specs.declared.effect.Effect.TheVariants as effect
 use Rattle.deck9.specs.declared.mode.Mode.{Mode}
-use Rattle.deck9.specs.declared.mode.Mode.TheVariants.{Stop}
 use Rattle.deck9.specs.declared.state.Entry.{Entry}
 use Rattle.deck9.specs.declared.state.Entry.TheVariants.{Clear, At}
 use Rattle.deck9.specs.declared.state.Hands.{Hands}
@@ -68,15 +67,10 @@ tells Clear valid = tt
 tells (At t) valid = ReadsAs-from_time_of (bytes_of t) t (read_back t valid)
 
 no_datum : (asked n : ℕ) → datum asked (block 7 0x20 []) n ≡ None
-no_datum asked n = by (nat_lt n (asked / 16)) (slice_get_past [] (n - asked / 16) (omega arith))
-  where
-    by : (b : Bool) {o : Option ℕ} → o ≡ None → (if b then None else o) ≡ None
-    by true e = refl
-    by false e = e
+no_datum asked n = let past = slice_get_past {X = ℕ} [] (n - asked / 16) (omega arith) in grind (arith, nat_tests)
 
 any_mode : (m : Mode) → may_show None None m ≡ true
-any_mode Stop = refl
-any_mode m = refl
+any_mode m = grind (arith, nat_tests)
 
 -- status data of which there are none agree with each state
 no_status : (s : State) (asked : ℕ) → ShowsStatus s asked (block 7 0x20 [])

@@ -1,5 +1,5 @@
 -- Runs with one exchange more.
-use Rattle.std.proofs.Common.{◌≡◌, ◌↔◌, List, [], ◌∷◌, ◌++◌, refl, sym, ◌∙◌, subst}
+use Rattle.std.proofs.Common.{arith, ◌≡◌, ◌↔◌, List, [], ◌∷◌, ◌++◌, refl, sym, ◌∙◌, subst}
 use Rattle.block9.specs.declared.pairer.Exchange.{Exchange}
 use Rattle.deck9.specs.declared.state.Hands.{Hands}
 use Rattle.deck9.specs.declared.state.State.{State}
@@ -16,19 +16,16 @@ record Split (h : Hands) (s : State) (es : List Exchange) (e : Exchange) (ts : L
   is_last : last_state s ts ≡ end
 
 split : (h : Hands) (es : List Exchange) (e : Exchange) (s : State) (ts : List State) → IsRunFrom h s (es ++ e ∷ []) ts → Split h s es e ts
-split h [] e s [] r = absurd r
 split h [] e s (t ∷ []) r = record { before = []; is_run = tt; end = t; goes = r.0; is_last = refl }
-split h [] e s (t ∷ u ∷ us) r = absurd r.1
-split h (f ∷ fs) e s [] r = absurd r
 split h (f ∷ fs) e s (t ∷ ts) r =
     let w = split h fs e t ts r.1 in
     record { before = t ∷ w.before; is_run = (r.0, w.is_run); end = w.end; goes = w.goes; is_last = w.is_last }
+split h es e s ts r = grind arith
 
 join : (h : Hands) (es : List Exchange) (e : Exchange) (s : State) (ts : List State) (t : State) → IsRunFrom h s es ts → Exchanges h e.command e.reply (last_state s ts) t → IsRunFrom h s (es ++ e ∷ []) (ts ++ t ∷ [])
 join h [] e s [] t r goes = (goes, tt)
-join h [] e s (u ∷ us) t r goes = absurd r
-join h (f ∷ fs) e s [] t r goes = absurd r
 join h (f ∷ fs) e s (u ∷ us) t r goes = (r.0, join h fs e u us t r.1 goes)
+join h es e s ts t r goes = absurd r
 
 last-push : (s : State) (ts : List State) (t : State) → last_state s (ts ++ t ∷ []) ≡ t
 last-push s [] t = refl

@@ -10,46 +10,26 @@ use Rattle.deck9.specs.Laws.{ShowJust}
 use Rattle.deck9.specs.Mode.{is_mode}
 use Rattle.deck9.specs.Shows.{may_show}
 
--- two tests agree on each mode
-AreSame : (Mode → Bool) → (Mode → Bool) → Type 0
-AreSame p q = (p Stop ≡ q Stop) × (p Play ≡ q Play) × (p Rec ≡ q Rec) × (p FastForward ≡ q FastForward) × (p Rewind ≡ q Rewind) × (p Shuttle ≡ q Shuttle) × (p Jog ≡ q Jog) × (p Var ≡ q Var) × (p Cued ≡ q Cued) × (p Eject ≡ q Eject)
-
-same_on : (p q : Mode → Bool) → AreSame p q → (m : Mode) → p m ≡ q m
-unfolding AreSame
-same_on p q same Stop = same.0
-same_on p q same Play = same.1
-same_on p q same Rec = same.2
-same_on p q same FastForward = same.3
-same_on p q same Rewind = same.4
-same_on p q same Shuttle = same.5
-same_on p q same Jog = same.6
-same_on p q same Var = same.7
-same_on p q same Cued = same.8
-same_on p q same Eject = same.9
-
-show_just : (p : Mode → Bool) (datum1 datum2 : ℕ) → datum1 < 256 → datum2 < 256 → AreSame (may_show (Some datum1) (Some datum2)) p → ShowJust p
-show_just p datum1 datum2 is_byte1 is_byte2 same = record { datum1 = datum1; datum2 = datum2; is_byte1 = is_byte1; is_byte2 = is_byte2; just = same_on (may_show (Some datum1) (Some datum2)) p same }
+show_just : (p : Mode → Bool) (datum1 datum2 : ℕ) → datum1 < 256 → datum2 < 256 → ((m : Mode) → may_show (Some datum1) (Some datum2) m ≡ p m) → ShowJust p
+show_just p datum1 datum2 is_byte1 is_byte2 just = record { datum1 = datum1; datum2 = datum2; is_byte1 = is_byte1; is_byte2 = is_byte2; just = just }
 
 pub alone : (m : Mode) → (m ≡ Cued → ⊥) → ShowJust (is_mode m)
-unfolding AreSame
-alone Stop other = show_just _ 0x20 0x00 (omega arith) (omega arith) (refl, refl, refl, refl, refl, refl, refl, refl, refl, refl)
-alone Play other = show_just _ 0x01 0x00 (omega arith) (omega arith) (refl, refl, refl, refl, refl, refl, refl, refl, refl, refl)
-alone Rec other = show_just _ 0x02 0x00 (omega arith) (omega arith) (refl, refl, refl, refl, refl, refl, refl, refl, refl, refl)
-alone FastForward other = show_just _ 0x04 0x00 (omega arith) (omega arith) (refl, refl, refl, refl, refl, refl, refl, refl, refl, refl)
-alone Rewind other = show_just _ 0x08 0x00 (omega arith) (omega arith) (refl, refl, refl, refl, refl, refl, refl, refl, refl, refl)
-alone Shuttle other = show_just _ 0x00 0x20 (omega arith) (omega arith) (refl, refl, refl, refl, refl, refl, refl, refl, refl, refl)
-alone Jog other = show_just _ 0x00 0x10 (omega arith) (omega arith) (refl, refl, refl, refl, refl, refl, refl, refl, refl, refl)
-alone Var other = show_just _ 0x00 0x08 (omega arith) (omega arith) (refl, refl, refl, refl, refl, refl, refl, refl, refl, refl)
+alone Stop other = show_just _ 0x20 0x00 (omega arith) (omega arith) (λ m. grind arith)
+alone Play other = show_just _ 0x01 0x00 (omega arith) (omega arith) (λ m. grind arith)
+alone Rec other = show_just _ 0x02 0x00 (omega arith) (omega arith) (λ m. grind arith)
+alone FastForward other = show_just _ 0x04 0x00 (omega arith) (omega arith) (λ m. grind arith)
+alone Rewind other = show_just _ 0x08 0x00 (omega arith) (omega arith) (λ m. grind arith)
+alone Shuttle other = show_just _ 0x00 0x20 (omega arith) (omega arith) (λ m. grind arith)
+alone Jog other = show_just _ 0x00 0x10 (omega arith) (omega arith) (λ m. grind arith)
+alone Var other = show_just _ 0x00 0x08 (omega arith) (omega arith) (λ m. grind arith)
 alone Cued other = absurd (other refl)
-alone Eject other = show_just _ 0x10 0x00 (omega arith) (omega arith) (refl, refl, refl, refl, refl, refl, refl, refl, refl, refl)
+alone Eject other = show_just _ 0x10 0x00 (omega arith) (omega arith) (λ m. grind arith)
 
 pub cued_or_stop : ShowJust (λ m. is_mode Cued m || is_mode Stop m)
-unfolding AreSame
-cued_or_stop = show_just _ 0x20 0x01 (omega arith) (omega arith) (refl, refl, refl, refl, refl, refl, refl, refl, refl, refl)
+cued_or_stop = show_just _ 0x20 0x01 (omega arith) (omega arith) (λ m. grind arith)
 
 pub cued_or_eject : ShowJust (λ m. is_mode Cued m || is_mode Eject m)
-unfolding AreSame
-cued_or_eject = show_just _ 0x00 0x01 (omega arith) (omega arith) (refl, refl, refl, refl, refl, refl, refl, refl, refl, refl)
+cued_or_eject = show_just _ 0x00 0x01 (omega arith) (omega arith) (λ m. grind arith)
 
 -- five low bits that are clear: the sixth is set, or all six are clear
 low_bits : (n : ℕ) → bit_and n 0x1F ≡ 0 → (bit_and n 0x20 ≡ 0x20) ⊎ (bit_and n 0x3F ≡ 0)

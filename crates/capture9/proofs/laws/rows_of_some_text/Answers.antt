@@ -4,8 +4,5 @@ use Rattle.capture9.proofs.SomeTextLemmas.{can-be}
 use Rattle.capture9.proofs.TextLemmas.{some-text}
 use Rattle.capture9.proofs.laws.rows_of_some_text.Goals as goal
 
-pub returns-clause-each_text : goal.returns-clause-each_text
-returns-clause-each_text c = λ text. can-be (records default_config (strip_bom text))
-
-pub returns-clause-some_text : goal.returns-clause-some_text
-returns-clause-some_text c = some-text
+pub returns : goal.returns
+returns c = record { each_text = λ text. can-be (records default_config (strip_bom text)); some_text = some-text }

@@ -1,5 +1,4 @@
-use Rattle.std.proofs.Common.{refl, sym, ap, ◌∙◌}
-use Rattle.std.proofs.lemmas.Bool.{false≢true}
+use Rattle.std.proofs.Common.{arith, refl, ap, ◌∙◌}
 use Rattle.std.proofs.lemmas.Slice.Zip.{Zip-more, either_empty_from_Zip}
 use Rattle.std.specs.Iterator.Adapters.{zip_first, zip_second}
 use Rattle.std.specs.Slice.Iter.{iter_rest}
@@ -7,10 +6,7 @@ use Rattle.deck9.proofs.RunSearch.{goes_on-end, goes_on-one, goes_on-start, leng
 use Rattle.deck9.proofs.run.goes_on.Goals as goal
 
 pub returns-then-exchanges-states : goal.returns-then-exchanges-states
-returns-then-exchanges-states c = (
-  λ t. absurd (false≢true t),
-  λ r. absurd (c.if-exchanges-states.true (lengths_differ c.args.hands c.args.first.now c.args.exchanges.now c.args.states.now r)),
-)
+returns-then-exchanges-states c = let differ = lengths_differ c.args.hands c.args.first.now c.args.exchanges.now c.args.states.now in grind (arith, differ)
 
 pub loop-exchange-init : goal.loop-exchange-init
 loop-exchange-init c =
@@ -21,10 +17,8 @@ loop-exchange-init c =
 pub returns-then-not-goes : goal.returns-then-not-goes
 returns-then-not-goes c =
     let turn = Zip-more c.loop-exchange.exchange-iterator c.next.new.self c.next.result (c.in-Some.exchange, c.in-Some.after) c.in-Some.is c.next.ensures.steps in
-    let one = goes_on-one _ _ _ _ _ _ _ _ _ _ _ c.loop-exchange.invariant turn.0 turn.1 in (
-      λ t. absurd (false≢true t),
-      λ r. absurd (false≢true (sym c.if-not-goes.true ∙ c.goes.ensures.1 (one.0.0 r).0)),
-    )
+    let one = goes_on-one _ _ _ _ _ _ _ _ _ _ _ c.loop-exchange.invariant turn.0 turn.1 in
+    grind (arith, one.0)
 
 pub loop-exchange-preserved : goal.loop-exchange-preserved
 loop-exchange-preserved c =

@@ -1,42 +1,35 @@
-use Rattle.std.proofs.Common.{◌≡◌, ◌∙◌, ap, sym, subst, refl, arith, length-append, false, Bool, Some, List, [], ◌∷◌}
+use Rattle.std.proofs.Common.{◌≡◌, ◌∙◌, ap, sym, subst, refl, arith, length-append, false, Some, List, [], ◌∷◌}
 use Rattle.capture9.specs.declared.line_byte.LineByte.{LineByte}
 use Rattle.block9.specs.Exchange.{Does, tail_after}
-use Rattle.block9.specs.Line.{last_time}
 use Rattle.block9.specs.Working.Held.{HoldsInPairer, IsHeld, IsTurn}
 use Rattle.block9.specs.Working.Table.{pairing}
 use Rattle.block9.specs.declared.pairer.Step.TheVariants as step
 use Rattle.block9.specs.declared.reason.Reason.{Reason}
 use Rattle.block9.proofs.FeedLemmas.{held_step, held_waiting, refuses, takes}
-use Rattle.block9.proofs.StepLemmas.{in_order}
 use Rattle.block9.proofs.pairer.Pairer.feed.Goals as goal
 
 -- a record that goes on with a block
 pub push-requires : goal.push-requires
 push-requires c =
-    let inv = c.self.invariant c.in_default.is in
-    let later = in_order c.self.inside.last_time (last_time c.self.inside.tail.items) c.args.line_byte.time_us inv.in_order (λ x e. c.requires x (ap (λ p. p.last_time) (sym c.self.view_is) ∙ e)) in
-    let turn = subst (λ (l : List LineByte). IsTurn l c.args.line_byte false) c.as_slice.ensures.value
-    (subst (λ (ends : Bool). IsTurn c.as_slice.result.now c.args.line_byte ends) c.in-Ok-false.field-0-test c.in-Ok-false.ensures.ok) in
-    let held = held_waiting c.self.inside.tail.items c.self.inside.asked c.args.line_byte c.self.inside.last_time inv later turn in
+    let turn : IsTurn c.self.inside.tail.items c.args.line_byte false = rw (← c.as_slice.ensures.value) (rw c.in-Ok-false.field-0-test at c.in-Ok-false.ensures.ok) in
+    let held = held_waiting c.self.inside.tail.items c.self.inside.asked c.args.line_byte c.self.inside.last_time (c.self.invariant c.in_default.is)
+    (λ x e. c.requires x (ap (λ p. p.last_time) (sym c.self.view_is) ∙ e)) turn in
     let short = held.0.short in
     omega (arith, length-append c.self.inside.tail.items (c.args.line_byte ∷ []))
 
 pub invariant_of-self-in-Ok-false : goal.invariant_of-self-in-Ok-false
 invariant_of-self-in-Ok-false c = λ none.
-    let inv = c.self.invariant none in
-    let later = in_order c.self.inside.last_time (last_time c.self.inside.tail.items) c.args.line_byte.time_us inv.in_order (λ x e. c.requires x (ap (λ p. p.last_time) (sym c.self.view_is) ∙ e)) in
-    let turn = subst (λ (l : List LineByte). IsTurn l c.args.line_byte false) c.as_slice.ensures.value
-    (subst (λ (ends : Bool). IsTurn c.as_slice.result.now c.args.line_byte ends) c.in-Ok-false.field-0-test c.in-Ok-false.ensures.ok) in
+    let turn : IsTurn c.self.inside.tail.items c.args.line_byte false = rw (← c.as_slice.ensures.value) (rw c.in-Ok-false.field-0-test at c.in-Ok-false.ensures.ok) in
     subst (λ (l : List LineByte). HoldsInPairer l c.self.inside.asked (Some c.args.line_byte.time_us)) (sym c.push.ensures.items)
-    (held_waiting c.self.inside.tail.items c.self.inside.asked c.args.line_byte c.self.inside.last_time inv later turn).0
+    (held_waiting c.self.inside.tail.items c.self.inside.asked c.args.line_byte c.self.inside.last_time (c.self.invariant none)
+    (λ x e. c.requires x (ap (λ p. p.last_time) (sym c.self.view_is) ∙ e)) turn).0
 
 pub returns-in-Ok-false-clause-takes : goal.returns-in-Ok-false-clause-takes
 returns-in-Ok-false-clause-takes c = λ known.
-    let inv = c.self.invariant c.in_default.is in
-    let later = in_order c.self.inside.last_time (last_time c.self.inside.tail.items) c.args.line_byte.time_us inv.in_order (λ x e. c.requires x (ap (λ p. p.last_time) (sym c.self.view_is) ∙ e)) in
-    let turn = subst (λ (l : List LineByte). IsTurn l c.args.line_byte false) c.as_slice.ensures.value
-    (subst (λ (ends : Bool). IsTurn c.as_slice.result.now c.args.line_byte ends) c.in-Ok-false.field-0-test c.in-Ok-false.ensures.ok) in
-    takes c.self.inside.tail.items _ _ _ step.Waiting (ap (λ p. p.tail) c.self.view_is) (held_waiting c.self.inside.tail.items c.self.inside.asked c.args.line_byte c.self.inside.last_time inv later turn).1 c.push.ensures.items refl c.in_default.is
+    let turn : IsTurn c.self.inside.tail.items c.args.line_byte false = rw (← c.as_slice.ensures.value) (rw c.in-Ok-false.field-0-test at c.in-Ok-false.ensures.ok) in
+    let held = held_waiting c.self.inside.tail.items c.self.inside.asked c.args.line_byte c.self.inside.last_time (c.self.invariant c.in_default.is)
+    (λ x e. c.requires x (ap (λ p. p.last_time) (sym c.self.view_is) ∙ e)) turn in
+    takes c.self.inside.tail.items _ _ _ step.Waiting (ap (λ p. p.tail) c.self.view_is) held.1 c.push.ensures.items refl c.in_default.is
 
 -- the last record of a block
 pub advance-requires : goal.advance-requires
@@ -57,16 +50,14 @@ returns-in-Ok-clause-takes c = λ known.
 -- a record that breaks a rule
 pub returns-in-Err-end-clause-refuses : goal.returns-in-Err-end-clause-refuses
 returns-in-Err-end-clause-refuses c = λ known.
-    let inv = c.self.invariant c.in_default.is in
-    let later = in_order c.self.inside.last_time (last_time c.self.inside.tail.items) c.args.line_byte.time_us inv.in_order (λ x e. c.requires x (ap (λ p. p.last_time) (sym c.self.view_is) ∙ e)) in
     let told = subst (λ (l : List LineByte). pairing l c.args.line_byte ≡ Some c.in-Err-end.reason) c.as_slice-in-Ok-true.ensures.value c.in-Err-end.ensures.err in
     let same = ap (λ (x : Reason). Some x) (sym c.refuse.ensures.same) in
-    refuses c.self.inside.tail.items c.self.inside.asked _ _ _ c.refuse.result (ap (λ p. p.tail) c.self.view_is) inv.held later (told ∙ same) refl refl (c.refuse.ensures.kept ∙ same)
+    refuses c.self.inside.tail.items c.self.inside.asked _ _ _ _ c.refuse.result (ap (λ p. p.tail) c.self.view_is) (c.self.invariant c.in_default.is)
+    (λ x e. c.requires x (ap (λ p. p.last_time) (sym c.self.view_is) ∙ e)) (told ∙ same) refl refl (c.refuse.ensures.kept ∙ same)
 
 pub returns-in-Err-clause-refuses : goal.returns-in-Err-clause-refuses
 returns-in-Err-clause-refuses c = λ known.
-    let inv = c.self.invariant c.in_default.is in
-    let later = in_order c.self.inside.last_time (last_time c.self.inside.tail.items) c.args.line_byte.time_us inv.in_order (λ x e. c.requires x (ap (λ p. p.last_time) (sym c.self.view_is) ∙ e)) in
     let told = subst (λ (l : List LineByte). pairing l c.args.line_byte ≡ Some c.in-Err.reason) c.as_slice.ensures.value c.in-Err.ensures.err in
     let same = ap (λ (x : Reason). Some x) (sym c.refuse-in-Err.ensures.same) in
-    refuses c.self.inside.tail.items c.self.inside.asked _ _ _ c.refuse-in-Err.result (ap (λ p. p.tail) c.self.view_is) inv.held later (told ∙ same) refl refl (c.refuse-in-Err.ensures.kept ∙ same)
+    refuses c.self.inside.tail.items c.self.inside.asked _ _ _ _ c.refuse-in-Err.result (ap (λ p. p.tail) c.self.view_is) (c.self.invariant c.in_default.is)
+    (λ x e. c.requires x (ap (λ p. p.last_time) (sym c.self.view_is) ∙ e)) (told ∙ same) refl refl (c.refuse-in-Err.ensures.kept ∙ same)
