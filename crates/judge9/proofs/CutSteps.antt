@@ -13,13 +13,11 @@ use Rattle.block9.proofs.StepLemmas.{still_tail}
 -- a tail that grows
 pub cut-tail : (p : List LineByte) (es : List Exchange) (t : List LineByte) (r : LineByte) → Cut p es t → IsTail (t ++ r ∷ []) → Cut (p ++ r ∷ []) es (t ++ r ∷ [])
 cut-tail p [] t r h more = (ap (λ (l : List LineByte). l ++ r ∷ []) h.0, more)
-cut-tail p (e ∷ es) t r h more =
-    (h.0, h.1 ++ r ∷ [], ap (λ (l : List LineByte). l ++ r ∷ []) h.2 ∙ append_assoc h.0 h.1 (r ∷ []), h.3, cut-tail h.1 es t r h.4 more)
+cut-tail p (e ∷ es) t r h more = (h.0, h.1 ++ r ∷ [], ap (λ (l : List LineByte). l ++ r ∷ []) h.2 ∙ append_assoc h.0 h.1 (r ∷ []), h.3, cut-tail h.1 es t r h.4 more)
 
 -- a tail that becomes an exchange
 pub cut-exchange : (p : List LineByte) (es : List Exchange) (t : List LineByte) (r : LineByte) (e : Exchange) → Cut p es t → IsExchange (t ++ r ∷ []) e → Cut (p ++ r ∷ []) (es ++ e ∷ []) []
-cut-exchange p [] t r e h more =
-    (t ++ r ∷ [], [], ap (λ (l : List LineByte). l ++ r ∷ []) h.0 ∙ sym (append-nil (t ++ r ∷ [])), more, (refl, nothing refl))
+cut-exchange p [] t r e h more = (t ++ r ∷ [], [], ap (λ (l : List LineByte). l ++ r ∷ []) h.0 ∙ sym (append-nil (t ++ r ∷ [])), more, (refl, nothing refl))
 cut-exchange p (d ∷ es) t r e h more =
     (h.0, h.1 ++ r ∷ [], ap (λ (l : List LineByte). l ++ r ∷ []) h.2 ∙ append_assoc h.0 h.1 (r ∷ []), h.3, cut-exchange h.1 es t r e h.4 more)
 
@@ -30,9 +28,8 @@ exchanges_after es step.Command = es
 exchanges_after es (step.Exchange e) = es ++ e ∷ []
 
 pub cut-step : (p : List LineByte) (es : List Exchange) (t : List LineByte) (r : LineByte) (s : Step) → Cut p es t → Does t r s → Cut (p ++ r ∷ []) (exchanges_after es s) (tail_after t r s)
-cut-step p es t r step.Waiting h done = cut-tail p es t r h (still_tail t r step.Waiting done)
-cut-step p es t r step.Command h done = cut-tail p es t r h (still_tail t r step.Command done)
 cut-step p es t r (step.Exchange e) h done = cut-exchange p es t r e h done
+cut-step p es t r s h done = cut-tail p es t r h (still_tail t r s done)
 
 -- what a record makes of a tail where the rules of pairing are kept: a longer tail, or an exchange
 abbrev pub Grows : List LineByte → LineByte → Type 0

@@ -3,17 +3,9 @@ pub mod CutSteps
 pub mod LineSteps
 pub mod ShowLemmas
 pub mod SoFar
-pub mod SoFarSteps
-pub mod Seen
-pub mod TrailSteps
 pub mod DayLemmas
 pub mod TrailJudging
-pub mod RunJudging
 pub mod LawLemmas
-pub mod HandsLemmas
 pub mod TellLemmas
-pub mod LimitLemmas
-pub mod ReasonLemmas
-pub mod BreakLemmas
 pub mod TurnSteps
 pub mod TextLemmas

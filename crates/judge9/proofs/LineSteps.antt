@@ -38,10 +38,7 @@ spelled_len records b s = sym (length-bytes_of records) ∙ ap length s.spelled
 
 exchange_len : (front : List LineByte) (e : Exchange) → IsExchange front e → length front ≡ records_of e
 exchange_len front e h =
-    let n : length front ≡ length (h.asked ++ h.answered) = ap length h.split in
-    let asked = spelled_len h.asked e.block h.command.whole.spelled in
-    let answered = spelled_len h.answered e.reply h.reply.spelled in
-    omega (arith, length-append h.asked h.answered)
+    omega (arith, ap length h.split, length-append h.asked h.answered, spelled_len h.asked e.block h.command.whole.spelled, spelled_len h.answered e.reply h.reply.spelled)
 
 -- the records of these exchanges
 abbrev pub total : List Exchange → ℕ
@@ -49,12 +46,8 @@ total [] = 0
 total (e ∷ es) = records_of e + total es
 
 pub cut_len : (p : List LineByte) (es : List Exchange) (t : List LineByte) → Cut p es t → length p ≡ total es + length t
-cut_len p [] t h = let n : length p ≡ length t = ap length h.0 in omega arith
-cut_len p (e ∷ es) t h =
-    let n : length p ≡ length (h.0 ++ h.1) = ap length h.2 in
-    let front = exchange_len h.0 e h.3 in
-    let rest = cut_len h.1 es t h.4 in
-    omega (arith, length-append h.0 h.1)
+cut_len p [] t h = omega (arith, ap length h.0)
+cut_len p (e ∷ es) t h = omega (arith, ap length h.2, length-append h.0 h.1, exchange_len h.0 e h.3, cut_len h.1 es t h.4)
 
 -- ---- the same states, the same knowledge
 
@@ -63,10 +56,9 @@ known_same X Y field (known.Is v) same h = λ s y. h s ((same s).1 y)
 known_same X Y field known.Unknown same h = (h.0, h.1, (same h.0).0 h.2, (same h.1).0 h.3, h.4)
 
 entry_same : (X Y : State → Type 0) (r : Register) (k : KnownEntry) → ((s : State) → X s ↔ Y s) → IsKnownEntry X r k → IsKnownEntry Y r k
-entry_same X Y r entry.Clear same h = λ s y. h s ((same s).1 y)
-entry_same X Y r (entry.At time) same h = λ s y. h s ((same s).1 y)
 entry_same X Y r entry.SetSomewhere same h = (λ s y. h.0 s ((same s).1 y), (h.1.0, h.1.1, (same h.1.0).0 h.1.2, (same h.1.1).0 h.1.3, h.1.4))
 entry_same X Y r entry.Unknown same h = (h.0, h.1, (same h.0).0 h.2, (same h.1).0 h.3, h.4, h.5)
+entry_same X Y r k same h = λ s y. h s ((same s).1 y)
 
 pub knowledge_same : (X Y : State → Type 0) (k : Knowledge) → ((s : State) → X s ↔ Y s) → IsKnowledge X k → IsKnowledge Y k
 knowledge_same X Y k same h = record {
@@ -89,21 +81,13 @@ line_same view.Explain h n e X Y line same is = (is.0, knowledge_same X Y is.0 s
 lines_more : (h : Hands) (before : List Exchange) (at : ℕ) (es : List Exchange) (e : Exchange) (k : Knowledge) (n : ℕ) (text : List ℕ) → AreLines h before at es text → IsKnowledge (Ends h ((before ++ es) ++ e ∷ [])) k → n ≡ at + total (es ++ e ∷ [])
     → AreLines h before at (es ++ e ∷ []) (text ++ line_of_exchange h n e k)
 lines_more h before at [] e k n text lines knows number =
-    let same : before ++ [] ≡ before = append-nil before in
-    let last : n ≡ at + records_of e = omega arith in (
-      k,
-      [],
-      subst (λ (l : List Exchange). IsKnowledge (Ends h (l ++ e ∷ [])) k) same knows,
-      refl,
-      ap (λ t. t ++ line_of_exchange h n e k) lines ∙ ap (λ m. line_of_exchange h m e k) last ∙ sym (append-nil (line_of_exchange h (at + records_of e) e k)),
-    )
+    let last : n ≡ at + records_of e = omega arith in
+    (k, [], rw append-nil at knows, refl, ap (λ t. t ++ line_of_exchange h n e k) lines ∙ ap (λ m. line_of_exchange h m e k) last ∙ sym (append-nil _))
 lines_more h before at (f ∷ es) e k n text lines knows number =
-    let same : (before ++ f ∷ []) ++ es ≡ before ++ f ∷ es = append_assoc before (f ∷ []) es in
-    let later : n ≡ (at + records_of f) + total (es ++ e ∷ []) = omega arith in
-    let rest = lines_more h (before ++ f ∷ []) (at + records_of f) es e k n lines.1 lines.3 (subst (λ (l : List Exchange). IsKnowledge (Ends h (l ++ e ∷ [])) k) (sym same) knows) later in
+    let knows_on = subst (λ (l : List Exchange). IsKnowledge (Ends h (l ++ e ∷ [])) k) (sym (append_assoc before (f ∷ []) es)) knows in
+    let rest = lines_more h (before ++ f ∷ []) (at + records_of f) es e k n lines.1 lines.3 knows_on (omega arith) in
     let line = line_of_exchange h n e k in
-    let head = line_of_exchange h (at + records_of f) f lines.0 in
-    (lines.0, lines.1 ++ line, lines.2, rest, ap (λ t. t ++ line) lines.4 ∙ append_assoc head lines.1 line)
+    (lines.0, lines.1 ++ line, lines.2, rest, ap (λ t. t ++ line) lines.4 ∙ append_assoc _ lines.1 line)
 
 pub explained_more : (which : View) (h : Hands) (es : List Exchange) (e : Exchange) (n : ℕ) (text line : List ℕ) → IsExplained which h es text → IsLineOf which h n e (Ends h (es ++ e ∷ [])) line → n ≡ total (es ++ e ∷ []) → IsExplained which h (es ++ e ∷ []) (text ++ line)
 explained_more view.Verdict h es e n text line is more number = ap (λ t. t ++ line) is ∙ more

@@ -1,5 +1,5 @@
 -- What the deck could show when it gave the last of some replies.
-use Rattle.std.proofs.Common.{◌≡◌, ◌↔◌, ◌⊎◌, inl, inr, ◌-◌, true, List, [], ◌∷◌, ◌++◌, length, take, refl, sym, ap, ◌∙◌, subst, arith, length-append}
+use Rattle.std.proofs.Common.{◌≡◌, ◌↔◌, inl, inr, ◌-◌, true, List, [], ◌∷◌, length, take, refl, sym, ap, ◌∙◌, subst, arith, length-append}
 use Rattle.std.proofs.Math.Seq.{take-append_seam}
 use Rattle.block9.specs.declared.command.Command.TheVariants.{InDataSense}
 use Rattle.block9.specs.declared.pairer.Exchange.{Exchange}
@@ -24,8 +24,7 @@ use Rattle.judge9.proofs.LineSteps.{knowledge_same}
 -- all exchanges but the last
 pub but_last : (h : Hands) (es : List Exchange) (b : BreaksAtLast h es) → take (length es - 1) es ≡ b.before
 but_last h es b =
-    let long : length es ≡ length (b.before ++ b.last ∷ []) = ap length b.is_split in
-    let number : length es - 1 ≡ length b.before = omega (arith, length-append b.before (b.last ∷ [])) in
+    let number : length es - 1 ≡ length b.before = omega (arith, ap length b.is_split, length-append b.before (b.last ∷ [])) in
     ap (λ n. take n es) number ∙ ap (take (length b.before)) b.is_split ∙ take-append_seam b.before (b.last ∷ [])
 
 -- there is a state before the last of them
@@ -41,11 +40,8 @@ drifted h es old new f reached t = (to, from)
     to : Possible new.states t → CouldBe h es t
     to p =
         let s = reached.0 t p in
-        by s.0 s.2.0 ((f.states s.0).0 s.1) (subst (λ (g : Hands). Drift g s.0 s.2.0) f.hands s.2.1) s.2.2
-      where
-        by : (s d : State) → Ends h es s → Drift h s d → (t ≡ d) ⊎ (t ≡ d) → CouldBe h es t
-        by s d e drift (inl same) = (s, e, subst (Drift h s) (sym same) drift)
-        by s d e drift (inr same) = (s, e, subst (Drift h s) (sym same) drift)
+        let same : t ≡ s.2.0 = elim s.2.2 [ inl e ↦ e | inr e ↦ e ] in
+        (s.0, (f.states s.0).0 s.1, subst (Drift h s.0) (sym same) (subst (λ (g : Hands). Drift g s.0 s.2.0) f.hands s.2.1))
 
     from : CouldBe h es t → Possible new.states t
     from w = reached.1 w.0 t ((f.states w.0).1 w.1) (t, subst (λ (g : Hands). Drift g w.0 t) (sym f.hands) w.2, inl refl)
@@ -61,8 +57,5 @@ could_show h es old new k set b f reached knows shows = record {
   shows = λ m. (λ t. let s = (shows m).0 t in (s.0, (same s.0).0 s.1, s.2), λ s. (shows m).1 (s.0, (same s.0).1 s.1, s.2));
 }
   where
-    follows : Follows h b.before old
-    follows = subst (λ l. Follows h l old) (but_last h es b) f
-
     same : (t : State) → Possible new.states t ↔ CouldBe h b.before t
-    same = drifted h b.before old new follows reached
+    same = drifted h b.before old new (subst (λ l. Follows h l old) (but_last h es b) f) reached

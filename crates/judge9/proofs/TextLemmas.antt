@@ -109,11 +109,8 @@ within h rows items rest (judged (verdict.No at reason)) ok start is = by (cases
         (more.0, taken h rows at reason is ∙ more.1)
 
 same_len : (h : Hands) (rows : Rows) (items : List LineByte) (v : Verdict) → IsVerdictAfter items v → IsAnswer h rows (judged v) → length (explained_of rows (judged v)) ≡ length items
-same_len h rows items (verdict.Yes r e t) after is = let n = is.1.number in omega arith
-same_len h rows items (verdict.No at reason) after is =
-    let n = is.number in
-    let len = ap length (taken h rows at reason is) in
-    omega arith
+same_len h rows items (verdict.Yes r e t) after is = omega (arith, is.1.number)
+same_len h rows items (verdict.No at reason) after is = omega (arith, is.number, ap length (taken h rows at reason is))
 
 no_more : (items m all : List LineByte) → all ≡ items ++ m → length all ≡ length items → all ≡ items
 no_more items [] all e n = e ∙ append-nil items
@@ -129,13 +126,7 @@ answer_run h rows (judged (verdict.No at reason)) es t is cut =
 -- ---- what was written, and the whole text
 
 part_of : (old new : Option (List ℕ)) (bytes rest whole : List ℕ) → whole ≡ bytes ++ rest → AppendsPart old new bytes → AppendsPart old new whole
-part_of old new bytes rest whole e p =
-    let len = ap length e in
-    let bound = p.1 in (
-      p.0,
-      omega (arith, length-append bytes rest),
-      subst (λ t. Appends old new t) (sym (ap (λ l. take p.0 l) e ∙ take-append-le p.0 bytes rest p.1)) p.2,
-    )
+part_of old new bytes rest whole e p = (p.0, omega (arith, ap length e, length-append bytes rest, p.1), rw (e, take-append-le p.0 bytes rest p.1) p.2)
 
 all_of : (old new : Option (List ℕ)) (bytes : List ℕ) → Appends old new bytes → AppendsPart old new bytes
 all_of old new bytes h = (length bytes, omega arith, subst (λ t. Appends old new t) (sym (take-length bytes)) h)
@@ -167,15 +158,12 @@ first_of_text which h rows r old new a whole told is all = by r told.answer told
     start : rows.records ≡ told.items ++ told.start.0
     start = ap (λ (x : Rows). x.records) (sym told.is_known) ∙ told.start.1
 
-    same : (v : Verdict) → IsAnswer h told.rows (judged v) → a ≡ judged v
-    same v k = answer_once h rows a (judged v) is (subst (λ (x : Rows). IsAnswer h x (judged v)) told.is_known k)
-
     text : (more : List ℕ) × (whole ≡ told.text ++ more)
     text = begins which h rows told.items told.start.0 told.exchanges told.tail told.text a whole told.cut told.run start told.explained is all
 
     line : (v : Verdict) → IsAnswer h told.rows (judged v) → IsVerdictAfter told.items v → whole ≡ told.text ++ line_of v
     line v k after =
-        let e = same v k in
+        let e = answer_once h rows a (judged v) is (subst (λ (x : Rows). IsAnswer h x (judged v)) told.is_known k) in
         ends_with which h rows told.items told.start.0 told.exchanges told.tail told.text v whole told.cut told.run start told.explained after (subst (IsAnswer h rows) e is) (subst (λ (x : Answer). IsText which h rows x whole) e all)
 
     by : (r : Result Verdict JudgeError) → IfSome (answer_of r) (IsTheAnswer h told.rows) → Written h told.rows told.items told.text r old new → AppendsPart old new whole

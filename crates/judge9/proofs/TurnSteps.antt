@@ -1,7 +1,6 @@
 -- The invariant of a judging's loop from one turn to the next, and what is told where a turn ends it.
-use Rattle.std.proofs.Common.{◌≡◌, ◌<◌, ◌≤◌, ◌-◌, inl, inr, ap, arith, Bool, true, false, ℕ, zero, suc, ◌+◌, List, length, Option, Result, Ok, Err, sym, subst}
+use Rattle.std.proofs.Common.{◌≡◌, ◌<◌, ◌≤◌, ◌-◌, inl, inr, arith, true, false, ℕ, zero, suc, List, length, Option, Result, Ok, Err, sym, subst}
 use Rattle.std.specs.Result.{IsErrAnd}
-use Rattle.std.specs.Io.KnownBytes.{Appends}
 use Rattle.capture9.specs.declared.line_byte.LineByte.{LineByte}
 use Rattle.capture9.specs.Records.{GivesRecord, Progress}
 use Rattle.capture9.specs.Rows.{Rows}
@@ -18,12 +17,10 @@ use Rattle.verdict9.specs.declared.verdict.Verdict.{Verdict}
 use Rattle.verdict9.specs.declared.verdict.Verdict.TheVariants.{Yes}
 use Rattle.verdict9.specs.declared.verdict.View.{View}
 use Rattle.verdict9.specs.Lines.{line_of}
-use Rattle.judge9.specs.Working.{Explains, IsLineOf, IsSame, Judges, Puts}
-use Rattle.judge9.specs.Working.Turn.{AreOpen, ComesTo, EndsRows, Feeds, IsObserved, Observes, Turned}
-use Rattle.judge9.proofs.LimitLemmas.{can_be-yes, judges-line, judges-memory, judges-refusal, judges-told}
-use Rattle.judge9.proofs.SoFar.{SoFar}
-use Rattle.judge9.proofs.SoFarSteps.{observed_more, observed_run, so_far-exchange, so_far-open}
-use Rattle.judge9.proofs.TellLemmas.{told-line, told-memory, told-yes}
+use Rattle.judge9.specs.Working.{Explains, IsSame, Judges, Puts}
+use Rattle.judge9.specs.Working.Turn.{AreOpen, ComesTo, EndsRows, Feeds, IsObserved, Observes, Turned, Waits}
+use Rattle.judge9.proofs.TellLemmas.{can_be-yes, judges-line, judges-memory, judges-refusal, judges-told, told-line, told-memory, told-yes}
+use Rattle.judge9.proofs.SoFar.{SoFar, so_far-open}
 
 -- what holds of an error holds of the result that hands it on
 pub handed_on : {T E : Type 0} (P : Result T E → Type 0) (x : E) (r : Result T E) → IsErrAnd r (λ y. y ≡ x) → P (Err x) → P r
@@ -32,28 +29,21 @@ handed_on P x (Err y) is p = subst (λ z. P (Err z)) (sym is) p
 
 -- ---- rows that end no exchange
 
--- after them
-pub so_far-opened : {R : Type 0} {which : View} {hands : Hands} {rows : Option Rows} {j : Judging R} {old now : Option (List ℕ)} {m : ℕ} (n : ℕ) (front : Judging R) → SoFar which hands rows j old now m → AreOpen n j front → SoFar which hands rows front old now m
-so_far-opened {which = which} {hands = hands} {rows = rows} {old = old} {now = now} {m = m} zero front h o =
-    subst (λ k. SoFar which hands rows k old now m) (sym o) h
-so_far-opened (suc n) front h o = so_far-open (so_far-opened n o.0 h o.1) o.2
-
--- they are not given back
-given-opened : {R : Type 0} (j : Judging R) (n : ℕ) (front : Judging R) → AreOpen n j front → j.rows.given ≤ front.rows.given
-given-opened j zero front o = let same : front.rows.given ≡ j.rows.given = ap (λ k. k.rows.given) o in omega arith
-given-opened j (suc n) front o = let before = given-opened j n o.0 o.1 in let more = o.2.feeds.gives.given in omega arith
+-- what they keep holds after them
+pub opened : {R : Type 0} {j : Judging R} (P : Judging R → Type 0) → ((i k : Judging R) → P i → Waits i k → P k) → (n : ℕ) (front : Judging R) → P j → AreOpen n j front → P front
+opened P keeps zero front h o = subst P (sym o) h
+opened P keeps (suc n) front h o = keeps o.0 front (opened P keeps n o.0 h o.1) o.2
 
 -- what holds of what is so far before the row at which something comes
 pub comes : {R : Type 0} {which : View} {hands : Hands} {rows : Option Rows} {j k : Judging R} {old now : Option (List ℕ)} {m : ℕ} {r : Result Turn JudgeError} {P : Type 0} → SoFar which hands rows j old now m → ComesTo j r k → ((front : Judging R) → SoFar which hands rows front old now m → Turned front r k → P) → P
-comes h c at = at c.front (so_far-opened c.many c.front h c.are_open) c.turned
+comes {which = which} {hands = hands} {rows = rows} {old = old} {now = now} {m = m} h c at =
+    at c.front (opened (λ k. SoFar which hands rows k old now m) (λ i k far waits. so_far-open far waits) c.many c.front h c.are_open) c.turned
 
 -- each exchange takes a row at least
 pub fewer_rows : {R : Type 0} {j k : Judging R} {e : Exchange} → ComesTo j (Ok (turn.Exchange e)) k → 4000000 - k.rows.given < 4000000 - j.rows.given
 fewer_rows {j = j} c =
-    let before = given-opened j c.many c.front c.are_open in
-    let more = c.turned.0.gives.given in
-    let within = c.turned.0.gives.within in
-    omega arith
+    let low : j.rows.given ≤ c.front.rows.given = opened (λ k. j.rows.given ≤ k.rows.given) (λ i k low waits. omega (arith, waits.feeds.gives)) c.many c.front (omega arith) c.are_open in
+    omega (arith, c.turned.0.gives)
 
 -- ---- what a turn brings
 
@@ -68,30 +58,22 @@ turned-observed j k {line_byte = line_byte} {e = e} r gives takes same_rows same
       takes = subst (λ x. Takes j.pairer line_byte (step.Exchange x) k.pairer) (sym same) (subst (Takes j.pairer line_byte (step.Exchange e)) (sym same_pairer) takes);
     }
 
-    observes : (f : Exchange) (b : Bool) → f ≡ e → Observes j.tracker k.tracker e b → Observes j.tracker k.tracker f b
-    observes f b same seen = subst (λ x. Observes j.tracker k.tracker x b) (sym same) seen
-
     by : (r : Result Turn JudgeError) → IsObserved j.tracker e r k.tracker → Turned j r k
-    by (Ok (turn.Exchange f)) o = (feeds f o.0, observes f true o.0 o.1)
-    by (Ok (turn.NoRun f)) o = (feeds f o.0, observes f false o.0 o.1)
+    by (Ok (turn.Exchange f)) o = (feeds f o.0, subst (λ x. Observes j.tracker k.tracker x true) (sym o.0) o.1)
+    by (Ok (turn.NoRun f)) o = (feeds f o.0, subst (λ x. Observes j.tracker k.tracker x false) (sym o.0) o.1)
     by (Err x) o = inl o
     by _ o = absurd o
-
--- an exchange, whose line was written
-pub so_far-exchanged : {R : Type 0} {which : View} {hands : Hands} {rows : Option Rows} {j k : Judging R} {old now new : Option (List ℕ)} {m : ℕ} {e : Exchange} (line : List ℕ) → SoFar which hands rows j old now m → Turned j (Ok (turn.Exchange e)) k
-    → IsLineOf which hands k.rows.given e (Possible k.tracker.states) line → Appends now new line → SoFar which hands rows k old new (m + 1)
-so_far-exchanged line h t is wrote = so_far-exchange line h t.0 (observed_more h t.1) (observed_run h t.1) is wrote
 
 -- an exchange, whose line was not written whole
 pub judges-explained : {R : Type 0} {which : View} {hands : Hands} {rows : Option Rows} {j k : Judging R} {old now new : Option (List ℕ)} {m : ℕ} {e : Exchange} (x : JudgeError) → SoFar which hands rows j old now m → Turned j (Ok (turn.Exchange e)) k → Explains which hands k.rows.given e (Possible k.tracker.states) (Err x) now new
     → Judges which hands rows (Err x) old new
 judges-explained {which = which} {hands = hands} {rows = rows} {old = old} {now = now} {new = new} x h t line =
-    judges-line which hands rows x line.line old now new (told-line x h t.0 (observed_more h t.1) (observed_run h t.1) line) line.puts
+    judges-line which hands rows x line.line old now new (told-line x h t.0 t.1 line) line.puts
 
 -- the rows were refused, or memory was
 pub judges-stopped : {R : Type 0} {which : View} {hands : Hands} {rows : Option Rows} {j : Judging R} {old now : Option (List ℕ)} {m : ℕ} (k : Judging R) (x : JudgeError) → SoFar which hands rows j old now m → Turned j (Err x) k → Judges which hands rows (Err x) old now
 judges-stopped {which = which} {hands = hands} {rows = rows} {old = old} {now = now} k x h (inl memory) =
-    subst (λ (y : JudgeError). Judges which hands rows (Err y) old now) (sym memory) (judges-memory which hands rows old now (told-memory h))
+    subst (λ (y : JudgeError). Judges which hands rows (Err y) old now) (sym memory) (judges-memory (told-memory h))
 judges-stopped k x h (inr refused) = judges-refusal h refused.1 refused.2
 
 -- no row

@@ -2,8 +2,7 @@ use Rattle.judge9.proofs.ShowLemmas as show
 use Rattle.judge9.proofs.could_show.shown_after.Goals as goal
 
 pub knowledge-requires : goal.knowledge-requires
-knowledge-requires c =
-    c.in_ok-pass.ensures.remains.0 (show.before_last c.args.hands c.args.exchanges.now c.follow.new.tracker c.requires.breaks c.in_ok-follow.ensures)
+knowledge-requires c = c.in_ok-pass.ensures.remains.0 (show.before_last c.args.hands c.args.exchanges.now c.follow.new.tracker c.requires.breaks c.in_ok-follow.ensures)
 
 pub returns : goal.returns
 returns c =

@@ -5,8 +5,7 @@ use Rattle.deck9.specs.declared.state.Hands.{Hands}
 use Rattle.deck9.specs.declared.state.Hands.TheVariants as hands
 use Rattle.track9.specs.Tracker.{Tracked}
 use Rattle.judge9.specs.Working.Trail.{Follows, IsTrail}
-use Rattle.judge9.proofs.RunSteps.{follows-more, follows-start}
-use Rattle.judge9.proofs.TrailSteps.{trail-pushed, trail-start}
+use Rattle.judge9.proofs.RunSteps.{follows-more, follows-start, trail-pushed, trail-start}
 use Rattle.judge9.proofs.fewest_hands.follow_untouched.Goals as goal
 
 pub loop-at-init : goal.loop-at-init

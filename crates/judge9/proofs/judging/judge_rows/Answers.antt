@@ -1,9 +1,9 @@
-use Rattle.std.proofs.Common.{◌≡◌, None, subst, sym}
+use Rattle.std.proofs.Common.{◌∙◌, ap}
 use Rattle.block9.specs.Pairer.{Paired}
 use Rattle.judge9.specs.Working.{Judges}
-use Rattle.judge9.proofs.BreakLemmas.{judges-break, judges-no_run}
-use Rattle.judge9.proofs.SoFarSteps.{so_far-start}
-use Rattle.judge9.proofs.TurnSteps.{comes, fewer_rows, handed_on, judges-end, judges-explained, judges-stopped, so_far-exchanged}
+use Rattle.judge9.proofs.TellLemmas.{judges-break, judges-no_run}
+use Rattle.judge9.proofs.SoFar.{so_far-exchange, so_far-start}
+use Rattle.judge9.proofs.TurnSteps.{comes, fewer_rows, handed_on, judges-end, judges-explained, judges-stopped}
 use Rattle.judge9.proofs.judging.judge_rows.Goals as goal
 
 pub rows-init : goal.rows-init
@@ -16,13 +16,12 @@ returns-in_err-exchange g c =
 
 pub rows-preserved : goal.rows-preserved
 rows-preserved g c =
-    let come = rw c.in-Exchange.is at c.in_ok-exchange.ensures in
     let puts = rw c.in_ok-explain-in-Exchange.was at c.explain.ensures.puts in
     let is_line = rw c.given.ensures at c.explain.ensures.is_line in
-    comes c.rows.invariant come (λ front h t. so_far-exchanged _ h t is_line puts)
+    comes c.rows.invariant (rw c.in-Exchange.is at c.in_ok-exchange.ensures) (λ front h t. so_far-exchange _ h t.0 t.1 is_line puts)
 
 pub rows-smaller : goal.rows-smaller
-rows-smaller g c = let come = rw c.in-Exchange.is at c.in_ok-exchange.ensures in fewer_rows come
+rows-smaller g c = fewer_rows (rw c.in-Exchange.is at c.in_ok-exchange.ensures)
 
 pub returns-in_err-explain-in-Exchange : goal.returns-in_err-explain-in-Exchange
 returns-in_err-explain-in-Exchange g c =
@@ -43,13 +42,10 @@ returns-in-Break g c =
     comes c.rows.invariant come (λ front h t. judges-break {new = g.W.Write.contents c.tell_no-in-Break.new.writer} _ h t (rw c.given-in-Break.ensures at c.tell_no-in-Break.ensures.same) (rw c.given-in-Break.ensures at c.tell_no-in-Break.ensures.puts))
 
 pub tail_len-tail-requires : goal.tail_len-tail-requires
-tail_len-tail-requires g c =
-    let come = rw c.in-End.is at c.in_ok-exchange.ensures in
-    comes c.rows.invariant come (λ front h t. subst (λ (p : Paired). p.reason ≡ None) (sym t.same_pairer) h.no_reason)
+tail_len-tail-requires g c = comes c.rows.invariant (rw c.in-End.is at c.in_ok-exchange.ensures) (λ front h t. ap (λ (p : Paired). p.reason) t.same_pairer ∙ h.no_reason)
 
 pub returns : goal.returns
 returns g c =
-    let come = rw c.in-End.is at c.in_ok-exchange.ensures in
     let same = rw (c.given-2.ensures, c.tail_len-tail.ensures.len) at c.tell.ensures.same in
     let puts = rw (c.given-2.ensures, c.tail_len-tail.ensures.len) at c.tell.ensures.puts in
-    comes c.rows.invariant come (λ front h t. judges-end _ h t same puts)
+    comes c.rows.invariant (rw c.in-End.is at c.in_ok-exchange.ensures) (λ front h t. judges-end _ h t same puts)

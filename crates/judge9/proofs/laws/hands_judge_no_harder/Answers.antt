@@ -1,4 +1,4 @@
-use Rattle.judge9.proofs.HandsLemmas.{no_with_hands, yes_with_hands}
+use Rattle.judge9.proofs.LawLemmas.{no_with_hands, yes_with_hands}
 use Rattle.judge9.proofs.laws.hands_judge_no_harder.Goals as goal
 
 pub returns-clause-yes : goal.returns-clause-yes

@@ -1,5 +1,4 @@
-use Rattle.judge9.proofs.LawLemmas.{breaks_once}
-use Rattle.judge9.proofs.ReasonLemmas.{some_reason}
+use Rattle.judge9.proofs.LawLemmas.{breaks_once, some_reason}
 use Rattle.judge9.proofs.laws.some_reason_applies.Goals as goal
 
 pub returns : goal.returns

@@ -1,5 +1,5 @@
 use Rattle.block9.proofs.CutLemmas.{kept_by_tail, tail_by_kept}
-use Rattle.judge9.proofs.ReasonLemmas.{breaks_tail, tail_breaks}
+use Rattle.judge9.proofs.LawLemmas.{breaks_tail, tail_breaks}
 use Rattle.judge9.proofs.laws.tail_decides.Goals as goal
 
 pub returns : goal.returns

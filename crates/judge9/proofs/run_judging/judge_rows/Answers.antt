@@ -1,4 +1,4 @@
-use Rattle.judge9.proofs.RunJudging.{run-yes}
+use Rattle.judge9.proofs.TrailJudging.{run-yes}
 use Rattle.judge9.proofs.run_judging.judge_rows.Goals as goal
 
 pub returns-in-Ok : goal.returns-in-Ok

@@ -1,5 +1,5 @@
 use Rattle.std.proofs.Common.{ap}
-use Rattle.judge9.proofs.RunJudging.{run-nothing}
+use Rattle.judge9.proofs.TrailJudging.{run-nothing}
 use Rattle.judge9.proofs.TellLemmas.{answer_of_text}
 use Rattle.judge9.specs.RunVerdict.{judged_of}
 use Rattle.judge9.proofs.run_judging.judge_with_run.Goals as goal

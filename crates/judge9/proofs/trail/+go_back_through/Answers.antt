@@ -3,7 +3,7 @@ use Rattle.block9.specs.declared.pairer.Exchange.{Exchange}
 use Rattle.deck9.specs.declared.state.Hands.{Hands}
 use Rattle.track9.specs.Tracker.{Possible}
 use Rattle.judge9.specs.Working.Trail.{GoesBack, Leads}
-use Rattle.judge9.proofs.TrailSteps.{back_put, leads_after}
+use Rattle.judge9.proofs.RunSteps.{back_put, leads_after}
 use Rattle.judge9.proofs.trail.+go_back_through.Goals as goal
 
 pub go_back_through-found-requires : goal.go_back_through-found-requires

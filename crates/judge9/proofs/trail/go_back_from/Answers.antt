@@ -1,4 +1,4 @@
-use Rattle.judge9.proofs.TrailSteps.{back_all}
+use Rattle.judge9.proofs.RunSteps.{back_all}
 use Rattle.judge9.proofs.trail.go_back_from.Goals as goal
 
 pub returns : goal.returns

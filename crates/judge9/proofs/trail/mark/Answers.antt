@@ -1,6 +1,6 @@
 use Rattle.std.proofs.Common.{◌≡◌, ◌*◌, length, sym, subst, arith}
 use Rattle.judge9.specs.Working.Trail.{Follows, IsTrail, stretch_length}
-use Rattle.judge9.proofs.TrailSteps.{trail-marked}
+use Rattle.judge9.proofs.RunSteps.{trail-marked}
 use Rattle.judge9.proofs.trail.mark.Goals as goal
 
 pub returns-in_ok-push-clause-trail : goal.returns-in_ok-push-clause-trail

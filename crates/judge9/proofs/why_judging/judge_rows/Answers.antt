@@ -3,7 +3,7 @@ use Rattle.std.specs.Global.{Vec}
 use Rattle.std.specs.List.{All}
 use Rattle.block9.specs.declared.pairer.Exchange.{Exchange}
 use Rattle.deck9.specs.Laws.{SetsInDay}
-use Rattle.judge9.proofs.RunJudging.{why-break, why-no_run}
+use Rattle.judge9.proofs.TrailJudging.{why-break, why-no_run}
 use Rattle.judge9.proofs.why_judging.judge_rows.Goals as goal
 
 pub contradicting-requires-clause-presets : goal.contradicting-requires-clause-presets

@@ -1,5 +1,5 @@
 use Rattle.std.proofs.Common.{ap}
-use Rattle.judge9.proofs.RunJudging.{why-nothing}
+use Rattle.judge9.proofs.TrailJudging.{why-nothing}
 use Rattle.judge9.proofs.TellLemmas.{answer_of_text}
 use Rattle.judge9.specs.WhyVerdict.{judged_of}
 use Rattle.judge9.proofs.why_judging.judge_with_contradiction.Goals as goal

@@ -1,6 +1,6 @@
 use Rattle.std.proofs.Common.{sym, subst}
 use Rattle.judge9.specs.Working.Trail.{IsTrail}
-use Rattle.judge9.proofs.TrailSteps.{trail-pushed}
+use Rattle.judge9.proofs.RunSteps.{trail-pushed}
 use Rattle.judge9.proofs.trail.Trail.push.Goals as goal
 
 pub returns-clause-trail : goal.returns-clause-trail
