@@ -1,6 +1,6 @@
 -- The places found: in order, contradicting with all that follow, and each of them needed.
 use Rattle.std.proofs.Common.{ℕ, ◌≡◌, ◌⊎◌, inl, inr, ◌+◌, ◌<◌, ◌≤◌, ◌&&◌, ◌||◌, ◌==◌, nat_lt, nat_le, not, Bool, true, false, List, [], ◌∷◌, ◌++◌, length, length-append, slice_get, Some, suc, refl, sym, ap, ◌∙◌, subst, arith}
-use Rattle.std.proofs.lemmas.Bool.{and_from, and_parts, cases_Bool, false_from_ne_true, false≢true, or_cases, or_left, or_right}
+use Rattle.std.proofs.lemmas.Bool.{cases_Bool, false≢true, or_cases, or_left}
 use Rattle.std.proofs.lemmas.Bool.Decides.{nat_tests}
 use Rattle.std.proofs.lemmas.List.Elements.{All-nil, All-append, All-cons, All-head, All-tail}
 use Rattle.std.proofs.lemmas.List.Folds.{list_any-append}
@@ -16,15 +16,6 @@ use Rattle.why9.specs.Working.{AreFound, IsNext, is_asked}
 use Rattle.why9.proofs.QuestionLemmas.{same_places}
 
 -- ---- places
-
-lt_of : (a b : ℕ) → nat_lt a b ≡ true → a < b
-lt_of a b e = grind (arith, nat_tests)
-
-of_lt : (a b : ℕ) → a < b → nat_lt a b ≡ true
-of_lt a b l = grind (arith, nat_tests)
-
-le_of : (a b : ℕ) → nat_le a b ≡ true → a ≤ b
-le_of a b e = grind (arith, nat_tests)
 
 of_le : (a b : ℕ) → a ≤ b → nat_le a b ≡ true
 of_le a b l = grind (arith, nat_tests)
@@ -44,39 +35,28 @@ among_all P (p ∷ ps) k all e = by (among_all P ps k (All-tail P p ps all)) (or
     by rest (inl same) = subst P (eq_of p k same) (All-head P p ps all)
     by rest (inr more) = rest more
 
+-- a place is one of these and one more, if it is one of these or that one
+among_more : (ps : List ℕ) (p k : ℕ) → is_among (ps ++ p ∷ []) k ≡ (is_among ps k || ((p == k) || false))
+among_more ps p k = list_any-append (λ q. q == k) ps (p ∷ [])
+
 among_push : (ps : List ℕ) (p k : ℕ) → is_among (ps ++ p ∷ []) k ≡ true → (is_among ps k ≡ true) ⊎ (k ≡ p)
-among_push ps p k e = by (or_cases (is_among ps k) (is_among (p ∷ []) k) (sym (list_any-append (λ q. q == k) ps (p ∷ [])) ∙ e))
+among_push ps p k e = by (or_cases (is_among ps k) ((p == k) || false) (sym (among_more ps p k) ∙ e))
   where
-    by : (is_among ps k ≡ true) ⊎ (is_among (p ∷ []) k ≡ true) → (is_among ps k ≡ true) ⊎ (k ≡ p)
+    by : (is_among ps k ≡ true) ⊎ (((p == k) || false) ≡ true) → (is_among ps k ≡ true) ⊎ (k ≡ p)
     by (inl is) = inl is
-    by (inr is) = inr (one (or_cases (p == k) false is))
-      where
-        one : ((p == k) ≡ true) ⊎ (false ≡ true) → k ≡ p
-        one (inl same) = sym (eq_of p k same)
-        one (inr none) = absurd (false≢true none)
-
-among_kept : (ps : List ℕ) (p k : ℕ) → is_among ps k ≡ true → is_among (ps ++ p ∷ []) k ≡ true
-among_kept ps p k e = list_any-append (λ q. q == k) ps (p ∷ []) ∙ or_left (is_among ps k) (is_among (p ∷ []) k) e
-
-among_pushed : (ps : List ℕ) (p : ℕ) → is_among (ps ++ p ∷ []) p ≡ true
-among_pushed ps p = list_any-append (λ q. q == p) ps (p ∷ []) ∙ or_right (is_among ps p) (is_among (p ∷ []) p) (or_left (p == p) false (of_eq p))
+    by (inr is) = inr (grind (arith, nat_tests))
 
 -- the first place is before all others, and before the one that they are all before
 before_first : (from first : ℕ) (rest : List ℕ) → AllPairs (λ p q. p < q) (first ∷ rest) → All (λ p. p < from) (first ∷ rest) → (k : ℕ) → k < first → is_asked from (first ∷ rest) k ≡ false
-before_first from first rest ascend below k low = false_from_ne_true _ (λ e. by (or_cases (nat_le from k) (is_among (first ∷ rest) k) e))
+before_first from first rest ascend below k low =
+    let high = All-head (λ p. p < from) first rest below in
+    let from_first = All-cons (λ p. first ≤ p) first rest (omega arith) (λ i d l. let b = ascend 0 (suc i) d (omega arith) (omega arith) in omega arith) in
+    let is_behind : is_among (first ∷ rest) k ≡ true → first ≤ k = among_all (λ p. first ≤ p) (first ∷ rest) k from_first in
+    none (cases_Bool (is_among (first ∷ rest) k)) high is_behind
   where
-    high : first < from
-    high = All-head (λ p. p < from) first rest below
-
-    behind : All (λ p. first < p) rest
-    behind = λ i d l. ascend 0 (suc i) d (omega arith) (omega arith)
-
-    from_first : All (λ p. first ≤ p) (first ∷ rest)
-    from_first = All-cons (λ p. first ≤ p) first rest (omega arith) (λ i d l. let b = behind i d l in omega arith)
-
-    by : (nat_le from k ≡ true) ⊎ (is_among (first ∷ rest) k ≡ true) → ⊥
-    by (inl le) = let a = le_of from k le in let m = high in omega arith
-    by (inr is) = let a = among_all (λ p. first ≤ p) (first ∷ rest) k from_first is in omega arith
+    none : (is_among (first ∷ rest) k ≡ true) ⊎ (is_among (first ∷ rest) k ≡ false) → first < from → (is_among (first ∷ rest) k ≡ true → first ≤ k) → is_asked from (first ∷ rest) k ≡ false
+    none (inl is) high behind = let l = behind is in absurd (omega arith)
+    none (inr not) high behind = rw not (grind (arith, nat_tests))
 
 pub before_found : (from first : ℕ) (found : List ℕ) → AllPairs (λ p q. p < q) found → All (λ p. p < from) found → slice_get found 0 ≡ Some first → (k : ℕ) → k < first → is_asked from found k ≡ false
 before_found from first [] ascend below e k low = cc
@@ -97,14 +77,8 @@ pushed_ascend low place found ascend below le = all_pairs_push (λ p q. p < q) f
 -- what is asked of the others, behind p, goes on to a place behind p
 others_push : (low p place : ℕ) (found : List ℕ) → All (λ q. q < low) found → low ≤ place → is_among found p ≡ true
     → (k : ℕ) → is_among_others (found ++ place ∷ []) p k ≡ true → (nat_lt p k || is_among_others found p k) ≡ true
-others_push low p place found below le is k e = by (among_push found place k parts.0)
-  where
-    parts : (is_among (found ++ place ∷ []) k ≡ true) × (not (k == p) ≡ true)
-    parts = and_parts (is_among (found ++ place ∷ []) k) (not (k == p)) e
-
-    by : (is_among found k ≡ true) ⊎ (k ≡ place) → (nat_lt p k || is_among_others found p k) ≡ true
-    by (inl more) = or_right (nat_lt p k) (is_among_others found p k) (and_from (is_among found k) (not (k == p)) more parts.1)
-    by (inr same) = let l = among_all (λ q. q < low) found p below is in or_left (nat_lt p k) (is_among_others found p k) (of_lt p k (omega arith))
+others_push low p place found below le is k e =
+    let l = among_all (λ q. q < low) found p below is in let more = among_more found place k in grind (arith, nat_tests)
 
 -- ---- the search
 
@@ -121,38 +95,22 @@ pub found-more : (h : Hands) (es : List Exchange) (low last place : ℕ) (found 
 found-more h es low last place found old next = record {
   ascend = pushed_ascend low place found old.ascend old.below next.low_place;
   below = pushed_below low place found old.below next.low_place;
-  contradict = λ w. next.contradict (believing_fewer h (is_asked (place + 1) (found ++ place ∷ [])) (is_asked place found) es (λ k e. asked k (or_cases (nat_le place k) (is_among found k) e)) w);
+  contradict = λ w. next.contradict (believing_fewer h (is_asked (place + 1) (found ++ place ∷ [])) (is_asked place found) es asked w);
   needed = λ p e. by p (among_push found place p e);
 }
   where
-    asked : (k : ℕ) → (nat_le place k ≡ true) ⊎ (is_among found k ≡ true) → is_asked (place + 1) (found ++ place ∷ []) k ≡ true
-    asked k (inl low) = here (cases_Bool (nat_lt place k))
-      where
-        here : (nat_lt place k ≡ true) ⊎ (nat_lt place k ≡ false) → is_asked (place + 1) (found ++ place ∷ []) k ≡ true
-        here (inl l) = let a = lt_of place k l in or_left (nat_le (place + 1) k) (is_among (found ++ place ∷ []) k) (of_le (place + 1) k (omega arith))
-        here (inr l) =
-            let same : place ≡ k = let a = le_of place k low in grind (arith, nat_tests) in
-            or_right (nat_le (place + 1) k) (is_among (found ++ place ∷ []) k) (subst (λ (x : ℕ). is_among (found ++ place ∷ []) x ≡ true) same (among_pushed found place))
-    asked k (inr is) = or_right (nat_le (place + 1) k) (is_among (found ++ place ∷ []) k) (among_kept found place k is)
+    asked : (k : ℕ) → is_asked place found k ≡ true → is_asked (place + 1) (found ++ place ∷ []) k ≡ true
+    asked k e = let more = among_more found place k in grind (arith, nat_tests)
 
     -- behind the new place all is believed, and before it what was found
     last_needed : (k : ℕ) → (nat_lt place k || is_among_others (found ++ place ∷ []) place k) ≡ true → is_asked (place + 1) found k ≡ true
-    last_needed k e = from (or_cases (nat_lt place k) (is_among_others (found ++ place ∷ []) place k) e)
-      where
-        pushed : not (k == place) ≡ true → (is_among found k ≡ true) ⊎ (k ≡ place) → is_asked (place + 1) found k ≡ true
-        pushed other (inl is) = or_right (nat_le (place + 1) k) (is_among found k) is
-        pushed other (inr same) = absurd (false≢true (sym (ap (λ (x : ℕ). not (x == place)) same ∙ ap not (of_eq place)) ∙ other))
+    last_needed k e = let more = among_more found place k in grind (arith, nat_tests)
 
-        from : (nat_lt place k ≡ true) ⊎ (is_among_others (found ++ place ∷ []) place k ≡ true) → is_asked (place + 1) found k ≡ true
-        from (inl l) = let a = lt_of place k l in or_left (nat_le (place + 1) k) (is_among found k) (of_le (place + 1) k (omega arith))
-        from (inr o) = let parts = and_parts (is_among (found ++ place ∷ []) k) (not (k == place)) o in pushed parts.1 (among_push found place k parts.0)
-
-    old_needed : (p k : ℕ) → is_among found p ≡ true → (nat_lt p k ≡ true) ⊎ (is_among_others (found ++ place ∷ []) p k ≡ true) → (nat_lt p k || is_among_others found p k) ≡ true
-    old_needed p k is (inl l) = or_left (nat_lt p k) (is_among_others found p k) l
-    old_needed p k is (inr o) = others_push low p place found old.below next.low_place is k o
+    old_needed : (p k : ℕ) → is_among found p ≡ true → (nat_lt p k || is_among_others (found ++ place ∷ []) p k) ≡ true → (nat_lt p k || is_among_others found p k) ≡ true
+    old_needed p k is e = let l = among_all (λ q. q < low) found p old.below is in let low_place = next.low_place in let more = among_more found place k in grind (arith, nat_tests)
 
     by : (p : ℕ) → (is_among found p ≡ true) ⊎ (p ≡ place) → HasBelieving h (λ k. nat_lt p k || is_among_others (found ++ place ∷ []) p k) es
-    by p (inl is) = believing_fewer h _ _ es (λ k e. old_needed p k is (or_cases (nat_lt p k) (is_among_others (found ++ place ∷ []) p k) e)) (old.needed p is)
+    by p (inl is) = believing_fewer h _ _ es (λ k e. old_needed p k is e) (old.needed p is)
     by p (inr same) = subst (λ (x : ℕ). HasBelieving h (λ k. nat_lt x k || is_among_others (found ++ place ∷ []) x k) es) (sym same) (believing_fewer h _ _ es last_needed next.behind)
 
 -- ---- the end
@@ -177,15 +135,10 @@ without_last h b es last breaks is none =
     let more = passes_last h b breaks.before breaks.last w.first w.after (ap b place ∙ none) w.is_run in
     subst (HasBelieving h b) (sym breaks.is_split) (record { first = w.first; is_first = w.is_first; after = more.0; is_run = more.1 })
 
-same_tests : (a b : Bool) → (a ≡ true → b ≡ true) → (b ≡ true → a ≡ true) → a ≡ b
-same_tests true b f g = sym (f refl)
-same_tests false true f g = g refl
-same_tests false false f g = refl
-
 pub found-all : (h : Hands) (es : List Exchange) (low last : ℕ) (found : List ℕ) → BreaksAtLast h es → AreFound h es low found → low ≤ last → last + 1 ≡ length es
     → Contradict h (is_asked last found) es → IsContradiction h es (found ++ last ∷ [])
 found-all h es low last found breaks old le is contradict = record {
-  contradict = λ w. contradict (record { first = w.first; is_first = w.is_first; after = w.after; is_run = same_places h _ _ es w.first w.after (λ k below. same_tests _ _ (to k) (from k below)) w.is_run });
+  contradict = λ w. contradict (record { first = w.first; is_first = w.is_first; after = w.after; is_run = same_places h _ _ es w.first w.after same w.is_run });
   none_needless = λ p e. needed p (among_push found last p e);
   is_latest = λ first rest e. latest first (among_push found last first (subst (λ (ps : List ℕ). is_among ps first ≡ true) (sym e) (or_left (first == first) (is_among rest first) (of_eq first))));
   ascend = pushed_ascend low last found old.ascend old.below le;
@@ -195,19 +148,8 @@ found-all h es low last found breaks old le is contradict = record {
   is_last = is;
 }
   where
-    to : (k : ℕ) → is_among (found ++ last ∷ []) k ≡ true → is_asked last found k ≡ true
-    to k e = by (among_push found last k e)
-      where
-        by : (is_among found k ≡ true) ⊎ (k ≡ last) → is_asked last found k ≡ true
-        by (inl more) = or_right (nat_le last k) (is_among found k) more
-        by (inr same) = or_left (nat_le last k) (is_among found k) (of_le last k (omega arith))
-
-    from : (k : ℕ) → k < length es → is_asked last found k ≡ true → is_among (found ++ last ∷ []) k ≡ true
-    from k below e = by (or_cases (nat_le last k) (is_among found k) e)
-      where
-        by : (nat_le last k ≡ true) ⊎ (is_among found k ≡ true) → is_among (found ++ last ∷ []) k ≡ true
-        by (inl l) = let a = le_of last k l in let same : last ≡ k = omega arith in subst (λ (x : ℕ). is_among (found ++ last ∷ []) x ≡ true) same (among_pushed found last)
-        by (inr more) = among_kept found last k more
+    same : (k : ℕ) → k < length es → is_among (found ++ last ∷ []) k ≡ is_asked last found k
+    same k below = let more = among_more found last k in grind (arith, nat_tests)
 
     needed : (p : ℕ) → (is_among found p ≡ true) ⊎ (p ≡ last) → HasBelieving h (is_among_others (found ++ last ∷ []) p) es
     needed p (inl among) = believing_fewer h _ _ es (others_push low p last found old.below le among) (old.needed p among)

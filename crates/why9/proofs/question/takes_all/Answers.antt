@@ -1,8 +1,7 @@
-use Rattle.std.proofs.Common.{sym, subst, ◌∙◌, arith}
+use Rattle.std.proofs.Common.{sym, ◌∙◌, arith}
 use Rattle.std.proofs.lemmas.Bool.{false≢true}
-use Rattle.deck9.specs.Step.{AreReached}
 use Rattle.track9.specs.Tracker.{Possible}
-use Rattle.why9.specs.Working.{Takes, is_asked}
+use Rattle.why9.specs.Working.{is_asked}
 use Rattle.why9.proofs.QuestionLemmas.{goes-past, goes-start, goes-through}
 use Rattle.why9.proofs.question.takes_all.Goals as goal
 
@@ -15,26 +14,18 @@ loop-place-init c = record {
 
 pub returns-then-not-branch : goal.returns-then-not-branch
 returns-then-not-branch c =
-    let b = is_asked c.args.from c.args.found.now in
-    let old = c.loop-place.tracker in
-    let new = c.takes.new.tracker in
-    let e = c.index-exchanges-place.result in
-    let k = c.loop-place.place in
-    let reached = subst (λ x. AreReached (Possible old.states) (Takes old.hands x e) (Possible new.states)) c.is_believed-is_believed.ensures c.in_ok-takes.ensures.reached in
-    let through = goes-through c.args.hands b c.args.exchanges.now k e old new (omega arith) c.index-exchanges-place.is c.loop-place.invariant.hands reached in (
+    let reached = rw c.is_believed-is_believed.ensures at c.in_ok-takes.ensures.reached in
+    let through = goes-through c.args.hands (is_asked c.args.from c.args.found.now) c.args.exchanges.now c.loop-place.place c.index-exchanges-place.result c.loop-place.tracker c.takes.new.tracker
+    (omega arith) c.index-exchanges-place.is c.loop-place.invariant.hands reached in (
       λ t. absurd (false≢true t),
       λ w. let g = through.0 (c.loop-place.invariant.goes.0 w) in absurd (false≢true (sym c.if-not-branch.true ∙ c.in_ok-takes.ensures.remains.1 (g.0, g.1))),
     )
 
 pub loop-place-preserved : goal.loop-place-preserved
 loop-place-preserved c =
-    let b = is_asked c.args.from c.args.found.now in
-    let old = c.loop-place.tracker in
-    let new = c.takes.new.tracker in
-    let e = c.index-exchanges-place.result in
-    let k = c.loop-place.place in
-    let reached = subst (λ x. AreReached (Possible old.states) (Takes old.hands x e) (Possible new.states)) c.is_believed-is_believed.ensures c.in_ok-takes.ensures.reached in
-    let through = goes-through c.args.hands b c.args.exchanges.now k e old new (omega arith) c.index-exchanges-place.is c.loop-place.invariant.hands reached in
+    let reached = rw c.is_believed-is_believed.ensures at c.in_ok-takes.ensures.reached in
+    let through = goes-through c.args.hands (is_asked c.args.from c.args.found.now) c.args.exchanges.now c.loop-place.place c.index-exchanges-place.result c.loop-place.tracker c.takes.new.tracker
+    (omega arith) c.index-exchanges-place.is c.loop-place.invariant.hands reached in
     record {
       hands = c.in_ok-takes.ensures.hands ∙ c.loop-place.invariant.hands;
       goes = (λ w. through.0 (c.loop-place.invariant.goes.0 w), λ g. c.loop-place.invariant.goes.1 (through.1 g));

@@ -1,11 +1,10 @@
 use Rattle.std.proofs.lemmas.Result.{on_ok_weaker}
-use Rattle.report9.specs.WhyText.{text_of_asked, text_of_block, words_of}
+use Rattle.report9.specs.WhyText.{text_of_asked}
 use Rattle.text9.proofs.PieceLemmas.{pieces_after2}
 use Rattle.report9.proofs.why_text.exchange_line.put_asked.Goals as goal
 
 pub returns : goal.returns
 unfolding text_of_asked
 returns c =
-    let e = c.args.exchange.now in
-    on_ok_weaker c.put_block.result (λ last. pieces_after2 c.args.line.now.items c.args.label.now (words_of e.command) (text_of_block e.block) _ _ _
+    on_ok_weaker c.put_block.result (λ last. pieces_after2 _ _ _ _ _ _ _
     c.in_ok-put_text.ensures c.in_ok-put_words.ensures last) c.put_block.ensures

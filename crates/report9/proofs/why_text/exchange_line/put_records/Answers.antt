@@ -1,5 +1,3 @@
-use Rattle.std.proofs.Common.{◌+◌, ◌++◌, codes}
-use Rattle.std.specs.Fmt.{decimal}
 use Rattle.std.proofs.lemmas.Result.{on_ok_weaker}
 use Rattle.report9.specs.WhyText.{text_of_records}
 use Rattle.text9.proofs.PieceLemmas.{pieces3}
@@ -8,6 +6,5 @@ use Rattle.report9.proofs.why_text.exchange_line.put_records.Goals as goal
 pub returns : goal.returns
 unfolding text_of_records
 returns c =
-    on_ok_weaker c.put_count.result (λ last. pieces3 c.args.line.now.items
-    (codes "records " ++ decimal (c.args.at + 1)) (codes " to " ++ decimal (c.args.at + c.args.count)) (codes " at " ++ decimal c.args.time_us) _ _ _
+    on_ok_weaker c.put_count.result (λ last. pieces3 _ _ _ _ _ _ _
     c.in_ok-put_wide.ensures c.in_ok-put_wide-2.ensures last) c.put_count.ensures

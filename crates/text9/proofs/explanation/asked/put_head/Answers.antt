@@ -1,13 +1,10 @@
-use Rattle.std.proofs.Common.{◌/◌, ◌%◌, codes}
 use Rattle.std.proofs.lemmas.Result.{on_ok_weaker}
-use Rattle.block9.specs.Block.{head_of}
-use Rattle.text9.specs.Explanation.{hex_byte, text_of_head}
+use Rattle.text9.specs.Explanation.{text_of_head}
 use Rattle.text9.proofs.PieceLemmas.{pieces3}
 use Rattle.text9.proofs.explanation.asked.put_head.Goals as goal
 
 pub returns : goal.returns
 unfolding text_of_head
 returns c =
-    let head = head_of c.args.block.now in
-    on_ok_weaker c.put_hex-2.result (λ last. pieces3 c.args.line.now.items (hex_byte (head / 256)) (codes " ") (hex_byte (head % 256)) _ _ _
+    on_ok_weaker c.put_hex-2.result (λ last. pieces3 _ _ _ _ _ _ _
     (rw c.head-head.ensures at c.in_ok-put_hex.ensures) c.in_ok-put_text.ensures (rw c.head-head.ensures at last)) c.put_hex-2.ensures

@@ -1,13 +1,10 @@
-use Rattle.std.proofs.Common.{codes}
 use Rattle.std.proofs.lemmas.Result.{on_ok_weaker}
-use Rattle.block9.specs.Nak.{nak_bits}
-use Rattle.text9.specs.Explanation.{hex_byte, names_after, text_of_nak}
+use Rattle.text9.specs.Explanation.{text_of_nak}
 use Rattle.text9.proofs.PieceLemmas.{pieces3}
 use Rattle.text9.proofs.explanation.asked.put_nak.Goals as goal
 
 pub returns : goal.returns
 unfolding text_of_nak
 returns c =
-    let byte = c.args.nak.0 in
-    on_ok_weaker c.put_nak_names.result (λ last. pieces3 c.args.line.now.items (codes "NAK ") (hex_byte byte) (names_after (codes " ") byte nak_bits) _ _ _
+    on_ok_weaker c.put_nak_names.result (λ last. pieces3 _ _ _ _ _ _ _
     c.in_ok-put_text.ensures (rw (c.from.ensures, c.bits.ensures) at c.in_ok-put_hex.ensures) last) c.put_nak_names.ensures

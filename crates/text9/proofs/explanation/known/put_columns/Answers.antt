@@ -1,13 +1,10 @@
-use Rattle.std.proofs.Common.{◌++◌, codes}
 use Rattle.std.proofs.lemmas.Result.{on_ok_weaker}
-use Rattle.text9.specs.Explanation.{text_of_fields, text_of_knowledge, text_of_mode}
+use Rattle.text9.specs.Explanation.{text_of_knowledge}
 use Rattle.text9.proofs.PieceLemmas.{pieces3}
 use Rattle.text9.proofs.explanation.known.put_columns.Goals as goal
 
 pub returns : goal.returns
 unfolding text_of_knowledge
 returns c =
-    let k = c.args.knowledge.now in
-    on_ok_weaker c.put_fields.result (λ last. pieces3 c.args.line.now.items
-    (codes "goal " ++ text_of_mode k.goal) (codes ", shown " ++ text_of_mode k.shown) (text_of_fields c.args.hands k) _ _ _
+    on_ok_weaker c.put_fields.result (λ last. pieces3 _ _ _ _ _ _ _
     (rw c.mode_word.ensures at c.in_ok-put_word.ensures) (rw c.mode_word-2.ensures at c.in_ok-put_word-2.ensures) last) c.put_fields.ensures
