@@ -20,16 +20,13 @@ same_state s t goal shown entries local panel = by (λ g m x y z w l p. record {
     by : (make : Mode → Mode → Entry → Entry → Entry → Entry → Bool → Bool → State) → make s.goal s.shown s.ins s.outs s.ains s.aouts s.local s.panel ≡ make t.goal t.shown t.ins t.outs t.ains t.aouts t.local t.panel
     by make = cc (entries RegIn, entries RegOut, entries RegAudioIn, entries RegAudioOut)
 
-just_entry : (t d : State) (r : Register) → Is (asked_of r (just_state t)) (entry_of r d) → entry_of r d ≡ entry_of r t
-just_entry t d RegIn h = h
-just_entry t d _ h = h
-
 -- the state itself fits, and no other
 pub fits_self : (t : State) → Fits (just_state t) t
 fits_self t = record { goal = mode_just t.goal; shown = mode_just t.shown; registers = each_register _ refl refl refl refl; local = refl; panel = refl }
 
 pub fits_just : (t d : State) → Fits (just_state t) d → d ≡ t
-fits_just t d f = same_state d t (just_mode t.goal d.goal f.goal) (just_mode t.shown d.shown f.shown) (λ r. just_entry t d r (f.registers r)) f.local f.panel
+fits_just t d f = same_state d t (just_mode t.goal d.goal f.goal) (just_mode t.shown d.shown f.shown)
+    (each_register _ (f.registers RegIn) (f.registers RegOut) (f.registers RegAudioIn) (f.registers RegAudioOut)) f.local f.panel
 
 -- ---- more than one state
 
@@ -98,21 +95,15 @@ entry_was _ _ h = tt
 -- ---- states that differ in one field
 
 goal_state : (t d : State) (g : Mode) → t.goal ≡ g → Fits (any_goal t) d → t ≡ record d { goal = g }
-goal_state t d g same f = same_state t (record d { goal = g }) same (sym (just_mode t.shown d.shown f.shown)) each (sym f.local) (sym f.panel)
-  where
-    each : (r : Register) → entry_of r t ≡ entry_of r (record d { goal = g })
-    each RegIn = sym (f.registers RegIn)
-    each r = sym (f.registers r)
+goal_state t d g same f = same_state t (record d { goal = g }) same (sym (just_mode t.shown d.shown f.shown))
+    (each_register _ (sym (f.registers RegIn)) (sym (f.registers RegOut)) (sym (f.registers RegAudioIn)) (sym (f.registers RegAudioOut))) (sym f.local) (sym f.panel)
 
 fits_goal : (d : State) (g : Mode) → Fits (any_goal (record d { goal = g })) d
 fits_goal d g = record { goal = all_has d.goal; shown = mode_just d.shown; registers = each_register _ refl refl refl refl; local = refl; panel = refl }
 
 panel_state : (t d : State) (on : Bool) → t.panel ≡ on → Fits (record (just_state t) { panel = None }) d → t ≡ record d { panel = on }
-panel_state t d on same f = same_state t (record d { panel = on }) (sym (just_mode t.goal d.goal f.goal)) (sym (just_mode t.shown d.shown f.shown)) each (sym f.local) same
-  where
-    each : (r : Register) → entry_of r t ≡ entry_of r (record d { panel = on })
-    each RegIn = sym (f.registers RegIn)
-    each r = sym (f.registers r)
+panel_state t d on same f = same_state t (record d { panel = on }) (sym (just_mode t.goal d.goal f.goal)) (sym (just_mode t.shown d.shown f.shown))
+    (each_register _ (sym (f.registers RegIn)) (sym (f.registers RegOut)) (sym (f.registers RegAudioIn)) (sym (f.registers RegAudioOut))) (sym f.local) same
 
 fits_panel : (d : State) (on : Bool) → Fits (record (just_state (record d { panel = on })) { panel = None }) d
 fits_panel d on = record { goal = mode_just d.goal; shown = mode_just d.shown; registers = each_register _ refl refl refl refl; local = refl; panel = tt }
@@ -200,22 +191,15 @@ asked_from hands.Allowed effect.ForgetAll t d valid f = valid
 -- and from no other
 asked_to : (h : Hands) (e : Effect) (t d : State) → IsState d → Does h e d t → FitsSome (asked_before h e t) d
 asked_to h effect.Nothing t d valid does = subst (λ u. Fits (just_state u) d) (sym does) (fits_self d)
-asked_to h (effect.Go g) t d valid does =
-    subst (λ u. FitsSome (if is_mode u.goal g then Some (any_goal u) else None) d) (sym does)
-    (subst (λ (b : Bool). FitsSome (if b then Some (any_goal (record d { goal = g })) else None) d) (sym (mode_self g)) (fits_goal d g))
-asked_to h effect.KeepOrStop t d valid (inl does) =
-    subst (λ u. FitsSome (Some (if is_mode u.goal mode.Stop then any_goal u else just_state u)) d) (sym does)
-    (cond_both (is_mode d.goal mode.Stop) (any_goal d) (just_state d) (λ a. Fits a d) (λ e. fits_goal d d.goal) (λ e. fits_self d))
-asked_to h effect.KeepOrStop t d valid (inr does) =
-    subst (λ u. FitsSome (Some (if is_mode u.goal mode.Stop then any_goal u else just_state u)) d) (sym does) (fits_goal d mode.Stop)
+asked_to h (effect.Go g) t d valid does = rw (does, mode_self g) (fits_goal d g)
+asked_to h effect.KeepOrStop t d valid (inl does) = rw does (cond_both (is_mode d.goal mode.Stop) (any_goal d) (just_state d) (λ a. Fits a d) (λ e. fits_goal d d.goal) (λ e. fits_self d))
+asked_to h effect.KeepOrStop t d valid (inr does) = rw does (fits_goal d mode.Stop)
 asked_to h (effect.Change r c) t d valid does =
     let u = with_entry r does.0 d in
     subst (λ u. FitsSome (option_map (λ o. with_asked r o (just_state u)) (entry_before c (entry_of r u))) d) (sym does.2)
     (change_to r (entry_before c (entry_of r u)) does.0 d (becomes_to c (entry_of r d) (entry_of r u) (valid r) (subst (Becomes c (entry_of r d)) (sym (entry_put r does.0 d)) does.1)))
 asked_to hands.None (effect.Panel on) t d valid does = subst (λ u. Fits (just_state u) d) (sym does) (fits_self d)
-asked_to hands.Allowed (effect.Panel on) t d valid does =
-    subst (λ u. FitsSome (if same_fact u.panel on then Some (record (just_state u) { panel = None }) else None) d) (sym does)
-    (subst (λ (b : Bool). FitsSome (if b then Some (record (just_state (record d { panel = on })) { panel = None }) else None) d) (sym (fact_self on)) (fits_panel d on))
+asked_to hands.Allowed (effect.Panel on) t d valid does = rw (does, fact_self on) (fits_panel d on)
 asked_to h effect.ForgetTape t d valid does = fits_tape (Some t.local) (Some t.panel) t d (sym does.1) (sym does.2)
 asked_to h effect.ForgetRegisters t d valid does = fits_registers t d does.1 does.2 does.3 does.4
 asked_to hands.None effect.ForgetAll t d valid does = fits_tape None (Some t.panel) t d tt (sym does.1)

@@ -113,13 +113,9 @@ pub if_some_so : {A : Type 0} {P Q : A → Type 0} (o : Option A) → ((x : A) �
 if_some_so None f h = tt
 if_some_so (Some x) f h = f x h
 
--- a drift of the mechanics keeps the registers
-kept_entry : (r : Register) (s d : State) → KeepsRest s d → entry_of r d ≡ entry_of r s
-kept_entry r s d kept = ap (entry_of r) kept ∙ same_entry r s d.goal d.shown
-
 pub no_entry_runs : (r : Register) (p : PartStates) (a : Asked) (l pn : Bool) → (((e : Entry) × Allows (entries_of r p) e × Is (asked_of r a) e) → ⊥) → ((s : State) × HasState p l pn s × RunsTo a s) → ⊥
 no_entry_runs r p a l pn none (s, there, (d, kept, reaches, fits)) =
-    none (entry_of r s, there.inside.registers r, subst (λ e. Is (asked_of r a) e) (kept_entry r s d kept) (fits.registers r))
+    none (entry_of r s, there.inside.registers r, subst (λ e. Is (asked_of r a) e) (ap (entry_of r) kept ∙ same_entry r s d.goal d.shown) (fits.registers r))
 
 pub runs_there : (p : PartStates) (a : Asked) (f n : Mode) (x y z w : Entry) (l : Bool) → has_pair p.pairs f n ≡ true → PairRunsTo a.goals a.shown f n
     → Allows p.ins x × Is a.ins x → Allows p.outs y × Is a.outs y → Allows p.ains z × Is a.ains z → Allows p.aouts w × Is a.aouts w → Is a.local l → Is a.panel false

@@ -11,7 +11,7 @@ use Rattle.track9.proofs.FewLemmas.{FewIn, FewTimes, few_all_states, few_changed
 use Rattle.track9.proofs.ForgetLemmas.{forget_reached, registers_reached, tape_reached}
 use Rattle.track9.proofs.PartLemmas.{put_local, put_panel, read_put, same_entries}
 use Rattle.track9.proofs.ReachLemmas.{Keeps, mapped, reached_as, reached_by, reached_same, ReachedIn, by_mapped, in_live}
-use Rattle.track9.proofs.WholeLemmas.{drift_some, whole_all, whole_change, whole_drift, whole_forgotten, whole_goal, whole_in, whole_two, whole_live}
+use Rattle.track9.proofs.WholeLemmas.{drift_some, whole_all, whole_change, whole_drift, whole_forgotten, whole_goal, whole_in, whole_two}
 use Rattle.std.proofs.Math.Bool.{or-true}
 use Rattle.deck9.specs.declared.state.State.{State}
 use Rattle.deck9.specs.declared.effect.Effect.TheVariants as effect
@@ -37,7 +37,7 @@ leads Goes count keeps f h whole dead each = record {
 }
   where
     live_whole : (l : Bool) → Whole (where_live (f l) (in_local h l))
-    live_whole l = whole_live (in_local h l) (f l (in_local h l)) (whole_in h whole l) (λ live. (each l live).whole)
+    live_whole l = cond_both (is_live (in_local h l)) (f l (in_local h l)) (in_local h l) Whole (λ live. (each l live).whole) (λ none. whole_in h whole l)
 
 pub two_same : (g h : TwoParts) → g.remote ≡ h.remote → g.local ≡ h.local → g ≡ h
 two_same g h p q = ap (λ (r : PartStates). let k : TwoParts = record g { remote = r } in k) p ∙ ap (λ (l : PartStates). let k : TwoParts = record h { local = l } in k) q

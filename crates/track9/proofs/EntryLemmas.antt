@@ -55,9 +55,6 @@ in_union s t f h = or_cases (set.contains s f) (set.contains t f) (sym (set.cont
 left_union : (s t : Times) (f : ℕ) → set.contains s f ≡ true → set.contains (set.union s t) f ≡ true
 left_union s t f h = set.contains-union nat_cmp_total s t f ∙ rw h refl
 
-right_union : (s t : Times) (f : ℕ) → set.contains t f ≡ true → set.contains (set.union s t) f ≡ true
-right_union s t f h = set.contains-union nat_cmp_total s t f ∙ or_right (set.contains s f) _ h
-
 -- what a deck in local may do: all that it is asked, or nothing
 pub widened_from : (c : Change) (es : Entries) (d e : Entry) → Allows es d → Allows (widened c es) e → ((f : Entry) × Allows es f × Becomes c f e) ⊎ Allows es e
 widened_from (SetAt u) es d (At t) a h = elim (or_cases (eqb t u) (set.contains es.times t) (sym (contains-insert_nat es.times u t) ∙ h)) [ inl e ↦ inl (d, a, ap At (eqb-true t u e)) | inr e ↦ inr e ]
@@ -76,7 +73,7 @@ widened_to Reset es d e a b = rw b refl
 widened_to Recall es d Clear a b = refl
 widened_to Recall es d (At t) a b = day_in t b
 widened_to _ es Clear e a b = rw b a
-widened_to _ es (At t) e a b = rw b (right_union es.times _ _ (image_to _ es.times t a))
+widened_to _ es (At t) e a b = rw b (set.contains-union nat_cmp_total es.times _ _ ∙ or_right (set.contains es.times _) _ (image_to _ es.times t a))
 
 -- the times are times of the day
 pub widened_same : (c : Change) (es : Entries) (e : Entry) → BelowDay es.times → Allows es e → Allows (widened c es) e
@@ -102,9 +99,6 @@ agreeing_from (Some t) es (At u) h = cond_both (set.contains es.times t) (just t
     (λ s. set.contains s u ≡ true → (set.contains es.times u ≡ true) × ((At u ≡ Clear) ⊎ ((x : ℕ) × (Some t ≡ Some x) × (At u ≡ At x))))
     (λ e there. let same = just_is t u there in (subst (λ x. set.contains es.times x ≡ true) (sym same) e, inr (t, refl, ap At same))) (λ e there. from_empty u there) h
 
-agreeing_to : (t : ℕ) (es : Entries) → set.contains es.times t ≡ true → Allows (agreeing (Some t) es) (At t)
-agreeing_to t es h = subst (λ (b : Bool). set.contains (if b then just t else set.empty) t ≡ true) (sym h) (just_self t)
-
 -- exactly the entries that tell these bytes
 pub tells_from : (bytes : List ℕ) (es : Entries) (e : Entry) → Allows (agreeing (time_of bytes) es) e → Allows es e × Tells e bytes
 tells_from bytes es e h = let w = agreeing_from (time_of bytes) es e h in (w.0, told e w.1)
@@ -116,7 +110,8 @@ tells_from bytes es e h = let w = agreeing_from (time_of bytes) es e h in (w.0, 
 pub tells_to : (bytes : List ℕ) (es : Entries) (e : Entry) → Allows es e → Tells e bytes → Allows (agreeing (time_of bytes) es) e
 tells_to bytes es Clear h told = elim (time_of bytes) as (λ o. (agreeing o es).may_clear ≡ true) [ None ↦ h | Some t ↦ h ]
 tells_to bytes es (At t) h told =
-    subst (λ o. set.contains (agreeing o es).times t ≡ true) (sym (time_of-from_ReadsAs bytes t told)) (agreeing_to t es h)
+    subst (λ o. set.contains (agreeing o es).times t ≡ true) (sym (time_of-from_ReadsAs bytes t told))
+    (subst (λ (b : Bool). set.contains (if b then just t else set.empty) t ≡ true) (sym h) (just_self t))
 
 -- exactly the entries that agree with a bit
 pub says_from : (bit : ℕ) (datum : Option ℕ) (es : Entries) (e : Entry) → Allows (said (bit_in bit datum) es) e → Allows es e × Says bit (is_set e) datum
@@ -144,16 +139,13 @@ not_nil : (xs : List ℕ) → is_nil xs ≡ false → (f : ℕ) × (list_any (λ
 not_nil [] h = absurd (false≢true (sym h))
 not_nil (x ∷ xs) h = (x, or_left (nat_eq x x) _ (grind (arith, nat_tests)))
 
-time_there : (s : Times) (f : ℕ) → set.contains s f ≡ true → is_nil (set.items s) ≡ false
-time_there s f h = nil_none (set.items s) f (sym (contains-items_nat s f) ∙ h)
-
 pub there_time : (s : Times) → is_nil (set.items s) ≡ false → (f : ℕ) × (set.contains s f ≡ true)
 there_time s h = let w = not_nil (set.items s) h in (w.0, contains-items_nat s w.0 ∙ w.1)
 
 -- there is an entry exactly where one is allowed
 pub allowed_some : (es : Entries) (e : Entry) → Allows es e → some_entry es ≡ true
 allowed_some es Clear h = or_left es.may_clear _ h
-allowed_some es (At t) h = or_right es.may_clear _ (ap not (time_there es.times t h))
+allowed_some es (At t) h = or_right es.may_clear _ (ap not (nil_none (set.items es.times) t (sym (contains-items_nat es.times t) ∙ h)))
 
 pub some_allowed : (es : Entries) → some_entry es ≡ true → (e : Entry) × Allows es e
 some_allowed es h = elim (or_cases es.may_clear (not (is_nil (set.items es.times))) h) [
@@ -173,13 +165,8 @@ becomes_some Reset d = (Clear, refl)
 becomes_some Recall d = (Clear, tt)
 
 -- a change of some entry leaves some
-pub changed_some : (c : Change) (es : Entries) → some_entry es ≡ true → some_entry (changed c es) ≡ true
-changed_some c es h = let w = some_allowed es h in let v = becomes_some c w.0 in
-    allowed_some (changed c es) v.0 (changed_to c es w.0 v.0 w.1 v.1)
-
-pub widened_some : (c : Change) (es : Entries) → some_entry es ≡ true → some_entry (widened c es) ≡ true
-widened_some c es h = let w = some_allowed es h in let v = becomes_some c w.0 in
-    allowed_some (widened c es) v.0 (widened_to c es w.0 v.0 w.1 v.1)
+pub some_to : (c : Change) (es new : Entries) → ((d e : Entry) → Allows es d → Becomes c d e → Allows new e) → some_entry es ≡ true → some_entry new ≡ true
+some_to c es new to h = let w = some_allowed es h in let v = becomes_some c w.0 in allowed_some new v.0 (to w.0 v.0 w.1 v.1)
 
 nil_any : (xs : List ℕ) (f : ℕ) → is_nil xs ≡ true → list_any (λ y. nat_eq y f) xs ≡ false
 nil_any [] f h = refl

@@ -18,33 +18,24 @@ FewTimes n es = begin_count es.times ≤ n + 1
 abbrev pub FewIn : Presets → PartStates → Type 0
 FewIn n p = (r : Register) → FewTimes (count_of r n) (entries_of r p)
 
-few_none : (n : ℕ) → begin_count set.empty ≤ n + 1
-few_none n = omega (arith, begin_count-empty)
-
-few_every : (n : ℕ) → begin_count every_time ≤ n + 1
-few_every n = omega (arith, begin_count-every_time)
-
-few_just : (n t : ℕ) → begin_count (just t) ≤ n + 1
-few_just n t = omega (arith, begin_count-just t)
-
 pub few_all_states : (n : Presets) → FewIn n all_states
-few_all_states n RegIn = few_every _
-few_all_states n _ = few_every _
+few_all_states n RegIn = omega (arith, begin_count-every_time)
+few_all_states n _ = omega (arith, begin_count-every_time)
 
 pub few_no_states : (n : Presets) → FewIn n no_states
-few_no_states n RegIn = few_none _
-few_no_states n _ = few_none _
+few_no_states n RegIn = omega (arith, begin_count-empty)
+few_no_states n _ = omega (arith, begin_count-empty)
 
 -- ---- entries
 
 pub few_agreeing : (n : ℕ) (o : Option ℕ) (es : Entries) → FewTimes n (agreeing o es)
-few_agreeing n None es = few_none n
-few_agreeing n (Some t) es = cond_both (set.contains es.times t) (just t) set.empty (λ s. begin_count s ≤ n + 1) (λ e. few_just n t) (λ e. few_none n)
+few_agreeing n None es = omega (arith, begin_count-empty)
+few_agreeing n (Some t) es = cond_both (set.contains es.times t) (just t) set.empty (λ s. begin_count s ≤ n + 1) (λ e. omega (arith, begin_count-just t)) (λ e. omega (arith, begin_count-empty))
 
 pub few_said : (n : ℕ) (o : Option Bool) (es : Entries) → FewTimes n es → FewTimes n (said o es)
 few_said n None es h = h
 few_said n (Some true) es h = h
-few_said n (Some false) es h = few_none n
+few_said n (Some false) es h = omega (arith, begin_count-empty)
 
 -- the presets to a register after one more change
 abbrev pub counted_to : Change → ℕ → ℕ
@@ -52,27 +43,24 @@ counted_to (SetAt t) n = one_more n
 counted_to _ n = n
 
 changed_few : (c : Change) (es : Entries) (n : ℕ) → BelowDay es.times → FewTimes n es → FewTimes (counted_to c n) (changed c es)
-changed_few SetSomewhere es n below h = few_every n
-changed_few (SetAt t) es n below h = few_just (one_more n) t
+changed_few SetSomewhere es n below h = omega (arith, begin_count-every_time)
+changed_few (SetAt t) es n below h = omega (arith, begin_count-just t)
 changed_few Next es n below h = omega (arith, begin_count-next es.times below, h)
 changed_few Prev es n below h = omega (arith, begin_count-prev es.times below, h)
-changed_few Reset es n below h = few_none n
-changed_few Recall es n below h = few_every n
+changed_few Reset es n below h = omega (arith, begin_count-empty)
+changed_few Recall es n below h = omega (arith, begin_count-every_time)
 
 -- a day has fewer beginnings than can be counted
 few_in_day : (s : Times) → BelowDay s → begin_count s ≤ 1080000
 few_in_day s below = omega (arith, begin_count-span_count s, span_count-in_day s below)
 
-inserted_few : (s : Times) (t n : ℕ) → begin_count s ≤ n + 1 → begin_count (set.insert s t) ≤ 1080000 → begin_count (set.insert s t) ≤ one_more n + 1
-inserted_few s t n h few = omega (arith, begin_count-insert s t, h, few)
-
 widened_few : (c : Change) (es : Entries) (n : ℕ) → BelowDay es.times → BelowDay (widened c es).times → FewTimes n es → FewTimes (counted_to c n) (widened c es)
-widened_few SetSomewhere es n below after h = few_every n
-widened_few (SetAt t) es n below after h = inserted_few es.times t n h (few_in_day (set.insert es.times t) after)
+widened_few SetSomewhere es n below after h = omega (arith, begin_count-every_time)
+widened_few (SetAt t) es n below after h = omega (arith, begin_count-insert es.times t, h, few_in_day (set.insert es.times t) after)
 widened_few Next es n below after h = omega (arith, begin_count-widened_next es.times below, h)
 widened_few Prev es n below after h = omega (arith, begin_count-widened_prev es.times below, h)
 widened_few Reset es n below after h = h
-widened_few Recall es n below after h = few_every n
+widened_few Recall es n below after h = omega (arith, begin_count-every_time)
 
 pub few_changed : (may_stay : Bool) (c : Change) (es : Entries) (n : ℕ) → BelowDay es.times → BelowDay (changed_entries may_stay c es).times → FewTimes n es → FewTimes (counted_to c n) (changed_entries may_stay c es)
 few_changed false c es n below after h = changed_few c es n below h

@@ -1,11 +1,11 @@
 -- A register that changes, and a new goal: what they make of the states of a part.
-use Rattle.std.proofs.Common.{◌≡◌, ◌⊎◌, inl, inr, Bool, true, false, if◌then◌else◌, slice_set, refl, sym, ap, ◌∙◌, subst, List}
-use Rattle.std.proofs.lemmas.Bool.{cond_both, eq-eqb, false≢true}
+use Rattle.std.proofs.Common.{◌≡◌, ◌⊎◌, ◌||◌, inl, inr, Bool, true, false, if◌then◌else◌, slice_set, refl, sym, ap, ◌∙◌, subst, List}
+use Rattle.std.proofs.lemmas.Bool.{cond_both, eq-eqb, false≢true, or_cases, or_left, or_right}
 use Rattle.track9.specs.Working.Deck.{Becomes, BelowDay, Change, Entry, Mode, Register, State, Stop, entry_of, index_of, is_mode, with_entry}
 use Rattle.track9.proofs.Sets.{Allows, InPart, ModeSet, PartStates, Whole, changed_entries, changed_part, either, entries_of, goes, gone, gone_pairs, gone_part, gone_with, has}
 use Rattle.track9.proofs.Sets.{has_pair, is_live, joined, modes, no_pairs, shown_with, with_entries}
 use Rattle.deck9.proofs.ModeLemmas.{is_mode-same}
-use Rattle.track9.proofs.PairLemmas.{goes_from, goes_to, left2, nothing_has, or2, right2}
+use Rattle.track9.proofs.PairLemmas.{goes_from, goes_to, has-or, nothing_has}
 use Rattle.track9.proofs.PartLemmas.{in_pairs, pairs_registers, shown_by_goal, entry_put, in_put, own, put_back, put_local, put_panel, put_there, read_put}
 use Rattle.track9.proofs.ReachLemmas.{ReachedIn}
 use Rattle.track9.proofs.EntryLemmas.{changed_from, changed_to, some_allowed, widened_from, widened_same, widened_to}
@@ -82,30 +82,21 @@ gone_to goal p m h =
     subst (λ (x : ModeSet). has x.0 m ≡ true) (sym (shown_by_goal (gone_with goal p) goal))
     (subst (λ (b : Bool). has (if b then goes p else modes 0).0 m ≡ true) (sym (eq-eqb (index_of goal) (index_of goal) refl)) h)
 
-joined_from : (p q : List ModeSet) (g m : Mode) → has_pair (joined p q) g m ≡ true → (has_pair p g m ≡ true) ⊎ (has_pair q g m ≡ true)
-joined_from p q g m h =
-    or2 (shown_with p g) (shown_with q g) m (subst (λ (x : ModeSet). has x.0 m ≡ true) (shown_by_goal (λ f. either (shown_with p f) (shown_with q f)) g) h)
-
-joined_left : (p q : List ModeSet) (g m : Mode) → has_pair p g m ≡ true → has_pair (joined p q) g m ≡ true
-joined_left p q g m h =
-    subst (λ (x : ModeSet). has x.0 m ≡ true) (sym (shown_by_goal (λ f. either (shown_with p f) (shown_with q f)) g)) (left2 (shown_with p g) (shown_with q g) m h)
-
-joined_right : (p q : List ModeSet) (g m : Mode) → has_pair q g m ≡ true → has_pair (joined p q) g m ≡ true
-joined_right p q g m h =
-    subst (λ (x : ModeSet). has x.0 m ≡ true) (sym (shown_by_goal (λ f. either (shown_with p f) (shown_with q f)) g)) (right2 (shown_with p g) (shown_with q g) m h)
+joined_has : (p q : List ModeSet) (g m : Mode) → has_pair (joined p q) g m ≡ (has_pair p g m || has_pair q g m)
+joined_has p q g m = ap (λ (x : ModeSet). has x.0 m) (shown_by_goal (λ f. either (shown_with p f) (shown_with q f)) g) ∙ has-or (shown_with p g).0 (shown_with q g).0 m
 
 pub goal_pair_from : (may_stay : Bool) (goal : Mode) (p : List ModeSet) (g m : Mode) → has_pair (gone_pairs may_stay goal p) g m ≡ true
     → ((g ≡ goal) × (has (goes p).0 m ≡ true)) ⊎ ((may_stay ≡ true) × (has_pair p g m ≡ true))
 goal_pair_from false goal p g m h = inl (gone_from goal p g m h)
-goal_pair_from true goal p g m h = elim (joined_from p (gone goal p) g m h) [ inl stays ↦ inr (refl, stays) | inr goes ↦ inl (gone_from goal p g m goes) ]
+goal_pair_from true goal p g m h = elim (or_cases _ _ (sym (joined_has p (gone goal p) g m) ∙ h)) [ inl stays ↦ inr (refl, stays) | inr goes ↦ inl (gone_from goal p g m goes) ]
 
 pub goal_pair_goes : (may_stay : Bool) (goal : Mode) (p : List ModeSet) (m : Mode) → has (goes p).0 m ≡ true → has_pair (gone_pairs may_stay goal p) goal m ≡ true
 goal_pair_goes false goal p m h = gone_to goal p m h
-goal_pair_goes true goal p m h = joined_right p (gone goal p) goal m (gone_to goal p m h)
+goal_pair_goes true goal p m h = joined_has p (gone goal p) goal m ∙ or_right (has_pair p goal m) _ (gone_to goal p m h)
 
 goal_pair_stays : (may_stay : Bool) (goal : Mode) (p : List ModeSet) (g m : Mode) → may_stay ≡ true → has_pair p g m ≡ true → has_pair (gone_pairs may_stay goal p) g m ≡ true
 goal_pair_stays false goal p g m stays h = absurd (false≢true stays)
-goal_pair_stays true goal p g m stays h = joined_left p (gone goal p) g m h
+goal_pair_stays true goal p g m stays h = joined_has p (gone goal p) g m ∙ or_left (has_pair p g m) _ h
 
 pub goal_reached : (may_stay : Bool) (goal : Mode) (l pn : Bool) (p : PartStates) → ReachedIn (GoesFor may_stay goal) l pn p (gone_part may_stay goal p)
 goal_reached may_stay goal l pn p = record {

@@ -17,9 +17,6 @@ use Rattle.track9.proofs.WholeLemmas.{whole_in, whole_of}
 
 -- ---- one set of entries
 
-at_set : (e : Entry) (t : ℕ) → e ≡ At t → is_set e ≡ true
-at_set e t h = ap is_set h
-
 at_same : (t u : ℕ) → At t ≡ At u → t ≡ u
 at_same t u e = cc
 
@@ -36,11 +33,7 @@ knows_at es t clear one (At u) a = ap At (just_is t u (subst (λ s. set.contains
 -- ---- a time beside another
 
 only_has : (s : Times) (a f : ℕ) → set.contains s a ≡ true → set.contains (set.remove s a) f ≡ false → set.contains s f ≡ set.contains (just a) f
-only_has s a f there gone = at (eqb f a) refl
-  where
-    at : (b : Bool) → eqb f a ≡ b → set.contains s f ≡ set.contains (just a) f
-    at true e = subst (λ g. set.contains s g ≡ true) (sym (eqb-true f a e)) there ∙ sym (contains-just a f ∙ e)
-    at false e = sym (ap (λ b. not b && set.contains s f) e) ∙ sym (contains-remove_nat s a f) ∙ gone ∙ sym (contains-just a f ∙ e)
+only_has s a f there gone = grind (arith, nat_tests, contains-just, contains-remove_nat)
 
 only_one : (s : Times) (a : ℕ) → set.contains s a ≡ true → is_nil (set.items (set.remove s a)) ≡ true → s ≡ just a
 only_one s a there none =
@@ -90,7 +83,7 @@ knows_two : (E F : Entry → Type 0) (t u : ℕ) → ((e : Entry) × E e) → ((
 knows_two E F t u some other h k = cond_both (t == u) (entry.At t) entry.SetSomewhere (KnowsOf (Either E F))
     (λ e f a. elim a [ inl x ↦ h f x | inr y ↦ k f y ∙ ap At (sym (eqb-true t u e)) ])
     (λ e. (
-      λ f a. elim a [ inl x ↦ at_set f t (h f x) | inr y ↦ at_set f u (k f y) ],
+      λ f a. elim a [ inl x ↦ ap is_set (h f x) | inr y ↦ ap is_set (k f y) ],
       (At t, At u, inl (its E (At t) some h), inr (its F (At u) other k), λ same. false≢true (sym e ∙ same_eqb u t (sym (at_same t u same)))),
     ))
 
@@ -99,14 +92,14 @@ knows_joined E F entry.Clear entry.Clear some other h k = λ e a. elim a [ inl x
 knows_joined E F (entry.At t) (entry.At u) some other h k = knows_two E F t u some other h k
 knows_joined E F entry.Unknown _ some other h k = (inl h.0, (h.1.0, inl h.1.1, h.1.2))
 knows_joined E F _ entry.Unknown some other h k = (inr k.0, (k.1.0, inr k.1.1, k.1.2))
-knows_joined E F entry.Clear (entry.At u) some other h k = (inl (its E Clear some h), (other.0, inr other.1, at_set other.0 u (k other.0 other.1)))
+knows_joined E F entry.Clear (entry.At u) some other h k = (inl (its E Clear some h), (other.0, inr other.1, ap is_set (k other.0 other.1)))
 knows_joined E F entry.Clear entry.SetSomewhere some other h k = (inl (its E Clear some h), (other.0, inr other.1, k.0 other.0 other.1))
-knows_joined E F (entry.At t) entry.Clear some other h k = (inr (its F Clear other k), (some.0, inl some.1, at_set some.0 t (h some.0 some.1)))
+knows_joined E F (entry.At t) entry.Clear some other h k = (inr (its F Clear other k), (some.0, inl some.1, ap is_set (h some.0 some.1)))
 knows_joined E F entry.SetSomewhere entry.Clear some other h k = (inr (its F Clear other k), (some.0, inl some.1, h.0 some.0 some.1))
 knows_joined E F (entry.At t) entry.SetSomewhere some other h k =
-    (λ e a. elim a [ inl x ↦ at_set e t (h e x) | inr y ↦ k.0 e y ], (k.1.0, k.1.1, inr k.1.2, inr k.1.3, k.1.4))
+    (λ e a. elim a [ inl x ↦ ap is_set (h e x) | inr y ↦ k.0 e y ], (k.1.0, k.1.1, inr k.1.2, inr k.1.3, k.1.4))
 knows_joined E F entry.SetSomewhere (entry.At u) some other h k =
-    (λ e a. elim a [ inl x ↦ h.0 e x | inr y ↦ at_set e u (k e y) ], (h.1.0, h.1.1, inl h.1.2, inl h.1.3, h.1.4))
+    (λ e a. elim a [ inl x ↦ h.0 e x | inr y ↦ ap is_set (k e y) ], (h.1.0, h.1.1, inl h.1.2, inl h.1.3, h.1.4))
 knows_joined E F entry.SetSomewhere entry.SetSomewhere some other h k =
     (λ e a. elim a [ inl x ↦ h.0 e x | inr y ↦ k.0 e y ], (h.1.0, h.1.1, inl h.1.2, inl h.1.3, h.1.4))
 

@@ -185,14 +185,10 @@ of_panel v pn whole live = elim (or_cases (is_live (part_of v false pn)) (is_liv
 
 pub local_known : (v : StateSet) (a b : Bool) → a ≡ (is_live (part_of v false false) || is_live (part_of v false true)) → b ≡ (is_live (part_of v true false) || is_live (part_of v true true)) → AreWhole v → some_state v ≡ true → (k : Known Bool) → k ≡ known_fact a b
     → IsKnown (Possible v) (λ (s : State). s.local) k
-local_known v a b p q whole live k e =
-    subst (λ k. IsKnown (Possible v) (λ (s : State). s.local) k) (sym (e ∙ ap (λ x. known_fact x b) p ∙ ap (λ x. known_fact (is_live (part_of v false false) || is_live (part_of v false true)) x) q))
-    (fact_by (Possible v) (λ (s : State). s.local) (is_live (part_of v false false) || is_live (part_of v false true)) (is_live (part_of v true false) || is_live (part_of v true true))
-    (local_live v false) (local_live v true) (of_local v false whole) (of_local v true whole) (live_some v whole live))
+local_known v a b p q whole live k e = rw (e, p, q)
+    (fact_by (Possible v) (λ (s : State). s.local) _ _ (local_live v false) (local_live v true) (of_local v false whole) (of_local v true whole) (live_some v whole live))
 
 pub panel_known : (v : StateSet) (a b : Bool) → a ≡ some_two v.off → b ≡ is_panel_live v → AreWhole v → some_state v ≡ true → (k : Known Bool) → k ≡ known_fact a b
     → IsKnown (Possible v) (λ (s : State). s.panel) k
-panel_known v a b p q whole live k e =
-    subst (λ k. IsKnown (Possible v) (λ (s : State). s.panel) k) (sym (e ∙ ap (λ x. known_fact x b) p ∙ ap (λ x. known_fact (some_two v.off) x) q))
-    (fact_by (Possible v) (λ (s : State). s.panel) (some_two v.off) (is_panel_live v)
-    (panel_live v false) (panel_live v true) (of_panel v false whole) (of_panel v true whole) (live_some v whole live))
+panel_known v a b p q whole live k e = rw (e, p, q)
+    (fact_by (Possible v) (λ (s : State). s.panel) _ _ (panel_live v false) (panel_live v true) (of_panel v false whole) (of_panel v true whole) (live_some v whole live))

@@ -16,41 +16,23 @@ use Rattle.track9.specs.ModeSet.{bit_of, has}
 scaled : (b k : ℕ) → b < 2 → (b * 2 ^ k == 2 ^ k) ≡ (b == 1)
 scaled b k h = grind (arith, nat_tests, pow_pos k)
 
-max_bit : (x y : ℕ) → x < 2 → y < 2 → (max x y == 1) ≡ ((x == 1) || (y == 1))
-max_bit x y p q = grind (arith, nat_tests)
-
-min_bit : (x y : ℕ) → x < 2 → y < 2 → (min x y == 1) ≡ ((x == 1) && (y == 1))
-min_bit x y p q = grind (arith, nat_tests)
-
 -- a set has a mode where its bit is 1
 pub has-bit : (set : ℕ) (m : Mode) → has set m ≡ (bit_at set (index_of m) == 1)
 has-bit set m = ap (λ x. x == bit_of m) (and_pow set (index_of m)) ∙ scaled (bit_at set (index_of m)) (index_of m) (bit_at-lt set (index_of m))
 
 pub has-or : (a b : ℕ) (m : Mode) → has (bit_or a b) m ≡ (has a m || has b m)
-has-or a b m =
-    has-bit (bit_or a b) m ∙ ap (λ n. n == 1) (bit_at_or a b (index_of m))
-    ∙ max_bit _ _ (bit_at-lt a (index_of m)) (bit_at-lt b (index_of m))
-    ∙ sym (rw (has-bit a m, has-bit b m) refl)
+has-or a b m = let k = index_of m in
+    rw (has-bit (bit_or a b) m, has-bit a m, has-bit b m, bit_at_or a b k) (grind (arith, nat_tests, bit_at-lt a k, bit_at-lt b k))
 
 pub has-and : (a b : ℕ) (m : Mode) → has (bit_and a b) m ≡ (has a m && has b m)
-has-and a b m =
-    has-bit (bit_and a b) m ∙ ap (λ n. n == 1) (bit_at_and a b (index_of m))
-    ∙ min_bit _ _ (bit_at-lt a (index_of m)) (bit_at-lt b (index_of m))
-    ∙ sym (rw (has-bit a m, has-bit b m) refl)
+has-and a b m = let k = index_of m in
+    rw (has-bit (bit_and a b) m, has-bit a m, has-bit b m, bit_at_and a b k) (grind (arith, nat_tests, bit_at-lt a k, bit_at-lt b k))
 
 -- what is asked of every mode is asked of this one
 pub has_every : (asked : Mode → Bool) (m : Mode)
     → list_any (λ x. is_mode m x && asked x) (Stop ∷ Play ∷ Rec ∷ FastForward ∷ Rewind ∷ Shuttle ∷ Jog ∷ Var ∷ Cued ∷ Eject ∷ []) ≡ asked m
 has_every asked Stop = or-false (asked Stop)
-has_every asked Play = or-false (asked Play)
-has_every asked Rec = or-false (asked Rec)
-has_every asked FastForward = or-false (asked FastForward)
-has_every asked Rewind = or-false (asked Rewind)
-has_every asked Shuttle = or-false (asked Shuttle)
-has_every asked Jog = or-false (asked Jog)
-has_every asked Var = or-false (asked Var)
-has_every asked Cued = or-false (asked Cued)
-has_every asked Eject = or-false (asked Eject)
+has_every asked m = or-false (asked m)
 
 -- ---- one mode
 

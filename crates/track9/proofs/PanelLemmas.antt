@@ -166,10 +166,9 @@ wide_step : (c : Command) (reply : Block) (e : Effect) (d t : State) → acknowl
 wide_step c reply e d t was wide step = by (not_nak c reply e was wide) step
   where
     never_both : (e : Effect) → is_wide e ≡ true → is_of_goal_or_register e ≡ true → ⊥
-    never_both (effect.Go g) wide may = false≢true wide
-    never_both effect.KeepOrStop wide may = false≢true wide
-    never_both (effect.Change r x) wide may = false≢true wide
-    never_both _ wide may = false≢true may
+    never_both (effect.Panel on) wide may = false≢true may
+    never_both effect.ForgetAll wide may = false≢true may
+    never_both _ wide may = false≢true wide
 
     by : (is_nak reply ≡ false) × (effect_of c ≡ e) → Step hands.Allowed c reply d t → Does hands.Allowed e d t
     by w (refused nak same) = absurd (false≢true (sym w.0 ∙ nak))
@@ -255,9 +254,8 @@ follows_panel c reply on v w was same whole below = subst (Follows hands.Allowed
 
     are_few : (n : Presets) → AreFew n v → (on b : Bool) → AreFew n (switched on (if b then all_or_none true else two_drifted v.off))
     are_few n few false b false = known_few v n few b
-    are_few n few false b true = few_two n false
-    are_few n few true b false = few_two n false
     are_few n few true b true = known_few v n few b
+    are_few n few _ b _ = few_two n false
 
 pub first_whole : (h : Hands) → AreWhole (first_states h)
 first_whole hands.None = record { off = whole_two true; on = whole_two false }

@@ -81,9 +81,8 @@ passed_from on v t i = by on t.panel refl i
   where
     by : (on pn : Bool) → t.panel ≡ pn → Possible (panel_passed on v) t → Possible (all_drifted v) t ⊎ Possible (after_panel on v) t
     by true false e i = inl (of_two (all_drifted v) t false (to_two (panel_passed true v) t false e i))
-    by true true e i = inr (of_two (after_panel true v) t true (to_two (panel_passed true v) t true e i))
-    by false false e i = inr (of_two (after_panel false v) t false (to_two (panel_passed false v) t false e i))
     by false true e i = inl (of_two (all_drifted v) t true (to_two (panel_passed false v) t true e i))
+    by on pn e i = inr (of_two (after_panel on v) t pn (to_two (panel_passed on v) t pn e i))
 
 stays_passed : (on : Bool) (v : StateSet) (t : State) → IsState t → Possible (all_drifted v) t → Possible (panel_passed on v) t
 stays_passed on v t valid i = by on t.panel refl i
@@ -133,9 +132,8 @@ passed_panel c on v w is same whole below = subst (FollowsPassed hands.Allowed c
 
     are_few : (n : Presets) → AreFew n v → (on : Bool) → AreFew n (panel_passed on v)
     are_few n few true false = drift_few n v.off (few false)
-    are_few n few true true = known_few v n few (is_panel_live v)
-    are_few n few false false = known_few v n few (is_panel_live v)
     are_few n few false true = few_two n (is_panel_live v)
+    are_few n few _ _ = known_few v n few (is_panel_live v)
 
 pub passed_forget : (c : Command) (v w : StateSet) → effect_of c ≡ effect.ForgetAll → hands_of v ≡ hands.Allowed → w ≡ (if some_state v then first_states hands.Allowed else v) → AreWhole v → AreBelow v → FollowsPassed hands.Allowed c v w
 passed_forget c v w is allowed same whole below = leads_forgotten (Passes hands.Allowed c) (with_command c) v w allowed same whole

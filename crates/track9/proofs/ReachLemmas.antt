@@ -131,9 +131,6 @@ part_drift_to p s t h kept step =
 pub mechanics : (s t : State) → Drift hands.None s t → KeepsRest s t × PairReaches s.goal s.shown t.goal t.shown
 mechanics s t d = elim (pairs_from_drift hands.None s t d) [ inl kept ↦ kept | inr hand ↦ cc ]
 
-drift_keeps : Keeps (Drift hands.None)
-drift_keeps = record { local = λ s t d. ap (λ (u : State). u.local) (mechanics s t d).0; panel = λ s t d. ap (λ (u : State). u.panel) (mechanics s t d).0 }
-
 -- and it is one with hands too, unless the panel is on
 pub same_drift : (h : Hands) (s t : State) → Drift hands.None s t → Drift h s t
 same_drift h s t d = drift_from_pairs h s t (inl (mechanics s t d))
@@ -151,7 +148,8 @@ pub drift_state : (h : Hands) (s d : State) → IsState s → Drift h s d → Is
 drift_state h s d valid drift = elim (pairs_from_drift h s d drift) [ inl kept ↦ same_entries s d kept.0 valid | inr (allowed, before, after, there) ↦ there ]
 
 pub drift_reached : (h : TwoParts) (pn : Bool) → AreReached (InTwo pn h) (Drift hands.None) (InTwo pn (two_drifted h))
-drift_reached h = by_mapped (Drift hands.None) drift_keeps (λ l. drifted_part) h (λ l pn. record {
+drift_reached h = by_mapped (Drift hands.None)
+    (record { local = λ s t d. ap (λ (u : State). u.local) (mechanics s t d).0; panel = λ s t d. ap (λ (u : State). u.panel) (mechanics s t d).0 }) (λ l. drifted_part) h (λ l pn. record {
   from = λ t el ep i. let w = part_drift_from (in_local h l) t i in (w.0, w.1, w.4 ∙ el, w.5 ∙ ep, drift_from_pairs hands.None w.0 t (inl (w.2, w.3)));
   to = λ s t el ep i d. let m = mechanics s t d in part_drift_to (in_local h l) s t i m.0 m.1;
 })

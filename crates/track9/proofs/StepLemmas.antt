@@ -90,9 +90,6 @@ sensed_is r time h = two_same (two_sensed r time h) (map_two (λ l. where_live (
     by p true = refl
     by p false = refl
 
-few_sensed : (n : Presets) (r : Register) (time : Option ℕ) (p : PartStates) → FewIn n p → FewIn n (sensed_part r time p)
-few_sensed n r time p h = few_settled n (with_entries r (agreeing time (entries_of r p)) p) (few_put n r (agreeing time (entries_of r p)) p h (few_agreeing _ time (entries_of r p)))
-
 drift_settled : (p : PartStates) → drifted_part (settled p) ≡ settled (drifted_part p)
 drift_settled p =
     (elim (is_live p && some_entry p.ins && some_entry p.outs && some_entry p.ains && some_entry p.aouts)
@@ -116,7 +113,7 @@ exchanged_sense c reply r time h g k nak asks read sensed drifted whole =
     (leads (TellsOf r reply.bytes.items) (λ n. n) (still_keeps _) (λ l. sensed_part r at) d (drift_whole h whole) (λ l n few. few) (λ l live. record {
       reached = λ pn. sense_reached r reply.bytes.items l pn (in_local d l);
       whole = whole_settled (with_entries r (agreeing at (entries_of r (in_local d l))) (in_local d l));
-      few = λ n few. few_sensed n r at (in_local d l) few;
+      few = λ n few. few_settled n _ (few_put n r (agreeing at (entries_of r (in_local d l))) (in_local d l) few (few_agreeing _ at (entries_of r (in_local d l))));
     })))
 
 -- ---- status
@@ -132,16 +129,13 @@ says_agrees false None e = refl
 says_agrees true (Some byte) e = e
 says_agrees false (Some byte) e = ap not e
 
-few_shown : (n : Presets) (mask : ModeSet) (d : Option ℕ) (p : PartStates) → FewIn n p → FewIn n (shown_part mask d p)
-few_shown n mask d p h = few_settled n (shown_factors mask d p) (each_register _ (few_said n.ins (bit_in 0x01 d) p.ins (h RegIn)) (few_said n.outs (bit_in 0x02 d) p.outs (h RegOut))
-    (few_said n.ains (bit_in 0x04 d) p.ains (h RegAudioIn)) (few_said n.aouts (bit_in 0x08 d) p.aouts (h RegAudioOut)))
-
 whole_status : (b : Bool) (mask : ModeSet) (d : Option ℕ) (p : PartStates) → Whole (status_part b mask d p)
 whole_status true mask d p = whole_settled (shown_factors mask d p)
 whole_status false mask d p = whole_none
 
 few_status : (n : Presets) (b : Bool) (mask : ModeSet) (d : Option ℕ) (p : PartStates) → FewIn n p → FewIn n (status_part b mask d p)
-few_status n true mask d p h = few_shown n mask d p h
+few_status n true mask d p h = few_settled n (shown_factors mask d p) (each_register _ (few_said n.ins (bit_in 0x01 d) p.ins (h RegIn)) (few_said n.outs (bit_in 0x02 d) p.outs (h RegOut))
+    (few_said n.ains (bit_in 0x04 d) p.ains (h RegAudioIn)) (few_said n.aouts (bit_in 0x08 d) p.aouts (h RegAudioOut)))
 few_status n false mask d p h = few_no_states n
 
 pub reads_status : (asked : ℕ) (reply : Block) (a : LocalFits) (mask : ModeSet) (h g : TwoParts) → a.remote ≡ agrees_local false (datum asked reply 0) → a.local ≡ agrees_local true (datum asked reply 0)

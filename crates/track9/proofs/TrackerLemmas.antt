@@ -74,9 +74,6 @@ are_times v r l pn whole t = (
   λ w. of_part v r l pn (At t) w,
 )
 
-one_set : (X : State → Type 0) (r : Register) (l pn : Bool) (a b : Times) → AreTimes X r l pn a → AreTimes X r l pn b → a ≡ b
-one_set X r l pn a b h k = same_times a b (λ t. same_test (set.contains a t) (set.contains b t) (λ x. (k t).1 ((h t).0 x)) (λ x. (h t).1 ((k t).0 x)))
-
 is_one : (a b c d n : ℕ) → n ≡ max (max a b) (max c d) → (a ≡ n) ⊎ ((b ≡ n) ⊎ ((c ≡ n) ⊎ (d ≡ n)))
 is_one a b c d n e = grind arith
 
@@ -84,7 +81,7 @@ pub span_count_is : (v : StateSet) (r : Register) (n : ℕ) → AreWhole v
     → n ≡ max (max (span_count (entries_of r (part_of v false false)).times) (span_count (entries_of r (part_of v true false)).times)) (max (span_count (entries_of r (part_of v false true)).times) (span_count (entries_of r (part_of v true true)).times))
     → IsSpanCount (Possible v) r n
 span_count_is v r n whole e = record {
-  most = λ l pn times h. subst (λ s. span_count s ≤ n) (one_set (Possible v) r l pn (entries_of r (part_of v l pn)).times times (are_times v r l pn whole) h) (each l pn);
+  most = λ l pn times h. subst (λ s. span_count s ≤ n) (let here = are_times v r l pn whole in same_times _ times (λ t. same_test _ _ (λ x. (h t).1 ((here t).0 x)) (λ x. (here t).1 ((h t).0 x)))) (each l pn);
   met = elim (is_one _ _ _ _ n e) [
     | inl p ↦ (false, false, (entries_of r (part_of v false false)).times, are_times v r false false whole, p)
     | inr (inl p) ↦ (true, false, (entries_of r (part_of v true false)).times, are_times v r true false whole, p)

@@ -6,7 +6,7 @@ use Rattle.track9.specs.Working.Deck.{Change, Mode, RegIn, Register}
 use Rattle.track9.proofs.Sets.{AreWhole, Entries, ModeSet, PartStates, StateSet, TwoParts, TwoWhole, Whole, all_or_none, all_states, changed_entries, changed_part, drifted}
 use Rattle.track9.proofs.Sets.{drifted_part, drifted_with, entries_of, forgotten_part, goes, gone_pairs, gone_part, has, in_local, is_live, no_states, settled, some_entry}
 use Rattle.track9.proofs.Sets.{some_pair, two_of, with_entries, with_pairs}
-use Rattle.track9.proofs.EntryLemmas.{changed_some, no_entry, widened_some}
+use Rattle.track9.proofs.EntryLemmas.{changed_to, no_entry, some_to, widened_to}
 use Rattle.track9.proofs.GoalLemmas.{goal_pair_goes}
 use Rattle.track9.proofs.PairLemmas.{drifted_from, drifted_to, goes_from, pairs_some, some_mode}
 use Rattle.track9.proofs.PartLemmas.{each_put, each_register, same_entries, shown_by_goal}
@@ -34,10 +34,6 @@ whole_settled p = cond_both _ p no_states Whole (λ e.
     let a = and_parts (is_live p) (some_entry p.ins) b.0 in
     each_register _ (a.1 ∙ sym a.0) (b.1 ∙ sym a.0) (c.1 ∙ sym a.0) (d.1 ∙ sym a.0)) (λ e. whole_none)
 
--- a part that stays where it has no states
-pub whole_live : (p q : PartStates) → Whole p → (is_live p ≡ true → Whole q) → Whole (if is_live p then q else p)
-whole_live p q whole h = cond_both (is_live p) q p Whole h (λ dead. whole)
-
 pub whole_goal : (may_stay : Bool) (goal : Mode) (p : PartStates) → Whole p → is_live p ≡ true → Whole (gone_part may_stay goal p)
 whole_goal may_stay goal p whole live =
     let m = some_mode (goes p.pairs) live in
@@ -45,8 +41,8 @@ whole_goal may_stay goal p whole live =
     (pairs_some (gone_pairs may_stay goal p.pairs) goal m.0 (goal_pair_goes may_stay goal p.pairs m.0 m.1) ∙ sym live)
 
 some_changed : (may_stay : Bool) (c : Change) (es : Entries) → some_entry es ≡ true → some_entry (changed_entries may_stay c es) ≡ true
-some_changed false c es h = changed_some c es h
-some_changed true c es h = widened_some c es h
+some_changed false c es h = some_to c es _ (changed_to c es) h
+some_changed true c es h = some_to c es _ (widened_to c es) h
 
 pub whole_change : (may_stay : Bool) (r : Register) (c : Change) (p : PartStates) → Whole p → is_live p ≡ true → Whole (changed_part may_stay r c p)
 whole_change may_stay r c p whole live =
