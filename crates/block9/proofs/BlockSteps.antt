@@ -28,10 +28,6 @@ true_ends a rest e = grind (arith, nat_tests)
 pub false_ends : (records : List LineByte) → length records + 1 < block_len records → ends_block records ≡ false
 false_ends records e = grind (arith, nat_tests)
 
--- the first record of a block
-pub begun_first : (w : Wire) (r : LineByte) → r.wire ≡ w → allows w (group_in r.byte) ≡ true → IsBegun w (r ∷ [])
-begun_first w r e h = record { linked = e; begun = omega arith; short = omega arith; allowed = h }
-
 -- a record that does not end its block
 pub begun_more : (w : Wire) (records : List LineByte) (r : LineByte) → IsBegun w records → GoesOn w records r → ends_block records ≡ false → IsBegun w (records ++ r ∷ [])
 begun_more w [] r h g e = absurd (let b = h.begun in omega arith)

@@ -1,7 +1,7 @@
 -- Some state of a set, and a state that an exchange leads to another one from: drifts to a pattern of states, and whole steps.
 use Rattle.std.proofs.Common.{◌↔◌, ◌≡◌, ◌⊎◌, inl, inr, ◌||◌, Bool, true, false, Option, Some, None, IfNone, IfSome, List, refl, sym, ap, ◌∙◌, subst}
 use Rattle.std.proofs.lemmas.Bool.{and_from, and_parts, eq-eqb, false≢true, or_left, or_right}
-use Rattle.track9.specs.Working.Deck.{Agrees, At, Block, Clear, Command, Does, Entry, Exchanges, Hands, IsState, KeepsRest, Mode, PairReaches, RegAudioIn, RegAudioOut, RegIn}
+use Rattle.track9.specs.Working.Deck.{Agrees, At, Block, Clear, Command, Does, Entry, Exchanges, Hands, IsState, Mode, PairReaches, RegAudioIn, RegAudioOut, RegIn}
 use Rattle.track9.specs.Working.Deck.{RegOut, Register, Sense, Shows, State, Step, Stop, done, effect_of, entry_of, ignored, index_of, is_mode, is_nak, is_one_of, on_the_way}
 use Rattle.track9.specs.Working.Deck.{refused, sense_of}
 use Rattle.track9.proofs.Sets.{Allows, AreBelow, Asked, Entries, Fits, HasState, InPart, InTwo, Is, IsAsked, IsUndone, LeadsTo, ModeSet, PairRunsTo, PartStates, Possible, RunsTo}

@@ -2,7 +2,7 @@
 use Rattle.std.proofs.Common.{◌≡◌, ℕ, ◌≤◌, ◌+◌, Bool, true, false, Option, Some, None, refl, sym, subst, arith}
 use Rattle.std.specs.FinSet as set
 use Rattle.track9.specs.Working.Deck.{BelowDay, Change, Effect, Next, Prev, Recall, RegAudioIn, RegAudioOut, RegIn, RegOut, Register, Reset, SetAt, SetSomewhere, Times}
-use Rattle.track9.specs.Working.Deck.{begin_count, every_time, just}
+use Rattle.track9.specs.Working.Deck.{begin_count, just}
 use Rattle.tc25.proofs.CountLemmas.{begin_count-empty, begin_count-every_time, begin_count-insert, begin_count-just, begin_count-next, begin_count-prev, begin_count-span_count, begin_count-widened_next, begin_count-widened_prev, span_count-in_day}
 use Rattle.deck9.specs.declared.effect.Effect.TheVariants as effect
 use Rattle.track9.proofs.Sets.{Entries, PartStates, Presets, TwoFew, agreeing, all_or_none, all_states, changed, changed_entries, changed_part, count_of, counted, entries_of}

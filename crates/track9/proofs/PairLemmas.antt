@@ -1,5 +1,5 @@
 -- Sets of modes, one bit at a time, and a drift of pairs, one pair at a time.
-use Rattle.std.proofs.Common.{◌&&◌, ◌≡◌, ◌⊎◌, inl, inr, ℕ, ◌<◌, ◌==◌, not, ◌||◌, Bool, true, false, List, [], ◌∷◌, refl, sym, ap, ◌∙◌, subst, arith, bit_and, bit_or, mod-lt, ◌*◌, ◌^◌, min, max}
+use Rattle.std.proofs.Common.{◌&&◌, ◌≡◌, ◌⊎◌, inl, inr, ℕ, ◌<◌, ◌==◌, not, ◌||◌, Bool, true, false, List, [], ◌∷◌, refl, sym, ap, ◌∙◌, subst, arith, bit_and, bit_or, mod-lt, ◌*◌, ◌^◌}
 use Rattle.std.proofs.lemmas.Bool.{and_parts, cond_both, or_cases, or_left, or_right, false≢true, both_ways, cases_Bool, cases_eq, eq-eqb, false_from_ne_true}
 use Rattle.std.proofs.lemmas.Bool.Decides.{nat_tests}
 use Rattle.std.proofs.lemmas.Nat.{and_mask, pow_pos}

@@ -150,9 +150,9 @@ drift_state h s d valid drift = elim (pairs_from_drift h s d drift) [ inl kept �
 pub drift_reached : (h : TwoParts) (pn : Bool) → AreReached (InTwo pn h) (Drift hands.None) (InTwo pn (two_drifted h))
 drift_reached h = by_mapped (Drift hands.None)
     (record { local = λ s t d. ap (λ (u : State). u.local) (mechanics s t d).0; panel = λ s t d. ap (λ (u : State). u.panel) (mechanics s t d).0 }) (λ l. drifted_part) h (λ l pn. record {
-  from = λ t el ep i. let w = part_drift_from (in_local h l) t i in (w.0, w.1, w.4 ∙ el, w.5 ∙ ep, drift_from_pairs hands.None w.0 t (inl (w.2, w.3)));
-  to = λ s t el ep i d. let m = mechanics s t d in part_drift_to (in_local h l) s t i m.0 m.1;
-})
+      from = λ t el ep i. let w = part_drift_from (in_local h l) t i in (w.0, w.1, w.4 ∙ el, w.5 ∙ ep, drift_from_pairs hands.None w.0 t (inl (w.2, w.3)));
+      to = λ s t el ep i d. let m = mechanics s t d in part_drift_to (in_local h l) s t i m.0 m.1;
+    })
 
 -- a state of a set is one of the day
 pub possible_state : (v : StateSet) (s : State) → AreBelow v → Possible v s → IsState s

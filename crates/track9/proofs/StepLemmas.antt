@@ -8,7 +8,7 @@ use Rattle.deck9.specs.declared.effect.Effect.TheVariants as effect
 use Rattle.deck9.proofs.LawLemmas.{ignored_by_effect}
 use Rattle.track9.proofs.Sets.{DoesOrNot, Exchanged, HasEffect, InTwo, LeadsOn, ModeSet, PartStates, Presets, ReadsStatus, TwoFew, TwoParts, TwoWhole, Whole, agreeing}
 use Rattle.track9.proofs.Sets.{agrees_local, bit_in, counted, drifted, drifted_part, entries_of, has, in_local, is_live, map_two, no_states, presets_after, put_settled}
-use Rattle.track9.proofs.Sets.{sensed_part, settled, shown_part, some_entry, status_part, two_drifted, two_sensed, two_status, where_live, with_command, with_entries}
+use Rattle.track9.proofs.Sets.{sensed_part, settled, some_entry, status_part, two_drifted, two_sensed, two_status, where_live, with_command, with_entries}
 use Rattle.deck9.specs.declared.sense.Sense.TheVariants as sense
 use Rattle.deck9.specs.declared.state.Hands.TheVariants as hands
 use Rattle.track9.specs.declared.halves.LocalFits.{LocalFits}

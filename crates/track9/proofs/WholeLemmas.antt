@@ -1,5 +1,5 @@
 -- Each factor of a part keeps something, or none does.
-use Rattle.std.proofs.Common.{◌≡◌, inl, ◌&&◌, Bool, true, false, if◌then◌else◌, refl, sym, ap, ◌∙◌, subst, List}
+use Rattle.std.proofs.Common.{◌≡◌, inl, ◌&&◌, Bool, true, false, refl, sym, ap, ◌∙◌, subst, List}
 use Rattle.std.proofs.lemmas.Bool.{and_parts, cond_both}
 use Rattle.tc25.proofs.TimesLemmas.{same_test}
 use Rattle.track9.specs.Working.Deck.{Change, Mode, RegIn, Register}
