@@ -1,17 +1,9 @@
 -- How many spans a set of times has, and how many times at which one begins.
-use Rattle.std.proofs.Common.{ℕ, ◌≡◌, ◌+◌, ◌-◌, ◌*◌, ◌/◌, ◌<◌, ◌≤◌, Bool, true, false, not, cond, eqb, nat_eq, ◌&&◌, ◌||◌, List, [], ◌∷◌, map, refl, sym, ap, subst, ◌∙◌, inl, inr, arith, zero, suc}
-use Rattle.std.proofs.lemmas.Bool.{eq-eqb, cases_Bool, lt-ltb, le-ltb, and_parts}
-use Rattle.std.proofs.lemmas.Bool.Decides.{nat_tests}
-use Rattle.std.specs.Ordering.{nat_cmp}
-use Rattle.std.specs.Cmp.{nat_cmp_total, unsigned_tied}
+use Rattle.tc25.proofs.Words.{[], ap, arith, begin_count, BelowDay, Bool, cases_Bool, cond, contains-every_time, contains-frames_below, Direction, eqb, every_time, false}
+use Rattle.tc25.proofs.Words.{frames_below, image, inl, inr, just, le-ltb, List, lt-ltb, moved, moved_from, nat_cmp, nat_cmp_total, nat_tests, Next, next_frame, not, Prev}
+use Rattle.tc25.proofs.Words.{prev_frame, refl, span_count, suc, sym, Times, true, unsigned_tied, zero, ℕ, ◌&&◌, ◌*◌, ◌+◌, ◌-◌, ◌/◌, ◌||◌, ◌∙◌, ◌∷◌, ◌≡◌, ◌≤◌}
 use Rattle.std.specs.FinSet as set
-use Rattle.tc25.specs.Day.{next_frame, prev_frame}
-use Rattle.tc25.specs.Times.{Times, BelowDay, frames_below, every_time, just, image, span_count, begin_count}
-use Rattle.tc25.specs.Working.TimesWhere.{contains-every_time, contains-frames_below}
-use Rattle.tc25.specs.Working.Moves.{moved, moved_from}
-use Rattle.tc25.specs.declared.direction.Direction.{Direction}
-use Rattle.tc25.specs.declared.direction.Direction.TheVariants.{Next, Prev}
-use Rattle.tc25.proofs.TimesLemmas.{same_times, contains-insert_nat, contains-items_nat, contains-moved, image_to, finds, list_any-map, moved_below, moved_from-moved, moved-moved_from}
+use Rattle.tc25.proofs.TimesLemmas.{contains-insert_nat, contains-items_nat, contains-moved, image_from, image_to, moved-moved_from, moved_below, moved_from-moved, same_times}
 
 -- ---- the size of sets
 
@@ -19,49 +11,39 @@ use Rattle.tc25.proofs.TimesLemmas.{same_times, contains-insert_nat, contains-it
 abbrev Within : Times → Times → Type 0
 Within s t = (f : ℕ) → set.contains s f ≡ true → set.contains t f ≡ true
 
-some_in : (t : Times) (k : ℕ) → set.contains t k ≡ true → 0 < set.len t
-some_in t k there = grind (arith, set.contains-empty nat_cmp, set.empty_of_len)
-
 pub contains-remove_nat : (s : Times) (k f : ℕ) → set.contains (set.remove s k) f ≡ (not (eqb f k) && set.contains s f)
 contains-remove_nat s k f = set.contains-remove nat_cmp_total s k f ∙ ap (λ b. not b && set.contains s f) (unsigned_tied f k)
 
--- a list's set within t has at most as many members
-len_list : (ks : List ℕ) (t : Times) → Within (set.from_list ks) t → set.len (set.from_list {R = nat_cmp} ks) ≤ set.len t
-len_list [] t within = omega (arith, set.len-empty nat_cmp)
-len_list (k ∷ ks) t within = len_more (set.from_list ks) t k within (len_list ks)
-  where
-    len_more : (rest t : Times) (k : ℕ) → Within (set.insert rest k) t → ((u : Times) → Within rest u → set.len rest ≤ set.len u) → set.len (set.insert rest k) ≤ set.len t
-    len_more rest t k within later =
-        elim (cases_Bool (set.contains rest k)) [
-          | inl again ↦ let kept = later t (λ f there. within f (grind (arith, contains-insert_nat))) in grind (arith, set.len-insert nat_cmp_total)
-          | inr fresh ↦
-              let there = within k (grind (arith, nat_tests, contains-insert_nat)) in
-              let some = some_in t k there in
-              let kept = later (set.remove t k) (λ f has. let in_t = within f (grind (arith, contains-insert_nat)) in grind (arith, nat_tests, contains-remove_nat)) in
-              grind (arith, set.len-insert nat_cmp_total, set.len-remove nat_cmp_total)
-        ]
+is_list : (s : Times) → set.from_list (set.items s) ≡ s
+is_list s = same_times (set.from_list (set.items s)) s (λ f. set.contains-from_list_nat (set.items s) f ∙ sym (contains-items_nat s f))
 
-is_list : (s : Times) → s ≡ set.from_list (set.items s)
-is_list s = same_times s (set.from_list (set.items s)) (λ f. contains-items_nat s f ∙ sym (set.contains-from_list_nat (set.items s) f))
+-- each member of t is h of one of s
+abbrev ComesFrom : (ℕ → ℕ) → Times → Times → Type 0
+ComesFrom h s t = (f : ℕ) → set.contains t f ≡ true → (g : ℕ) × (set.contains s g ≡ true) × (f ≡ h g)
 
-pub len_within : (s t : Times) → Within s t → set.len s ≤ set.len t
-len_within s t within =
-    subst (λ (x : Times). set.len x ≤ set.len t) (sym (is_list s))
-    (len_list (set.items s) t (λ f there. within f (ap (λ x. set.contains x f) (is_list s) ∙ there)))
+from_more : (h : ℕ → ℕ) (s t : Times) (k : ℕ) → ComesFrom h (set.insert s k) t → ((u : Times) → ComesFrom h s u → set.len u ≤ set.len s) → set.len t ≤ set.len (set.insert s k)
+from_more h s t k from later =
+    elim (cases_Bool (set.contains s k)) [
+      | inl again ↦
+          let kept = later t (λ f there. let w = from f there in (w.0, grind (arith, nat_tests, contains-insert_nat), w.2)) in
+          grind (arith, set.len-insert nat_cmp_total)
+      | inr fresh ↦
+          let kept = later (set.remove t (h k)) (λ f there.
+          let w = from f (grind (arith, contains-remove_nat)) in
+          (w.0, grind (arith, nat_tests, contains-remove_nat, contains-insert_nat), w.2)) in
+          grind (arith, set.len-insert nat_cmp_total, set.len-remove nat_cmp_total)
+    ]
 
-len_mapped : (h : ℕ → ℕ) (ks : List ℕ) → set.len (set.from_list {R = nat_cmp} (map h ks)) ≤ set.len (set.from_list {R = nat_cmp} ks)
-len_mapped h [] = omega arith
-len_mapped h (k ∷ ks) = len_both (set.from_list ks) (set.from_list (map h ks)) k (h k) (len_mapped h ks) (λ again.
-    set.contains-from_list_nat (map h ks) (h k)
-    ∙ list_any-map (λ y. nat_eq y (h k)) h ks
-    ∙ finds (λ y. nat_eq (h y) (h k)) ks k (eq-eqb (h k) (h k) refl) (sym (set.contains-from_list_nat ks k) ∙ again))
-  where
-    len_both : (s t : Times) (k j : ℕ) → set.len t ≤ set.len s → (set.contains s k ≡ true → set.contains t j ≡ true) → set.len (set.insert t j) ≤ set.len (set.insert s k)
-    len_both s t k j le moves = grind (arith, set.len-insert nat_cmp_total)
+from_items : (h : ℕ → ℕ) (ks : List ℕ) (t : Times) → ComesFrom h (set.from_list ks) t → set.len t ≤ set.len (set.from_list {R = nat_cmp} ks)
+from_items h [] t from = omega (arith, ap set.len (same_times t set.empty (λ f. let w = from f in grind (arith, set.contains-empty nat_cmp))))
+from_items h (k ∷ ks) t from = from_more h (set.from_list ks) t k from (from_items h ks)
 
-pub len_image : (h : ℕ → ℕ) (s : Times) → set.len (image h s) ≤ set.len s
-unfolding image
-len_image h s = subst (λ (x : Times). set.len (set.from_list {R = nat_cmp} (map h (set.items s))) ≤ set.len x) (sym (is_list s)) (len_mapped h (set.items s))
+-- a set has at least as many members as one whose members come from it
+len_from : (h : ℕ → ℕ) (s t : Times) → ComesFrom h s t → set.len t ≤ set.len s
+len_from h s t from = rw is_list at (from_items h (set.items s) t (rw (← is_list s) at from))
+
+len_within : (s t : Times) → Within s t → set.len s ≤ set.len t
+len_within s t within = len_from (λ f. f) t s (λ f there. (f, within f there, refl))
 
 len_insert_more : (s : Times) (k : ℕ) → set.len (set.insert s k) ≤ set.len s + 1
 len_insert_more s k = grind (arith, set.len-insert nat_cmp_total)
@@ -71,9 +53,7 @@ len_insert_fresh s k fresh = grind (arith, set.len-insert nat_cmp_total)
 
 -- an image that can be undone has as many members
 len_kept : (h g : ℕ → ℕ) (s : Times) → ((f : ℕ) → set.contains s f ≡ true → g (h f) ≡ f) → set.len (image h s) ≡ set.len s
-len_kept h g s back =
-    let within = len_within s (image g (image h s)) (λ f there. rw (back f there) at (image_to g (image h s) (h f) (image_to h s f there))) in
-    omega (arith, len_image h s, len_image g (image h s))
+len_kept h g s back = omega (arith, len_from h s (image h s) (image_from h s), len_from g (image h s) s (λ f there. (h f, image_to h s f there, sym (back f there))))
 
 -- ---- where a set begins
 
@@ -97,19 +77,13 @@ begins_below s below f there = below f (grind (arith, contains-begins))
 
 -- ---- under each call
 
-begins_moved : (d : Direction) (s : Times) → BelowDay s → begins (image (moved d) s) ≡ image (moved d) (begins s)
-begins_moved d s below = same_times _ _ (λ f.
-    grind (arith, nat_tests, contains-begins, contains-moved d s below, contains-moved d (begins s) (begins_below s below), moved_below Prev f))
-
 -- a shift keeps the number of beginnings
 pub begin_count-moved : (d : Direction) (s : Times) → BelowDay s → begin_count (image (moved d) s) ≡ begin_count s
 unfolding begin_count
 begin_count-moved d s below =
-    ap set.len (begins_moved d s below)
+    ap set.len (same_times (begins (image (moved d) s)) (image (moved d) (begins s)) (λ f.
+    grind (arith, nat_tests, contains-begins, contains-moved d s below, contains-moved d (begins s) (begins_below s below), moved_below Prev f)))
     ∙ len_kept (moved d) (moved_from d) (begins s) (λ f there. moved_from-moved d f (begins_below s below f there))
-
-widen_next_within : (s : Times) → BelowDay s → Within (begins (set.union s (image next_frame s))) (begins s)
-widen_next_within s below f there = grind (arith, nat_tests, contains-begins, set.contains-union nat_cmp_total, contains-moved Next s below)
 
 widen_prev_within : (s : Times) → BelowDay s → Within (begins (set.union s (image prev_frame s))) (image prev_frame (begins s))
 widen_prev_within s below f there =
@@ -128,35 +102,29 @@ begin_count-prev = begin_count-moved Prev
 -- a widening does not raise it
 pub begin_count-widened_next : (s : Times) → BelowDay s → begin_count (set.union s (image next_frame s)) ≤ begin_count s
 unfolding begin_count
-begin_count-widened_next s below = len_within _ _ (widen_next_within s below)
+begin_count-widened_next s below =
+    len_within (begins (set.union s (image next_frame s))) (begins s) (λ f there. grind (arith, nat_tests, contains-begins, set.contains-union nat_cmp_total, contains-moved Next s below))
 
 pub begin_count-widened_prev : (s : Times) → BelowDay s → begin_count (set.union s (image prev_frame s)) ≤ begin_count s
 unfolding begin_count
-begin_count-widened_prev s below = omega (arith, len_within _ _ (widen_prev_within s below), len_image prev_frame (begins s))
-
-insert_within : (s : Times) (t : ℕ) → Within (begins (set.insert s t)) (set.insert (begins s) t)
-insert_within s t f there = grind (arith, nat_tests, contains-begins, contains-insert_nat)
+begin_count-widened_prev s below = omega (arith, len_within _ _ (widen_prev_within s below), len_from prev_frame (begins s) (image prev_frame (begins s)) (image_from prev_frame (begins s)))
 
 -- a time that is added raises it by one at most
 pub begin_count-insert : (s : Times) (t : ℕ) → begin_count (set.insert s t) ≤ begin_count s + 1
 unfolding begin_count
-begin_count-insert s t = omega (arith, len_within _ _ (insert_within s t), len_insert_more (begins s) t)
-
-spans_within : (s : Times) → Within (span_firsts s) (set.insert (begins s) 0)
-spans_within s f there = grind (arith, nat_tests, contains-begins, contains-insert_nat, contains-span_firsts)
+begin_count-insert s t = omega (arith, len_within (begins (set.insert s t)) (set.insert (begins s) t) (λ f there. grind (arith, nat_tests, contains-begins, contains-insert_nat)),
+    len_insert_more (begins s) t)
 
 -- a set has one span more than beginnings at most
 pub span_count-begin_count : (s : Times) → span_count s ≤ begin_count s + 1
 unfolding span_count begin_count
-span_count-begin_count s = omega (arith, len_within _ _ (spans_within s), len_insert_more (begins s) 0)
-
-begins_within : (s : Times) → Within (begins s) (span_firsts s)
-begins_within s f there = grind (arith, nat_tests, contains-begins, contains-insert_nat, contains-span_firsts)
+span_count-begin_count s = omega (arith, len_within (span_firsts s) (set.insert (begins s) 0) (λ f there. grind (arith, nat_tests, contains-begins, contains-insert_nat, contains-span_firsts)),
+    len_insert_more (begins s) 0)
 
 -- a set has no more beginnings than spans
 pub begin_count-span_count : (s : Times) → begin_count s ≤ span_count s
 unfolding begin_count span_count
-begin_count-span_count s = len_within _ _ (begins_within s)
+begin_count-span_count s = len_within (begins s) (span_firsts s) (λ f there. grind (arith, nat_tests, contains-begins, contains-insert_nat, contains-span_firsts))
 
 -- ---- small sets, and the greatest number
 
@@ -170,12 +138,7 @@ begin_count-empty = omega (arith, set.len-empty nat_cmp, few_begins set.empty se
 
 pub begin_count-every_time : begin_count every_time ≡ 0
 begin_count-every_time =
-    omega (
-      arith,
-      set.len-empty nat_cmp,
-      few_begins every_time set.empty (λ f there gone.
-          grind (arith, nat_tests, contains-every_time, moved_below Prev f)),
-    )
+    omega (arith, set.len-empty nat_cmp, few_begins every_time set.empty (λ f there gone. grind (arith, nat_tests, contains-every_time, moved_below Prev f)))
 
 len_just : (t : ℕ) → set.len (just t) ≤ 1
 unfolding just
@@ -186,12 +149,7 @@ begin_count-just t = omega (arith, len_just t, few_begins (just t) (just t) (λ 
 
 pub begin_count-kept : (s : Times) (t : ℕ) → begin_count (set.intersection s (just t)) ≤ 1
 begin_count-kept s t =
-    omega (
-      arith,
-      len_just t,
-      few_begins (set.intersection s (just t)) (just t) (λ f there _.
-          (and_parts (set.contains s f) _ (sym (set.contains-intersection nat_cmp_total s (just t) f) ∙ there)).1),
-    )
+    omega (arith, len_just t, few_begins (set.intersection s (just t)) (just t) (λ f there _. grind (arith, set.contains-intersection nat_cmp_total)))
 
 len_frames_below : (n : ℕ) → set.len (frames_below n) ≡ n
 unfolding frames_below
@@ -208,14 +166,11 @@ apart s k low high = grind (arith, nat_tests, contains-span_firsts)
 picked : (s : Times) (f : ℕ) → set.contains (span_firsts s) f ≡ true → f ≡ of_pair s (f / 2)
 picked s f there = let one = apart s (f / 2) in grind arith
 
-pairs_within : (s : Times) (n : ℕ) → ((f : ℕ) → set.contains s f ≡ true → f < 2 * n) → Within (span_firsts s) (image (of_pair s) (frames_below n))
-pairs_within s n below f there =
-    let bound = below f (grind (arith, contains-span_firsts)) in
-    rw (picked s f there) (image_to (of_pair s) (frames_below n) (f / 2) (contains-frames_below n (f / 2) ∙ lt-ltb (f / 2) n (omega arith)))
-
 -- a set of times of the day has half as many spans as the day has frames, at most
 pub span_count-in_day : (s : Times) → BelowDay s → span_count s ≤ 1080000
 unfolding span_count
 span_count-in_day s below =
-    let within = len_within _ _ (pairs_within s 1080000 (λ f there. let h = below f there in omega arith)) in
-    omega (arith, len_image (of_pair s) (frames_below 1080000), len_frames_below 1080000)
+    let half = len_from (of_pair s) (frames_below 1080000) (span_firsts s) (λ f there.
+    let bound = below f (grind (arith, contains-span_firsts)) in
+    (f / 2, contains-frames_below 1080000 (f / 2) ∙ lt-ltb (f / 2) 1080000 (omega arith), picked s f there)) in
+    omega (arith, len_frames_below 1080000)

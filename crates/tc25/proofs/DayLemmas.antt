@@ -1,8 +1,5 @@
 -- What four bytes read as.
-use Rattle.std.proofs.Common.{ℕ, ◌≡◌, true, List, Some, None, is_some, refl, ap, arith, rules}
-use Rattle.std.proofs.lemmas.Bool.{false≢true}
-use Rattle.std.proofs.lemmas.Grind.{common_steps}
-use Rattle.tc25.specs.Day.{ReadsAs, time_of, is_valid_time}
+use Rattle.tc25.proofs.Words.{arith, common_steps, false≢true, is_some, is_valid_time, List, None, ReadsAs, refl, rules, Some, time_of, true, ℕ, ◌≡◌}
 
 -- the time given is read
 pub ReadsAs-from_time_of : (bytes : List ℕ) (t : ℕ) → time_of bytes ≡ Some t → ReadsAs bytes t
@@ -25,7 +22,3 @@ ReadsAs-from_valid bytes valid =
       | None ↦ λ _ some. absurd (false≢true some)
       | Some t ↦ λ e _. (t, ReadsAs-from_time_of bytes t e)
     ] refl valid
-
--- a time that is read makes its bytes valid
-pub valid-from_ReadsAs : (bytes : List ℕ) (t : ℕ) → ReadsAs bytes t → is_valid_time bytes ≡ true
-valid-from_ReadsAs bytes t reads = ap is_some (time_of-from_ReadsAs bytes t reads)

@@ -1,8 +1,9 @@
 pub mod CountLemmas
 pub mod DayLemmas
-pub mod FramesLemmas
+pub mod Lemmas
 pub mod ListLemmas
 pub mod SpanListLemmas
 pub mod SpanSetLemmas
 pub mod SpansLemmas
 pub mod TimesLemmas
+pub mod Words

@@ -1,17 +1,9 @@
 -- What the members of sets of times are, one time at a time.
-use Rattle.std.proofs.Common.{ℕ, ◌≡◌, ◌<◌, ◌≤◌, Bool, true, false, eqb, ltb, ◌&&◌, ◌||◌, List, [], ◌∷◌, map, Option, Some, None, ◌↔◌, nat_eq, refl, sym, ap, ◌∙◌, inl, inr, arith}
-use Rattle.std.proofs.lemmas.Bool.{false≢true, and_parts, true_from_ne_false, or_cases, or_left, or_right, eqb-true, eq-eqb, ltb-true, lt-ltb}
-use Rattle.std.proofs.lemmas.Bool.Decides.{nat_tests}
-use Rattle.std.specs.Ordering.{nat_cmp, eq_by_cmp}
-use Rattle.std.specs.Cmp.{nat_cmp_total, unsigned_tied, nat_eq_equiv}
-use Rattle.std.specs.List.{list_any}
-use Rattle.std.specs.Option.{SomeIff}
+use Rattle.tc25.proofs.Words.{and_parts, Any-from_list_any, ap, arith, BelowDay, Bool, cond, contains-every_time, contains-times_where, day, Direction, eq-eqb, eqb, eqb-true}
+use Rattle.tc25.proofs.Words.{every_time, false, get_or, get_or-map, image, IsLeast, just, length, length-map, list_any, list_any_at, ltb, ltb-true, map, MatchOption, moved}
+use Rattle.tc25.proofs.Words.{moved_from, nat_cmp, nat_cmp_total, nat_eq, nat_tests, None, Option, refl, Some, SomeIff, sym, Times, times_where, times_where_below, true}
+use Rattle.tc25.proofs.Words.{true_from_ne_false, unsigned_tied, ℕ, ◌&&◌, ◌<◌, ◌||◌, ◌↔◌, ◌∙◌, ◌≡◌, ◌≤◌}
 use Rattle.std.specs.FinSet as set
-use Rattle.tc25.specs.Day.{day}
-use Rattle.tc25.specs.Times.{Times, BelowDay, every_time, times_where, just, image, IsLeast}
-use Rattle.tc25.specs.Working.TimesWhere.{contains-every_time, contains-times_where, times_where_below}
-use Rattle.tc25.specs.Working.Moves.{moved, moved_from}
-use Rattle.tc25.specs.declared.direction.Direction.{Direction}
 
 -- ---- tests
 
@@ -34,48 +26,27 @@ contains-just t f = grind (arith, nat_tests, contains-insert_nat, set.contains-e
 
 -- ---- images
 
--- what a test of a list finds
-pub found : (test : ℕ → Bool) (xs : List ℕ) → list_any test xs ≡ true → (x : ℕ) × (test x ≡ true) × (list_any (λ y. nat_eq y x) xs ≡ true)
-found test [] some = absurd (false≢true some)
-found test (x ∷ xs) some =
-    elim (or_cases (test x) (list_any test xs) some) [
-      | inl here ↦ (x, here, or_left (eqb x x) _ (eq-eqb x x refl))
-      | inr there ↦ let w = found test xs there in (w.0, w.1, or_right (eqb x w.0) _ w.2)
-    ]
-
--- what is in a list and passes is found
-pub finds : (test : ℕ → Bool) (xs : List ℕ) (x : ℕ) → test x ≡ true → list_any (λ y. nat_eq y x) xs ≡ true → list_any test xs ≡ true
-finds test [] x passes there = absurd (false≢true there)
-finds test (y ∷ xs) x passes there = let later = finds test xs x passes in grind (arith, nat_tests)
-
-pub list_any-map : (test : ℕ → Bool) (h : ℕ → ℕ) (xs : List ℕ) → list_any test (map h xs) ≡ list_any (λ y. test (h y)) xs
-list_any-map test h [] = refl
-list_any-map test h (x ∷ xs) = ap (λ b. test (h x) || b) (list_any-map test h xs)
-
-list_any-same : (p q : ℕ → Bool) (xs : List ℕ) → ((x : ℕ) → p x ≡ q x) → list_any p xs ≡ list_any q xs
-list_any-same p q [] same = refl
-list_any-same p q (x ∷ xs) same = rw (same x, list_any-same p q xs same) refl
-
 pub contains-items_nat : (s : Times) (f : ℕ) → set.contains s f ≡ list_any (λ y. nat_eq y f) (set.items s)
-contains-items_nat s f =
-    set.contains-items s f
-    ∙ list_any-same (eq_by_cmp nat_cmp f) (λ y. nat_eq y f) (set.items s) (λ y. unsigned_tied f y ∙ nat_eq_equiv.symm f y)
-
-contains-image_items : (h : ℕ → ℕ) (s : Times) (f : ℕ) → set.contains (image h s) f ≡ list_any (λ y. nat_eq (h y) f) (set.items s)
-unfolding image
-contains-image_items h s f = set.contains-from_list_nat (map h (set.items s)) f ∙ list_any-map (λ y. nat_eq y f) h (set.items s)
+contains-items_nat s f = set.contains-items s f ∙ sym (set.contains-from_list nat_cmp_total (set.items s) f) ∙ set.contains-from_list_nat (set.items s) f
 
 -- a member of an image comes from a member
 pub image_from : (h : ℕ → ℕ) (s : Times) (f : ℕ) → set.contains (image h s) f ≡ true → (g : ℕ) × (set.contains s g ≡ true) × (f ≡ h g)
+unfolding image
 image_from h s f there =
-    let w = found (λ y. nat_eq (h y) f) (set.items s) (sym (contains-image_items h s f) ∙ there) in
-    (w.0, contains-items_nat s w.0 ∙ w.2, sym (eqb-true (h w.0) f w.1))
+    let xs = set.items s in
+    let w = Any-from_list_any (λ y. nat_eq y f) (map h xs) (sym (set.contains-from_list_nat (map h xs) f) ∙ there) in
+    let fits : w.0 < length xs = omega (arith, w.2, length-map xs h) in
+    let g = get_or xs w.0 0 in
+    (g, contains-items_nat s g ∙ list_any_at (λ y. nat_eq y g) xs w.0 0 fits (eq-eqb g g refl), sym (eqb-true w.1 f w.4) ∙ sym w.3 ∙ get_or-map h xs w.0 0 w.1 fits)
 
 -- a member goes into the image
 pub image_to : (h : ℕ → ℕ) (s : Times) (g : ℕ) → set.contains s g ≡ true → set.contains (image h s) (h g) ≡ true
+unfolding image
 image_to h s g there =
-    contains-image_items h s (h g)
-    ∙ finds (λ y. nat_eq (h y) (h g)) (set.items s) g (eq-eqb (h g) (h g) refl) (sym (contains-items_nat s g) ∙ there)
+    let xs = set.items s in
+    let w = Any-from_list_any (λ y. nat_eq y g) xs (sym (contains-items_nat s g) ∙ there) in
+    let at = get_or-map h xs w.0 w.1 (h g) w.2 ∙ ap h (w.3 ∙ eqb-true w.1 g w.4) in
+    set.contains-from_list_nat (map h xs) (h g) ∙ list_any_at (λ y. nat_eq y (h g)) (map h xs) w.0 (h g) (omega (arith, w.2, length-map xs h)) (eq-eqb _ (h g) at)
 
 pub moved-moved_from : (d : Direction) (f : ℕ) → f < day → f ≡ moved d (moved_from d f)
 moved-moved_from d f h = grind (arith, nat_tests)
@@ -100,10 +71,6 @@ contains-moved d s below f =
 
 -- ---- the sets that the calls name, from the tests before and after
 
--- at a time of the day the test decides
-pub contains-times_where-at : (test : ℕ → Bool) (f : ℕ) → f < day → set.contains (times_where test) f ≡ test f
-contains-times_where-at test f in_day = contains-times_where test f ∙ ap (λ b. b && test f) (lt-ltb f day in_day)
-
 -- a set is what the test makes where it has the times of the day that pass
 times_where-is : (q : ℕ → Bool) (s : Times) → ((f : ℕ) → set.contains s f ≡ (ltb f day && q f)) → times_where q ≡ s
 times_where-is q s same = same_times _ s (λ f. contains-times_where q f ∙ sym (same f))
@@ -113,8 +80,7 @@ module _ (p q : ℕ → Bool) where
   times_where-insert t in_day same = times_where-is q _ (λ f. grind (arith, nat_tests, contains-insert_nat, contains-times_where p, same f))
 
   pub times_where-common : (t : ℕ) → ((f : ℕ) → f < day → q f ≡ (p f && eqb f t)) → times_where q ≡ set.intersection (times_where p) (just t)
-  times_where-common t same =
-      times_where-is q _ (λ f. grind (arith, nat_tests, set.contains-intersection nat_cmp_total, contains-just, contains-times_where p, same f))
+  times_where-common t same = times_where-is q _ (λ f. grind (arith, nat_tests, set.contains-intersection nat_cmp_total, contains-just, contains-times_where p, same f))
 
   pub times_where-moved : (d : Direction) → ((f : ℕ) → f < day → q f ≡ p (moved_from d f)) → times_where q ≡ image (moved d) (times_where p)
   times_where-moved d same =
@@ -138,9 +104,14 @@ module _ (q : ℕ → Bool) where
 
 -- ---- what a set is not
 
+-- a value that is given where a fact holds
+some_given : {A : Type 0} (r : Option A) (P : Type 0) (v : A) → SomeIff r P v → P → r ≡ Some v
+some_given None P v given holds = absurd (given holds)
+some_given (Some x) P v given holds = ap Some given.1
+
 -- a set of one time and no other
-pub just_iff : (q : ℕ → Bool) (x : ℕ) → x < day → ((f : ℕ) → f < day → q f ≡ eqb f x) → (t : ℕ) → (Some x ≡ Some t) ↔ (times_where q ≡ just t)
-just_iff q x in_day same t = (
+pub just_iff : (q : ℕ → Bool) (x : ℕ) (r : Option ℕ) → SomeIff r (x < day) x → x < day → ((f : ℕ) → f < day → q f ≡ eqb f x) → (t : ℕ) → (r ≡ Some t) ↔ (times_where q ≡ just t)
+just_iff q x r given in_day same t = rw (some_given r (x < day) x given in_day) (
   λ is. let e : x ≡ t = cc in times_where-just q x in_day same ∙ ap just e,
   λ is. let at = ap (λ s. set.contains s x) is in grind (arith, nat_tests, contains-times_where, contains-just, same x),
 )
@@ -154,10 +125,7 @@ two_iff q a b a_in b_in apart has_a has_b t = (
 
 -- the empty set is not the set of one
 pub none_iff : (q : ℕ → Bool) → ((f : ℕ) → f < day → q f ≡ false) → (t : ℕ) → (None ≡ Some t) ↔ (times_where q ≡ just t)
-none_iff q empty t = (
-  λ is. absurd (cc),
-  λ is. let at = ap (λ s. set.contains s t) is in grind (arith, nat_tests, contains-times_where, contains-just, empty t),
-)
+none_iff q empty t = (λ is. absurd (cc), λ is. let at = ap (λ s. set.contains s t) is in grind (arith, nat_tests, contains-times_where, contains-just, empty t))
 
 -- the empty set has no member, and another has one
 pub empty_iff : (q : ℕ → Bool) (r : Bool) → (r ≡ true → (f : ℕ) → f < day → q f ≡ false) → (r ≡ false → (a : ℕ) × (a < day) × (q a ≡ true)) → (r ≡ true) ↔ (times_where q ≡ set.empty)
@@ -170,22 +138,14 @@ empty_iff q r none some = (
 )
 
 -- the least member of a set, from its test
-pub least_from : (q : ℕ → Bool) (t : ℕ) → t < day → q t ≡ true → ((f : ℕ) → f < day → q f ≡ true → t ≤ f) → IsLeast (times_where q) t
-least_from q t in_day there low = record {
-  is_member = contains-times_where-at q t in_day ∙ there;
-  is_below = λ u has. let u_in = times_where_below q u has in low u u_in (sym (contains-times_where-at q u u_in) ∙ has);
-}
+pub least_from : (q : ℕ → Bool) (t : ℕ) (r : Option ℕ) → SomeIff r (t < day) t → t < day → q t ≡ true → ((f : ℕ) → f < day → q f ≡ true → t ≤ f)
+    → MatchOption r (times_where q ≡ set.empty) (IsLeast (times_where q))
+least_from q t r given in_day there low = rw (some_given r (t < day) t given in_day) (record {
+  is_member = grind (arith, nat_tests, contains-times_where);
+  is_below = λ u has. low u (times_where_below q u has) (grind (arith, nat_tests, contains-times_where));
+})
 
 -- ---- what is kept of a set
 
-pub kept_one : (s : Times) (t : ℕ) → set.contains s t ≡ true → set.intersection s (just t) ≡ just t
-kept_one s t there = same_times _ _ (λ f. grind (arith, nat_tests, set.contains-intersection nat_cmp_total, contains-just))
-
-pub kept_none : (s : Times) (t : ℕ) → set.contains s t ≡ false → set.intersection s (just t) ≡ set.empty
-kept_none s t absent =
-    same_times _ _ (λ f. grind (arith, nat_tests, set.contains-intersection nat_cmp_total, contains-just, set.contains-empty nat_cmp))
-
--- a value that is given where a fact holds
-pub some_given : {A : Type 0} (r : Option A) (P : Type 0) (v : A) → SomeIff r P v → P → r ≡ Some v
-some_given None P v given holds = absurd (given holds)
-some_given (Some x) P v given holds = ap Some given.1
+pub kept : (s : Times) (t : ℕ) → set.intersection s (just t) ≡ cond (set.contains s t) (just t) set.empty
+kept s t = same_times _ _ (λ f. grind (arith, nat_tests, set.contains-intersection nat_cmp_total, contains-just, set.contains-empty nat_cmp))

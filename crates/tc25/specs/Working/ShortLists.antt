@@ -1,8 +1,9 @@
 -- Which of several lists of spans a frame goes into, and how what grows there meets the next list. Private functions alone cite this.
-use Rattle.std.specs.Prelude.{ℕ, ◌+◌, ◌<◌, List, [], ◌∷◌, Option, Some, None, length, take, drop, ⊤}
+use Rattle.std.specs.Prelude.{ℕ, ◌+◌, ◌-◌, ◌<◌, List, [], ◌∷◌, Option, Some, None, length, take, drop}
+use Rattle.std.specs.List.{All}
 use Rattle.tc25.specs.Spans.{IsCanonical}
 use Rattle.tc25.specs.ShortLists.{end_to_end}
-use Rattle.tc25.specs.Working.SpanLists.{glue}
+use Rattle.tc25.specs.Working.SpanLists.{EndsBefore, glue}
 use Rattle.tc25.specs.declared.span.Span.{Span}
 
 -- where a list begins, or 0 where it is empty
@@ -10,15 +11,10 @@ abbrev pub begin_of : List Span → ℕ
 begin_of [] = 0
 begin_of (s ∷ spans) = s.first
 
--- each span ends at least two frames before f
-abbrev pub EndBefore : ℕ → List Span → Type 0
-EndBefore f [] = ⊤
-EndBefore f (s ∷ spans) = (s.last + 1 < f) × EndBefore f spans
-
 -- f goes into the list at a place: no span before it reaches f, and each after it begins above f
 pub record IsListPlace (f : ℕ) (lists : List (List Span)) (place : ℕ) : Type 0 where
   pub fits : place < length lists
-  pub before : EndBefore f (end_to_end (take place lists))
+  pub before : All (EndsBefore (f - 1)) (end_to_end (take place lists))
   pub behind : IsCanonical (f + 1) (end_to_end (drop (place + 1) lists))
 
 -- the list with its last span ending at n

@@ -1,10 +1,5 @@
--- Each law is a lemma on sets.
-use Rattle.std.proofs.Common.{ap, ◌∙◌}
+use Rattle.tc25.proofs.Lemmas.{ap, contains-every_time, contains-just, contains-moved, image, image_from, image_to, Next, Prev, ◌∙◌}
 use Rattle.std.specs.FinSet as set
-use Rattle.tc25.specs.Times.{image}
-use Rattle.tc25.specs.Working.TimesWhere.{contains-every_time}
-use Rattle.tc25.specs.declared.direction.Direction.TheVariants.{Next, Prev}
-use Rattle.tc25.proofs.TimesLemmas.{contains-just, contains-moved, image_from, image_to}
 use Rattle.tc25.proofs.laws.memberships.Goals as goal
 
 pub returns : goal.returns

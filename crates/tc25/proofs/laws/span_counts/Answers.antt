@@ -1,5 +1,5 @@
--- Each law is a lemma on sets.
-use Rattle.tc25.proofs.CountLemmas.{begin_count-next, begin_count-prev, begin_count-widened_next, begin_count-widened_prev, begin_count-insert, begin_count-kept, begin_count-empty, begin_count-every_time, begin_count-just, span_count-begin_count, begin_count-span_count, span_count-in_day}
+use Rattle.tc25.proofs.CountLemmas.{begin_count-empty, begin_count-every_time, begin_count-insert, begin_count-just, begin_count-kept, begin_count-next, begin_count-prev}
+use Rattle.tc25.proofs.CountLemmas.{begin_count-span_count, begin_count-widened_next, begin_count-widened_prev, span_count-begin_count, span_count-in_day}
 use Rattle.tc25.proofs.laws.span_counts.Goals as goal
 
 pub returns : goal.returns

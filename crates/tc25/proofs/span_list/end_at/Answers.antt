@@ -1,6 +1,5 @@
 -- The last span is set.
-use Rattle.std.proofs.Common.{arith}
-use Rattle.tc25.proofs.SpanListLemmas.{ended_at-set}
+use Rattle.tc25.proofs.Lemmas.{arith, ended_at-set}
 use Rattle.tc25.proofs.span_list.end_at.Goals as goal
 
 pub returns-in-Some : goal.returns-in-Some

@@ -1,7 +1,5 @@
 -- The span is put in its place, with the next one where they touch.
-use Rattle.std.proofs.Common.{arith}
-use Rattle.std.proofs.lemmas.List.{get_or_default}
-use Rattle.tc25.proofs.SpansLemmas.{put_apart, put_touching}
+use Rattle.tc25.proofs.Lemmas.{arith, get_or_default, put_apart, put_touching}
 use Rattle.tc25.proofs.spans.put_joined.Goals as goal
 use Rattle.tc25.proofs.spans.put_joined.Goals.{else-index-len-via-then-index-len+else-index-span, else-index-len-via-else-index-len}
 

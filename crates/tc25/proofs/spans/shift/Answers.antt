@@ -1,8 +1,5 @@
 -- A shift within the day, and where a frame leaves it that frame is added where it comes in.
-use Rattle.std.proofs.Common.{◌≡◌, arith}
-use Rattle.std.proofs.lemmas.Result.{on_ok_weaker}
-use Rattle.tc25.specs.Spans.{is_covered}
-use Rattle.tc25.proofs.SpansLemmas.{canonical_shift, covered_shift, shift_stays, shifted_all, neighbour_covered, no_err}
+use Rattle.tc25.proofs.Lemmas.{arith, canonical_shift, covered_shift, covered_with, far_edge_of, is_covered, neighbour_covered, on_err_weaker, on_ok_weaker, round_the_day, ◌≡◌}
 use Rattle.tc25.proofs.spans.shift.Goals as goal
 use Rattle.tc25.proofs.spans.shift.Goals.{then-not-contains-2+in_ok-reserve, else-not-contains-2}
 
@@ -11,8 +8,8 @@ returns-then-not-contains-clause-canonical c = rw c.shift_within.ensures.shifted
 
 pub returns-then-not-contains-clause-ok : goal.returns-then-not-contains-clause-ok
 returns-then-not-contains-clause-ok c = λ f h.
-    let at = covered_shift c.args.direction f c.args.spans.now.items h c.requires in
-    let stays = shift_stays c.args.direction (λ x. is_covered x c.args.spans.now.items) f in
+    let at = covered_shift c.args.direction f 0 c.args.spans.now.items h c.requires in
+    let round = round_the_day c.args.direction (λ x. is_covered x c.args.spans.now.items) f in
     grind arith
 
 pub add-requires-clause-canonical : goal.add-requires-clause-canonical
@@ -25,13 +22,17 @@ returns-clause-ok c =
     let xs = c.args.spans.now.items in
     let d = c.args.direction in
     let same : c.if-not-contains-2.spans.items ≡ xs = grind arith in
-    on_ok_weaker c.add.result (λ told f h. let all = shifted_all d xs c.requires (grind arith) f h in grind arith) c.add.ensures.ok
+    on_ok_weaker c.add.result (λ told f h.
+    let added = covered_with f 0 (far_edge_of d) _ (canonical_shift d xs c.requires) (grind arith) in
+    let at = covered_shift d f 0 xs h c.requires in
+    let round = round_the_day d (λ x. is_covered x xs) f in
+    grind arith) c.add.ensures.ok
 
 pub returns-clause-err : goal.returns-clause-err
 returns-clause-err c =
     elim c.if-not-contains-2.branch [
-      | then-not-contains-2+in_ok-reserve w ↦ no_err _ _ c.add.result c.add.ensures.full (λ full. grind arith)
+      | then-not-contains-2+in_ok-reserve w ↦ on_err_weaker c.add.result (λ full. absurd (grind arith)) c.add.ensures.full
       | else-not-contains-2 w ↦
-          no_err _ _ c.add.result c.add.ensures.apart (λ none.
-          neighbour_covered _ _ c.requires (grind arith) (rw (c.far_edge-far_edge.ensures, c.shift_within-2.ensures.shifted, w.spans-is) at none))
+          on_err_weaker c.add.result (λ none.
+          absurd (neighbour_covered _ _ c.requires (grind arith) (rw (c.far_edge-far_edge.ensures, c.shift_within-2.ensures.shifted, w.spans-is) at none))) c.add.ensures.apart
     ]

@@ -1,18 +1,12 @@
 -- Each span is read as it was, and moves.
-use Rattle.std.proofs.Common.{arith, get_or}
-use Rattle.std.proofs.lemmas.List.{get_or_default}
-use Rattle.std.proofs.lemmas.List.Edits.{map_over_more}
-use Rattle.tc25.specs.Working.SpanMoves.{shifted_span}
-use Rattle.tc25.specs.declared.span.Span.{Span}
-use Rattle.tc25.proofs.SpansLemmas.{mapped_front-at, canonical_at}
+use Rattle.tc25.proofs.Lemmas.{arith, canonical_at, common_steps, get_or, get_or_default, map_over_more, shifted_span, Span}
 use Rattle.tc25.proofs.spans.shift_all.Goals as goal
 
 pub shifted-requires : goal.shifted-requires
 shifted-requires c =
     let d : Span = record { first = 0; last = 0 } in
     let span = canonical_at 0 c.args.spans.now c.requires c.loop-span.span-index d (omega arith) in
-    let front = mapped_front-at (shifted_span c.args.direction) c.args.spans.now c.loop-span.span-index d (omega arith) in
-    grind arith
+    grind (arith, common_steps)
 
 pub loop-span-preserved : goal.loop-span-preserved
 loop-span-preserved c =

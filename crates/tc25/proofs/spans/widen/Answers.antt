@@ -1,8 +1,5 @@
 -- A widening within the day, and where a frame leaves it that frame is added where it comes in.
-use Rattle.std.proofs.Common.{arith}
-use Rattle.std.proofs.lemmas.Result.{on_ok_weaker}
-use Rattle.tc25.specs.Spans.{is_covered}
-use Rattle.tc25.proofs.SpansLemmas.{canonical_widen, covered_widened, widen_stays, widened_all}
+use Rattle.tc25.proofs.Lemmas.{arith, canonical_widen, covered_widened, covered_with, far_edge_of, is_covered, on_ok_weaker, round_the_day}
 use Rattle.tc25.proofs.spans.widen.Goals as goal
 use Rattle.tc25.proofs.spans.widen.Goals.{then-not-contains-via-then-not-contains, then-not-contains-via-else-not-contains+then-contains}
 
@@ -14,7 +11,7 @@ returns-then-not-contains-clause-ok c = λ f h.
     let xs = c.args.spans.now.items in
     let d = c.args.direction in
     let at = covered_widened d f 0 xs h c.requires in
-    let stays = widen_stays d (λ x. is_covered x xs) f (grind arith) in
+    let round = round_the_day d (λ x. is_covered x xs) f in
     grind arith
 
 pub add-requires-clause-canonical : goal.add-requires-clause-canonical
@@ -23,4 +20,10 @@ add-requires-clause-canonical c =
 
 pub returns-clause-ok : goal.returns-clause-ok
 returns-clause-ok c =
-    on_ok_weaker c.add.result (λ told f h. let all = widened_all c.args.direction c.args.spans.now.items c.requires (grind arith) f h in grind arith) c.add.ensures.ok
+    let xs = c.args.spans.now.items in
+    let d = c.args.direction in
+    on_ok_weaker c.add.result (λ told f h.
+    let added = covered_with f 0 (far_edge_of d) _ (canonical_widen d xs c.requires) (grind arith) in
+    let at = covered_widened d f 0 xs h c.requires in
+    let round = round_the_day d (λ x. is_covered x xs) f in
+    grind arith) c.add.ensures.ok

@@ -1,9 +1,6 @@
 -- Each turn joins a span to the current one, or begins a new one.
-use Rattle.std.proofs.Common.{◌+◌, ◌<◌, ◌≤◌, ◌∙◌, ap, subst, arith, length, get_or}
-use Rattle.std.proofs.lemmas.Grind.{drop_more_same}
-use Rattle.tc25.specs.Working.SpanMoves.{widened_span}
-use Rattle.tc25.specs.declared.span.Span.{Span}
-use Rattle.tc25.proofs.SpansLemmas.{canonical_at, same_at, same_rest_set, step_touching, step_apart, widened_in_day}
+use Rattle.tc25.proofs.Lemmas.{ap, append_assoc, arith, canonical_at, drop-set-lt, drop_more, drop_more_same, get_or, glue-glue, le-leb, length, lt-leb, same_at, Span, subst}
+use Rattle.tc25.proofs.Lemmas.{take_more_set, widened_in_day, widened_span, ◌+◌, ◌<◌, ◌∙◌, ◌≤◌}
 use Rattle.tc25.proofs.spans.widen_all.Goals as goal
 use Rattle.tc25.proofs.spans.widen_all.Goals.{then-span-current, else-span-current}
 
@@ -32,12 +29,14 @@ loop-index-preserved c =
         behind = omega arith;
         in_day = of_day;
         to_come = drop_more_same ys xs i kept.to_come;
-        whole = step_touching w xs ys _ i k s d within kept.whole (subst (λ (x : Span). x.first ≤ s.last + 1) read b.if-span-current.true);
+        whole = rw (drop_more xs i d within, glue-glue, le-leb _ _ (subst (λ (x : Span). x.first ≤ s.last + 1) read b.if-span-current.true)) at kept.whole;
       })
       | else-span-current b ↦ rw (b.spans-is, b.current-is, b.kept-is, read) (record {
         behind = omega arith;
         in_day = of_day;
-        to_come = same_rest_set ys xs i k s kept.behind kept.to_come;
-        whole = step_apart w xs ys _ i k s d within (omega arith) kept.whole (subst (λ (x : Span). s.last + 1 < x.first) read b.if-span-current.false);
+        to_come = drop-set-lt (i + 1) ys k s (omega arith) ∙ drop_more_same ys xs i kept.to_come;
+        whole =
+            rw (take_more_set ys k s (omega arith), append_assoc)
+            (rw (drop_more xs i d within, glue-glue, lt-leb _ _ (subst (λ (x : Span). s.last + 1 < x.first) read b.if-span-current.false)) at kept.whole);
       })
     ]

@@ -1,8 +1,5 @@
 -- What is kept, the current span and what is to come are the whole, widened and joined.
-use Rattle.std.proofs.Common.{◌≡◌, ◌<◌, ◌++◌, map, take, drop}
-use Rattle.tc25.specs.Day.{day}
-use Rattle.tc25.specs.Working.SpanMoves.{widened_span}
-use Rattle.tc25.specs.Working.SpanLists.{glue, joined}
+use Rattle.tc25.proofs.Words.{day, drop, glue, joined, map, take, widened_span, ◌++◌, ◌<◌, ◌≡◌}
 use Rattle.tc25.proofs.spans.widen_all.Given as goal
 
 abbrev pub invariant-loop-index : goal.invariant-loop-index

@@ -1,6 +1,5 @@
 -- Each turn copies a list.
-use Rattle.std.proofs.Common.{arith, append_assoc}
-use Rattle.tc25.proofs.SpanListLemmas.{behind_more}
+use Rattle.tc25.proofs.Lemmas.{append_assoc, arith, behind_more}
 use Rattle.tc25.proofs.span_list.SpanList.as_one.Goals as goal
 
 pub loop-list-preserved : goal.loop-list-preserved

@@ -1,8 +1,5 @@
 -- A frame is covered where the list at its place covers it.
-use Rattle.std.proofs.Common.{◌∙◌, sym, ap}
-use Rattle.tc25.specs.SpanList.{lists_of}
-use Rattle.tc25.specs.Spans.{is_covered}
-use Rattle.tc25.proofs.SpanListLemmas.{canonical_list, covered_is}
+use Rattle.tc25.proofs.Lemmas.{ap, canonical_list, covered_is, is_covered, lists_of, sym, ◌∙◌}
 use Rattle.tc25.proofs.span_list.SpanList.contains.Goals as goal
 
 pub contains-requires : goal.contains-requires

@@ -1,9 +1,6 @@
 -- The halves are the list.
-use Rattle.std.proofs.Common.{◌<◌, ◌≤◌, ◌/◌, ◌∙◌, ap, arith, length, drop, length-drop}
-use Rattle.std.proofs.lemmas.List.{take_rest}
-use Rattle.std.specs.Result.{is_ok}
-use Rattle.tc25.specs.SpanList.{lists_of}
-use Rattle.tc25.proofs.SpanListLemmas.{begun_still, filled_inserted, halves_are, inserted_behind}
+use Rattle.tc25.proofs.Lemmas.{[], ap, arith, begun_still, cut_suc, drop, end_to_end, filled_inserted, get_or, get_or-insert_below, inserted, is_ok, length, length-drop}
+use Rattle.tc25.proofs.Lemmas.{lists_in-length, lists_of, refl, set, suc, take, take_rest, ◌/◌, ◌<◌, ◌∙◌, ◌≤◌}
 use Rattle.tc25.proofs.span_list.SpanList.cut.Goals as goal
 
 pub invariant_of-self : goal.invariant_of-self
@@ -21,13 +18,19 @@ invariant_of-self c =
 pub shorten-requires-clause-some : goal.shorten-requires-clause-some
 shorten-requires-clause-some c =
     let l = c.args.self.now in
+    let p = c.args.place in
+    let v = c.in_ok-upper.upper in
     let long : 512 ≤ length c.list-list.result.now = omega arith in
-    let behind = inserted_behind l.first.items l.rest.items c.insert.new.self.items c.args.place c.in_ok-upper.upper c.requires c.in_ok-insert.ensures.items in
+    let grown = inserted l.first.items l.rest.items c.insert.new.self.items p v c.in_ok-insert.ensures.items in
+    let behind = ap (λ ls. get_or ls p []) grown ∙ get_or-insert_below (lists_of l) (suc p) v.items [] p (omega arith) (omega (arith, lists_in-length)) in
     (omega arith, rw behind (omega (arith, ap length c.list-list.ensures)))
 
 pub returns : goal.returns
 returns c =
     let l = c.args.self.now in
-    let xs = c.list-list.result.now in
-    let upper = c.in_ok-upper.ensures.items ∙ take_rest xs (length xs / 2) ∙ ap (drop (length xs / 2)) c.list-list.ensures in
-    halves_are l.first.items l.rest.items c.insert.new.self.items c.args.place (length xs / 2) c.in_ok-upper.upper (lists_of c.shorten.new.self) c.requires upper c.in_ok-insert.ensures.items c.shorten.ensures
+    let p = c.args.place in
+    let half = length c.list-list.result.now / 2 in
+    let upper = c.in_ok-upper.ensures.items ∙ take_rest c.list-list.result.now half ∙ ap (drop half) c.list-list.ensures in
+    let grown = inserted l.first.items l.rest.items c.insert.new.self.items p c.in_ok-upper.upper c.in_ok-insert.ensures.items in
+    ap end_to_end c.shorten.ensures ∙ ap (λ ls. end_to_end (set ls p (take half (get_or ls p [])))) grown
+    ∙ cut_suc (lists_of l) p half _ c.in_ok-upper.upper.items (omega (arith, lists_in-length)) upper refl

@@ -1,28 +1,33 @@
 -- The two lists meet at a span that is joined, or they stay as they are.
-use Rattle.std.proofs.Common.{add-one, arith}
-use Rattle.tc25.specs.ShortLists.{lists_in}
-use Rattle.tc25.specs.SpanList.{lists_of}
-use Rattle.tc25.proofs.SpanListLemmas.{filled_at, join_apart, join_last, join_touching, lists_in-length}
+use Rattle.tc25.proofs.Lemmas.{[], add-one, all_filled, ap, append-nil, append_assoc, arith, around, drop, drop-set-lt, drop_all, drop_more, end_to_end, end_to_end-append}
+use Rattle.tc25.proofs.Lemmas.{ended_at, get_or, length, lists_in-get, lists_in-length, lists_of, meet-nil, refl, sym, take, take_more_set, ◌++◌, ◌+◌, ◌<◌, ◌∙◌}
 use Rattle.tc25.proofs.span_list.SpanList.join.Goals as goal
 
 pub meeting-requires-clause-some : goal.meeting-requires-clause-some
 meeting-requires-clause-some c =
     let l = c.args.self.now in
-    let next = filled_at (lists_in l.rest.items) c.args.place l.filled (omega (arith, lists_in-length l.rest.items)) in
-    (rw c.list.ensures c.requires.some, rw (c.list-then-place-len.ensures, add-one c.args.place) next)
+    let next = all_filled l.rest.items l.filled c.args.place l.first (omega arith) in
+    (rw c.list.ensures c.requires.some, rw (c.list-then-place-len.ensures, add-one c.args.place, lists_in-get l.rest.items c.args.place l.first (omega arith)) next)
 
 pub returns-in-Some : goal.returns-in-Some
 returns-in-Some c =
-    let l = c.args.self.now in
-    let meets = rw (c.list.ensures, c.list-then-place-len.ensures) at c.in-Some.ensures in
-    join_touching (lists_of l) (lists_of c.end_at.new.self) c.args.place c.in-Some.last _ (omega (arith, lists_in-length l.rest.items)) c.end_at.ensures c.drop_first.ensures meets
+    let ls = lists_of c.args.self.now in
+    let p = c.args.place in
+    let h : p + 1 < length ls = omega (arith, lists_in-length) in
+    let e = ended_at c.in-Some.last (get_or ls p []) in
+    c.drop_first.ensures
+    ∙ rw (c.end_at.ensures, take_more_set ls p e (omega arith), end_to_end-append, append-nil e, drop-set-lt (p + 1) ls p e (omega arith), drop_more ls (p + 1) [] h) (append_assoc _ e _
+    ∙ ap (λ xs. end_to_end (take p ls) ++ xs) (sym (rw (c.list.ensures, c.list-then-place-len.ensures) at (c.in-Some.ensures (end_to_end (drop (p + 1 + 1) ls))))))
 
 pub returns-in_default : goal.returns-in_default
 returns-in_default c =
+    let ls = lists_of c.args.self.now in
+    let p = c.args.place in
     let meets = rw (c.list.ensures, c.list-then-place-len.ensures) at c.in_default.ensures in
-    join_apart (lists_of c.args.self.now) c.args.place (omega (arith, lists_in-length c.args.self.now.rest.items)) meets
+    around ls p (omega (arith, lists_in-length)) ∙ rw (drop_more ls (p + 1) [] (omega (arith, lists_in-length)), meets) refl
 
 pub returns-else-place-len : goal.returns-else-place-len
 returns-else-place-len c =
-    let l = c.args.self.now in
-    join_last (lists_of l) c.args.place (omega (arith, lists_in-length l.rest.items)) (omega (arith, lists_in-length l.rest.items))
+    let ls = lists_of c.args.self.now in
+    let p = c.args.place in
+    around ls p (omega (arith, lists_in-length)) ∙ rw (drop_all (p + 1) ls (omega (arith, lists_in-length)), append-nil (get_or ls p []), meet-nil (get_or ls p [])) refl

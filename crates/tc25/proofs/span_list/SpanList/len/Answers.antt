@@ -1,7 +1,5 @@
 -- There are no more spans than every other frame of the day.
-use Rattle.std.proofs.Common.{arith}
-use Rattle.tc25.specs.SpanList.{spans_of}
-use Rattle.tc25.proofs.SpanListLemmas.{spans_fit, length_more}
+use Rattle.tc25.proofs.Lemmas.{arith, length_more, spans_fit, spans_of}
 use Rattle.tc25.proofs.span_list.SpanList.len.Goals as goal
 
 pub overflow_add-count : goal.overflow_add-count

@@ -1,7 +1,5 @@
 -- What is counted and what is to come are all spans.
-use Rattle.std.proofs.Common.{◌≡◌, ◌+◌, length, drop}
-use Rattle.tc25.specs.ShortLists.{end_to_end, lists_in}
-use Rattle.tc25.specs.SpanList.{spans_of}
+use Rattle.tc25.proofs.Words.{drop, end_to_end, length, lists_in, spans_of, ◌+◌, ◌≡◌}
 use Rattle.tc25.proofs.span_list.SpanList.len.Given as goal
 
 abbrev pub invariant-loop-list : goal.invariant-loop-list

@@ -1,10 +1,5 @@
 -- The list with the frame is the set with the time.
-use Rattle.std.proofs.Common.{◌<◌, arith}
-use Rattle.std.proofs.lemmas.Result.{on_ok_weaker}
-use Rattle.tc25.specs.Day.{day}
-use Rattle.tc25.specs.SpanList.{spans_of}
-use Rattle.tc25.proofs.TimesLemmas.{times_where-insert}
-use Rattle.tc25.proofs.SpansLemmas.{covered_with}
+use Rattle.tc25.proofs.Lemmas.{arith, covered_with, day, on_ok_weaker, spans_of, times_where-insert, ◌<◌}
 use Rattle.tc25.proofs.span_set.SpanSetTimeSet.add.Goals as goal
 
 pub returns-clause-ok : goal.returns-clause-ok

@@ -1,7 +1,4 @@
--- The one span has each frame of the day.
-use Rattle.std.proofs.Common.{arith}
-use Rattle.std.proofs.lemmas.Bool.Decides.{nat_tests}
-use Rattle.tc25.proofs.TimesLemmas.{times_where-every}
+use Rattle.tc25.proofs.Lemmas.{arith, nat_tests, times_where-every}
 use Rattle.tc25.proofs.span_set.SpanSetTimeSet.all.Goals as goal
 
 pub returns : goal.returns

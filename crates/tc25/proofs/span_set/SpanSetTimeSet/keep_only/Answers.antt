@@ -1,7 +1,5 @@
 -- What is kept is what the set has in common with the time.
-use Rattle.tc25.specs.SpanList.{spans_of}
-use Rattle.tc25.proofs.TimesLemmas.{times_where-common}
-use Rattle.tc25.proofs.SpanSetLemmas.{kept_is}
+use Rattle.tc25.proofs.Lemmas.{kept_is, spans_of, times_where-common}
 use Rattle.tc25.proofs.span_set.SpanSetTimeSet.keep_only.Goals as goal
 
 pub returns-clause-ok : goal.returns-clause-ok

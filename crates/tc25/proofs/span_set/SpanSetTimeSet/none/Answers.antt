@@ -1,6 +1,4 @@
--- No span has a frame.
-use Rattle.std.proofs.Common.{refl}
-use Rattle.tc25.proofs.TimesLemmas.{times_where-empty}
+use Rattle.tc25.proofs.Lemmas.{refl, times_where-empty}
 use Rattle.tc25.proofs.span_set.SpanSetTimeSet.none.Goals as goal
 
 pub returns : goal.returns

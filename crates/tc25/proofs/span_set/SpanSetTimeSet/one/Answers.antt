@@ -1,7 +1,4 @@
--- The one span has that frame alone.
-use Rattle.std.proofs.Common.{arith}
-use Rattle.std.proofs.lemmas.Bool.Decides.{nat_tests}
-use Rattle.tc25.proofs.TimesLemmas.{times_where-just}
+use Rattle.tc25.proofs.Lemmas.{arith, nat_tests, times_where-just}
 use Rattle.tc25.proofs.span_set.SpanSetTimeSet.one.Goals as goal
 
 pub returns : goal.returns
