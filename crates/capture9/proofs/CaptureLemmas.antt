@@ -1,10 +1,5 @@
 -- A list of records that were read so far, against the text's rows.
-use Rattle.std.proofs.Common.{◌≡◌, ℕ, List, ◌++◌, Option, Some, None}
-use Rattle.std.specs.Prelude.{IfSome, option_map, ⊤}
-use Rattle.capture9.specs.declared.error.CaptureError.{CaptureError}
-use Rattle.capture9.specs.declared.line_byte.LineByte.{LineByte}
-use Rattle.capture9.specs.Capture.{WasRead}
-use Rattle.capture9.specs.Rows.{Rows, rows_of}
+use Rattle.capture9.proofs.Words.{CaptureError, IfSome, LineByte, List, None, Option, option_map, Rows, rows_of, Some, WasRead, ℕ, ⊤, ◌++◌, ◌≡◌}
 
 -- these records were read of those rows, and the rest is still to come
 pub record IsRest (all : Rows) (items : List LineByte) (rest : Rows) : Type 0 where

@@ -1,121 +1,81 @@
--- Decimal digits, read one at a time.
-use Rattle.std.proofs.Common.{◌≡◌, ◌<◌, ◌≤◌, ◌+◌, ◌-◌, ◌*◌, ◌^◌, ℕ, suc, List, [], ◌∷◌, ◌++◌, length, length-append, pow-add, drop, get_or, true, ◌&&◌, Some, None, nat_le, refl, ◌∙◌, arith, add-one, lit<, length-drop, drop-cons}
-use Rattle.std.proofs.Math.Nat.{mul-le-mul_left, mul-le-mul_right, pow-le-pow_right, pow-suc}
-use Rattle.std.proofs.Math.Bool.{and_assoc}
-use Rattle.std.proofs.lemmas.Bool.{and_parts}
-use Rattle.std.proofs.lemmas.Bool.Decides.{nat_tests}
-use Rattle.std.specs.Char.{digit_value, is_ascii_digit}
-use Rattle.std.specs.Str.{all_ascii_digits}
-use Rattle.capture9.specs.Fields.{decimal_value, time_in}
-use Rattle.capture9.specs.Working.{digits_after}
+-- Decimal digits, read one at a time, and the three fields of a CSV record by their places.
+use Rattle.capture9.proofs.Words.{[], all_ascii_digits, and_assoc, and_parts, ap, arith, decimal_value, digit_value, digits_after, digits_value_short, field_at, get_or}
+use Rattle.capture9.proofs.Words.{is_ascii_digit, IsNumeralModel, le-leb, length, length-append, List, lit<, mul-le-mul_left, mul-le-mul_right, nat_tests, None}
+use Rattle.capture9.proofs.Words.{numerals_by_weight, pow-add, pow-le-pow_right, pow-suc, refl, Some, suc, tells_all_ascii_digits, time_in, true, zero, ℕ, ◌&&◌, ◌*◌, ◌++◌, ◌+◌}
+use Rattle.capture9.proofs.Words.{◌-◌, ◌<◌, ◌^◌, ◌∙◌, ◌∷◌, ◌≡◌, ◌≢◌, ◌≤◌}
 
 -- what a decimal digit counts
 pub digit_value-digit : (c : ℕ) → is_ascii_digit c ≡ true → digit_value c ≡ c - 48
 digit_value-digit c h = grind (arith, nat_tests)
 
-value-digit : (c : ℕ) → is_ascii_digit c ≡ true → digit_value c + 48 ≡ c
-value-digit c h = grind (arith, nat_tests)
+-- decimal digits and their value are std's
+pub numerals : IsNumeralModel (λ ds. all_ascii_digits ds ≡ true) decimal_value
+numerals = numerals_by_weight _ tells_all_ascii_digits decimal_value (record { empty = refl; more = λ c cs digit. ap (λ v. v * 10 ^ length cs + decimal_value cs) (grind (arith, nat_tests)) })
 
 pub digit-le : (c : ℕ) → is_ascii_digit c ≡ true → c - 48 ≤ 9
 digit-le c h = grind (arith, nat_tests)
 
+pub pow-positive : (n : ℕ) → 0 < 10 ^ n
+pow-positive zero = lit< tt
+pow-positive (suc n) = rw pow-suc (omega (arith, pow-positive n))
+
 -- a number with room for more digits: there is room for it, and one digit more leaves room for the others
-pub room-low : (time size at : ℕ) → at < size → (time + 1) * 10 ^ (size - at) ≤ 10 ^ 15 → time * 10 + 10 ≤ 10 ^ 15
-room-low time size at within room =
-    let positive : 0 < 10 = lit< tt in
-    let left : size - at ≡ suc (size - (at + 1)) = omega arith in
-    let power : 10 ^ (size - at) ≡ 10 ^ (size - (at + 1)) * 10 = rw (left, pow-suc) refl in
-    let known : (time + 1) * (10 ^ (size - (at + 1)) * 10) ≤ 10 ^ 15 = rw power at room in
-    let none : 0 ≤ size - (at + 1) = omega arith in
-    let some : 10 ^ 0 ≤ 10 ^ (size - (at + 1)) = pow-le-pow_right positive none in
-    let least : (time + 1) * 1 ≤ (time + 1) * 10 ^ (size - (at + 1)) = mul-le-mul_left (time + 1) some in
+pub room-low : (time n : ℕ) → (time + 1) * 10 ^ suc n ≤ 10 ^ 15 → time * 10 + 10 ≤ 10 ^ 15
+room-low time n room =
+    let known : (time + 1) * (10 ^ n * 10) ≤ 10 ^ 15 = rw (pow-suc 10 n) at room in
+    let least : (time + 1) * 1 ≤ (time + 1) * 10 ^ n = mul-le-mul_left (time + 1) (pow-positive n) in
     omega arith
 
-shared : (time digit power : ℕ) → digit ≤ 9 → (time * 10 + digit + 1) * power ≤ (time + 1) * (power * 10)
-shared time digit power low = let more : (time * 10 + digit + 1) * power ≤ (time * 10 + 10) * power = mul-le-mul_right power (omega arith) in omega arith
-
-pub room-step : (size at c time : ℕ) → at < size → is_ascii_digit c ≡ true → (time + 1) * 10 ^ (size - at) ≤ 10 ^ 15 → (time * 10 + (c - 48) + 1) * 10 ^ (size - (at + 1)) ≤ 10 ^ 15
-room-step size at c time within is_digit room =
-    let left : size - at ≡ suc (size - (at + 1)) = omega arith in
-    let power : 10 ^ (size - at) ≡ 10 ^ (size - (at + 1)) * 10 = rw (left, pow-suc) refl in
-    let known : (time + 1) * (10 ^ (size - (at + 1)) * 10) ≤ 10 ^ 15 = rw power at room in
-    omega (arith, shared time (c - 48) (10 ^ (size - (at + 1))) (digit-le c is_digit))
-
-moves : (time digit power rest : ℕ) → time * (power * 10) + (digit * power + rest) ≡ (time * 10 + digit) * power + rest
-moves time digit power rest = omega arith
+pub room-step : (time n c : ℕ) → is_ascii_digit c ≡ true → (time + 1) * 10 ^ suc n ≤ 10 ^ 15 → (time * 10 + (c - 48) + 1) * 10 ^ n ≤ 10 ^ 15
+room-step time n c digit room =
+    let known : (time + 1) * (10 ^ n * 10) ≤ 10 ^ 15 = rw (pow-suc 10 n) at room in
+    let more : (time * 10 + (c - 48) + 1) * 10 ^ n ≤ (time * 10 + 10) * 10 ^ n = mul-le-mul_right (10 ^ n) (omega (arith, digit-le c digit)) in
+    omega arith
 
 -- a value by the digits up to a place and those from there on, where one more is read
-pub decimal_value-step : (field : List ℕ) (at value c time : ℕ) → at < length field → c ≡ get_or field at 0 → is_ascii_digit c ≡ true
-    → value ≡ time * 10 ^ (length field - at) + decimal_value (drop at field)
-    → value ≡ (time * 10 + (c - 48)) * 10 ^ (length field - (at + 1)) + decimal_value (drop (at + 1) field)
-decimal_value-step field at value c time within here is_digit so_far =
-    let left : length field - at ≡ suc (length field - (at + 1)) = omega arith in
-    let power : 10 ^ (length field - at) ≡ 10 ^ (length field - (at + 1)) * 10 = rw (left, pow-suc) refl in
-    let rest : drop at field ≡ c ∷ drop (at + 1) field = rw (add-one, here) (drop-cons field at 0 within) in
-    let size : length (drop (at + 1) field) ≡ length field - (at + 1) = length-drop (at + 1) field in
-    let next : decimal_value (drop at field) ≡ (c - 48) * 10 ^ (length field - (at + 1)) + decimal_value (drop (at + 1) field) =
-    rw (rest, size, digit_value-digit c is_digit) refl in
-    so_far ∙ rw (power, next) (moves time (c - 48) _ _)
-
--- a place with a digit does not decide whether all are digits
-pub all_ascii_digits-step : (field : List ℕ) (at c : ℕ) → at < length field → c ≡ get_or field at 0 → is_ascii_digit c ≡ true
-    → all_ascii_digits (drop at field) ≡ all_ascii_digits (drop (at + 1) field)
-all_ascii_digits-step field at c within here is_digit = rw (drop-cons field at 0 within, ← here, is_digit, add-one) refl
-
-decimal_value-lt : (field : List ℕ) → all_ascii_digits field ≡ true → decimal_value field < 10 ^ length field
-decimal_value-lt [] h = lit< tt
-decimal_value-lt (c ∷ rest) h =
-    let each = and_parts (is_ascii_digit c) (all_ascii_digits rest) h in
-    let digit : digit_value c ≤ 9 = rw (digit_value-digit c each.0) (digit-le c each.0) in
-    let value : digit_value c * 10 ^ length rest ≤ 9 * 10 ^ length rest = mul-le-mul_right (10 ^ length rest) digit in
-    rw pow-suc (omega (arith, decimal_value-lt rest each.1))
+pub value-step : (time c : ℕ) (rest : List ℕ) → is_ascii_digit c ≡ true
+    → time * 10 ^ suc (length rest) + decimal_value (c ∷ rest) ≡ (time * 10 + (c - 48)) * 10 ^ length rest + decimal_value rest
+value-step time c rest digit = rw (pow-suc, digit_value-digit c digit) (omega arith)
 
 -- a time has at most fifteen digits
 pub time_in-lt : (field : List ℕ) (time : ℕ) → time_in field ≡ Some time → time < 10 ^ 15
 time_in-lt field time e =
     let read : (length field ≤ 15) × (all_ascii_digits field ≡ true) × (decimal_value field ≡ time) = grind (arith, nat_tests) in
-    let positive : 0 < 10 = lit< tt in
-    let most : 10 ^ length field ≤ 10 ^ 15 = pow-le-pow_right positive read.0 in
-    omega (arith, decimal_value-lt field read.1)
+    omega (arith, digits_value_short numerals field 15 read.1 read.0)
 
 -- ---- digits in two parts
 
 decimal_value-append : (xs ys : List ℕ) → decimal_value (xs ++ ys) ≡ decimal_value xs * 10 ^ length ys + decimal_value ys
 decimal_value-append [] ys = omega arith
-decimal_value-append (x ∷ xs) ys = rw (length-append xs ys, pow-add 10 (length xs) (length ys), decimal_value-append xs ys) (apart (digit_value x) (10 ^ length xs) (10 ^ length ys) (decimal_value xs) (decimal_value ys))
-  where
-    apart : (digit power more front rest : ℕ) → digit * (power * more) + (front * more + rest) ≡ (digit * power + front) * more + rest
-    apart digit power more front rest = omega arith
+decimal_value-append (x ∷ xs) ys = rw (length-append xs ys, pow-add 10 (length xs) (length ys), decimal_value-append xs ys) (omega arith)
 
 all_ascii_digits-append : (xs ys : List ℕ) → all_ascii_digits (xs ++ ys) ≡ (all_ascii_digits xs && all_ascii_digits ys)
 all_ascii_digits-append [] ys = refl
 all_ascii_digits-append (x ∷ xs) ys = rw (all_ascii_digits-append xs ys) (grind arith)
 
--- where the first part is none, the whole is none; else the second part goes on after it
-pub digits_after-none : (xs ys : List ℕ) → digits_after 0 xs ≡ None → digits_after 0 (xs ++ ys) ≡ None
-digits_after-none xs ys h = grind (arith, all_ascii_digits-append)
-
-pub digits_after-some : (n : ℕ) (xs ys : List ℕ) → digits_after 0 xs ≡ Some n → digits_after 0 (xs ++ ys) ≡ digits_after n ys
-digits_after-some n xs ys h = grind (arith, all_ascii_digits-append, decimal_value-append)
-
 -- eight digits leave room for seven more
 pub eight-low : (xs : List ℕ) (n : ℕ) → digits_after 0 xs ≡ Some n → length xs ≡ 8 → n < 10 ^ 8
-eight-low xs n h size = let low = decimal_value-lt xs in grind (arith, decimal_value-lt)
+eight-low xs n h size = let low = λ (all : all_ascii_digits xs ≡ true). digits_value_short numerals xs 8 all (omega arith) in grind arith
 
 pub room-after : (n k : ℕ) → n < 10 ^ 8 → k ≤ 7 → (n + 1) * 10 ^ k ≤ 10 ^ 15
 room-after n k low short =
-    let positive : 0 < 10 = lit< tt in
-    let power : 10 ^ k ≤ 10 ^ 7 = pow-le-pow_right positive short in
+    let power : 10 ^ k ≤ 10 ^ 7 = pow-le-pow_right {n = 10} (lit< tt) short in
     let most : (n + 1) * 10 ^ k ≤ 10 ^ 8 * 10 ^ k = mul-le-mul_right (10 ^ k) (omega arith) in
     omega arith
 
 -- a field of 1 to 15 bytes
 pub time_in-digits : (field : List ℕ) → 0 < length field → length field ≤ 15 → time_in field ≡ digits_after 0 field
 time_in-digits field some few =
-    let begun : nat_le 1 (length field) ≡ true = grind (arith, nat_tests) in
-    let short : nat_le (length field) 15 ≡ true = grind (arith, nat_tests) in
     let value : 0 * 10 ^ length field + decimal_value field ≡ decimal_value field = omega arith in
-    rw (begun, short, value) refl
+    rw (le-leb 1 (length field) some, le-leb (length field) 15 few, value) refl
+
+-- such a field in two parts: where the first is none, the whole is none; else the second goes on after it
+module _ (field front rest : List ℕ) (whole : field ≡ front ++ rest) (some : 0 < length field) (few : length field ≤ 15) where
+  pub time_in-none : digits_after 0 front ≡ None → time_in field ≡ None
+  time_in-none h = time_in-digits field some few ∙ rw whole (grind (arith, all_ascii_digits-append))
+
+  pub time_in-some : (n : ℕ) → digits_after 0 front ≡ Some n → time_in field ≡ digits_after n rest
+  time_in-some n h = time_in-digits field some few ∙ rw whole (grind (arith, all_ascii_digits-append, decimal_value-append))
 
 -- ---- eight digits at once
 
@@ -130,6 +90,25 @@ all-eight xs size = absurd (omega arith)
 pub value-eight : (xs : List ℕ) → length xs ≡ 8 → all_ascii_digits xs ≡ true
     → decimal_value xs + 533333328
     ≡ ((get_or xs 0 0 * 10 + get_or xs 1 0) * 100 + (get_or xs 2 0 * 10 + get_or xs 3 0)) * 10000 + ((get_or xs 4 0 * 10 + get_or xs 5 0) * 100 + (get_or xs 6 0 * 10 + get_or xs 7 0))
-value-eight (a ∷ b ∷ c ∷ d ∷ e ∷ f ∷ g ∷ h ∷ []) size all =
-    grind (arith, value-digit, and_parts)
+value-eight (a ∷ b ∷ c ∷ d ∷ e ∷ f ∷ g ∷ h ∷ []) size all = grind (arith, nat_tests, digit_value-digit, and_parts)
 value-eight xs size all = absurd (omega arith)
+
+-- ---- three fields, by their places
+
+-- no field at a place: there are no more than so many
+at-none : (fields : List (List ℕ)) (i : ℕ) → None ≡ field_at fields i → length fields ≤ i
+unfolding field_at
+at-none [] i e = omega arith
+at-none (f ∷ fs) zero e = cc
+at-none (f ∷ fs) (suc i) e = omega (arith, at-none fs i e)
+
+-- a place below three without a field
+pub not-three : (fields : List (List ℕ)) (i : ℕ) → i ≤ 2 → None ≡ field_at fields i → length fields ≢ 3
+not-three fields i within e = λ three. omega (arith, at-none fields i e)
+
+-- three fields, read at their places
+pub three : (fields : List (List ℕ)) (a b c : List ℕ) → length fields ≡ 3
+    → Some a ≡ field_at fields 0 → Some b ≡ field_at fields 1 → Some c ≡ field_at fields 2 → fields ≡ a ∷ b ∷ c ∷ []
+unfolding field_at
+three (p ∷ q ∷ r ∷ []) a b c size x y z = cc
+three fields a b c size x y z = absurd (omega arith)

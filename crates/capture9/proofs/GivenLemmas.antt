@@ -1,19 +1,8 @@
 -- The records that a `Records` has given, as rows that some text can hold.
-use Rattle.std.proofs.Common.{◌≡◌, ◌<◌, ◌-◌, ◌^◌, ◌∙◌, ◌++◌, ℕ, suc, List, [], ◌∷◌, length, Bool, true, false, Some, None, get_or, refl, sym, subst, arith}
-use Rattle.std.specs.Prelude.{IsTrue}
-use Rattle.std.proofs.lemmas.List.{length_push, nil_from_length}
-use Rattle.std.proofs.lemmas.List.Elements.{All-push}
-use Rattle.std.proofs.lemmas.List.Sorted.{IsNonDecreasingBy-push}
-use Rattle.capture9.specs.declared.error.CaptureError.{CaptureError}
-use Rattle.capture9.specs.declared.error.CaptureKind.{CaptureKind}
-use Rattle.capture9.specs.declared.line_byte.LineByte.{LineByte}
-use Rattle.capture9.specs.declared.records.Standing.TheVariants.{Reading}
-use Rattle.capture9.specs.Error.{IsAtItsRow, is_of_text}
-use Rattle.capture9.specs.Records.{GivesRecord, GivesRefusal, IsPlaced, Progress}
-use Rattle.capture9.specs.RowRules.{last_time}
-use Rattle.capture9.specs.Rows.{no_rows}
-use Rattle.capture9.specs.SomeText.{CanBeRows, CanFollow}
-use Rattle.capture9.proofs.SomeTextLemmas.{can-follow}
+use Rattle.capture9.proofs.Words.{[], All-push, arith, Bool, CanBeRows, CanFollow, CaptureError, false, get_or, GivesRecord, GivesRefusal, is_of_text, IsNonDecreasingBy-push}
+use Rattle.capture9.proofs.Words.{IsPlaced, IsTrue, last_time, length, length_push, LineByte, List, nil_from_length, no_rows, None, Progress, Reading, refl, Some, suc}
+use Rattle.capture9.proofs.Words.{sym, true, zero, ℕ, ◌++◌, ◌-◌, ◌<◌, ◌^◌, ◌∙◌, ◌∷◌, ◌≡◌}
+use Rattle.capture9.proofs.LawLemmas.{can-follow}
 
 -- these are the records that were given
 pub record AreGiven {R : Type 0} (items : List LineByte) (progress : Progress R) : Type 0 where
@@ -31,19 +20,16 @@ last-push : (before : ℕ) (items : List LineByte) (r : LineByte) → last_time 
 last-push before [] r = refl
 last-push before (x ∷ items) r = last-push x.time_us items r
 
-last-at : (before : ℕ) (items : List LineByte) (d : LineByte) → 0 < length items → (get_or items (length items - 1) d).time_us ≡ last_time before items
-last-at before [] d some = absurd (omega arith)
-last-at before (x ∷ []) d some = refl
-last-at before (x ∷ y ∷ items) d some =
-    let long : length (x ∷ y ∷ items) - 1 ≡ suc (length items) = omega arith in
-    let short : length (y ∷ items) - 1 ≡ length items = omega arith in
-    rw long (rw short at (last-at x.time_us (y ∷ items) d (omega arith)))
+last-at : (before : ℕ) (items : List LineByte) (n : ℕ) (d : LineByte) → length items ≡ suc n → (get_or items n d).time_us ≡ last_time before items
+last-at before (x ∷ []) zero d size = refl
+last-at before (x ∷ y ∷ items) (suc n) d size = last-at x.time_us (y ∷ items) n d (omega arith)
+last-at before items n d size = absurd (omega arith)
 
 pub given-more : {R : Type 0} (items : List LineByte) (progress after : Progress R) (r : LineByte) → AreGiven items progress → GivesRecord progress r after → AreGiven (items ++ r ∷ []) after
 given-more items progress after r h gives = record {
   can_be = record {
     limit = let within = gives.within in let long = count in omega arith;
-    in_order = IsNonDecreasingBy-push (λ (x : LineByte). x.time_us) items r h.can_be.in_order (λ d some. let low = gives.in_order in let last = last-at 0 items d some in let time = h.last_time in omega arith);
+    in_order = IsNonDecreasingBy-push (λ (x : LineByte). x.time_us) items r h.can_be.in_order (λ d some. let low = gives.in_order in let last = last-at 0 items (length items - 1) d (omega arith) in let time = h.last_time in omega arith);
     in_range = All-push (λ (x : LineByte). x.time_us < 10 ^ 15) items r h.can_be.in_range gives.in_range;
     bytes = All-push (λ (x : LineByte). x.byte < 256) items r h.can_be.bytes gives.is_byte;
     fault = tt;
@@ -66,16 +52,12 @@ given-refused items progress after e h reads refusal text = record {
   fault = by after.is_headed refusal.place;
 }
   where
-    at_its_row : IsAtItsRow e
-    at_its_row = refusal.place.at_its_row text
-
     by : (headed : Bool) → IsPlaced headed after.given e → CanFollow e.kind items e.row
     by true placed =
         let place = placed.row in
         let same = refusal.given in
         let count = h.given in
-        can-follow e.kind items e.row text at_its_row (omega arith) h.can_be.limit (λ late. let low = refusal.backwards reads late in let time = h.last_time in omega arith)
+        can-follow e.kind items e.row text (refusal.place.at_its_row text) (omega arith) h.can_be.limit (λ late. let low = refusal.backwards reads late in let time = h.last_time in omega arith)
     by false placed =
-        let P : CaptureKind → Type 0 = λ k. CanFollow k items e.row in
         let none : items ≡ [] = nil_from_length items (sym h.given ∙ sym refusal.given ∙ placed.none_given refl) in
-        subst P (sym (at_its_row.header.1 placed.row)) (none, placed.row)
+        rw ((refusal.place.at_its_row text).header.1 placed.row) (none, placed.row)

@@ -1,11 +1,9 @@
 pub mod CaptureLemmas
-pub mod ColumnLemmas
 pub mod CsvLemmas
 pub mod FieldLemmas
 pub mod GivenLemmas
 pub mod LawLemmas
 pub mod RecordsLemmas
-pub mod RowLemmas
 pub mod RuleLemmas
-pub mod SomeTextLemmas
 pub mod TextLemmas
+pub mod Words

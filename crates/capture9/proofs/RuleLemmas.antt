@@ -1,16 +1,10 @@
--- What a row is read as, against the rules of a row, each on its own.
-use Rattle.std.proofs.Common.{◌≡◌, ◌<◌, ◌≤◌, ◌+◌, ◌++◌, ℕ, List, [], ◌∷◌, length, Bool, true, false, Option, Some, None, Result, Ok, Err, nat_lt, refl, ap, subst, arith}
-use Rattle.std.specs.Prelude.{if◌then◌else◌}
-use Rattle.std.proofs.lemmas.Bool.Decides.{nat_tests}
-use Rattle.std.specs.List.{AllByRecursion}
-use Rattle.std.proofs.lemmas.List.Elements.{All-from_recursion}
-use Rattle.capture9.specs.declared.error.CaptureKind.{CaptureKind}
+-- What a row is read as, against the rules of a row, each on its own, and what is then known of it.
+use Rattle.capture9.proofs.Words.{[], All, All-from_recursion, AllByRecursion, ap, AreGood, AreLeft, arith, bad_row, byte_in, CaptureKind, cases_lt, Err, fields_record, good_row}
+use Rattle.capture9.proofs.Words.{HasFirstPart, HasHeader, headed_rows, hex_digit_of, inl, inr, is_header, is_of_text, IsAtItsRow, IsFirstOf, IsTrue, last_time, le-ltb, length}
+use Rattle.capture9.proofs.Words.{LineByte, List, lt-ltb, most_rows, nat_tests, None, Ok, Option, pair_value, record_of, refl, Result, row_kinds, row_of, row_then, RowBreaks}
+use Rattle.capture9.proofs.Words.{Rows, rows_from, Some, Spell, time_in, true, Wire, wire_in, ℕ, ◌++◌, ◌+◌, ◌<◌, ◌^◌, ◌↔◌, ◌∷◌, ◌≡◌, ◌≢◌, ◌≤◌}
+use Rattle.capture9.proofs.FieldLemmas.{time_in-lt}
 use Rattle.capture9.specs.declared.error.CaptureKind.TheVariants as kind
-use Rattle.capture9.specs.declared.line_byte.LineByte.{LineByte}
-use Rattle.capture9.specs.declared.line_byte.Wire.{Wire}
-use Rattle.capture9.specs.Fields.{byte_in, hex_digit_of, pair_value, is_header, most_rows, time_in, wire_in}
-use Rattle.capture9.specs.RowRules.{AreGood, AreLeft, HasFirstPart, IsFirstOf, RowBreaks, Spell, last_time, row_kinds}
-use Rattle.capture9.specs.Rows.{Rows, fields_record, headed_rows, record_of, row_of, row_then, rows_from}
 
 -- what a row is read as: the record that it spells where it breaks no rule, and else the first rule that it breaks
 abbrev pub IsRead : ℕ → ℕ → List (List ℕ) → Result LineByte CaptureKind → Type 0
@@ -27,34 +21,35 @@ record-read number before a b c None wire byte few t w y = first-of _ (kind.TooM
 record-read number before a b c (Some time) None byte few t w y = first-of _ (kind.TooMany ∷ kind.Fields ∷ kind.Time ∷ []) _ kind.Wire (few, (λ h. h refl, (λ h. cc, tt))) w
 record-read number before a b c (Some time) (Some wire) None few t w y =
     first-of _ (kind.TooMany ∷ kind.Fields ∷ kind.Time ∷ kind.Wire ∷ []) _ kind.Byte (few, (λ h. h refl, (λ h. cc, (λ h. cc, tt)))) y
-record-read number before a b c (Some time) (Some wire) (Some byte) few t w y = by (nat_lt time before) refl
+record-read number before a b c (Some time) (Some wire) (Some byte) few t w y =
+    elim (cases_lt time before) [
+      | inl low ↦ rw (lt-ltb time before low) (first-of _ (kind.TooMany ∷ kind.Fields ∷ kind.Time ∷ kind.Wire ∷ kind.Byte ∷ []) _ kind.Backwards
+          (few, (λ h. h refl, (λ h. cc, (λ h. cc, (λ h. cc, tt))))) (time, t, low))
+      | inr high ↦ rw (le-ltb time before high) ((t, w, y), none high)
+    ]
   where
-    fields : List (List ℕ)
-    fields = a ∷ b ∷ c ∷ []
-
-    none : ¬ (time < before) → (k : CaptureKind) → ¬ (RowBreaks k number before fields)
-    none low kind.TooMany = few
-    none low kind.Fields = λ h. h refl
-    none low kind.Backwards = λ h. let same : Some time ≡ Some h.0 = cc in let one : time ≡ h.0 = cc in let high = h.2 in low (omega arith)
-    none low k = λ h. grind arith
-
-    by : (backwards : Bool) → nat_lt time before ≡ backwards
-        → IsRead number before fields (if backwards then Err kind.Backwards else Ok (record { time_us = time; wire = wire; byte = byte }))
-    by true q =
-        first-of _ (kind.TooMany ∷ kind.Fields ∷ kind.Time ∷ kind.Wire ∷ kind.Byte ∷ []) _ kind.Backwards (few, (λ h. h refl, (λ h. cc, (λ h. cc, (λ h. cc, tt)))))
-        (time, t, let low : time < before = grind (arith, nat_tests) in low)
-    by false q = ((t, w, y), none (λ h. let high : before ≤ time = grind (arith, nat_tests) in omega arith))
+    none : before ≤ time → (k : CaptureKind) → ¬ (RowBreaks k number before (a ∷ b ∷ c ∷ []))
+    none high kind.TooMany = few
+    none high kind.Fields = λ h. h refl
+    none high kind.Backwards = λ h. let same : Some time ≡ Some h.0 = cc in let one : time ≡ h.0 = cc in let low = h.2 in omega arith
+    none high k = λ h. grind arith
 
 fields-read : (number before : ℕ) (fields : List (List ℕ)) → ¬ (most_rows < number) → IsRead number before fields (fields_record before fields)
 fields-read number before (a ∷ b ∷ c ∷ []) few = record-read number before a b c (time_in a) (wire_in b) (byte_in c) few refl refl refl
 fields-read number before fields few = first-of _ (kind.TooMany ∷ []) _ kind.Fields (few, tt) (λ h. absurd (omega arith))
 
 pub row-read : (number before : ℕ) (fields : List (List ℕ)) → IsRead number before fields (row_of number before fields)
-row-read number before fields = by (nat_lt most_rows number) refl
-  where
-    by : (many : Bool) → nat_lt most_rows number ≡ many → IsRead number before fields (if many then Err kind.TooMany else fields_record before fields)
-    by true q = first-of _ [] _ kind.TooMany tt (let over : most_rows < number = grind (arith, nat_tests) in over)
-    by false q = fields-read number before fields (λ h. let within : number ≤ most_rows = grind (arith, nat_tests) in omega arith)
+row-read number before fields =
+    elim (cases_lt most_rows number) [
+      | inl over ↦ rw (lt-ltb most_rows number over) (first-of _ [] _ kind.TooMany tt over)
+      | inr few ↦ rw (le-ltb most_rows number few) (fields-read number before fields (λ h. omega arith))
+    ]
+
+-- what holds of a row that was read and the rows behind it, and of one that breaks a rule
+pub row_then-by : (P : Rows → Type 0) (number before : ℕ) (fields : List (List ℕ)) (rest : ℕ → Rows) → ((r : LineByte) → row_of number before fields ≡ Ok r → P (good_row r (rest r.time_us)))
+    → ((k : CaptureKind) → row_of number before fields ≡ Err k → P (bad_row k number)) → P (row_then number (row_of number before fields) rest)
+row_then-by P number before fields rest good bad =
+    elim (row_of number before fields) as (λ o. row_of number before fields ≡ o → P (row_then number o rest)) [ Ok r ↦ good r | Err k ↦ bad k ] refl
 
 -- the same of rows from a number on, after a row of this time
 pub record HasPartFrom (number before : ℕ) (rows : List (List (List ℕ))) (held : Rows) : Type 0 where
@@ -62,39 +57,22 @@ pub record HasPartFrom (number before : ℕ) (rows : List (List (List ℕ))) (he
   pub left : List (List (List ℕ))
   pub split : rows ≡ good ++ left
   pub are_good : AreGood number before good held.records
-  pub are_left : AreLeft (length good + number) (last_time before held.records) left held.fault
+  pub are_left : (n : ℕ) → n ≡ length good + number → AreLeft n (last_time before held.records) left held.fault
 
 pub part-from : (number before : ℕ) (rows : List (List (List ℕ))) → HasPartFrom number before rows (rows_from number before rows)
-part-from number before [] = record { good = []; left = []; split = refl; are_good = refl; are_left = refl }
-part-from number before (fields ∷ rest) = by (row_of number before fields) (row-read number before fields) (λ time. part-from (number + 1) time rest)
-  where
-    by : (o : Result LineByte CaptureKind) → IsRead number before fields o → ((time : ℕ) → HasPartFrom (number + 1) time rest (rows_from (number + 1) time rest))
-        → HasPartFrom number before (fields ∷ rest) (row_then number o (λ time. rows_from (number + 1) time rest))
-    by (Ok r) read more =
-        let m = more r.time_us in
-        let place : length m.good + (number + 1) ≡ length (fields ∷ m.good) + number = omega arith in
-        record {
-          good = fields ∷ m.good;
-          left = m.left;
-          split = ap (λ (l : List (List (List ℕ))). fields ∷ l) m.split;
-          are_good = (read.0, read.1, m.are_good);
-          are_left = subst (λ (n : ℕ). AreLeft n (last_time r.time_us (rows_from (number + 1) r.time_us rest).records) m.left (rows_from (number + 1) r.time_us rest).fault) place m.are_left;
-        }
-    by (Err k) read more =
-        let none : List (List (List ℕ)) = [] in
-        let place : number ≡ length none + number = omega arith in
-        record {
-          good = [];
-          left = fields ∷ rest;
-          split = refl;
-          are_good = refl;
-          are_left = subst (λ (n : ℕ). AreLeft n before (fields ∷ rest) (Some (record { kind = k; row = number }))) place (k, read, refl);
-        }
+part-from number before [] = record { good = []; left = []; split = refl; are_good = refl; are_left = λ n e. refl }
+part-from number before (fields ∷ rest) =
+    row_then-by (HasPartFrom number before (fields ∷ rest)) number before fields (λ time. rows_from (number + 1) time rest) (λ r e.
+    let m = part-from (number + 1) r.time_us rest in
+    let read = rw e at (row-read number before fields) in
+    record { good = fields ∷ m.good; left = m.left; split = ap (λ (l : List (List (List ℕ))). fields ∷ l) m.split; are_good = (read.0, read.1, m.are_good); are_left = λ n e. m.are_left n (omega arith) }) (λ k e.
+    let read = rw e at (row-read number before fields) in
+    record { good = []; left = fields ∷ rest; split = refl; are_good = refl; are_left = λ n e. let same : n ≡ number = omega arith in rw same (k, read, refl) })
 
 pub first-part : (header : List (List ℕ)) (rows records : List (List (List ℕ))) → records ≡ header ∷ rows → is_header header ≡ true → HasFirstPart rows (headed_rows records)
 first-part header rows records same good =
     let m = part-from 1 0 rows in
-    rw (same, good) (record { good = m.good; left = m.left; split = m.split; are_good = m.are_good; are_left = m.are_left })
+    rw (same, good) (record { good = m.good; left = m.left; split = m.split; are_good = m.are_good; are_left = m.are_left _ refl })
 
 -- ---- what follows of a row that was read, and of one that comes too early
 
@@ -108,23 +86,66 @@ byte-lt : (field : List ℕ) (b : ℕ) → byte_in field ≡ Some b → b < 256
 byte-lt (x ∷ y ∷ []) b e = pair-lt (hex_digit_of x) (hex_digit_of y) b (hex-lt x) (hex-lt y) e
 byte-lt field b e = cc
 
-spell-byte : (fields : List (List ℕ)) (r : LineByte) → Spell fields r → r.byte < 256
-spell-byte (a ∷ b ∷ c ∷ []) r h = byte-lt c r.byte h.2
-spell-byte fields r h = absurd h
-
 earlier : (fields : List (List ℕ)) (number before : ℕ) → RowBreaks kind.Backwards number before fields → 0 < before
 earlier (a ∷ b ∷ c ∷ []) number before h = let low = h.2 in omega arith
 earlier fields number before h = absurd h
 
--- the byte of a record that was read
-pub row-byte : (number before : ℕ) (fields : List (List ℕ)) (r : LineByte) → row_of number before fields ≡ Ok r → r.byte < 256
-row-byte number before fields r e =
-    let P : Result LineByte CaptureKind → Type 0 = IsRead number before fields in
-    spell-byte fields r (subst P e (row-read number before fields)).0
+-- ---- what is known of a row that was read, and of one that was refused
 
--- a time below the one before comes only after a time above 0
-pub row-backwards : (number before : ℕ) (fields : List (List ℕ)) (k : CaptureKind) → row_of number before fields ≡ Err k → k ≡ kind.Backwards → 0 < before
-row-backwards number before fields k e is =
-    let P : Result LineByte CaptureKind → Type 0 = IsRead number before fields in
-    let Q : CaptureKind → Type 0 = λ j. RowBreaks j number before fields in
-    earlier fields number before (subst Q is (subst P e (row-read number before fields)).holds)
+-- the record of a good row: in its place, in order and in range
+pub record IsGood (number before : ℕ) (r : LineByte) : Type 0 where
+  pub within : number ≤ most_rows
+  pub in_order : before ≤ r.time_us
+  pub in_range : r.time_us < 10 ^ 15
+  pub is_byte : r.byte < 256
+
+pub row_of-ok : (number before : ℕ) (fields : List (List ℕ)) (r : LineByte) → row_of number before fields ≡ Ok r → IsGood number before r
+row_of-ok number before fields r e = by fields (rw e at (row-read number before fields))
+  where
+    by : (fields : List (List ℕ)) → IsRead number before fields (Ok r) → IsGood number before r
+    by (a ∷ b ∷ c ∷ []) read =
+        let early : r.time_us < before → ⊥ = λ low. read.1 kind.Backwards (r.time_us, read.0.0, low) in
+        let few = read.1 kind.TooMany in
+        record { within = omega arith; in_order = omega arith; in_range = time_in-lt a r.time_us read.0.0; is_byte = byte-lt c r.byte read.0.2 }
+    by fields read = absurd read.0
+
+-- a kind of fault that the data row with this number has
+pub record IsRowKind (number before : ℕ) (k : CaptureKind) : Type 0 where
+  pub of_text : IsTrue (is_of_text k)
+  pub no_header : k ≢ kind.Header
+  pub too_many : (k ≡ kind.TooMany) ↔ (most_rows < number)
+  pub backwards : k ≡ kind.Backwards → 0 < before
+
+breaks : (k : CaptureKind) (number before : ℕ) (fields : List (List ℕ)) → RowBreaks k number before fields → IsTrue (is_of_text k) × (k ≢ kind.Header)
+breaks k number before fields holds = grind arith
+
+-- a row breaks rules of a text, and none of the header
+pub row_of-err : (number before : ℕ) (fields : List (List ℕ)) (k : CaptureKind) → row_of number before fields ≡ Err k → IsRowKind number before k
+row_of-err number before fields k e =
+    let read = rw e at (row-read number before fields) in
+    let told = breaks k number before fields read.holds in
+    record {
+      of_text = told.0;
+      no_header = told.1;
+      too_many = (λ is. rw is at read.holds, first read.before read.after read.split read.none_before);
+      backwards = λ is. earlier fields number before (rw is at read.holds);
+    }
+  where
+    first : (js after : List CaptureKind) → row_kinds ≡ js ++ k ∷ after → All (λ j. ¬ (RowBreaks j number before fields)) js → most_rows < number → k ≡ kind.TooMany
+    first [] after split none over = cc
+    first (j ∷ js) after split none over = let is : j ≡ kind.TooMany = cc in absurd ((rw is at (none 0 j (omega arith))) over)
+
+-- the fault of a row, of which there is one too many at most, is where that kind of fault is
+pub at-its-row : (number before : ℕ) (k : CaptureKind) → 1 ≤ number → number ≤ most_rows + 1 → IsRowKind number before k → IsAtItsRow (record { kind = k; row = number })
+at-its-row number before k low within known = record {
+  header = (λ h. absurd (known.no_header h), λ zero. absurd (omega arith));
+  too_many = (λ h. let over = known.too_many.0 h in omega arith, λ last. known.too_many.1 (omega arith));
+}
+
+-- behind the header no row has the header's fault
+pub rows_from-has_header : (number before : ℕ) (unread : List (List (List ℕ))) → HasHeader (rows_from number before unread)
+rows_from-has_header number before [] = λ e. cc
+rows_from-has_header number before (fields ∷ rest) =
+    row_then-by HasHeader number before fields (λ time. rows_from (number + 1) time rest) (λ r e. rows_from-has_header (number + 1) r.time_us rest) (λ k e same.
+    let known = row_of-err number before fields k e in
+    grind arith)

@@ -49,8 +49,8 @@ pub record HoldsInRecords {R : Type 0} (s : Standing) (is_headed : Bool) (given 
 
 -- what a read of a CSV record did: there was one, with these fields, or there was none
 abbrev pub TakesFields : List (List (List ℕ)) → Bool → List (List ℕ) → Option (List (List (List ℕ))) → Type 0
-TakesFields [] found fields after = found ≡ false
-TakesFields (first ∷ rest) found fields after = (found ≡ true) × (fields ≡ first) × (after ≡ Some rest)
+TakesFields unread true fields after = (rest : List (List (List ℕ))) × (unread ≡ fields ∷ rest) × (after ≡ Some rest)
+TakesFields unread false fields after = unread ≡ []
 
 -- the header was read, and the rows to come are those that were
 pub record PassesHeader {R : Type 0} (old new : Progress R) : Type 0 where

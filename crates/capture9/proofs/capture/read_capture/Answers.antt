@@ -1,6 +1,5 @@
 -- The rows to come at the start are those of the text.
-use Rattle.std.proofs.Common.{◌≡◌, option_map, refl}
-use Rattle.capture9.specs.Rows.{rows_of}
+use Rattle.capture9.proofs.Words.{option_map, refl, rows_of, ◌≡◌}
 use Rattle.capture9.proofs.CaptureLemmas.{of-text}
 use Rattle.capture9.proofs.capture.read_capture.Goals as goal
 

@@ -1,8 +1,7 @@
 -- The list has the records given so far, and the rest of the text's rows is still to come.
-use Rattle.std.proofs.Common.{◌-◌, ◌≡◌, ◌≤◌, [], false, length}
-use Rattle.capture9.specs.Fields.{most_rows}
-use Rattle.capture9.specs.declared.records.Standing.TheVariants as standing
+use Rattle.capture9.proofs.Words.{[], false, length, most_rows, ◌-◌, ◌≡◌, ◌≤◌}
 use Rattle.capture9.proofs.CaptureLemmas.{IsReadUpTo}
+use Rattle.capture9.specs.declared.records.Standing.TheVariants as standing
 use Rattle.capture9.proofs.capture.read_into.Given as goal
 
 abbrev pub invariant-loop-record : goal.invariant-loop-record

@@ -1,7 +1,5 @@
 -- All are digits, or one is not; and what the bytes come to.
-use Rattle.std.proofs.Common.{◌≡◌, ◌+◌, ◌*◌, ◌^◌, ℕ, length, arith, rules, true, false, refl, ap, Some}
-use Rattle.std.specs.Str.{all_ascii_digits}
-use Rattle.capture9.specs.Fields.{decimal_value}
+use Rattle.capture9.proofs.Words.{all_ascii_digits, ap, arith, decimal_value, false, length, refl, rules, Some, true, ℕ, ◌*◌, ◌+◌, ◌^◌, ◌≡◌}
 use Rattle.capture9.proofs.FieldLemmas.{all-eight, value-eight}
 use Rattle.capture9.proofs.fields.eight_digits.Goals as goal
 

@@ -1,7 +1,6 @@
 -- What holds of every list of CSV records holds of those of a text.
-use Rattle.std.proofs.Common.{ℕ, List}
-use Rattle.csv.specs.Reading.{default_config, records, strip_bom}
-use Rattle.capture9.proofs.SomeTextLemmas.{of-fault}
+use Rattle.capture9.proofs.Words.{default_config, List, records, strip_bom, ℕ}
+use Rattle.capture9.proofs.LawLemmas.{of-fault}
 use Rattle.capture9.proofs.laws.fault_of_a_text.Goals as goal
 
 pub returns : goal.returns

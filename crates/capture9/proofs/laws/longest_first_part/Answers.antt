@@ -1,5 +1,4 @@
--- What holds of every list of CSV records holds of those of a text.
-use Rattle.csv.specs.Reading.{default_config, records, strip_bom}
+use Rattle.capture9.proofs.Words.{default_config, records, strip_bom}
 use Rattle.capture9.proofs.RuleLemmas.{first-part}
 use Rattle.capture9.proofs.laws.longest_first_part.Goals as goal
 

@@ -1,7 +1,5 @@
--- What holds of every list of CSV records holds of those of a text.
-use Rattle.std.proofs.Common.{ℕ, List}
-use Rattle.csv.specs.Reading.{default_config, records, strip_bom}
-use Rattle.capture9.proofs.SomeTextLemmas.{can-be}
+use Rattle.capture9.proofs.Words.{default_config, List, records, strip_bom, ℕ}
+use Rattle.capture9.proofs.LawLemmas.{can-be}
 use Rattle.capture9.proofs.laws.records_of_a_text.Goals as goal
 
 pub returns : goal.returns

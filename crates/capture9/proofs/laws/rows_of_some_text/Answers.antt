@@ -1,6 +1,5 @@
--- What holds of every list of CSV records holds of those of a text.
-use Rattle.csv.specs.Reading.{default_config, records, strip_bom}
-use Rattle.capture9.proofs.SomeTextLemmas.{can-be}
+use Rattle.capture9.proofs.Words.{default_config, records, strip_bom}
+use Rattle.capture9.proofs.LawLemmas.{can-be}
 use Rattle.capture9.proofs.TextLemmas.{some-text}
 use Rattle.capture9.proofs.laws.rows_of_some_text.Goals as goal
 

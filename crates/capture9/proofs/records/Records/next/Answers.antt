@@ -1,6 +1,5 @@
 -- The same refusal again.
-use Rattle.csv.specs.Reading.{reader_source}
-use Rattle.capture9.specs.Working.{unread_records}
+use Rattle.capture9.proofs.Words.{reader_source, unread_records}
 use Rattle.capture9.proofs.RecordsLemmas.{refuses-again}
 use Rattle.capture9.proofs.records.Records.next.Goals as goal
 
