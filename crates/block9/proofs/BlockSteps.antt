@@ -1,15 +1,6 @@
 -- A block that gets one record more: how it begins, goes on and ends.
-use Rattle.std.proofs.Common.{◌≡◌, ◌≢◌, ℕ, ◌+◌, ◌/◌, ◌%◌, ◌<◌, ◌∙◌, List, [], ◌∷◌, ◌++◌, length, sym, ap, subst, true, false, arith}
-use Rattle.std.proofs.lemmas.Bool.Decides.{nat_tests}
-use Rattle.std.proofs.lemmas.List.{length_push, same_from_push, map-append, length-map}
-use Rattle.std.specs.List.{sum}
-use Rattle.capture9.specs.declared.line_byte.LineByte.{LineByte}
-use Rattle.capture9.specs.declared.line_byte.Wire.{Wire}
-use Rattle.block9.specs.declared.block.Block.{Block}
-use Rattle.block9.specs.Block.{IsBlock, body_of}
-use Rattle.block9.specs.Line.{IsWhole, IsBegun, allows, block_len, bytes_of, group_in}
-use Rattle.block9.specs.Working.Body.{block_of}
-use Rattle.block9.specs.Working.Table.{ends_block}
+use Rattle.block9.proofs.Words.{[], allows, ap, arith, Block, block_len, block_of, body_of, bytes_of, ends_block, false, IsBegun, IsBlock, IsWhole, length, length-map}
+use Rattle.block9.proofs.Words.{length_push, LineByte, List, map-append, nat_tests, same_from_push, subst, sum, sym, true, Wire, ℕ, ◌%◌, ◌++◌, ◌+◌, ◌/◌, ◌<◌, ◌∙◌, ◌∷◌, ◌≡◌, ◌≢◌}
 use Rattle.block9.proofs.LineLemmas.{GoesOn, linked_less, linked_last, linked_more, whole_first, whole_long, block_of-body_of}
 
 -- a group that some wire allows is below 16

@@ -1,17 +1,8 @@
 -- How lists are cut: a cut is the only one, a prefix of what is kept is kept, and the tail alone decides what a record does.
-use Rattle.std.proofs.Common.{◌≡◌, ◌-◌, ◌<◌, ◌≤◌, ◌∙◌, List, [], ◌∷◌, ◌++◌, length, take, refl, sym, ap, subst, true, None, arith, length-append}
-use Rattle.std.proofs.lemmas.List.{append_assoc, append-nil, same_from_push, length_push}
-use Rattle.capture9.specs.declared.line_byte.LineByte.{LineByte}
-use Rattle.capture9.specs.declared.line_byte.Wire.TheVariants.{Controller, Deck}
-use Rattle.block9.specs.declared.block.Block.{Block}
-use Rattle.block9.specs.declared.command.Command.{Command}
-use Rattle.block9.specs.declared.pairer.Exchange.{Exchange}
-use Rattle.block9.specs.Block.{Spells}
-use Rattle.block9.specs.Command.{command_of, fits, is_reply_time_valid}
-use Rattle.block9.specs.Line.{IsBegun, IsWhole, block_len, bytes_of, first_time, last_time}
-use Rattle.block9.specs.Exchange.{IsCommand, IsInTime, IsExchange, IsTail, Cut, IsKept}
-use Rattle.block9.specs.Exchange.IsTail.{nothing, in_command, after_command, in_reply}
-use Rattle.block9.specs.Working.Table.{pairing}
+use Rattle.block9.proofs.Words.{[], after_command, ap, append-nil, append_assoc, arith, Block, block_len, bytes_of, Command, command_of, Controller, Cut, Deck, Exchange}
+use Rattle.block9.proofs.Words.{first_time, fits, in_command, in_reply, is_reply_time_valid, IsBegun, IsCommand, IsExchange, IsInTime, IsKept, IsTail, IsWhole, last_time, length}
+use Rattle.block9.proofs.Words.{length-append, length_push, LineByte, List, None, nothing, pairing, refl, same_from_push, Spells, subst, sym, take, true, ◌++◌, ◌-◌, ◌<◌, ◌∙◌}
+use Rattle.block9.proofs.Words.{◌∷◌, ◌≡◌, ◌≤◌}
 use Rattle.block9.proofs.LineLemmas.{whole_len, whole_long, block_len-append, whole_parts, spelled_once}
 use Rattle.block9.proofs.BlockSteps.{begun_less, whole_less}
 use Rattle.block9.proofs.TableLemmas as table

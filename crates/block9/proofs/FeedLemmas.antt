@@ -1,29 +1,11 @@
 -- What a pairer answers, and what it holds, after one more record.
 use Rattle.block9.proofs.TailLemmas.{place_in_command}
-use Rattle.capture9.specs.declared.line_byte.Wire.TheVariants.{Controller}
-use Rattle.block9.specs.declared.block.Block.{Block}
-use Rattle.std.proofs.Common.{◌≡◌, arith, ℕ, ◌≤◌, ◌%◌, ◌∙◌, ap, sym, subst, refl, true, false, Option, Some, None, List, [], ◌∷◌, ◌++◌}
-use Rattle.std.specs.List.{sum}
-use Rattle.std.specs.Option.{ForSome}
-use Rattle.capture9.specs.declared.line_byte.LineByte.{LineByte}
-use Rattle.block9.specs.declared.command.Command.{Command}
-use Rattle.block9.specs.declared.pairer.Asked.{Asked}
-use Rattle.block9.specs.declared.pairer.Step.{Step}
-use Rattle.block9.specs.declared.pairer.Step.TheVariants as step
-use Rattle.block9.specs.declared.place.Place.{Place}
-use Rattle.block9.specs.declared.reason.Reason.{Reason}
-use Rattle.block9.specs.Command.{fits, is_reply_time_valid, command_of}
-use Rattle.block9.specs.declared.pairer.Exchange.{Exchange}
-use Rattle.block9.specs.Exchange.{Does, IsExchange, IsKept, tail_after, IsCommand}
-use Rattle.block9.specs.Line.{bytes_of, last_time, IsWhole}
-use Rattle.block9.specs.Pairer.{Paired, Refuses, Takes}
-use Rattle.block9.specs.Reason.{IsReason}
-use Rattle.block9.specs.Working.Body.{block_of}
-use Rattle.block9.specs.Working.Held.{Closes, HoldsInPairer, IsHeld, IsTurn}
-use Rattle.block9.specs.Working.Table.{ends_block, meaning_fault, open_at, pairing, place_of, reply_fault, sum_fault, command_fault}
+use Rattle.block9.proofs.Words.{[], ap, arith, Asked, Block, block_of, bytes_of, Closes, Command, command_fault, command_of, Controller, Does, ends_block, Exchange, false, fits}
+use Rattle.block9.proofs.Words.{ForSome, HoldsInPairer, is_reply_time_valid, IsCommand, IsExchange, IsHeld, IsKept, IsReason, IsTurn, IsWhole, last_time, LineByte, List}
+use Rattle.block9.proofs.Words.{meaning_fault, nat_tests, None, open_at, Option, Paired, pairing, Place, place_of, Reason, refl, Refuses, reply_fault, Some, Step, subst, sum}
+use Rattle.block9.proofs.Words.{sum_fault, sym, tail_after, Takes, true, ℕ, ◌%◌, ◌++◌, ◌∙◌, ◌∷◌, ◌≡◌, ◌≤◌}
 use Rattle.block9.proofs.ReasonLemmas.{reason_broken, table_reason}
 use Rattle.block9.proofs.StepLemmas.{closes, held_tail, in_order, last_time-tail_after, reply_parts, tail_short, waits, begun_now, commands}
-use Rattle.std.proofs.lemmas.Bool.Decides.{nat_tests}
 
 -- ---- the table at the last record of a block
 
@@ -66,7 +48,7 @@ ends_exchange t a r e held later turn right read kind valid =
 -- ---- what is held afterwards
 
 pub held_waiting : (t : List LineByte) (o : Option Asked) (r : LineByte) (last : Option ℕ) → HoldsInPairer t o last → ForSome last (λ time. time ≤ r.time_us) → IsTurn t r false
-    → HoldsInPairer (t ++ r ∷ []) o (Some r.time_us) × Does t r step.Waiting
+    → HoldsInPairer (t ++ r ∷ []) o (Some r.time_us) × Does t r Step.Waiting
 held_waiting t o r last h known turn =
     let later = in_order last (last_time t) r.time_us h.in_order known in
     let early = turn.0 in
@@ -74,7 +56,7 @@ held_waiting t o r last h known turn =
     let quiet : pairing t r ≡ None = rw (early, ends) refl in
     let still = waits t o r h.held later quiet ends in
     let tail = held_tail (t ++ r ∷ []) o still.held in
-    (record { held = still.held; short = tail_short _ tail; in_order = last_time-tail_after t r step.Waiting }, (tail, still.no_command))
+    (record { held = still.held; short = tail_short _ tail; in_order = last_time-tail_after t r Step.Waiting }, (tail, still.no_command))
 
 pub held_step : (t : List LineByte) (o : Option Asked) (r : LineByte) (s : Step) → IsHeld (tail_after t r s) o → HoldsInPairer (tail_after t r s) o (Some r.time_us)
 held_step t o r s held = record { held = held; short = tail_short _ (held_tail _ o held); in_order = last_time-tail_after t r s }

@@ -1,21 +1,9 @@
 -- The reason that the table gives after a tail is one that holds.
-use Rattle.std.proofs.Common.{◌≡◌, ◌⊎◌, inl, inr, ◌-◌, ◌≤◌, ◌%◌, ◌∙◌, true, List, [], take, drop, Option, if◌then◌else◌, Some, None, refl, sym, ap, subst, arith}
-use Rattle.std.proofs.lemmas.Bool.Decides.{nat_tests}
-use Rattle.std.specs.List.{sum}
-use Rattle.std.specs.Option.{option_or}
-use Rattle.capture9.specs.declared.line_byte.LineByte.{LineByte}
-use Rattle.capture9.specs.declared.line_byte.Wire.TheVariants.{Controller, Deck}
-use Rattle.block9.specs.declared.command.Command.{Command}
-use Rattle.block9.specs.declared.place.Place.TheVariants.{InCommand, AfterCommand, InReply}
-use Rattle.block9.specs.declared.reason.Reason.{Reason}
-use Rattle.block9.specs.declared.reason.Reason.TheVariants.{WrongGroup, WrongSum, ByteGap, ReplyWithoutCommand, ReplyInsideCommand, CommandBeforeReply, CommandInsideReply, WrongReply, InvalidCommandTime, InvalidReplyTime, LateReply, NoReply}
-use Rattle.block9.specs.Command.{command_of}
-use Rattle.block9.specs.Line.{IsBegun, block_len, bytes_of, last_time}
-use Rattle.block9.specs.Exchange.{IsTail}
-use Rattle.block9.specs.Exchange.IsTail.{nothing, in_command, after_command, in_reply}
-use Rattle.block9.specs.Reason.{EndsReply, Holds, IsAnswered, IsWholeCommand}
-use Rattle.block9.specs.Working.Body.{block_of}
-use Rattle.block9.specs.Working.Table.{early_fault, meaning_fault, sum_fault, ends_block, fault_at, pairing}
+use Rattle.block9.proofs.Words.{[], after_command, AfterCommand, ap, arith, block_len, block_of, ByteGap, bytes_of, Command, command_of, CommandBeforeReply, CommandInsideReply}
+use Rattle.block9.proofs.Words.{Controller, Deck, drop, early_fault, ends_block, EndsReply, fault_at, Holds, if◌then◌else◌, in_command, in_reply, InCommand, inl, inr, InReply}
+use Rattle.block9.proofs.Words.{InvalidCommandTime, InvalidReplyTime, IsAnswered, IsBegun, IsTail, IsWholeCommand, last_time, LateReply, LineByte, List, meaning_fault, nat_tests}
+use Rattle.block9.proofs.Words.{None, NoReply, nothing, Option, option_or, pairing, Reason, refl, ReplyInsideCommand, ReplyWithoutCommand, Some, subst, sum, sum_fault, sym, take}
+use Rattle.block9.proofs.Words.{true, WrongGroup, WrongReply, WrongSum, ◌%◌, ◌-◌, ◌∙◌, ◌≡◌, ◌≤◌, ◌⊎◌}
 use Rattle.block9.proofs.LineLemmas.{GoesOn}
 use Rattle.block9.proofs.BlockSteps.{ends_true, whole_now}
 use Rattle.block9.proofs.TailLemmas.{InReplyOf, at_place, in_reply_of, place_in_command, place_of_command}

@@ -1,14 +1,6 @@
 -- After a record that breaks no line of the table, the records still keep the rules.
-use Rattle.std.proofs.Common.{◌≡◌, ◌-◌, ◌≤◌, Bool, true, false, List, [], ◌∷◌, ◌++◌, take, drop, Option, Some, None, refl, arith}
-use Rattle.capture9.specs.declared.line_byte.LineByte.{LineByte}
-use Rattle.block9.specs.declared.pairer.Exchange.{Exchange}
-use Rattle.block9.specs.Working.Body.{block_of}
-use Rattle.block9.specs.Exchange.{IsKept, IsTail}
-use Rattle.block9.specs.Exchange.IsTail.{after_command}
-use Rattle.block9.specs.Line.{block_len, bytes_of, first_time, last_time}
-use Rattle.block9.specs.Working.Table.{ends_block, open_at, pairing, place_of}
-use Rattle.block9.specs.declared.pairer.Asked.{Asked}
-use Rattle.block9.specs.Working.Held.{IsHeld}
+use Rattle.block9.proofs.Words.{[], after_command, arith, Asked, block_len, block_of, Bool, bytes_of, drop, ends_block, Exchange, false, first_time, IsHeld, IsKept, IsTail}
+use Rattle.block9.proofs.Words.{last_time, LineByte, List, None, open_at, Option, pairing, place_of, refl, Some, take, true, ◌++◌, ◌-◌, ◌∷◌, ◌≡◌, ◌≤◌}
 use Rattle.block9.proofs.CutLemmas.{exchange_kept, tail_kept}
 use Rattle.block9.proofs.StepLemmas.{closes, commands, delay_fits, held_tail, reply_parts, tail_held, waits}
 

@@ -1,13 +1,6 @@
 -- Blocks on a wire, one record more or less.
-use Rattle.std.proofs.Common.{◌≡◌, ℕ, ◌+◌, ◌*◌, ◌/◌, ◌%◌, ◌<◌, ◌≤◌, ◌∙◌, List, [], ◌∷◌, ◌++◌, length, refl, sym, ap, arith, length-append}
-use Rattle.std.proofs.lemmas.List.{same_from_push, length-map}
-use Rattle.std.specs.List.{sum}
-use Rattle.capture9.specs.declared.line_byte.LineByte.{LineByte}
-use Rattle.capture9.specs.declared.line_byte.Wire.{Wire}
-use Rattle.block9.specs.declared.block.Block.{Block}
-use Rattle.block9.specs.Block.{Spells, body_of, spelling}
-use Rattle.block9.specs.Working.Body.{block_of}
-use Rattle.block9.specs.Line.{IsLinked, IsWhole, block_len, byte_gap, bytes_of, first_time, last_time}
+use Rattle.block9.proofs.Words.{[], ap, arith, Block, block_len, block_of, body_of, byte_gap, bytes_of, first_time, IsLinked, IsWhole, last_time, length, length-append}
+use Rattle.block9.proofs.Words.{length-map, LineByte, List, refl, same_from_push, spelling, Spells, sum, sym, Wire, ℕ, ◌%◌, ◌*◌, ◌++◌, ◌+◌, ◌/◌, ◌<◌, ◌∙◌, ◌∷◌, ◌≡◌, ◌≤◌}
 
 -- the time, the wire and the gap of a record that goes on with a block
 pub record GoesOn (w : Wire) (records : List LineByte) (r : LineByte) : Type 0 where

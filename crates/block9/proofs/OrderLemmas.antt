@@ -1,9 +1,7 @@
 -- The first of the reasons that hold, in a list and in the order in which they count.
-use Rattle.std.proofs.Common.{◌≡◌, inl, inr, ℕ, ◌+◌, ◌<◌, ◌≤◌, ◌∙◌, List, [], ◌∷◌, length, get_or, refl, sym, ap, subst, arith}
-use Rattle.std.proofs.lemmas.Bool.{cases_lt}
-use Rattle.block9.specs.declared.reason.Reason.{Reason}
-use Rattle.block9.specs.declared.reason.Reason.TheVariants.{WrongGroup, WrongSum, ByteGap, ReplyWithoutCommand, ReplyInsideCommand, CommandBeforeReply, CommandInsideReply, WrongReply, InvalidCommandTime, InvalidReplyTime, LateReply, NoReply, NoRun}
-use Rattle.block9.specs.Reason.{IsFirst, order}
+use Rattle.block9.proofs.Words.{[], ap, arith, ByteGap, cases_lt, CommandBeforeReply, CommandInsideReply, get_or, inl, inr, InvalidCommandTime, InvalidReplyTime, IsFirst}
+use Rattle.block9.proofs.Words.{LateReply, length, List, NoReply, NoRun, order, Reason, refl, ReplyInsideCommand, ReplyWithoutCommand, subst, sym, WrongGroup, WrongReply}
+use Rattle.block9.proofs.Words.{WrongSum, ℕ, ◌+◌, ◌<◌, ◌∙◌, ◌∷◌, ◌≡◌, ◌≤◌}
 
 -- the first that holds does hold
 pub first_holds : (holds : Reason → Type 0) (xs : List Reason) (x : Reason) → IsFirst holds xs x → holds x

@@ -1,20 +1,9 @@
 -- The table's answer after a tail is the reason: none that holds is earlier, and where it gives none, none holds.
-use Rattle.std.proofs.Common.{◌≡◌, inl, inr, ℕ, ◌+◌, ◌-◌, ◌<◌, ◌≤◌, ◌∙◌, true, List, [], ◌∷◌, ◌++◌, length, take, drop, Option, Some, None, refl, sym, ap, subst, arith}
-use Rattle.std.proofs.lemmas.Bool.Decides.{nat_tests}
-use Rattle.capture9.specs.declared.line_byte.LineByte.{LineByte}
-use Rattle.capture9.specs.declared.line_byte.Wire.TheVariants.{Controller, Deck}
-use Rattle.block9.specs.declared.block.Block.{Block}
-use Rattle.block9.specs.declared.command.Command.{Command}
-use Rattle.block9.specs.declared.place.Place.{Place}
-use Rattle.block9.specs.declared.place.Place.TheVariants.{Idle, InCommand, AfterCommand, InReply}
-use Rattle.block9.specs.declared.reason.Reason.{Reason}
-use Rattle.block9.specs.declared.reason.Reason.TheVariants.{WrongGroup, WrongSum, ByteGap, ReplyWithoutCommand, ReplyInsideCommand, CommandBeforeReply, CommandInsideReply, WrongReply, InvalidCommandTime, InvalidReplyTime, LateReply, NoReply, NoRun}
-use Rattle.block9.specs.Command.{command_of}
-use Rattle.block9.specs.Line.{IsBegun, block_len, bytes_of, last_time}
-use Rattle.block9.specs.Exchange.{IsKept, IsTail}
-use Rattle.block9.specs.Reason.{EndsReply, Holds, IsAnswered, IsReason, order}
-use Rattle.block9.specs.Working.Body.{block_of}
-use Rattle.block9.specs.Working.Table.{ends_block, fault_at, pairing, place_of}
+use Rattle.block9.proofs.Words.{[], AfterCommand, ap, arith, Block, block_len, block_of, ByteGap, bytes_of, Command, command_of, CommandBeforeReply, CommandInsideReply}
+use Rattle.block9.proofs.Words.{Controller, Deck, drop, ends_block, EndsReply, fault_at, Holds, Idle, InCommand, inl, inr, InReply, InvalidCommandTime, InvalidReplyTime}
+use Rattle.block9.proofs.Words.{IsAnswered, IsBegun, IsKept, IsReason, IsTail, last_time, LateReply, length, LineByte, List, nat_tests, None, NoReply, NoRun, Option, order}
+use Rattle.block9.proofs.Words.{pairing, Place, place_of, Reason, refl, ReplyInsideCommand, ReplyWithoutCommand, Some, subst, sym, take, true, WrongGroup, WrongReply, WrongSum}
+use Rattle.block9.proofs.Words.{ℕ, ◌++◌, ◌+◌, ◌-◌, ◌<◌, ◌∙◌, ◌∷◌, ◌≡◌, ◌≤◌}
 use Rattle.block9.proofs.BlockSteps.{whole_less}
 use Rattle.block9.proofs.CutLemmas.{kept_no_fault}
 use Rattle.block9.proofs.HoldsLemmas.{table_holds}

@@ -1,11 +1,6 @@
 -- Which bytes spell a block.
-use Rattle.std.proofs.Common.{◌≡◌, ℕ, suc, ◌+◌, ◌-◌, ◌*◌, ◌%◌, ◌∙◌, List, [], ◌∷◌, ◌++◌, length, sym, ap, Some, arith}
-use Rattle.std.proofs.lemmas.List.{same_from_push}
-use Rattle.std.specs.List.{sum, slice_get}
-use Rattle.capture9.specs.declared.line_byte.LineByte.{LineByte}
-use Rattle.block9.specs.declared.block.Block.{Block}
-use Rattle.block9.specs.Block.{Spells, body_of}
-use Rattle.block9.specs.Line.{last_time}
+use Rattle.block9.proofs.Words.{[], ap, arith, Block, body_of, last_time, length, LineByte, List, same_from_push, slice_get, Some, Spells, suc, sum, sym, ℕ, ◌%◌, ◌*◌, ◌++◌, ◌+◌}
+use Rattle.block9.proofs.Words.{◌-◌, ◌∙◌, ◌∷◌, ◌≡◌}
 use Rattle.block9.proofs.LineLemmas.{byte_parts}
 
 -- bytes that spell a block are its body and the sum

@@ -1,23 +1,8 @@
 -- What a record that breaks no rule makes of a tail.
-use Rattle.std.proofs.Common.{◌≡◌, inl, inr, ℕ, ◌-◌, ◌<◌, ◌≤◌, ◌∙◌, List, [], ◌∷◌, ◌++◌, length, take, drop, refl, sym, ap, subst, true, false, Option, Some, None, arith, length-append}
-use Rattle.std.proofs.lemmas.List.{append_assoc, append-nil}
-use Rattle.capture9.specs.declared.line_byte.LineByte.{LineByte}
-use Rattle.capture9.specs.declared.line_byte.Wire.TheVariants.{Controller, Deck}
-use Rattle.block9.specs.declared.block.Block.{Block}
-use Rattle.block9.specs.declared.command.Command.{Command}
-use Rattle.block9.specs.declared.pairer.Exchange.{Exchange}
-use Rattle.block9.specs.declared.place.Place.{Place}
-use Rattle.block9.specs.Working.Body.{block_of}
-use Rattle.block9.specs.Command.{command_of, fits, is_reply_time_valid}
-use Rattle.block9.specs.Line.{IsBegun, IsWhole, block_len, bytes_of, first_time, last_time}
-use Rattle.block9.specs.Exchange.{IsCommand, IsInTime, IsExchange, IsTail, Does, tail_after}
-use Rattle.block9.specs.declared.pairer.Step.{Step}
-use Rattle.block9.specs.declared.pairer.Step.TheVariants as step
-use Rattle.block9.specs.Exchange.IsTail.{nothing, in_command, after_command, in_reply}
-use Rattle.block9.specs.Working.Table.{place_of, open_at, ends_block, pairing}
-use Rattle.block9.specs.declared.pairer.Asked.{Asked}
-use Rattle.block9.specs.Working.Held.{Closes, IsHeld, IsNotBefore}
-use Rattle.std.specs.Option.{ForSome}
+use Rattle.block9.proofs.Words.{[], after_command, ap, append-nil, append_assoc, arith, Asked, Block, block_len, block_of, bytes_of, Closes, Command, command_of, Controller}
+use Rattle.block9.proofs.Words.{Deck, Does, drop, ends_block, Exchange, false, first_time, fits, ForSome, in_command, in_reply, inl, inr, is_reply_time_valid, IsBegun, IsCommand}
+use Rattle.block9.proofs.Words.{IsExchange, IsHeld, IsInTime, IsNotBefore, IsTail, IsWhole, last_time, length, length-append, LineByte, List, None, nothing, open_at, Option}
+use Rattle.block9.proofs.Words.{pairing, Place, place_of, refl, Some, Step, subst, sym, tail_after, take, true, ℕ, ◌++◌, ◌-◌, ◌<◌, ◌∙◌, ◌∷◌, ◌≡◌, ◌≤◌}
 use Rattle.block9.proofs.LineLemmas.{last_time-push, whole_len, whole_parts, first_time-push_any}
 use Rattle.block9.proofs.BlockSteps.{begun_more, whole_now}
 use Rattle.block9.proofs.TableLemmas as table
@@ -152,9 +137,9 @@ tail_short t h = grind (arith, whole_len, block_len_low, length-append)
 
 -- what it leaves is a tail, with no record after the one that was fed
 pub still_tail : (t : List LineByte) (r : LineByte) (s : Step) → Does t r s → IsTail (tail_after t r s)
-still_tail t r step.Waiting h = h.0
-still_tail t r step.Command h = after_command h.0 h.1 h.2
-still_tail t r (step.Exchange e) h = nothing refl
+still_tail t r Step.Waiting h = h.0
+still_tail t r Step.Command h = after_command h.0 h.1 h.2
+still_tail t r (Step.Exchange e) h = nothing refl
 
 pub last_time-tail_after : (t : List LineByte) (r : LineByte) (s : Step) → last_time (tail_after t r s) ≤ r.time_us
 last_time-tail_after t r s = let e = last_time-push t r in grind arith

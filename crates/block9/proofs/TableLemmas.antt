@@ -1,14 +1,6 @@
 -- The last record of a block: what the table asks of the sum and of what the block means.
-use Rattle.std.proofs.Common.{◌≡◌, ◌-◌, ◌%◌, List, take, true, Some, None, arith}
-use Rattle.std.proofs.lemmas.Bool.Decides.{nat_tests}
-use Rattle.std.specs.List.{sum}
-use Rattle.capture9.specs.declared.line_byte.LineByte.{LineByte}
-use Rattle.block9.specs.declared.command.Command.{Command}
-use Rattle.block9.specs.declared.place.Place.TheVariants.{InCommand, InReply}
-use Rattle.block9.specs.Command.{command_of, fits, is_reply_time_valid}
-use Rattle.block9.specs.Line.{block_len, bytes_of}
-use Rattle.block9.specs.Working.Body.{block_of}
-use Rattle.block9.specs.Working.Table.{ends_block, end_fault}
+use Rattle.block9.proofs.Words.{arith, block_len, block_of, bytes_of, Command, command_of, end_fault, ends_block, fits, InCommand, InReply, is_reply_time_valid, LineByte, List}
+use Rattle.block9.proofs.Words.{nat_tests, None, Some, sum, take, true, ◌%◌, ◌-◌, ◌≡◌}
 
 -- a command with a meaning
 pub command_right : (t : List LineByte) (r : LineByte) → end_fault InCommand t t r ≡ None → ends_block t ≡ true

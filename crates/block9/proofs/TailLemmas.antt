@@ -1,17 +1,7 @@
 -- What the table says at each kind of tail, and what a record then makes of the tail.
-use Rattle.std.proofs.Common.{◌≡◌, suc, ◌-◌, ◌<◌, ◌≤◌, ◌∙◌, List, [], ◌∷◌, ◌++◌, length, take, drop, refl, sym, ap, subst, None, arith, length-append}
-use Rattle.std.proofs.lemmas.Bool.Decides.{nat_tests}
-use Rattle.std.proofs.lemmas.List.{take_at, drop_at, take-append-le}
-use Rattle.capture9.specs.declared.line_byte.LineByte.{LineByte}
-use Rattle.capture9.specs.declared.line_byte.Wire.{Wire}
-use Rattle.capture9.specs.declared.line_byte.Wire.TheVariants.{Controller, Deck}
-use Rattle.block9.specs.declared.block.Block.{Block}
-use Rattle.block9.specs.declared.place.Place.{Place}
-use Rattle.block9.specs.declared.place.Place.TheVariants.{InCommand, AfterCommand, InReply}
-use Rattle.block9.specs.Working.Body.{block_of}
-use Rattle.block9.specs.Line.{IsBegun, IsWhole, block_len, bytes_of, last_time}
-use Rattle.block9.specs.Exchange.{IsInTime}
-use Rattle.block9.specs.Working.Table.{end_fault, place_of, fault_at, pairing}
+use Rattle.block9.proofs.Words.{[], AfterCommand, ap, arith, Block, block_len, block_of, bytes_of, Controller, Deck, drop, drop_at, end_fault, fault_at, InCommand, InReply}
+use Rattle.block9.proofs.Words.{IsBegun, IsInTime, IsWhole, last_time, length, length-append, LineByte, List, nat_tests, None, pairing, Place, place_of, refl, subst, suc, sym}
+use Rattle.block9.proofs.Words.{take, take-append-le, take_at, Wire, ◌++◌, ◌-◌, ◌<◌, ◌∙◌, ◌∷◌, ◌≡◌, ◌≤◌}
 use Rattle.block9.proofs.LineLemmas.{GoesOn, whole_len, whole_long, block_len-append}
 use Rattle.block9.proofs.BlockSteps.{Continues, whole_less}
 

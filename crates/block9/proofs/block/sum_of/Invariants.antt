@@ -1,5 +1,4 @@
-use Rattle.std.proofs.Common.{◌≡◌, ◌%◌, take}
-use Rattle.std.specs.List.{sum}
+use Rattle.block9.proofs.Words.{sum, take, ◌%◌, ◌≡◌}
 use Rattle.block9.proofs.block.sum_of.Given as goal
 
 abbrev pub invariant-loop-byte : goal.invariant-loop-byte

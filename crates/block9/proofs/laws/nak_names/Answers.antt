@@ -1,4 +1,4 @@
-use Rattle.std.proofs.Common.{refl, arith}
+use Rattle.block9.proofs.Words.{arith, refl}
 use Rattle.block9.proofs.laws.nak_names.Goals as goal
 
 pub returns-clause-parity : goal.returns-clause-parity

@@ -1,6 +1,4 @@
-use Rattle.std.proofs.Common.{◌≡◌, ◌%◌, take}
-use Rattle.std.specs.List.{sum}
-use Rattle.block9.specs.Line.{bytes_of}
+use Rattle.block9.proofs.Words.{bytes_of, sum, take, ◌%◌, ◌≡◌}
 use Rattle.block9.proofs.line.byte_sum.Given as goal
 
 -- the sum of the bytes so far

@@ -1,17 +1,6 @@
-use Rattle.std.proofs.Common.{inl, refl, [], ◌∙◌, ap, sym, subst, ◌%◌, Some, rules}
-use Rattle.std.specs.List.{sum}
-use Rattle.block9.specs.declared.place.Place.{Place}
-use Rattle.block9.specs.Line.{bytes_of}
-use Rattle.block9.specs.Working.Body.{block_of}
-use Rattle.block9.specs.Working.Held.{IsHeld}
-use Rattle.block9.specs.Working.Table.{open_at, reply_fault}
+use Rattle.block9.proofs.Words.{[], ap, block_of, bytes_of, inl, IsHeld, open_at, Place, refl, reply_fault, rules, Some, subst, sum, sym, ◌%◌, ◌∙◌}
 use Rattle.block9.proofs.FeedLemmas.{ends_command, ends_exchange, reply_meaning, says_meaning}
 use Rattle.block9.proofs.pairer.end.Goals as goal
-
-pub exchange_of-requires-clause-reply : goal.exchange_of-requires-clause-reply
-exchange_of-requires-clause-reply c =
-    let open_now = c.open_in-open_block.ensures ∙ ap (λ (p : Place). open_at p c.args.tail.now) c.of-place.ensures in
-    c.of_records-block.ensures ∙ ap (λ l. block_of (bytes_of l)) open_now
 
 pub returns-in_err-exchange-in-Some-clause-err : goal.returns-in_err-exchange-in-Some-clause-err
 returns-in_err-exchange-in-Some-clause-err c =

@@ -1,8 +1,4 @@
-use Rattle.std.proofs.Common.{◌∙◌, ap, arith, take, drop, refl, sym}
-use Rattle.block9.specs.declared.place.Place.{Place}
-use Rattle.block9.specs.Line.{bytes_of, first_time, last_time}
-use Rattle.block9.specs.Working.Body.{block_of}
-use Rattle.block9.specs.Working.Table.{open_at}
+use Rattle.block9.proofs.Words.{ap, arith, block_of, bytes_of, drop, first_time, last_time, open_at, Place, refl, sym, take, ◌∙◌}
 use Rattle.block9.proofs.StepLemmas.{delay_fits, reply_parts}
 use Rattle.block9.proofs.TailLemmas.{in_reply_len}
 use Rattle.block9.proofs.pairer.exchange_of.Goals as goal

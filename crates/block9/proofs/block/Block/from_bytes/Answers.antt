@@ -1,4 +1,4 @@
-use Rattle.std.proofs.Common.{◌∙◌, ◌+◌, ap, sym}
+use Rattle.block9.proofs.Words.{ap, sym, ◌+◌, ◌∙◌}
 use Rattle.block9.proofs.SpellingLemmas.{spelled_len, spelled_parts}
 use Rattle.block9.proofs.block.Block.from_bytes.Goals as goal
 use Rattle.block9.proofs.block.Block.from_bytes.Goals.{then-body-from-via-then-body-from, then-body-from-via-else-body-from+then-sum_of-sum}

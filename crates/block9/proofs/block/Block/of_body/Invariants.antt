@@ -1,4 +1,4 @@
-use Rattle.std.proofs.Common.{◌≡◌, take}
+use Rattle.block9.proofs.Words.{take, ◌≡◌}
 use Rattle.block9.proofs.block.Block.of_body.Given as goal
 
 abbrev pub invariant-loop-byte : goal.invariant-loop-byte

@@ -1,7 +1,4 @@
-use Rattle.std.proofs.Common.{◌≡◌, ℕ, ◌/◌, List, slice_index_or, take}
-use Rattle.capture9.specs.declared.line_byte.LineByte.{LineByte}
-use Rattle.capture9.specs.declared.line_byte.Wire.TheVariants.{Controller}
-use Rattle.block9.specs.Line.{bytes_of}
+use Rattle.block9.proofs.Words.{bytes_of, Controller, LineByte, List, slice_index_or, take, ℕ, ◌/◌, ◌≡◌}
 use Rattle.block9.proofs.block.Block.of_records.Given as goal
 
 -- the byte of a record of these

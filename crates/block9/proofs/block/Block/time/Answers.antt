@@ -1,6 +1,5 @@
 -- Lists of another length than four are no time.
-use Rattle.std.proofs.Common.{◌≡◌, ◌≢◌, ℕ, List, [], ◌∷◌, length, None, refl, ap, ◌∙◌}
-use Rattle.tc25.specs.Day.{time_of}
+use Rattle.block9.proofs.Words.{[], ap, length, List, None, refl, time_of, ℕ, ◌∙◌, ◌∷◌, ◌≡◌, ◌≢◌}
 use Rattle.block9.proofs.block.Block.time.Goals as goal
 
 no_time : (bytes : List ℕ) → length bytes ≢ 4 → None ≡ time_of bytes

@@ -1,10 +1,5 @@
-use Rattle.std.proofs.Common.{◌≡◌, ◌∙◌, ap, sym, subst, refl, arith, length-append, false, Some, List, [], ◌∷◌}
-use Rattle.capture9.specs.declared.line_byte.LineByte.{LineByte}
-use Rattle.block9.specs.Exchange.{Does, tail_after}
-use Rattle.block9.specs.Working.Held.{HoldsInPairer, IsHeld, IsTurn}
-use Rattle.block9.specs.Working.Table.{pairing}
-use Rattle.block9.specs.declared.pairer.Step.TheVariants as step
-use Rattle.block9.specs.declared.reason.Reason.{Reason}
+use Rattle.block9.proofs.Words.{[], ap, arith, Does, false, HoldsInPairer, IsHeld, IsTurn, length-append, LineByte, List, pairing, Reason, refl, Some, Step, subst, sym}
+use Rattle.block9.proofs.Words.{tail_after, ◌∙◌, ◌∷◌, ◌≡◌}
 use Rattle.block9.proofs.FeedLemmas.{held_step, held_waiting, refuses, takes}
 use Rattle.block9.proofs.pairer.Pairer.feed.Goals as goal
 
@@ -29,7 +24,7 @@ returns-in-Ok-false-clause-takes c = λ known.
     let turn : IsTurn c.self.inside.tail.items c.args.line_byte false = rw (← c.as_slice.ensures.value) (rw c.in-Ok-false.field-0-test at c.in-Ok-false.ensures.ok) in
     let held = held_waiting c.self.inside.tail.items c.self.inside.asked c.args.line_byte c.self.inside.last_time (c.self.invariant c.in_default.is)
     (λ x e. c.requires x (ap (λ p. p.last_time) (sym c.self.view_is) ∙ e)) turn in
-    takes c.self.inside.tail.items _ _ _ step.Waiting (ap (λ p. p.tail) c.self.view_is) held.1 c.push.ensures.items refl c.in_default.is
+    takes c.self.inside.tail.items _ _ _ Step.Waiting (ap (λ p. p.tail) c.self.view_is) held.1 c.push.ensures.items refl c.in_default.is
 
 -- the last record of a block
 pub advance-requires : goal.advance-requires
