@@ -1,20 +1,7 @@
 -- Runs that believe some replies.
-use Rattle.std.proofs.Common.{ℕ, ◌≡◌, ◌↔◌, ◌+◌, ◌<◌, inl, inr, Bool, true, false, List, [], ◌∷◌, ◌++◌, length, refl, ap, ◌∙◌, subst, arith}
-use Rattle.std.proofs.lemmas.List.Elements.{All-head, All-tail}
-use Rattle.std.specs.List.{All}
-use Rattle.block9.specs.declared.block.Block.{Block}
-use Rattle.block9.specs.declared.command.Command.{Command}
-use Rattle.block9.specs.declared.command.Command.TheVariants as command
-use Rattle.block9.specs.declared.pairer.Exchange.{Exchange}
-use Rattle.block9.specs.Command.{fits, is_reply_time_valid}
-use Rattle.deck9.specs.declared.state.Hands.{Hands}
-use Rattle.deck9.specs.declared.state.State.{State}
-use Rattle.deck9.specs.Contradict.{CanPass, HasBelieving, IsBelievingFrom, MayDo, behind_first}
-use Rattle.deck9.specs.Effect.{effect_of}
-use Rattle.deck9.specs.Laws.{AreAnswered, IsRightReply, MayReply, SetsInDay}
-use Rattle.deck9.specs.Run.{HasRun, IsRunFrom}
-use Rattle.deck9.specs.State.{IsFirst}
-use Rattle.deck9.specs.Step.{Step, done, refused}
+use Rattle.deck9.proofs.Words.{[], All, All-head, All-tail, ap, AreAnswered, arith, behind_first, Block, Bool, CanPass, Command, done, effect_of, Exchange, false, fits, Hands}
+use Rattle.deck9.proofs.Words.{HasBelieving, HasRun, inl, inr, is_reply_time_valid, IsBelievingFrom, IsFirst, IsRightReply, IsRunFrom, length, List, MayDo, MayReply, refl}
+use Rattle.deck9.proofs.Words.{refused, SetsInDay, State, Step, subst, true, ℕ, ◌++◌, ◌+◌, ◌<◌, ◌↔◌, ◌∙◌, ◌∷◌, ◌≡◌}
 use Rattle.deck9.proofs.ReplyLemmas.{block}
 use Rattle.deck9.proofs.RestLemmas.{first_does}
 use Rattle.deck9.proofs.RunSearch.{first_drifts}
@@ -35,13 +22,13 @@ by_nak h c s t same =
 pub pass_steps : (h : Hands) (c : Command) (s t : State) → CanPass h c s t → SomeStep h c s t
 unfolding fits is_reply_time_valid
 pass_steps h c s t (inl same) = by_nak h c s t same
-pass_steps h command.DeviceType s t (inr same) = by_nak h _ s t same
-pass_steps h (command.CurrentTimeSense selector) s t (inr same) = by_nak h _ s t same
-pass_steps h command.InDataSense s t (inr same) = by_nak h _ s t same
-pass_steps h command.OutDataSense s t (inr same) = by_nak h _ s t same
-pass_steps h command.AudioInDataSense s t (inr same) = by_nak h _ s t same
-pass_steps h command.AudioOutDataSense s t (inr same) = by_nak h _ s t same
-pass_steps h (command.StatusSense asked) s t (inr same) = by_nak h _ s t same
+pass_steps h Command.DeviceType s t (inr same) = by_nak h _ s t same
+pass_steps h (Command.CurrentTimeSense selector) s t (inr same) = by_nak h _ s t same
+pass_steps h Command.InDataSense s t (inr same) = by_nak h _ s t same
+pass_steps h Command.OutDataSense s t (inr same) = by_nak h _ s t same
+pass_steps h Command.AudioInDataSense s t (inr same) = by_nak h _ s t same
+pass_steps h Command.AudioOutDataSense s t (inr same) = by_nak h _ s t same
+pass_steps h (Command.StatusSense asked) s t (inr same) = by_nak h _ s t same
 pass_steps h c s t (inr does) =
     (block 1 0x01 [], record { block = record { group = omega arith; data_bytes = omega arith }; kind = refl; valid_time = refl }, done refl tt does)
 

@@ -1,12 +1,6 @@
 -- A drift reaches four pairs.
-use Rattle.std.proofs.Common.{arith, ◌≡◌, ◌⊎◌, inl, inr, true, List, [], ◌∷◌, refl, ap, ◌∙◌, subst}
-use Rattle.deck9.specs.Drift.{Drift, DriftsTo, Move, Moves, PairReaches, arrives, halts, handled, passes}
-use Rattle.deck9.specs.Mode.{is_one_of, on_the_way}
-use Rattle.deck9.specs.State.{IsState}
-use Rattle.deck9.specs.declared.mode.Mode.{Mode}
-use Rattle.deck9.specs.declared.mode.Mode.TheVariants.{Stop}
-use Rattle.deck9.specs.declared.state.State.{State}
-use Rattle.deck9.specs.declared.state.Hands.{Hands}
+use Rattle.deck9.proofs.Words.{[], ap, arith, arrives, Drift, DriftsTo, halts, handled, Hands, inl, inr, is_one_of, IsState, List, Mode, Move, Moves, on_the_way, PairReaches}
+use Rattle.deck9.proofs.Words.{passes, refl, State, Stop, subst, true, ◌∙◌, ◌∷◌, ◌≡◌, ◌⊎◌}
 
 -- the four pairs, with one move before
 first_pairs : (g m n g' m' : Mode) → ((n ≡ g) ⊎ (is_one_of (on_the_way g) n ≡ true)) → PairReaches g n g' m' → PairReaches g m g' m'

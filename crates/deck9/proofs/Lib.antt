@@ -7,3 +7,4 @@ pub mod RestLemmas
 pub mod RunLemmas
 pub mod RunSearch
 pub mod StatusLemmas
+pub mod Words

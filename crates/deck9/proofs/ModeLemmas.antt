@@ -1,10 +1,6 @@
 -- Modes and their places.
-use Rattle.std.proofs.Common.{◌≡◌, ℕ, ◌<◌, ◌==◌, if◌then◌else◌, true, sym, ap, ◌∙◌, arith}
-use Rattle.std.proofs.lemmas.Bool.{eqb-true}
-use Rattle.std.proofs.lemmas.Bool.Decides.{nat_tests}
-use Rattle.deck9.specs.Mode.{index_of, is_mode}
-use Rattle.deck9.specs.declared.mode.Mode.{Mode}
-use Rattle.deck9.specs.declared.mode.Mode.TheVariants.{Stop, Play, Rec, FastForward, Rewind, Shuttle, Jog, Var, Cued, Eject}
+use Rattle.deck9.proofs.Words.{ap, arith, Cued, Eject, eqb-true, FastForward, if◌then◌else◌, index_of, is_mode, Jog, Mode, nat_tests, Play, Rec, Rewind, Shuttle, Stop, sym, true}
+use Rattle.deck9.proofs.Words.{Var, ℕ, ◌<◌, ◌==◌, ◌∙◌, ◌≡◌}
 
 abbrev pub mode_of : ℕ → Mode
 mode_of n = if n == 0 then Stop else (if n == 1 then Play else (if n == 2 then Rec else (if n == 3 then FastForward else (if n == 4 then Rewind else (if n == 5 then Shuttle else (if n == 6 then Jog else (if n == 7 then Var else (if n == 8 then Cued else (Eject)))))))))

@@ -1,30 +1,8 @@
 -- A right reply to each command in each state, and a step with it.
-use Rattle.std.proofs.Common.{ℕ, ◌≡◌, ◌-◌, ◌/◌, ◌<◌, ◌≤◌, true, false, List, [], ◌∷◌, length, Some, None, refl, inl, arith}
-use Rattle.std.proofs.lemmas.Bool.Decides.{nat_tests}
-use Rattle.std.proofs.lemmas.Grind.{common_steps}
-use Rattle.std.proofs.lemmas.Option.{slice_get_past}
-use Rattle.tc25.specs.Day.{bytes_of, day, time_of}
-use Rattle.tc25.proofs.DayLemmas.{ReadsAs-from_time_of}
-use Rattle.block9.specs.declared.block.Block.{Block}
-use Rattle.block9.specs.declared.command.Command.{Command}
-use Rattle.block9.specs.declared.command.Command.TheVariants as command
-use Rattle.block9.specs.Command.{fits, is_nak, is_reply_time_valid}
-use Rattle.deck9.specs.declared.effect.Change.{Change}
-use Rattle.deck9.specs.declared.effect.Change.TheVariants.{SetSomewhere, SetAt, Next, Prev, Reset, Recall}
-use Rattle.deck9.specs.declared.effect.Effect.{Effect}
-use Rattle.deck9.specs.declared.effect.Effect.TheVariants as effect
-use Rattle.deck9.specs.declared.mode.Mode.{Mode}
-use Rattle.deck9.specs.declared.state.Entry.{Entry}
-use Rattle.deck9.specs.declared.state.Entry.TheVariants.{Clear, At}
-use Rattle.deck9.specs.declared.state.Hands.{Hands}
-use Rattle.deck9.specs.declared.state.Hands.TheVariants as hands
-use Rattle.deck9.specs.declared.state.Register.TheVariants.{RegIn, RegOut, RegAudioIn, RegAudioOut}
-use Rattle.deck9.specs.declared.state.State.{State}
-use Rattle.deck9.specs.Effect.{Becomes, Does, effect_of}
-use Rattle.deck9.specs.Laws.{IsRightReply}
-use Rattle.deck9.specs.Shows.{Shows, ShowsStatus, Tells, datum, may_show}
-use Rattle.deck9.specs.State.{IsEntry, IsState, entry_of, with_entry}
-use Rattle.deck9.specs.Step.{Step, done}
+use Rattle.deck9.proofs.Words.{[], arith, At, Becomes, Block, bytes_of, Change, Clear, Command, common_steps, datum, day, Does, done, Effect, effect_of, Entry, entry_of, false}
+use Rattle.deck9.proofs.Words.{fits, Hands, inl, is_nak, is_reply_time_valid, IsEntry, IsRightReply, IsState, length, List, may_show, Mode, nat_tests, Next, None, Prev}
+use Rattle.deck9.proofs.Words.{ReadsAs-from_time_of, Recall, refl, RegAudioIn, RegAudioOut, RegIn, RegOut, Reset, SetAt, SetSomewhere, Shows, ShowsStatus, slice_get_past, Some}
+use Rattle.deck9.proofs.Words.{State, Step, Tells, time_of, true, with_entry, ℕ, ◌-◌, ◌/◌, ◌<◌, ◌∷◌, ◌≡◌, ◌≤◌}
 
 -- ---- what a command does
 
@@ -37,16 +15,16 @@ some_entry Reset old = (Clear, refl)
 some_entry Recall old = (Clear, tt)
 
 some_effect : (h : Hands) (f : Effect) (s : State) → IsState s → (t : State) × Does h f s t
-some_effect h effect.Nothing s valid = (s, refl)
-some_effect h (effect.Go g) s valid = (record s { goal = g }, refl)
-some_effect h effect.KeepOrStop s valid = (s, inl refl)
-some_effect h (effect.Change r c) s valid = let new = some_entry c (entry_of r s) in (with_entry r new.0 s, (new.0, new.1, refl))
-some_effect hands.None (effect.Panel on) s valid = (s, refl)
-some_effect hands.Allowed (effect.Panel on) s valid = (record s { panel = on }, refl)
-some_effect h effect.ForgetTape s valid = (s, (valid, refl, refl))
-some_effect h effect.ForgetRegisters s valid = (s, (valid, refl, refl, refl, refl))
-some_effect hands.None effect.ForgetAll s valid = (s, (valid, refl))
-some_effect hands.Allowed effect.ForgetAll s valid = (s, valid)
+some_effect h Effect.Nothing s valid = (s, refl)
+some_effect h (Effect.Go g) s valid = (record s { goal = g }, refl)
+some_effect h Effect.KeepOrStop s valid = (s, inl refl)
+some_effect h (Effect.Change r c) s valid = let new = some_entry c (entry_of r s) in (with_entry r new.0 s, (new.0, new.1, refl))
+some_effect Hands.None (Effect.Panel on) s valid = (s, refl)
+some_effect Hands.Allowed (Effect.Panel on) s valid = (record s { panel = on }, refl)
+some_effect h Effect.ForgetTape s valid = (s, (valid, refl, refl))
+some_effect h Effect.ForgetRegisters s valid = (s, (valid, refl, refl, refl, refl))
+some_effect Hands.None Effect.ForgetAll s valid = (s, (valid, refl))
+some_effect Hands.Allowed Effect.ForgetAll s valid = (s, valid)
 
 -- ---- what a reply shows
 
@@ -97,13 +75,13 @@ made s c b group data_bytes kind valid_time no_nak shown =
 
 right_reply : (s : State) (c : Command) → IsState s → Reply s c
 unfolding fits is_reply_time_valid
-right_reply s command.DeviceType valid = made s _ (block 1 0x11 (0 ∷ 0 ∷ [])) (omega arith) (omega arith) refl refl refl tt
-right_reply s (command.CurrentTimeSense selector) valid = made s _ (block 7 0x00 (bytes_of 0)) (omega arith) (omega arith) refl refl refl tt
-right_reply s command.InDataSense valid = made s _ (block 7 0x10 (bytes_of (told s.ins))) (omega arith) (omega arith) refl refl refl (tells s.ins (valid RegIn))
-right_reply s command.OutDataSense valid = made s _ (block 7 0x11 (bytes_of (told s.outs))) (omega arith) (omega arith) refl refl refl (tells s.outs (valid RegOut))
-right_reply s command.AudioInDataSense valid = made s _ (block 7 0x12 (bytes_of (told s.ains))) (omega arith) (omega arith) refl refl refl (tells s.ains (valid RegAudioIn))
-right_reply s command.AudioOutDataSense valid = made s _ (block 7 0x13 (bytes_of (told s.aouts))) (omega arith) (omega arith) refl refl refl (tells s.aouts (valid RegAudioOut))
-right_reply s (command.StatusSense asked) valid = made s _ (block 7 0x20 []) (omega arith) (omega arith) (grind (arith, nat_tests)) refl refl (no_status s asked)
+right_reply s Command.DeviceType valid = made s _ (block 1 0x11 (0 ∷ 0 ∷ [])) (omega arith) (omega arith) refl refl refl tt
+right_reply s (Command.CurrentTimeSense selector) valid = made s _ (block 7 0x00 (bytes_of 0)) (omega arith) (omega arith) refl refl refl tt
+right_reply s Command.InDataSense valid = made s _ (block 7 0x10 (bytes_of (told s.ins))) (omega arith) (omega arith) refl refl refl (tells s.ins (valid RegIn))
+right_reply s Command.OutDataSense valid = made s _ (block 7 0x11 (bytes_of (told s.outs))) (omega arith) (omega arith) refl refl refl (tells s.outs (valid RegOut))
+right_reply s Command.AudioInDataSense valid = made s _ (block 7 0x12 (bytes_of (told s.ains))) (omega arith) (omega arith) refl refl refl (tells s.ains (valid RegAudioIn))
+right_reply s Command.AudioOutDataSense valid = made s _ (block 7 0x13 (bytes_of (told s.aouts))) (omega arith) (omega arith) refl refl refl (tells s.aouts (valid RegAudioOut))
+right_reply s (Command.StatusSense asked) valid = made s _ (block 7 0x20 []) (omega arith) (omega arith) (grind (arith, nat_tests)) refl refl (no_status s asked)
 right_reply s c valid = made s c (block 1 0x01 []) (omega arith) (omega arith) refl refl refl tt
 
 pub some_step : (h : Hands) (c : Command) (s : State) → IsState s → (reply : Block) × IsRightReply c reply × (is_nak reply ≡ false) × (t : State) × Step h c reply s t

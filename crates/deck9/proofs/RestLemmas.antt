@@ -1,24 +1,6 @@
 -- What is left of a run without its first exchanges is a run.
-use Rattle.std.proofs.Common.{ℕ, ◌≡◌, ◌<◌, List, [], ◌∷◌, ◌++◌, sym, ap, ◌∙◌, subst, arith}
-use Rattle.std.proofs.lemmas.Bool.Decides.{nat_tests}
-use Rattle.std.proofs.lemmas.List.Elements.{All-head, All-tail}
-use Rattle.std.specs.List.{All}
-use Rattle.tc25.specs.Day.{day}
-use Rattle.block9.specs.declared.pairer.Exchange.{Exchange}
-use Rattle.deck9.specs.declared.effect.Change.{Change}
-use Rattle.deck9.specs.declared.effect.Change.TheVariants.{SetAt}
-use Rattle.deck9.specs.declared.effect.Effect.{Effect}
-use Rattle.deck9.specs.declared.effect.Effect.TheVariants as effect
-use Rattle.deck9.specs.declared.state.Entry.{Entry}
-use Rattle.deck9.specs.declared.state.Hands.{Hands}
-use Rattle.deck9.specs.declared.state.Hands.TheVariants as hands
-use Rattle.deck9.specs.declared.state.Register.{Register}
-use Rattle.deck9.specs.declared.state.State.{State}
-use Rattle.deck9.specs.Effect.{Becomes, Does, effect_of}
-use Rattle.deck9.specs.Laws.{SetsInDay}
-use Rattle.deck9.specs.Run.{HasRun, IsRunFrom}
-use Rattle.deck9.specs.State.{IsEntry, IsFirst, IsState, entry_of, with_entry}
-use Rattle.deck9.specs.Step.{Step}
+use Rattle.deck9.proofs.Words.{[], All, All-head, All-tail, ap, arith, Becomes, Change, day, Does, Effect, effect_of, Entry, entry_of, Exchange, Hands, HasRun, IsEntry, IsFirst}
+use Rattle.deck9.proofs.Words.{IsRunFrom, IsState, List, nat_tests, Register, SetAt, SetsInDay, State, Step, subst, sym, with_entry, ℕ, ◌++◌, ◌<◌, ◌∙◌, ◌∷◌, ◌≡◌}
 use Rattle.deck9.proofs.RunSearch.{first_drifts, put_panel}
 
 -- ---- steps lead from states to states
@@ -29,18 +11,18 @@ becomes_valid c old new sets valid becomes = grind (arith, nat_tests)
 put_valid : (r q : Register) (e : Entry) (s : State) → IsEntry e → IsState s → IsEntry (entry_of q (with_entry r e s))
 put_valid r q e s is_entry valid = let other = valid q in grind arith
 
-does_valid : (h : Hands) (f : Effect) (s t : State) → ((r : Register) (u : ℕ) → f ≡ effect.Change r (SetAt u) → u < day) → IsState s → Does h f s t → IsState t
-does_valid h (effect.Change r c) s t sets valid (e, becomes, put) =
-    subst IsState (sym put) (λ q. put_valid r q e s (becomes_valid c (entry_of r s) e (λ u same. sets r u (ap (effect.Change r) same)) (valid r) becomes) valid)
+does_valid : (h : Hands) (f : Effect) (s t : State) → ((r : Register) (u : ℕ) → f ≡ Effect.Change r (SetAt u) → u < day) → IsState s → Does h f s t → IsState t
+does_valid h (Effect.Change r c) s t sets valid (e, becomes, put) =
+    subst IsState (sym put) (λ q. put_valid r q e s (becomes_valid c (entry_of r s) e (λ u same. sets r u (ap (Effect.Change r) same)) (valid r) becomes) valid)
 does_valid h f s t sets valid does = λ r. let before = valid r in grind arith
 
 -- where hands are not allowed no effect switches the panel
-does_panel : (f : Effect) (s t : State) → Does hands.None f s t → t.panel ≡ s.panel
+does_panel : (f : Effect) (s t : State) → Does Hands.None f s t → t.panel ≡ s.panel
 does_panel f s t d = grind (arith, put_panel)
 
-pub first_does : (h : Hands) (f : Effect) (s t : State) → ((r : Register) (u : ℕ) → f ≡ effect.Change r (SetAt u) → u < day) → IsFirst h s → Does h f s t → IsFirst h t
-first_does hands.None f s t sets first does = (does_valid hands.None f s t sets first.0 does, does_panel f s t does ∙ first.1)
-first_does hands.Allowed f s t sets first does = does_valid hands.Allowed f s t sets first does
+pub first_does : (h : Hands) (f : Effect) (s t : State) → ((r : Register) (u : ℕ) → f ≡ Effect.Change r (SetAt u) → u < day) → IsFirst h s → Does h f s t → IsFirst h t
+first_does Hands.None f s t sets first does = (does_valid Hands.None f s t sets first.0 does, does_panel f s t does ∙ first.1)
+first_does Hands.Allowed f s t sets first does = does_valid Hands.Allowed f s t sets first does
 
 -- no step leads out of the first states
 first_steps : (h : Hands) (e : Exchange) (s t : State) → SetsInDay e → IsFirst h s → Step h e.command e.reply s t → IsFirst h t

@@ -1,11 +1,6 @@
 -- Runs with one exchange more.
-use Rattle.std.proofs.Common.{arith, ◌≡◌, ◌↔◌, List, [], ◌∷◌, ◌++◌, refl, sym, ◌∙◌, subst}
-use Rattle.block9.specs.declared.pairer.Exchange.{Exchange}
-use Rattle.deck9.specs.declared.state.Hands.{Hands}
-use Rattle.deck9.specs.declared.state.State.{State}
-use Rattle.deck9.specs.Run.{Ends, HasRun, IsRunFrom, last_state}
-use Rattle.deck9.specs.State.{IsFirst}
-use Rattle.deck9.specs.Step.{AreReached, Exchanges}
+use Rattle.deck9.proofs.Words.{[], AreReached, arith, Ends, Exchange, Exchanges, Hands, HasRun, IsFirst, IsRunFrom, last_state, List, refl, State, subst, sym, ◌++◌, ◌↔◌, ◌∙◌}
+use Rattle.deck9.proofs.Words.{◌∷◌, ◌≡◌}
 
 -- a run with its last exchange taken away
 record Split (h : Hands) (s : State) (es : List Exchange) (e : Exchange) (ts : List State) : Type 0 where

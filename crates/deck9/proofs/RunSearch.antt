@@ -1,34 +1,9 @@
 -- The search for a run: a few states before a step stand for all that there may be.
-use Rattle.std.proofs.Common.{◌≡◌, ◌↔◌, ◌⊎◌, inl, inr, ℕ, Bool, true, false, List, [], ◌∷◌, refl, sym, ap, ◌∙◌, subst, arith, length, suc}
-use Rattle.std.proofs.lemmas.Bool.{eq-eqb, false≢true, or_cases, or_left, or_right}
-use Rattle.std.proofs.lemmas.Bool.Decides.{nat_tests}
-use Rattle.tc25.specs.Day.{next_frame, prev_frame}
-use Rattle.block9.specs.declared.command.Command.{Command}
-use Rattle.block9.specs.declared.pairer.Exchange.{Exchange}
-use Rattle.deck9.specs.declared.effect.Change.TheVariants.{Next, Prev}
-use Rattle.deck9.specs.declared.effect.Effect.{Effect}
-use Rattle.deck9.specs.declared.effect.Effect.TheVariants as effect
-use Rattle.deck9.specs.declared.mode.Mode.{Mode}
-use Rattle.deck9.specs.declared.mode.Mode.TheVariants.{Stop}
-use Rattle.deck9.specs.declared.sense.Sense.TheVariants as sense
-use Rattle.deck9.specs.declared.state.Entry.{Entry}
-use Rattle.deck9.specs.declared.state.Entry.TheVariants.{Clear}
-use Rattle.deck9.specs.declared.state.Hands.{Hands}
-use Rattle.deck9.specs.declared.state.Hands.TheVariants as hands
-use Rattle.deck9.specs.declared.state.Register.{Register}
-use Rattle.deck9.specs.declared.state.Register.TheVariants.{RegIn}
-use Rattle.deck9.specs.declared.state.State.{State}
-use Rattle.deck9.specs.Drift.{Drift}
-use Rattle.deck9.specs.Effect.{Does, effect_of, moved_entry}
-use Rattle.deck9.specs.Mode.{index_of, is_mode, is_one_of, on_the_way}
-use Rattle.deck9.specs.Run.{HasRun, IsRunFrom}
-use Rattle.deck9.specs.Shows.{Agrees, sense_of}
-use Rattle.deck9.specs.State.{IsEntry, IsFirst, IsState, entry_of, with_entry}
-use Rattle.deck9.specs.Step.{Exchanges, done, ignored, refused}
+use Rattle.deck9.proofs.Words.{[], Agrees, ap, arith, before_shift, Begins, Bool, Clear, Command, Does, done, Drift, DriftsAndSteps, Effect, effect_of, Entry, entry_of, Exchange}
+use Rattle.deck9.proofs.Words.{Exchanges, false, Hands, HasRun, ignored, inl, inr, IsEntry, IsFirst, IsRun, IsRunFrom, IsState, length, List, moved_entry, nat_tests, Next}
+use Rattle.deck9.proofs.Words.{next_frame, Prev, prev_frame, refl, refused, RegIn, Register, Sense, sense_of, State, Steps, StepsFromSome, Stop, subst, suc, sym, true}
+use Rattle.deck9.proofs.Words.{with_entry, ◌↔◌, ◌∙◌, ◌∷◌, ◌≡◌, ◌⊎◌}
 use Rattle.deck9.proofs.DriftLemmas.{drift_from_pairs, pairs_from_drift, same_entries}
-use Rattle.deck9.proofs.ModeLemmas.{is_mode-same}
-use Rattle.deck9.specs.Run.{IsRun}
-use Rattle.deck9.specs.Working.{Begins, DriftsAndSteps, PassesOne, Steps, StepsFromSome, before_shift}
 
 -- ---- runs of no exchange
 
@@ -42,36 +17,8 @@ is_state _ = tt
 
 -- no exchange has a run
 pub run_start : (h : Hands) → HasRun h []
-run_start hands.None = record { first = stopped; is_first = (is_state, refl); after = []; is_run = tt }
-run_start hands.Allowed = record { first = stopped; is_first = is_state; after = []; is_run = tt }
-
--- ---- drifts of the mechanics
-
-passes_from : (h : Hands) (e : Exchange) (s t : State) (ms : List Mode) → PassesOne h e s t ms → (m : Mode) × (is_one_of ms m ≡ true) × Steps h e (record s { shown = m }) t
-passes_from h e s t [] p = absurd p
-passes_from h e s t (m ∷ ms) (inl step) = (m, or_left (is_mode m m) (is_one_of ms m) (eq-eqb (index_of m) (index_of m) refl), step)
-passes_from h e s t (m ∷ ms) (inr rest) = let w = passes_from h e s t ms rest in (w.0, or_right (is_mode w.0 m) (is_one_of ms w.0) w.1, w.2)
-
-passes_to : (h : Hands) (e : Exchange) (s t : State) (ms : List Mode) (m : Mode) → is_one_of ms m ≡ true → Steps h e (record s { shown = m }) t → PassesOne h e s t ms
-passes_to h e s t [] m one step = absurd (false≢true one)
-passes_to h e s t (n ∷ ms) m one step =
-    elim (or_cases (is_mode m n) (is_one_of ms m) one) [
-      | inl same ↦ inl (subst (λ k. Steps h e (record s { shown = k }) t) (is_mode-same m n same) step)
-      | inr rest ↦ inr (passes_to h e s t ms m rest step)
-    ]
-
--- the step comes from the state itself, from one that shows the goal or a mode on the way to it, or from a stopped one
-abbrev pub StepsFourWays : Hands → Exchange → State → State → Type 0
-StepsFourWays h e s t = Steps h e s t ⊎ Steps h e (record s { shown = s.goal }) t ⊎ PassesOne h e s t (on_the_way s.goal) ⊎ Steps h e (record s { goal = Stop; shown = Stop }) t
-
-pub four_ways : (h : Hands) (e : Exchange) (s t : State) → StepsFourWays h e s t ↔ DriftsAndSteps h e s t
-four_ways h e s t = (to, λ w. let passes = passes_to h e s t (on_the_way s.goal) in grind arith)
-  where
-    to : StepsFourWays h e s t → DriftsAndSteps h e s t
-    to (inl step) = (s, refl, inl (refl, inl refl), step)
-    to (inr (inl step)) = (record s { shown = s.goal }, refl, inl (refl, inr (inl refl)), step)
-    to (inr (inr (inl passes))) = let w = passes_from h e s t (on_the_way s.goal) passes in (record s { shown = w.0 }, refl, inl (refl, inr (inr w.1)), w.2)
-    to (inr (inr (inr step))) = (record s { goal = Stop; shown = Stop }, refl, inr (refl, refl), step)
+run_start Hands.None = record { first = stopped; is_first = (is_state, refl); after = []; is_run = tt }
+run_start Hands.Allowed = record { first = stopped; is_first = is_state; after = []; is_run = tt }
 
 -- ---- a step from some state
 
@@ -101,13 +48,13 @@ shift_again back move r e on d t p undone moves put = (e, grind arith, grind ari
 
 does_from : (h : Hands) (f : Effect) (on : Bool) (d t : State) → IsState d → d.panel ≡ on → Does h f d t
     → Does h f (record t { panel = on }) t ⊎ Does h f (before_shift f (record t { panel = on })) t
-does_from h (effect.Change r Next) on d t valid p (e, b, put) = inr (shift_again (moved_entry prev_frame) (moved_entry next_frame) r e on d t p (next_again (entry_of r d) (valid r)) b put)
-does_from h (effect.Change r Prev) on d t valid p (e, b, put) = inr (shift_again (moved_entry next_frame) (moved_entry prev_frame) r e on d t p (prev_again (entry_of r d) (valid r)) b put)
-does_from h (effect.Change r c) on d t valid p (e, b, put) = inl (e, b, put_again r e on d t p put)
+does_from h (Effect.Change r Next) on d t valid p (e, b, put) = inr (shift_again (moved_entry prev_frame) (moved_entry next_frame) r e on d t p (next_again (entry_of r d) (valid r)) b put)
+does_from h (Effect.Change r Prev) on d t valid p (e, b, put) = inr (shift_again (moved_entry next_frame) (moved_entry prev_frame) r e on d t p (prev_again (entry_of r d) (valid r)) b put)
+does_from h (Effect.Change r c) on d t valid p (e, b, put) = inl (e, b, put_again r e on d t p put)
 does_from h f on d t valid p does = inl (grind arith)
 
 -- a command that asks for something of the state has no effect
-sensed : (c : Command) → (effect_of c ≡ effect.Nothing) ⊎ (sense_of c ≡ sense.Nothing)
+sensed : (c : Command) → (effect_of c ≡ Effect.Nothing) ⊎ (sense_of c ≡ Sense.Nothing)
 sensed c = grind arith
 
 -- a step that leaves the state as it was
@@ -130,8 +77,8 @@ steps_from h e on d t valid p (done nak shown does) =
     ]
 
 shift_panel : (f : Effect) (s : State) → (before_shift f s).panel ≡ s.panel
-shift_panel (effect.Change r Next) s = put_panel r (moved_entry prev_frame (entry_of r s)) s
-shift_panel (effect.Change r Prev) s = put_panel r (moved_entry next_frame (entry_of r s)) s
+shift_panel (Effect.Change r Next) s = put_panel r (moved_entry prev_frame (entry_of r s)) s
+shift_panel (Effect.Change r Prev) s = put_panel r (moved_entry next_frame (entry_of r s)) s
 shift_panel _ s = refl
 
 pub two_states : (h : Hands) (e : Exchange) (on : Bool) (t : State) (f : Effect) (same back : State) → f ≡ effect_of e.command → same ≡ record t { panel = on } → back ≡ before_shift f same → IsState same → IsState back
@@ -160,25 +107,25 @@ begins_from h e t (s, first, (d, drift, step)) = (d, first_drifts h s d first dr
 begins_to : (h : Hands) (e : Exchange) (t d : State) → IsFirst h d → Steps h e d t → Begins h e t
 begins_to h e t d first step = (d, first, (d, ([], refl), step))
 
-pub begins_alone : (h : Hands) (e : Exchange) (t : State) → h ≡ hands.None → StepsFromSome h e false t ↔ Begins h e t
-begins_alone hands.None e t none = (λ w. begins_to hands.None e t w.0 (w.1, w.2) w.3, λ w. let d = begins_from hands.None e t w in (d.0, d.1.0, d.1.1, d.2))
-begins_alone hands.Allowed e t none = cc
+pub begins_alone : (h : Hands) (e : Exchange) (t : State) → h ≡ Hands.None → StepsFromSome h e false t ↔ Begins h e t
+begins_alone Hands.None e t none = (λ w. begins_to Hands.None e t w.0 (w.1, w.2) w.3, λ w. let d = begins_from Hands.None e t w in (d.0, d.1.0, d.1.1, d.2))
+begins_alone Hands.Allowed e t none = cc
 
-pub begins_touched : (h : Hands) (e : Exchange) (t : State) → h ≡ hands.Allowed → (StepsFromSome h e false t ⊎ StepsFromSome h e true t) ↔ Begins h e t
-begins_touched hands.None e t allowed = cc
-begins_touched hands.Allowed e t allowed = (λ w. elim w [ inl some ↦ to some | inr some ↦ to some ], λ w. let d = begins_from hands.Allowed e t w in from d.0 d.0.panel refl d.1 d.2)
+pub begins_touched : (h : Hands) (e : Exchange) (t : State) → h ≡ Hands.Allowed → (StepsFromSome h e false t ⊎ StepsFromSome h e true t) ↔ Begins h e t
+begins_touched Hands.None e t allowed = cc
+begins_touched Hands.Allowed e t allowed = (λ w. elim w [ inl some ↦ to some | inr some ↦ to some ], λ w. let d = begins_from Hands.Allowed e t w in from d.0 d.0.panel refl d.1 d.2)
   where
-    to : {on : Bool} → StepsFromSome hands.Allowed e on t → Begins hands.Allowed e t
-    to (d, valid, still, step) = begins_to hands.Allowed e t d valid step
+    to : {on : Bool} → StepsFromSome Hands.Allowed e on t → Begins Hands.Allowed e t
+    to (d, valid, still, step) = begins_to Hands.Allowed e t d valid step
 
-    from : (d : State) (b : Bool) → d.panel ≡ b → IsState d → Steps hands.Allowed e d t → StepsFromSome hands.Allowed e false t ⊎ StepsFromSome hands.Allowed e true t
+    from : (d : State) (b : Bool) → d.panel ≡ b → IsState d → Steps Hands.Allowed e d t → StepsFromSome Hands.Allowed e false t ⊎ StepsFromSome Hands.Allowed e true t
     from d false p valid step = inl (d, valid, p, step)
     from d true p valid step = inr (d, valid, p, step)
 
-pub none_allowed : hands.None ≡ hands.Allowed → ⊥
+pub none_allowed : Hands.None ≡ Hands.Allowed → ⊥
 none_allowed e = cc
 
-pub goes_by : (h : Hands) (e : Exchange) (s t : State) → (DriftsAndSteps h e s t ⊎ ((h ≡ hands.Allowed) × (s.panel ≡ true) × StepsFromSome h e true t)) ↔ Exchanges h e.command e.reply s t
+pub goes_by : (h : Hands) (e : Exchange) (s t : State) → (DriftsAndSteps h e s t ⊎ ((h ≡ Hands.Allowed) × (s.panel ≡ true) × StepsFromSome h e true t)) ↔ Exchanges h e.command e.reply s t
 goes_by h e s t = (
   λ w. elim w [
     | inl (d, keeps, pair, step) ↦ (d, drift_from_pairs h s d (inl (keeps, pair)), step)
@@ -202,21 +149,3 @@ pub lengths_differ : (h : Hands) (s : State) (es : List Exchange) (ts : List Sta
 lengths_differ h s [] [] r = refl
 lengths_differ h s (e ∷ es) (t ∷ ts) r = ap suc (lengths_differ h t es ts r.1)
 lengths_differ h s es ts r = absurd r
-
-pub goes_on-start : (h : Hands) (first : State) (es : List Exchange) (ts : List State) (fs : List Exchange) (us : List State) → fs ≡ es → us ≡ ts → length es ≡ length ts → GoesOn h first es ts first fs us
-goes_on-start h first es ts fs us p q same = rw (p, q) (record { runs = (λ r. r, λ r. r); lengths = same })
-
-pub goes_on-one : (h : Hands) (first : State) (es : List Exchange) (ts : List State) (before : State) (es' fs : List Exchange) (ts' us : List State) (e : Exchange) (t : State)
-    → GoesOn h first es ts before es' ts' → es' ≡ e ∷ fs → ts' ≡ t ∷ us
-    → (IsRunFrom h first es ts ↔ (Exchanges h e.command e.reply before t × IsRunFrom h t fs us)) × (length fs ≡ length us)
-goes_on-one h first es ts before es' fs ts' us e t g p q = (
-  subst (λ x. IsRunFrom h first es ts ↔ IsRunFrom h before x (t ∷ us)) p (subst (λ y. IsRunFrom h first es ts ↔ IsRunFrom h before es' y) q g.runs),
-  suc_inj (sym (ap length p) ∙ g.lengths ∙ ap length q),
-)
-  where
-    suc_inj : {m n : ℕ} → suc m ≡ suc n → m ≡ n
-    suc_inj h = cc
-
-pub goes_on-end : (h : Hands) (first : State) (es : List Exchange) (ts : List State) (before : State) (es' : List Exchange) (ts' : List State) → GoesOn h first es ts before es' ts' → (es' ≡ []) ⊎ (ts' ≡ []) → IsRunFrom h first es ts
-goes_on-end h first es ts before [] [] g ended = g.runs.1 tt
-goes_on-end h first es ts before es' ts' g ended = let differ = g.lengths in grind arith

@@ -1,14 +1,6 @@
 -- Which modes status data tell.
-use Rattle.std.proofs.Common.{ℕ, ◌≡◌, ◌*◌, ◌%◌, ◌<◌, ◌==◌, ◌&&◌, ◌||◌, ◌⊎◌, inl, inr, Bool, true, false, Some, bit_and, refl, sym, ◌∙◌, arith}
-use Rattle.std.proofs.lemmas.Bool.{eq-eqb, eqb-true, false≢true}
-use Rattle.std.proofs.lemmas.Nat.{and_mask}
-use Rattle.std.proofs.lemmas.Nat.Bits.{and_pow}
-use Rattle.std.specs.Int.{bit_at}
-use Rattle.deck9.specs.declared.mode.Mode.{Mode}
-use Rattle.deck9.specs.declared.mode.Mode.TheVariants.{Stop, Play, Rec, FastForward, Rewind, Shuttle, Jog, Var, Cued, Eject}
-use Rattle.deck9.specs.Laws.{ShowJust}
-use Rattle.deck9.specs.Mode.{is_mode}
-use Rattle.deck9.specs.Shows.{may_show}
+use Rattle.deck9.proofs.Words.{and_mask, and_pow, arith, bit_and, bit_at, Bool, Cued, Eject, eq-eqb, eqb-true, false, false≢true, FastForward, inl, inr, is_mode, Jog, may_show}
+use Rattle.deck9.proofs.Words.{Mode, Play, Rec, refl, Rewind, ShowJust, Shuttle, Some, Stop, sym, true, Var, ℕ, ◌%◌, ◌&&◌, ◌*◌, ◌<◌, ◌==◌, ◌||◌, ◌∙◌, ◌≡◌, ◌⊎◌}
 
 show_just : (p : Mode → Bool) (datum1 datum2 : ℕ) → datum1 < 256 → datum2 < 256 → ((m : Mode) → may_show (Some datum1) (Some datum2) m ≡ p m) → ShowJust p
 show_just p datum1 datum2 is_byte1 is_byte2 just = record { datum1 = datum1; datum2 = datum2; is_byte1 = is_byte1; is_byte2 = is_byte2; just = just }

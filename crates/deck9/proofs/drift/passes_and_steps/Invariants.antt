@@ -1,5 +1,4 @@
-use Rattle.std.proofs.Common.{◌↔◌, drop}
-use Rattle.deck9.specs.Working.{PassesOne}
+use Rattle.deck9.proofs.Words.{drop, PassesOne, ◌↔◌}
 use Rattle.deck9.proofs.drift.passes_and_steps.Given as goal
 
 -- what the modes so far say nothing of, those that are left say

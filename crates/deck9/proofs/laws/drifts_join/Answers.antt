@@ -1,4 +1,4 @@
-use Rattle.std.proofs.Common.{[], refl}
+use Rattle.deck9.proofs.Words.{[], refl}
 use Rattle.deck9.proofs.LawLemmas.{drift_join}
 use Rattle.deck9.proofs.laws.drifts_join.Goals as goal
 

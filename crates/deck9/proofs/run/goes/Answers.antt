@@ -1,4 +1,4 @@
-use Rattle.std.proofs.Common.{arith}
+use Rattle.deck9.proofs.Words.{arith}
 use Rattle.deck9.proofs.RunSearch.{goes_by}
 use Rattle.deck9.proofs.run.goes.Goals as goal
 

@@ -1,5 +1,4 @@
-use Rattle.std.specs.Iterator.Adapters.{zip_first, zip_second}
-use Rattle.std.specs.Slice.Iter.{iter_rest}
+use Rattle.deck9.proofs.Words.{iter_rest, zip_first, zip_second}
 use Rattle.deck9.proofs.RunSearch.{GoesOn}
 use Rattle.deck9.proofs.run.goes_on.Given as goal
 

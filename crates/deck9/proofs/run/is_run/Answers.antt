@@ -1,4 +1,4 @@
-use Rattle.std.proofs.Common.{refl}
+use Rattle.deck9.proofs.Words.{refl}
 use Rattle.deck9.proofs.RunSearch.{run_none}
 use Rattle.deck9.proofs.run.is_run.Goals as goal
 

@@ -1,5 +1,4 @@
-use Rattle.std.proofs.Common.{rules}
-use Rattle.tc25.proofs.DayLemmas.{ReadsAs-from_time_of, time_of-from_ReadsAs}
+use Rattle.deck9.proofs.Words.{ReadsAs-from_time_of, rules, time_of-from_ReadsAs}
 use Rattle.deck9.proofs.shows.tells.Goals as goal
 
 pub returns-in-At : goal.returns-in-At

@@ -1,0 +1,45 @@
+-- The names from elsewhere that the proofs of this crate cite, passed on from one place. Declares nothing.
+pub use Rattle.block9.specs.Command.{is_nak}
+unfoldable pub use Rattle.block9.specs.Command.{fits, is_reply_time_valid}
+pub use Rattle.block9.specs.declared.block.Block.{Block}
+pub use Rattle.block9.specs.declared.command.Command.{Command}
+pub use Rattle.block9.specs.declared.pairer.Exchange.{Exchange}
+pub use Rattle.deck9.specs.Contradict.{behind_first, CanPass, HasBelieving, IsBelievingFrom, MayDo}
+pub use Rattle.deck9.specs.Drift.{arrives, Drift, DriftsTo, halts, handled, Move, Moves, PairReaches, passes}
+pub use Rattle.deck9.specs.Effect.{Becomes, Does, effect_of, moved_entry}
+pub use Rattle.deck9.specs.Laws.{AreAnswered, is_of_goal_or_register, IsRightReply, MayReply, SetsInDay, ShowJust}
+pub use Rattle.deck9.specs.Local.{may_ignore}
+pub use Rattle.deck9.specs.Mode.{index_of, is_mode, is_one_of, on_the_way}
+pub use Rattle.deck9.specs.Run.{Ends, HasRun, IsRun, IsRunFrom, last_state}
+pub use Rattle.deck9.specs.Shows.{Agrees, datum, may_show, sense_of, Shows, ShowsStatus, Tells}
+pub use Rattle.deck9.specs.State.{entry_of, IsEntry, IsFirst, IsState, with_entry}
+pub use Rattle.deck9.specs.Step.{AreReached, done, Exchanges, ignored, refused, Step}
+pub use Rattle.deck9.specs.Working.{before_shift, Begins, DriftsAndSteps, PassesOne, Steps, StepsFromSome}
+pub use Rattle.deck9.specs.declared.effect.Change.{Change}
+pub use Rattle.deck9.specs.declared.effect.Change.TheVariants.{Next, Prev, Recall, Reset, SetAt, SetSomewhere}
+pub use Rattle.deck9.specs.declared.effect.Effect.{Effect}
+pub use Rattle.deck9.specs.declared.mode.Mode.{Mode}
+pub use Rattle.deck9.specs.declared.mode.Mode.TheVariants.{Cued, Eject, FastForward, Jog, Play, Rec, Rewind, Shuttle, Stop, Var}
+pub use Rattle.deck9.specs.declared.sense.Sense.{Sense}
+pub use Rattle.deck9.specs.declared.state.Entry.{Entry}
+pub use Rattle.deck9.specs.declared.state.Entry.TheVariants.{At, Clear}
+pub use Rattle.deck9.specs.declared.state.Hands.{Hands}
+pub use Rattle.deck9.specs.declared.state.Register.{Register}
+pub use Rattle.deck9.specs.declared.state.Register.TheVariants.{RegAudioIn, RegAudioOut, RegIn, RegOut}
+pub use Rattle.deck9.specs.declared.state.State.{State}
+pub use Rattle.std.proofs.Common.{[], ap, arith, bit_and, Bool, drop, false, if◌then◌else◌, inl, inr, length, List, None, refl, rules, Some, subst, suc, sym, true, ℕ, ◌%◌, ◌&&◌}
+pub use Rattle.std.proofs.Common.{◌*◌, ◌++◌, ◌+◌, ◌-◌, ◌/◌, ◌<◌, ◌==◌, ◌||◌, ◌↔◌, ◌∙◌, ◌∷◌, ◌≡◌, ◌≤◌, ◌⊎◌}
+pub use Rattle.std.proofs.lemmas.Bool.{eq-eqb, eqb-true, false≢true}
+pub use Rattle.std.proofs.lemmas.Bool.Decides.{nat_tests}
+pub use Rattle.std.proofs.lemmas.Grind.{common_steps}
+pub use Rattle.std.proofs.lemmas.List.Elements.{All-head, All-tail}
+pub use Rattle.std.proofs.lemmas.Nat.{and_mask}
+pub use Rattle.std.proofs.lemmas.Nat.Bits.{and_pow}
+pub use Rattle.std.proofs.lemmas.Option.{slice_get_past}
+pub use Rattle.std.specs.Int.{bit_at}
+pub use Rattle.std.specs.Iterator.Adapters.{zip_first, zip_second}
+pub use Rattle.std.specs.List.{All}
+pub use Rattle.std.specs.Slice.Iter.{iter_rest}
+pub use Rattle.tc25.proofs.DayLemmas.{ReadsAs-from_time_of, time_of-from_ReadsAs}
+pub use Rattle.tc25.specs.Day.{bytes_of, day, next_frame, prev_frame}
+unfoldable pub use Rattle.tc25.specs.Day.{time_of}
