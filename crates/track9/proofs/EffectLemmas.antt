@@ -1,205 +1,271 @@
--- What leads from the states of each part to others, part by part, and so each effect on the states with one value of the panel.
-use Rattle.std.proofs.Common.{◌≡◌, inl, inr, ◌||◌, Bool, true, false, if◌then◌else◌, Some, None, refl, sym, ap, ◌∙◌, subst, List}
-use Rattle.track9.proofs.Sets.{DoesOrNot, Entries, HasEffect, InTwo, LeadsOn, ModeSet, PartStates, Presets, TwoBelow, TwoFew, TwoParts, TwoWhole, Whole, all_forgotten}
-use Rattle.track9.proofs.Sets.{all_or_none, all_states, aside, changed_entries, changed_part, count_of, counted, drifted, drifted_part, entries_of, forgotten_part, gone_part}
-use Rattle.track9.proofs.Sets.{in_local, is_live, map_two, put_aside, registers_forgotten, some_two, tape_forgotten, two_changed, two_drifted, two_gone, where_live, with_entries}
-use Rattle.track9.proofs.Sets.{with_pairs}
-use Rattle.std.proofs.lemmas.Bool.{false≢true, cond_both}
-use Rattle.track9.specs.Working.Deck.{BelowDay, Change, Does, Effect, Mode, RegIn, Register, State, Stop}
-use Rattle.track9.proofs.GoalLemmas.{ChangesTo, GoesFor, change_reached, goal_reached}
-use Rattle.track9.proofs.FewLemmas.{FewIn, FewTimes, few_all_states, few_changed_part, few_counted, few_two}
-use Rattle.track9.proofs.ForgetLemmas.{forget_reached, registers_reached, tape_reached}
-use Rattle.track9.proofs.PartLemmas.{put_local, put_panel, read_put, same_entries}
-use Rattle.track9.proofs.ReachLemmas.{Keeps, mapped, reached_as, reached_by, reached_same, ReachedIn, by_mapped, in_live}
-use Rattle.track9.proofs.WholeLemmas.{drift_some, whole_all, whole_change, whole_drift, whole_forgotten, whole_goal, whole_in, whole_two}
-use Rattle.std.proofs.Math.Bool.{or-true}
-use Rattle.deck9.specs.declared.state.State.{State}
+-- What becomes of the states of a part, and so what leads from all states with one value of the panel to others: each effect, and whole exchanges where nobody touches the panel.
+use Rattle.track9.proofs.Words.{agreeing, Agrees, agrees_local, all_forgotten, all_or_none, all_states, Allows, and_from, and_parts, ap, Becomes, BelowDay, bit_and, bit_in}
+use Rattle.track9.proofs.Words.{Block, Bool, both, Change, changed_entries, changed_part, Command, cond_both, counted, datum, Does, DoesOrNot, done, Drift, drift_from_pairs}
+use Rattle.track9.proofs.Words.{drifted, drifted_part, drifted_with, Effect, effect_of, either, Entries, entries_of, Entry, entry_of, Exchanged, false, false≢true}
+use Rattle.track9.proofs.Words.{forgotten_part, goes, gone, gone_pairs, gone_part, gone_with, has, has_pair, HasEffect, if◌then◌else◌, ignored, ignored_by_effect, in_local, inl}
+use Rattle.track9.proofs.Words.{InPart, inr, InTwo, is_live, is_mode, is_mode-same, is_nak, LeadsOn, List, LocalFits, map_two, masked, may_show, Mode, modes, ModeSet, no_states}
+use Rattle.track9.proofs.Words.{None, not, not-true, Option, or-false, or-true, or_cases, PartStates, Presets, presets_after, put_aside, put_settled, ReadsStatus, refl, refused}
+use Rattle.track9.proofs.Words.{RegAudioIn, RegAudioOut, RegIn, Register, RegOut, said_part, Says, Sense, sense_of, sensed_part, settled, shown_part, shown_with, ShowsStatus}
+use Rattle.track9.proofs.Words.{Some, some_entry, some_two, State, status_part, Step, Stop, subst, sym, Tells, time_of, true, two_changed, two_drifted, two_sensed, two_status}
+use Rattle.track9.proofs.Words.{TwoBelow, TwoFew, TwoParts, TwoWhole, where_live, Whole, with_command, with_entries, with_entry, with_pairs, ℕ, ◌&&◌, ◌==◌, ◌||◌, ◌↔◌, ◌∙◌, ◌≡◌}
+use Rattle.track9.proofs.Words.{◌⊎◌}
 use Rattle.deck9.specs.declared.effect.Effect.TheVariants as effect
 use Rattle.deck9.specs.declared.state.Hands.TheVariants as hands
+use Rattle.block9.specs.declared.command.Command.TheVariants as command
+use Rattle.deck9.specs.declared.sense.Sense.TheVariants as sense
+use Rattle.track9.proofs.EntryLemmas.{allowed_some, becomes_some, drifted_from, drifted_to, entry_from, entry_stays, entry_to, goes_from, goes_to, has-and, has-or, mode_self}
+use Rattle.track9.proofs.EntryLemmas.{nothing_has, pair_by_goal, pairs_some, says_exactly, some_allowed, some_mode, tells_from, tells_to}
+use Rattle.track9.proofs.PartLemmas.{a_state, all_exactly, all_in, any_entries_in, Below, drift_below, drift_some, drift_whole, each_register, few_agreeing, few_all_states}
+use Rattle.track9.proofs.PartLemmas.{few_changed_part, few_counted, few_no_states, few_pairs, few_put, few_said, few_settled, few_two, FewIn, in_all, in_any_entries, in_none}
+use Rattle.track9.proofs.PartLemmas.{in_pairs, mechanics, not_live, pairs_registers, put, put_in, read_put, settled_from, settled_to, take_out, two_live, two_state, whole_all}
+use Rattle.track9.proofs.PartLemmas.{whole_drift, whole_in, whole_none, whole_pairs, whole_put, whole_settled, whole_two}
 
 -- ---- part by part
 
-pub record PartLeads (Goes : State → State → Type 0) (count : Presets → Presets) (l : Bool) (p q : PartStates) : Type 0 where
-  pub reached : (pn : Bool) → ReachedIn Goes l pn p q
-  pub whole : Whole q
-  pub few : (n : Presets) → FewIn n p → FewIn (count n) q
+-- a step leads from the states of a part exactly to those of another part, which may depend on their local
+pub record PartLeads (Goes : State → State → Type 0) (count : Presets → Presets) (p : PartStates) (q : Bool → PartStates) : Type 0 where
+  pub from : (t : State) → InPart (q t.local) t → (s : State) × InPart p s × (s.local ≡ t.local) × (s.panel ≡ t.panel) × Goes s t
+  pub to : (s t : State) → InPart p s → Goes s t → InPart (q s.local) t
+  pub whole : (l : Bool) → Whole (q l)
+  pub few : (l : Bool) (n : Presets) → FewIn n p → FewIn (count n) (q l)
 
--- each part that has states changes, and each that has none stays
-pub leads : (Goes : State → State → Type 0) (count : Presets → Presets) → Keeps Goes → (f : Bool → PartStates → PartStates) (h : TwoParts) → TwoWhole h
-    → ((l : Bool) (n : Presets) → FewIn n (in_local h l) → FewIn (count n) (in_local h l))
-    → ((l : Bool) → is_live (in_local h l) ≡ true → PartLeads Goes count l (in_local h l) (f l (in_local h l)))
-    → LeadsOn Goes count h (map_two (λ l. where_live (f l)) h)
-leads Goes count keeps f h whole dead each = record {
-  reached = by_mapped Goes keeps (λ l. where_live (f l)) h (λ l pn. in_live Goes l pn (in_local h l) (f l (in_local h l)) (λ live. (each l live).reached pn));
-  whole = record { remote = live_whole false; local = live_whole true };
-  few = λ n few l. subst (FewIn (count n)) (sym (mapped (λ l. where_live (f l)) h l))
-      (cond_both (is_live (in_local h l)) (f l (in_local h l)) (in_local h l) (FewIn (count n)) (λ live. (each l live).few n (few l)) (λ none. dead l n (few l)));
+-- a step leaves local and panel as they are
+pub record Keeps (Goes : State → State → Type 0) : Type 0 where
+  pub local : (s t : State) → Goes s t → t.local ≡ s.local
+  pub panel : (s t : State) → Goes s t → t.panel ≡ s.panel
+
+mapped : (f : Bool → PartStates → PartStates) (h : TwoParts) (l : Bool) → in_local (map_two f h) l ≡ f l (in_local h l)
+mapped f h false = refl
+mapped f h true = refl
+
+leads_by : (Goes : State → State → Type 0) (count : Presets → Presets) → Keeps Goes → (f : Bool → PartStates → PartStates) (h : TwoParts) → ((l : Bool) → PartLeads Goes count (in_local h l) (λ b. f b (in_local h l)))
+    → LeadsOn Goes count h (map_two f h)
+leads_by Goes count keeps f h each = record {
+  reached = λ pn. (
+    λ t i. let a = (each t.local).from t (subst (λ q. InPart q t) (mapped f h t.local) i.1) in (a.0, (a.3 ∙ i.0, subst (λ b. InPart (in_local h b) a.0) (sym a.2) a.1), a.4),
+    λ s t i goes. (keeps.panel s t goes ∙ i.0, subst (λ b. InPart (in_local (map_two f h) b) t) (sym (keeps.local s t goes)) (rw (mapped f h s.local) ((each s.local).to s t i.1 goes))),
+  );
+  whole = record { remote = (each false).whole false; local = (each true).whole true };
+  few = λ n few l. subst (FewIn (count n)) (sym (mapped f h l)) ((each l).few l n (few l));
 }
-  where
-    live_whole : (l : Bool) → Whole (where_live (f l) (in_local h l))
-    live_whole l = cond_both (is_live (in_local h l)) (f l (in_local h l)) (in_local h l) Whole (λ live. (each l live).whole) (λ none. whole_in h whole l)
 
-pub two_same : (g h : TwoParts) → g.remote ≡ h.remote → g.local ≡ h.local → g ≡ h
-two_same g h p q = ap (λ (r : PartStates). let k : TwoParts = record g { remote = r } in k) p ∙ ap (λ (l : PartStates). let k : TwoParts = record h { local = l } in k) q
+-- a part that has no states stays
+leads : (Goes : State → State → Type 0) (count : Presets → Presets) → Keeps Goes → (f : Bool → PartStates → PartStates) (h : TwoParts) → TwoWhole h
+    → ((l : Bool) (n : Presets) → FewIn n (in_local h l) → FewIn (count n) (in_local h l))
+    → ((l : Bool) → is_live (in_local h l) ≡ true → PartLeads Goes count (in_local h l) (λ b. f b (in_local h l))) → LeadsOn Goes count h (map_two (λ l. where_live (f l)) h)
+leads Goes count keeps f h whole few each = leads_by Goes count keeps (λ l. where_live (f l)) h (λ l. by l (is_live (in_local h l)) refl)
+  where
+    by : (l b : Bool) → is_live (in_local h l) ≡ b → PartLeads Goes count (in_local h l) (λ k. if b then f k (in_local h l) else in_local h l)
+    by l true live = each l live
+    by l false dead = record { from = λ t i. not_live _ t dead i; to = λ s t i goes. not_live _ s dead i; whole = λ k. whole_in h whole l; few = λ k n. few l n }
+
+-- what is read leaves the states of which it is true
+pub reads : (P : State → Type 0) (f : Bool → PartStates → PartStates) (h : TwoParts) → TwoWhole h → ((p : PartStates) (t : State) → InPart (f t.local p) t ↔ (InPart p t × P t))
+    → ((l : Bool) (p : PartStates) → Whole (f l p)) → ((l : Bool) (n : Presets) (p : PartStates) → FewIn n p → FewIn n (f l p)) → LeadsOn (λ s t. P s × (t ≡ s)) (λ n. n) h (map_two (λ l. where_live (f l)) h)
+reads P f h whole exactly wholes few = leads (λ s t. P s × (t ≡ s)) (λ n. n) (record { local = λ s t d. rw d.1; panel = λ s t d. rw d.1 }) f h whole (λ l n h. h) (λ l live. let p = in_local h l in record {
+  from = λ t i. let w = (exactly p t).0 i in (t, w.0, refl, refl, (w.1, refl));
+  to = λ s t i d. subst (InPart (f s.local p)) (sym d.1) ((exactly p s).1 (i, d.0));
+  whole = λ b. wholes b p;
+  few = λ b n h. few b n p h;
+})
+
+-- ---- a drift
+
+pub drift_leads : (h : TwoParts) → TwoWhole h → LeadsOn (Drift hands.None) (λ n. n) h (two_drifted h)
+drift_leads h whole = leads_by (Drift hands.None) (λ n. n) (record { local = λ s t d. rw (mechanics s t d).0; panel = λ s t d. rw (mechanics s t d).0 }) (λ l. drifted_part) h (λ l. let p = in_local h l in record {
+  from = λ t i.
+      let w = drifted_from p.pairs t.goal t.shown (sym (pair_by_goal (drifted_with p.pairs) t.goal t.shown) ∙ i.pair) in
+      let s : State = record t { goal = w.0; shown = w.1 } in (s, in_pairs p p.pairs t w.0 w.1 (pairs_registers p (drifted p.pairs) t i) w.2, refl, refl, drift_from_pairs hands.None s t (inl (refl, w.3)));
+  to = λ s t i d. let m = mechanics s t d in
+      subst (InPart (drifted_part p)) (sym m.0)
+      (in_pairs p (drifted p.pairs) s t.goal t.shown i.registers (pair_by_goal (drifted_with p.pairs) t.goal t.shown ∙ drifted_to p.pairs s.goal s.shown t.goal t.shown i.pair m.1));
+  whole = λ b. whole_drift p (whole_in h whole l);
+  few = λ b n few. few_pairs n (drifted p.pairs) p few;
+})
+
+-- ---- a new goal
+
+gone_has : (goal : Mode) (p : List ModeSet) (g m : Mode) → has_pair (gone goal p) g m ≡ (is_mode g goal && has (goes p).0 m)
+gone_has goal p g m = pair_by_goal (gone_with goal p) g m ∙ (elim (is_mode g goal) as (λ b. has (if b then goes p else modes 0).0 m ≡ (b && has (goes p).0 m)) [ true ↦ refl | false ↦ nothing_has m ])
+
+goal_has : (may_stay : Bool) (goal : Mode) (p : List ModeSet) (g m : Mode) → has_pair (gone_pairs may_stay goal p) g m ≡ ((may_stay && has_pair p g m) || (is_mode g goal && has (goes p).0 m))
+goal_has false goal p g m = gone_has goal p g m
+goal_has true goal p g m = pair_by_goal (λ f. either (shown_with p f) (shown_with (gone goal p) f)) g m ∙ has-or (shown_with p g).0 (shown_with (gone goal p) g).0 m ∙ ap (λ b. has_pair p g m || b) (gone_has goal p g m)
+
+goal_goes : (may_stay : Bool) (goal : Mode) (p : List ModeSet) (m : Mode) → has (goes p).0 m ≡ true → has_pair (gone_pairs may_stay goal p) goal m ≡ true
+goal_goes b goal p m h = goal_has b goal p goal m ∙ rw (mode_self goal, h) (or-true (b && has_pair p goal m))
+
+-- the states with this goal, and those that may stay as they are
+goal_from : (may_stay : Bool) (goal : Mode) (p : PartStates) (t : State) → InPart (gone_part may_stay goal p) t
+    → ((s : State) × InPart p s × (s.local ≡ t.local) × (s.panel ≡ t.panel) × (t ≡ record s { goal = goal })) ⊎ ((may_stay ≡ true) × InPart p t)
+goal_from b goal p t i =
+    let old = pairs_registers p (gone_pairs b goal p.pairs) t i in
+    elim (or_cases _ _ (sym (goal_has b goal p.pairs t.goal t.shown) ∙ i.pair)) [
+      | inl stays ↦ let w = and_parts _ _ stays in inr (w.0, in_pairs p p.pairs t t.goal t.shown old w.1)
+      | inr goes ↦ let w = and_parts _ _ goes in let f = goes_from p.pairs t.shown w.1 in
+          inl (record t { goal = f.0 }, in_pairs p p.pairs t f.0 t.shown old f.1, refl, refl, ap (λ (g : Mode). record t { goal = g }) (is_mode-same t.goal goal w.0))
+    ]
+
+goal_to : (may_stay : Bool) (goal : Mode) (p : PartStates) (s t : State) → InPart p s → (t ≡ record s { goal = goal }) ⊎ ((may_stay ≡ true) × (t ≡ s)) → InPart (gone_part may_stay goal p) t
+goal_to b goal p s t i (inl e) = subst (InPart (gone_part b goal p)) (sym e)
+    (in_pairs p (gone_pairs b goal p.pairs) s goal s.shown i.registers (goal_goes b goal p.pairs s.shown (goes_to p.pairs s.goal s.shown i.pair)))
+goal_to b goal p s t i (inr (stays, e)) = subst (InPart (gone_part b goal p)) (sym e)
+    (in_pairs p (gone_pairs b goal p.pairs) s s.goal s.shown i.registers (goal_has b goal p.pairs s.goal s.shown ∙ rw (stays, i.pair) refl))
+
+whole_goal : (may_stay : Bool) (goal : Mode) (p : PartStates) → Whole p → is_live p ≡ true → Whole (gone_part may_stay goal p)
+whole_goal b goal p whole live =
+    let m = some_mode (goes p.pairs) live in
+    whole_pairs (gone_pairs b goal p.pairs) p whole (pairs_some (gone_pairs b goal p.pairs) goal m.0 (goal_goes b goal p.pairs m.0 m.1) ∙ sym live)
+
+-- ---- a register
+
+-- the states with an entry that the change makes, and those that may stay as they are
+change_from : (may_stay : Bool) (r : Register) (c : Change) (p : PartStates) (t : State) → Whole p → is_live p ≡ true → InPart (changed_part may_stay r c p) t
+    → ((s : State) × InPart p s × (s.local ≡ t.local) × (s.panel ≡ t.panel) × ((e : Entry) × Becomes c (entry_of r s) e × (t ≡ with_entry r e s))) ⊎ ((may_stay ≡ true) × InPart p t)
+change_from b r c p t whole live i =
+    let new = changed_entries b c (entries_of r p) in let some = some_allowed (entries_of r p) (whole r ∙ live) in
+    elim (entry_from b c (entries_of r p) some.0 (entry_of r t) some.1 (subst (λ es. Allows es (entry_of r t)) (read_put r new p) (i.registers r))) [
+      | inl (f, a, becomes) ↦ let at = put r f t in
+          inl (with_entry r f t, take_out r new p f t i a, at.local, at.panel, (entry_of r t, subst (λ d. Becomes c d (entry_of r t)) (sym at.entry) becomes, sym at.again))
+      | inr (stays, same) ↦ inr (stays, subst (InPart p) (put r (entry_of r t) t).own (take_out r new p (entry_of r t) t i same))
+    ]
+
+change_to : (may_stay : Bool) (r : Register) (c : Change) (p : PartStates) (s t : State) → BelowDay (entries_of r p).times → InPart p s
+    → ((e : Entry) × Becomes c (entry_of r s) e × (t ≡ with_entry r e s)) ⊎ ((may_stay ≡ true) × (t ≡ s)) → InPart (changed_part may_stay r c p) t
+change_to b r c p s t below i (inl (e, becomes, same)) =
+    subst (InPart (changed_part b r c p)) (sym same) (put_in r _ p e s i (entry_to b c (entries_of r p) (entry_of r s) e (i.registers r) becomes))
+change_to b r c p s t below i (inr (stays, same)) = let e = entry_of r s in
+    subst (InPart (changed_part b r c p)) ((put r e s).own ∙ sym same) (put_in r _ p e s i (entry_stays b c (entries_of r p) e stays below (i.registers r)))
+
+whole_change : (may_stay : Bool) (r : Register) (c : Change) (p : PartStates) → Whole p → is_live p ≡ true → Whole (changed_part may_stay r c p)
+whole_change b r c p whole live =
+    let es = entries_of r p in let d = some_allowed es (whole r ∙ live) in let e = becomes_some c d.0 in
+    whole_put r (changed_entries b c es) p whole (allowed_some (changed_entries b c es) e.0 (entry_to b c es d.0 e.0 d.1 e.1) ∙ sym live)
 
 -- ---- effects
 
-never : {P : Type 0} → false ≡ true → P
-never h = absurd (false≢true h)
+-- what an effect makes of a part with states
+abbrev pub part_effect : Bool → Effect → Bool → PartStates → PartStates
+part_effect may_stay (effect.Go g) l p = gone_part (l || may_stay) g p
+part_effect may_stay effect.KeepOrStop l p = gone_part (l || true) Stop p
+part_effect may_stay (effect.Change r c) l p = changed_part (l || may_stay) r c p
+part_effect may_stay effect.ForgetTape l p = all_states
+part_effect may_stay effect.ForgetRegisters l p = forgotten_part p
+part_effect may_stay _ l p = p
 
--- where nobody touches the panel no effect changes it
-pub does_panel : (may_stay : Bool) (e : Effect) (s t : State) → DoesOrNot may_stay e s t → t.panel ≡ s.panel
-does_panel may_stay e s t (inr (may, local, same)) = ap (λ (u : State). u.panel) same
-does_panel may_stay effect.KeepOrStop s t (inl (inl d)) = ap (λ (u : State). u.panel) d
-does_panel may_stay effect.KeepOrStop s t (inl (inr d)) = ap (λ (u : State). u.panel) d
-does_panel may_stay (effect.Change r c) s t (inl d) = ap (λ (u : State). u.panel) d.2 ∙ put_panel r d.0 s
-does_panel may_stay effect.ForgetTape s t (inl d) = d.2
-does_panel may_stay effect.ForgetRegisters s t (inl d) = d.4
-does_panel may_stay effect.ForgetAll s t (inl d) = d.1
-does_panel may_stay _ s t (inl d) = ap (λ (u : State). u.panel) d
+-- it goes part by part
+abbrev pub is_by_part : Effect → Bool
+is_by_part effect.Nothing = false
+is_by_part (effect.Panel on) = false
+is_by_part effect.ForgetAll = false
+is_by_part _ = true
 
--- and none but the one that forgets all changes local
-does_keeps : (may_stay : Bool) (e : Effect) → (e ≡ effect.ForgetAll → ⊥) → Keeps (DoesOrNot may_stay e)
-does_keeps may_stay e some = record { local = λ s t d. kept e s t some d; panel = does_panel may_stay e }
+part_leads : (may_stay : Bool) (e : Effect) (p : PartStates) → is_by_part e ≡ true → Whole p → is_live p ≡ true → Below e p → PartLeads (DoesOrNot may_stay e) (counted e) p (λ l. part_effect may_stay e l p)
+part_leads m (effect.Go g) p by whole live below = record {
+  from = λ t i. elim (goal_from (t.local || m) g p t i) [ inl w ↦ (w.0, w.1, w.2, w.3, inl w.4) | inr (stays, j) ↦ (t, j, refl, refl, inr (refl, stays, refl)) ];
+  to = λ s t i d. goal_to (s.local || m) g p s t i (elim d [ inl e ↦ inl e | inr (may, stays, e) ↦ inr (stays, e) ]);
+  whole = λ l. whole_goal (l || m) g p whole live;
+  few = λ l n few. few_pairs n _ p few;
+}
+part_leads m effect.KeepOrStop p by whole live below = record {
+  from = λ t i. elim (goal_from (t.local || true) Stop p t i) [ inl w ↦ (w.0, w.1, w.2, w.3, inl (inr w.4)) | inr (stays, j) ↦ (t, j, refl, refl, inl (inl refl)) ];
+  to = λ s t i d. goal_to (s.local || true) Stop p s t i (elim d [ inl (inl e) ↦ inr (or-true s.local, e) | inl (inr e) ↦ inl e | inr (may, stays, e) ↦ inr (or-true s.local, e) ]);
+  whole = λ l. whole_goal (l || true) Stop p whole live;
+  few = λ l n few. few_pairs n _ p few;
+}
+part_leads m (effect.Change r c) p by whole live below = record {
+  from = λ t i. elim (change_from (t.local || m) r c p t whole live i) [ inl w ↦ (w.0, w.1, w.2, w.3, inl w.4) | inr (stays, j) ↦ (t, j, refl, refl, inr (refl, stays, refl)) ];
+  to = λ s t i d. change_to (s.local || m) r c p s t (below r) i (elim d [ inl e ↦ inl e | inr (may, stays, e) ↦ inr (stays, e) ]);
+  whole = λ l. whole_change (l || m) r c p whole live;
+  few = λ l n few. few_changed_part (l || m) r c n p below few;
+}
+part_leads m effect.ForgetTape p by whole live below = record {
+  from = λ t i. let w = a_state p t.local t.panel whole live in (w.0, w.1, w.2, w.3, inl (all_in t i, sym w.2, sym w.3));
+  to = λ s t i d. elim d [ inl e ↦ in_all t e.0 | inr w ↦ absurd (false≢true w.0) ];
+  whole = λ l. whole_all;
+  few = λ l n few. few_all_states n;
+}
+part_leads m effect.ForgetRegisters p by whole live below = record {
+  from = λ t i.
+      let w = a_state p t.local t.panel whole live in
+      let s : State = record w.0 { goal = t.goal; shown = t.shown } in
+      (s, in_pairs p p.pairs w.0 t.goal t.shown w.1.registers i.pair, w.2, w.3, inl (any_entries_in p.pairs t i, refl, refl, sym w.2, sym w.3));
+  to = λ s t i d. elim d [ inl e ↦ in_any_entries p.pairs t e.0 (rw (e.1, e.2) i.pair) | inr w ↦ absurd (false≢true w.0) ];
+  whole = λ l. whole_pairs p.pairs all_states whole_all (live ∙ sym (whole_all RegIn));
+  few = λ l n few. few_pairs n p.pairs all_states (few_all_states n);
+}
+part_leads m _ p by whole live below = absurd (false≢true by)
+
+-- where nobody touches the panel no effect changes it, and none but the one that forgets all changes local
+pub does_keep : (may_stay : Bool) (e : Effect) (s t : State) → DoesOrNot may_stay e s t → (t.panel ≡ s.panel) × ((e ≡ effect.ForgetAll) ⊎ (t.local ≡ s.local))
+does_keep m e s t (inr (may, local, d)) = (rw d, inr (rw d))
+does_keep m effect.KeepOrStop s t (inl (inl d)) = (rw d, inr (rw d))
+does_keep m effect.KeepOrStop s t (inl (inr d)) = (rw d, inr (rw d))
+does_keep m (effect.Change r c) s t (inl (e, becomes, d)) = (rw d (put r e s).panel, inr (rw d (put r e s).local))
+does_keep m effect.ForgetTape s t (inl d) = (d.2, inr d.1)
+does_keep m effect.ForgetRegisters s t (inl d) = (d.4, inr d.3)
+does_keep m effect.ForgetAll s t (inl d) = (d.1, inl refl)
+does_keep m _ s t (inl d) = (rw d, inr (rw d))
+
+pub has_effect : (may_stay : Bool) (e : Effect) (h : TwoParts) → is_by_part e ≡ true → TwoWhole h → ((l : Bool) → Below e (in_local h l)) → HasEffect may_stay e h (map_two (λ l. where_live (part_effect may_stay e l)) h)
+has_effect m e h by whole below = leads (DoesOrNot m e) (counted e) (record { local = local; panel = λ s t d. (does_keep m e s t d).0 }) (part_effect m e) h whole
+    (λ l n few. few_counted e n (in_local h l) (below l) few) (λ l live. part_leads m e (in_local h l) by (whole_in h whole l) live (below l))
   where
-    kept : (e : Effect) (s t : State) → (e ≡ effect.ForgetAll → ⊥) → DoesOrNot may_stay e s t → t.local ≡ s.local
-    kept e s t some (inr (may, local, same)) = ap (λ (u : State). u.local) same
-    kept effect.KeepOrStop s t some (inl (inl d)) = ap (λ (u : State). u.local) d
-    kept effect.KeepOrStop s t some (inl (inr d)) = ap (λ (u : State). u.local) d
-    kept (effect.Change r c) s t some (inl d) = ap (λ (u : State). u.local) d.2 ∙ put_local r d.0 s
-    kept effect.ForgetTape s t some (inl d) = d.1
-    kept effect.ForgetRegisters s t some (inl d) = d.3
-    kept effect.ForgetAll s t some (inl d) = absurd (some refl)
-    kept _ s t some (inl d) = ap (λ (u : State). u.local) d
-
--- other pairs in place of a part's
-pub few_pairs : (n : Presets) (q : List ModeSet) (p : PartStates) → FewIn n p → FewIn n (with_pairs q p)
-few_pairs n q p h r = subst (λ es. FewTimes (count_of r n) es) (sym (same_entries r p q)) (h r)
-
--- ---- goals
-
-has_goal : (may_stay : Bool) (goal : Mode) (h : TwoParts) → TwoWhole h → HasEffect may_stay (effect.Go goal) h (two_gone may_stay goal h)
-has_goal may_stay goal h whole = leads (DoesOrNot may_stay (effect.Go goal)) (counted (effect.Go goal)) (does_keeps may_stay (effect.Go goal) (λ e. cc)) (λ l. gone_part (l || may_stay) goal) h whole (λ l n few. few) (λ l live. record {
-  reached = λ pn. reached_as (GoesFor (l || may_stay) goal) (DoesOrNot may_stay (effect.Go goal)) l pn (in_local h l) (gone_part (l || may_stay) goal (in_local h l))
-      (λ s t el g. elim g [ inl e ↦ inl e | inr (stays, e) ↦ inr (refl, ap (λ b. b || may_stay) el ∙ stays, e) ])
-      (λ s t el d. elim d [ inl e ↦ inl e | inr (may, stays, e) ↦ inr (ap (λ b. b || may_stay) (sym el) ∙ stays, e) ])
-      (goal_reached (l || may_stay) goal l pn (in_local h l));
-  whole = whole_goal (l || may_stay) goal (in_local h l) (whole_in h whole l) live;
-  few = λ n few. few_pairs n _ (in_local h l) few;
-})
-
-has_keep_or_stop : (may_stay : Bool) (h : TwoParts) → TwoWhole h → HasEffect may_stay effect.KeepOrStop h (two_gone true Stop h)
-has_keep_or_stop may_stay h whole = leads (DoesOrNot may_stay effect.KeepOrStop) (counted effect.KeepOrStop) (does_keeps may_stay effect.KeepOrStop (λ e. cc)) (λ l. gone_part (l || true) Stop) h whole (λ l n few. few) (λ l live. record {
-  reached = λ pn. reached_as (GoesFor (l || true) Stop) (DoesOrNot may_stay effect.KeepOrStop) l pn (in_local h l) (gone_part (l || true) Stop (in_local h l))
-      (λ s t el g. elim g [ inl e ↦ inl (inr e) | inr (stays, e) ↦ inl (inl e) ])
-      (λ s t el d. elim d [ inl (inl e) ↦ inr (or-true l, e) | inl (inr e) ↦ inl e | inr (may, stays, e) ↦ inr (or-true l, e) ])
-      (goal_reached (l || true) Stop l pn (in_local h l));
-  whole = whole_goal (l || true) Stop (in_local h l) (whole_in h whole l) live;
-  few = λ n few. few_pairs n _ (in_local h l) few;
-})
-
--- ---- registers
-
--- what is made aside where there is a state, and then put in place
-aside_is : (r : Register) (es : Entries) (p : PartStates) → put_aside r (aside p es) p ≡ (if is_live p then with_entries r es p else p)
-aside_is r es p = elim (is_live p) as (λ b. put_aside r (if b then Some es else None) p ≡ (if b then with_entries r es p else p)) [ true ↦ refl | false ↦ refl ]
-
-changed_is : (may_stay : Bool) (r : Register) (c : Change) (h : TwoParts) → two_changed may_stay r c h ≡ map_two (λ l. where_live (changed_part (l || may_stay) r c)) h
-changed_is may_stay r c h =
-    two_same (two_changed may_stay r c h) (map_two (λ l. where_live (changed_part (l || may_stay) r c)) h) (aside_is r (changed_entries may_stay c (entries_of r h.remote)) h.remote) refl
-
--- the times of a changed part are times of the day, since those of the set are
-change_below : (may_stay : Bool) (r : Register) (c : Change) (h : TwoParts) (l : Bool) → TwoBelow (two_changed may_stay r c h) → is_live (in_local h l) ≡ true
-    → BelowDay (changed_entries (l || may_stay) c (entries_of r (in_local h l))).times
-change_below may_stay r c h l after live =
-    let p = in_local h l in
-    let f : Bool → PartStates → PartStates = λ l. changed_part (l || may_stay) r c in
-    let same : in_local (two_changed may_stay r c h) l ≡ f l p =
-    ap (λ g. in_local g l) (changed_is may_stay r c h) ∙ mapped (λ l. where_live (f l)) h l ∙ ap (λ (b : Bool). if b then f l p else p) live in
-    subst (λ es. BelowDay es.times) (ap (entries_of r) same ∙ read_put r (changed_entries (l || may_stay) c (entries_of r p)) p) (after l r)
-
-has_change : (may_stay : Bool) (r : Register) (c : Change) (h : TwoParts) → TwoWhole h → TwoBelow h → TwoBelow (two_changed may_stay r c h) → HasEffect may_stay (effect.Change r c) h (two_changed may_stay r c h)
-has_change may_stay r c h whole below after = subst (HasEffect may_stay (effect.Change r c) h) (sym (changed_is may_stay r c h))
-    (leads (DoesOrNot may_stay (effect.Change r c)) (counted (effect.Change r c)) (does_keeps may_stay (effect.Change r c) (λ e. cc)) (λ l. changed_part (l || may_stay) r c) h whole (λ l n few. few_counted (effect.Change r c) n (in_local h l) (below l) few) (λ l live. record {
-      reached = λ pn. reached_as (ChangesTo (l || may_stay) r c) (DoesOrNot may_stay (effect.Change r c)) l pn (in_local h l) (changed_part (l || may_stay) r c (in_local h l))
-          (λ s t el g. elim g [ inl e ↦ inl e | inr (stays, e) ↦ inr (refl, ap (λ b. b || may_stay) el ∙ stays, e) ])
-          (λ s t el d. elim d [ inl e ↦ inl e | inr (may, stays, e) ↦ inr (ap (λ b. b || may_stay) (sym el) ∙ stays, e) ])
-          (change_reached (l || may_stay) r c l pn (in_local h l) (whole_in h whole l) live (below l r));
-      whole = whole_change (l || may_stay) r c (in_local h l) (whole_in h whole l) live;
-      few = λ n few. few_changed_part (l || may_stay) r c n (in_local h l) (below l) (change_below may_stay r c h l after live) few;
-    }))
-
--- ---- forgetting
-
-has_forgotten_tape : (may_stay : Bool) (h : TwoParts) → TwoWhole h → HasEffect may_stay effect.ForgetTape h (tape_forgotten h)
-has_forgotten_tape may_stay h whole = (leads (DoesOrNot may_stay effect.ForgetTape) (counted effect.ForgetTape) (does_keeps may_stay effect.ForgetTape (λ e. cc)) (λ l p. all_states) h whole (λ l n few. few) (λ l live. record {
-  reached = λ pn. reached_as (Does hands.None effect.ForgetTape) (DoesOrNot may_stay effect.ForgetTape) l pn (in_local h l) all_states (λ s t el d. inl d) (λ s t el d. elim d [ inl e ↦ e | inr (may, local, e) ↦ never may ])
-      (tape_reached hands.None l pn (in_local h l) (whole_in h whole l) live);
-  whole = whole_all;
-  few = λ n few. few_all_states n;
-}))
-
-has_forgotten_registers : (may_stay : Bool) (h : TwoParts) → TwoWhole h → HasEffect may_stay effect.ForgetRegisters h (registers_forgotten h)
-has_forgotten_registers may_stay h whole = (leads (DoesOrNot may_stay effect.ForgetRegisters) (counted effect.ForgetRegisters) (does_keeps may_stay effect.ForgetRegisters (λ e. cc)) (λ l. forgotten_part) h whole (λ l n few. few) (λ l live. record {
-  reached = λ pn. reached_as (Does hands.None effect.ForgetRegisters) (DoesOrNot may_stay effect.ForgetRegisters) l pn (in_local h l) (forgotten_part (in_local h l)) (λ s t el d. inl d) (λ s t el d. elim d [ inl e ↦ e | inr (may, local, e) ↦ never may ])
-      (registers_reached hands.None l pn (in_local h l) (whole_in h whole l) live);
-  whole = whole_forgotten (in_local h l) live;
-  few = λ n few. few_pairs n (in_local h l).pairs all_states (few_all_states n);
-}))
+    local : (s t : State) → DoesOrNot m e s t → t.local ≡ s.local
+    local s t d = elim (does_keep m e s t d).1 [ inl all ↦ absurd (false≢true (sym (ap is_by_part all) ∙ by)) | inr same ↦ same ]
 
 has_forgotten_all : (may_stay : Bool) (h : TwoParts) → TwoWhole h → HasEffect may_stay effect.ForgetAll h (all_forgotten h)
-has_forgotten_all may_stay h whole = record {
-  reached = forget_reached may_stay h whole;
+has_forgotten_all m h whole = record {
+  reached = λ pn. (
+    λ t i. cond_both (some_two h) (all_or_none true) h (λ g. InTwo pn g t → (s : State) × InTwo pn h s × DoesOrNot m effect.ForgetAll s t)
+        (λ live i. let w = two_state h pn whole live in (w.0, w.1, inl (((all_exactly true t).0 i.1).1, i.0 ∙ sym w.1.0))) (λ dead i. absurd (false≢true (sym dead ∙ two_live h t i.1))) i,
+    λ s t i does. elim does [ inl d ↦ (d.1 ∙ i.0, rw (two_live h s i.1) ((all_exactly true t).1 (refl, d.0))) | inr w ↦ absurd (false≢true w.0) ],
+  );
   whole = cond_both (some_two h) (all_or_none true) h TwoWhole (λ live. whole_two true) (λ dead. whole);
   few = λ n few. cond_both (some_two h) (all_or_none true) h (TwoFew n) (λ live. few_two n true) (λ dead. few);
 }
 
 -- ---- a drift after what becomes of the registers
 
+pub two_same : (g h : TwoParts) → g.remote ≡ h.remote → g.local ≡ h.local → g ≡ h
+two_same g h p q = ap (λ (r : PartStates). let k : TwoParts = record g { remote = r } in k) p ∙ ap (λ (l : PartStates). let k : TwoParts = record h { local = l } in k) q
+
 drift_live : (f : PartStates → PartStates) (p : PartStates) → drifted_part (f p) ≡ f (drifted_part p) → drifted_part (where_live f p) ≡ where_live f (drifted_part p)
-drift_live f p same =
-    (elim (is_live p) as (λ b. drifted_part (if b then f p else p) ≡ (if b then f (drifted_part p) else drifted_part p)) [ true ↦ same | false ↦ refl ])
-    ∙ ap (λ (b : Bool). if b then f (drifted_part p) else drifted_part p) (sym (drift_some p.pairs))
+drift_live f p same = rw (drift_some p.pairs) (elim (is_live p) as (λ b. drifted_part (if b then f p else p) ≡ (if b then f (drifted_part p) else drifted_part p)) [ true ↦ same | false ↦ refl ])
 
 pub drift_two : (f : Bool → PartStates → PartStates) (h : TwoParts) → ((l : Bool) (p : PartStates) → drifted_part (f l p) ≡ f l (drifted_part p))
     → two_drifted (map_two (λ l. where_live (f l)) h) ≡ map_two (λ l. where_live (f l)) (two_drifted h)
 drift_two f h same = two_same (two_drifted (map_two (λ l. where_live (f l)) h)) (map_two (λ l. where_live (f l)) (two_drifted h))
     (drift_live (f false) h.remote (same false h.remote)) (drift_live (f true) h.local (same true h.local))
 
-pub drift_put : (r : Register) (es : Entries) (p : PartStates) → drifted_part (with_entries r es p) ≡ with_entries r es (drifted_part p)
-drift_put RegIn es p = refl
-drift_put _ es p = refl
+-- what becomes of a register's entries is the same after a drift
+pub drift_put : (r : Register) (f : Entries → Entries) (p : PartStates) → drifted_part (with_entries r (f (entries_of r p)) p) ≡ with_entries r (f (entries_of r (drifted_part p))) (drifted_part p)
+drift_put RegIn f p = refl
+drift_put _ f p = refl
 
-drift_changed : (may_stay : Bool) (r : Register) (c : Change) (h : TwoParts) → two_drifted (two_changed may_stay r c h) ≡ two_changed may_stay r c (two_drifted h)
-drift_changed may_stay r c h = ap two_drifted (changed_is may_stay r c h)
-    ∙ drift_two (λ l. changed_part (l || may_stay) r c) h (λ l p. drift_put r (changed_entries (l || may_stay) c (entries_of r p)) p ∙ ap (λ es. with_entries r (changed_entries (l || may_stay) c es) (drifted_part p)) (sym (same_entries r p (drifted p.pairs))))
-    ∙ sym (changed_is may_stay r c (two_drifted h))
+-- what is made aside where there is a state, and then put in place
+changed_is : (may_stay : Bool) (r : Register) (c : Change) (h : TwoParts) → two_changed may_stay r c h ≡ map_two (λ l. where_live (part_effect may_stay (effect.Change r c) l)) h
+changed_is m r c h = two_same (two_changed m r c h) (map_two (λ l. where_live (part_effect m (effect.Change r c) l)) h) (by (is_live h.remote)) refl
+  where
+    es : Entries
+    es = changed_entries m c (entries_of r h.remote)
 
-pub drift_below : (h : TwoParts) → TwoBelow h → TwoBelow (two_drifted h)
-drift_below h below false r = subst (λ es. BelowDay es.times) (sym (same_entries r h.remote (drifted h.remote.pairs))) (below false r)
-drift_below h below true r = subst (λ es. BelowDay es.times) (sym (same_entries r h.local (drifted h.local.pairs))) (below true r)
+    by : (b : Bool) → put_aside r (if b then Some es else None) h.remote ≡ (if b then with_entries r es h.remote else h.remote)
+    by true = refl
+    by false = refl
 
-pub drift_whole : (h : TwoParts) → TwoWhole h → TwoWhole (two_drifted h)
-drift_whole h whole = record { remote = whole_drift h.remote whole.remote; local = whole_drift h.local whole.local }
+-- what becomes of the registers, and then a drift
+pub after_effect : (may_stay : Bool) (e : Effect) (h : TwoParts) → is_by_part e ≡ true → ((l : Bool) (p : PartStates) → drifted_part (part_effect may_stay e l p) ≡ part_effect may_stay e l (drifted_part p)) → TwoWhole h
+    → ((l : Bool) → Below e (in_local (two_drifted h) l)) → HasEffect may_stay e (two_drifted h) (two_drifted (map_two (λ l. where_live (part_effect may_stay e l)) h))
+after_effect m e h by same whole below = rw (drift_two (part_effect m e) h same) (has_effect m e (two_drifted h) by (drift_whole h whole) below)
 
-pub after_change : (may_stay : Bool) (r : Register) (c : Change) (h g k : TwoParts) → g ≡ two_changed may_stay r c h → k ≡ two_drifted g → TwoWhole h → TwoBelow h → TwoBelow g → HasEffect may_stay (effect.Change r c) (two_drifted h) k
-after_change may_stay r c h g k changed drifted whole below after =
-    subst (HasEffect may_stay (effect.Change r c) (two_drifted h)) (sym (drifted ∙ ap two_drifted changed ∙ drift_changed may_stay r c h))
-    (has_change may_stay r c (two_drifted h) (drift_whole h whole) (drift_below h below) (subst TwoBelow (ap two_drifted changed ∙ drift_changed may_stay r c h) (drift_below g after)))
+pub after_change : (may_stay : Bool) (r : Register) (c : Change) (h : TwoParts) → TwoWhole h → TwoBelow h → HasEffect may_stay (effect.Change r c) (two_drifted h) (two_drifted (two_changed may_stay r c h))
+after_change m r c h whole below = subst (λ g. HasEffect m (effect.Change r c) (two_drifted h) (two_drifted g)) (sym (changed_is m r c h))
+    (after_effect m (effect.Change r c) h refl (λ l. drift_put r (changed_entries (l || m) c)) whole (drift_below h below))
 
-pub after_tape : (may_stay : Bool) (h g k : TwoParts) → g ≡ tape_forgotten h → k ≡ two_drifted g → TwoWhole h → HasEffect may_stay effect.ForgetTape (two_drifted h) k
-after_tape may_stay h g k forgotten drifted whole =
-    subst (HasEffect may_stay effect.ForgetTape (two_drifted h)) (sym (drifted ∙ ap two_drifted forgotten ∙ drift_two (λ l p. all_states) h (λ l p. refl)))
-    (has_forgotten_tape may_stay (two_drifted h) (drift_whole h whole))
-
-pub after_registers : (may_stay : Bool) (h g k : TwoParts) → g ≡ registers_forgotten h → k ≡ two_drifted g → TwoWhole h → HasEffect may_stay effect.ForgetRegisters (two_drifted h) k
-after_registers may_stay h g k forgotten drifted whole =
-    subst (HasEffect may_stay effect.ForgetRegisters (two_drifted h)) (sym (drifted ∙ ap two_drifted forgotten ∙ drift_two (λ l. forgotten_part) h (λ l p. refl)))
-    (has_forgotten_registers may_stay (two_drifted h) (drift_whole h whole))
-
-pub after_all : (may_stay : Bool) (h g k : TwoParts) → g ≡ all_forgotten h → k ≡ two_drifted g → TwoWhole h → HasEffect may_stay effect.ForgetAll (two_drifted h) k
-after_all may_stay h g k forgotten drifted whole =
-    subst (HasEffect may_stay effect.ForgetAll (two_drifted h)) (sym (drifted ∙ ap two_drifted forgotten ∙ by (some_two h) ∙ ap (λ (b : Bool). if b then all_or_none true else two_drifted h) (sym same))) (has_forgotten_all may_stay (two_drifted h) (drift_whole h whole))
+pub after_all : (may_stay : Bool) (h : TwoParts) → TwoWhole h → HasEffect may_stay effect.ForgetAll (two_drifted h) (two_drifted (all_forgotten h))
+after_all m h whole = subst (HasEffect m effect.ForgetAll (two_drifted h)) (sym (by (some_two h) ∙ ap (λ (b : Bool). if b then all_or_none true else two_drifted h)
+    (sym same))) (has_forgotten_all m (two_drifted h) (drift_whole h whole))
   where
     same : some_two (two_drifted h) ≡ some_two h
     same = ap (λ b. b || is_live (drifted_part h.local)) (drift_some h.remote.pairs) ∙ ap (λ b. is_live h.remote || b) (drift_some h.local.pairs)
@@ -208,26 +274,185 @@ after_all may_stay h g k forgotten drifted whole =
     by true = refl
     by false = refl
 
--- what leaves the registers, after a drift
-pub after_goal : (may_stay : Bool) (goal : Mode) (h g k : TwoParts) → g ≡ two_drifted h → k ≡ two_gone may_stay goal g → TwoWhole h → HasEffect may_stay (effect.Go goal) (two_drifted h) k
-after_goal may_stay goal h g k drifted gone whole =
-    subst (HasEffect may_stay (effect.Go goal) (two_drifted h)) (sym (gone ∙ ap (two_gone may_stay goal) drifted)) (has_goal may_stay goal (two_drifted h) (drift_whole h whole))
+-- ---- one after another
 
-pub after_keep_or_stop : (may_stay : Bool) (h g k : TwoParts) → g ≡ two_drifted h → k ≡ two_gone true Stop g → TwoWhole h → HasEffect may_stay effect.KeepOrStop (two_drifted h) k
-after_keep_or_stop may_stay h g k drifted gone whole =
-    subst (HasEffect may_stay effect.KeepOrStop (two_drifted h)) (sym (gone ∙ ap (two_gone true Stop) drifted)) (has_keep_or_stop may_stay (two_drifted h) (drift_whole h whole))
+-- what leads on in one step after another
+pub leads_then : (Goes Then : State → State → Type 0) (first second : Presets → Presets) (h g k : TwoParts) → LeadsOn Goes first h g → LeadsOn Then second g k
+    → LeadsOn (λ s t. (d : State) × Goes s d × Then d t) (λ n. second (first n)) h k
+leads_then Goes Then first second h g k a b = record {
+  reached = λ pn. (
+    λ t i. let d = (b.reached pn).0 t i in let s = (a.reached pn).0 d.0 d.1 in (s.0, s.1, (d.0, s.2, d.2)),
+    λ s t i w. (b.reached pn).1 w.0 t ((a.reached pn).1 s w.0 i w.1) w.2,
+  );
+  whole = b.whole;
+  few = λ n few. b.few (first n) (a.few n few);
+}
+
+-- and in another step to the same states
+pub leads_as : (Goes Other : State → State → Type 0) (count counts : Presets → Presets) (h g : TwoParts) → ((s t : State) → Goes s t → Other s t) → ((s t : State) → InPart (in_local h s.local) s → Other s t → Goes s t)
+    → ((n : Presets) → counts n ≡ count n) → LeadsOn Goes count h g → LeadsOn Other counts h g
+leads_as Goes Other count counts h g there back same leads = record {
+  reached = λ pn. (λ t i. let a = (leads.reached pn).0 t i in (a.0, a.1, there a.0 t a.2), λ s t i other. (leads.reached pn).1 s t i (back s t i.1 other));
+  whole = leads.whole;
+  few = λ n few. subst (λ m. TwoFew m g) (sym (same n)) (leads.few n few);
+}
+
+pub leads_same : (h : TwoParts) → TwoWhole h → LeadsOn (λ s t. t ≡ s) (λ n. n) h h
+leads_same h whole = record { reached = λ pn. (λ t i. (t, i, refl), λ s t i e. subst (InTwo pn h) (sym e) i); whole = whole; few = λ n few. few }
 
 -- nothing but a drift
-after_drift : (may_stay : Bool) (e : Effect) (h k : TwoParts) → ((s t : State) → t ≡ s → DoesOrNot may_stay e s t) → ((s t : State) → DoesOrNot may_stay e s t → t ≡ s) → ((n : Presets) → counted e n ≡ n) → k ≡ two_drifted h → TwoWhole h
-    → HasEffect may_stay e (two_drifted h) k
-after_drift may_stay e h k there back same drifted whole = subst (HasEffect may_stay e (two_drifted h)) (sym drifted) (record {
-  reached = λ pn. reached_by (InTwo pn (two_drifted h)) (InTwo pn (two_drifted h)) (λ s t. t ≡ s) (DoesOrNot may_stay e) there back (reached_same (InTwo pn (two_drifted h)));
-  whole = drift_whole h whole;
-  few = λ n few. subst (λ m. TwoFew m (two_drifted h)) (sym (same n)) few;
-})
+pub after_drift : (may_stay : Bool) (e : Effect) (h : TwoParts) → ((s t : State) → (t ≡ s) → Does hands.None e s t) → ((s t : State) → Does hands.None e s t → t ≡ s)
+    → ((n : Presets) → counted e n ≡ n) → TwoWhole h → HasEffect may_stay e (two_drifted h) (two_drifted h)
+after_drift m e h there back same whole = leads_as (λ s t. t ≡ s) (DoesOrNot m e) (λ n. n) (counted e) (two_drifted h) (two_drifted h)
+    (λ s t e. inl (there s t e)) (λ s t i d. elim d [ inl does ↦ back s t does | inr (may, stays, e) ↦ e ]) same (leads_same (two_drifted h) (drift_whole h whole))
 
-pub after_nothing : (may_stay : Bool) (h k : TwoParts) → k ≡ two_drifted h → TwoWhole h → HasEffect may_stay effect.Nothing (two_drifted h) k
-after_nothing may_stay h k = after_drift may_stay effect.Nothing h k (λ s t e. inl e) (λ s t d. elim d [ inl e ↦ e | inr (may, local, e) ↦ e ]) (λ n. refl)
+-- ---- a register's time
 
-pub after_panel_none : (may_stay on : Bool) (h k : TwoParts) → k ≡ two_drifted h → TwoWhole h → HasEffect may_stay (effect.Panel on) (two_drifted h) k
-after_panel_none may_stay on h k = after_drift may_stay (effect.Panel on) h k (λ s t e. inl e) (λ s t d. elim d [ inl e ↦ e | inr (may, local, e) ↦ e ]) (λ n. refl)
+-- exactly the states whose register tells these bytes
+sense_exactly : (r : Register) (bytes : List ℕ) (p : PartStates) (t : State) → InPart (sensed_part r (time_of bytes) p) t ↔ (InPart p t × Tells (entry_of r t) bytes)
+sense_exactly r bytes p t =
+    let new = agreeing (time_of bytes) (entries_of r p) in
+    let e = entry_of r t in (
+      λ i.
+          let there = settled_from (with_entries r new p) t i in
+          let w = tells_from bytes (entries_of r p) e (subst (λ es. Allows es e) (read_put r new p) (there.registers r)) in
+          (subst (InPart p) (put r e t).own (take_out r new p e t there w.0), w.1),
+      λ (i, told). settled_to (with_entries r new p) t (subst (InPart (with_entries r new p)) (put r e t).own (put_in r new p e t i (tells_to bytes (entries_of r p) e (i.registers r) told))),
+    )
+
+-- ---- status
+
+pub masked_has : (mask : ModeSet) (p : List ModeSet) (g m : Mode) → has_pair (masked mask p) g m ≡ (has_pair p g m && has mask.0 m)
+masked_has mask p g m = pair_by_goal (λ f. both (shown_with p f) mask) g m ∙ has-and (shown_with p g).0 mask.0 m
+
+agrees_exactly : (l : Bool) (d : Option ℕ) → (agrees_local l d ≡ true) ↔ Says 0x01 l d
+agrees_exactly true None = (λ e. tt, λ e. refl)
+agrees_exactly false None = (λ e. tt, λ e. refl)
+agrees_exactly true (Some byte) = (λ e. e, λ e. e)
+agrees_exactly false (Some byte) = (λ e. not-true (bit_and byte 0x01 == 0x01) e, λ e. ap not e)
+
+-- the factors that agree with the modes and with datum 3
+abbrev pub shown_factors : ModeSet → Option ℕ → PartStates → PartStates
+shown_factors mask d p = said_part d (with_pairs (masked mask p.pairs) p)
+
+-- exactly the states with which status data agree
+status_exactly : (asked : ℕ) (reply : Block) (agree : Bool → Bool) (mask : ModeSet) → ((l : Bool) → agree l ≡ agrees_local l (datum asked reply 0))
+    → ((m : Mode) → has mask.0 m ≡ may_show (datum asked reply 1) (datum asked reply 2) m)
+    → (p : PartStates) (t : State) → InPart (status_part (agree t.local) mask (datum asked reply 3) p) t ↔ (InPart p t × ShowsStatus t asked reply)
+status_exactly asked reply agree mask agrees modes p t =
+    let d = datum asked reply 3 in (
+      λ i. cond_both (agree t.local) (shown_part mask d p) no_states (λ q. InPart q t → InPart p t × ShowsStatus t asked reply) (λ here i.
+          let there = settled_from (shown_factors mask d p) t i in
+          let pair = and_parts (has_pair p.pairs t.goal t.shown) (has mask.0 t.shown) (sym (masked_has mask p.pairs t.goal t.shown) ∙ there.pair) in
+          let a = (says_exactly 0x01 d p.ins t.ins).0 (there.registers RegIn) in let b = (says_exactly 0x02 d p.outs t.outs).0 (there.registers RegOut) in
+          let c = (says_exactly 0x04 d p.ains t.ains).0 (there.registers RegAudioIn) in let e = (says_exactly 0x08 d p.aouts t.aouts).0 (there.registers RegAudioOut) in (
+            record { pair = pair.0; registers = each_register _ a.0 b.0 c.0 e.0 },
+            record { local = (agrees_exactly t.local (datum asked reply 0)).0 (sym (agrees t.local) ∙ here); shown = sym (modes t.shown) ∙ pair.1; ins = a.1; outs = b.1; ains = c.1; aouts = e.1 },
+          )) (λ e i. in_none t i) i,
+      λ (i, h). rw (agrees t.local ∙ (agrees_exactly t.local (datum asked reply 0)).1 h.local) (settled_to (shown_factors mask d p) t (record {
+        pair = masked_has mask p.pairs t.goal t.shown ∙ and_from (has_pair p.pairs t.goal t.shown) (has mask.0 t.shown) i.pair (modes t.shown ∙ h.shown);
+        registers = each_register _ ((says_exactly 0x01 d p.ins t.ins).1 (i.registers RegIn, h.ins)) ((says_exactly 0x02 d p.outs t.outs).1 (i.registers RegOut, h.outs))
+            ((says_exactly 0x04 d p.ains t.ains).1 (i.registers RegAudioIn, h.ains)) ((says_exactly 0x08 d p.aouts t.aouts).1 (i.registers RegAudioOut, h.aouts));
+      })),
+    )
+
+pub reads_status : (asked : ℕ) (reply : Block) (a : LocalFits) (mask : ModeSet) (h : TwoParts) → a.remote ≡ agrees_local false (datum asked reply 0) → a.local ≡ agrees_local true (datum asked reply 0)
+    → ((m : Mode) → has mask.0 m ≡ may_show (datum asked reply 1) (datum asked reply 2) m) → TwoWhole h → ReadsStatus asked reply h (two_status a mask (datum asked reply 3) h)
+reads_status asked reply a mask h remote local modes whole = reads (λ s. ShowsStatus s asked reply) (λ l. status_part (agree l) mask d) h whole (status_exactly asked reply agree mask agree_is modes)
+    (λ l p. cond_both (agree l) (shown_part mask d p) no_states Whole (λ e. whole_settled (shown_factors mask d p)) (λ e. whole_none))
+    (λ l n p h. cond_both (agree l) (shown_part mask d p) no_states (FewIn n) (λ e. few_settled n (shown_factors mask d p) (each_register _ (few_said n.ins (bit_in 0x01 d) p.ins (h RegIn))
+    (few_said n.outs (bit_in 0x02 d) p.outs (h RegOut)) (few_said n.ains (bit_in 0x04 d) p.ains (h RegAudioIn)) (few_said n.aouts (bit_in 0x08 d) p.aouts (h RegAudioOut)))) (λ e. few_no_states n))
+  where
+    d : Option ℕ
+    d = datum asked reply 3
+
+    agree : Bool → Bool
+    agree l = if l then a.local else a.remote
+
+    agree_is : (l : Bool) → agree l ≡ agrees_local l (datum asked reply 0)
+    agree_is true = local
+    agree_is false = remote
+
+-- ---- whole exchanges
+
+-- a command that asks for something of the state has no effect
+pub sense_effect : (c : Command) (r : Register) → sense_of c ≡ sense.Register r → effect_of c ≡ effect.Nothing
+sense_effect command.InDataSense r e = refl
+sense_effect _ r e = cc
+
+pub status_effect : (c : Command) (asked : ℕ) → sense_of c ≡ sense.Status asked → effect_of c ≡ effect.Nothing
+status_effect (command.StatusSense a) asked e = refl
+status_effect _ asked e = cc
+
+-- the presets are those of the effect
+pub command_counts : (c : Command) (n : Presets) → with_command c n ≡ counted (effect_of c) n
+command_counts (command.Unlisted group) n = let P : Effect → Type 0 = λ e. n ≡ counted e n in cond_both (group == 2) effect.ForgetTape _ P (λ e. refl) (λ e.
+    cond_both (group == 4) effect.ForgetRegisters _ P (λ e. refl) (λ e. cond_both (group == 6) effect.Nothing effect.ForgetAll P (λ e. refl) (λ e. refl)))
+command_counts _ n = refl
+
+pub presets_of : (c : Command) (reply : Block) (n : Presets) → is_nak reply ≡ false → presets_after c reply true n ≡ counted (effect_of c) n
+presets_of c reply n nak = rw nak (command_counts c n)
+
+-- a drift, and then a step
+exchanged_by : (c : Command) (reply : Block) (Goes : State → State → Type 0) (count : Presets → Presets) (h g : TwoParts) → TwoWhole h → ((s t : State) → Goes s t ↔ Step hands.None c reply s t)
+    → ((n : Presets) → presets_after c reply true n ≡ count n) → LeadsOn Goes count (two_drifted h) g → Exchanged c reply h g
+exchanged_by c reply Goes count h g whole steps same leads = leads_then (Drift hands.None) (Step hands.None c reply) (λ n. n) (presets_after c reply true) h (two_drifted h) g (drift_leads h whole)
+    (leads_as Goes (Step hands.None c reply) count (presets_after c reply true) (two_drifted h) g (λ s t. (steps s t).0) (λ s t i. (steps s t).1) same leads)
+
+pub exchanged_nak : (c : Command) (reply : Block) (h : TwoParts) → is_nak reply ≡ true → TwoWhole h → Exchanged c reply h (two_drifted h)
+exchanged_nak c reply h nak whole = exchanged_by c reply (λ s t. t ≡ s) (λ n. n) h (two_drifted h) whole (λ s t. (λ e. refused nak e, back s t)) (λ n. rw nak refl) (leads_same (two_drifted h) (drift_whole h whole))
+  where
+    back : (s t : State) → Step hands.None c reply s t → t ≡ s
+    back s t (refused was e) = e
+    back s t (done was shows does) = absurd (false≢true (sym was ∙ nak))
+    back s t (ignored was shows may local e) = e
+
+-- a step of a command that asks for something is what its reply shows
+asks : (c : Command) (reply : Block) (q : Sense) → is_nak reply ≡ false → sense_of c ≡ q → effect_of c ≡ effect.Nothing → (s t : State) → (Agrees q s reply × (t ≡ s)) ↔ Step hands.None c reply s t
+asks c reply q nak sensed none s t = (λ w. done nak (rw sensed w.0) (rw none w.1), back)
+  where
+    back : Step hands.None c reply s t → Agrees q s reply × (t ≡ s)
+    back (refused was e) = absurd (false≢true (sym nak ∙ was))
+    back (done was shows does) = (rw sensed at shows, rw none at does)
+    back (ignored was shows may local e) = (rw sensed at shows, e)
+
+drift_settled : (p : PartStates) → drifted_part (settled p) ≡ settled (drifted_part p)
+drift_settled p = rw (drift_some p.pairs) (elim (is_live p && some_entry p.ins && some_entry p.outs && some_entry p.ains && some_entry p.aouts)
+    as (λ b. drifted_part (if b then p else no_states) ≡ (if b then drifted_part p else no_states)) [ true ↦ refl | false ↦ refl ])
+
+drift_sensed : (r : Register) (time : Option ℕ) (h : TwoParts) → two_drifted (two_sensed r time h) ≡ map_two (λ l. where_live (sensed_part r time)) (two_drifted h)
+drift_sensed r time h = ap two_drifted (two_same _ (map_two (λ l. where_live (sensed_part r time)) h) (by h.remote (is_live h.remote)) (by h.local (is_live h.local)))
+    ∙ drift_two (λ l. sensed_part r time) h (λ l p. drift_settled (with_entries r (agreeing time (entries_of r p)) p) ∙ ap settled (drift_put r (agreeing time) p))
+  where
+    by : (p : PartStates) (b : Bool) → put_settled r (if b then Some (agreeing time (entries_of r p)) else None) p ≡ (if b then sensed_part r time p else p)
+    by p true = refl
+    by p false = refl
+
+pub exchanged_sense : (c : Command) (reply : Block) (r : Register) (h : TwoParts) → is_nak reply ≡ false → sense_of c ≡ sense.Register r → TwoWhole h
+    → Exchanged c reply h (two_drifted (two_sensed r (time_of reply.bytes.items) h))
+exchanged_sense c reply r h nak asked whole =
+    let bytes = reply.bytes.items in
+    let at = time_of bytes in
+    let none = sense_effect c r asked in
+    rw (drift_sensed r at h) (exchanged_by c reply (λ s t. Tells (entry_of r s) bytes × (t ≡ s)) (λ n. n) h (map_two (λ l. where_live (sensed_part r at)) (two_drifted h)) whole
+    (asks c reply (sense.Register r) nak asked none) (λ n. presets_of c reply n nak ∙ ap (λ e. counted e n) none)
+    (reads (λ s. Tells (entry_of r s) bytes) (λ l. sensed_part r at) (two_drifted h) (drift_whole h whole) (sense_exactly r bytes) (λ l p. whole_settled (with_entries r (agreeing at (entries_of r p)) p))
+    (λ l n p few. few_settled n _ (few_put n r (agreeing at (entries_of r p)) p few (few_agreeing _ at (entries_of r p))))))
+
+pub exchanged_status : (c : Command) (reply : Block) (asked : ℕ) (h g : TwoParts) → is_nak reply ≡ false → sense_of c ≡ sense.Status asked → TwoWhole h → ReadsStatus asked reply (two_drifted h) g → Exchanged c reply h g
+exchanged_status c reply asked h g nak asks_for whole read =
+    let none = status_effect c asked asks_for in
+    exchanged_by c reply (λ s t. ShowsStatus s asked reply × (t ≡ s)) (λ n. n) h g whole (asks c reply (sense.Status asked) nak asks_for none) (λ n. presets_of c reply n nak ∙ ap (λ e. counted e n) none) read
+
+pub exchanged_effect : (c : Command) (reply : Block) (h g : TwoParts) → is_nak reply ≡ false → sense_of c ≡ sense.Nothing → TwoWhole h → HasEffect false (effect_of c) (two_drifted h) g → Exchanged c reply h g
+exchanged_effect c reply h g nak sensed whole =
+    exchanged_by c reply (DoesOrNot false (effect_of c)) (counted (effect_of c)) h g whole (λ s t. (there s t, back s t)) (λ n. presets_of c reply n nak)
+  where
+    there : (s t : State) → DoesOrNot false (effect_of c) s t → Step hands.None c reply s t
+    there s t (inl does) = done nak (rw sensed tt) does
+    there s t (inr (may, stays, e)) = ignored nak (rw sensed tt) (ignored_by_effect c ∙ may) (sym (or-false s.local) ∙ stays) e
+
+    back : (s t : State) → Step hands.None c reply s t → DoesOrNot false (effect_of c) s t
+    back s t (refused was e) = absurd (false≢true (sym nak ∙ was))
+    back s t (done was shows does) = inl does
+    back s t (ignored was shows may local e) = inr (sym (ignored_by_effect c) ∙ may, or-false s.local ∙ local, e)

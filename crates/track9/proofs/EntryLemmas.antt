@@ -1,18 +1,174 @@
--- What becomes of a set of entries, one entry at a time.
-use Rattle.std.proofs.Common.{◌||◌, ◌≡◌, ◌⊎◌, inl, inr, ℕ, ◌<◌, eqb, not, nat_eq, List, [], ◌∷◌, Bool, true, false, refl, sym, ap, subst, ◌∙◌, arith, Option, Some, None, bit_and, ◌==◌}
-use Rattle.std.specs.Prelude.{if◌then◌else◌}
-use Rattle.std.proofs.lemmas.Bool.{both_ways, cond_both, eqb-true, false≢true, ltb-true, not-true, or_cases, or_left, or_right, true_from_ne_false}
-use Rattle.std.proofs.lemmas.Bool.Decides.{nat_tests}
-use Rattle.std.specs.Ordering.{nat_cmp}
-use Rattle.std.specs.Cmp.{nat_cmp_total}
-use Rattle.std.specs.List.{list_any}
+-- Single things that a tracker keeps: sets of modes, one bit at a time; a drift of pairs of goal and shown mode; and what becomes of a set of entries, one entry at a time.
+use Rattle.track9.proofs.Words.{[], agreeing, Allows, and-false, and-true, and_mask, and_parts, and_pow, ap, arith, At, Becomes, BelowDay, bit_and, bit_at, bit_at-lt}
+use Rattle.track9.proofs.Words.{bit_at-pow_other, bit_at-pow_same, bit_at-zero, bit_at_and, bit_at_or, bit_in, bit_of, bit_or, Bool, both_ways, by_goal, cases_Bool, cases_eq}
+use Rattle.track9.proofs.Words.{Change, changed_entries, Clear, cond_both, contains-every_time, contains-insert_nat, contains-items_nat, contains-just, Cued, day}
+use Rattle.track9.proofs.Words.{drifted_with, either, Eject, Entries, Entry, eq-eqb, eqb, eqb-true, every_time, false, false_from_ne_true, false≢true, FastForward, goal_if_shown}
+use Rattle.track9.proofs.Words.{goals_of, goes, halted, has, has_pair, if◌then◌else◌, image_from, image_to, index-mode_of, index_of, inl, inr, is_mode, is_mode-same, is_nil}
+use Rattle.track9.proofs.Words.{is_one_of, is_set, is_some, Jog, just, kept_goal, List, list_any, ltb-true, mod-lt, Mode, mode_of, modes, ModeSet, moved_entry, nat_cmp}
+use Rattle.track9.proofs.Words.{nat_cmp_total, nat_eq, nat_tests, Next, next_frame, no_entries, None, not, not-true, of_modes, on_the_way, Option, or-false, or-true, or_assoc}
+use Rattle.track9.proofs.Words.{or_cases, or_left, or_right, PairReaches, Play, pow_pos, Prev, prev_frame, ReadsAs-from_time_of, Rec, Recall, refl, Reset, Rewind, said}
+use Rattle.track9.proofs.Words.{same_from_bits_below, same_mode, same_test, same_times, Says, SetAt, SetSomewhere, shown_with, Shuttle, Some, some_entry, some_pair, Stop, subst}
+use Rattle.track9.proofs.Words.{sym, Tells, time_of, time_of-from_ReadsAs, Times, true, true_from_ne_false, Var, ℕ, ◌&&◌, ◌*◌, ◌<◌, ◌==◌, ◌^◌, ◌||◌, ◌↔◌, ◌∙◌, ◌∷◌, ◌≡◌, ◌⊎◌}
 use Rattle.std.specs.FinSet as set
-use Rattle.track9.specs.Working.Deck.{At, Becomes, BelowDay, Change, Clear, Entry, Next, Prev, Recall, Reset, Says, SetAt, SetSomewhere, Tells, Times, day, every_time, image}
-use Rattle.track9.specs.Working.Deck.{is_set, just, moved_entry, next_frame, prev_frame, time_of}
-use Rattle.tc25.proofs.DayLemmas.{ReadsAs-from_time_of, time_of-from_ReadsAs}
-use Rattle.tc25.specs.Working.TimesWhere.{contains-every_time}
-use Rattle.tc25.proofs.TimesLemmas.{contains-insert_nat, contains-items_nat, contains-just, image_from, image_to, same_test, same_times}
-use Rattle.track9.proofs.Sets.{Allows, Entries, agreeing, bit_in, changed, is_nil, no_entries, said, some_entry, widened}
+
+scaled : (b k : ℕ) → b < 2 → (b * 2 ^ k == 2 ^ k) ≡ (b == 1)
+scaled b k h = grind (arith, nat_tests, pow_pos k)
+
+-- a set has a mode where its bit is 1
+pub has-bit : (set : ℕ) (m : Mode) → has set m ≡ (bit_at set (index_of m) == 1)
+has-bit set m = ap (λ x. x == bit_of m) (and_pow set (index_of m)) ∙ scaled (bit_at set (index_of m)) (index_of m) (bit_at-lt set (index_of m))
+
+pub has-or : (a b : ℕ) (m : Mode) → has (bit_or a b) m ≡ (has a m || has b m)
+has-or a b m = let k = index_of m in rw (has-bit (bit_or a b) m, has-bit a m, has-bit b m, bit_at_or a b k) (grind (arith, nat_tests, bit_at-lt a k, bit_at-lt b k))
+
+pub has-and : (a b : ℕ) (m : Mode) → has (bit_and a b) m ≡ (has a m && has b m)
+has-and a b m = let k = index_of m in rw (has-bit (bit_and a b) m, has-bit a m, has-bit b m, bit_at_and a b k) (grind (arith, nat_tests, bit_at-lt a k, bit_at-lt b k))
+
+-- every mode
+abbrev pub all_modes : List Mode
+all_modes = Stop ∷ Play ∷ Rec ∷ FastForward ∷ Rewind ∷ Shuttle ∷ Jog ∷ Var ∷ Cued ∷ Eject ∷ []
+
+-- what is asked of every mode is asked of this one
+pub has_every : (asked : Mode → Bool) (m : Mode) → list_any (λ x. is_mode m x && asked x) all_modes ≡ asked m
+has_every asked Stop = or-false (asked Stop)
+has_every asked m = or-false (asked m)
+
+-- ---- one mode
+
+-- the bit of a mode is its own
+pub just_mode : (g m : Mode) → has (bit_of g) m ≡ true → m ≡ g
+just_mode g m h = elim (cases_eq (index_of m) (index_of g)) [
+  | inl same ↦ same_mode m g same
+  | inr other ↦ absurd (false≢true (sym (has-bit (bit_of g) m ∙ ap (λ b. b == 1) (bit_at-pow_other (index_of g) (index_of m) other)) ∙ h))
+]
+
+pub mode_just : (m : Mode) → has (bit_of m) m ≡ true
+mode_just m = has-bit (bit_of m) m ∙ ap (λ b. b == 1) (bit_at-pow_same (index_of m))
+
+pub mode_self : (m : Mode) → is_mode m m ≡ true
+mode_self m = eq-eqb (index_of m) (index_of m) refl
+
+pub just_has : (m n : Mode) → has (bit_of m) n ≡ is_mode n m
+just_has m n = same_test (has (bit_of m) n) (is_mode n m)
+    (λ h. subst (λ k. is_mode k m ≡ true) (sym (just_mode m n h)) (mode_self m))
+    (λ h. subst (λ k. has (bit_of m) k ≡ true) (sym (is_mode-same n m h)) (mode_just m))
+
+pub all_has : (m : Mode) → has 1023 m ≡ true
+all_has Stop = refl
+all_has _ = refl
+
+pub nothing_has : (m : Mode) → has 0 m ≡ false
+nothing_has m = has-bit 0 m ∙ ap (λ b. b == 1) (bit_at-zero (index_of m))
+
+-- a set of modes, one at a time
+pub of_modes_has : (ms : List Mode) (m : Mode) → has (of_modes ms).0 m ≡ is_one_of ms m
+of_modes_has [] m = nothing_has m
+of_modes_has (x ∷ ms) m = has-or (bit_of x) (of_modes ms).0 m ∙ ap (λ b. b || has (of_modes ms).0 m) (just_has x m) ∙ ap (λ b. is_mode m x || b) (of_modes_has ms m)
+
+-- ---- some mode
+
+find_mode : (f : Mode → Bool) (ms : List Mode) → list_any f ms ≡ true → (m : Mode) × (f m ≡ true)
+find_mode f [] h = absurd (false≢true h)
+find_mode f (m ∷ ms) h = elim (or_cases (f m) (list_any f ms) h) [ inl here ↦ (m, here) | inr rest ↦ find_mode f ms rest ]
+
+any_mode : (f : Mode → Bool) (m : Mode) → f m ≡ true → list_any f all_modes ≡ true
+any_mode f Stop h = simp h
+any_mode f _ h = simp (h, or-true)
+
+pub some_or_none : (f : Mode → Bool) → ((m : Mode) × (f m ≡ true)) ⊎ ((m : Mode) → f m ≡ false)
+some_or_none f = elim (cases_Bool (list_any f all_modes)) [
+  | inl some ↦ inl (find_mode f all_modes some)
+  | inr none ↦ inr (λ m. false_from_ne_true (f m) (λ h. both_ways (list_any f all_modes) none (any_mode f m h)))
+]
+
+pub ten_bits : (n : ℕ) → bit_and n 1023 < 1024
+ten_bits n = rw (and_mask n 10) (mod-lt n (pow_pos 10))
+
+-- the ten bits alone
+pub has_ten : (s : ℕ) (n : Mode) → has (bit_and s 0x3FF) n ≡ has s n
+has_ten s n = has-and s 0x3FF n ∙ ap (λ b. has s n && b) (all_has n) ∙ and-true (has s n)
+
+same_bit : (a b : ℕ) → a < 2 → b < 2 → (a == 1) ≡ (b == 1) → a ≡ b
+same_bit a b p q h = grind (arith, nat_tests)
+
+-- ten bits are told apart by their modes
+pub same_modes : (a b : ℕ) → a < 1024 → b < 1024 → ((m : Mode) → has a m ≡ has b m) → a ≡ b
+same_modes a b p q same = same_from_bits_below 10 a b p q (λ i h. same_bit (bit_at a i) (bit_at b i) (bit_at-lt a i) (bit_at-lt b i)
+    (subst (λ k. (bit_at a k == 1) ≡ (bit_at b k == 1)) (index-mode_of i h) (sym (has-bit a (mode_of i)) ∙ same (mode_of i) ∙ has-bit b (mode_of i))))
+
+pub some_mode : (s : ModeSet) → is_some s ≡ true → (m : Mode) × (has s.0 m ≡ true)
+some_mode s h = elim (some_or_none (has s.0)) [
+  | inl w ↦ w
+  | inr none ↦ let no : bit_and s.0 1023 ≡ 0 = same_modes (bit_and s.0 1023) 0 (ten_bits s.0) (pow_pos 10) (λ m. has_ten s.0 m ∙ none m ∙ sym (nothing_has m)) in
+      absurd (false≢true (ap (λ n. not (n == 0)) (sym no) ∙ h))
+]
+
+pub mode_some : (s : ModeSet) (m : Mode) → has s.0 m ≡ true → is_some s ≡ true
+mode_some s m h = elim (cases_eq (bit_and s.0 1023) 0) [
+  | inl none ↦ absurd (false≢true (sym (nothing_has m) ∙ ap (λ n. has n m) (sym none) ∙ has-and s.0 1023 m ∙ rw (h, all_has m) refl))
+  | inr some ↦ grind (arith, nat_tests)
+]
+
+-- ---- pairs
+
+pub or2 : (a b : ModeSet) (m : Mode) → has (either a b).0 m ≡ true → (has a.0 m ≡ true) ⊎ (has b.0 m ≡ true)
+or2 a b m h = or_cases _ _ (sym (has-or a.0 b.0 m) ∙ h)
+
+-- the modes that are shown with a goal, of pairs that are given by goal
+pub pair_by_goal : (f : Mode → ModeSet) (g m : Mode) → has_pair (by_goal f) g m ≡ has (f g).0 m
+pair_by_goal f Stop m = refl
+pair_by_goal f _ m = refl
+
+-- a mode may be shown where it is shown with some goal
+goes_any : (p : List ModeSet) (m : Mode) → has (goes p).0 m ≡ list_any (λ g. has_pair p g m) all_modes
+goes_any p m = simp (has-or, or_assoc, or-false)
+
+pub goes_from : (p : List ModeSet) (m : Mode) → has (goes p).0 m ≡ true → (g : Mode) × (has_pair p g m ≡ true)
+goes_from p m h = find_mode (λ g. has_pair p g m) all_modes (sym (goes_any p m) ∙ h)
+
+pub goes_to : (p : List ModeSet) (g m : Mode) → has_pair p g m ≡ true → has (goes p).0 m ≡ true
+goes_to p g m h = goes_any p m ∙ any_mode (λ g. has_pair p g m) g h
+
+pub pairs_some : (p : List ModeSet) (g m : Mode) → has_pair p g m ≡ true → is_some (goes p) ≡ true
+pairs_some p g m h = mode_some (goes p) m (goes_to p g m h)
+
+if_has : (b : Bool) (f m : Mode) → has (if b then modes (bit_of f) else modes 0).0 m ≡ (is_mode m f && b)
+if_has true f m = just_has f m ∙ sym (and-true (is_mode m f))
+if_has false f m = nothing_has m ∙ sym (and-false (is_mode m f))
+
+-- a goal is one of all where some mode is shown with it
+pub goals_has : (p : List ModeSet) (g : Mode) → has (goals_of p).0 g ≡ is_some (shown_with p g)
+goals_has p g = goes_any (by_goal (goal_if_shown p)) g ∙ simp if_has (has_every (λ f. is_some (shown_with p f)) g)
+
+-- ---- a drift
+
+kept_has : (b : Bool) (s : ModeSet) (g m : Mode) → has (kept_goal b s g).0 m ≡ (has s.0 m || (b && (is_mode m g || is_one_of (on_the_way g) m)))
+kept_has false s g m = sym (or-false (has s.0 m))
+kept_has true s g m = simp (has-or, just_has, of_modes_has, or_assoc)
+
+-- a mode may be shown with a goal after a drift: as before; where a mode was shown with it, itself or on the way to it; or STOP with STOP
+pub drifted_has : (p : List ModeSet) (g m : Mode) → has (drifted_with p g).0 m
+    ≡ ((has_pair p g m || (is_some (shown_with p g) && (is_mode m g || is_one_of (on_the_way g) m))) || (is_mode m Stop && (some_pair p && is_mode g Stop)))
+drifted_has p g m = has-or (kept_goal (is_some (shown_with p g)) (shown_with p g) g).0 (halted (some_pair p) g).0 m
+    ∙ ap (λ b. b || has (halted (some_pair p) g).0 m) (kept_has (is_some (shown_with p g)) (shown_with p g) g m)
+    ∙ ap (λ b. (has_pair p g m || (is_some (shown_with p g) && (is_mode m g || is_one_of (on_the_way g) m))) || b) (if_has (some_pair p && is_mode g Stop) Stop m)
+
+pub drifted_from : (p : List ModeSet) (g m : Mode) → has (drifted_with p g).0 m ≡ true → (f : Mode) × (n : Mode) × (has_pair p f n ≡ true) × PairReaches f n g m
+drifted_from p g m h = elim (or_cases _ _ (sym (drifted_has p g m) ∙ h)) [
+  | inl kept ↦ elim (or_cases _ _ kept) [
+    | inl same ↦ (g, m, same, inl (refl, inl refl))
+    | inr moved ↦ let w = and_parts _ _ moved in let n = some_mode (shown_with p g) w.0 in
+        (g, n.0, n.1, inl (refl, inr (elim (or_cases _ _ w.1) [ inl e ↦ inl (is_mode-same m g e) | inr e ↦ inr e ])))
+  ]
+  | inr stop ↦ let w = and_parts _ _ stop in let v = and_parts _ _ w.1 in let n = some_mode (goes p) v.0 in let f = goes_from p n.0 n.1 in
+      (f.0, n.0, f.1, inr (is_mode-same g Stop v.1, is_mode-same m Stop w.0))
+]
+
+pub drifted_to : (p : List ModeSet) (f n g m : Mode) → has_pair p f n ≡ true → PairReaches f n g m → has (drifted_with p g).0 m ≡ true
+drifted_to p f n g m h (inl (same, inl stays)) = drifted_has p g m ∙ rw (same, stays, h) refl
+drifted_to p f n g m h (inl (same, inr (inl at_goal))) = drifted_has p g m ∙ rw (same, at_goal, mode_some (shown_with p f) n h, mode_self f, or-true) refl
+drifted_to p f n g m h (inl (same, inr (inr on_way))) = drifted_has p g m ∙ rw (same, mode_some (shown_with p f) n h, on_way) (simp or-true)
+drifted_to p f n g m h (inr (stop, shown)) = drifted_has p g m ∙ rw (stop, shown, pairs_some p f n h) (simp or-true)
 
 pub in_day : (t : ℕ) → set.contains every_time t ≡ true → t < day
 in_day t h = ltb-true t day (sym (contains-every_time t) ∙ h)
@@ -26,86 +182,67 @@ just_is t f h = let e : eqb f t ≡ true = sym (contains-just t f) ∙ h in grin
 pub just_self : (t : ℕ) → set.contains (just t) t ≡ true
 just_self t = contains-just t t ∙ grind (arith, nat_tests)
 
--- where an entry came from
-pub changed_from : (c : Change) (es : Entries) (d e : Entry) → Allows es d → Allows (changed c es) e → (f : Entry) × Allows es f × Becomes c f e
-changed_from SetSomewhere es d Clear a h = cc
-changed_from SetSomewhere es d (At t) a h = (d, a, (t, in_day t h, refl))
-changed_from (SetAt u) es d Clear a h = cc
-changed_from (SetAt u) es d (At t) a h = (d, a, ap At (just_is u t h))
-changed_from Reset es d Clear a h = (d, a, refl)
-changed_from Reset es d (At t) a h = absurd (false≢true (sym (set.contains-empty nat_cmp t) ∙ h))
-changed_from Recall es d Clear a h = (d, a, tt)
-changed_from Recall es d (At t) a h = (d, a, in_day t h)
-changed_from _ es d Clear a h = (Clear, h, refl)
-changed_from _ es d (At t) a h = let w = image_from _ es.times t h in (At w.0, w.1, ap At w.2)
-
--- where an entry goes to
-pub changed_to : (c : Change) (es : Entries) (d e : Entry) → Allows es d → Becomes c d e → Allows (changed c es) e
-changed_to SetSomewhere es d e a b = rw b.2 (day_in b.0 b.1)
-changed_to (SetAt u) es d e a b = rw b (just_self u)
-changed_to Reset es d e a b = rw b refl
-changed_to Recall es d Clear a b = refl
-changed_to Recall es d (At t) a b = day_in t b
-changed_to _ es Clear e a b = rw b a
-changed_to _ es (At t) e a b = rw b (image_to _ es.times t a)
+pub from_empty : {P : Type 0} (t : ℕ) → set.contains {R = nat_cmp} set.empty t ≡ true → P
+from_empty t h = absurd (false≢true (sym (set.contains-empty nat_cmp t) ∙ h))
 
 in_union : (s t : Times) (f : ℕ) → set.contains (set.union s t) f ≡ true → (set.contains s f ≡ true) ⊎ (set.contains t f ≡ true)
 in_union s t f h = or_cases (set.contains s f) (set.contains t f) (sym (set.contains-union nat_cmp_total s t f) ∙ h)
 
-left_union : (s t : Times) (f : ℕ) → set.contains s f ≡ true → set.contains (set.union s t) f ≡ true
-left_union s t f h = set.contains-union nat_cmp_total s t f ∙ rw h refl
+-- where an entry came from that became one of these, or stayed where it may
+pub entry_from : (may_stay : Bool) (c : Change) (es : Entries) (d e : Entry) → Allows es d → Allows (changed_entries may_stay c es) e
+    → ((f : Entry) × Allows es f × Becomes c f e) ⊎ ((may_stay ≡ true) × Allows es e)
+entry_from false (SetAt u) es d Clear a h = cc
+entry_from b Recall es d Clear a h = inl (d, a, tt)
+entry_from b Recall es d (At t) a h = inl (d, a, in_day t h)
+entry_from b SetSomewhere es d (At t) a h = inl (d, a, (t, in_day t h, refl))
+entry_from b Reset es d Clear a h = inl (d, a, refl)
+entry_from false Reset es d (At t) a h = from_empty t h
+entry_from false SetSomewhere es d Clear a h = cc
+entry_from false (SetAt u) es d (At t) a h = inl (d, a, ap At (just_is u t h))
+entry_from false _ es d Clear a h = inl (Clear, h, refl)
+entry_from false _ es d (At t) a h = let w = image_from _ es.times t h in inl (At w.0, w.1, ap At w.2)
+entry_from true (SetAt u) es d (At t) a h =
+    elim (or_cases (eqb t u) (set.contains es.times t) (sym (contains-insert_nat es.times u t) ∙ h)) [ inl e ↦ inl (d, a, ap At (eqb-true t u e)) | inr e ↦ inr (refl, e) ]
+entry_from true Next es d (At t) a h = elim (in_union es.times _ t h) [ inl e ↦ inr (refl, e) | inr e ↦ let w = image_from next_frame es.times t e in inl (At w.0, w.1, ap At w.2) ]
+entry_from true Prev es d (At t) a h = elim (in_union es.times _ t h) [ inl e ↦ inr (refl, e) | inr e ↦ let w = image_from prev_frame es.times t e in inl (At w.0, w.1, ap At w.2) ]
+entry_from true _ es d e a h = inr (refl, h)
 
--- what a deck in local may do: all that it is asked, or nothing
-pub widened_from : (c : Change) (es : Entries) (d e : Entry) → Allows es d → Allows (widened c es) e → ((f : Entry) × Allows es f × Becomes c f e) ⊎ Allows es e
-widened_from (SetAt u) es d (At t) a h = elim (or_cases (eqb t u) (set.contains es.times t) (sym (contains-insert_nat es.times u t) ∙ h)) [ inl e ↦ inl (d, a, ap At (eqb-true t u e)) | inr e ↦ inr e ]
-widened_from Next es d (At t) a h = elim (in_union es.times (image next_frame es.times) t h) [ inl e ↦ inr e | inr e ↦ let w = image_from next_frame es.times t e in inl (At w.0, w.1, ap At w.2) ]
-widened_from Prev es d (At t) a h = elim (in_union es.times (image prev_frame es.times) t h) [ inl e ↦ inr e | inr e ↦ let w = image_from prev_frame es.times t e in inl (At w.0, w.1, ap At w.2) ]
-widened_from SetSomewhere es d (At t) a h = inl (d, a, (t, in_day t h, refl))
-widened_from Recall es d (At t) a h = inl (d, a, in_day t h)
-widened_from Recall es d Clear a h = inl (d, a, tt)
-widened_from Reset es d Clear a h = inl (d, a, refl)
-widened_from _ es d e a h = inr h
+-- where an entry goes to
+pub entry_to : (may_stay : Bool) (c : Change) (es : Entries) (d e : Entry) → Allows es d → Becomes c d e → Allows (changed_entries may_stay c es) e
+entry_to false (SetAt u) es d e a w = rw w (just_self u)
+entry_to b SetSomewhere es d e a w = rw w.2 (day_in w.0 w.1)
+entry_to b Reset es d e a w = rw w refl
+entry_to b Recall es d Clear a w = refl
+entry_to b Recall es d (At t) a w = day_in t w
+entry_to true (SetAt u) es d e a w = rw w (contains-insert_nat es.times u u ∙ grind (arith, nat_tests))
+entry_to b _ es Clear e a w = rw w a
+entry_to false _ es (At t) e a w = rw w (image_to _ es.times t a)
+entry_to true _ es (At t) e a w = rw w (set.contains-union nat_cmp_total es.times _ _ ∙ or_right (set.contains es.times _) _ (image_to _ es.times t a))
 
-pub widened_to : (c : Change) (es : Entries) (d e : Entry) → Allows es d → Becomes c d e → Allows (widened c es) e
-widened_to SetSomewhere es d e a b = rw b.2 (day_in b.0 b.1)
-widened_to (SetAt u) es d e a b = rw b (contains-insert_nat es.times u u ∙ grind (arith, nat_tests))
-widened_to Reset es d e a b = rw b refl
-widened_to Recall es d Clear a b = refl
-widened_to Recall es d (At t) a b = day_in t b
-widened_to _ es Clear e a b = rw b a
-widened_to _ es (At t) e a b = rw b (set.contains-union nat_cmp_total es.times _ _ ∙ or_right (set.contains es.times _) _ (image_to _ es.times t a))
-
--- the times are times of the day
-pub widened_same : (c : Change) (es : Entries) (e : Entry) → BelowDay es.times → Allows es e → Allows (widened c es) e
-widened_same Reset es Clear below a = refl
-widened_same Recall es Clear below a = refl
-widened_same (SetAt u) es (At t) below a = contains-insert_nat es.times u t ∙ or_right (eqb t u) _ a
-widened_same Next es (At t) below a = left_union es.times _ t a
-widened_same Prev es (At t) below a = left_union es.times _ t a
-widened_same SetSomewhere es (At t) below a = day_in t (below t a)
-widened_same Recall es (At t) below a = day_in t (below t a)
-widened_same _ es e below a = a
+-- where it may stay it does, since the times are times of the day
+pub entry_stays : (may_stay : Bool) (c : Change) (es : Entries) (e : Entry) → may_stay ≡ true → BelowDay es.times → Allows es e → Allows (changed_entries may_stay c es) e
+entry_stays false c es e stays below a = absurd (false≢true stays)
+entry_stays true Reset es Clear stays below a = refl
+entry_stays true Recall es Clear stays below a = refl
+entry_stays true (SetAt u) es (At t) stays below a = contains-insert_nat es.times u t ∙ or_right (eqb t u) _ a
+entry_stays true Next es (At t) stays below a = set.contains-union nat_cmp_total es.times _ t ∙ rw a refl
+entry_stays true Prev es (At t) stays below a = set.contains-union nat_cmp_total es.times _ t ∙ rw a refl
+entry_stays true SetSomewhere es (At t) stays below a = day_in t (below t a)
+entry_stays true Recall es (At t) stays below a = day_in t (below t a)
+entry_stays true _ es e stays below a = a
 
 -- ---- entries that agree with a reply
 
-pub from_empty : {P : Type 0} (t : ℕ) → set.contains {R = nat_cmp} set.empty t ≡ true → P
-from_empty t h = absurd (false≢true (sym (set.contains-empty nat_cmp t) ∙ h))
-
-agreeing_from : (o : Option ℕ) (es : Entries) (e : Entry) → Allows (agreeing o es) e → Allows es e × ((e ≡ Clear) ⊎ ((t : ℕ) × (o ≡ Some t) × (e ≡ At t)))
-agreeing_from None es Clear h = (h, inl refl)
-agreeing_from None es (At u) h = from_empty u h
-agreeing_from (Some t) es Clear h = (h, inl refl)
-agreeing_from (Some t) es (At u) h = cond_both (set.contains es.times t) (just t) set.empty
-    (λ s. set.contains s u ≡ true → (set.contains es.times u ≡ true) × ((At u ≡ Clear) ⊎ ((x : ℕ) × (Some t ≡ Some x) × (At u ≡ At x))))
-    (λ e there. let same = just_is t u there in (subst (λ x. set.contains es.times x ≡ true) (sym same) e, inr (t, refl, ap At same))) (λ e there. from_empty u there) h
-
 -- exactly the entries that tell these bytes
 pub tells_from : (bytes : List ℕ) (es : Entries) (e : Entry) → Allows (agreeing (time_of bytes) es) e → Allows es e × Tells e bytes
-tells_from bytes es e h = let w = agreeing_from (time_of bytes) es e h in (w.0, told e w.1)
+tells_from bytes es e h = by (time_of bytes) refl e h
   where
-    told : (e : Entry) → ((e ≡ Clear) ⊎ ((t : ℕ) × (time_of bytes ≡ Some t) × (e ≡ At t))) → Tells e bytes
-    told e (inl clear) = subst (λ d. Tells d bytes) (sym clear) tt
-    told e (inr (t, read, at)) = subst (λ d. Tells d bytes) (sym at) (ReadsAs-from_time_of bytes t read)
+    by : (o : Option ℕ) → time_of bytes ≡ o → (e : Entry) → Allows (agreeing o es) e → Allows es e × Tells e bytes
+    by None read Clear h = (h, tt)
+    by None read (At u) h = from_empty u h
+    by (Some t) read Clear h = (h, tt)
+    by (Some t) read (At u) h = cond_both (set.contains es.times t) (just t) set.empty (λ s. set.contains s u ≡ true → (set.contains es.times u ≡ true) × Tells (At u) bytes)
+        (λ e there. let same = just_is t u there in (rw same e, rw same (ReadsAs-from_time_of bytes t read))) (λ e there. from_empty u there) h
 
 pub tells_to : (bytes : List ℕ) (es : Entries) (e : Entry) → Allows es e → Tells e bytes → Allows (agreeing (time_of bytes) es) e
 tells_to bytes es Clear h told = elim (time_of bytes) as (λ o. (agreeing o es).may_clear ≡ true) [ None ↦ h | Some t ↦ h ]
@@ -114,38 +251,35 @@ tells_to bytes es (At t) h told =
     (subst (λ (b : Bool). set.contains (if b then just t else set.empty) t ≡ true) (sym h) (just_self t))
 
 -- exactly the entries that agree with a bit
-pub says_from : (bit : ℕ) (datum : Option ℕ) (es : Entries) (e : Entry) → Allows (said (bit_in bit datum) es) e → Allows es e × Says bit (is_set e) datum
-says_from bit None es e h = (h, tt)
-says_from bit (Some byte) es e h = by (bit_and byte bit == bit) e h
+pub says_exactly : (bit : ℕ) (datum : Option ℕ) (es : Entries) (e : Entry) → Allows (said (bit_in bit datum) es) e ↔ (Allows es e × Says bit (is_set e) datum)
+says_exactly bit None es e = (λ h. (h, tt), λ w. w.0)
+says_exactly bit (Some byte) es e = by (bit_and byte bit == bit) e
   where
-    by : (b : Bool) (e : Entry) → Allows (said (Some b) es) e → Allows es e × (b ≡ is_set e)
-    by true Clear h = absurd (false≢true h)
-    by true (At t) h = (h, refl)
-    by false Clear h = (h, refl)
-    by false (At t) h = from_empty t h
-
-pub says_to : (bit : ℕ) (datum : Option ℕ) (es : Entries) (e : Entry) → Allows es e → Says bit (is_set e) datum → Allows (said (bit_in bit datum) es) e
-says_to bit None es e h says = h
-says_to bit (Some byte) es Clear h says = subst (λ b. Allows (said (Some b) es) Clear) (sym says) h
-says_to bit (Some byte) es (At t) h says = subst (λ b. Allows (said (Some b) es) (At t)) (sym says) h
+    by : (b : Bool) (e : Entry) → Allows (said (Some b) es) e ↔ (Allows es e × (b ≡ is_set e))
+    by true Clear = (λ h. absurd (false≢true h), λ w. absurd (false≢true (sym w.1)))
+    by false (At t) = (λ h. from_empty t h, λ w. absurd (false≢true w.1))
+    by _ Clear = (λ h. (h, refl), λ w. w.0)
+    by _ (At t) = (λ h. (h, refl), λ w. w.0)
 
 -- ---- whether there is an entry
 
-nil_none : (xs : List ℕ) (f : ℕ) → list_any (λ y. nat_eq y f) xs ≡ true → is_nil xs ≡ false
-nil_none [] f h = absurd (false≢true h)
-nil_none (x ∷ xs) f h = refl
-
-not_nil : (xs : List ℕ) → is_nil xs ≡ false → (f : ℕ) × (list_any (λ y. nat_eq y f) xs ≡ true)
-not_nil [] h = absurd (false≢true (sym h))
-not_nil (x ∷ xs) h = (x, or_left (nat_eq x x) _ (grind (arith, nat_tests)))
+some_time : (s : Times) → ((is_nil (set.items s) ≡ true) × (s ≡ set.empty)) ⊎ ((is_nil (set.items s) ≡ false) × ((f : ℕ) × (set.contains s f ≡ true)))
+some_time s = by (set.items s) refl
+  where
+    by : (xs : List ℕ) → set.items s ≡ xs → ((is_nil xs ≡ true) × (s ≡ set.empty)) ⊎ ((is_nil xs ≡ false) × ((f : ℕ) × (set.contains s f ≡ true)))
+    by [] e = inl (refl, same_times s set.empty (λ f. contains-items_nat s f ∙ ap (list_any (λ y. nat_eq y f)) e ∙ sym (set.contains-empty nat_cmp f)))
+    by (x ∷ xs) e = inr (refl, (x, contains-items_nat s x ∙ ap (list_any (λ y. nat_eq y x)) e ∙ or_left (nat_eq x x) _ (grind (arith, nat_tests))))
 
 pub there_time : (s : Times) → is_nil (set.items s) ≡ false → (f : ℕ) × (set.contains s f ≡ true)
-there_time s h = let w = not_nil (set.items s) h in (w.0, contains-items_nat s w.0 ∙ w.1)
+there_time s h = elim (some_time s) [ inl w ↦ absurd (false≢true (sym h ∙ w.0)) | inr w ↦ w.1 ]
+
+pub nil_empty : (s : Times) → is_nil (set.items s) ≡ true → s ≡ set.empty
+nil_empty s h = elim (some_time s) [ inl w ↦ w.1 | inr w ↦ absurd (false≢true (sym w.0 ∙ h)) ]
 
 -- there is an entry exactly where one is allowed
 pub allowed_some : (es : Entries) (e : Entry) → Allows es e → some_entry es ≡ true
 allowed_some es Clear h = or_left es.may_clear _ h
-allowed_some es (At t) h = or_right es.may_clear _ (ap not (nil_none (set.items es.times) t (sym (contains-items_nat es.times t) ∙ h)))
+allowed_some es (At t) h = or_right es.may_clear _ (ap not (false_from_ne_true _ (λ nil. from_empty t (subst (λ s. set.contains s t ≡ true) (nil_empty es.times nil) h))))
 
 pub some_allowed : (es : Entries) → some_entry es ≡ true → (e : Entry) × Allows es e
 some_allowed es h = elim (or_cases es.may_clear (not (is_nil (set.items es.times))) h) [
@@ -156,24 +290,13 @@ some_allowed es h = elim (or_cases es.may_clear (not (is_nil (set.items es.times
 pub nothing_allowed : (es : Entries) → some_entry es ≡ false → (e : Entry) → Allows es e → ⊥
 nothing_allowed es none e a = false≢true (sym none ∙ allowed_some es e a)
 
-becomes_some : (c : Change) (d : Entry) → (e : Entry) × Becomes c d e
+pub becomes_some : (c : Change) (d : Entry) → (e : Entry) × Becomes c d e
 becomes_some SetSomewhere d = (At 0, (0, omega arith, refl))
 becomes_some (SetAt t) d = (At t, refl)
 becomes_some Next d = (moved_entry next_frame d, refl)
 becomes_some Prev d = (moved_entry prev_frame d, refl)
 becomes_some Reset d = (Clear, refl)
 becomes_some Recall d = (Clear, tt)
-
--- a change of some entry leaves some
-pub some_to : (c : Change) (es new : Entries) → ((d e : Entry) → Allows es d → Becomes c d e → Allows new e) → some_entry es ≡ true → some_entry new ≡ true
-some_to c es new to h = let w = some_allowed es h in let v = becomes_some c w.0 in allowed_some new v.0 (to w.0 v.0 w.1 v.1)
-
-nil_any : (xs : List ℕ) (f : ℕ) → is_nil xs ≡ true → list_any (λ y. nat_eq y f) xs ≡ false
-nil_any [] f h = refl
-nil_any (x ∷ xs) f h = absurd (false≢true h)
-
-pub nil_empty : (s : Times) → is_nil (set.items s) ≡ true → s ≡ set.empty
-nil_empty s h = same_times s set.empty (λ f. contains-items_nat s f ∙ nil_any (set.items s) f h ∙ sym (set.contains-empty nat_cmp f))
 
 -- nothing is in no entries
 pub empty_nil : is_nil (set.items {R = nat_cmp} set.empty) ≡ true

@@ -1,12 +1,8 @@
 -- At most one thing is known of states, of which there is one.
-use Rattle.std.proofs.Common.{◌≡◌, Bool, List, refl, sym, ap, ◌∙◌}
-use Rattle.block9.specs.declared.pairer.Exchange.{Exchange}
-use Rattle.track9.proofs.Sets.{IsKnowledge, IsKnown, IsKnownEntry, Knowledge, Known, KnownEntry}
+use Rattle.track9.proofs.Words.{ap, Bool, Ends, Exchange, Hands, HasRun, IsKnowledge, IsKnown, IsKnownEntry, Knowledge, Known, KnownEntry, List, Mode, refl, RegAudioIn}
+use Rattle.track9.proofs.Words.{RegAudioOut, RegIn, Register, RegOut, some_end, State, sym, ◌∙◌, ◌≡◌}
 use Rattle.track9.specs.declared.knowledge.Known.TheVariants as known
 use Rattle.track9.specs.declared.knowledge.KnownEntry.TheVariants as entry
-use Rattle.track9.specs.Working.Deck.{Hands, Mode, RegAudioIn, RegAudioOut, RegIn, RegOut, Register, State}
-use Rattle.deck9.specs.Run.{Ends, HasRun}
-use Rattle.deck9.proofs.RunLemmas.{some_end}
 
 known_once : {A : Type 0} (X : State → Type 0) (field : State → A) (a b : Known A) → ((s : State) × X s) → IsKnown X field a → IsKnown X field b → a ≡ b
 known_once X field (known.Is v) (known.Is w) some h k = ap known.Is (sym (h some.0 some.1) ∙ k some.0 some.1)
@@ -30,20 +26,24 @@ entry_once X r entry.Clear entry.Unknown some h k = cc (h k.1 k.3, k.5)
 entry_once X r entry.Unknown entry.Clear some h k = cc (k h.1 h.3, h.5)
 entry_once X r _ _ some h k = cc (h some.0 some.1, k some.0 some.1)
 
-same_knowledge : (k l : Knowledge) → k.goal ≡ l.goal → k.shown ≡ l.shown → k.ins ≡ l.ins → k.outs ≡ l.outs → k.ains ≡ l.ains → k.aouts ≡ l.aouts → k.local ≡ l.local → k.panel ≡ l.panel → k ≡ l
-same_knowledge k l a b c d e f g h = by (λ q r s t u v w x. record { goal = q; shown = r; ins = s; outs = t; ains = u; aouts = v; local = w; panel = x })
+pub known_of_ends : (h : Hands) (es : List Exchange) (k l : Knowledge) → HasRun h es → IsKnowledge (Ends h es) k → IsKnowledge (Ends h es) l → k ≡ l
+known_of_ends h es k l run a b = by (λ q r s t u v w x. record { goal = q; shown = r; ins = s; outs = t; ains = u; aouts = v; local = w; panel = x })
   where
+    X : State → Type 0
+    X = Ends h es
+
+    some : (s : State) × X s
+    some = (some_end h es).1 run
+
     by : (make : Known Mode → Known Mode → KnownEntry → KnownEntry → KnownEntry → KnownEntry → Known Bool → Known Bool → Knowledge)
         → make k.goal k.shown k.ins k.outs k.ains k.aouts k.local k.panel ≡ make l.goal l.shown l.ins l.outs l.ains l.aouts l.local l.panel
-    by make = cc
-
-pub one_knowledge : (X : State → Type 0) (k l : Knowledge) → ((s : State) × X s) → IsKnowledge X k → IsKnowledge X l → k ≡ l
-one_knowledge X k l some h i =
-    same_knowledge k l
-    (known_once X (λ (s : State). s.goal) k.goal l.goal some h.goal i.goal) (known_once X (λ (s : State). s.shown) k.shown l.shown some h.shown i.shown)
-    (entry_once X RegIn k.ins l.ins some h.ins i.ins) (entry_once X RegOut k.outs l.outs some h.outs i.outs)
-    (entry_once X RegAudioIn k.ains l.ains some h.ains i.ains) (entry_once X RegAudioOut k.aouts l.aouts some h.aouts i.aouts)
-    (known_once X (λ (s : State). s.local) k.local l.local some h.local i.local) (known_once X (λ (s : State). s.panel) k.panel l.panel some h.panel i.panel)
-
-pub known_of_ends : (h : Hands) (es : List Exchange) (k l : Knowledge) → HasRun h es → IsKnowledge (Ends h es) k → IsKnowledge (Ends h es) l → k ≡ l
-known_of_ends h es k l run = one_knowledge (Ends h es) k l ((some_end h es).1 run)
+    by make = cc (
+      known_once X (λ (s : State). s.goal) k.goal l.goal some a.goal b.goal,
+      known_once X (λ (s : State). s.shown) k.shown l.shown some a.shown b.shown,
+      known_once X (λ (s : State). s.local) k.local l.local some a.local b.local,
+      known_once X (λ (s : State). s.panel) k.panel l.panel some a.panel b.panel,
+      entry_once X RegIn k.ins l.ins some a.ins b.ins,
+      entry_once X RegOut k.outs l.outs some a.outs b.outs,
+      entry_once X RegAudioIn k.ains l.ains some a.ains b.ains,
+      entry_once X RegAudioOut k.aouts l.aouts some a.aouts b.aouts,
+    )

@@ -1,68 +1,57 @@
--- Exchanges where hands are allowed on the panel.
-use Rattle.std.proofs.Common.{◌≡◌, inl, inr, Bool, true, false, if◌then◌else◌, [], Option, Some, None, refl, sym, ap, ◌∙◌, subst}
-use Rattle.std.proofs.lemmas.Bool.{cond_both, false≢true}
-use Rattle.std.specs.Ordering.{nat_cmp}
-use Rattle.std.specs.FinSet as set
-use Rattle.track9.specs.Working.Deck.{Agrees, AreReached, BelowDay, Block, Command, Does, Drift, Effect, Exchanges, Hands, IsState, RegIn}
-use Rattle.track9.specs.Working.Deck.{Register, Sense, State, Step, done, effect_of, ignored, is_nak, is_of_goal_or_register, refused, sense_of}
+-- All states: whole exchanges, and commands whose reply is not known, also where hands are allowed on the panel.
+use Rattle.track9.proofs.Words.{[], acknowledged, after_panel, all_drifted, all_or_none, AllLeadOn, Allows, ap, AreBelow, AreFew, AreReached, AreWhole, BelowDay, Block, Bool}
+use Rattle.track9.proofs.Words.{CanPass, Command, cond_both, counted, Does, DoesOrNot, done, Drift, drift_from_pairs, Effect, effect_of, either_panel, entries_of, Exchanges}
+use Rattle.track9.proofs.Words.{false, false_from_ne_true, false≢true, first_states, Follows, FollowsPassed, goes, Hands, hands_by, hands_of, has, HasEffect, if◌then◌else◌}
+use Rattle.track9.proofs.Words.{ignored, ignored_by_effect, in_local, inl, InPart, inr, InTwo, is_nak, is_of_goal_or_register, is_panel_live, is_wide, IsIn, IsKept, IsState}
+use Rattle.track9.proofs.Words.{LeadsOn, None, on_two, Option, or-true, panel_passed, Passed, Passes, Possible, Presets, presets_after, read_panel, refl, refused, RegIn}
+use Rattle.track9.proofs.Words.{Register, Sense, sense_of, Some, some_state, State, StateSet, Step, subst, switched, sym, true, two_drifted, two_of, TwoBelow, TwoFew, TwoParts}
+use Rattle.track9.proofs.Words.{TwoWhole, with_command, ◌↔◌, ◌∙◌, ◌≡◌, ◌⊎◌}
 use Rattle.deck9.specs.declared.effect.Effect.TheVariants as effect
-use Rattle.track9.proofs.Sets.{AllLeadOn, Allows, AreBelow, AreFew, AreWhole, Exchanged, Follows, InPart, InTwo, LeadsOn, Possible, Presets, StateSet, TwoBelow, TwoFew, TwoParts}
-use Rattle.track9.proofs.Sets.{TwoWhole, acknowledged, after_panel, all_or_none, counted, entries_of, first_states, hands_by, hands_of, in_local, is_panel_live, is_wide}
-use Rattle.track9.proofs.Sets.{presets_after, some_state, some_two, switched, two_drifted, two_of}
 use Rattle.deck9.specs.declared.sense.Sense.TheVariants as sense
 use Rattle.deck9.specs.declared.state.Hands.TheVariants as hands
-use Rattle.deck9.proofs.LawLemmas.{ignored_by_effect}
-use Rattle.deck9.proofs.DriftLemmas.{drift_from_pairs}
-use Rattle.track9.specs.Working.States.{either_panel}
-use Rattle.track9.proofs.EffectLemmas.{does_panel, drift_whole}
-use Rattle.track9.proofs.FewLemmas.{few_two}
-use Rattle.track9.proofs.ForgetLemmas.{all_two, first_is, is_first, live_some, some_live, two_all, two_live, two_none, two_state}
-use Rattle.track9.proofs.ReachLemmas.{by_panel, drift_panel, drift_reached, drift_state, mechanics, of_two, off_drift, possible_state, reached_by, same_drift, state_is, to_two}
-use Rattle.track9.proofs.StepLemmas.{drift_few, presets_of, sense_effect, status_effect}
-use Rattle.track9.proofs.WholeLemmas.{whole_two}
-use Rattle.deck9.proofs.RunSearch.{read_panel}
+use Rattle.track9.proofs.EffectLemmas.{command_counts, does_keep, drift_leads, leads_as, leads_same, leads_then, presets_of, sense_effect, status_effect}
+use Rattle.track9.proofs.EntryLemmas.{from_empty}
+use Rattle.track9.proofs.PartLemmas.{all_exactly, both_few, by_panel, drift_below, drift_few, drift_panel, drift_state, drift_whole, few_two, first_exactly, live_some, of_two}
+use Rattle.track9.proofs.PartLemmas.{off_drift, possible_state, same_drift, some_live, state_is, to_two, two_live, two_none, two_state, whole_two}
 
 -- ---- where hands are not allowed
 
-exchange_panel : (c : Command) (reply : Block) (s t : State) → Exchanges hands.None c reply s t → t.panel ≡ s.panel
-exchange_panel c reply s t (d, drift, step) = by step ∙ ap (λ (u : State). u.panel) (mechanics s d drift).0
+pub exchange_panel : (c : Command) (reply : Block) (s t : State) → Exchanges hands.None c reply s t → t.panel ≡ s.panel
+exchange_panel c reply s t (d, drift, step) = by step ∙ drift_panel hands.None s d drift
   where
     by : Step hands.None c reply d t → t.panel ≡ d.panel
-    by (refused nak e) = ap (λ (u : State). u.panel) e
-    by (ignored was shows may local e) = ap (λ (u : State). u.panel) e
-    by (done was shows does) = does_panel false (effect_of c) d t (inl does)
+    by (refused nak e) = rw e
+    by (ignored was shows may local e) = rw e
+    by (done was shows does) = (does_keep false (effect_of c) d t (inl does)).0
 
-none_below : BelowDay set.empty
-none_below t h = absurd (false≢true (sym (set.contains-empty nat_cmp t) ∙ h))
+pub pass_panel : (c : Command) (s t : State) → Passes hands.None c s t → t.panel ≡ s.panel
+pass_panel c s t (d, drift, can) = elim can [ inl same ↦ ap (λ (u : State). u.panel) same | inr does ↦ (does_keep true (effect_of c) d t (inl does)).0 ] ∙ drift_panel hands.None s d drift
 
 -- then there is nothing with the panel on
-none_on : (o : Option TwoParts) → hands_by o ≡ hands.None → o ≡ None
+pub none_on : (o : Option TwoParts) → hands_by o ≡ hands.None → o ≡ None
 none_on None e = refl
 none_on (Some h) e = cc
 
-pub leads_off : (Goes : Hands → State → State → Type 0) (count : Presets → Presets) → ((s t : State) → Goes hands.None s t → t.panel ≡ s.panel) → (v : StateSet) (off : TwoParts) (w : StateSet)
-    → w ≡ record { off = off; on = v.on } → hands_of v ≡ hands.None → AreWhole v → LeadsOn (Goes hands.None) count v.off off → AllLeadOn (hands_of v) (Goes (hands_of v)) count v w
-leads_off Goes count keeps v off w same without whole leads =
-    let none : v.on ≡ None = none_on v.on without in
-    let still : w.on ≡ None = ap (λ (x : StateSet). x.on) same ∙ none in
-    let here : w.off ≡ off = ap (λ (x : StateSet). x.off) same in
-    subst (λ h. AllLeadOn h (Goes h) count v w) (sym without) (record {
-      reached = by_panel (Goes hands.None) keeps v w (each none still here);
-      hands = ap hands_by still;
-      whole = record { off = subst TwoWhole (sym here) leads.whole; on = rw still (whole_two false) };
-      few = λ n few. are_few n few still here;
-    })
+abbrev pub panel_off : TwoParts → StateSet
+panel_off h = record { off = h; on = None }
+
+pub leads_off : (Goes : Hands → State → State → Type 0) (count : Presets → Presets) → ((s t : State) → Goes hands.None s t → t.panel ≡ s.panel) → (h g : TwoParts) → LeadsOn (Goes hands.None) count h g
+    → AllLeadOn hands.None (Goes hands.None) count (panel_off h) (panel_off g)
+leads_off Goes count keeps h g leads = record {
+  reached = by_panel (Goes hands.None) keeps (panel_off h) (panel_off g) (leads.reached false) (λ t i. two_none t i.1, λ s t i goes. two_none s i.1);
+  hands = refl;
+  whole = record { off = leads.whole; on = whole_two false };
+  few = λ n few. both_few (count n) (panel_off g) (leads.few n (few false)) (few_two (count n) false);
+}
+
+-- all times of two parts are times of the day
+pub below_off : (h : TwoParts) → TwoBelow h → AreBelow (panel_off h)
+below_off h below = record { off = below; on = by }
   where
-    each : v.on ≡ None → w.on ≡ None → w.off ≡ off → (pn : Bool) → AreReached (InTwo pn (two_of v pn)) (Goes hands.None) (InTwo pn (two_of w pn))
-    each none still here false = subst (λ g. AreReached (InTwo false v.off) (Goes hands.None) (InTwo false g)) (sym here) (leads.reached false)
-    each none still here true = rw (none, still) (λ t i. two_none t i.1, λ s t i goes. two_none s i.1)
-
-    are_few : (n : Presets) → AreFew n v → w.on ≡ None → w.off ≡ off → AreFew (count n) w
-    are_few n few still here false = subst (TwoFew (count n)) (sym here) (leads.few n (few false))
-    are_few n few still here true = rw still (few_two (count n) false)
-
-pub follows_off : (c : Command) (reply : Block) (v : StateSet) (off : TwoParts) (w : StateSet) → w ≡ record { off = off; on = v.on } → hands_of v ≡ hands.None → AreWhole v → Exchanged c reply v.off off → Follows (hands_of v) c reply v w
-follows_off c reply = leads_off (λ h. Exchanges h c reply) (presets_after c reply true) (exchange_panel c reply)
+    by : (l : Bool) (r : Register) → BelowDay (entries_of r (in_local (all_or_none false) l)).times
+    by false RegIn = λ t h. from_empty t h
+    by _ RegIn = λ t h. from_empty t h
+    by _ _ = λ t h. from_empty t h
 
 -- ---- where a hand makes no difference to the step
 
@@ -74,223 +63,250 @@ pub record IsNarrow (Goes : Hands → State → State → Type 0) : Type 0 where
   pub same : (h k : Hands) (s t : State) → Goes h s t → Goes k s t
   pub panel : (s t : State) → DriftsAndGoes Goes hands.None s t → t.panel ≡ s.panel
 
-pub does_same : (h k : Hands) (e : Effect) (s t : State) → is_wide e ≡ false → Does h e s t → Does k e s t
+does_same : (h k : Hands) (e : Effect) (s t : State) → is_wide e ≡ false → Does h e s t → Does k e s t
 does_same h k (effect.Panel on) s t narrow d = absurd (false≢true (sym narrow))
 does_same h k effect.ForgetAll s t narrow d = absurd (false≢true (sym narrow))
 does_same h k _ s t narrow d = d
 
-step_same : (h k : Hands) (c : Command) (reply : Block) (s t : State) → is_wide (acknowledged c reply) ≡ false → Step h c reply s t → Step k c reply s t
-step_same h k c reply s t narrow (refused nak e) = refused nak e
-step_same h k c reply s t narrow (ignored was shows may local e) = ignored was shows may local e
-step_same h k c reply s t narrow (done was shows does) =
-    done was shows (does_same h k (effect_of c) s t (sym (ap (λ (b : Bool). is_wide (if b then effect.Nothing else effect_of c)) was) ∙ narrow) does)
+pub narrow_exchange : (c : Command) (reply : Block) → is_wide (acknowledged c reply) ≡ false → IsNarrow (λ h. Step h c reply)
+narrow_exchange c reply narrow = record { same = same; panel = exchange_panel c reply }
+  where
+    same : (h k : Hands) (s t : State) → Step h c reply s t → Step k c reply s t
+    same h k s t (refused nak e) = refused nak e
+    same h k s t (ignored was shows may local e) = ignored was shows may local e
+    same h k s t (done was shows does) = done was shows (does_same h k (effect_of c) s t (rw was at narrow) does)
 
-off_reached : (Goes : Hands → State → State → Type 0) (count : Presets → Presets) (h g : TwoParts) → IsNarrow Goes → LeadsOn (DriftsAndGoes Goes hands.None) count h g
-    → AreReached (InTwo false h) (DriftsAndGoes Goes hands.Allowed) (InTwo false g)
-off_reached Goes count h g narrow leads = (
-  λ t i. let a = (leads.reached false).0 t i in (a.0, a.1, (a.2.0, same_drift hands.Allowed a.0 a.2.0 a.2.1, narrow.same hands.None hands.Allowed a.2.0 t a.2.2)),
-  λ s t i w. (leads.reached false).1 s t i (w.0, off_drift hands.Allowed s w.0 i.0 w.1, narrow.same hands.Allowed hands.None w.0 t w.2),
-)
+pub narrow_pass : (c : Command) → is_wide (effect_of c) ≡ false → IsNarrow (λ h. CanPass h c)
+narrow_pass c narrow = record { same = λ h k s t can. elim can [ inl e ↦ inl e | inr does ↦ inr (does_same h k (effect_of c) s t narrow does) ]; panel = pass_panel c }
 
 -- a hand leads from a state with the panel on to any
-pub hand_drift : (s d : State) → s.panel ≡ true → d.panel ≡ true → IsState d → Drift hands.Allowed s d
-hand_drift s d before after valid = drift_from_pairs hands.Allowed s d (inr (refl, before, after, valid))
-
-on_reached : (Goes : Hands → State → State → Type 0) (count : Presets → Presets) (h g : TwoParts) → IsNarrow Goes → TwoWhole h → TwoBelow h → LeadsOn (DriftsAndGoes Goes hands.None) count (all_or_none (some_two h)) g
-    → AreReached (InTwo true h) (DriftsAndGoes Goes hands.Allowed) (InTwo true g)
-on_reached Goes count h g narrow whole below leads = (λ t i. from (some_two h) refl t i, λ s t i w. to s t i w)
+pub leads_both : (Goes : Hands → State → State → Type 0) (count : Presets → Presets) (v : StateSet) (off on : TwoParts) → IsNarrow Goes → AreWhole v → AreBelow v → LeadsOn (DriftsAndGoes Goes hands.None) count v.off off
+    → LeadsOn (DriftsAndGoes Goes hands.None) count (all_or_none (is_panel_live v)) on → AllLeadOn hands.Allowed (DriftsAndGoes Goes hands.Allowed) count v (record { off = off; on = Some on })
+leads_both Goes count v off on narrow whole below first second = record {
+  reached = by_panel (DriftsAndGoes Goes hands.Allowed) keeps v (record { off = off; on = Some on }) off_reached on_reached;
+  hands = refl;
+  whole = record { off = first.whole; on = second.whole };
+  few = λ n few. both_few (count n) (record { off = off; on = Some on }) (first.few n (few false)) (second.few n (few_two n (is_panel_live v)));
+}
   where
-    from : (b : Bool) → some_two h ≡ b → (t : State) → InTwo true g t → (s : State) × InTwo true h s × DriftsAndGoes Goes hands.Allowed s t
-    from true live t i =
-        let a = (leads.reached true).0 t i in
-        let e = drift_state hands.None a.0 a.2.0 (all_two a.0 (subst (λ b. InPart (in_local (all_or_none b) a.0.local) a.0) live a.1.1)) a.2.1 in
-        let s = two_state h true whole live in
-        (s.0, s.1, (a.2.0, hand_drift s.0 a.2.0 s.1.0 (drift_panel hands.None a.0 a.2.0 a.2.1 ∙ a.1.0) e, narrow.same hands.None hands.Allowed a.2.0 t a.2.2))
-    from false dead t i = let a = (leads.reached true).0 t i in two_none a.0 (subst (λ b. InPart (in_local (all_or_none b) a.0.local) a.0) dead a.1.1)
-
-    to : (s t : State) → InTwo true h s → DriftsAndGoes Goes hands.Allowed s t → InTwo true g t
-    to s t i (d, drift, step) =
-        let e = drift_state hands.Allowed s d (state_is (in_local h s.local) s (below s.local) i.1) drift in
-        (leads.reached true).1 d t (drift_panel hands.Allowed s d drift ∙ i.0, subst (λ b. InPart (in_local (all_or_none b) d.local) d) (sym (two_live h s i.1)) (two_all d e))
-        (d, ([], refl), narrow.same hands.Allowed hands.None d t step)
-
-pub leads_both : (Goes : Hands → State → State → Type 0) (count : Presets → Presets) (v : StateSet) (off on : TwoParts) (w : StateSet) → w ≡ record { off = off; on = Some on } → IsNarrow Goes → AreWhole v → AreBelow v
-    → LeadsOn (DriftsAndGoes Goes hands.None) count v.off off → LeadsOn (DriftsAndGoes Goes hands.None) count (all_or_none (is_panel_live v)) on → AllLeadOn hands.Allowed (DriftsAndGoes Goes hands.Allowed) count v w
-leads_both Goes count v off on w same narrow whole below first second =
-    subst (AllLeadOn hands.Allowed (DriftsAndGoes Goes hands.Allowed) count v) (sym same) (record {
-      reached = by_panel (DriftsAndGoes Goes hands.Allowed) keeps v x each;
-      hands = refl;
-      whole = record { off = first.whole; on = second.whole };
-      few = are_few;
-    })
-  where
-    x : StateSet
-    x = record { off = off; on = Some on }
-
     keeps : (s t : State) → DriftsAndGoes Goes hands.Allowed s t → t.panel ≡ s.panel
     keeps s t (d, drift, step) = narrow.panel d t (d, ([], refl), narrow.same hands.Allowed hands.None d t step) ∙ drift_panel hands.Allowed s d drift
 
-    each : (pn : Bool) → AreReached (InTwo pn (two_of v pn)) (DriftsAndGoes Goes hands.Allowed) (InTwo pn (two_of x pn))
-    each false = off_reached Goes count v.off off narrow first
-    each true = on_reached Goes count (two_of v true) on narrow whole.on below.on second
+    off_reached : AreReached (InTwo false v.off) (DriftsAndGoes Goes hands.Allowed) (InTwo false off)
+    off_reached = (
+      λ t i. let a = (first.reached false).0 t i in (a.0, a.1, (a.2.0, same_drift hands.Allowed a.0 a.2.0 a.2.1, narrow.same hands.None hands.Allowed a.2.0 t a.2.2)),
+      λ s t i w. (first.reached false).1 s t i (w.0, off_drift hands.Allowed s w.0 i.0 w.1, narrow.same hands.Allowed hands.None w.0 t w.2),
+    )
 
-    are_few : (n : Presets) → AreFew n v → AreFew (count n) x
-    are_few n few false = first.few n (few false)
-    are_few n few true = second.few n (few_two n (is_panel_live v))
+    on_reached : AreReached (InTwo true (on_two v.on)) (DriftsAndGoes Goes hands.Allowed) (InTwo true on)
+    on_reached = (
+      λ t i.
+          let a = (second.reached true).0 t i in
+          let all = (all_exactly (is_panel_live v) a.0).0 a.1.1 in
+          let s = two_state (two_of v true) true whole.on all.0 in
+          let drift = drift_from_pairs hands.Allowed s.0 a.2.0 (inr (refl, s.1.0, drift_panel hands.None a.0 a.2.0 a.2.1 ∙ a.1.0, drift_state hands.None a.0 a.2.0 all.1 a.2.1)) in
+          (s.0, s.1, (a.2.0, drift, narrow.same hands.None hands.Allowed a.2.0 t a.2.2)),
+      λ s t i (d, drift, step).
+          let e = drift_state hands.Allowed s d (state_is (in_local (on_two v.on) s.local) s (below.on s.local) i.1) drift in
+          (second.reached true).1 d t (drift_panel hands.Allowed s d drift ∙ i.0, (all_exactly (is_panel_live v) d).1 (two_live (on_two v.on) s i.1, e)) (d, ([], refl), narrow.same hands.Allowed hands.None d t step),
+    )
 
-pub follows_both : (c : Command) (reply : Block) (v : StateSet) (off on : TwoParts) (w : StateSet) → w ≡ record { off = off; on = Some on } → is_wide (acknowledged c reply) ≡ false → AreWhole v → AreBelow v
-    → Exchanged c reply v.off off → Exchanged c reply (all_or_none (is_panel_live v)) on → Follows hands.Allowed c reply v w
-follows_both c reply v off on w same narrow =
-    leads_both (λ h. Step h c reply) (presets_after c reply true) v off on w same (record { same = λ h k s t. step_same h k c reply s t narrow; panel = exchange_panel c reply })
+-- ---- a step to which a hand makes a difference
 
--- ---- the panel is switched, and everything is forgotten
-
--- a command of such an effect asks for nothing
-wide_asks : (c : Command) → is_wide (effect_of c) ≡ true → sense_of c ≡ sense.Nothing
-wide_asks c wide = by (sense_of c) refl
+-- it is the effect of its command, which is acknowledged, asks for nothing and is no preset
+wide_step : (c : Command) (reply : Block) (e : Effect) → acknowledged c reply ≡ e → is_wide e ≡ true
+    → ((d t : State) → Step hands.Allowed c reply d t ↔ Does hands.Allowed e d t) × ((n : Presets) → counted e n ≡ n → presets_after c reply true n ≡ n)
+wide_step c reply e was wide = (λ d t. (back d t, λ does. done ok.0 (rw (asks_nothing (sense_of c) refl) tt) (rw ok.1 does)), λ n same. presets_of c reply n ok.0 ∙ ap (λ e. counted e n) ok.1 ∙ same)
   where
-    by : (q : Sense) → sense_of c ≡ q → q ≡ sense.Nothing
-    by (sense.Register r) e = absurd (false≢true (ap is_wide (sym (sense_effect c r e)) ∙ wide))
-    by (sense.Status asked) e = absurd (false≢true (ap is_wide (sym (status_effect c asked e)) ∙ wide))
-    by sense.Nothing e = refl
+    ok : (is_nak reply ≡ false) × (effect_of c ≡ e)
+    ok = cond_both (is_nak reply) effect.Nothing (effect_of c) (λ x. x ≡ e → (is_nak reply ≡ false) × (effect_of c ≡ e)) (λ nak was. absurd (false≢true (ap is_wide was ∙ wide))) (λ ok was. (ok, was)) was
 
--- what was acknowledged
-not_nak : (c : Command) (reply : Block) (e : Effect) → acknowledged c reply ≡ e → is_wide e ≡ true → (is_nak reply ≡ false) × (effect_of c ≡ e)
-not_nak c reply e was wide = cond_both (is_nak reply) effect.Nothing (effect_of c) (λ x. x ≡ e → (is_nak reply ≡ false) × (effect_of c ≡ e))
-    (λ nak was. absurd (false≢true (ap is_wide was ∙ wide))) (λ ok was. (ok, was)) was
+    asks_nothing : (q : Sense) → sense_of c ≡ q → sense_of c ≡ sense.Nothing
+    asks_nothing (sense.Register r) e = absurd (false≢true (ap is_wide (sym (sense_effect c r e) ∙ ok.1) ∙ wide))
+    asks_nothing (sense.Status asked) e = absurd (false≢true (ap is_wide (sym (status_effect c asked e) ∙ ok.1) ∙ wide))
+    asks_nothing sense.Nothing e = e
 
-wide_counts : (c : Command) (reply : Block) (e : Effect) (n : Presets) → acknowledged c reply ≡ e → is_wide e ≡ true → counted e n ≡ n → presets_after c reply true n ≡ n
-wide_counts c reply e n was wide same = let w = not_nak c reply e was wide in presets_of c reply n w.0 ∙ ap (λ e. counted e n) w.1 ∙ same
-
-wide_step : (c : Command) (reply : Block) (e : Effect) (d t : State) → acknowledged c reply ≡ e → is_wide e ≡ true → Step hands.Allowed c reply d t → Does hands.Allowed e d t
-wide_step c reply e d t was wide step = by (not_nak c reply e was wide) step
-  where
     never_both : (e : Effect) → is_wide e ≡ true → is_of_goal_or_register e ≡ true → ⊥
     never_both (effect.Panel on) wide may = false≢true may
     never_both effect.ForgetAll wide may = false≢true may
     never_both _ wide may = false≢true wide
 
-    by : (is_nak reply ≡ false) × (effect_of c ≡ e) → Step hands.Allowed c reply d t → Does hands.Allowed e d t
-    by w (refused nak same) = absurd (false≢true (sym w.0 ∙ nak))
-    by w (done nak shows does) = subst (λ e. Does hands.Allowed e d t) w.1 does
-    by w (ignored nak shows may local same) = absurd (never_both e wide (subst (λ e. is_of_goal_or_register e ≡ true) w.1 (sym (ignored_by_effect c) ∙ may)))
+    back : (d t : State) → Step hands.Allowed c reply d t → Does hands.Allowed e d t
+    back d t (refused nak same) = absurd (false≢true (sym ok.0 ∙ nak))
+    back d t (done nak shows does) = subst (λ e. Does hands.Allowed e d t) ok.1 does
+    back d t (ignored nak shows may local same) = absurd (never_both e wide (ap is_of_goal_or_register (sym ok.1) ∙ sym (ignored_by_effect c) ∙ may))
 
-step_wide : (c : Command) (reply : Block) (e : Effect) (d t : State) → acknowledged c reply ≡ e → is_wide e ≡ true → Does hands.Allowed e d t → Step hands.Allowed c reply d t
-step_wide c reply e d t was wide does =
-    let w = not_nak c reply e was wide in
-    done w.0 (subst (λ q. Agrees q d reply) (sym (wide_asks c (ap is_wide w.1 ∙ wide))) tt) (subst (λ e. Does hands.Allowed e d t) (sym w.1) does)
+-- ---- the panel is switched
 
 -- a part does not tell the panel
 in_panel : (h : TwoParts) (t : State) (b : Bool) → InPart (in_local h t.local) t → InTwo b h (record t { panel = b })
 in_panel h t b i = (refl, record { pair = i.pair; registers = λ r. subst (λ e. Allows (entries_of r (in_local h t.local)) e) (sym (read_panel r t b)) (i.registers r) })
 
-there : (on : Bool) (h : TwoParts) → two_of (switched on h) on ≡ h
-there false h = refl
-there true h = refl
-
 -- with the other value of the panel there is none
-pub only : (on : Bool) (h : TwoParts) (t : State) → Possible (switched on h) t → InTwo on h t
-only on h t i = by on t.panel refl i
+switched_exactly : (on : Bool) (h : TwoParts) (t : State) → Possible (switched on h) t ↔ InTwo on h t
+switched_exactly on h t = by on t.panel refl
   where
-    by : (on pn : Bool) → t.panel ≡ pn → Possible (switched on h) t → InTwo on h t
-    by false false e i = to_two (switched false h) t false e i
-    by true true e i = to_two (switched true h) t true e i
-    by false true e i = two_none t (to_two (switched false h) t true e i).1
-    by true false e i = two_none t (to_two (switched true h) t false e i).1
+    by : (on pn : Bool) → t.panel ≡ pn → IsIn (if pn then (switched on h).on else Some (switched on h).off) t ↔ InTwo on h t
+    by false false e = (λ i. (e, i), λ i. i.1)
+    by true true e = (λ i. (e, i), λ i. i.1)
+    by false true e = (two_none t, λ i. absurd (false≢true (sym i.0 ∙ e)))
+    by true false e = (two_none t, λ i. absurd (false≢true (sym e ∙ i.0)))
+
+switched_keeps : (on : Bool) (h : TwoParts) → TwoWhole h → (hands_of (switched on h) ≡ hands.Allowed) × AreWhole (switched on h) × ((n : Presets) → TwoFew n h → AreFew n (switched on h))
+switched_keeps false h whole = (refl, record { off = whole; on = whole_two false }, λ n few. both_few n (switched false h) few (few_two n false))
+switched_keeps true h whole = (refl, record { off = whole_two false; on = whole }, λ n few. both_few n (switched true h) (few_two n false) few)
+
+either_whole : (v : StateSet) → AreWhole v → TwoWhole (either_panel v)
+either_whole v whole = cond_both (is_panel_live v) (all_or_none true) (two_drifted v.off) TwoWhole (λ on. whole_two true) (λ off. drift_whole v.off whole.off)
+
+either_few : (v : StateSet) (n : Presets) → AreFew n v → TwoFew n (either_panel v)
+either_few v n few = cond_both (is_panel_live v) (all_or_none true) (two_drifted v.off) (TwoFew n) (λ on. few_two n true) (λ off. drift_few n v.off (few false))
 
 abbrev pub DriftsAndDoes : Effect → State → State → Type 0
 DriftsAndDoes e s t = (d : State) × Drift hands.Allowed s d × Does hands.Allowed e d t
 
-pub panel_reached : (on : Bool) (v : StateSet) → AreWhole v → AreBelow v → AreReached (Possible v) (DriftsAndDoes (effect.Panel on)) (Possible (after_panel on v))
-panel_reached on v whole below = (from, to)
+panel_reached : (on : Bool) (v : StateSet) → AreWhole v → AreBelow v → AreReached (Possible v) (DriftsAndDoes (effect.Panel on)) (Possible (after_panel on v))
+panel_reached on v whole below = (
+  λ t i. from (is_panel_live v) refl t ((switched_exactly on (either_panel v) t).0 i),
+  λ s t i (d, drift, same). subst (Possible (after_panel on v)) (sym same)
+      ((switched_exactly on (either_panel v) (record d { panel = on })).1 (in_panel (either_panel v) d on (to (is_panel_live v) refl s d i drift))),
+)
   where
-    from : (t : State) → Possible (after_panel on v) t → (s : State) × Possible v s × DriftsAndDoes (effect.Panel on) s t
-    from t i = cond_both (is_panel_live v) (all_or_none true) (two_drifted v.off) (λ h. Possible (switched on h) t → (s : State) × Possible v s × DriftsAndDoes (effect.Panel on) s t)
-        (λ live i.
-        let j = only on (all_or_none true) t i in
+    from : (b : Bool) → is_panel_live v ≡ b → (t : State) → InTwo on (if b then all_or_none true else two_drifted v.off) t → (s : State) × Possible v s × DriftsAndDoes (effect.Panel on) s t
+    from true live t i =
         let s = two_state (two_of v true) true whole.on live in
         let d : State = record t { panel = true } in
-        (s.0, of_two v s.0 true s.1, (d, hand_drift s.0 d s.1.0 refl (all_two d (in_panel (all_or_none true) t true j.1).1), ap (λ b. record t { panel = b }) j.0)))
-        (λ dead i.
-        let j = only on (two_drifted v.off) t i in
+        let drift = drift_from_pairs hands.Allowed s.0 d (inr (refl, s.1.0, refl, ((all_exactly true d).0 (in_panel (all_or_none true) t true i.1).1).1)) in
+        (s.0, of_two v s.0 true s.1, (d, drift, ap (λ b. record t { panel = b }) i.0))
+    from false dead t i =
         let d : State = record t { panel = false } in
-        let a = (drift_reached v.off false).0 d (in_panel (two_drifted v.off) t false j.1) in
-        (a.0, of_two v a.0 false a.1, (d, same_drift hands.Allowed a.0 d a.2, ap (λ b. record t { panel = b }) j.0))) i
+        let a = ((drift_leads v.off whole.off).reached false).0 d (in_panel (two_drifted v.off) t false i.1) in
+        (a.0, of_two v a.0 false a.1, (d, same_drift hands.Allowed a.0 d a.2, ap (λ b. record t { panel = b }) i.0))
 
-    off : (s d : State) → Possible v s → Drift hands.Allowed s d → is_panel_live v ≡ false → (pn : Bool) → s.panel ≡ pn → InPart (in_local (two_drifted v.off) d.local) d
-    off s d i drift dead false e = ((drift_reached v.off false).1 s d (to_two v s false e i) (off_drift hands.Allowed s d e drift)).1
-    off s d i drift dead true e = absurd (false≢true (sym dead ∙ two_live (two_of v true) s (to_two v s true e i).1))
+    to : (b : Bool) → is_panel_live v ≡ b → (s d : State) → Possible v s → Drift hands.Allowed s d → InPart (in_local (if b then all_or_none true else two_drifted v.off) d.local) d
+    to true live s d i drift = (all_exactly true d).1 (refl, drift_state hands.Allowed s d (possible_state v s below i) drift)
+    to false dead s d i drift =
+        let off : s.panel ≡ false = false_from_ne_true s.panel (λ on. false≢true (sym dead ∙ two_live (two_of v true) s (to_two v s true on i).1)) in
+        (((drift_leads v.off whole.off).reached false).1 s d (to_two v s false off i) (off_drift hands.Allowed s d off drift)).1
 
-    to : (s t : State) → Possible v s → DriftsAndDoes (effect.Panel on) s t → Possible (after_panel on v) t
-    to s t i (d, drift, same) =
-        let left = cond_both (is_panel_live v) (all_or_none true) (two_drifted v.off) (λ h. InPart (in_local h d.local) d)
-        (λ live. two_all d (drift_state hands.Allowed s d (possible_state v s below i) drift)) (λ dead. off s d i drift dead s.panel refl) in
-        subst (Possible (after_panel on v)) (sym same) (of_two (after_panel on v) (record d { panel = on }) on
-        (subst (λ h. InTwo on h (record d { panel = on })) (sym (there on (either_panel v))) (in_panel (either_panel v) d on left)))
-
-pub known_whole : (v : StateSet) → AreWhole v → (b : Bool) → TwoWhole (if b then all_or_none true else two_drifted v.off)
-known_whole v whole b = cond_both b (all_or_none true) (two_drifted v.off) TwoWhole (λ on. whole_two true) (λ off. drift_whole v.off whole.off)
-
-pub known_few : (v : StateSet) (n : Presets) → AreFew n v → (b : Bool) → TwoFew n (if b then all_or_none true else two_drifted v.off)
-known_few v n few b = cond_both b (all_or_none true) (two_drifted v.off) (TwoFew n) (λ on. few_two n true) (λ off. drift_few n v.off (few false))
-
-pub follows_panel : (c : Command) (reply : Block) (on : Bool) (v w : StateSet) → acknowledged c reply ≡ effect.Panel on → w ≡ after_panel on v → AreWhole v → AreBelow v → Follows hands.Allowed c reply v w
-follows_panel c reply on v w was same whole below = subst (Follows hands.Allowed c reply v) (sym same) (record {
-  reached = reached_by (Possible v) (Possible (after_panel on v)) (DriftsAndDoes (effect.Panel on)) (Exchanges hands.Allowed c reply)
-      (λ s t goes. (goes.0, goes.1, step_wide c reply (effect.Panel on) goes.0 t was refl goes.2)) (λ s t goes. (goes.0, goes.1, wide_step c reply (effect.Panel on) goes.0 t was refl goes.2))
-      (panel_reached on v whole below);
-  hands = with_hands on (if is_panel_live v then all_or_none true else two_drifted v.off);
-  whole = are_whole on (is_panel_live v);
-  few = λ n few. subst (λ m. AreFew m (after_panel on v)) (sym (wide_counts c reply (effect.Panel on) n was refl refl)) (are_few n few on (is_panel_live v));
-})
-  where
-    with_hands : (on : Bool) (h : TwoParts) → hands_of (switched on h) ≡ hands.Allowed
-    with_hands false h = refl
-    with_hands true h = refl
-
-    are_whole : (on b : Bool) → AreWhole (switched on (if b then all_or_none true else two_drifted v.off))
-    are_whole false b = record { off = known_whole v whole b; on = whole_two false }
-    are_whole true b = record { off = whole_two false; on = known_whole v whole b }
-
-    are_few : (n : Presets) → AreFew n v → (on b : Bool) → AreFew n (switched on (if b then all_or_none true else two_drifted v.off))
-    are_few n few false b false = known_few v n few b
-    are_few n few true b true = known_few v n few b
-    are_few n few _ b _ = few_two n false
-
-pub first_whole : (h : Hands) → AreWhole (first_states h)
-first_whole hands.None = record { off = whole_two true; on = whole_two false }
-first_whole hands.Allowed = record { off = whole_two true; on = whole_two true }
-
-pub first_few : (h : Hands) (n : Presets) → AreFew n (first_states h)
-first_few hands.None n true = few_two n false
-first_few hands.Allowed n true = few_two n true
-first_few _ n _ = few_two n true
-
-pub leads_forgotten : (Goes : State → State → Type 0) (count : Presets → Presets) (v w : StateSet) → hands_of v ≡ hands.Allowed → w ≡ (if some_state v then first_states hands.Allowed else v) → AreWhole v
-    → ((s t : State) → IsState t → Goes s t) → ((s t : State) → Possible v s → Goes s t → IsState t) → ((n : Presets) → count n ≡ n) → AllLeadOn hands.Allowed Goes count v w
-leads_forgotten Goes count v w allowed same whole there back counts = subst (AllLeadOn hands.Allowed Goes count v) (sym same) (record {
-  reached = (
-    λ t i. cond_both (some_state v) (first_states hands.Allowed) v (λ w. Possible w t → (s : State) × Possible v s × Goes s t)
-        (λ live i. let s = live_some v whole live in (s.0, s.1, there s.0 t (first_is hands.Allowed t i))) (λ dead i. absurd (false≢true (sym dead ∙ some_live v t i))) i,
-    λ s t i goes. subst (λ (b : Bool). Possible (if b then first_states hands.Allowed else v) t) (sym (some_live v s i)) (is_first hands.Allowed t (back s t i goes)),
+pub follows_panel : (c : Command) (reply : Block) (on : Bool) (v : StateSet) → acknowledged c reply ≡ effect.Panel on → AreWhole v → AreBelow v → Follows hands.Allowed c reply v (after_panel on v)
+follows_panel c reply on v was whole below = let w = wide_step c reply (effect.Panel on) was refl in let keeps = switched_keeps on (either_panel v) (either_whole v whole) in record {
+  reached = let r = panel_reached on v whole below in (
+    λ t i. let a = r.0 t i in (a.0, a.1, (a.2.0, a.2.1, (w.0 a.2.0 t).1 a.2.2)),
+    λ s t i goes. r.1 s t i (goes.0, goes.1, (w.0 goes.0 t).0 goes.2),
   );
-  hands = cond_both (some_state v) (first_states hands.Allowed) v (λ w. hands_of w ≡ hands.Allowed) (λ live. refl) (λ dead. allowed);
-  whole = cond_both (some_state v) (first_states hands.Allowed) v AreWhole (λ live. first_whole hands.Allowed) (λ dead. whole);
-  few = λ n few. subst (λ m. AreFew m (if some_state v then first_states hands.Allowed else v)) (sym (counts n))
-      (cond_both (some_state v) (first_states hands.Allowed) v (AreFew n) (λ live. first_few hands.Allowed n) (λ dead. few));
-})
+  hands = keeps.0;
+  whole = keeps.1;
+  few = λ n few. subst (λ m. AreFew m (after_panel on v)) (sym (w.1 n refl)) (keeps.2 n (either_few v n few));
+}
 
-pub follows_forget : (c : Command) (reply : Block) (v w : StateSet) → acknowledged c reply ≡ effect.ForgetAll → hands_of v ≡ hands.Allowed → w ≡ (if some_state v then first_states hands.Allowed else v) → AreWhole v
-    → Follows hands.Allowed c reply v w
-follows_forget c reply v w was allowed same whole = leads_forgotten (Exchanges hands.Allowed c reply) (presets_after c reply true) v w allowed same whole
-    (λ s t valid. (s, ([], refl), step_wide c reply effect.ForgetAll s t was refl valid)) (λ s t i goes. wide_step c reply effect.ForgetAll goes.0 t was refl goes.2)
-    (λ n. wide_counts c reply effect.ForgetAll n was refl refl)
+-- ---- everything is forgotten
 
--- all times of two parts are times of the day
-pub below_off : (v : StateSet) → v.on ≡ None → TwoBelow v.off → AreBelow v
-below_off v none off = record { off = off; on = rw none (λ l. by l) }
+pub first_kept : (h : Hands) (n : Presets) → IsKept n (first_states h)
+first_kept hands.None n = record { whole = record { off = whole_two true; on = whole_two false }; few = both_few n (first_states hands.None) (few_two n true) (few_two n false) }
+first_kept hands.Allowed n = record { whole = record { off = whole_two true; on = whole_two true }; few = both_few n (first_states hands.Allowed) (few_two n true) (few_two n true) }
+
+leads_forgotten : (Goes : State → State → Type 0) (count : Presets → Presets) (v : StateSet) → hands_of v ≡ hands.Allowed → AreWhole v
+    → ((s t : State) → IsState t → Goes s t) → ((s t : State) → Possible v s → Goes s t → IsState t)
+    → ((n : Presets) → count n ≡ n) → AllLeadOn hands.Allowed Goes count v (if some_state v then first_states hands.Allowed else v)
+leads_forgotten Goes count v allowed whole there back counts = by (some_state v) refl
   where
-    by : (l : Bool) → (r : Register) → BelowDay (entries_of r (in_local (all_or_none false) l)).times
-    by false RegIn = none_below
-    by _ RegIn = none_below
-    by _ _ = none_below
+    by : (b : Bool) → some_state v ≡ b → AllLeadOn hands.Allowed Goes count v (if b then first_states hands.Allowed else v)
+    by true live = record {
+      reached = (λ t i. let s = live_some v whole live in (s.0, s.1, there s.0 t ((first_exactly hands.Allowed t).0 i)), λ s t i goes. (first_exactly hands.Allowed t).1 (back s t i goes));
+      hands = refl;
+      whole = record { off = whole_two true; on = whole_two true };
+      few = λ n few. (first_kept hands.Allowed (count n)).few;
+    }
+    by false dead = record {
+      reached = (λ t i. absurd (false≢true (sym dead ∙ some_live v t i)), λ s t i goes. absurd (false≢true (sym dead ∙ some_live v s i)));
+      hands = allowed;
+      whole = whole;
+      few = λ n few. subst (λ m. AreFew m v) (sym (counts n)) few;
+    }
+
+pub follows_forget : (c : Command) (reply : Block) (v : StateSet) → acknowledged c reply ≡ effect.ForgetAll → hands_of v ≡ hands.Allowed → AreWhole v
+    → Follows hands.Allowed c reply v (if some_state v then first_states hands.Allowed else v)
+follows_forget c reply v was allowed whole = let w = wide_step c reply effect.ForgetAll was refl in leads_forgotten (Exchanges hands.Allowed c reply) (presets_after c reply true) v allowed whole
+    (λ s t valid. (s, ([], refl), (w.0 s t).1 valid)) (λ s t i goes. (w.0 goes.0 t).0 goes.2) (λ n. w.1 n refl)
+
+-- ---- commands whose reply is not known
+
+passes_back : (e : Effect) (s t : State) → IsState s → (t ≡ s) ⊎ Does hands.None e s t → DoesOrNot true e s t
+passes_back e s t valid (inr does) = inl does
+passes_back effect.Nothing s t valid (inl same) = inl same
+passes_back effect.KeepOrStop s t valid (inl same) = inl (inl same)
+passes_back (effect.Panel on) s t valid (inl same) = inl same
+passes_back effect.ForgetTape s t valid (inl same) = rw same (inl (valid, refl, refl))
+passes_back effect.ForgetRegisters s t valid (inl same) = rw same (inl (valid, refl, refl, refl, refl))
+passes_back effect.ForgetAll s t valid (inl same) = rw same (inl (valid, refl))
+passes_back _ s t valid (inl same) = inr (refl, or-true s.local, same)
+
+-- a drift, and then nothing or the effect
+pub passed_effect : (c : Command) (h g : TwoParts) → TwoWhole h → TwoBelow h → HasEffect true (effect_of c) (two_drifted h) g → Passed c h g
+passed_effect c h g whole below has = leads_then (Drift hands.None) (CanPass hands.None c) (λ n. n) (with_command c) h (two_drifted h) g (drift_leads h whole)
+    (leads_as (DoesOrNot true (effect_of c)) (CanPass hands.None c) (counted (effect_of c)) (with_command c) (two_drifted h) g (λ s t d. elim d [ inl does ↦ inr does | inr (may, stays, e) ↦ inl e ])
+    (λ s t i. passes_back (effect_of c) s t (state_is (in_local (two_drifted h) s.local) s (drift_below h below s.local) i)) (command_counts c) has)
+
+-- the panel stays
+all_drift : (v : StateSet) → AreWhole v → AreBelow v → AllLeadOn hands.Allowed (DriftsAndGoes (λ h s t. t ≡ s) hands.Allowed) (λ n. n) v (all_drifted v)
+all_drift v whole below = leads_both (λ h s t. t ≡ s) (λ n. n) v (two_drifted v.off) (all_or_none (is_panel_live v))
+    (record { same = λ h k s t e. e; panel = λ s t w. ap (λ (u : State). u.panel) w.2 ∙ drift_panel hands.None s w.0 w.1 }) whole below (stays v.off whole.off)
+    (subst (λ g. LeadsOn (DriftsAndGoes (λ h s t. t ≡ s) hands.None) (λ n. n) (all_or_none (is_panel_live v)) g) (none_or_all (is_panel_live v)) (stays (all_or_none (is_panel_live v)) (whole_two (is_panel_live v))))
+  where
+    none_or_all : (b : Bool) → two_drifted (all_or_none b) ≡ all_or_none b
+    none_or_all true = refl
+    none_or_all false = refl
+
+    stays : (h : TwoParts) → TwoWhole h → LeadsOn (DriftsAndGoes (λ h s t. t ≡ s) hands.None) (λ n. n) h (two_drifted h)
+    stays h whole = leads_then (Drift hands.None) (λ s t. t ≡ s) (λ n. n) (λ n. n) h (two_drifted h) (two_drifted h) (drift_leads h whole) (leads_same (two_drifted h) (drift_whole h whole))
+
+-- a state after a passed switch is one of those that stayed, or one of those that the switch leads to
+passed_exactly : (on : Bool) (v : StateSet) (t : State) → (Possible (panel_passed on v) t → Possible (all_drifted v) t ⊎ Possible (after_panel on v) t)
+    × ((IsState t × Possible (all_drifted v) t) ⊎ Possible (after_panel on v) t → Possible (panel_passed on v) t)
+passed_exactly on v t = by on t.panel
+  where
+    known_on : (b : Bool) → InPart (in_local (all_or_none b) t.local) t → InPart (in_local (if b then all_or_none true else two_drifted v.off) t.local) t
+    known_on true i = i
+    known_on false i = two_none t i
+
+    known_off : (b : Bool) → IsState t → InPart (in_local (two_drifted v.off) t.local) t → InPart (in_local (if b then all_or_none true else two_drifted v.off) t.local) t
+    known_off true valid i = (all_exactly true t).1 (refl, valid)
+    known_off false valid i = i
+
+    In : Bool → StateSet → Type 0
+    In pn v = IsIn (if pn then v.on else Some v.off) t
+
+    by : (on pn : Bool) → (In pn (panel_passed on v) → In pn (all_drifted v) ⊎ In pn (after_panel on v)) × ((IsState t × In pn (all_drifted v)) ⊎ In pn (after_panel on v) → In pn (panel_passed on v))
+    by true false = (λ i. inl i, λ w. elim w [ inl (valid, i) ↦ i | inr i ↦ two_none t i ])
+    by false true = (λ i. inl i, λ w. elim w [ inl (valid, i) ↦ i | inr i ↦ two_none t i ])
+    by true true = (λ i. inr i, λ w. elim w [ inl (valid, i) ↦ known_on (is_panel_live v) i | inr i ↦ i ])
+    by false false = (λ i. inr i, λ w. elim w [ inl (valid, i) ↦ known_off (is_panel_live v) valid i | inr i ↦ i ])
+
+-- the panel may be switched
+pub passed_panel : (c : Command) (on : Bool) (v : StateSet) → effect_of c ≡ effect.Panel on → AreWhole v → AreBelow v → FollowsPassed hands.Allowed c v (panel_passed on v)
+passed_panel c on v is whole below = let keeps = by on in record {
+  reached = (
+    λ t i. elim ((passed_exactly on v t).0 i) [
+      | inl stays ↦ let a = (all_drift v whole below).reached.0 t stays in (a.0, a.1, (a.2.0, a.2.1, inl a.2.2))
+      | inr goes ↦ let a = (panel_reached on v whole below).0 t goes in (a.0, a.1, (a.2.0, a.2.1, inr (rw is a.2.2)))
+    ],
+    λ s t i (d, drift, can). elim can [
+      | inl e ↦ (passed_exactly on v t).1 (inl (subst IsState (sym e) (drift_state hands.Allowed s d (possible_state v s below i) drift), (all_drift v whole below).reached.1 s t i (d, drift, e)))
+      | inr does ↦ (passed_exactly on v t).1 (inr ((panel_reached on v whole below).1 s t i (d, drift, subst (λ e. Does hands.Allowed e d t) is does)))
+    ],
+  );
+  hands = keeps.0;
+  whole = keeps.1;
+  few = λ n few. subst (λ m. AreFew m (panel_passed on v)) (sym (command_counts c n ∙ ap (λ e. counted e n) is)) (keeps.2 n few);
+}
+  where
+    by : (on : Bool) → (hands_of (panel_passed on v) ≡ hands.Allowed) × AreWhole (panel_passed on v) × ((n : Presets) → AreFew n v → AreFew n (panel_passed on v))
+    by true = (refl, record { off = drift_whole v.off whole.off; on = either_whole v whole }, λ n few. both_few n (panel_passed true v) (drift_few n v.off (few false)) (either_few v n few))
+    by false = (refl, record { off = either_whole v whole; on = whole_two (is_panel_live v) }, λ n few. both_few n (panel_passed false v) (either_few v n few) (few_two n (is_panel_live v)))
+
+pub passed_forget : (c : Command) (v : StateSet) → effect_of c ≡ effect.ForgetAll → hands_of v ≡ hands.Allowed → AreWhole v → AreBelow v
+    → FollowsPassed hands.Allowed c v (if some_state v then first_states hands.Allowed else v)
+passed_forget c v is allowed whole below = leads_forgotten (Passes hands.Allowed c) (with_command c) v allowed whole (λ s t valid. (s, ([], refl), inr (rw is valid)))
+    (λ s t i (d, drift, can). elim can [ inl e ↦ subst IsState (sym e) (drift_state hands.Allowed s d (possible_state v s below i) drift) | inr does ↦ subst (λ e. Does hands.Allowed e d t) is does ])
+    (λ n. command_counts c n ∙ ap (λ e. counted e n) is)

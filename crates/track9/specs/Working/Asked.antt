@@ -1,16 +1,10 @@
 -- Which states an effect may have led from: a pattern of fields, each fixed or free.
-use Rattle.std.specs.Prelude.{◌≡◌, ◌==◌, if◌then◌else◌, Bool, true, false, ⊤, Option, Some, None, option_map, List}
-use Rattle.track9.specs.Working.Deck.{At, Change, Clear, Command, Drift, Effect, Entry, Hands, IsState, KeepsRest, Mode, Next, PairReaches, Prev, Recall, RegAudioIn, RegAudioOut}
-use Rattle.track9.specs.Working.Deck.{RegIn, RegOut, Register, Reset, SetAt, SetSomewhere, State, entry_of, is_mode, moved_entry, next_frame, prev_frame}
-use Rattle.track9.specs.declared.asked.Asked.{Asked}
+use Rattle.track9.specs.Working.Deck.{Asked, At, bit_of, Bool, Change, Clear, Command, Drift, Effect, Entry, entry_of, false, Hands, has, has_pair, if◌then◌else◌, is_mode}
+use Rattle.track9.specs.Working.Deck.{IsState, KeepsRest, List, may_ignore, Mode, ModeSet, moved_entry, Next, next_frame, None, Option, option_map, Pair, PairReaches, Prev}
+use Rattle.track9.specs.Working.Deck.{prev_frame, Recall, RegAudioIn, RegAudioOut, RegIn, Register, RegOut, Reset, SetAt, SetSomewhere, Some, State, true, ⊤, ◌==◌, ◌≡◌}
 use Rattle.deck9.specs.declared.effect.Effect.TheVariants as effect
 use Rattle.deck9.specs.declared.mode.Mode.TheVariants as mode
-use Rattle.track9.specs.declared.pairs.Pair.{Pair}
-use Rattle.track9.specs.declared.mode_set.ModeSet.{ModeSet}
 use Rattle.deck9.specs.declared.state.Hands.TheVariants as hands
-use Rattle.deck9.specs.Local.{may_ignore}
-use Rattle.track9.specs.ModeSet.{bit_of, has}
-use Rattle.track9.specs.Tracker.{has_pair}
 use Rattle.track9.specs.Working.Pairs.{modes}
 
 -- nothing is asked for, or this

@@ -1,12 +1,8 @@
 -- How the values that models show are stored.
-use Rattle.std.specs.Prelude.{ℕ, ◌≡◌, Bool, true, false, if◌then◌else◌, List, Option, refl}
-use Rattle.std.specs.Coded.{Coded, code_by, coded×, coded_ℕ, coded_bool, coded_list, coded_option}
+use Rattle.track9.specs.Working.Deck.{Bool, code_by, Coded, coded_bool, coded_list, coded_option, coded_ℕ, coded×, Entries, false, Hands, if◌then◌else◌, List, ModeSet, Option}
+use Rattle.track9.specs.Working.Deck.{PartStates, Presets, refl, StateSet, Times, Tracked, true, TwoParts, ℕ, ◌≡◌}
 use Rattle.std.specs.FinSet as set
-use Rattle.track9.specs.Working.Deck.{Hands, Times}
-use Rattle.track9.specs.declared.mode_set.ModeSet.{ModeSet}
-use Rattle.track9.specs.Presets.{Presets}
 use Rattle.deck9.specs.declared.state.Hands.TheVariants as hands
-use Rattle.track9.specs.Tracker.{Entries, PartStates, StateSet, Tracked, TwoParts}
 
 abbrev pub entries_code : Coded Entries
 entries_code = code_by (Bool × Times) (coded× coded_bool (set.code coded_ℕ)) (λ e. (e.may_clear, e.times)) (λ p. record { may_clear = p.0; times = p.1 }) (λ _. refl)

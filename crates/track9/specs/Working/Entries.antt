@@ -1,8 +1,7 @@
 -- How the entries that a register may have change.
-use Rattle.std.specs.Prelude.{ℕ, ◌||◌, not, if◌then◌else◌, Bool, true, false, List, [], ◌∷◌, Option, Some, None}
+use Rattle.track9.specs.Working.Deck.{[], Bool, Change, Entries, every_time, false, if◌then◌else◌, image, just, List, Next, next_frame, None, not, Option, Prev, prev_frame}
+use Rattle.track9.specs.Working.Deck.{Recall, Reset, SetAt, SetSomewhere, Some, Times, true, ℕ, ◌||◌, ◌∷◌}
 use Rattle.std.specs.FinSet as set
-use Rattle.track9.specs.Working.Deck.{Change, Next, Prev, Recall, Reset, SetAt, SetSomewhere, Times, every_time, image, just, next_frame, prev_frame}
-use Rattle.track9.specs.Tracker.{Entries}
 
 abbrev pub entries : Bool → Times → Entries
 entries c ts = record { may_clear = c; times = ts }

@@ -1,13 +1,8 @@
 -- How what is known of a set of states is put together.
-use Rattle.std.specs.Prelude.{◌≡◌, ◌≢◌, ◌==◌, if◌then◌else◌, Bool, true, false, Option, Some, None}
-use Rattle.track9.specs.declared.knowledge.Known.{Known}
+use Rattle.track9.specs.Working.Deck.{Allows, At, Bool, Clear, entries_of, Entry, false, has, if◌then◌else◌, is_set, Known, KnownEntry, Mode, ModeSet, None, Option, PartStates}
+use Rattle.track9.specs.Working.Deck.{Register, Some, StateSet, true, TwoParts, ◌==◌, ◌≡◌, ◌≢◌}
 use Rattle.track9.specs.declared.knowledge.Known.TheVariants as known
-use Rattle.track9.specs.declared.knowledge.KnownEntry.{KnownEntry}
 use Rattle.track9.specs.declared.knowledge.KnownEntry.TheVariants as entry
-use Rattle.track9.specs.Working.Deck.{At, Clear, Entry, Mode, Register, is_set}
-use Rattle.track9.specs.declared.mode_set.ModeSet.{ModeSet}
-use Rattle.track9.specs.ModeSet.{has}
-use Rattle.track9.specs.Tracker.{Allows, PartStates, StateSet, TwoParts, entries_of}
 use Rattle.track9.specs.Working.Pairs.{either, goals_of, goes}
 use Rattle.track9.specs.Working.Parts.{is_live}
 use Rattle.track9.specs.Working.States.{two_of}

@@ -1,9 +1,6 @@
 -- How pairs of a goal and a shown mode change.
-use Rattle.std.specs.Prelude.{◌==◌, ◌&&◌, not, if◌then◌else◌, Bool, [], ◌∷◌, bit_and, bit_or, ℕ, List}
-use Rattle.track9.specs.Working.Deck.{Cued, Eject, FastForward, Jog, Mode, Play, Rec, Rewind, Shuttle, Stop, Var, is_mode, on_the_way}
-use Rattle.track9.specs.declared.mode_set.ModeSet.{ModeSet}
-use Rattle.track9.specs.ModeSet.{bit_of}
-use Rattle.track9.specs.Tracker.{shown_with}
+use Rattle.track9.specs.Working.Deck.{[], bit_and, bit_of, bit_or, Bool, Cued, Eject, FastForward, if◌then◌else◌, is_mode, Jog, List, Mode, ModeSet, not, on_the_way, Play, Rec}
+use Rattle.track9.specs.Working.Deck.{Rewind, shown_with, Shuttle, Stop, Var, ℕ, ◌&&◌, ◌==◌, ◌∷◌}
 
 -- ---- sets of modes
 
@@ -33,8 +30,7 @@ is_some s = not (bit_and s.0 0x3FF == 0)
 
 -- the pairs that have these shown modes for each goal
 abbrev pub by_goal : (Mode → ModeSet) → List ModeSet
-by_goal f =
-    f Stop ∷ f Play ∷ f Rec ∷ f FastForward ∷ f Rewind ∷ f Shuttle ∷ f Jog ∷ f Var ∷ f Cued ∷ f Eject ∷ []
+by_goal f = f Stop ∷ f Play ∷ f Rec ∷ f FastForward ∷ f Rewind ∷ f Shuttle ∷ f Jog ∷ f Var ∷ f Cued ∷ f Eject ∷ []
 
 abbrev pub no_pairs : List ModeSet
 no_pairs = by_goal (λ g. modes 0)

@@ -1,8 +1,6 @@
 -- How the states with one value of local and one of panel change.
-use Rattle.std.specs.Prelude.{ℕ, ◌≡◌, ◌==◌, ◌&&◌, not, Bool, true, false, if◌then◌else◌, Option, Some, None, bit_and, option_map, List}
-use Rattle.track9.specs.Working.Deck.{Change, Mode, RegAudioIn, RegAudioOut, RegIn, RegOut, Register, State}
-use Rattle.track9.specs.declared.mode_set.ModeSet.{ModeSet}
-use Rattle.track9.specs.Tracker.{Entries, InPart, PartStates, entries_of}
+use Rattle.track9.specs.Working.Deck.{bit_and, Bool, Change, Entries, entries_of, false, if◌then◌else◌, InPart, List, Mode, ModeSet, None, not, Option, option_map, PartStates}
+use Rattle.track9.specs.Working.Deck.{RegAudioIn, RegAudioOut, RegIn, Register, RegOut, Some, State, true, ℕ, ◌&&◌, ◌==◌, ◌≡◌}
 use Rattle.track9.specs.Working.Entries.{agreeing, all_entries, changed, no_entries, said, some_entry, widened}
 use Rattle.track9.specs.Working.Pairs.{all_pairs, drifted, gone, joined, masked, no_pairs, some_pair}
 
@@ -42,8 +40,7 @@ where_live f p = if is_live p then f p else p
 
 -- no state, where a factor has nothing
 abbrev pub settled : PartStates → PartStates
-settled p =
-    if is_live p && some_entry p.ins && some_entry p.outs && some_entry p.ains && some_entry p.aouts then p else no_states
+settled p = if is_live p && some_entry p.ins && some_entry p.outs && some_entry p.ains && some_entry p.aouts then p else no_states
 
 -- ---- what exchanges do
 

@@ -1,13 +1,10 @@
 -- How a set of states changes.
-use Rattle.std.specs.Prelude.{ℕ, ◌≡◌, ◌≤◌, ◌+◌, ◌⊎◌, ◌||◌, Bool, true, false, if◌then◌else◌, Option, Some, None}
-use Rattle.track9.specs.Working.Deck.{AreReached, BelowDay, Block, Change, Command, Does, Effect, Exchanges, Hands, Mode, Passes, Register, SetAt, ShowsStatus, State}
-use Rattle.track9.specs.Working.Deck.{begin_count, effect_of, is_nak, is_of_goal_or_register}
+use Rattle.track9.specs.Working.Deck.{AreReached, begin_count, BelowDay, Block, Bool, Change, Command, count_of, Does, Effect, effect_of, entries_of, Exchanges, false, Hands}
+use Rattle.track9.specs.Working.Deck.{if◌then◌else◌, in_local, InPart, is_nak, is_of_goal_or_register, LocalFits, Mode, ModeSet, None, Option, PartStates, Passes, Possible}
+use Rattle.track9.specs.Working.Deck.{Presets, presets_after, Register, SetAt, ShowsStatus, Some, State, StateSet, true, TwoParts, with_command, with_one, ℕ, ◌+◌, ◌||◌, ◌≡◌, ◌≤◌}
+use Rattle.track9.specs.Working.Deck.{◌⊎◌}
 use Rattle.deck9.specs.declared.effect.Effect.TheVariants as effect
-use Rattle.track9.specs.declared.mode_set.ModeSet.{ModeSet}
 use Rattle.deck9.specs.declared.state.Hands.TheVariants as hands
-use Rattle.track9.specs.Presets.{Presets, count_of, presets_after, with_command, with_one}
-use Rattle.track9.specs.declared.halves.LocalFits.{LocalFits}
-use Rattle.track9.specs.Tracker.{InPart, PartStates, Possible, StateSet, TwoParts, entries_of, in_local}
 use Rattle.track9.specs.Working.Entries.{agreeing}
 use Rattle.track9.specs.Working.Parts.{Whole, all_states, aside, changed_entries, changed_part, drifted_part, forgotten_part, gone_part, is_live, no_states, put_aside, put_settled, status_part, where_live}
 
@@ -58,16 +55,12 @@ two_changed may_stay r c h = record {
 }
 
 -- a register's time was read
-abbrev pub sensed_aside : Register → Option ℕ → PartStates → PartStates
-sensed_aside r time p = put_settled r (aside p (agreeing time (entries_of r p))) p
-
 abbrev pub two_sensed : Register → Option ℕ → TwoParts → TwoParts
-two_sensed r time h = map_two (λ local. sensed_aside r time) h
+two_sensed r time h = map_two (λ local p. put_settled r (aside p (agreeing time (entries_of r p))) p) h
 
 -- status data agree with some states
 abbrev pub two_status : LocalFits → ModeSet → Option ℕ → TwoParts → TwoParts
-two_status agrees mask datum h =
-    map_two (λ local. where_live (status_part (if local then agrees.local else agrees.remote) mask datum)) h
+two_status agrees mask datum h = map_two (λ local. where_live (status_part (if local then agrees.local else agrees.remote) mask datum)) h
 
 -- what is forgotten
 abbrev pub tape_forgotten : TwoParts → TwoParts

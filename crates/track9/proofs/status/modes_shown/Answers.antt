@@ -1,8 +1,6 @@
-use Rattle.std.proofs.Common.{◌≡◌, ◌∙◌, arith, sym}
-use Rattle.std.proofs.lemmas.List.Folds.{list_any_more}
-use Rattle.deck9.specs.Shows.{may_show}
-use Rattle.track9.proofs.PairLemmas.{has_every}
+use Rattle.track9.proofs.Words.{arith, list_any_more, may_show, sym, ◌∙◌, ◌≡◌}
 use Rattle.track9.proofs.status.modes_shown.Goals as goal
+use Rattle.track9.proofs.EntryLemmas.{has_every}
 
 pub loop-mode-preserved : goal.loop-mode-preserved
 loop-mode-preserved c = λ m. c.or-modes.ensures.has m ∙ rw (c.loop-mode.invariant m, c.shown_by.ensures m) (sym (list_any_more _ _ c.loop-mode.mode-index _ c.loop-mode-test.true))

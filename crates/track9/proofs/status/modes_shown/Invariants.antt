@@ -1,8 +1,4 @@
-use Rattle.std.proofs.Common.{◌≡◌, ◌&&◌, take}
-use Rattle.std.specs.List.{list_any}
-use Rattle.track9.specs.Working.Deck.{is_mode, may_show}
-use Rattle.deck9.specs.declared.mode.Mode.{Mode as AMode}
-use Rattle.track9.specs.ModeSet.{has}
+use Rattle.track9.proofs.Words.{has, is_mode, list_any, may_show, Mode as AMode, take, ◌&&◌, ◌≡◌}
 use Rattle.track9.proofs.status.modes_shown.Given as goal
 
 abbrev pub invariant-loop-mode : goal.invariant-loop-mode

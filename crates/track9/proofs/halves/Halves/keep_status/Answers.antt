@@ -1,5 +1,4 @@
-use Rattle.std.proofs.Common.{ap}
-use Rattle.track9.specs.Working.States.{two_status}
+use Rattle.track9.proofs.Words.{ap, two_status}
 use Rattle.track9.proofs.halves.Halves.keep_status.Goals as goal
 
 pub returns : goal.returns

@@ -1,6 +1,6 @@
-use Rattle.std.proofs.Common.{◌∙◌, sym}
-use Rattle.track9.proofs.KnownModes.{last_mode}
+use Rattle.track9.proofs.Words.{sym, ◌∙◌}
 use Rattle.track9.proofs.mode_set.ModeSet.first.Goals as goal
+use Rattle.track9.proofs.KnownLemmas.{last_mode}
 
 pub returns-else-has-9 : goal.returns-else-has-9
 returns-else-has-9 c =

@@ -1,11 +1,7 @@
-use Rattle.std.proofs.Common.{◌∙◌, refl, ap, sym, subst}
-use Rattle.std.proofs.lemmas.Result.{on_ok_weaker}
-use Rattle.track9.proofs.Sets.{AreWhole, hands_of}
-use Rattle.track9.proofs.PanelLemmas.{follows_off}
+use Rattle.track9.proofs.Words.{ap, Exchanges, hands_of, on_ok_weaker, sym, ◌∙◌}
 use Rattle.track9.proofs.states.States.exchange.Goals as goal
+use Rattle.track9.proofs.PanelLemmas.{exchange_panel, leads_off, none_on}
 
 pub returns-in-None-clause-ok : goal.returns-in-None-clause-ok
-returns-in-None-clause-ok g c =
-    rw (← c.self.view_is)
-    (on_ok_weaker c.exchange.result
-    (follows_off c.args.command.now c.args.reply.now _ c.exchange.new.self _ refl (ap hands_of c.self.view_is ∙ sym c.hands.ensures ∙ c.in-None.is) (subst AreWhole (sym c.self.view_is) c.requires)) c.exchange.ensures.ok)
+returns-in-None-clause-ok g c = rw (← c.self.view_is, none_on c.self.inside.on (ap hands_of c.self.view_is ∙ sym c.hands.ensures ∙ c.in-None.is)) (on_ok_weaker c.exchange.result
+    (leads_off (λ h. Exchanges h c.args.command.now c.args.reply.now) _ (exchange_panel c.args.command.now c.args.reply.now) c.self.inside.off c.exchange.new.self) c.exchange.ensures.ok)

@@ -1,7 +1,6 @@
-use Rattle.std.proofs.Common.{subst}
-use Rattle.track9.proofs.Sets.{StateSet, TwoKnow}
-use Rattle.track9.proofs.KnownEntries.{entry_known}
+use Rattle.track9.proofs.Words.{StateSet, subst, TwoKnow}
 use Rattle.track9.proofs.states.States.known_entry.Goals as goal
+use Rattle.track9.proofs.KnownLemmas.{entry_known}
 
 pub returns-in-Some : goal.returns-in-Some
 returns-in-Some g c =

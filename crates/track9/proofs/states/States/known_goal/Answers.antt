@@ -1,8 +1,9 @@
-use Rattle.track9.proofs.KnownModes.{goals_known, goals_some}
+use Rattle.track9.proofs.Words.{State}
 use Rattle.track9.proofs.states.States.known_goal.Goals as goal
+use Rattle.track9.proofs.KnownLemmas.{has_goals, modes_known, modes_some}
 
 pub known-requires : goal.known-requires
-known-requires g c = goals_some c.args.self.now c.goals.result c.goals.ensures c.requires.whole c.requires.some
+known-requires g c = rw c.goals.ensures (modes_some c.args.self.now (λ (s : State). s.goal) _ (has_goals c.args.self.now c.requires.whole) c.requires.whole c.requires.some)
 
 pub returns : goal.returns
-returns g c = goals_known c.args.self.now c.goals.result c.known.result c.goals.ensures c.requires.whole c.known.ensures
+returns g c = modes_known _ _ _ c.known.result (has_goals c.args.self.now c.requires.whole) (rw c.goals.ensures at c.known.ensures)

@@ -1,5 +1,5 @@
-use Rattle.track9.proofs.KnownModes.{local_known}
 use Rattle.track9.proofs.states.States.known_local.Goals as goal
+use Rattle.track9.proofs.KnownLemmas.{local_known}
 
 pub returns : goal.returns
-returns g c = local_known c.args.self.now c.is_remote_live.result c.is_local_live.result c.is_remote_live.ensures c.is_local_live.ensures c.requires.whole c.requires.some c.known_fact.result c.known_fact.ensures
+returns g c = rw (c.known_fact.ensures, c.is_remote_live.ensures, c.is_local_live.ensures) (local_known c.args.self.now c.requires.whole c.requires.some)

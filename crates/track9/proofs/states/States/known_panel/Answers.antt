@@ -1,9 +1,6 @@
-use Rattle.std.proofs.Common.{◌∙◌, ap}
-use Rattle.track9.proofs.Sets.{StateSet, some_two}
-use Rattle.track9.proofs.KnownModes.{panel_known}
 use Rattle.track9.proofs.states.States.known_panel.Goals as goal
+use Rattle.track9.proofs.KnownLemmas.{panel_known}
 
 pub returns : goal.returns
-returns g c =
-    panel_known c.args.self.now c.is_some.result c.is_panel_live.result (c.is_some.ensures ∙ ap (λ (v : StateSet). some_two v.off) c.self.view_is) c.is_panel_live.ensures c.requires.whole c.requires.some
-    c.known_fact.result c.known_fact.ensures
+returns g c = rw (c.known_fact.ensures, c.is_some.ensures, c.is_panel_live.ensures, ← c.self.view_is)
+    (panel_known (record { off = c.self.inside.off; on = c.self.inside.on }) (rw (← c.self.view_is) at c.requires.whole) (rw (← c.self.view_is) at c.requires.some))

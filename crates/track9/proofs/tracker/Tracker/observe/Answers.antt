@@ -1,20 +1,19 @@
-use Rattle.deck9.specs.Step.{Exchanges}
-use Rattle.track9.specs.Working.States.{hands_of}
-use Rattle.track9.proofs.TrackerLemmas.{kept_after, over_false, reached_from, remains_where}
+use Rattle.track9.proofs.Words.{false_from_ne_true, some_state, ◌∙◌}
 use Rattle.track9.proofs.tracker.Tracker.observe.Goals as goal
+use Rattle.track9.proofs.KnownLemmas.{kept_after, remains_where}
+use Rattle.track9.proofs.PartLemmas.{live_some}
 
 pub invariant_of-self-2 : goal.invariant_of-self-2
-invariant_of-self-2 g c =
-    kept_after c.args.command.now c.args.reply.now c.self.inside.states c.exchange.new.self (hands_of c.self.inside.states) c.self.inside.presets c.count_exchange.new.self c.is_some-remains.result
-    c.is_some-remains.ensures c.count_exchange.ensures c.self.invariant c.in_ok-exchange.ensures.ok
+invariant_of-self-2 g c = rw (c.count_exchange.ensures, c.is_some-remains.ensures)
+    (kept_after c.args.command.now c.args.reply.now c.self.inside.states c.exchange.new.self _ c.self.inside.presets c.self.invariant c.in_ok-exchange.ensures.ok)
 
 pub returns-clause-reached : goal.returns-clause-reached
-returns-clause-reached g c =
-    reached_from c.args.self.now c.self.inside.states c.exchange.new.self c.self.inside.presets (λ h. Exchanges h c.args.command.now c.args.reply.now) c.self.view_is c.in_ok-exchange.ensures.ok.reached
+returns-clause-reached g c = rw (← c.self.view_is) c.in_ok-exchange.ensures.ok.reached
 
 pub returns-clause-remains : goal.returns-clause-remains
-returns-clause-remains g c = remains_where c.is_some-remains.result c.exchange.new.self c.is_some-remains.ensures c.in_ok-exchange.ensures.ok.whole
+returns-clause-remains g c = rw c.is_some-remains.ensures (remains_where c.exchange.new.self c.in_ok-exchange.ensures.ok.whole)
 
 pub returns-clause-over : goal.returns-clause-over
-returns-clause-over g c = λ none.
-    over_false c.args.self.now c.self.inside.states c.exchange.new.self c.self.inside.presets c.args.command.now c.args.reply.now c.is_some-remains.result c.self.view_is c.in_ok-exchange.ensures.ok c.is_some-remains.ensures none
+returns-clause-over g c = rw (← c.self.view_is) (λ none. c.is_some-remains.ensures ∙ false_from_ne_true (some_state c.exchange.new.self) (λ live.
+    let a = live_some c.exchange.new.self c.in_ok-exchange.ensures.ok.whole live in
+    let from = c.in_ok-exchange.ensures.ok.reached.0 a.0 a.1 in none (from.0, from.1)))

@@ -1,5 +1,5 @@
-use Rattle.track9.proofs.TrackerLemmas.{remains_where}
 use Rattle.track9.proofs.tracker.Tracker.remains.Goals as goal
+use Rattle.track9.proofs.KnownLemmas.{remains_where}
 
 pub returns : goal.returns
-returns g c = rw (← c.self.view_is) (remains_where c.is_some.result c.self.inside.states c.is_some.ensures c.self.invariant.whole)
+returns g c = rw (← c.self.view_is, c.is_some.ensures) (remains_where c.self.inside.states c.self.invariant.whole)

@@ -1,0 +1,363 @@
+-- What is known of modes, of facts and of a register; and what a tracker keeps, remains and counts.
+use Rattle.track9.proofs.Words.{Allows, and_from, and_parts, ap, AreFew, AreTimes, AreWhole, arith, At, begin_count-empty, bit_and, bit_of, Block, Bool, both_ways, Clear}
+use Rattle.track9.proofs.Words.{Command, cond_both, contains-just, contains-remove_nat, count_of, Cued, either, Eject, Entries, entries_of, Entry, entry_of, eqb, eqb-true, false}
+use Rattle.track9.proofs.Words.{false_from_ne_true, false≢true, FastForward, Follows, goals_in, goals_of, goes, Hands, has, has_pair, if◌then◌else◌, in_local, inl, InPart}
+use Rattle.track9.proofs.Words.{inr, is_live, is_mode, is_mode-same, is_nak, is_nil, is_panel_live, is_set, is_some, IsKept, IsKnown, IsKnownEntry, IsSpanCount, IsTrue, Jog}
+use Rattle.track9.proofs.Words.{join_options, joined, joined_known, just, Known, known_fact, KnownEntry, KnowsModes, KnowsOf, len_within, List, max, max-zero, Mode, ModeSet}
+use Rattle.track9.proofs.Words.{nat_cmp, nat_tests, no_states, None, not, on_two, Option, or-true, part_of, PartKnows, PartStates, Play, Possible, Presets, presets_after, Rec}
+use Rattle.track9.proofs.Words.{refl, RegIn, Register, Rewind, same_test, same_times, shown_in, shown_with, Shuttle, Some, some_entry, some_state, some_two, span_count}
+use Rattle.track9.proofs.Words.{span_count-begin_count, State, StateSet, Stop, subst, sym, Times, true, true_from_ne_false, two_of, TwoKnow, TwoParts, TwoWhole, Var, Whole}
+use Rattle.track9.proofs.Words.{with_command, with_entry, ℕ, ◌&&◌, ◌+◌, ◌<◌, ◌==◌, ◌||◌, ◌↔◌, ◌∙◌, ◌≡◌, ◌≢◌, ◌≤◌, ◌⊎◌}
+use Rattle.track9.specs.declared.knowledge.Known.TheVariants as known
+use Rattle.std.specs.FinSet as set
+use Rattle.track9.specs.declared.knowledge.KnownEntry.TheVariants as entry
+use Rattle.track9.proofs.EntryLemmas.{allowed_some, from_empty, goals_has, goes_from, goes_to, has-or, has_ten, just_has, just_is, mode_self, mode_some, nil_empty, no_times}
+use Rattle.track9.proofs.EntryLemmas.{nothing_allowed, or2, same_modes, some_allowed, some_mode, some_or_none, ten_bits, there_time}
+use Rattle.track9.proofs.PanelLemmas.{panel_off}
+use Rattle.track9.proofs.PartLemmas.{a_state, any_way, impossible, in_pairs, live_some, part_whole, possible, put, put_in, put_same, some_live, some_way, state_live}
+
+-- ---- one mode alone
+
+bit_of-lt : (m : Mode) → bit_of m < 1024
+bit_of-lt Stop = omega arith
+bit_of-lt _ = omega arith
+
+-- a set that has a mode and no other is that one bit
+alone : (s : ModeSet) (m : Mode) → has s.0 m ≡ true → ((n : Mode) → (has s.0 n && not (is_mode n m)) ≡ false) → bit_and s.0 0x3FF ≡ bit_of m
+alone s m there others = same_modes (bit_and s.0 0x3FF) (bit_of m) (ten_bits s.0) (bit_of-lt m) (λ n. has_ten s.0 n ∙ same n ∙ sym (just_has m n))
+  where
+    same : (n : Mode) → has s.0 n ≡ is_mode n m
+    same n = same_test (has s.0 n) (is_mode n m) (λ h. true_from_ne_false _ (λ e. both_ways _ (others n) (and_from _ _ h (ap not e))))
+        (λ e. subst (λ k. has s.0 k ≡ true) (sym (is_mode-same n m e)) there)
+
+-- a set with nine modes missing has the tenth
+pub last_mode : (s : ModeSet) → is_some s ≡ true → has s.0 Stop ≡ false → has s.0 Play ≡ false → has s.0 Rec ≡ false → has s.0 FastForward ≡ false → has s.0 Rewind ≡ false → has s.0 Shuttle ≡ false
+    → has s.0 Jog ≡ false → has s.0 Var ≡ false → has s.0 Cued ≡ false → has s.0 Eject ≡ true
+last_mode s some a b c d e f g h i = let w = some_mode s some in by w.0 w.1
+  where
+    by : (m : Mode) → has s.0 m ≡ true → has s.0 Eject ≡ true
+    by Eject t = t
+    by _ t = cc
+
+pub two_modes : (s : ModeSet) (m : Mode) → has s.0 m ≡ true → (bit_and s.0 0x3FF ≡ bit_of m → ⊥) → (m n : Mode) × (has s.0 m ≡ true) × (has s.0 n ≡ true) × (m ≢ n)
+two_modes s m there not_one =
+    elim (some_or_none (λ n. has s.0 n && not (is_mode n m))) [
+      | inl w ↦ let both = and_parts (has s.0 w.0) (not (is_mode w.0 m)) w.1 in (m, w.0, there, both.0, other w.0 both.1)
+      | inr none ↦ absurd (not_one (alone s m there none))
+    ]
+  where
+    other : (n : Mode) → not (is_mode n m) ≡ true → m ≢ n
+    other n h e = false≢true (sym (ap not (subst (λ k. is_mode k m ≡ true) e (mode_self m))) ∙ h)
+
+-- ---- all goals, all shown modes
+
+pub goal_from : (p : List ModeSet) (g : Mode) → has (goals_of p).0 g ≡ true → (m : Mode) × (has_pair p g m ≡ true)
+goal_from p g h = some_mode (shown_with p g) (sym (goals_has p g) ∙ h)
+
+pub goal_to : (p : List ModeSet) (g m : Mode) → has_pair p g m ≡ true → has (goals_of p).0 g ≡ true
+goal_to p g m h = goals_has p g ∙ mode_some (shown_with p g) m h
+
+-- in which part a mode of all parts is
+in_four : (f : List ModeSet → ModeSet) (v : StateSet) (m : Mode) → has (either (either (f (part_of v false false).pairs) (f (part_of v true false).pairs)) (either (f (part_of v false true).pairs) (f (part_of v true true).pairs))).0 m ≡ true
+    → (l pn : Bool) × (has (f (part_of v l pn).pairs).0 m ≡ true)
+in_four f v m h = elim (or2 _ _ m h) [
+  | inl a ↦ elim (or2 _ _ m a) [ inl c ↦ (false, false, c) | inr c ↦ (true, false, c) ]
+  | inr a ↦ elim (or2 _ _ m a) [ inl c ↦ (false, true, c) | inr c ↦ (true, true, c) ]
+]
+
+four_in : (f : List ModeSet → ModeSet) (v : StateSet) (m : Mode) (l pn : Bool) → has (f (part_of v l pn).pairs).0 m ≡ true
+    → has (either (either (f (part_of v false false).pairs) (f (part_of v true false).pairs)) (either (f (part_of v false true).pairs) (f (part_of v true true).pairs))).0 m ≡ true
+four_in f v m false false h = simp (has-or, h)
+four_in f v m _ false h = simp (has-or, h, or-true)
+four_in f v m _ _ h = simp (has-or, h, or-true)
+
+-- a pair of a part is one of a state
+pair_state : (v : StateSet) (l pn : Bool) (g m : Mode) → AreWhole v → has_pair (part_of v l pn).pairs g m ≡ true → (s : State) × Possible v s × (s.goal ≡ g) × (s.shown ≡ m)
+pair_state v l pn g m whole pair =
+    let p = part_of v l pn in
+    let w = a_state p l pn (part_whole v whole l pn) (mode_some (goes p.pairs) m (goes_to p.pairs g m pair)) in
+    let s : State = record w.0 { goal = g; shown = m } in (s, possible v s l pn w.2 w.3 (in_pairs p p.pairs w.0 g m w.1.registers pair), refl, refl)
+
+-- the set has exactly the modes that the states have
+pub record HasModes (X : State → Type 0) (field : State → Mode) (set : ModeSet) : Type 0 where
+  pub there : (s : State) → X s → has set.0 (field s) ≡ true
+  pub back : (m : Mode) → has set.0 m ≡ true → (s : State) × X s × (field s ≡ m)
+
+pub has_goals : (v : StateSet) → AreWhole v → HasModes (Possible v) (λ (s : State). s.goal) (goals_in v)
+has_goals v whole = record {
+  there = λ s i. four_in goals_of v s.goal s.local s.panel (goal_to (part_of v s.local s.panel).pairs s.goal s.shown (impossible v s s.local s.panel refl refl i).pair);
+  back = λ g h.
+      let a = in_four goals_of v g h in let m = goal_from (part_of v a.0 a.1).pairs g a.2 in
+      let w = pair_state v a.0 a.1 g m.0 whole m.1 in (w.0, w.1, w.2);
+}
+
+pub has_shown : (v : StateSet) → AreWhole v → HasModes (Possible v) (λ (s : State). s.shown) (shown_in v)
+has_shown v whole = record {
+  there = λ s i. four_in goes v s.shown s.local s.panel (goes_to (part_of v s.local s.panel).pairs s.goal s.shown (impossible v s s.local s.panel refl refl i).pair);
+  back = λ m h.
+      let a = in_four goes v m h in let g = goes_from (part_of v a.0 a.1).pairs m a.2 in
+      let w = pair_state v a.0 a.1 g.0 m whole g.1 in (w.0, w.1, w.3);
+}
+
+pub modes_some : (v : StateSet) (field : State → Mode) (set : ModeSet) → HasModes (Possible v) field set → AreWhole v → some_state v ≡ true → is_some set ≡ true
+modes_some v field set h whole live = let w = live_some v whole live in mode_some set (field w.0) (h.there w.0 w.1)
+
+-- what is known of a mode of all states, by the set of these modes
+pub modes_known : (X : State → Type 0) (field : State → Mode) (set : ModeSet) (k : Known Mode) → HasModes X field set → KnowsModes set k → IsKnown X field k
+modes_known X field set (known.Is m) has h = λ s i. h (field s) (has.there s i)
+modes_known X field set known.Unknown has h =
+    let a = has.back h.0 h.2 in let b = has.back h.1 h.3 in (a.0, b.0, a.1, b.1, λ e. h.4 (sym a.2 ∙ e ∙ b.2))
+
+-- ---- facts
+
+-- what is known of a fact of all states, by whether there is one where it is false and one where it is true
+fact_known : (X : State → Type 0) (field : State → Bool) (is_there : Bool → Bool) → ((s : State) → X s → is_there (field s) ≡ true)
+    → ((b : Bool) → is_there b ≡ true → (s : State) × X s × (field s ≡ b)) → ((s : State) × X s)
+    → IsKnown X field (known_fact (is_there false) (is_there true))
+fact_known X field is_there there back some = by (is_there false) (is_there true) refl refl
+  where
+    by : (a b : Bool) → is_there false ≡ a → is_there true ≡ b → IsKnown X field (known_fact a b)
+    by true true p q = let a = back false p in let b = back true q in (a.0, b.0, a.1, b.1, λ e. false≢true (sym a.2 ∙ e ∙ b.2))
+    by true false p q = λ t i. false_from_ne_true (field t) (λ e. false≢true (sym q ∙ subst (λ b. is_there b ≡ true) e (there t i)))
+    by false true p q = λ t i. true_from_ne_false (field t) (λ e. false≢true (sym p ∙ subst (λ b. is_there b ≡ true) e (there t i)))
+    by false false p q = absurd ((elim (field some.0) as (λ b. is_there b ≡ true → ⊥) [ false ↦ λ h. false≢true (sym p ∙ h) | true ↦ λ h. false≢true (sym q ∙ h) ]) (there some.0 some.1))
+
+-- the part of a state is live
+live_part : (v : StateSet) (s : State) → Possible v s → is_live (part_of v s.local s.panel) ≡ true
+live_part v s i = state_live (part_of v s.local s.panel) s (impossible v s s.local s.panel refl refl i)
+
+live_state : (v : StateSet) (l pn : Bool) → AreWhole v → is_live (part_of v l pn) ≡ true → (s : State) × Possible v s × (s.local ≡ l) × (s.panel ≡ pn)
+live_state v l pn whole live = let w = a_state (part_of v l pn) l pn (part_whole v whole l pn) live in (w.0, possible v w.0 l pn w.2 w.3 w.1, w.2, w.3)
+
+pub local_known : (v : StateSet) → AreWhole v → some_state v ≡ true
+    → IsKnown (Possible v) (λ (s : State). s.local) (known_fact (is_live (part_of v false false) || is_live (part_of v false true)) (is_live (part_of v true false) || is_live (part_of v true true)))
+local_known v whole live = fact_known (Possible v) (λ (s : State). s.local) (λ l. is_live (part_of v l false) || is_live (part_of v l true)) (λ s i. any_way (λ pn. is_live (part_of v s.local pn)) s.panel (live_part v s i))
+    (λ l h. let pn = some_way (λ pn. is_live (part_of v l pn)) h in let w = live_state v l pn.0 whole pn.1 in (w.0, w.1, w.2)) (live_some v whole live)
+
+pub panel_known : (v : StateSet) → AreWhole v → some_state v ≡ true → IsKnown (Possible v) (λ (s : State). s.panel) (known_fact (some_two v.off) (is_panel_live v))
+panel_known v whole live = fact_known (Possible v) (λ (s : State). s.panel) (λ pn. some_two (two_of v pn)) (λ s i. any_way (λ l. is_live (part_of v l s.panel)) s.local (live_part v s i))
+    (λ pn h. let l = some_way (λ l. is_live (part_of v l pn)) h in let w = live_state v l.0 pn whole l.1 in (w.0, w.1, w.3)) (live_some v whole live)
+
+-- ---- one set of entries
+
+at_same : (t u : ℕ) → At t ≡ At u → t ≡ u
+at_same t u e = cc
+
+-- no time: all are Clear
+pub knows_clear : (es : Entries) → es.times ≡ set.empty → KnowsOf (Allows es) entry.Clear
+knows_clear es none Clear a = refl
+knows_clear es none (At t) a = from_empty t (subst (λ s. set.contains s t ≡ true) none a)
+
+-- one time and not Clear
+pub knows_at : (es : Entries) (t : ℕ) → es.may_clear ≡ false → es.times ≡ just t → KnowsOf (Allows es) (entry.At t)
+knows_at es t clear one Clear a = absurd (false≢true (sym clear ∙ a))
+knows_at es t clear one (At u) a = ap At (just_is t u (subst (λ s. set.contains s u ≡ true) one a))
+
+-- ---- a time beside another
+
+only_one : (s : Times) (a : ℕ) → set.contains s a ≡ true → is_nil (set.items (set.remove s a)) ≡ true → s ≡ just a
+only_one s a there none = same_times s (just a) (λ f.
+    let gone : set.contains (set.remove s a) f ≡ false = ap (λ x. set.contains x f) (nil_empty (set.remove s a) none) ∙ set.contains-empty nat_cmp f in
+    grind (arith, nat_tests, contains-just, contains-remove_nat))
+
+same_eqb : (a b : ℕ) → a ≡ b → eqb b a ≡ true
+same_eqb a b e = grind (arith, nat_tests)
+
+second : (s : Times) (a : ℕ) → set.contains s a ≡ true → (s ≡ just a → ⊥) → (b : ℕ) × (set.contains s b ≡ true) × (a ≢ b)
+second s a there other =
+    let w = there_time (set.remove s a) (false_from_ne_true _ (λ none. other (only_one s a there none))) in
+    let both = and_parts (not (eqb w.0 a)) (set.contains s w.0) (sym (contains-remove_nat s a w.0) ∙ w.1) in
+    (w.0, both.1, λ e. false≢true (sym (ap not (same_eqb a w.0 e)) ∙ both.0))
+
+-- not Clear, and not one time alone
+pub knows_set : (es : Entries) → es.may_clear ≡ false → some_entry es ≡ true → ((t : ℕ) → es.times ≡ just t → ⊥) → KnowsOf (Allows es) entry.SetSomewhere
+knows_set es clear some not_one = (all, two (some_allowed es some))
+  where
+    all : (e : Entry) → Allows es e → is_set e ≡ true
+    all Clear a = absurd (false≢true (sym clear ∙ a))
+    all (At t) a = refl
+
+    two : (e : Entry) × Allows es e → (d e : Entry) × Allows es d × Allows es e × (d ≢ e)
+    two (Clear, a) = absurd (false≢true (sym clear ∙ a))
+    two (At t, a) = let w = second es.times t a (not_one t) in (At t, At w.0, a, w.1, λ e. w.2 (at_same t w.0 e))
+
+-- Clear, or a time
+pub knows_nothing : (es : Entries) → es.may_clear ≡ true → (es.times ≡ set.empty → ⊥) → KnowsOf (Allows es) entry.Unknown
+knows_nothing es clear some = (clear, let w = there_time es.times (false_from_ne_true _ (λ none. some (nil_empty es.times none))) in (At w.0, w.1, refl))
+
+-- ---- two sets
+
+-- the entries of either
+abbrev Either : (Bool → Entry → Type 0) → Entry → Type 0
+Either E e = (b : Bool) × E b e
+
+-- what is true of the entries of both is true of those of either
+both_ways_hold : (E : Bool → Entry → Type 0) (P : Entry → Type 0) → ((e : Entry) → E false e → P e) → ((e : Entry) → E true e → P e) → (e : Entry) → Either E e → P e
+both_ways_hold E P h k e (false, a) = h e a
+both_ways_hold E P h k e (true, a) = k e a
+
+knows_same : (E F : Entry → Type 0) → ((e : Entry) → E e → F e) → ((e : Entry) → F e → E e) → (k : KnownEntry) → KnowsOf E k → KnowsOf F k
+knows_same E F there back entry.SetSomewhere h = (λ e f. h.0 e (back e f), (h.1.0, h.1.1, there h.1.0 h.1.2, there h.1.1 h.1.3, h.1.4))
+knows_same E F there back entry.Unknown h = (there Clear h.0, (h.1.0, there h.1.0 h.1.1, h.1.2))
+knows_same E F there back _ h = λ e f. h e (back e f)
+
+-- an entry that is one of some, of which all are this one
+its : (E : Entry → Type 0) (f : Entry) → ((e : Entry) × E e) → ((e : Entry) → E e → e ≡ f) → E f
+its E f some all = subst E (all some.0 some.1) some.1
+
+knows_two : (E : Bool → Entry → Type 0) (t u : ℕ) → ((e : Entry) × E false e) → ((e : Entry) × E true e) → KnowsOf (E false) (entry.At t) → KnowsOf (E true) (entry.At u)
+    → KnowsOf (Either E) (if t == u then entry.At t else entry.SetSomewhere)
+knows_two E t u some other h k = cond_both (t == u) (entry.At t) entry.SetSomewhere (KnowsOf (Either E)) (λ e. both_ways_hold E (λ f. f ≡ At t) h (λ f y. k f y ∙ ap At (sym (eqb-true t u e))))
+    (λ e. (
+      both_ways_hold E (λ f. is_set f ≡ true) (λ f x. ap is_set (h f x)) (λ f y. ap is_set (k f y)),
+      (At t, At u, (false, its (E false) (At t) some h), (true, its (E true) (At u) other k), λ same. false≢true (sym e ∙ same_eqb u t (sym (at_same t u same)))),
+    ))
+
+knows_joined : (E : Bool → Entry → Type 0) (k l : KnownEntry) → ((e : Entry) × E false e) → ((e : Entry) × E true e) → KnowsOf (E false) k → KnowsOf (E true) l → KnowsOf (Either E) (joined_known k l)
+knows_joined E entry.Clear entry.Clear some other h k = both_ways_hold E (λ e. e ≡ Clear) h k
+knows_joined E (entry.At t) (entry.At u) some other h k = knows_two E t u some other h k
+knows_joined E entry.Unknown _ some other h k = ((false, h.0), (h.1.0, (false, h.1.1), h.1.2))
+knows_joined E _ entry.Unknown some other h k = ((true, k.0), (k.1.0, (true, k.1.1), k.1.2))
+knows_joined E entry.Clear (entry.At u) some other h k = ((false, its (E false) Clear some h), (other.0, (true, other.1), ap is_set (k other.0 other.1)))
+knows_joined E entry.Clear entry.SetSomewhere some other h k = ((false, its (E false) Clear some h), (other.0, (true, other.1), k.0 other.0 other.1))
+knows_joined E (entry.At t) entry.Clear some other h k = ((true, its (E true) Clear other k), (some.0, (false, some.1), ap is_set (h some.0 some.1)))
+knows_joined E entry.SetSomewhere entry.Clear some other h k = ((true, its (E true) Clear other k), (some.0, (false, some.1), h.0 some.0 some.1))
+knows_joined E (entry.At t) entry.SetSomewhere some other h k =
+    (both_ways_hold E (λ e. is_set e ≡ true) (λ e x. ap is_set (h e x)) k.0, (k.1.0, k.1.1, (true, k.1.2), (true, k.1.3), k.1.4))
+knows_joined E entry.SetSomewhere (entry.At u) some other h k =
+    (both_ways_hold E (λ e. is_set e ≡ true) h.0 (λ e y. ap is_set (k e y)), (h.1.0, h.1.1, (false, h.1.2), (false, h.1.3), h.1.4))
+knows_joined E entry.SetSomewhere entry.SetSomewhere some other h k = (both_ways_hold E (λ e. is_set e ≡ true) h.0 k.0, (h.1.0, h.1.1, (false, h.1.2), (false, h.1.3), h.1.4))
+
+-- what is known of entries, of which there may be none
+Knows : (Entry → Type 0) → Option KnownEntry → Type 0
+Knows E None = (e : Entry) → E e → ⊥
+Knows E (Some k) = ((e : Entry) × E e) × KnowsOf E k
+
+knows_either : (E : Bool → Entry → Type 0) (a b : Option KnownEntry) → Knows (E false) a → Knows (E true) b → Knows (Either E) (join_options a b)
+unfolding Knows
+knows_either E None None h k = both_ways_hold E (λ e. ⊥) h k
+knows_either E None (Some l) h k = ((k.0.0, (true, k.0.1)), knows_same (E true) (Either E) (λ e y. (true, y)) (both_ways_hold E (E true) (λ e x. absurd (h e x)) (λ e y. y)) l k.1)
+knows_either E (Some l) None h k = ((h.0.0, (false, h.0.1)), knows_same (E false) (Either E) (λ e x. (false, x)) (both_ways_hold E (E false) (λ e x. x) (λ e y. absurd (k e y))) l h.1)
+knows_either E (Some m) (Some l) h k = ((h.0.0, (false, h.0.1)), knows_joined E m l h.0 k.0 h.1 k.1)
+
+-- ---- all parts
+
+part_knows : (p : PartStates) (r : Register) (o : Option KnownEntry) → Whole p → PartKnows p r o → Knows (Allows (entries_of r p)) o
+unfolding Knows
+part_knows p r None whole dead = nothing_allowed (entries_of r p) (whole r ∙ dead)
+part_knows p r (Some k) whole h = (some_allowed (entries_of r p) (whole r ∙ h.0), h.1)
+
+-- the entries of a register in either part
+abbrev InEither : TwoParts → Register → Entry → Type 0
+InEither h r = Either (λ l. Allows (entries_of r (in_local h l)))
+
+two_know : (h : TwoParts) (r : Register) (o : Option KnownEntry) → TwoWhole h → TwoKnow h r o → Knows (InEither h r) o
+two_know h r o whole (a, b, remote, local, e) =
+    subst (Knows (InEither h r)) (sym e) (knows_either (λ l. Allows (entries_of r (in_local h l))) a b (part_knows h.remote r a whole.remote remote) (part_knows h.local r b whole.local local))
+
+-- an entry of a part is one of a state
+pub part_of_entry : (v : StateSet) (r : Register) (l pn : Bool) (e : Entry) → AreWhole v → Allows (entries_of r (part_of v l pn)) e → (s : State) × Possible v s × (s.local ≡ l) × (s.panel ≡ pn) × (entry_of r s ≡ e)
+part_of_entry v r l pn e all a =
+    let p = part_of v l pn in
+    let whole = part_whole v all l pn in
+    let w = a_state p l pn whole (sym (whole r) ∙ allowed_some (entries_of r p) e a) in
+    let at = put r e w.0 in
+    let inside : InPart p (with_entry r e w.0) = subst (λ q. InPart q (with_entry r e w.0)) (put_same r p) (put_in r (entries_of r p) p e w.0 w.1 a) in
+    (with_entry r e w.0, possible v (with_entry r e w.0) l pn (at.local ∙ w.2) (at.panel ∙ w.3) inside, at.local ∙ w.2, at.panel ∙ w.3, at.entry)
+
+-- what is known of the entries of states is known of the states
+known_of : (X : State → Type 0) (r : Register) (E : Entry → Type 0) (k : KnownEntry) → ((s : State) → X s → E (entry_of r s))
+    → ((e : Entry) → E e → (s : State) × X s × (entry_of r s ≡ e)) → KnowsOf E k → IsKnownEntry X r k
+known_of X r E entry.SetSomewhere there back h =
+    let a = back h.1.0 h.1.2 in let b = back h.1.1 h.1.3 in (λ s i. h.0 (entry_of r s) (there s i), (a.0, b.0, a.1, b.1, λ e. h.1.4 (sym a.2 ∙ e ∙ b.2)))
+known_of X r E entry.Unknown there back h = let a = back Clear h.0 in let b = back h.1.0 h.1.1 in (a.0, b.0, a.1, b.1, a.2, ap is_set b.2 ∙ h.1.2)
+known_of X r E _ there back h = λ s i. h (entry_of r s) (there s i)
+
+pub entry_known : (v : StateSet) (r : Register) (off on all : Option KnownEntry) (k : KnownEntry) → AreWhole v → TwoKnow (two_of v false) r off → TwoKnow (two_of v true) r on → all ≡ join_options off on → all ≡ Some k
+    → IsKnownEntry (Possible v) r k
+unfolding Knows
+entry_known v r off on all k whole h i joined found =
+    let E : Bool → Entry → Type 0 = λ pn. InEither (two_of v pn) r in
+    known_of (Possible v) r (Either E) k (λ s i. (s.panel, (s.local, (impossible v s s.local s.panel refl refl i).registers r)))
+    (λ e (pn, (l, a)). let w = part_of_entry v r l pn e whole a in (w.0, w.1, w.4))
+    (subst (Knows (Either E)) (sym joined ∙ found) (knows_either E off on (two_know v.off r off whole.off h) (two_know (on_two v.on) r on whole.on i))).1
+
+-- ---- whether a state remains
+
+pub remains_where : (v : StateSet) → AreWhole v → IsTrue (some_state v) ↔ ((s : State) × Possible v s)
+remains_where v whole = (λ h. live_some v whole h, λ w. some_live v w.0 w.1)
+
+-- ---- after an exchange
+
+dead_few : (n : Presets) (v : StateSet) → AreWhole v → some_state v ≡ false → AreFew n v
+dead_few n v whole dead pn l r =
+    let dead_in : is_live (part_of v l pn) ≡ false = false_from_ne_true _ (λ live.
+    let w = a_state (part_of v l pn) l pn (part_whole v whole l pn) live in false≢true (sym dead ∙ some_live v w.0 (possible v w.0 l pn w.2 w.3 w.1))) in
+    rw (no_times (entries_of r (part_of v l pn)) (part_whole v whole l pn r ∙ dead_in)) (omega (arith, begin_count-empty))
+
+pub kept_after : (c : Command) (reply : Block) (v w : StateSet) (h : Hands) (n : Presets) → IsKept n v → Follows h c reply v w → IsKept (presets_after c reply (some_state w) n) w
+kept_after c reply v w h n kept follows = record { whole = follows.whole; few = by (some_state w) refl }
+  where
+    by : (b : Bool) → some_state w ≡ b → AreFew (presets_after c reply b n) w
+    by true live = follows.few n kept.few
+    by false dead = let none : AreFew n w = dead_few n w follows.whole dead in elim (is_nak reply) as (λ nak. AreFew (if not nak && false then with_command c n else n) w) [ true ↦ none | false ↦ none ]
+
+-- ---- spans
+
+abbrev pub spans_in : StateSet → Register → Bool → Bool → ℕ
+spans_in v r l pn = span_count (entries_of r (part_of v l pn)).times
+
+abbrev pub most_spans : StateSet → Register → ℕ
+most_spans v r = max (max (spans_in v r false false) (spans_in v r true false)) (max (spans_in v r false true) (spans_in v r true true))
+
+-- the times of a register in a part are those of its states
+are_times : (v : StateSet) (r : Register) (l pn : Bool) → AreWhole v → AreTimes (Possible v) r l pn (entries_of r (part_of v l pn)).times
+are_times v r l pn whole t = (
+  λ there. part_of_entry v r l pn (At t) whole there,
+  λ w. subst (λ e. Allows (entries_of r (part_of v l pn)) e) w.4 ((impossible v w.0 l pn w.2 w.3 w.1).registers r),
+)
+
+is_one : (f : Bool → Bool → ℕ) (n : ℕ) → n ≡ max (max (f false false) (f true false)) (max (f false true) (f true true)) → (l pn : Bool) × (f l pn ≡ n)
+is_one f n e = elim (by (f false false) (f true false) (f false true) (f true true) e) [
+  | inl p ↦ (false, false, p)
+  | inr (inl p) ↦ (true, false, p)
+  | inr (inr (inl p)) ↦ (false, true, p)
+  | inr (inr (inr p)) ↦ (true, true, p)
+]
+  where
+    by : (a b c d : ℕ) → n ≡ max (max a b) (max c d) → (a ≡ n) ⊎ ((b ≡ n) ⊎ ((c ≡ n) ⊎ (d ≡ n)))
+    by a b c d e = grind arith
+
+pub span_count_is : (v : StateSet) (r : Register) (n : ℕ) → AreWhole v → n ≡ most_spans v r → IsSpanCount (Possible v) r n
+span_count_is v r n whole e = record {
+  most = λ l pn times h. subst (λ s. span_count s ≤ n) (let here = are_times v r l pn whole in same_times _ times (λ t. same_test _ _ (λ x. (h t).1 ((here t).0 x)) (λ x. (here t).1 ((h t).0 x)))) (each l pn);
+  met = let w = is_one (spans_in v r) n e in (w.0, w.1, (entries_of r (part_of v w.0 w.1)).times, are_times v r w.0 w.1 whole, w.2);
+}
+  where
+    each : (l pn : Bool) → spans_in v r l pn ≤ n
+    each false false = omega arith
+    each _ false = omega arith
+    each _ _ = omega arith
+
+none_left : (p : ℕ → Bool) → set.len (set.retain (set.empty {R = nat_cmp}) p) ≡ 0
+none_left p =
+    let within = len_within (set.retain set.empty p) set.empty (λ f h.
+    (and_parts _ _ (sym (set.contains-retain set.empty p f (λ x tie. ap p (sym (set.nat_cmp-IsAntisymmetric f x tie)))) ∙ h)).0) in
+    omega (arith, set.len-empty nat_cmp)
+
+span_none : span_count set.empty ≡ 0
+unfolding span_count
+span_none = none_left _
+
+-- where there is nothing with the panel on
+pub spans_off : (h : TwoParts) (r : Register) → max (span_count (entries_of r h.remote).times) (span_count (entries_of r h.local).times) ≡ most_spans (panel_off h) r
+spans_off h r = sym (rw (dead r) (max-zero _))
+  where
+    dead : (r : Register) → span_count (entries_of r no_states).times ≡ 0
+    dead RegIn = span_none
+    dead _ = span_none
+
+pub spans_few : (v : StateSet) (r : Register) (n : ℕ) (m : Presets) → AreFew m v → n ≡ most_spans v r → n ≤ count_of r m + 2
+spans_few v r n m few e =
+    let each : (l pn : Bool) → spans_in v r l pn ≤ count_of r m + 2 = λ l pn. omega (arith, span_count-begin_count (entries_of r (part_of v l pn)).times, few pn l r) in
+    omega (arith, each false false, each true false, each false true, each true true)
