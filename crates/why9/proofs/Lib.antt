@@ -1,2 +1,3 @@
 pub mod QuestionLemmas
 pub mod SearchLemmas
+pub mod Words

@@ -1,19 +1,7 @@
 -- A run that believes some replies, exchange by exchange, from the states that a tracker keeps.
-use Rattle.std.proofs.Common.{ℕ, ◌≡◌, ◌↔◌, ◌+◌, ◌<◌, ◌≤◌, Bool, false, List, [], ◌∷◌, ◌++◌, length, take, drop, sym, ap, suc, slice_index_or, ◌∙◌, subst, arith}
-use Rattle.std.proofs.lemmas.List.{drop_all, length-take-le, take-append-drop}
-use Rattle.std.proofs.lemmas.List.Elements.{All-take}
-use Rattle.std.proofs.Math.Seq.{drop-cons}
-use Rattle.std.specs.List.{All}
-use Rattle.block9.specs.declared.pairer.Exchange.{Exchange}
-use Rattle.deck9.specs.declared.state.Hands.{Hands}
-use Rattle.deck9.specs.declared.state.State.{State}
-use Rattle.deck9.specs.Contradict.{HasBelieving, IsBelievingFrom, MayDo, behind_first}
-use Rattle.deck9.specs.Laws.{SetsInDay}
-use Rattle.deck9.specs.State.{IsFirst}
-use Rattle.deck9.specs.Step.{AreReached}
-use Rattle.track9.specs.Tracker.{Possible, Tracked}
-use Rattle.deck9.proofs.ContradictLemmas.{before_the_first}
-use Rattle.why9.specs.Working.{Takes}
+use Rattle.why9.proofs.Words.{[], All, All-take, ap, AreReached, arith, before_the_first, behind_first, Bool, drop, drop-cons, drop_all, Exchange, false, Hands, HasBelieving}
+use Rattle.why9.proofs.Words.{IsBelievingFrom, IsFirst, length, length-take-le, List, MayDo, Possible, SetsInDay, slice_index_or, State, subst, suc, sym, take, take-append-drop}
+use Rattle.why9.proofs.Words.{Takes, Tracked, ℕ, ◌++◌, ◌+◌, ◌<◌, ◌↔◌, ◌∙◌, ◌∷◌, ◌≡◌, ◌≤◌}
 
 -- some run from one of these states believes the replies at these places
 abbrev pub GoesOn : Hands → (State → Type 0) → (ℕ → Bool) → List Exchange → Type 0

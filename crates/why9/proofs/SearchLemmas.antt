@@ -1,18 +1,8 @@
 -- The places found: in order, contradicting with all that follow, and each of them needed.
-use Rattle.std.proofs.Common.{ℕ, ◌≡◌, ◌⊎◌, inl, inr, ◌+◌, ◌<◌, ◌≤◌, ◌&&◌, ◌||◌, ◌==◌, nat_lt, nat_le, not, Bool, true, false, List, [], ◌∷◌, ◌++◌, length, length-append, slice_get, Some, suc, refl, sym, ap, ◌∙◌, subst, arith}
-use Rattle.std.proofs.lemmas.Bool.{cases_Bool, false≢true, or_cases, or_left}
-use Rattle.std.proofs.lemmas.Bool.Decides.{nat_tests}
-use Rattle.std.proofs.lemmas.List.Elements.{All-nil, All-append, All-cons, All-head, All-tail}
-use Rattle.std.proofs.lemmas.List.Folds.{list_any-append}
-use Rattle.std.proofs.lemmas.List.Quantifiers.{all_pairs_push}
-use Rattle.std.specs.List.{All, AllPairs}
-use Rattle.block9.specs.declared.pairer.Exchange.{Exchange}
-use Rattle.deck9.specs.declared.state.Hands.{Hands}
-use Rattle.deck9.specs.declared.state.State.{State}
-use Rattle.deck9.specs.Contradict.{Contradict, HasBelieving, IsBelievingFrom, MayDo, behind_first}
-use Rattle.deck9.proofs.ContradictLemmas.{believing_all, believing_fewer}
-use Rattle.why9.specs.Contradiction.{BreaksAtLast, IsContradiction, is_among, is_among_others}
-use Rattle.why9.specs.Working.{AreFound, IsNext, is_asked}
+use Rattle.why9.proofs.Words.{[], All, All-append, All-cons, All-head, All-nil, All-tail, all_pairs_push, AllPairs, ap, AreFound, arith, behind_first, believing_all}
+use Rattle.why9.proofs.Words.{believing_fewer, Bool, BreaksAtLast, cases_Bool, Contradict, Exchange, false, false≢true, Hands, HasBelieving, inl, inr, is_among, is_among_others}
+use Rattle.why9.proofs.Words.{is_asked, IsBelievingFrom, IsContradiction, IsNext, length, length-append, List, list_any-append, MayDo, nat_le, nat_lt, nat_tests, not, or_cases}
+use Rattle.why9.proofs.Words.{or_left, refl, slice_get, Some, State, subst, suc, sym, true, ℕ, ◌&&◌, ◌++◌, ◌+◌, ◌<◌, ◌==◌, ◌||◌, ◌∙◌, ◌∷◌, ◌≡◌, ◌≤◌, ◌⊎◌}
 use Rattle.why9.proofs.QuestionLemmas.{same_places}
 
 -- ---- places

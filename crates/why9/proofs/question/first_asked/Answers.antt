@@ -1,4 +1,4 @@
-use Rattle.std.proofs.Common.{sym}
+use Rattle.why9.proofs.Words.{sym}
 use Rattle.why9.proofs.SearchLemmas.{before_found}
 use Rattle.why9.proofs.question.first_asked.Goals as goal
 

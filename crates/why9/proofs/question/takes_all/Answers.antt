@@ -1,7 +1,4 @@
-use Rattle.std.proofs.Common.{sym, ◌∙◌, arith}
-use Rattle.std.proofs.lemmas.Bool.{false≢true}
-use Rattle.track9.specs.Tracker.{Possible}
-use Rattle.why9.specs.Working.{is_asked}
+use Rattle.why9.proofs.Words.{arith, false≢true, is_asked, Possible, sym, ◌∙◌}
 use Rattle.why9.proofs.QuestionLemmas.{goes-past, goes-start, goes-through}
 use Rattle.why9.proofs.question.takes_all.Goals as goal
 

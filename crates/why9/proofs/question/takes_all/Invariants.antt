@@ -1,8 +1,5 @@
 -- What is asked of all exchanges is asked of those that are left, from the states that the tracker keeps.
-use Rattle.std.proofs.Common.{◌≡◌, ◌↔◌, ◌+◌, drop}
-use Rattle.deck9.specs.Contradict.{HasBelieving}
-use Rattle.track9.specs.Tracker.{Possible}
-use Rattle.why9.specs.Working.{is_asked}
+use Rattle.why9.proofs.Words.{drop, HasBelieving, is_asked, Possible, ◌+◌, ◌↔◌, ◌≡◌}
 use Rattle.why9.proofs.QuestionLemmas.{GoesOn}
 use Rattle.why9.proofs.question.takes_all.Given as goal
 

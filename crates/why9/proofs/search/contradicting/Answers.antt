@@ -1,7 +1,4 @@
-use Rattle.std.proofs.Common.{◌≡◌, ◌+◌, ◌-◌, length, sym, subst, arith}
-use Rattle.deck9.specs.Contradict.{Contradict}
-use Rattle.why9.specs.Contradiction.{IsContradiction}
-use Rattle.why9.specs.Working.{AreFound, IsNext, is_asked}
+use Rattle.why9.proofs.Words.{AreFound, arith, Contradict, is_asked, IsContradiction, IsNext, length, subst, sym, ◌+◌, ◌-◌, ◌≡◌}
 use Rattle.why9.proofs.SearchLemmas.{found-all, found-more, found-start, some_last}
 use Rattle.why9.proofs.search.contradicting.Goals as goal
 

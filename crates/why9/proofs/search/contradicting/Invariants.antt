@@ -1,6 +1,5 @@
 -- The places so far are found, and are all before the last exchange.
-use Rattle.std.proofs.Common.{◌≤◌, ◌-◌}
-use Rattle.why9.specs.Working.{AreFound}
+use Rattle.why9.proofs.Words.{AreFound, ◌-◌, ◌≤◌}
 use Rattle.why9.proofs.search.contradicting.Given as goal
 
 abbrev pub invariant-loop-places : goal.invariant-loop-places

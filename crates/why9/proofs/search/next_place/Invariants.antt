@@ -1,7 +1,5 @@
 -- From `low` on the replies contradict those found, and from `high` on they do not.
-use Rattle.std.proofs.Common.{◌<◌, ◌≤◌, ◌-◌}
-use Rattle.deck9.specs.Contradict.{Contradict, HasBelieving}
-use Rattle.why9.specs.Working.{is_asked}
+use Rattle.why9.proofs.Words.{Contradict, HasBelieving, is_asked, ◌-◌, ◌<◌, ◌≤◌}
 use Rattle.why9.proofs.search.next_place.Given as goal
 
 abbrev pub invariant-loop-high : goal.invariant-loop-high

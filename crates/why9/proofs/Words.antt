@@ -1,0 +1,22 @@
+-- The names from elsewhere that the proofs of this crate cite, passed on from one place. Declares nothing.
+pub use Rattle.block9.specs.declared.pairer.Exchange.{Exchange}
+pub use Rattle.deck9.proofs.ContradictLemmas.{before_the_first, believing_all, believing_fewer}
+pub use Rattle.deck9.specs.Contradict.{behind_first, Contradict, HasBelieving, IsBelievingFrom, MayDo}
+pub use Rattle.deck9.specs.Laws.{SetsInDay}
+pub use Rattle.deck9.specs.State.{IsFirst}
+pub use Rattle.deck9.specs.Step.{AreReached}
+pub use Rattle.deck9.specs.declared.state.Hands.{Hands}
+pub use Rattle.deck9.specs.declared.state.State.{State}
+pub use Rattle.std.proofs.Common.{[], ap, arith, Bool, drop, false, inl, inr, length, length-append, List, nat_le, nat_lt, not, refl, slice_get, slice_index_or, Some, subst, suc}
+pub use Rattle.std.proofs.Common.{sym, take, true, ℕ, ◌&&◌, ◌++◌, ◌+◌, ◌-◌, ◌<◌, ◌==◌, ◌||◌, ◌↔◌, ◌∙◌, ◌∷◌, ◌≡◌, ◌≤◌, ◌⊎◌}
+pub use Rattle.std.proofs.Math.Seq.{drop-cons}
+pub use Rattle.std.proofs.lemmas.Bool.{cases_Bool, false≢true, or_cases, or_left}
+pub use Rattle.std.proofs.lemmas.Bool.Decides.{nat_tests}
+pub use Rattle.std.proofs.lemmas.List.{drop_all, length-take-le, take-append-drop}
+pub use Rattle.std.proofs.lemmas.List.Elements.{All-append, All-cons, All-head, All-nil, All-tail, All-take}
+pub use Rattle.std.proofs.lemmas.List.Folds.{list_any-append}
+pub use Rattle.std.proofs.lemmas.List.Quantifiers.{all_pairs_push}
+pub use Rattle.std.specs.List.{All, AllPairs}
+pub use Rattle.track9.specs.Tracker.{Possible, Tracked}
+pub use Rattle.why9.specs.Contradiction.{BreaksAtLast, is_among, is_among_others, IsContradiction}
+pub use Rattle.why9.specs.Working.{AreFound, is_asked, IsNext, Takes}
