@@ -1,5 +1,5 @@
 -- The records of an open command, and behind them those of its reply.
-use Rattle.std.proofs.Common.{◌≡◌, ◌∙◌, ℕ, suc, ◌+◌, ◌<◌, true, false, if◌then◌else◌, Option, List, [], ◌∷◌, ◌++◌, length, take, drop, get_or, drop-cons, arith, refl, sym, ap, append_assoc}
+use Rattle.std.proofs.Common.{◌≡◌, ◌∙◌, ℕ, suc, ◌+◌, ◌<◌, true, false, if◌then◌else◌, Option, List, [], ◌∷◌, ◌++◌, length, take, drop, get_or, drop-cons, arith, refl, sym, ap, append_assoc, subst}
 use Rattle.std.proofs.lemmas.List.{append-nil}
 use Rattle.std.proofs.Math.Seq.{drop-length, take-suc}
 use Rattle.capture9.specs.declared.line_byte.LineByte.{LineByte}
@@ -32,27 +32,24 @@ asked-more n tail d within asked are =
       answered = are.answered ∙ skips ∙ ap (λ k. answered_of (drop k tail)) next;
     }
 
--- behind them is the reply
-pub asked_end : (n : ℕ) (tail : List LineByte) (d : LineByte) → n < length tail → is_asked (get_or tail n d).wire ≡ false → AreAsked tail n → take n tail ≡ asked_of tail
-asked_end n tail d within answered are =
-    let r = get_or tail n d in
-    let rest = drop (suc n) tail in
-    let none : asked_of (drop n tail) ≡ [] = ap asked_of (drop-cons tail n d within) ∙ ap (λ b. if b then r ∷ asked_of rest else []) answered in
-    sym (are.asked ∙ ap (λ l. take n tail ++ l) none ∙ append-nil (take n tail))
+-- these records and what is behind them are the parts of the whole: the first one behind them is the reply's
+abbrev pub AreParts : List LineByte → ℕ → Type 0
+AreParts tail n = (take n tail ≡ asked_of tail) × (drop n tail ≡ answered_of tail)
 
-pub answered_end : (n : ℕ) (tail : List LineByte) (d : LineByte) → n < length tail → is_asked (get_or tail n d).wire ≡ false → AreAsked tail n → drop n tail ≡ answered_of tail
-answered_end n tail d within answered are =
+pub parts_end : (n : ℕ) (tail : List LineByte) (d : LineByte) → n < length tail → is_asked (get_or tail n d).wire ≡ false → AreAsked tail n → AreParts tail n
+parts_end n tail d within answered are =
     let r = get_or tail n d in
     let rest = drop (suc n) tail in
     let split : drop n tail ≡ r ∷ rest = drop-cons tail n d within in
-    sym (are.answered ∙ ap answered_of split ∙ ap (λ b. if b then answered_of rest else r ∷ rest) answered ∙ sym split)
+    let none : asked_of (drop n tail) ≡ [] = ap asked_of split ∙ ap (λ b. if b then r ∷ asked_of rest else []) answered in
+    let reply : answered_of (drop n tail) ≡ drop n tail = ap answered_of split ∙ ap (λ b. if b then answered_of rest else r ∷ rest) answered ∙ sym split in
+    (sym (are.asked ∙ ap (λ l. take n tail ++ l) none ∙ append-nil (take n tail)), sym (are.answered ∙ reply))
 
--- or nothing
-pub asked_all : (tail : List LineByte) → AreAsked tail (length tail) → take (length tail) tail ≡ asked_of tail
-asked_all tail are = sym (are.asked ∙ ap (λ l. take (length tail) tail ++ asked_of l) (drop-length tail) ∙ append-nil (take (length tail) tail))
-
-pub answered_all : (tail : List LineByte) → AreAsked tail (length tail) → drop (length tail) tail ≡ answered_of tail
-answered_all tail are = drop-length tail ∙ sym (are.answered ∙ ap answered_of (drop-length tail))
+-- or there is none
+pub parts_all : (n : ℕ) (tail : List LineByte) → n ≡ length tail → AreAsked tail n → AreParts tail (length tail)
+parts_all n tail same are =
+    let none : drop n tail ≡ [] = ap (λ k. drop k tail) same ∙ drop-length tail in
+    subst (AreParts tail) same (sym (are.asked ∙ ap (λ l. take n tail ++ asked_of l) none ∙ append-nil (take n tail)), none ∙ sym (are.answered ∙ ap answered_of none))
 
 -- what a block means, by the bytes that it is spelled with
 pub is_meaning : (bytes : List ℕ) (b : Block) (command : Option Command) → Spells bytes b → command ≡ command_of b → IsMeaning bytes command
