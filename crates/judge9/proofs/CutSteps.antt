@@ -1,14 +1,6 @@
 -- A cut that gets one record more.
-use Rattle.std.proofs.Common.{◌≡◌, ◌⊎◌, inl, inr, ◌∙◌, List, [], ◌∷◌, ◌++◌, refl, sym, ap, subst, arith}
-use Rattle.std.proofs.lemmas.List.{append_assoc, append-nil}
-use Rattle.capture9.specs.declared.line_byte.LineByte.{LineByte}
-use Rattle.block9.specs.declared.pairer.Exchange.{Exchange}
-use Rattle.block9.specs.declared.pairer.Step.{Step}
-use Rattle.block9.specs.declared.pairer.Step.TheVariants as step
-use Rattle.block9.specs.Exchange.{Cut, Does, IsExchange, IsKept, IsTail, tail_after}
-use Rattle.block9.specs.Exchange.IsTail.{nothing}
-use Rattle.block9.proofs.CutLemmas.{last_apart, tail_no_exchange}
-use Rattle.block9.proofs.StepLemmas.{still_tail}
+use Rattle.judge9.proofs.Words.{[], ap, append-nil, append_assoc, arith, Cut, Does, Exchange, inl, inr, IsExchange, IsKept, IsTail, last_apart, LineByte, List, refl, Step}
+use Rattle.judge9.proofs.Words.{still_tail, subst, sym, tail_after, tail_no_exchange, ◌++◌, ◌∙◌, ◌∷◌, ◌⊎◌}
 
 -- a tail that grows
 pub cut-tail : (p : List LineByte) (es : List Exchange) (t : List LineByte) (r : LineByte) → Cut p es t → IsTail (t ++ r ∷ []) → Cut (p ++ r ∷ []) es (t ++ r ∷ [])
@@ -17,18 +9,18 @@ cut-tail p (e ∷ es) t r h more = (h.0, h.1 ++ r ∷ [], ap (λ (l : List LineB
 
 -- a tail that becomes an exchange
 pub cut-exchange : (p : List LineByte) (es : List Exchange) (t : List LineByte) (r : LineByte) (e : Exchange) → Cut p es t → IsExchange (t ++ r ∷ []) e → Cut (p ++ r ∷ []) (es ++ e ∷ []) []
-cut-exchange p [] t r e h more = (t ++ r ∷ [], [], ap (λ (l : List LineByte). l ++ r ∷ []) h.0 ∙ sym (append-nil (t ++ r ∷ [])), more, (refl, nothing refl))
+cut-exchange p [] t r e h more = (t ++ r ∷ [], [], ap (λ (l : List LineByte). l ++ r ∷ []) h.0 ∙ sym (append-nil (t ++ r ∷ [])), more, (refl, IsTail.nothing refl))
 cut-exchange p (d ∷ es) t r e h more =
     (h.0, h.1 ++ r ∷ [], ap (λ (l : List LineByte). l ++ r ∷ []) h.2 ∙ append_assoc h.0 h.1 (r ∷ []), h.3, cut-exchange h.1 es t r e h.4 more)
 
 -- the exchanges after a step
 abbrev pub exchanges_after : List Exchange → Step → List Exchange
-exchanges_after es step.Waiting = es
-exchanges_after es step.Command = es
-exchanges_after es (step.Exchange e) = es ++ e ∷ []
+exchanges_after es Step.Waiting = es
+exchanges_after es Step.Command = es
+exchanges_after es (Step.Exchange e) = es ++ e ∷ []
 
 pub cut-step : (p : List LineByte) (es : List Exchange) (t : List LineByte) (r : LineByte) (s : Step) → Cut p es t → Does t r s → Cut (p ++ r ∷ []) (exchanges_after es s) (tail_after t r s)
-cut-step p es t r (step.Exchange e) h done = cut-exchange p es t r e h done
+cut-step p es t r (Step.Exchange e) h done = cut-exchange p es t r e h done
 cut-step p es t r s h done = cut-tail p es t r h (still_tail t r s done)
 
 -- what a record makes of a tail where the rules of pairing are kept: a longer tail, or an exchange
@@ -40,10 +32,7 @@ kept_grows t r tail h = by h.exchanges h.tail h.cut
   where
     by : (es : List Exchange) (u : List LineByte) → Cut (t ++ r ∷ []) es u → Grows t r
     by [] u k = inl (subst (λ (l : List LineByte). IsTail l) (sym k.0) k.1)
-    by (e ∷ es) u k = go k.1 k.2
-      where
-        go : (rest : List LineByte) → t ++ r ∷ [] ≡ k.0 ++ rest → Grows t r
-        go [] split = inr (e, subst (λ (l : List LineByte). IsExchange l e) (sym (split ∙ append-nil k.0)) k.3)
-        go (a ∷ rest) split =
-            let parts = last_apart t k.0 (a ∷ rest) r split (omega arith) in
-            absurd (tail_no_exchange t k.0 parts.0 e tail k.3 parts.2)
+    by (e ∷ es) u (front, [], split, is, more) = inr (e, subst (λ (l : List LineByte). IsExchange l e) (sym (split ∙ append-nil front)) is)
+    by (e ∷ es) u (front, a ∷ rest, split, is, more) =
+        let parts = last_apart t front (a ∷ rest) r split (omega arith) in
+        absurd (tail_no_exchange t front parts.0 e tail is parts.2)

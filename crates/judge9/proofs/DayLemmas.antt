@@ -1,25 +1,11 @@
 -- The times at which the commands of a cut set registers are times of the day.
-use Rattle.std.proofs.Common.{ℕ, ◌≡◌, ◌<◌, if◌then◌else◌, Bool, true, false, Option, Some, None, option_map, List, [], ◌∷◌, refl, subst, arith}
-use Rattle.std.proofs.lemmas.List.Elements.{All-cons, All-nil}
-use Rattle.std.specs.List.{All}
-use Rattle.std.specs.Option.{IfSome}
-use Rattle.capture9.specs.declared.line_byte.LineByte.{LineByte}
-use Rattle.tc25.specs.Day.{day, time_of}
-use Rattle.tc25.proofs.DayLemmas.{ReadsAs-from_time_of}
-use Rattle.block9.specs.declared.block.Block.{Block}
-use Rattle.block9.specs.declared.command.Command.{Command}
-use Rattle.block9.specs.declared.pairer.Exchange.{Exchange}
-use Rattle.block9.specs.Command.{Row, command_of, meaning_in}
-use Rattle.block9.specs.Exchange.{Cut}
-use Rattle.deck9.specs.declared.effect.Effect.{Effect}
-use Rattle.deck9.specs.declared.effect.Effect.TheVariants as effect
-use Rattle.deck9.specs.declared.effect.Change.TheVariants.{SetAt}
-use Rattle.deck9.specs.Effect.{effect_of}
-use Rattle.deck9.specs.Laws.{SetsInDay}
+use Rattle.judge9.proofs.Words.{[], All, All-cons, All-nil, arith, Block, Bool, Command, command_of, Cut, day, Effect, effect_of, Exchange, false, IfSome, if◌then◌else◌}
+use Rattle.judge9.proofs.Words.{LineByte, List, meaning_in, None, Option, option_map, ReadsAs-from_time_of, refl, Row, SetAt, SetsInDay, Some, subst, time_of, true, ℕ, ◌<◌, ◌∷◌}
+use Rattle.judge9.proofs.Words.{◌≡◌}
 
 -- the time at which an effect sets a register, or 0
 abbrev time_set : Effect → ℕ
-time_set (effect.Change r (SetAt t)) = t
+time_set (Effect.Change r (SetAt t)) = t
 time_set f = 0
 
 -- where there is a command, it sets no register at a time past the day

@@ -1,11 +1,12 @@
-pub mod RunSteps
 pub mod CutSteps
+pub mod DayLemmas
+pub mod LawLemmas
 pub mod LineSteps
+pub mod RunSteps
 pub mod ShowLemmas
 pub mod SoFar
-pub mod DayLemmas
-pub mod TrailJudging
-pub mod LawLemmas
 pub mod TellLemmas
-pub mod TurnSteps
 pub mod TextLemmas
+pub mod TrailJudging
+pub mod TurnSteps
+pub mod Words

@@ -1,94 +1,72 @@
 -- Where the judging of a text stands: the invariant of its loop, the rows that it speaks of, and what a row more does.
-use Rattle.std.specs.Prelude.{◌≡◌, ℕ, ◌≤◌, List, ◌++◌, length, Option, Some, None, ⊤}
-use Rattle.std.specs.Option.{ForSome, IfNone, IfSome}
-use Rattle.std.specs.Io.KnownBytes.{Appends}
-use Rattle.capture9.specs.declared.line_byte.LineByte.{LineByte}
-use Rattle.capture9.specs.declared.records.Standing.TheVariants.{Reading}
-use Rattle.capture9.specs.Rows.{Rows}
-use Rattle.capture9.proofs.GivenLemmas.{AreGiven, given-more, given-none}
-use Rattle.block9.specs.declared.pairer.Exchange.{Exchange}
-use Rattle.block9.specs.Exchange.{Cut}
-use Rattle.deck9.specs.declared.state.Hands.{Hands}
-use Rattle.deck9.specs.Run.{HasRun, Ends}
-use Rattle.judge9.specs.declared.turn.Judging.{Judging}
-use Rattle.verdict9.specs.declared.verdict.View.{View}
-use Rattle.judge9.specs.Report.{IsExplained}
-use Rattle.judge9.specs.Working.Trail.{Follows}
-use Rattle.std.proofs.Common.{◌∙◌, ◌⊎◌, inl, inr, [], refl, ap, sym, subst, append-nil, Bool, true, ◌+◌, ◌∷◌, arith}
-use Rattle.capture9.specs.SomeText.{CanBeRows, IsOfSomeText}
-use Rattle.capture9.proofs.TextLemmas.{some-text}
-use Rattle.std.proofs.lemmas.List.{append_assoc, length_push}
-use Rattle.std.proofs.KnownBytes.{Appends-nil, Appends-trans}
-use Rattle.capture9.specs.Records.{GivesRecord, Progress, TakesRecord}
-use Rattle.block9.specs.declared.pairer.Step.{Step}
-use Rattle.block9.specs.declared.pairer.Step.TheVariants as step
-use Rattle.block9.specs.Exchange.IsTail.{nothing}
-use Rattle.block9.specs.Pairer.{Paired, Takes}
-use Rattle.track9.specs.Tracker.{Possible, Tracked}
-use Rattle.verdict9.specs.declared.verdict.View.TheVariants as view
-use Rattle.judge9.specs.Working.{IsLineOf}
+use Rattle.judge9.proofs.Words.{[], ap, append-nil, append_assoc, Appends, Appends-nil, Appends-trans, AreGiven, arith, Bool, CanBeRows, CaptureError, Cut, Exchange, Feeds}
+use Rattle.judge9.proofs.Words.{Follows, ForSome, given-more, given-none, GivesRecord, Hands, HasRun, IfNone, IfSome, IsExplained, IsFresh, IsLineOf, IsOfSomeText, IsOk, IsOpen}
+use Rattle.judge9.proofs.Words.{IsStartOf, IsTail, Judging, length, length_push, LineByte, List, None, Observes, Option, Paired, Possible, Progress, refl, Rows, run_start, Some}
+use Rattle.judge9.proofs.Words.{some-text, some_end, Standing, Step, subst, sym, Takes, TakesRecord, Tracked, true, View, Waits, ℕ, ⊤, ◌++◌, ◌+◌, ◌∙◌, ◌∷◌, ◌≡◌, ◌≤◌}
+use Rattle.judge9.proofs.RunSteps.{follows-more, follows-start}
 use Rattle.judge9.proofs.CutSteps.{cut-step, exchanges_after}
-use Rattle.judge9.proofs.LineSteps.{cut_len, explained_more, line_same, total}
-use Rattle.deck9.proofs.RunSearch.{run_start}
-use Rattle.judge9.specs.Working.Turn.{Feeds, IsFresh, IsOpen, Observes, Waits}
-use Rattle.judge9.proofs.RunSteps.{follows-more, follows-start, run_remains}
+use Rattle.judge9.proofs.LineSteps.{cut_len, explained_more, total}
 
 -- these records were read, and the rest of the rows is still to come
 abbrev pub WereRead : Option Rows → List LineByte → Option Rows → Type 0
 WereRead None items left = ⊤
 WereRead (Some rows) items left = (rest : Rows) × (left ≡ Some rest) × (rows ≡ record { records = items ++ rest.records; fault = rest.fault })
 
--- the records so far keep the rules and have this cut; the pairer has their tail, the tracker keeps the states that the
--- runs of their exchanges end in, and what the view shows of these was written
-pub record SoFar {R : Type 0} (view : View) (hands : Hands) (rows : Option Rows) (j : Judging R) (old now : Option (List ℕ)) (exchanges : ℕ) : Type 0 where
+-- these records keep the rules and are cut into the exchanges and the tail, and the text is what the view shows of them
+pub record Keeps (view : View) (hands : Hands) (es : List Exchange) (tail : List LineByte) : Type 0 where
   pub items : List LineByte
-  pub cut_exchanges : List Exchange
-  pub cut : Cut items cut_exchanges j.pairer.tail
-  pub run : HasRun hands cut_exchanges
-  pub follows : Follows hands cut_exchanges j.tracker
+  pub cut : Cut items es tail
+  pub run : HasRun hands es
   pub text : List ℕ
-  pub explained : IsExplained view hands cut_exchanges text
+  pub explained : IsExplained view hands es text
+
+-- before the first record
+pub explained-start : (which : View) (hands : Hands) → IsExplained which hands [] []
+explained-start View.Verdict hands = refl
+explained-start View.Explain hands = refl
+
+abbrev pub keeps-none : {tail : List LineByte} (which : View) (hands : Hands) → tail ≡ [] → Keeps which hands [] tail
+keeps-none which hands e = record { items = []; cut = (sym e, IsTail.nothing e); run = run_start hands; text = []; explained = explained-start which hands }
+
+-- the records so far keep the rules and have these exchanges; the pairer has their tail, the tracker keeps the states that the
+-- runs of their exchanges end in, and what the view shows of these was written
+pub record SoFar {R : Type 0} (view : View) (hands : Hands) (rows : Option Rows) (j : Judging R) (old now : Option (List ℕ)) (es : List Exchange) : Type 0 where
+  pub keeps : Keeps view hands es j.pairer.tail
+  pub open keeps use {items, cut, run, text, explained}
+  pub follows : Follows hands es j.tracker
   pub wrote : Appends old now text
-  pub number : j.rows.given ≡ length items
-  pub exchange_number : exchanges ≡ length cut_exchanges
-  pub few : exchanges ≤ j.rows.given
-  pub within : j.rows.given ≤ 4000000
-  pub is_reading : j.rows.standing ≡ Reading
+  pub few : length es ≤ j.rows.given
+  pub is_reading : j.rows.standing ≡ Standing.Reading
   pub no_reason : j.pairer.reason ≡ None
   pub in_order : ForSome j.pairer.last_time (λ time. time ≤ j.rows.last_time)
   pub read : WereRead rows items j.rows.rows
   pub are_given : AreGiven items j.rows
 
--- ---- the rows that a judging speaks of: those of the text where they are known, and else the records that were given
+-- ---- the rows that a judging speaks of
 
--- these records were read and the rest is to come; `mine` is the rest where nothing is known of it
-pub record Seen (rows left : Option Rows) (items : List LineByte) (mine : Rows) : Type 0 where
+-- behind these records: the rows of the text where they are known, and else the records alone with this fault or none
+pub record Seen (rows left : Option Rows) (items : List LineByte) (fault : Option CaptureError) : Type 0 where
   pub all : Rows
   pub is_known : IfSome rows (λ a. all ≡ a)
-  pub is_own : IfNone rows (all ≡ record { records = items ++ mine.records; fault = mine.fault })
-  pub rest : Rows
-  pub whole : all ≡ record { records = items ++ rest.records; fault = rest.fault }
-  pub from : (rest ≡ mine) ⊎ (left ≡ Some rest)
+  pub of_a_text : IfNone rows (IsOfSomeText all)
+  pub start : IsStartOf items all.records
+  pub whole : IfSome left (λ rest. rest ≡ record { records = []; fault = fault }) → all ≡ record { records = items; fault = fault }
 
-pub seen : (rows left : Option Rows) (items : List LineByte) (mine : Rows) → WereRead rows items left → Seen rows left items mine
-seen None left items mine h = record { all = record { records = items ++ mine.records; fault = mine.fault }; is_known = tt; is_own = refl; rest = mine; whole = refl; from = inl refl }
-seen (Some a) left items mine h = record { all = a; is_known = refl; is_own = tt; rest = h.0; whole = h.2; from = inr h.1 }
+pub seen : (rows left : Option Rows) (items : List LineByte) (fault : Option CaptureError) → WereRead rows items left → CanBeRows (record { records = items; fault = fault }) → Seen rows left items fault
+seen None left items fault read can = record { all = record { records = items; fault = fault }; is_known = tt; of_a_text = some-text _ can; start = ([], sym (append-nil items)); whole = λ _. refl }
+seen (Some a) left items fault read can =
+    let whole : IfSome left (λ rest. rest ≡ record { records = []; fault = fault }) → a ≡ record { records = items; fault = fault } = λ none. let last = rw read.1 at none in rw (last, append-nil) at read.2 in
+    record { all = a; is_known = refl; of_a_text = tt; start = (read.0.records, ap (λ (x : Rows). x.records) read.2); whole = whole }
 
--- what holds of either rest
-pub rest_has : {rows left : Option Rows} {items : List LineByte} {mine : Rows} (P : Rows → Type 0) → (s : Seen rows left items mine) → P mine → IfSome left P → P s.rest
-rest_has P s own known = elim s.from [ inl e ↦ subst P (sym e) own | inr e ↦ let Q : Option Rows → Type 0 = λ o. IfSome o P in subst Q e known ]
+-- what holds of these rows holds of those that are known
+pub of_known : (rows : Option Rows) (all : Rows) (P : Rows → Type 0) → IfSome rows (λ a. all ≡ a) → P all → IfSome rows P
+of_known None all P same p = tt
+of_known (Some a) all P same p = subst P same p
 
--- where nothing is known of the rows, what was given of them is of some text
-pub given_of_some_text : {rows left : Option Rows} {items : List LineByte} {mine : Rows} → (s : Seen rows left items mine) → mine.records ≡ [] → CanBeRows (record { records = items; fault = mine.fault }) → IfNone rows (IsOfSomeText s.all)
-given_of_some_text {rows} {left} {items} {mine} s none can = by rows s.is_own
-  where
-    by : (o : Option Rows) → IfNone o (s.all ≡ record { records = items ++ mine.records; fault = mine.fault }) → IfNone o (IsOfSomeText s.all)
-    by None same =
-        let P : List LineByte → Type 0 = λ l. CanBeRows (record { records = l; fault = mine.fault }) in
-        subst IsOfSomeText (sym same) (some-text _ (subst P (sym (append-nil items) ∙ ap (λ (l : List LineByte). items ++ l) (sym none)) can))
-    by (Some all) same = tt
-
--- ---- a row that is judged and keeps the rules: the records so far with one more
+-- before a row is read
+pub unread : (rows : Option Rows) → WereRead rows [] rows
+unread None = tt
+unread (Some rows) = (rows, refl, refl)
 
 -- a row more was read
 pub read-more : (rows before after : Option Rows) (items : List LineByte) (r : LineByte) → WereRead rows items before → TakesRecord before r after → WereRead rows (items ++ r ∷ []) after
@@ -98,115 +76,69 @@ read-more (Some rows) (Some left) after items r h k =
     let same : h.0 ≡ record { records = r ∷ k.0.records; fault = k.0.fault } = cc (k.2) in
     (k.0, k.1, rw append_assoc (h.2 ∙ ap (λ (x : Rows). let y : Rows = record { records = items ++ x.records; fault = x.fault } in y) same))
 
--- a cut with one record more
-pub cut-after : (p : List LineByte) (es : List Exchange) {r : LineByte} {s : Step} {paired next : Paired} → Cut p es paired.tail → Takes paired r s next → Cut (p ++ r ∷ []) (exchanges_after es s) next.tail
-cut-after p es {r} {s} {paired} {next} cut takes =
-    subst (λ (l : List LineByte). Cut (p ++ r ∷ []) (exchanges_after es s) l) (sym takes.tail) (cut-step p es paired.tail r s cut takes.does)
+-- ---- a row that is judged and keeps the rules: the records so far with one more
 
 pub later : {R : Type 0} {progress after : Progress R} {paired next : Paired} {r : LineByte} {s : Step} → GivesRecord progress r after → Takes paired r s next → (x : ℕ) → next.last_time ≡ Some x → x ≤ after.last_time
 later {r = r} given takes x e =
     let same : Some x ≡ Some r.time_us = sym e ∙ takes.last_time in
     let t : x ≡ r.time_us = cc in omega arith
 
--- a step that ends no exchange leaves those before it
-pub open_keeps : (s : Step) → IsOpen s → (es : List Exchange) → exchanges_after es s ≡ es
-open_keeps (step.Exchange e) open_step es = absurd open_step
-open_keeps s open_step es = refl
-
--- after a row that ends no exchange
-unfoldable pub so_far-open : {R : Type 0} {which : View} {hands : Hands} {rows : Option Rows} {j k : Judging R} {old now : Option (List ℕ)} {m : ℕ} → SoFar which hands rows j old now m → Waits j k → SoFar which hands rows k old now m
-so_far-open {rows = rows} {j = j} {k = k} h w = record {
-  items = h.items ++ w.feeds.line_byte ∷ [];
-  cut_exchanges = h.cut_exchanges;
-  cut = subst (λ (es : List Exchange). Cut (h.items ++ w.feeds.line_byte ∷ []) es k.pairer.tail) (open_keeps w.step w.is_open h.cut_exchanges) (cut-after h.items h.cut_exchanges h.cut w.feeds.takes);
-  run = h.run;
-  follows = subst (Follows _ h.cut_exchanges) (sym w.same_tracker) h.follows;
-  text = h.text;
-  explained = h.explained;
-  wrote = h.wrote;
-  number = omega (arith, length_push h.items w.feeds.line_byte);
-  exchange_number = h.exchange_number;
-  few = omega arith;
-  within = w.feeds.gives.within;
-  is_reading = w.feeds.gives.is_reading;
-  no_reason = w.feeds.takes.reason;
-  in_order = λ x e. later w.feeds.gives w.feeds.takes x e;
-  read = read-more rows j.rows.rows k.rows.rows h.items w.feeds.line_byte h.read w.feeds.gives.rows;
-  are_given = given-more h.items j.rows k.rows w.feeds.line_byte h.are_given w.feeds.gives;
-}
-
--- the tracker has observed one exchange more
-pub observed_more : {R : Type 0} {which : View} {hands : Hands} {rows : Option Rows} {j : Judging R} {seen : Tracked} {old now : Option (List ℕ)} {m : ℕ} {e : Exchange} {b : Bool} → (h : SoFar which hands rows j old now m) → Observes j.tracker seen e b → Follows hands (h.cut_exchanges ++ e ∷ []) seen
-observed_more {hands = hands} {j = j} {seen = seen} {e = e} h o = follows-more hands h.cut_exchanges e j.tracker seen h.follows o.reached o.hands
-
--- and a state remains
-pub observed_run : {R : Type 0} {which : View} {hands : Hands} {rows : Option Rows} {j : Judging R} {seen : Tracked} {old now : Option (List ℕ)} {m : ℕ} {e : Exchange} → (h : SoFar which hands rows j old now m) → Observes j.tracker seen e true → HasRun hands (h.cut_exchanges ++ e ∷ [])
-observed_run {hands = hands} {seen = seen} {e = e} h o = run_remains hands (h.cut_exchanges ++ e ∷ []) seen (observed_more h o) (o.remains.0 refl)
-
--- the number of an exchange's last record
-pub at_exchange : {R : Type 0} {which : View} {hands : Hands} {rows : Option Rows} {j k : Judging R} {old now : Option (List ℕ)} {m : ℕ} {e : Exchange} → (h : SoFar which hands rows j old now m) → Feeds j k (step.Exchange e) → k.rows.given ≡ total (h.cut_exchanges ++ e ∷ [])
-at_exchange {j = j} {e = e} h feeds =
-    let cut = cut-step h.items h.cut_exchanges j.pairer.tail feeds.line_byte (step.Exchange e) h.cut feeds.takes.does in
-    omega (arith, cut_len (h.items ++ feeds.line_byte ∷ []) (h.cut_exchanges ++ e ∷ []) [] cut, length_push h.items feeds.line_byte)
-
--- what the view shows of the exchanges with one more
-pub shown-more : {R : Type 0} {which : View} {hands : Hands} {rows : Option Rows} {j k : Judging R} {old now : Option (List ℕ)} {m : ℕ} {e : Exchange} (line : List ℕ) → (h : SoFar which hands rows j old now m) → Feeds j k (step.Exchange e) → Follows hands (h.cut_exchanges ++ e ∷ []) k.tracker
-    → IsLineOf which hands k.rows.given e (Possible k.tracker.states) line → IsExplained which hands (h.cut_exchanges ++ e ∷ []) (h.text ++ line)
-shown-more {which = which} {hands = hands} {k = k} {e = e} line h feeds follows is =
-    explained_more which hands h.cut_exchanges e k.rows.given h.text line h.explained
-    (line_same which hands k.rows.given e (Possible k.tracker.states) (Ends hands (h.cut_exchanges ++ e ∷ [])) line follows.states is)
-    (at_exchange h feeds)
-
--- after a row that ends an exchange, which the tracker has seen and whose line was written
-unfoldable pub so_far-exchange : {R : Type 0} {which : View} {hands : Hands} {rows : Option Rows} {j k : Judging R} {old now new : Option (List ℕ)} {m : ℕ} {e : Exchange} (line : List ℕ) → (h : SoFar which hands rows j old now m) → Feeds j k (step.Exchange e) → Observes j.tracker k.tracker e true
-    → IsLineOf which hands k.rows.given e (Possible k.tracker.states) line → Appends now new line → SoFar which hands rows k old new (m + 1)
-so_far-exchange {rows = rows} {j = j} {k = k} {old = old} {now = now} {new = new} {e = e} line h feeds observes is wrote = record {
-  items = h.items ++ feeds.line_byte ∷ [];
-  cut_exchanges = h.cut_exchanges ++ e ∷ [];
-  cut = cut-after h.items h.cut_exchanges h.cut feeds.takes;
-  run = observed_run h observes;
-  follows = observed_more h observes;
-  text = h.text ++ line;
-  explained = shown-more line h feeds (observed_more h observes) is;
-  wrote = Appends-trans old now new h.text line h.wrote wrote;
-  number = omega (arith, length_push h.items feeds.line_byte);
-  exchange_number = omega (arith, length_push h.cut_exchanges e);
-  few = omega arith;
-  within = feeds.gives.within;
-  is_reading = feeds.gives.is_reading;
-  no_reason = feeds.takes.reason;
-  in_order = λ x q. later feeds.gives feeds.takes x q;
-  read = read-more rows j.rows.rows k.rows.rows h.items feeds.line_byte h.read feeds.gives.rows;
-  are_given = given-more h.items j.rows k.rows feeds.line_byte h.are_given feeds.gives;
-}
-
--- nothing is shown before the first exchange
-pub explained-start : (which : View) (hands : Hands) → IsExplained which hands [] []
-explained-start view.Verdict hands = refl
-explained-start view.Explain hands = refl
-
 -- before the first row
-unfoldable pub so_far-start : {R : Type 0} {which : View} {hands : Hands} {j : Judging R} {now : Option (List ℕ)} → IsFresh hands j → SoFar which hands j.rows.rows j now now 0
+pub so_far-start : {R : Type 0} {which : View} {hands : Hands} {j : Judging R} {now : Option (List ℕ)} → IsFresh hands j → SoFar which hands j.rows.rows j now now []
 so_far-start {which = which} {hands = hands} {j = j} {now = now} fresh = record {
-  items = [];
-  cut_exchanges = [];
-  cut = (ap (λ (p : Paired). p.tail) (sym fresh.fed_nothing), nothing (ap (λ (p : Paired). p.tail) fresh.fed_nothing));
-  run = run_start hands;
+  keeps = keeps-none which hands (ap (λ (p : Paired). p.tail) fresh.fed_nothing);
   follows = follows-start hands j.tracker fresh.states fresh.hands;
-  text = [];
-  explained = explained-start which hands;
   wrote = Appends-nil now;
-  number = fresh.none_given;
-  exchange_number = refl;
   few = omega arith;
-  within = omega arith;
   is_reading = fresh.is_reading;
-  no_reason = ap (λ (p : Paired). p.reason) fresh.fed_nothing;
-  in_order = λ x e. let none : None ≡ Some x = ap (λ (p : Paired). p.last_time) (sym fresh.fed_nothing) ∙ e in cc;
-  read = start j.rows.rows;
+  no_reason = rw fresh.fed_nothing;
+  in_order = rw fresh.fed_nothing (λ x e. cc);
+  read = unread j.rows.rows;
   are_given = given-none j.rows fresh.none_given fresh.no_time;
 }
-  where
-    start : (rows : Option Rows) → WereRead rows [] rows
-    start None = tt
-    start (Some rows) = (rows, refl, refl)
+
+module _ {R : Type 0} {which : View} {hands : Hands} {rows : Option Rows} {j : Judging R} {old now : Option (List ℕ)} {es : List Exchange} (h : SoFar which hands rows j old now es) where
+  -- the rows that it speaks of, where it ends here with no fault
+  pub seen_now : Seen rows j.rows.rows h.items None
+  seen_now = seen rows j.rows.rows h.items None h.read h.are_given.can_be
+
+  pub so_far-ok : IsOk hands h.items
+  so_far-ok = record { exchanges = es; tail = j.pairer.tail; cut = h.cut; run = h.run }
+
+  -- after a row, behind which the exchanges have a run and this line was written
+  unfoldable pub so_far-more : {k : Judging R} {new : Option (List ℕ)} {s : Step} (line : List ℕ) → Feeds j k s → HasRun hands (exchanges_after es s) → Follows hands (exchanges_after es s) k.tracker
+      → IsExplained which hands (exchanges_after es s) (h.text ++ line) → Appends now new line → length (exchanges_after es s) ≤ length es + 1 → SoFar which hands rows k old new (exchanges_after es s)
+  so_far-more {k = k} {new = new} {s = s} line feeds run follows explained wrote few = record {
+    keeps = record { items = h.items ++ feeds.line_byte ∷ []; cut = rw feeds.takes.tail (cut-step h.items es j.pairer.tail feeds.line_byte s h.cut feeds.takes.does); run = run; text = h.text ++ line; explained = explained };
+    follows = follows;
+    wrote = Appends-trans old now new h.text line h.wrote wrote;
+    few = omega arith;
+    is_reading = feeds.gives.is_reading;
+    no_reason = feeds.takes.reason;
+    in_order = λ x e. later feeds.gives feeds.takes x e;
+    read = read-more rows j.rows.rows k.rows.rows h.items feeds.line_byte h.read feeds.gives.rows;
+    are_given = given-more h.items j.rows k.rows feeds.line_byte h.are_given feeds.gives;
+  }
+
+  -- one that ends no exchange
+  pub so_far-open : {k : Judging R} → Waits j k → SoFar which hands rows k old now es
+  so_far-open {k = k} w = by w.step w.feeds w.is_open
+    where
+      by : (s : Step) → Feeds j k s → IsOpen s → SoFar which hands rows k old now es
+      by (Step.Exchange e) feeds is_open = absurd is_open
+      by s feeds is_open = so_far-more [] feeds h.run (rw w.same_tracker h.follows) (rw append-nil h.explained) (Appends-nil now) (omega arith)
+
+  -- the tracker has observed one exchange more
+  pub observed_more : {k : Tracked} {e : Exchange} {b : Bool} → Observes j.tracker k e b → Follows hands (es ++ e ∷ []) k
+  observed_more {k = k} {e = e} o = follows-more hands es e j.tracker k h.follows o.reached o.hands
+
+  -- one that ends an exchange, which the tracker has seen and whose line was written
+  unfoldable pub so_far-exchange : {k : Judging R} {new : Option (List ℕ)} {e : Exchange} (line : List ℕ) → Feeds j k (Step.Exchange e) → Observes j.tracker k.tracker e true
+      → IsLineOf which hands k.rows.given e (Possible k.tracker.states) line → Appends now new line → SoFar which hands rows k old new (es ++ e ∷ [])
+  so_far-exchange {k = k} {e = e} line feeds observes is wrote =
+      let follows = observed_more observes in
+      let cut = cut-step h.items es j.pairer.tail feeds.line_byte (Step.Exchange e) h.cut feeds.takes.does in
+      let number : k.rows.given ≡ total (es ++ e ∷ []) = omega (arith, length_push h.items feeds.line_byte, cut_len (h.items ++ feeds.line_byte ∷ []) (es ++ e ∷ []) [] cut) in
+      let end = observes.remains.0 refl in
+      so_far-more line feeds ((some_end hands (es ++ e ∷ [])).0 (end.0, (follows.states end.0).0 end.1)) follows (explained_more which hands es e k.rows.given h.text line k.tracker follows h.explained is number) wrote
+      (omega (arith, length_push es e))

@@ -1,35 +1,57 @@
--- What the clauses of private functions cite. No public contract reaches it, so no reader has to believe it.
+-- What the clauses of private functions cite, and the names from elsewhere that its parts need, passed on from here. No public
+-- contract reaches it, so no reader has to believe it.
 pub mod Trail
 pub mod Turn
-use Rattle.std.specs.Prelude.{◌≡◌, ◌≢◌, ⊤, ℕ, List, [], Option, Result, Ok, Err}
-use Rattle.std.specs.Option.{IfSome}
-use Rattle.std.specs.Result.{IfErr}
-use Rattle.std.specs.Io.KnownBytes.{Appends}
-use Rattle.capture9.specs.declared.error.CaptureError.{CaptureError}
-use Rattle.capture9.specs.declared.error.CaptureKind.TheVariants as kind
-use Rattle.capture9.specs.Rows.{Rows}
-use Rattle.block9.specs.declared.pairer.Exchange.{Exchange}
-use Rattle.track9.specs.declared.knowledge.Knowledge.{Knowledge}
-use Rattle.deck9.specs.declared.state.Hands.{Hands}
-use Rattle.deck9.specs.declared.state.State.{State}
-use Rattle.track9.specs.Knowledge.{IsKnowledge}
-use Rattle.verdict9.specs.declared.error.JudgeError.{JudgeError}
-use Rattle.verdict9.specs.declared.error.JudgeError.TheVariants as error
-use Rattle.verdict9.specs.declared.verdict.Verdict.{Verdict}
-use Rattle.verdict9.specs.declared.verdict.View.{View}
-use Rattle.verdict9.specs.declared.verdict.View.TheVariants as view
-use Rattle.text9.specs.Explanation.{line_of_exchange}
-use Rattle.judge9.specs.Judging.{CanBeResult, StoppedBefore}
-use Rattle.judge9.specs.Report.{Told}
-use Rattle.text9.specs.Writing.{AppendsPart}
+pub use Rattle.block9.specs.Exchange.{Cut}
+pub use Rattle.block9.specs.Pairer.{Refuses, Takes}
+pub use Rattle.block9.specs.declared.pairer.Exchange.{Exchange}
+pub use Rattle.block9.specs.declared.pairer.Step.TheVariants.{the_data as Step}
+pub use Rattle.block9.specs.declared.reason.Reason.TheVariants.{the_data as Reason}
+pub use Rattle.capture9.specs.Records.{GivesEnd, GivesRecord, GivesRefusal}
+pub use Rattle.capture9.specs.Rows.{Rows}
+pub use Rattle.capture9.specs.declared.error.CaptureError.{CaptureError}
+pub use Rattle.capture9.specs.declared.error.CaptureKind.TheVariants.{the_data as CaptureKind}
+pub use Rattle.capture9.specs.declared.line_byte.LineByte.{LineByte}
+pub use Rattle.capture9.specs.declared.records.Standing.TheVariants.{the_data as Standing}
+pub use Rattle.deck9.specs.Laws.{SetsInDay}
+pub use Rattle.deck9.specs.Run.{Ends, IsRunFrom, last_state}
+pub use Rattle.deck9.specs.State.{IsFirst}
+pub use Rattle.deck9.specs.Step.{AreReached, Exchanges}
+pub use Rattle.deck9.specs.declared.state.Hands.TheVariants.{the_data as Hands}
+pub use Rattle.deck9.specs.declared.state.State.{State}
+pub use Rattle.judge9.specs.Judging.{CanBeResult, StoppedBefore}
+pub use Rattle.judge9.specs.Report.{Told}
+pub use Rattle.judge9.specs.RunVerdict.{HasItsRun, judged_of}
+pub use Rattle.judge9.specs.WhyVerdict.{HasItsWhy}
+pub use Rattle.judge9.specs.declared.ending.Ending.TheVariants.{the_data as Ending}
+pub use Rattle.judge9.specs.declared.turn.Judging.{Judging}
+pub use Rattle.std.specs.Io.KnownBytes.{Appends}
+pub use Rattle.std.specs.List.{All}
+pub use Rattle.std.specs.Option.{IfSome}
+pub use Rattle.std.specs.Prelude.{[], Bool, Err, false, IsTrue, length, List, None, Ok, Option, Result, reverse, slice_get, Some, suc, take, true, zero, ℕ, ⊤, ◌*◌, ◌++◌, ◌↔◌}
+pub use Rattle.std.specs.Prelude.{◌∷◌, ◌≡◌, ◌≢◌, ◌≤◌, ◌⊎◌}
+pub use Rattle.std.specs.Result.{IfErr, IfOk}
+pub use Rattle.text9.specs.Explanation.{line_of_exchange}
+pub use Rattle.text9.specs.Writing.{AppendsPart}
+pub use Rattle.track9.specs.Knowledge.{IsKnowledge}
+pub use Rattle.track9.specs.Tracker.{Possible, Tracked}
+pub use Rattle.track9.specs.declared.knowledge.Knowledge.{Knowledge}
+pub use Rattle.verdict9.specs.Error.{refusal_of}
+pub use Rattle.verdict9.specs.OpenRecords.{IsBreakAfter}
+pub use Rattle.verdict9.specs.declared.error.JudgeError.TheVariants.{the_data as JudgeError}
+pub use Rattle.verdict9.specs.declared.run_verdict.RunVerdict.TheVariants.{the_data as RunVerdict}
+pub use Rattle.verdict9.specs.declared.verdict.Verdict.TheVariants.{the_data as Verdict}
+pub use Rattle.verdict9.specs.declared.verdict.View.TheVariants.{the_data as View}
+pub use Rattle.verdict9.specs.declared.why_verdict.WhyVerdict.TheVariants.{the_data as WhyVerdict}
+pub use Rattle.why9.specs.Contradiction.{BreaksAtLast}
 
 -- the result of writing a line: it was written, a first part of it where the writer failed, and nothing where there
 -- was no memory for it
 abbrev pub Puts : {A : Type 0} → List ℕ → Result A JudgeError → Option (List ℕ) → Option (List ℕ) → Type 0
 Puts line (Ok a) old new = Appends old new line
-Puts line (Err (error.Capture e)) old new = ⊥
-Puts line (Err error.Write) old new = AppendsPart old new line
-Puts line (Err error.OutOfMemory) old new = Appends old new []
+Puts line (Err (JudgeError.Capture e)) old new = ⊥
+Puts line (Err JudgeError.Write) old new = AppendsPart old new line
+Puts line (Err JudgeError.OutOfMemory) old new = Appends old new []
 
 -- the verdict that is told is this one
 abbrev pub IsSame : Verdict → Result Verdict JudgeError → Type 0
@@ -38,8 +60,8 @@ IsSame v (Err e) = ⊤
 
 -- what a view shows of one exchange after which the deck can be in these states
 abbrev pub IsLineOf : View → Hands → ℕ → Exchange → (State → Type 0) → List ℕ → Type 0
-IsLineOf view.Verdict hands at e states line = line ≡ []
-IsLineOf view.Explain hands at e states line = (known : Knowledge) × IsKnowledge states known × (line ≡ line_of_exchange hands at e known)
+IsLineOf View.Verdict hands at e states line = line ≡ []
+IsLineOf View.Explain hands at e states line = (known : Knowledge) × IsKnowledge states known × (line ≡ line_of_exchange hands at e known)
 
 -- the result of writing what a view shows of one exchange
 pub record Explains (which : View) (hands : Hands) (at : ℕ) (e : Exchange) (states : State → Type 0) (result : Result Unit JudgeError) (old new : Option (List ℕ)) : Type 0 where
@@ -51,5 +73,5 @@ pub record Explains (which : View) (hands : Hands) (at : ℕ) (e : Exchange) (st
 pub record Judges (which : View) (hands : Hands) (rows : Option Rows) (result : Result Verdict JudgeError) (old new : Option (List ℕ)) : Type 0 where
   pub told : Told which hands rows result old new
   pub stopped : IfSome rows (λ all. IfErr result (StoppedBefore hands all))
-  pub is_kind : (e : CaptureError) → result ≡ Err (error.Capture e) → e.kind ≢ kind.OutOfMemory
+  pub is_kind : (e : CaptureError) → result ≡ Err (JudgeError.Capture e) → e.kind ≢ CaptureKind.OutOfMemory
   pub can_be : CanBeResult result

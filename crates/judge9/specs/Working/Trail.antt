@@ -1,33 +1,8 @@
 -- The trail of a judging: what is kept of it at its end, and the way back to a run of the deck.
-use Rattle.std.specs.Prelude.{◌≡◌, ◌≢◌, ℕ, ◌*◌, ◌≤◌, ◌↔◌, List, [], ◌∷◌, ◌++◌, length, reverse, take, Option, Some, None, Result, Ok, Err, slice_get}
-use Rattle.std.specs.List.{All}
-use Rattle.std.specs.Result.{IfOk}
-use Rattle.capture9.specs.declared.line_byte.LineByte.{LineByte}
-use Rattle.capture9.specs.Rows.{Rows}
-use Rattle.block9.specs.declared.pairer.Exchange.{Exchange}
-use Rattle.block9.specs.declared.reason.Reason.TheVariants.{NoRun}
-use Rattle.block9.specs.Exchange.{Cut}
-use Rattle.deck9.specs.declared.state.Hands.{Hands}
-use Rattle.deck9.specs.declared.state.State.{State}
-use Rattle.deck9.specs.Laws.{SetsInDay}
-use Rattle.deck9.specs.Run.{Ends, IsRunFrom, last_state}
-use Rattle.deck9.specs.Step.{Exchanges}
-use Rattle.track9.specs.Tracker.{Possible, Tracked}
-use Rattle.why9.specs.Contradiction.{BreaksAtLast}
-use Rattle.judge9.specs.declared.ending.Ending.{Ending}
-use Rattle.judge9.specs.declared.ending.Ending.TheVariants as ending
-use Rattle.verdict9.specs.declared.error.JudgeError.{JudgeError}
-use Rattle.verdict9.specs.declared.error.JudgeError.TheVariants as error
-use Rattle.verdict9.specs.declared.run_verdict.RunVerdict.{RunVerdict}
-use Rattle.verdict9.specs.declared.verdict.Verdict.{Verdict}
-use Rattle.verdict9.specs.declared.verdict.Verdict.TheVariants as verdict
-use Rattle.verdict9.specs.declared.verdict.View.TheVariants as view
-use Rattle.verdict9.specs.declared.why_verdict.WhyVerdict.{WhyVerdict}
-use Rattle.verdict9.specs.OpenRecords.{IsBreakAfter}
-use Rattle.judge9.specs.RunVerdict.{HasItsRun, judged_of}
-use Rattle.judge9.specs.WhyVerdict.{HasItsWhy}
+use Rattle.judge9.specs.Working.{[], All, BreaksAtLast, Cut, Ending, Ends, Err, Exchange, Exchanges, Hands, HasItsRun, HasItsWhy, IfOk, IsBreakAfter, IsRunFrom, judged_of}
+use Rattle.judge9.specs.Working.{JudgeError, Judges, last_state, length, LineByte, List, None, Ok, Option, Possible, Reason, Result, reverse, Rows, RunVerdict, SetsInDay}
+use Rattle.judge9.specs.Working.{slice_get, Some, State, take, Tracked, Verdict, View, WhyVerdict, ℕ, ◌*◌, ◌++◌, ◌↔◌, ◌∷◌, ◌≡◌, ◌≢◌, ◌≤◌}
 use Rattle.judge9.specs.WhyVerdict.{judged_of as why_judged_of}
-use Rattle.judge9.specs.Working.{Judges}
 
 -- a tracker keeps exactly the states that the runs of these exchanges end in
 pub record Follows (h : Hands) (es : List Exchange) (t : Tracked) : Type 0 where
@@ -60,9 +35,9 @@ pub record GoesBack (h : Hands) (X : State → Type 0) (es : List Exchange) (end
 
 -- the verdict of a judging whose trail has these exchanges
 abbrev pub verdict_at : List Exchange → Ending → Verdict
-verdict_at es (ending.End records tail) = verdict.Yes records (length es) tail
-verdict_at es (ending.Break at reason r) = verdict.No at reason
-verdict_at es (ending.NoRun at) = verdict.No at NoRun
+verdict_at es (Ending.End records tail) = Verdict.Yes records (length es) tail
+verdict_at es (Ending.Break at reason r) = Verdict.No at reason
+verdict_at es (Ending.NoRun at) = Verdict.No at Reason.NoRun
 
 -- the result with that verdict
 abbrev pub judged_at : List Exchange → Result Ending JudgeError → Result Verdict JudgeError
@@ -85,24 +60,24 @@ pub record LosesItsRuns (h : Hands) (rows : Rows) (at : ℕ) (es : List Exchange
 
 -- what is kept of a judging, by where it ends; these records are left of it behind the last whole exchange
 abbrev pub EndsAt : Hands → Rows → List LineByte → List Exchange → List Tracked → Tracked → Ending → Type 0
-EndsAt h rows left es trackers t (ending.End records tail) = Arrives h rows es trackers t
-EndsAt h rows left es trackers t (ending.Break at reason r) = (reason ≢ NoRun) × IsBreakAfter rows.records at left r
-EndsAt h rows left es trackers t (ending.NoRun at) = LosesItsRuns h rows at es
+EndsAt h rows left es trackers t (Ending.End records tail) = Arrives h rows es trackers t
+EndsAt h rows left es trackers t (Ending.Break at reason r) = (reason ≢ Reason.NoRun) × IsBreakAfter rows.records at left r
+EndsAt h rows left es trackers t (Ending.NoRun at) = LosesItsRuns h rows at es
 
 -- all that the result of a judging tells that keeps its trail
 pub record KeepsTrail (hands : Hands) (rows : Option Rows) (result : Result Ending JudgeError) (left : List LineByte) (es : List Exchange) (trackers : List Tracked) (t : Tracked) : Type 0 where
-  pub judges : Judges view.Verdict hands rows (judged_at es result) None None
+  pub judges : Judges View.Verdict hands rows (judged_at es result) None None
   pub ends : IfOk result (EndsAt hands judges.told.rows left es trackers t)
-  pub no_write : result ≢ Err error.Write
+  pub no_write : result ≢ Err JudgeError.Write
 
 -- all that the result of a judging with a run tells
 pub record JudgesRun (hands : Hands) (rows : Option Rows) (result : Result RunVerdict JudgeError) : Type 0 where
-  pub judges : Judges view.Verdict hands rows (judged_of result) None None
+  pub judges : Judges View.Verdict hands rows (judged_of result) None None
   pub run : IfOk result (HasItsRun hands judges.told.rows)
-  pub no_write : result ≢ Err error.Write
+  pub no_write : result ≢ Err JudgeError.Write
 
 -- all that the result of a judging tells that says why no run remains
 pub record JudgesWhy (hands : Hands) (rows : Option Rows) (result : Result WhyVerdict JudgeError) : Type 0 where
-  pub judges : Judges view.Verdict hands rows (why_judged_of result) None None
+  pub judges : Judges View.Verdict hands rows (why_judged_of result) None None
   pub why : IfOk result (HasItsWhy hands judges.told.rows)
-  pub no_write : result ≢ Err error.Write
+  pub no_write : result ≢ Err JudgeError.Write

@@ -1,31 +1,14 @@
 -- What a judging comes to next: what rows do to those that are still to come, to the pairer and to the tracker.
-use Rattle.std.specs.Prelude.{◌≡◌, ◌↔◌, ◌⊎◌, ⊤, ℕ, zero, suc, Bool, true, false, IsTrue, [], Result, Ok, Err, None}
-use Rattle.capture9.specs.declared.error.CaptureError.{CaptureError}
-use Rattle.capture9.specs.declared.line_byte.LineByte.{LineByte}
-use Rattle.capture9.specs.declared.records.Standing.TheVariants.{Reading}
-use Rattle.capture9.specs.Records.{GivesEnd, GivesRecord, GivesRefusal}
-use Rattle.block9.specs.declared.pairer.Exchange.{Exchange}
-use Rattle.block9.specs.declared.pairer.Step.{Step}
-use Rattle.block9.specs.declared.pairer.Step.TheVariants as step
-use Rattle.block9.specs.declared.reason.Reason.{Reason}
-use Rattle.block9.specs.Pairer.{Refuses, Takes}
-use Rattle.deck9.specs.declared.state.Hands.{Hands}
-use Rattle.deck9.specs.declared.state.State.{State}
-use Rattle.deck9.specs.State.{IsFirst}
-use Rattle.deck9.specs.Step.{AreReached, Exchanges}
-use Rattle.track9.specs.Tracker.{Possible, Tracked}
-use Rattle.verdict9.specs.declared.error.JudgeError.{JudgeError}
-use Rattle.verdict9.specs.declared.error.JudgeError.TheVariants as error
-use Rattle.judge9.specs.declared.turn.Judging.{Judging}
-use Rattle.judge9.specs.declared.turn.Turn.{Turn}
-use Rattle.judge9.specs.declared.turn.Turn.TheVariants as turn
-use Rattle.verdict9.specs.Error.{refusal_of}
+use Rattle.judge9.specs.Working.{[], AreReached, Bool, CaptureError, Err, Exchange, Exchanges, false, GivesEnd, GivesRecord, GivesRefusal, Hands, IsFirst, IsTrue, JudgeError}
+use Rattle.judge9.specs.Working.{Judging, LineByte, None, Ok, Possible, Reason, refusal_of, Refuses, Result, Standing, State, Step, suc, Takes, Tracked, true, zero, ℕ, ⊤, ◌↔◌}
+use Rattle.judge9.specs.Working.{◌≡◌, ◌⊎◌}
+use Rattle.judge9.specs.declared.turn.Turn.TheVariants.{the_data as Turn}
 
 -- nothing was judged yet
 pub record IsFresh {R : Type 0} (h : Hands) (j : Judging R) : Type 0 where
   pub none_given : j.rows.given ≡ 0
   pub no_time : j.rows.last_time ≡ 0
-  pub is_reading : j.rows.standing ≡ Reading
+  pub is_reading : j.rows.standing ≡ Standing.Reading
   pub fed_nothing : j.pairer ≡ record { tail = []; last_time = None; reason = None }
   pub states : (s : State) → Possible j.tracker.states s ↔ IsFirst h s
   pub hands : j.tracker.hands ≡ h
@@ -38,9 +21,9 @@ pub record Feeds {R : Type 0} (j k : Judging R) (s : Step) : Type 0 where
 
 -- a step that ends no exchange
 abbrev pub IsOpen : Step → Type 0
-IsOpen step.Waiting = ⊤
-IsOpen step.Command = ⊤
-IsOpen (step.Exchange e) = ⊥
+IsOpen Step.Waiting = ⊤
+IsOpen Step.Command = ⊤
+IsOpen (Step.Exchange e) = ⊥
 
 -- this record was given, and broke this rule
 pub record Spoils {R : Type 0} (j k : Judging R) (reason : Reason) (r : LineByte) : Type 0 where
@@ -56,11 +39,11 @@ pub record Observes (old new : Tracked) (e : Exchange) (b : Bool) : Type 0 where
 
 -- what the tracker makes of an exchange
 abbrev pub IsObserved : Tracked → Exchange → Result Turn JudgeError → Tracked → Type 0
-IsObserved old e (Ok (turn.Exchange f)) new = (f ≡ e) × Observes old new e true
-IsObserved old e (Ok (turn.NoRun f)) new = (f ≡ e) × Observes old new e false
-IsObserved old e (Ok (turn.Break reason r)) new = ⊥
-IsObserved old e (Ok turn.End) new = ⊥
-IsObserved old e (Err x) new = x ≡ error.OutOfMemory
+IsObserved old e (Ok (Turn.Exchange f)) new = (f ≡ e) × Observes old new e true
+IsObserved old e (Ok (Turn.NoRun f)) new = (f ≡ e) × Observes old new e false
+IsObserved old e (Ok (Turn.Break reason r)) new = ⊥
+IsObserved old e (Ok Turn.End) new = ⊥
+IsObserved old e (Err x) new = x ≡ JudgeError.OutOfMemory
 
 -- there was no row
 pub record EndsRows {R : Type 0} (j k : Judging R) : Type 0 where
@@ -82,15 +65,14 @@ AreOpen {R} (suc n) j k = (mid : Judging R) × AreOpen n j mid × Waits mid k
 
 -- what the next row does
 abbrev pub Turned : {R : Type 0} → Judging R → Result Turn JudgeError → Judging R → Type 0
-Turned j (Ok (turn.Exchange e)) k = Feeds j k (step.Exchange e) × Observes j.tracker k.tracker e true
-Turned j (Ok (turn.NoRun e)) k = Feeds j k (step.Exchange e) × Observes j.tracker k.tracker e false
-Turned j (Ok (turn.Break reason r)) k = Spoils j k reason r
-Turned j (Ok turn.End) k = EndsRows j k
-Turned j (Err x) k = (x ≡ error.OutOfMemory) ⊎ ((e : CaptureError) × GivesRefusal j.rows e k.rows × (x ≡ refusal_of e))
+Turned j (Ok (Turn.Exchange e)) k = Feeds j k (Step.Exchange e) × Observes j.tracker k.tracker e true
+Turned j (Ok (Turn.NoRun e)) k = Feeds j k (Step.Exchange e) × Observes j.tracker k.tracker e false
+Turned j (Ok (Turn.Break reason r)) k = Spoils j k reason r
+Turned j (Ok Turn.End) k = EndsRows j k
+Turned j (Err x) k = (x ≡ JudgeError.OutOfMemory) ⊎ ((e : CaptureError) × GivesRefusal j.rows e k.rows × (x ≡ refusal_of e))
 
 -- rows were read whose records end no exchange, and then came this
 pub record ComesTo {R : Type 0} (j : Judging R) (result : Result Turn JudgeError) (k : Judging R) : Type 0 where
-  pub many : ℕ
   pub front : Judging R
-  pub are_open : AreOpen many j front
+  pub are_open : (n : ℕ) × AreOpen n j front
   pub turned : Turned front result k

@@ -1,5 +1,4 @@
-use Rattle.std.proofs.Common.{take}
-use Rattle.judge9.specs.Working.Trail.{Follows}
+use Rattle.judge9.proofs.Words.{Follows, take}
 use Rattle.judge9.proofs.could_show.follow.Given as goal
 
 abbrev pub invariant-loop-exchange : goal.invariant-loop-exchange

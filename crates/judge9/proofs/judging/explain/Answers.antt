@@ -1,5 +1,4 @@
-use Rattle.std.proofs.Common.{refl}
-use Rattle.std.proofs.KnownBytes.{Appends-nil}
+use Rattle.judge9.proofs.Words.{Appends-nil, refl}
 use Rattle.judge9.proofs.judging.explain.Goals as goal
 
 pub returns-in_default : goal.returns-in_default

@@ -1,24 +1,22 @@
-use Rattle.std.proofs.Common.{◌∙◌, ap}
-use Rattle.block9.specs.Pairer.{Paired}
-use Rattle.judge9.specs.Working.{Judges}
-use Rattle.judge9.proofs.TellLemmas.{judges-break, judges-no_run}
-use Rattle.judge9.proofs.SoFar.{so_far-exchange, so_far-start}
-use Rattle.judge9.proofs.TurnSteps.{comes, fewer_rows, handed_on, judges-end, judges-explained, judges-stopped}
+use Rattle.judge9.proofs.Words.{[], arith, length_push, refl, ◌++◌, ◌∷◌}
 use Rattle.judge9.proofs.judging.judge_rows.Goals as goal
+use Rattle.judge9.proofs.SoFar.{so_far-exchange, so_far-start}
+use Rattle.judge9.proofs.TellLemmas.{breaks-pairing, breaks-run, judges-end, judges-explained, judges-no, judges-stopped}
+use Rattle.judge9.proofs.TurnSteps.{comes, fewer_rows, handed}
 
 pub rows-init : goal.rows-init
-rows-init g c = so_far-start c.requires
+rows-init g c = ([], refl, so_far-start c.requires)
 
 pub returns-in_err-exchange : goal.returns-in_err-exchange
 returns-in_err-exchange g c =
-    handed_on (λ r. Judges c.args.view c.args.hands c.args.judging.now.rows.rows r (g.W.Write.contents c.args.writer.now) (g.W.Write.contents c.rows.writer)) _ c.from_residual.result c.from_residual.ensures.1
-    (comes c.rows.invariant c.in_err-exchange.ensures (λ front h t. judges-stopped c.next.new.self _ h t))
+    rw (handed c.from_residual.result c.from_residual.ensures.1) (comes c.rows.invariant.2 c.in_err-exchange.ensures (λ front h t. judges-stopped h c.next.new.self _ t))
 
 pub rows-preserved : goal.rows-preserved
 rows-preserved g c =
     let puts = rw c.in_ok-explain-in-Exchange.was at c.explain.ensures.puts in
     let is_line = rw c.given.ensures at c.explain.ensures.is_line in
-    comes c.rows.invariant (rw c.in-Exchange.is at c.in_ok-exchange.ensures) (λ front h t. so_far-exchange _ h t.0 t.1 is_line puts)
+    let more = comes c.rows.invariant.2 (rw c.in-Exchange.is at c.in_ok-exchange.ensures) (λ front h t. so_far-exchange h _ t.0 t.1 is_line puts) in
+    (c.rows.invariant.0 ++ c.in-Exchange.exchange ∷ [], omega (arith, c.rows.invariant.1, length_push c.rows.invariant.0 c.in-Exchange.exchange), more)
 
 pub rows-smaller : goal.rows-smaller
 rows-smaller g c = fewer_rows (rw c.in-Exchange.is at c.in_ok-exchange.ensures)
@@ -27,25 +25,22 @@ pub returns-in_err-explain-in-Exchange : goal.returns-in_err-explain-in-Exchange
 returns-in_err-explain-in-Exchange g c =
     let come = rw c.in-Exchange.is at c.in_ok-exchange.ensures in
     let explains = rw c.given.ensures at c.in_err-explain-in-Exchange.ensures in
-    handed_on (λ r. Judges c.args.view c.args.hands c.args.judging.now.rows.rows r (g.W.Write.contents c.args.writer.now) (g.W.Write.contents c.explain.new.writer)) _ c.from_residual-in_err-explain-in-Exchange.result
-    c.from_residual-in_err-explain-in-Exchange.ensures.1
-    (comes c.rows.invariant come (λ front h t. judges-explained _ h t explains))
+    rw (handed c.from_residual-in_err-explain-in-Exchange.result c.from_residual-in_err-explain-in-Exchange.ensures.1) (comes c.rows.invariant.2 come (λ front h t. judges-explained h _ t explains))
 
 pub returns-in-NoRun : goal.returns-in-NoRun
 returns-in-NoRun g c =
-    let come = rw c.in-NoRun.is at c.in_ok-exchange.ensures in
-    comes c.rows.invariant come (λ front h t. judges-no_run {new = g.W.Write.contents c.tell_no.new.writer} _ h t.0 t.1 (rw c.given-in-NoRun.ensures at c.tell_no.ensures.same) (rw c.given-in-NoRun.ensures at c.tell_no.ensures.puts))
+    let told = rw c.given-in-NoRun.ensures at c.tell_no.ensures in
+    comes c.rows.invariant.2 (rw c.in-NoRun.is at c.in_ok-exchange.ensures) (λ front h t. (judges-no h {new = g.W.Write.contents c.tell_no.new.writer} _ t.0.gives (breaks-run h t.0 t.1) told.same told.puts).0)
 
 pub returns-in-Break : goal.returns-in-Break
 returns-in-Break g c =
-    let come = rw c.in-Break.is at c.in_ok-exchange.ensures in
-    comes c.rows.invariant come (λ front h t. judges-break {new = g.W.Write.contents c.tell_no-in-Break.new.writer} _ h t (rw c.given-in-Break.ensures at c.tell_no-in-Break.ensures.same) (rw c.given-in-Break.ensures at c.tell_no-in-Break.ensures.puts))
+    let told = rw c.given-in-Break.ensures at c.tell_no-in-Break.ensures in
+    comes c.rows.invariant.2 (rw c.in-Break.is at c.in_ok-exchange.ensures) (λ front h t. (judges-no h {new = g.W.Write.contents c.tell_no-in-Break.new.writer} _ t.gives (breaks-pairing h t) told.same told.puts).0)
 
 pub tail_len-tail-requires : goal.tail_len-tail-requires
-tail_len-tail-requires g c = comes c.rows.invariant (rw c.in-End.is at c.in_ok-exchange.ensures) (λ front h t. ap (λ (p : Paired). p.reason) t.same_pairer ∙ h.no_reason)
+tail_len-tail-requires g c = comes c.rows.invariant.2 (rw c.in-End.is at c.in_ok-exchange.ensures) (λ front h t. rw t.same_pairer h.no_reason)
 
 pub returns : goal.returns
 returns g c =
-    let same = rw (c.given-2.ensures, c.tail_len-tail.ensures.len) at c.tell.ensures.same in
-    let puts = rw (c.given-2.ensures, c.tail_len-tail.ensures.len) at c.tell.ensures.puts in
-    comes c.rows.invariant (rw c.in-End.is at c.in_ok-exchange.ensures) (λ front h t. judges-end _ h t same puts)
+    let told = rw (c.given-2.ensures, c.tail_len-tail.ensures.len) at c.tell.ensures in
+    comes c.rows.invariant.2 (rw c.in-End.is at c.in_ok-exchange.ensures) (λ front h t. (judges-end h {new = g.W.Write.contents c.tell.new.writer} _ t c.rows.invariant.1 told.same told.puts).0)

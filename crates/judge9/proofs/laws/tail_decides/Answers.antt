@@ -1,6 +1,6 @@
-use Rattle.block9.proofs.CutLemmas.{kept_by_tail, tail_by_kept}
-use Rattle.judge9.proofs.LawLemmas.{breaks_tail, tail_breaks}
+use Rattle.judge9.proofs.Words.{kept_by_tail, tail_by_kept}
 use Rattle.judge9.proofs.laws.tail_decides.Goals as goal
+use Rattle.judge9.proofs.LawLemmas.{breaks_tail, tail_breaks}
 
 pub returns : goal.returns
 returns c = record {

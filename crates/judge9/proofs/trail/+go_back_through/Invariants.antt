@@ -1,4 +1,4 @@
-use Rattle.std.proofs.Common.{length}
+use Rattle.judge9.proofs.Words.{length}
 use Rattle.judge9.proofs.trail.+go_back_through.Given as goal
 
 abbrev pub decreases-go_back_through : goal.decreases-go_back_through

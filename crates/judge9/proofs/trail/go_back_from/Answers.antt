@@ -1,5 +1,5 @@
-use Rattle.judge9.proofs.RunSteps.{back_all}
 use Rattle.judge9.proofs.trail.go_back_from.Goals as goal
+use Rattle.judge9.proofs.RunSteps.{back_all}
 
 pub returns : goal.returns
 returns c =

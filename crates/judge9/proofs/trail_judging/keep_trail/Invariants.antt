@@ -1,9 +1,14 @@
-use Rattle.std.proofs.Common.{◌-◌}
-use Rattle.judge9.proofs.TrailJudging.{WithTrail}
+use Rattle.judge9.proofs.Words.{IsTrail, length, None, View, ◌*◌, ◌-◌, ◌<◌}
 use Rattle.judge9.proofs.trail_judging.keep_trail.Given as goal
+use Rattle.judge9.proofs.SoFar.{SoFar}
 
+-- the records so far keep the rules, and the trail has their exchanges
 abbrev pub invariant-rows : goal.invariant-rows
-invariant-rows g l = WithTrail l.fn.hands l.fn.judging.rows.rows l.judging l.trail.exchanges.items l.trail.trackers.items
+invariant-rows g l = record {
+  so_far : SoFar View.Verdict l.fn.hands l.fn.judging.rows.rows l.judging None None l.trail.exchanges.items;
+  trail : IsTrail l.fn.hands l.trail.exchanges.items l.trail.trackers.items;
+  room : length l.trail.exchanges.items < length l.trail.trackers.items * 256;
+}
 
 abbrev pub decreases-rows : goal.decreases-rows
 decreases-rows g l = 4000000 - l.judging.rows.given

@@ -1,6 +1,4 @@
-use Rattle.std.proofs.Common.{◌∙◌, ◌++◌, ap, subst}
-use Rattle.block9.specs.Line.{bytes_of}
-use Rattle.verdict9.specs.OpenRecords.{IsMeaning, asked_of}
+use Rattle.judge9.proofs.Words.{ap, asked_of, bytes_of, IsMeaning, subst, ◌++◌, ◌∙◌}
 use Rattle.judge9.proofs.why_judging.open_of.Goals as goal
 
 pub returns : goal.returns

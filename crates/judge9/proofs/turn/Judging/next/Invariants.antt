@@ -1,6 +1,4 @@
-use Rattle.std.proofs.Common.{◌≡◌, ◌-◌, ◌≤◌, ℕ, None}
-use Rattle.std.specs.Option.{ForSome}
-use Rattle.judge9.specs.Working.Turn.{AreOpen}
+use Rattle.judge9.proofs.Words.{AreOpen, ForSome, None, ℕ, ◌-◌, ◌≡◌, ◌≤◌}
 use Rattle.judge9.proofs.turn.Judging.next.Given as goal
 
 -- the rows so far end no exchange
