@@ -1,6 +1,3 @@
-mod RunLines
-mod BlockBytes
-mod ModeRow
+mod Lines
 mod WordRow
-mod LinesAt
-mod BreakLines
+pub mod Words

@@ -1,8 +1,7 @@
--- Words in a row, some after others.
-use Rattle.std.proofs.Common.{◌≡◌, ◌∙◌, ℕ, List, [], ◌∷◌, ◌++◌, refl, sym, ap, append_assoc}
-use Rattle.report9.specs.WhyText.{in_a_row}
-use Rattle.report9.specs.Working.WhyText.{next_before}
-use Rattle.text9.proofs.PieceLemmas.{pieces3}
+-- Words, the names of modes, and the bytes of a block in a row, some after others.
+use Rattle.report9.proofs.Words.{[], ap, append-nil, append_assoc, arith, Bool, codes, drop, drop-cons, false, get_or, hex_byte, hex_bytes, if◌then◌else◌, in_a_row, length, List}
+use Rattle.report9.proofs.Words.{list_all, list_all_more, list_any, list_any_more, Mode, name_of, names_of, next_before, refl, suc, sym, take, true, ℕ, ◌++◌, ◌+◌, ◌<◌, ◌∙◌, ◌∷◌}
+use Rattle.report9.proofs.Words.{◌≡◌}
 
 next_is : (between : List ℕ) (words : List (List ℕ)) → next_before between between words ≡ between
 next_is between [] = refl
@@ -14,17 +13,44 @@ next_more before between (word ∷ words) more = sym (next_is between more)
 
 row_more : (before between : List ℕ) (words more : List (List ℕ)) → in_a_row before between (words ++ more) ≡ in_a_row before between words ++ in_a_row (next_before before between words) between more
 row_more before between [] more = refl
-row_more before between (word ∷ words) more =
-    ap (λ t. before ++ word ++ t) (row_more between between words more ∙ ap (λ b. in_a_row between between words ++ in_a_row b between more) (next_is between words))
-    ∙ sym (append_assoc (before ++ word) (in_a_row between between words) (in_a_row between between more))
+row_more before between (word ∷ words) more = rw (row_more between between words more, next_is between words) (simp append_assoc)
 
 -- three times some words
 pub row_pieces : (l before between second third : List ℕ) (us vs ws : List (List ℕ)) (x y z : List ℕ) → x ≡ l ++ in_a_row before between us → second ≡ next_before before between us
     → y ≡ x ++ in_a_row second between vs → third ≡ next_before second between vs → z ≡ y ++ in_a_row third between ws → z ≡ l ++ in_a_row before between (us ++ vs ++ ws)
 row_pieces l before between second third us vs ws x y z p is_second q is_third r =
-    let first_two : in_a_row before between us ++ in_a_row second between vs ≡ in_a_row before between (us ++ vs) = ap (λ b. in_a_row before between us ++ in_a_row b between vs) is_second ∙ sym (row_more before between us vs) in
-    let then : third ≡ next_before before between (us ++ vs) = is_third ∙ ap (λ b. next_before b between vs) is_second ∙ sym (next_more before between us vs) in
-    pieces3 l (in_a_row before between us) (in_a_row second between vs) (in_a_row third between ws) x y z p q r
-    ∙ ap (λ t. l ++ (t ++ in_a_row third between ws)) first_two
-    ∙ ap (λ b. l ++ (in_a_row before between (us ++ vs) ++ in_a_row b between ws)) then
-    ∙ ap (λ t. l ++ t) (sym (row_more before between (us ++ vs) ws))
+    rw (r, is_third, q, is_second, p, row_more before between (us ++ vs) ws, row_more before between us vs, next_more before between us vs) (simp append_assoc)
+
+-- ---- the chosen ones of some modes, and their names
+
+pub none_more : (p : Mode → Bool) (ms : List Mode) (i : ℕ) (d : Mode) → i < length ms → list_any p (take i ms) ≡ false → p (get_or ms i d) ≡ false → list_any p (take (i + 1) ms) ≡ false
+none_more p ms i d h none not = list_any_more p ms i d h ∙ rw (none, not) refl
+
+pub every_more : (p : Mode → Bool) (ms : List Mode) (i : ℕ) (d : Mode) → i < length ms → list_all p (take i ms) ≡ true → p (get_or ms i d) ≡ true → list_all p (take (i + 1) ms) ≡ true
+every_more p ms i d h all is = list_all_more p ms i d h ∙ rw (all, is) refl
+
+-- the names that are left: that of the first mode, where it is chosen, and those of the others
+names_next : (p : Mode → Bool) (m : Mode) (ms : List Mode) (before between : List ℕ)
+    → in_a_row before between (names_of p (m ∷ ms)) ≡ (if p m then before ++ name_of m else []) ++ in_a_row (if p m then between else before) between (names_of p ms)
+names_next p m ms before between = grind arith
+
+-- one mode more
+pub names_more : (p : Mode → Bool) (ms : List Mode) (i : ℕ) (d : Mode) (before next between line new whole : List ℕ) → i < length ms → line ++ in_a_row before between (names_of p (drop i ms)) ≡ whole
+    → new ≡ line ++ (if p (get_or ms i d) then before ++ name_of (get_or ms i d) else []) → next ≡ (if p (get_or ms i d) then between else before)
+    → new ++ in_a_row next between (names_of p (drop (i + 1) ms)) ≡ whole
+names_more p ms i d before next between line new whole h so_far text is_next =
+    let m = get_or ms i d in
+    let place : suc i ≡ i + 1 = omega arith in
+    let split : drop i ms ≡ m ∷ drop (i + 1) ms = drop-cons ms i d h ∙ ap (λ k. m ∷ drop k ms) place in
+    rw (text, is_next, append_assoc, ← names_next p m (drop (i + 1) ms) before between) (rw split at so_far)
+
+-- ---- the bytes of a block
+
+hex_more : (bytes more : List ℕ) → hex_bytes (codes " ") (bytes ++ more) ≡ hex_bytes (codes " ") bytes ++ hex_bytes (codes " ") more
+hex_more [] more = refl
+hex_more (byte ∷ bytes) more = ap (λ t. codes " " ++ hex_byte byte ++ t) (hex_more bytes more)
+
+-- the first byte, the code, the data and the sum
+pub block_pieces : (l : List ℕ) (first code last : ℕ) (items w x y z : List ℕ) → w ≡ l ++ hex_byte first → x ≡ w ++ (codes " " ++ hex_byte code) → y ≡ x ++ hex_bytes (codes " ") items → z ≡ y ++ (codes " " ++ hex_byte last)
+    → z ≡ l ++ hex_bytes [] ((first ∷ code ∷ items) ++ last ∷ [])
+block_pieces l first code last items w x y z p q r s = rw (s, r, q, p, hex_more items (last ∷ [])) (simp (append_assoc, append-nil))

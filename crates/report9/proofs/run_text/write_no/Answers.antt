@@ -1,36 +1,28 @@
-use Rattle.std.proofs.Common.{ℕ, List, [], ◌∷◌, ◌++◌, codes, drop}
-use Rattle.std.proofs.KnownBytes.{Appends-trans}
-use Rattle.std.specs.Fmt.{decimal}
-use Rattle.block9.specs.declared.reason.Reason.{Reason}
-use Rattle.block9.specs.Reason.{name_of, text_of}
-use Rattle.text9.proofs.WriteLemmas.{begins, failed, in_pairs, part_after, piece_after}
+use Rattle.report9.proofs.Words.{[], Appends-trans, begins, codes, decimal, failed, in_pairs, line_of, List, Option, piece_after, Reason, Result, Verdict, Writes, ℕ, ◌++◌, ◌∷◌}
+use Rattle.block9.specs.Reason.{name_of as name_of_reason, text_of as text_of_reason}
 use Rattle.report9.proofs.run_text.write_no.Goals as goal
+use Rattle.report9.proofs.Lines.{stops}
 
--- the pieces after the first
-abbrev later : Reason → List (List ℕ)
-later reason = (codes ": " ++ name_of reason) ∷ (codes " " ++ text_of reason) ∷ (codes "\n") ∷ []
+-- the pieces, of which two each are written together
+paired : {A E : Type 0} (r : Result A E) (old new : Option (List ℕ)) (at : ℕ) (reason : Reason) → Writes ((codes "no at record " ++ decimal at) ++ (codes ": " ++ name_of_reason reason) ++ (codes " " ++ text_of_reason reason) ++ codes "\n") r old new → Writes (line_of (Verdict.No at reason)) r old new
+paired r old new at reason = in_pairs r old new (codes "no at record ") (decimal at) (codes ": ") (name_of_reason reason) (codes " ") (text_of_reason reason) (codes "\n")
 
 pub returns-in_err-write_count : goal.returns-in_err-write_count
 returns-in_err-write_count g c =
-    in_pairs c.from_residual.result _ _ (codes "no at record ") (decimal c.args.at) (codes ": ") (name_of c.args.reason) (codes " ") (text_of c.args.reason) (codes "\n")
-    (failed c.from_residual.result _ _ _ c.from_residual.ensures.0
-    (begins _ _ _ (later c.args.reason) (rw c.from.ensures at c.in_err-write_count.ensures)))
+    paired c.from_residual.result _ _ c.args.at c.args.reason (failed c.from_residual.result _ _ _ c.from_residual.ensures.0 (begins _ _ _ ((codes ": " ++ name_of_reason c.args.reason) ∷ (codes " " ++ text_of_reason c.args.reason) ∷ codes "\n" ∷ []) (rw c.from.ensures at c.in_err-write_count.ensures)))
 
 pub returns-in_err-write_word : goal.returns-in_err-write_word
 returns-in_err-write_word g c =
-    in_pairs c.from_residual-in_err-write_word.result _ _ (codes "no at record ") (decimal c.args.at) (codes ": ") (name_of c.args.reason) (codes " ") (text_of c.args.reason) (codes "\n")
-    (failed c.from_residual-in_err-write_word.result _ _ _ c.from_residual-in_err-write_word.ensures.0
-    (begins _ _ _ (drop 1 (later c.args.reason)) (part_after _ _ _ _ _ (rw c.from.ensures at c.in_ok-write_count.ensures) (rw c.name.ensures at c.in_err-write_word.ensures))))
+    paired c.from_residual-in_err-write_word.result _ _ c.args.at c.args.reason
+    (stops c.from_residual-in_err-write_word.result _ _ _ _ _ ((codes " " ++ text_of_reason c.args.reason) ∷ codes "\n" ∷ []) c.from_residual-in_err-write_word.ensures.0 (rw c.from.ensures at c.in_ok-write_count.ensures) (rw c.name.ensures at c.in_err-write_word.ensures))
 
 pub returns-in_err-write_word-2 : goal.returns-in_err-write_word-2
 returns-in_err-write_word-2 g c =
-    in_pairs c.from_residual-in_err-write_word-2.result _ _ (codes "no at record ") (decimal c.args.at) (codes ": ") (name_of c.args.reason) (codes " ") (text_of c.args.reason) (codes "\n")
-    (failed c.from_residual-in_err-write_word-2.result _ _ _ c.from_residual-in_err-write_word-2.ensures.0
-    (begins _ _ _ (drop 2 (later c.args.reason)) (part_after _ _ _ _ _ (Appends-trans _ _ _ _ _ (rw c.from.ensures at c.in_ok-write_count.ensures) (rw c.name.ensures at c.in_ok-write_word.ensures)) (rw c.text.ensures at c.in_err-write_word-2.ensures))))
+    let two = Appends-trans _ _ _ _ _ (rw c.from.ensures at c.in_ok-write_count.ensures) (rw c.name.ensures at c.in_ok-write_word.ensures) in
+    paired c.from_residual-in_err-write_word-2.result _ _ c.args.at c.args.reason
+    (stops c.from_residual-in_err-write_word-2.result _ _ _ _ _ (codes "\n" ∷ []) c.from_residual-in_err-write_word-2.ensures.0 two (rw c.text.ensures at c.in_err-write_word-2.ensures))
 
 pub returns : goal.returns
 returns g c =
-    in_pairs c.write_text.result _ _ (codes "no at record ") (decimal c.args.at) (codes ": ") (name_of c.args.reason) (codes " ") (text_of c.args.reason) (codes "\n")
-    (piece_after c.write_text.result _ _ _ _ _
-    (Appends-trans _ _ _ _ _ (Appends-trans _ _ _ _ _ (rw c.from.ensures at c.in_ok-write_count.ensures) (rw c.name.ensures at c.in_ok-write_word.ensures)) (rw c.text.ensures at c.in_ok-write_word-2.ensures))
-    c.write_text.ensures)
+    let two = Appends-trans _ _ _ _ _ (rw c.from.ensures at c.in_ok-write_count.ensures) (rw c.name.ensures at c.in_ok-write_word.ensures) in
+    paired c.write_text.result _ _ c.args.at c.args.reason (piece_after c.write_text.result _ _ _ _ _ (Appends-trans _ _ _ _ _ two (rw c.text.ensures at c.in_ok-write_word-2.ensures)) c.write_text.ensures)

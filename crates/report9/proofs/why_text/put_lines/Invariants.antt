@@ -1,5 +1,4 @@
-use Rattle.std.proofs.Common.{◌≡◌, ◌≤◌, ◌*◌, ◌++◌, drop}
-use Rattle.report9.specs.WhyText.{lines_at}
+use Rattle.report9.proofs.Words.{drop, lines_at, ◌*◌, ◌++◌, ◌≡◌, ◌≤◌}
 use Rattle.report9.proofs.why_text.put_lines.Given as goal
 
 -- what stands there, with the lines that are still to come, is the whole

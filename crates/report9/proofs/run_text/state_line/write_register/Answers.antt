@@ -1,6 +1,4 @@
-use Rattle.tc25.specs.Day.{text_of}
-use Rattle.text9.specs.Explanation.{text_of_register}
-use Rattle.text9.proofs.WriteLemmas.{piece_after, writes}
+use Rattle.report9.proofs.Words.{piece_after, text_of, text_of_register, writes}
 use Rattle.report9.proofs.run_text.state_line.write_register.Goals as goal
 
 pub returns-in_ok-write_text-in-At : goal.returns-in_ok-write_text-in-At

@@ -1,7 +1,6 @@
-use Rattle.std.proofs.lemmas.Result.{on_ok_weaker}
-use Rattle.report9.specs.WhyText.{text_of_block}
-use Rattle.report9.proofs.BlockBytes.{block_pieces}
+use Rattle.report9.proofs.Words.{on_ok_weaker, text_of_block}
 use Rattle.report9.proofs.why_text.block_bytes.put_block.Goals as goal
+use Rattle.report9.proofs.WordRow.{block_pieces}
 
 pub returns : goal.returns
 unfolding text_of_block

@@ -1,5 +1,4 @@
-use Rattle.std.proofs.Common.{◌≡◌, ◌++◌, codes, drop}
-use Rattle.report9.specs.WhyText.{hex_bytes}
+use Rattle.report9.proofs.Words.{codes, drop, hex_bytes, ◌++◌, ◌≡◌}
 use Rattle.report9.proofs.why_text.block_bytes.put_data.Given as goal
 
 -- what stands there, with the bytes that are still to come, is the whole

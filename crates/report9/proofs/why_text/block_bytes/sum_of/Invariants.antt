@@ -1,5 +1,4 @@
-use Rattle.std.proofs.Common.{◌≡◌, ◌+◌, ◌*◌, ◌%◌, length, take}
-use Rattle.std.specs.List.{sum}
+use Rattle.report9.proofs.Words.{length, sum, take, ◌%◌, ◌*◌, ◌+◌, ◌≡◌}
 use Rattle.report9.proofs.why_text.block_bytes.sum_of.Given as goal
 
 abbrev pub invariant-loop-byte : goal.invariant-loop-byte

@@ -1,7 +1,6 @@
-use Rattle.std.proofs.Common.{◌∙◌, length}
-use Rattle.std.proofs.lemmas.Result.{on_ok_weaker}
-use Rattle.report9.proofs.BreakLines.{break_lines}
+use Rattle.report9.proofs.Words.{length, on_ok_weaker, ◌∙◌}
 use Rattle.report9.proofs.why_text.break_lines.put_break.Goals as goal
+use Rattle.report9.proofs.Lines.{break_lines}
 
 pub returns : goal.returns
 returns c =

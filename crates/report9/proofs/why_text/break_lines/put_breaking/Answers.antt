@@ -1,6 +1,4 @@
-use Rattle.std.proofs.lemmas.Result.{on_ok_weaker}
-use Rattle.report9.specs.WhyText.{line_of_breaking}
-use Rattle.text9.proofs.PieceLemmas.{pieces2, pieces6}
+use Rattle.report9.proofs.Words.{line_of_breaking, on_ok_weaker, pieces2, pieces6}
 use Rattle.report9.proofs.why_text.break_lines.put_breaking.Goals as goal
 
 pub returns : goal.returns

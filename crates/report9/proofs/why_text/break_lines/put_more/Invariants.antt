@@ -1,6 +1,4 @@
-use Rattle.std.proofs.Common.{◌≡◌, ◌++◌, codes, drop}
-use Rattle.block9.specs.Line.{bytes_of}
-use Rattle.report9.specs.WhyText.{hex_bytes}
+use Rattle.report9.proofs.Words.{bytes_of, codes, drop, hex_bytes, ◌++◌, ◌≡◌}
 use Rattle.report9.proofs.why_text.break_lines.put_more.Given as goal
 
 -- what stands there, with the bytes that are still to come, is the whole

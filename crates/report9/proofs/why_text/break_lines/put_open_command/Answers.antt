@@ -1,7 +1,6 @@
-use Rattle.std.proofs.lemmas.Result.{on_ok_weaker}
-use Rattle.report9.specs.WhyText.{words_if_whole}
-use Rattle.report9.proofs.BreakLines.{no_line, open_line}
+use Rattle.report9.proofs.Words.{on_ok_weaker, words_if_whole}
 use Rattle.report9.proofs.why_text.break_lines.put_open_command.Goals as goal
+use Rattle.report9.proofs.Lines.{no_line, open_line}
 
 pub returns-in_default : goal.returns-in_default
 returns-in_default c = no_line c.args.before (words_if_whole c.args.command.now) c.args.asked.now _ c.in_default.ensures.cases

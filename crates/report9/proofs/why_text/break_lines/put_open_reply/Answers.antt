@@ -1,7 +1,6 @@
-use Rattle.std.proofs.Common.{codes}
-use Rattle.std.proofs.lemmas.Result.{on_ok_weaker}
-use Rattle.report9.proofs.BreakLines.{no_line, open_line}
+use Rattle.report9.proofs.Words.{codes, on_ok_weaker}
 use Rattle.report9.proofs.why_text.break_lines.put_open_reply.Goals as goal
+use Rattle.report9.proofs.Lines.{no_line, open_line}
 
 pub returns-in_default : goal.returns-in_default
 returns-in_default c = no_line c.args.before (codes "-> ") c.args.answered.now _ c.in_default.ensures.cases

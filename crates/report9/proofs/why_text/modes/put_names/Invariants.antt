@@ -1,8 +1,4 @@
-use Rattle.std.proofs.Common.{◌≡◌, ◌++◌, [], codes, drop}
-use denote.Text.{Utf8}
-use denote.Shadow.{shadow}
-use Rattle.report9.specs.WhyText.{in_a_row, modes, names_of}
-use Rattle.report9.specs.Working.WhyText.{is_chosen}
+use Rattle.report9.proofs.Words.{[], codes, drop, in_a_row, is_chosen, modes, names_of, shadow, Utf8, ◌++◌, ◌≡◌}
 use Rattle.report9.proofs.why_text.modes.put_names.Given as goal
 
 -- what stands there, with the names that are still to come, is the whole

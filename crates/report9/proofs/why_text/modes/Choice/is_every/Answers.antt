@@ -1,9 +1,6 @@
-use Rattle.std.proofs.Common.{◌∙◌, sym}
-use Rattle.std.proofs.lemmas.List.Folds.{list_all_at}
-use Rattle.report9.specs.WhyText.{modes}
-use Rattle.report9.specs.Working.WhyText.{is_chosen}
-use Rattle.report9.proofs.ModeRow.{every_more}
+use Rattle.report9.proofs.Words.{is_chosen, list_all_at, modes, sym, ◌∙◌}
 use Rattle.report9.proofs.why_text.modes.Choice.is_every.Goals as goal
+use Rattle.report9.proofs.WordRow.{every_more}
 
 pub returns-then-not-has : goal.returns-then-not-has
 returns-then-not-has c = sym (list_all_at (is_chosen c.args.self) modes c.loop-mode.mode-index _ c.loop-mode-test.true (sym c.has.ensures ∙ c.if-not-has.true))

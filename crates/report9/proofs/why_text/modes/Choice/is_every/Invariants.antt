@@ -1,6 +1,4 @@
-use Rattle.std.proofs.Common.{◌≡◌, true, take}
-use Rattle.std.specs.List.{list_all}
-use Rattle.report9.specs.Working.WhyText.{is_chosen}
+use Rattle.report9.proofs.Words.{is_chosen, list_all, take, true, ◌≡◌}
 use Rattle.report9.proofs.why_text.modes.Choice.is_every.Given as goal
 
 abbrev pub invariant-loop-mode : goal.invariant-loop-mode

@@ -1,9 +1,6 @@
-use Rattle.std.proofs.Common.{◌∙◌, sym}
-use Rattle.std.proofs.lemmas.List.Folds.{list_any_at}
-use Rattle.report9.specs.WhyText.{modes}
-use Rattle.report9.specs.Working.WhyText.{is_chosen}
-use Rattle.report9.proofs.ModeRow.{none_more}
+use Rattle.report9.proofs.Words.{is_chosen, list_any_at, modes, sym, ◌∙◌}
 use Rattle.report9.proofs.why_text.modes.Choice.is_some.Goals as goal
+use Rattle.report9.proofs.WordRow.{none_more}
 
 pub returns-then-has : goal.returns-then-has
 returns-then-has c = sym (list_any_at (is_chosen c.args.self) modes c.loop-mode.mode-index _ c.loop-mode-test.true (sym c.has.ensures ∙ c.if-has.true))

@@ -1,6 +1,4 @@
-use Rattle.std.proofs.Common.{◌≡◌, false, take}
-use Rattle.std.specs.List.{list_any}
-use Rattle.report9.specs.Working.WhyText.{is_chosen}
+use Rattle.report9.proofs.Words.{false, is_chosen, list_any, take, ◌≡◌}
 use Rattle.report9.proofs.why_text.modes.Choice.is_some.Given as goal
 
 abbrev pub invariant-loop-mode : goal.invariant-loop-mode

@@ -1,0 +1,41 @@
+-- The names from elsewhere that the proofs of this crate cite, passed on from one place. Declares nothing.
+pub use Rattle.block9.proofs.SpellingLemmas.{last_time-last}
+pub use Rattle.block9.specs.Line.{bytes_of}
+pub use Rattle.block9.specs.declared.command.Command.{Command}
+pub use Rattle.block9.specs.declared.pairer.Exchange.{Exchange}
+pub use Rattle.block9.specs.declared.reason.Reason.{Reason}
+pub use Rattle.capture9.specs.declared.line_byte.LineByte.{LineByte}
+pub use Rattle.deck9.specs.Mode.{name_of}
+pub use Rattle.deck9.specs.Shows.{datum}
+pub use Rattle.deck9.specs.declared.mode.Mode.{Mode}
+pub use Rattle.deck9.specs.declared.state.Hands.{Hands}
+pub use Rattle.deck9.specs.declared.state.State.{State}
+pub use Rattle.report9.specs.RunText.{known_entry, known_state, lines_of_run}
+unfoldable pub use Rattle.report9.specs.RunText.{line_of_state}
+pub use Rattle.report9.specs.WhyText.{hex_bytes, in_a_row, lines_at, local_said, modes, names_of, since_told, words_if_whole}
+unfoldable pub use Rattle.report9.specs.WhyText.{line_of_breaking, line_of_contradicting, line_of_could_show, line_of_open, lines_of_break, text_of_answered, text_of_asked}
+unfoldable pub use Rattle.report9.specs.WhyText.{text_of_block, text_of_records, words_of}
+pub use Rattle.report9.specs.Working.WhyText.{is_chosen, next_before}
+pub use Rattle.std.proofs.Common.{[], ap, append_assoc, arith, Bool, codes, drop, drop-cons, false, get_or, if◌then◌else◌, inl, inr, length, length-append, List, Option, refl}
+pub use Rattle.std.proofs.Common.{Result, rules, slice_get, Some, suc, sym, take, true, ℕ, ◌%◌, ◌*◌, ◌++◌, ◌+◌, ◌-◌, ◌<◌, ◌∙◌, ◌∷◌, ◌≡◌, ◌≤◌, ◌⊎◌}
+pub use Rattle.std.proofs.KnownBytes.{Appends-trans}
+pub use Rattle.std.proofs.lemmas.List.{append-nil}
+pub use Rattle.std.proofs.lemmas.List.Folds.{list_all_at, list_all_more, list_any_at, list_any_more}
+pub use Rattle.std.proofs.lemmas.Result.{on_ok_weaker}
+pub use Rattle.std.proofs.lemmas.Slice.Zip.{either_empty_from_Zip, Zip-more}
+pub use Rattle.std.specs.Fmt.{decimal}
+pub use Rattle.std.specs.Io.KnownBytes.{Appends}
+pub use Rattle.std.specs.List.{list_all, list_any, sum}
+pub use Rattle.std.specs.Result.{IsErr}
+pub use Rattle.tc25.specs.Day.{text_of}
+pub use Rattle.text9.proofs.PieceLemmas.{pieces2, pieces3, pieces4, pieces6, pieces_after, pieces_after2}
+pub use Rattle.text9.proofs.WriteLemmas.{begins, failed, first_part, in_pairs, joined, part_after, piece_after, writes}
+pub use Rattle.text9.specs.Explanation.{hex_byte, text_of_fields, text_of_local, text_of_mode, text_of_panel}
+unfoldable pub use Rattle.text9.specs.Explanation.{text_of_knowledge, text_of_register}
+pub use Rattle.text9.specs.Writing.{AppendsPart, Writes}
+pub use Rattle.track9.specs.declared.knowledge.Known.TheVariants.{the_data as Known}
+pub use Rattle.verdict9.specs.Lines.{line_of, records_of}
+pub use Rattle.verdict9.specs.OpenRecords.{answered_of, asked_of}
+pub use Rattle.verdict9.specs.declared.verdict.Verdict.TheVariants.{the_data as Verdict}
+pub use denote.Shadow.{shadow}
+pub use denote.Text.{Utf8}
