@@ -1,4 +1,2 @@
-mod BufferLemmas
-mod ProgramLemmas
 mod VersionLemmas
 mod WhyLemmas
