@@ -2,11 +2,10 @@
 use Rattle.capture9.proofs.Words.{[], add-one, ap, arith, Bool, Config, default_config, field_after, fields_after, IfSome, inl, inr, IsPlain, length, List, next_record, NextIs}
 use Rattle.capture9.proofs.Words.{None, Option, option_map, Read, Reader, ReadRecord, ReadsNext, records_at, records_from, records_next, refl, Some, State, step, suc, sym}
 use Rattle.capture9.proofs.Words.{TakesFields, unread_records, zero, ℕ, ◌+◌, ◌<◌, ◌∙◌, ◌∷◌, ◌≡◌, ◌⊎◌}
-use Rattle.csv.specs.declared.parser.State.TheVariants as st
 
 -- a record took bytes, or it was the last and none are left
 record Falls (bytes : List ℕ) (p : Read) : Type 0 where
-  falls : (length p.2 < length bytes) ⊎ ((p.1 ≡ st.StartRecord) × (p.2 ≡ []))
+  falls : (length p.2 < length bytes) ⊎ ((p.1 ≡ State.StartRecord) × (p.2 ≡ []))
 
 falls-more : (c : ℕ) (bytes : List ℕ) (p : Read) → Falls bytes p → Falls (c ∷ bytes) p
 falls-more c bytes p h = record { falls = elim h.falls [ inl lt ↦ inl (omega arith) | inr q ↦ inr q ] }
@@ -19,7 +18,7 @@ next_falls cfg s fields field (c ∷ rest) p e =
     let more = next_falls cfg (step cfg s c).0 (fields_after (step cfg s c).1 fields field) (field_after (step cfg s c).1 c field) rest p in
     grind (arith, falls-more)
 
-pub none_at_start : (cfg : Config) (n : ℕ) → records_from cfg n st.StartRecord [] ≡ []
+pub none_at_start : (cfg : Config) (n : ℕ) → records_from cfg n State.StartRecord [] ≡ []
 unfolding records_from next_record
 none_at_start cfg zero = refl
 none_at_start cfg (suc n) = refl

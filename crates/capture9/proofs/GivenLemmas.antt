@@ -1,7 +1,7 @@
 -- The records that a `Records` has given, as rows that some text can hold.
 use Rattle.capture9.proofs.Words.{[], All-push, arith, Bool, CanBeRows, CanFollow, CaptureError, false, get_or, GivesRecord, GivesRefusal, is_of_text, IsNonDecreasingBy-push}
-use Rattle.capture9.proofs.Words.{IsPlaced, IsTrue, last_time, length, length_push, LineByte, List, nil_from_length, no_rows, None, Progress, Reading, refl, Some, suc}
-use Rattle.capture9.proofs.Words.{sym, true, zero, ℕ, ◌++◌, ◌-◌, ◌<◌, ◌^◌, ◌∙◌, ◌∷◌, ◌≡◌}
+use Rattle.capture9.proofs.Words.{IsPlaced, IsTrue, last_time, length, length_push, LineByte, List, nil_from_length, no_rows, None, Progress, Reading, refl, Some, suc, sym, true}
+use Rattle.capture9.proofs.Words.{zero, ℕ, ◌++◌, ◌-◌, ◌<◌, ◌^◌, ◌∙◌, ◌∷◌, ◌≡◌}
 use Rattle.capture9.proofs.LawLemmas.{can-follow}
 
 -- these are the records that were given

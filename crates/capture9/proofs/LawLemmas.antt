@@ -3,14 +3,13 @@ use Rattle.capture9.proofs.Words.{[], All, All-cons, arith, bad_row, CanBeRows, 
 use Rattle.capture9.proofs.Words.{if◌then◌else◌, is_header, is_of_text, IsAfter, IsAtItsRow, IsNonDecreasingBy, IsNonDecreasingBy-insert, IsTrue, last_time, length, LineByte}
 use Rattle.capture9.proofs.Words.{List, most_rows, None, Ok, refl, row_of, Rows, rows_from, Some, true, ℕ, ◌+◌, ◌<◌, ◌^◌, ◌↔◌, ◌∷◌, ◌≡◌, ◌≤◌}
 use Rattle.capture9.proofs.RuleLemmas.{at-its-row, row_of-err, row_of-ok, row_then-by, rows_from-has_header}
-use Rattle.capture9.specs.declared.error.CaptureKind.TheVariants as kind
 
 -- the fault of rows that begin with this number, after a row of this time
 pub record IsFaultFrom (number before : ℕ) (rows : Rows) (e : CaptureError) : Type 0 where
   pub of_text : IsTrue (is_of_text e.kind)
   pub at_its_row : IsAtItsRow e
   pub row : e.row ≡ number + length rows.records
-  pub backwards : e.kind ≡ kind.Backwards → 0 < last_time before rows.records
+  pub backwards : e.kind ≡ CaptureKind.Backwards → 0 < last_time before rows.records
 
 -- rows that begin with this number, after a row of this time
 pub record HoldsFrom (number before : ℕ) (rows : Rows) : Type 0 where
@@ -56,7 +55,7 @@ pub has-header : (records : List (List (List ℕ)))
     → HasHeader (headed_rows records) ↔ ((fields : List (List ℕ)) × (rest : List (List (List ℕ))) × (records ≡ fields ∷ rest) × (is_header fields ≡ true))
 has-header [] = (λ h. absurd (h refl), λ w. let none = w.2 in cc)
 has-header (fields ∷ rest) =
-    elim (is_header fields) as (λ headed. is_header fields ≡ headed → HasHeader (if headed then rows_from 1 0 rest else bad_row kind.Header 0)
+    elim (is_header fields) as (λ headed. is_header fields ≡ headed → HasHeader (if headed then rows_from 1 0 rest else bad_row CaptureKind.Header 0)
     ↔ ((first : List (List ℕ)) × (others : List (List (List ℕ))) × (fields ∷ rest ≡ first ∷ others) × (is_header first ≡ true))) [
       | true ↦ λ q. (λ h. (fields, rest, refl, q), λ w. rows_from-has_header 1 0 rest)
       | false ↦ λ q. (λ h. absurd (h refl), λ w. let same = w.2 in let header = w.3 in absurd cc)
@@ -66,10 +65,10 @@ has-header (fields ∷ rest) =
 
 -- a fault of a data row can follow the records before it
 pub can-follow : (k : CaptureKind) (items : List LineByte) (row : ℕ) → IsTrue (is_of_text k) → IsAtItsRow (record { kind = k; row = row }) → row ≡ length items + 1 → length items ≤ most_rows
-    → (k ≡ kind.Backwards → 0 < last_time 0 items) → CanFollow k items row
+    → (k ≡ CaptureKind.Backwards → 0 < last_time 0 items) → CanFollow k items row
 can-follow k items row t placed place limit late = grind arith
 
-no-text : CanBeRows (bad_row kind.Header 0)
+no-text : CanBeRows (bad_row CaptureKind.Header 0)
 no-text = grind arith
 
 headed-can-be : (rows : Rows) → HoldsFrom 1 0 rows → CanBeRows rows
@@ -93,7 +92,7 @@ headed-can-be rows h = record {
 pub can-be : (csv : List (List (List ℕ))) → CanBeRows (headed_rows csv)
 can-be [] = no-text
 can-be (fields ∷ rest) =
-    elim (is_header fields) as (λ headed. CanBeRows (if headed then rows_from 1 0 rest else bad_row kind.Header 0)) [
+    elim (is_header fields) as (λ headed. CanBeRows (if headed then rows_from 1 0 rest else bad_row CaptureKind.Header 0)) [
       | true ↦ headed-can-be (rows_from 1 0 rest) (holds-from 1 0 rest)
       | false ↦ no-text
     ]

@@ -1,11 +1,9 @@
 -- What the reading of one CSV record does to a `Records`, as its callers see it.
 use Rattle.capture9.proofs.Words.{[], arith, bad_row, Bool, CaptureError, CaptureKind, Err, false, GivesRecord, GivesRefusal, HasHeader, HoldsInRecords, IfSome, inl, inr}
-use Rattle.capture9.proofs.Words.{is_header, is_of_text, IsAfter, IsAtItsRow, IsPlaced, IsTrue, length, LineByte, List, most_rows, nil_from_length, None, Ok, Option, option_map}
-use Rattle.capture9.proofs.Words.{PassesHeader, Progress, Reader, refl, row_of, rows_from, rows_to_come, Some, Standing, sym, TakesFields, TakesRecord, true, unread_rows, ℕ, ◌+◌}
-use Rattle.capture9.proofs.Words.{◌<◌, ◌∙◌, ◌≡◌, ◌≤◌, ◌⊎◌}
+use Rattle.capture9.proofs.Words.{is_of_text, IsAfter, IsAtItsRow, IsPlaced, IsTrue, length, LineByte, List, most_rows, nil_from_length, None, Ok, Option, option_map, Progress}
+use Rattle.capture9.proofs.Words.{Reader, refl, row_of, rows_from, rows_to_come, Some, Standing, sym, TakesFields, TakesRecord, true, unread_rows, ℕ, ◌+◌, ◌<◌, ◌∙◌, ◌≡◌, ◌≤◌}
+use Rattle.capture9.proofs.Words.{◌⊎◌}
 use Rattle.capture9.proofs.RuleLemmas.{at-its-row, row_of-err, row_of-ok, rows_from-has_header}
-use Rattle.capture9.specs.declared.error.CaptureKind.TheVariants as kind
-use Rattle.capture9.specs.declared.records.Standing.TheVariants as standing
 
 -- how callers see a `Records` with these fields, these CSV records unread, and this reader
 abbrev pub progress_of : {R : Type 0} → Standing → Bool → ℕ → ℕ → Option (List (List (List ℕ))) → R → Progress R
@@ -24,7 +22,7 @@ past-header : (given last_time : ℕ) (unread : Option (List (List (List ℕ))))
 past-header given last_time unread = grind (arith, rows_from-has_header)
 
 pub gives-record : {R : Type 0} (source left : R) (s : Standing) (headed : Bool) (given last_time : ℕ) (unread after : Option (List (List (List ℕ)))) (fields : List (List ℕ)) (r : LineByte)
-    → s ≡ standing.Reading → headed ≡ true
+    → s ≡ Standing.Reading → headed ≡ true
     → IfSome unread (λ rows. TakesFields rows true fields after) → row_of (given + 1) last_time fields ≡ Ok r
     → GivesRecord (progress_of s headed given last_time unread source) r (progress_of s headed (given + 1) r.time_us after left)
 gives-record source left s headed given last_time unread after fields r reads past read good =
@@ -37,7 +35,7 @@ gives-record source left s headed given last_time unread after fields r reads pa
 pub record IsRowFault (given last_time : ℕ) (unread : Option (List (List (List ℕ)))) (k : CaptureKind) : Type 0 where
   pub fault : IsTrue (is_of_text k) → IfSome (option_map (unread_rows true given last_time) unread) (λ rows. rows ≡ bad_row k (given + 1))
   pub at_its_row : IsTrue (is_of_text k) → IsAtItsRow (record { kind = k; row = given + 1 })
-  pub backwards : k ≡ kind.Backwards → 0 < last_time
+  pub backwards : k ≡ CaptureKind.Backwards → 0 < last_time
 
 -- a fault that is not of the text
 pub not-of-text : (given last_time : ℕ) (unread : Option (List (List (List ℕ)))) (k : CaptureKind) → is_of_text k ≡ false → IsRowFault given last_time unread k
@@ -52,7 +50,7 @@ bad-first given last_time unread after fields k within read bad =
     grind arith
 
 pub refuses-row : {R : Type 0} (source left : R) (s new : Standing) (headed : Bool) (given last_time : ℕ) (unread after : Option (List (List (List ℕ)))) (k : CaptureKind) (e : CaptureError)
-    → s ≡ standing.Reading → headed ≡ true → e ≡ record { kind = k; row = given + 1 } → new ≡ standing.Refused e → IsRowFault given last_time unread k
+    → s ≡ Standing.Reading → headed ≡ true → e ≡ record { kind = k; row = given + 1 } → new ≡ Standing.Refused e → IsRowFault given last_time unread k
     → GivesRefusal (progress_of s headed given last_time unread source) e (progress_of new headed given last_time after left)
 refuses-row source left s new headed given last_time unread after k e reads past is marked wrong =
     let has_header = past-header given last_time unread in
@@ -60,21 +58,14 @@ refuses-row source left s new headed given last_time unread after k e reads past
 
 -- what stands inside a `Records` that was refused at a row
 pub refused-holds : {R : Type 0} (left : Reader R) (new : Standing) (headed : Bool) (given last_time : ℕ) (k : CaptureKind) (e : CaptureError)
-    → headed ≡ true → given ≤ most_rows → e ≡ record { kind = k; row = given + 1 } → new ≡ standing.Refused e
+    → headed ≡ true → given ≤ most_rows → e ≡ record { kind = k; row = given + 1 } → new ≡ Standing.Refused e
     → (IsTrue (is_of_text k) → IsAtItsRow (record { kind = k; row = given + 1 })) → HoldsInRecords new headed given last_time left
 refused-holds left new headed given last_time k e past within is marked at_its_row = rw (past, marked, is) (grind arith)
 
 -- a refusal is told again, and nothing changes
 pub refuses-again : {R : Type 0} (source : R) (s : Standing) (headed : Bool) (given last_time : ℕ) (unread : Option (List (List (List ℕ)))) (e : CaptureError)
-    → s ≡ standing.Refused e → IsPlaced headed given e → GivesRefusal (progress_of s headed given last_time unread source) e (progress_of s headed given last_time unread source)
+    → s ≡ Standing.Refused e → IsPlaced headed given e → GivesRefusal (progress_of s headed given last_time unread source) e (progress_of s headed given last_time unread source)
 refuses-again source s headed given last_time unread e refused placed = rw refused (grind arith)
-
--- a header that was read leaves the rows to come as they were
-pub passes-header : {R : Type 0} (source left : R) (s : Standing) (headed : Bool) (count time : ℕ) (unread after : Option (List (List (List ℕ)))) (fields : List (List ℕ))
-    → s ≡ standing.Reading → headed ≡ false → (count ≡ 0) × (time ≡ 0)
-    → IfSome unread (λ rows. TakesFields rows true fields after) → is_header fields ≡ true
-    → PassesHeader (progress_of s headed count time unread source) (progress_of s true count time after left)
-passes-header source left s headed count time unread after fields reads first fresh read good = rw (reads, first) (grind arith)
 
 -- where a refusal stands that came after these records
 pub refused-after : {R : Type 0} (old new : Progress R) (e : CaptureError) (items : List LineByte) → GivesRefusal old e new → old.given ≡ length items → IsAfter items e

@@ -4,7 +4,6 @@ use Rattle.capture9.proofs.Words.{HasFirstPart, HasHeader, headed_rows, hex_digi
 use Rattle.capture9.proofs.Words.{LineByte, List, lt-ltb, most_rows, nat_tests, None, Ok, Option, pair_value, record_of, refl, Result, row_kinds, row_of, row_then, RowBreaks}
 use Rattle.capture9.proofs.Words.{Rows, rows_from, Some, Spell, time_in, true, Wire, wire_in, ℕ, ◌++◌, ◌+◌, ◌<◌, ◌^◌, ◌↔◌, ◌∷◌, ◌≡◌, ◌≢◌, ◌≤◌}
 use Rattle.capture9.proofs.FieldLemmas.{time_in-lt}
-use Rattle.capture9.specs.declared.error.CaptureKind.TheVariants as kind
 
 -- what a row is read as: the record that it spells where it breaks no rule, and else the first rule that it breaks
 abbrev pub IsRead : ℕ → ℕ → List (List ℕ) → Result LineByte CaptureKind → Type 0
@@ -17,31 +16,31 @@ first-of P before after k none holds = record { before = before; after = after; 
 
 record-read : (number before : ℕ) (a b c : List ℕ) (time : Option ℕ) (wire : Option Wire) (byte : Option ℕ) → ¬ (most_rows < number)
     → time_in a ≡ time → wire_in b ≡ wire → byte_in c ≡ byte → IsRead number before (a ∷ b ∷ c ∷ []) (record_of before time wire byte)
-record-read number before a b c None wire byte few t w y = first-of _ (kind.TooMany ∷ kind.Fields ∷ []) _ kind.Time (few, (λ h. h refl, tt)) t
-record-read number before a b c (Some time) None byte few t w y = first-of _ (kind.TooMany ∷ kind.Fields ∷ kind.Time ∷ []) _ kind.Wire (few, (λ h. h refl, (λ h. cc, tt))) w
+record-read number before a b c None wire byte few t w y = first-of _ (CaptureKind.TooMany ∷ CaptureKind.Fields ∷ []) _ CaptureKind.Time (few, (λ h. h refl, tt)) t
+record-read number before a b c (Some time) None byte few t w y = first-of _ (CaptureKind.TooMany ∷ CaptureKind.Fields ∷ CaptureKind.Time ∷ []) _ CaptureKind.Wire (few, (λ h. h refl, (λ h. cc, tt))) w
 record-read number before a b c (Some time) (Some wire) None few t w y =
-    first-of _ (kind.TooMany ∷ kind.Fields ∷ kind.Time ∷ kind.Wire ∷ []) _ kind.Byte (few, (λ h. h refl, (λ h. cc, (λ h. cc, tt)))) y
+    first-of _ (CaptureKind.TooMany ∷ CaptureKind.Fields ∷ CaptureKind.Time ∷ CaptureKind.Wire ∷ []) _ CaptureKind.Byte (few, (λ h. h refl, (λ h. cc, (λ h. cc, tt)))) y
 record-read number before a b c (Some time) (Some wire) (Some byte) few t w y =
     elim (cases_lt time before) [
-      | inl low ↦ rw (lt-ltb time before low) (first-of _ (kind.TooMany ∷ kind.Fields ∷ kind.Time ∷ kind.Wire ∷ kind.Byte ∷ []) _ kind.Backwards
+      | inl low ↦ rw (lt-ltb time before low) (first-of _ (CaptureKind.TooMany ∷ CaptureKind.Fields ∷ CaptureKind.Time ∷ CaptureKind.Wire ∷ CaptureKind.Byte ∷ []) _ CaptureKind.Backwards
           (few, (λ h. h refl, (λ h. cc, (λ h. cc, (λ h. cc, tt))))) (time, t, low))
       | inr high ↦ rw (le-ltb time before high) ((t, w, y), none high)
     ]
   where
     none : before ≤ time → (k : CaptureKind) → ¬ (RowBreaks k number before (a ∷ b ∷ c ∷ []))
-    none high kind.TooMany = few
-    none high kind.Fields = λ h. h refl
-    none high kind.Backwards = λ h. let same : Some time ≡ Some h.0 = cc in let one : time ≡ h.0 = cc in let low = h.2 in omega arith
+    none high CaptureKind.TooMany = few
+    none high CaptureKind.Fields = λ h. h refl
+    none high CaptureKind.Backwards = λ h. let same : Some time ≡ Some h.0 = cc in let one : time ≡ h.0 = cc in let low = h.2 in omega arith
     none high k = λ h. grind arith
 
 fields-read : (number before : ℕ) (fields : List (List ℕ)) → ¬ (most_rows < number) → IsRead number before fields (fields_record before fields)
 fields-read number before (a ∷ b ∷ c ∷ []) few = record-read number before a b c (time_in a) (wire_in b) (byte_in c) few refl refl refl
-fields-read number before fields few = first-of _ (kind.TooMany ∷ []) _ kind.Fields (few, tt) (λ h. absurd (omega arith))
+fields-read number before fields few = first-of _ (CaptureKind.TooMany ∷ []) _ CaptureKind.Fields (few, tt) (λ h. absurd (omega arith))
 
 pub row-read : (number before : ℕ) (fields : List (List ℕ)) → IsRead number before fields (row_of number before fields)
 row-read number before fields =
     elim (cases_lt most_rows number) [
-      | inl over ↦ rw (lt-ltb most_rows number over) (first-of _ [] _ kind.TooMany tt over)
+      | inl over ↦ rw (lt-ltb most_rows number over) (first-of _ [] _ CaptureKind.TooMany tt over)
       | inr few ↦ rw (le-ltb most_rows number few) (fields-read number before fields (λ h. omega arith))
     ]
 
@@ -86,7 +85,7 @@ byte-lt : (field : List ℕ) (b : ℕ) → byte_in field ≡ Some b → b < 256
 byte-lt (x ∷ y ∷ []) b e = pair-lt (hex_digit_of x) (hex_digit_of y) b (hex-lt x) (hex-lt y) e
 byte-lt field b e = cc
 
-earlier : (fields : List (List ℕ)) (number before : ℕ) → RowBreaks kind.Backwards number before fields → 0 < before
+earlier : (fields : List (List ℕ)) (number before : ℕ) → RowBreaks CaptureKind.Backwards number before fields → 0 < before
 earlier (a ∷ b ∷ c ∷ []) number before h = let low = h.2 in omega arith
 earlier fields number before h = absurd h
 
@@ -104,19 +103,19 @@ row_of-ok number before fields r e = by fields (rw e at (row-read number before 
   where
     by : (fields : List (List ℕ)) → IsRead number before fields (Ok r) → IsGood number before r
     by (a ∷ b ∷ c ∷ []) read =
-        let early : r.time_us < before → ⊥ = λ low. read.1 kind.Backwards (r.time_us, read.0.0, low) in
-        let few = read.1 kind.TooMany in
+        let early : r.time_us < before → ⊥ = λ low. read.1 CaptureKind.Backwards (r.time_us, read.0.0, low) in
+        let few = read.1 CaptureKind.TooMany in
         record { within = omega arith; in_order = omega arith; in_range = time_in-lt a r.time_us read.0.0; is_byte = byte-lt c r.byte read.0.2 }
     by fields read = absurd read.0
 
 -- a kind of fault that the data row with this number has
 pub record IsRowKind (number before : ℕ) (k : CaptureKind) : Type 0 where
   pub of_text : IsTrue (is_of_text k)
-  pub no_header : k ≢ kind.Header
-  pub too_many : (k ≡ kind.TooMany) ↔ (most_rows < number)
-  pub backwards : k ≡ kind.Backwards → 0 < before
+  pub no_header : k ≢ CaptureKind.Header
+  pub too_many : (k ≡ CaptureKind.TooMany) ↔ (most_rows < number)
+  pub backwards : k ≡ CaptureKind.Backwards → 0 < before
 
-breaks : (k : CaptureKind) (number before : ℕ) (fields : List (List ℕ)) → RowBreaks k number before fields → IsTrue (is_of_text k) × (k ≢ kind.Header)
+breaks : (k : CaptureKind) (number before : ℕ) (fields : List (List ℕ)) → RowBreaks k number before fields → IsTrue (is_of_text k) × (k ≢ CaptureKind.Header)
 breaks k number before fields holds = grind arith
 
 -- a row breaks rules of a text, and none of the header
@@ -131,9 +130,9 @@ row_of-err number before fields k e =
       backwards = λ is. earlier fields number before (rw is at read.holds);
     }
   where
-    first : (js after : List CaptureKind) → row_kinds ≡ js ++ k ∷ after → All (λ j. ¬ (RowBreaks j number before fields)) js → most_rows < number → k ≡ kind.TooMany
+    first : (js after : List CaptureKind) → row_kinds ≡ js ++ k ∷ after → All (λ j. ¬ (RowBreaks j number before fields)) js → most_rows < number → k ≡ CaptureKind.TooMany
     first [] after split none over = cc
-    first (j ∷ js) after split none over = let is : j ≡ kind.TooMany = cc in absurd ((rw is at (none 0 j (omega arith))) over)
+    first (j ∷ js) after split none over = let is : j ≡ CaptureKind.TooMany = cc in absurd ((rw is at (none 0 j (omega arith))) over)
 
 -- the fault of a row, of which there is one too many at most, is where that kind of fault is
 pub at-its-row : (number before : ℕ) (k : CaptureKind) → 1 ≤ number → number ≤ most_rows + 1 → IsRowKind number before k → IsAtItsRow (record { kind = k; row = number })

@@ -2,12 +2,10 @@
 use Rattle.capture9.proofs.Words.{[], add-zero, All, ap, append-nil, arith, bad_row, byte_in, CanBeRows, CanFollow, CaptureError, CaptureKind, codes, Controller, decimal}
 use Rattle.capture9.proofs.Words.{decimal_nonempty, Deck, default_config, default_writer, digits_decimal, digits_value-decimal, false, fields_text, get_or, hex_digit_of}
 use Rattle.capture9.proofs.Words.{if◌then◌else◌, is_blank, IsNextRow, IsNonDecreasingBy, IsOfSomeText, last_time, le-leb, length, length-decimal-le, LineByte, List, lit<, map}
-use Rattle.capture9.proofs.Words.{most_rows, nat_lt, nat_tests, no_rows, None, Ok, Option, read-write, read_back, records_at, refl, row_of, row_text, Rows, rows_from}
-use Rattle.capture9.proofs.Words.{rows_of, rows_text, Some, strip_bom, suc, time_in, true, Wire, wire_in, ℕ, ◌%◌, ◌*◌, ◌++◌, ◌+◌, ◌/◌, ◌<◌, ◌^◌, ◌∙◌, ◌∷◌, ◌≡◌, ◌≢◌, ◌≤◌}
+use Rattle.capture9.proofs.Words.{most_rows, nat_lt, nat_tests, no_rows, None, Ok, Option, read-write, read_back, records_at, refl, row_of, row_text, Rows, rows_from, rows_of}
+use Rattle.capture9.proofs.Words.{rows_text, Some, State, strip_bom, suc, time_in, true, Wire, wire_in, ℕ, ◌%◌, ◌*◌, ◌++◌, ◌+◌, ◌/◌, ◌<◌, ◌^◌, ◌∙◌, ◌∷◌, ◌≡◌, ◌≢◌, ◌≤◌}
 use Rattle.capture9.proofs.FieldLemmas.{numerals}
 use Rattle.capture9.proofs.CsvLemmas.{none_at_start, records_at-some}
-use Rattle.csv.specs.declared.parser.State.TheVariants as st
-use Rattle.capture9.specs.declared.error.CaptureKind.TheVariants as kind
 
 -- ---- the digits of a time
 
@@ -47,10 +45,10 @@ spelled-read number before r within order range byte =
 
 -- a row that breaks this rule first
 abbrev bad_fields : CaptureKind → List (List ℕ)
-bad_fields kind.Time = [] ∷ [] ∷ [] ∷ []
-bad_fields kind.Wire = codes "0" ∷ [] ∷ [] ∷ []
-bad_fields kind.Byte = codes "0" ∷ codes "C" ∷ [] ∷ []
-bad_fields kind.Backwards = codes "0" ∷ codes "C" ∷ codes "00" ∷ []
+bad_fields CaptureKind.Time = [] ∷ [] ∷ [] ∷ []
+bad_fields CaptureKind.Wire = codes "0" ∷ [] ∷ [] ∷ []
+bad_fields CaptureKind.Byte = codes "0" ∷ codes "C" ∷ [] ∷ []
+bad_fields CaptureKind.Backwards = codes "0" ∷ codes "C" ∷ codes "00" ∷ []
 bad_fields _ = [] ∷ []
 
 -- records that keep the limits, from the row with this number on and after a row of this time
@@ -81,11 +79,11 @@ read-then number before (r ∷ items) rest tail good left =
 -- ---- the text
 
 -- the CSV records of the text of rows
-records-rows : (rows : List (List (List ℕ))) → records_at st.StartRecord (rows_text rows) ≡ map read_back rows
+records-rows : (rows : List (List (List ℕ))) → records_at State.StartRecord (rows_text rows) ≡ map read_back rows
 unfolding rows_text
 records-rows [] = none_at_start default_config 1
 records-rows (row ∷ rows) =
-    records_at-some st.StartRecord (row_text default_writer row ++ rows_text rows) (read_back row, st.StartRecord, rows_text rows) (read-write row (rows_text rows))
+    records_at-some State.StartRecord (row_text default_writer row ++ rows_text rows) (read_back row, State.StartRecord, rows_text rows) (read-write row (rows_text rows))
     ∙ ap (λ (t : List (List (List ℕ))). read_back row ∷ t) (records-rows rows)
 
 abbrev header : List (List ℕ)
@@ -102,19 +100,19 @@ next-row : (items : List LineByte) (row : ℕ) → IsNextRow items row → (nat_
 next-row items row next = grind (arith, nat_tests)
 
 -- the row of a fault that can follow these records
-bad-read : (k : CaptureKind) (items : List LineByte) (row : ℕ) → CanFollow k items row → k ≢ kind.Header
+bad-read : (k : CaptureKind) (items : List LineByte) (row : ℕ) → CanFollow k items row → k ≢ CaptureKind.Header
     → rows_from (1 + length items) (last_time 0 items) (map read_back (bad_fields k ∷ [])) ≡ bad_row k row
-bad-read kind.Header items row follows other = absurd (other refl)
-bad-read kind.Backwards items row follows other =
+bad-read CaptureKind.Header items row follows other = absurd (other refl)
+bad-read CaptureKind.Backwards items row follows other =
     let late = follows.1 in
     let backwards : nat_lt 0 (last_time 0 items) ≡ true = grind (arith, nat_tests) in
     let next = next-row items row follows.0 in
     rw (next.0, backwards, next.1) refl
-bad-read kind.TooMany items row follows other =
+bad-read CaptureKind.TooMany items row follows other =
     let many : (nat_lt most_rows (1 + length items) ≡ true) × (1 + length items ≡ row) = grind (arith, nat_tests) in
     rw (many.0, many.1) refl
-bad-read kind.Read items row follows other = absurd follows
-bad-read kind.OutOfMemory items row follows other = absurd follows
+bad-read CaptureKind.Read items row follows other = absurd follows
+bad-read CaptureKind.OutOfMemory items row follows other = absurd follows
 bad-read k items row follows other = let next = next-row items row follows in rw (next.0, next.1) refl
 
 -- a text of these records and then others
@@ -126,7 +124,7 @@ text-then items rest tail fault h left = (
       ∙ read-then 1 0 items rest tail (in-range 1 0 items (let low = h.limit in omega arith) (λ d lt. omega arith) h.in_order h.in_range h.bytes) left,
 )
 
-empty-text : rows_of [] ≡ bad_row kind.Header 0
+empty-text : rows_of [] ≡ bad_row CaptureKind.Header 0
 unfolding strip_bom
 empty-text = rw (none_at_start default_config 1) refl
 
@@ -137,7 +135,7 @@ text-of items (Some e) h = by e.kind items e.row h
   where
     by : (k : CaptureKind) (items : List LineByte) (row : ℕ) → (let fault : CaptureError = record { kind = k; row = row } in CanBeRows (record { records = items; fault = Some fault }))
         → (text : List ℕ) × (rows_of text ≡ record { records = items; fault = Some (record { kind = k; row = row }) })
-    by kind.Header items row h = let follows = h.fault in ([], rw (follows.0, follows.1) empty-text)
+    by CaptureKind.Header items row h = let follows = h.fault in ([], rw (follows.0, follows.1) empty-text)
     by k items row h = rw (append-nil items) at (text-then items (bad_fields k ∷ []) (bad_row k row) (Some (record { kind = k; row = row })) h (bad-read k items row h.fault (λ e. cc)))
 
 pub some-text : (rows : Rows) → CanBeRows rows → IsOfSomeText rows

@@ -1,12 +1,11 @@
 -- The list has the records given so far, and the rest of the text's rows is still to come.
-use Rattle.capture9.proofs.Words.{[], false, length, most_rows, ◌-◌, ◌≡◌, ◌≤◌}
+use Rattle.capture9.proofs.Words.{[], false, length, most_rows, Standing, ◌-◌, ◌≡◌, ◌≤◌}
 use Rattle.capture9.proofs.CaptureLemmas.{IsReadUpTo}
-use Rattle.capture9.specs.declared.records.Standing.TheVariants as standing
 use Rattle.capture9.proofs.capture.read_into.Given as goal
 
 abbrev pub invariant-loop-record : goal.invariant-loop-record
 invariant-loop-record g l = record {
-  reading : l.records.standing ≡ standing.Reading;
+  reading : l.records.standing ≡ Standing.Reading;
   given : l.records.given ≡ length l.rows.items;
   within : l.records.given ≤ most_rows;
   headed : l.records.is_headed ≡ false → l.rows.items ≡ [];

@@ -9,12 +9,6 @@ returns-then-not-are_digits c =
     let none : all_ascii_digits c.args.digits.now ≡ false = search (rules, all) in
     rw none refl
 
-pub overflow_sub-high : goal.overflow_sub-high
-overflow_sub-high c =
-    let all = all-eight c.args.digits.now c.told-digits in
-    let each : all_ascii_digits c.args.digits.now ≡ true = search (rules, all) in
-    omega (arith, value-eight c.args.digits.now c.told-digits each)
-
 pub returns : goal.returns
 returns c =
     let all = all-eight c.args.digits.now c.told-digits in
