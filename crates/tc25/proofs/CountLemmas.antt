@@ -112,14 +112,20 @@ begin_count-widened_prev s below = omega (arith, len_within _ _ (widen_prev_with
 -- a time that is added raises it by one at most
 pub begin_count-insert : (s : Times) (t : ℕ) → begin_count (set.insert s t) ≤ begin_count s + 1
 unfolding begin_count
-begin_count-insert s t = omega (arith, len_within (begins (set.insert s t)) (set.insert (begins s) t) (λ f there. grind (arith, nat_tests, contains-begins, contains-insert_nat)),
-    len_insert_more (begins s) t)
+begin_count-insert s t = omega (
+  arith,
+  len_within (begins (set.insert s t)) (set.insert (begins s) t) (λ f there. grind (arith, nat_tests, contains-begins, contains-insert_nat)),
+  len_insert_more (begins s) t,
+)
 
 -- a set has one span more than beginnings at most
 pub span_count-begin_count : (s : Times) → span_count s ≤ begin_count s + 1
 unfolding span_count begin_count
-span_count-begin_count s = omega (arith, len_within (span_firsts s) (set.insert (begins s) 0) (λ f there. grind (arith, nat_tests, contains-begins, contains-insert_nat, contains-span_firsts)),
-    len_insert_more (begins s) 0)
+span_count-begin_count s = omega (
+  arith,
+  len_within (span_firsts s) (set.insert (begins s) 0) (λ f there. grind (arith, nat_tests, contains-begins, contains-insert_nat, contains-span_firsts)),
+  len_insert_more (begins s) 0,
+)
 
 -- a set has no more beginnings than spans
 pub begin_count-span_count : (s : Times) → begin_count s ≤ span_count s

@@ -12,7 +12,7 @@ returns c =
     let rise = begins_rise 0 (lists_in vs) l.filled (canonical_parts 0 l.first.items _ c.requires).1 in
     let begin = λ (v : Vec Span Global). begin_of v.items in
     let parted = IsPartitionedBy-leb begin vs f (IsNonDecreasingBy-from_default begin vs l.first (λ i j le h.
-        rw (← lists_in-get vs i l.first (omega arith), ← lists_in-get vs j l.first h) (rise i j le (omega (arith, lists_in-length vs))))) in
+    rw (← lists_in-get vs i l.first (omega arith), ← lists_in-get vs j l.first h) (rise i j le (omega (arith, lists_in-length vs))))) in
     let partitioned = rw c.deref.ensures.value at c.partition_point.ensures.partitioned in
     let point = IsPartitionPoint-from_clause (λ (v : Vec Span Global). leb (begin_of v.items) f) l.rest.items c.partition_point.result partitioned parted (λ a r q k. search rules) in
     place_is f l.first.items (lists_in vs) n l.filled c.requires (omega (arith, lists_in-length vs))
