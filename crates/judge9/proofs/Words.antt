@@ -41,11 +41,12 @@ pub use Rattle.judge9.specs.Working.{[], All, Appends, AppendsPart, AreReached, 
 pub use Rattle.judge9.specs.Working.{Exchanges, Explains, false, GivesRecord, GivesRefusal, Hands, IfErr, IfOk, IfSome, IsBreakAfter, IsKnowledge, IsLineOf, IsRunFrom, IsSame}
 pub use Rattle.judge9.specs.Working.{JudgeError, Judges, Judging, Knowledge, last_state, length, line_of_exchange, LineByte, List, None, Ok, Option, Possible, Puts, Reason}
 pub use Rattle.judge9.specs.Working.{refusal_of, Result, reverse, Rows, SetsInDay, slice_get, Some, Standing, State, Step, StoppedBefore, suc, take, Takes, Told, Tracked, true}
-pub use Rattle.judge9.specs.Working.{Verdict, View, zero, ℕ, ⊤, ◌*◌, ◌++◌, ◌↔◌, ◌∷◌, ◌≡◌, ◌≢◌, ◌≤◌, ◌⊎◌}
+pub use Rattle.judge9.specs.Working.{Verdict, View, zero, ℕ, ⊤}
 pub use Rattle.judge9.specs.Working.Trail.{Follows, GoesBack, IsTrail, KeepsTrail, Leads, stretch_length}
 pub use Rattle.judge9.specs.Working.Turn.{AreOpen, ComesTo, EndsRows, Feeds, IsFresh, IsObserved, IsOpen, Observes, Spoils, Turned, Waits}
 pub use Rattle.judge9.specs.declared.turn.Turn.TheVariants.{the_data as Turn}
-pub use Rattle.std.proofs.Common.{ap, arith, get_or, if◌then◌else◌, inl, inr, length-append, OnOk, option_map, refl, slice_range, subst, sym, take-add, ◌+◌, ◌-◌, ◌/◌, ◌<◌, ◌∙◌}
+pub use Rattle.std.proofs.Common.{ap, arith, get_or, if◌then◌else◌, inl, inr, length-append, OnOk, option_map, refl, slice_range, subst, sym, take-add}
+pub use Rattle.std.proofs.Common.{◌*◌, ◌+◌, ◌++◌, ◌-◌, ◌/◌, ◌<◌, ◌↔◌, ◌∙◌, ◌∷◌, ◌≡◌, ◌≢◌, ◌≤◌, ◌⊎◌}
 pub use Rattle.std.proofs.KnownBytes.{Appends-nil, Appends-trans}
 pub use Rattle.std.proofs.Math.Seq.{take-append_seam, take-length}
 pub use Rattle.std.proofs.lemmas.Bool.{cases_lt, false≢true}

@@ -28,8 +28,8 @@ pub use Rattle.judge9.specs.declared.turn.Judging.{Judging}
 pub use Rattle.std.specs.Io.KnownBytes.{Appends}
 pub use Rattle.std.specs.List.{All}
 pub use Rattle.std.specs.Option.{IfSome}
-pub use Rattle.std.specs.Prelude.{[], Bool, Err, false, IsTrue, length, List, None, Ok, Option, Result, reverse, slice_get, Some, suc, take, true, zero, ℕ, ⊤, ◌*◌, ◌++◌, ◌↔◌}
-pub use Rattle.std.specs.Prelude.{◌∷◌, ◌≡◌, ◌≢◌, ◌≤◌, ◌⊎◌}
+pub use Rattle.std.specs.Prelude.{[], Bool, Err, false, IsTrue, length, List, None, Ok, Option, Result, reverse, slice_get, Some, suc, take, true, zero, ℕ, ⊤}
+use Rattle.std.specs.Prelude.{◌≡◌, ◌≢◌}
 pub use Rattle.std.specs.Result.{IfErr, IfOk}
 pub use Rattle.text9.specs.Explanation.{line_of_exchange}
 pub use Rattle.text9.specs.Writing.{AppendsPart}

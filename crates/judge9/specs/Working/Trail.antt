@@ -1,7 +1,8 @@
 -- The trail of a judging: what is kept of it at its end, and the way back to a run of the deck.
+use Rattle.std.specs.Prelude.{◌*◌, ◌++◌, ◌↔◌, ◌∷◌, ◌≡◌, ◌≢◌, ◌≤◌}
 use Rattle.judge9.specs.Working.{[], All, BreaksAtLast, Cut, Ending, Ends, Err, Exchange, Exchanges, Hands, HasItsRun, HasItsWhy, IfOk, IsBreakAfter, IsRunFrom, judged_of}
 use Rattle.judge9.specs.Working.{JudgeError, Judges, last_state, length, LineByte, List, None, Ok, Option, Possible, Reason, Result, reverse, Rows, RunVerdict, SetsInDay}
-use Rattle.judge9.specs.Working.{slice_get, Some, State, take, Tracked, Verdict, View, WhyVerdict, ℕ, ◌*◌, ◌++◌, ◌↔◌, ◌∷◌, ◌≡◌, ◌≢◌, ◌≤◌}
+use Rattle.judge9.specs.Working.{slice_get, Some, State, take, Tracked, Verdict, View, WhyVerdict, ℕ}
 use Rattle.judge9.specs.WhyVerdict.{judged_of as why_judged_of}
 
 -- a tracker keeps exactly the states that the runs of these exchanges end in

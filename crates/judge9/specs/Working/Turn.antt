@@ -1,7 +1,7 @@
 -- What a judging comes to next: what rows do to those that are still to come, to the pairer and to the tracker.
+use Rattle.std.specs.Prelude.{◌↔◌, ◌≡◌, ◌⊎◌}
 use Rattle.judge9.specs.Working.{[], AreReached, Bool, CaptureError, Err, Exchange, Exchanges, false, GivesEnd, GivesRecord, GivesRefusal, Hands, IsFirst, IsTrue, JudgeError}
-use Rattle.judge9.specs.Working.{Judging, LineByte, None, Ok, Possible, Reason, refusal_of, Refuses, Result, Standing, State, Step, suc, Takes, Tracked, true, zero, ℕ, ⊤, ◌↔◌}
-use Rattle.judge9.specs.Working.{◌≡◌, ◌⊎◌}
+use Rattle.judge9.specs.Working.{Judging, LineByte, None, Ok, Possible, Reason, refusal_of, Refuses, Result, Standing, State, Step, suc, Takes, Tracked, true, zero, ℕ, ⊤}
 use Rattle.judge9.specs.declared.turn.Turn.TheVariants.{the_data as Turn}
 
 -- nothing was judged yet

@@ -1,7 +1,8 @@
 -- Which states an effect may have led from: a pattern of fields, each fixed or free.
-use Rattle.track9.specs.Working.Deck.{Asked, At, bit_of, Bool, Change, Clear, Command, Drift, Effect, Entry, entry_of, false, Hands, has, has_pair, if◌then◌else◌, is_mode}
-use Rattle.track9.specs.Working.Deck.{IsState, KeepsRest, List, may_ignore, Mode, ModeSet, moved_entry, Next, next_frame, None, Option, option_map, Pair, PairReaches, Prev}
-use Rattle.track9.specs.Working.Deck.{prev_frame, Recall, RegAudioIn, RegAudioOut, RegIn, Register, RegOut, Reset, SetAt, SetSomewhere, Some, State, true, ⊤, ◌==◌, ◌≡◌}
+use Rattle.std.specs.Prelude.{if◌then◌else◌, ◌==◌, ◌≡◌}
+use Rattle.track9.specs.Working.Deck.{Asked, At, bit_of, Bool, Change, Clear, Command, Drift, Effect, Entry, entry_of, false, Hands, has, has_pair, is_mode, IsState, KeepsRest}
+use Rattle.track9.specs.Working.Deck.{List, may_ignore, Mode, ModeSet, moved_entry, Next, next_frame, None, Option, option_map, Pair, PairReaches, Prev, prev_frame, Recall}
+use Rattle.track9.specs.Working.Deck.{RegAudioIn, RegAudioOut, RegIn, Register, RegOut, Reset, SetAt, SetSomewhere, Some, State, true, ⊤}
 use Rattle.deck9.specs.declared.effect.Effect.TheVariants as effect
 use Rattle.deck9.specs.declared.mode.Mode.TheVariants as mode
 use Rattle.deck9.specs.declared.state.Hands.TheVariants as hands

@@ -1,6 +1,7 @@
 -- How the values that models show are stored.
-use Rattle.track9.specs.Working.Deck.{Bool, code_by, Coded, coded_bool, coded_list, coded_option, coded_ℕ, coded×, Entries, false, Hands, if◌then◌else◌, List, ModeSet, Option}
-use Rattle.track9.specs.Working.Deck.{PartStates, Presets, refl, StateSet, Times, Tracked, true, TwoParts, ℕ, ◌≡◌}
+use Rattle.std.specs.Prelude.{if◌then◌else◌, ◌≡◌}
+use Rattle.track9.specs.Working.Deck.{Bool, code_by, Coded, coded_bool, coded_list, coded_option, coded_ℕ, coded×, Entries, false, Hands, List, ModeSet, Option, PartStates}
+use Rattle.track9.specs.Working.Deck.{Presets, refl, StateSet, Times, Tracked, true, TwoParts, ℕ}
 use Rattle.std.specs.FinSet as set
 use Rattle.deck9.specs.declared.state.Hands.TheVariants as hands
 

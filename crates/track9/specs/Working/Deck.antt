@@ -24,8 +24,7 @@ pub use Rattle.deck9.specs.declared.state.Register.{Register}
 pub use Rattle.deck9.specs.declared.state.Register.TheVariants.{RegAudioIn, RegAudioOut, RegIn, RegOut}
 pub use Rattle.deck9.specs.declared.state.State.{State}
 pub use Rattle.std.specs.Coded.{code_by, Coded, coded_bool, coded_list, coded_option, coded_ℕ, coded×}
-pub use Rattle.std.specs.Prelude.{[], bit_and, bit_or, Bool, false, if◌then◌else◌, List, None, not, Option, option_map, refl, Some, true, ℕ, ⊤, ◌&&◌, ◌+◌, ◌==◌, ◌||◌, ◌∷◌, ◌≡◌}
-pub use Rattle.std.specs.Prelude.{◌≢◌, ◌≤◌, ◌⊎◌}
+pub use Rattle.std.specs.Prelude.{[], bit_and, bit_or, Bool, false, List, None, not, Option, option_map, refl, Some, true, ℕ, ⊤}
 pub use Rattle.tc25.specs.Day.{day, next_frame, prev_frame, time_of}
 pub use Rattle.tc25.specs.Times.{begin_count, BelowDay, every_time, image, just, Times}
 pub use Rattle.track9.specs.ModeSet.{bit_of, has}

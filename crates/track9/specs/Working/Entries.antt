@@ -1,6 +1,7 @@
 -- How the entries that a register may have change.
-use Rattle.track9.specs.Working.Deck.{[], Bool, Change, Entries, every_time, false, if◌then◌else◌, image, just, List, Next, next_frame, None, not, Option, Prev, prev_frame}
-use Rattle.track9.specs.Working.Deck.{Recall, Reset, SetAt, SetSomewhere, Some, Times, true, ℕ, ◌||◌, ◌∷◌}
+use Rattle.std.specs.Prelude.{if◌then◌else◌, ◌||◌, ◌∷◌}
+use Rattle.track9.specs.Working.Deck.{[], Bool, Change, Entries, every_time, false, image, just, List, Next, next_frame, None, not, Option, Prev, prev_frame, Recall, Reset}
+use Rattle.track9.specs.Working.Deck.{SetAt, SetSomewhere, Some, Times, true, ℕ}
 use Rattle.std.specs.FinSet as set
 
 abbrev pub entries : Bool → Times → Entries

@@ -1,6 +1,7 @@
 -- How what is known of a set of states is put together.
-use Rattle.track9.specs.Working.Deck.{Allows, At, Bool, Clear, entries_of, Entry, false, has, if◌then◌else◌, is_set, Known, KnownEntry, Mode, ModeSet, None, Option, PartStates}
-use Rattle.track9.specs.Working.Deck.{Register, Some, StateSet, true, TwoParts, ◌==◌, ◌≡◌, ◌≢◌}
+use Rattle.std.specs.Prelude.{if◌then◌else◌, ◌==◌, ◌≡◌, ◌≢◌}
+use Rattle.track9.specs.Working.Deck.{Allows, At, Bool, Clear, entries_of, Entry, false, has, is_set, Known, KnownEntry, Mode, ModeSet, None, Option, PartStates, Register, Some}
+use Rattle.track9.specs.Working.Deck.{StateSet, true, TwoParts}
 use Rattle.track9.specs.declared.knowledge.Known.TheVariants as known
 use Rattle.track9.specs.declared.knowledge.KnownEntry.TheVariants as entry
 use Rattle.track9.specs.Working.Pairs.{either, goals_of, goes}

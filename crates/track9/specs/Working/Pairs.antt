@@ -1,6 +1,7 @@
 -- How pairs of a goal and a shown mode change.
-use Rattle.track9.specs.Working.Deck.{[], bit_and, bit_of, bit_or, Bool, Cued, Eject, FastForward, if◌then◌else◌, is_mode, Jog, List, Mode, ModeSet, not, on_the_way, Play, Rec}
-use Rattle.track9.specs.Working.Deck.{Rewind, shown_with, Shuttle, Stop, Var, ℕ, ◌&&◌, ◌==◌, ◌∷◌}
+use Rattle.std.specs.Prelude.{if◌then◌else◌, ◌&&◌, ◌==◌, ◌∷◌}
+use Rattle.track9.specs.Working.Deck.{[], bit_and, bit_of, bit_or, Bool, Cued, Eject, FastForward, is_mode, Jog, List, Mode, ModeSet, not, on_the_way, Play, Rec, Rewind}
+use Rattle.track9.specs.Working.Deck.{shown_with, Shuttle, Stop, Var, ℕ}
 
 -- ---- sets of modes
 

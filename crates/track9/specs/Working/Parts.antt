@@ -1,6 +1,7 @@
 -- How the states with one value of local and one of panel change.
-use Rattle.track9.specs.Working.Deck.{bit_and, Bool, Change, Entries, entries_of, false, if◌then◌else◌, InPart, List, Mode, ModeSet, None, not, Option, option_map, PartStates}
-use Rattle.track9.specs.Working.Deck.{RegAudioIn, RegAudioOut, RegIn, Register, RegOut, Some, State, true, ℕ, ◌&&◌, ◌==◌, ◌≡◌}
+use Rattle.std.specs.Prelude.{if◌then◌else◌, ◌&&◌, ◌==◌, ◌≡◌}
+use Rattle.track9.specs.Working.Deck.{bit_and, Bool, Change, Entries, entries_of, false, InPart, List, Mode, ModeSet, None, not, Option, option_map, PartStates, RegAudioIn}
+use Rattle.track9.specs.Working.Deck.{RegAudioOut, RegIn, Register, RegOut, Some, State, true, ℕ}
 use Rattle.track9.specs.Working.Entries.{agreeing, all_entries, changed, no_entries, said, some_entry, widened}
 use Rattle.track9.specs.Working.Pairs.{all_pairs, drifted, gone, joined, masked, no_pairs, some_pair}
 

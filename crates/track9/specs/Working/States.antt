@@ -1,8 +1,8 @@
 -- How a set of states changes.
+use Rattle.std.specs.Prelude.{if◌then◌else◌, ◌+◌, ◌||◌, ◌≡◌, ◌≤◌, ◌⊎◌}
 use Rattle.track9.specs.Working.Deck.{AreReached, begin_count, BelowDay, Block, Bool, Change, Command, count_of, Does, Effect, effect_of, entries_of, Exchanges, false, Hands}
-use Rattle.track9.specs.Working.Deck.{if◌then◌else◌, in_local, InPart, is_nak, is_of_goal_or_register, LocalFits, Mode, ModeSet, None, Option, PartStates, Passes, Possible}
-use Rattle.track9.specs.Working.Deck.{Presets, presets_after, Register, SetAt, ShowsStatus, Some, State, StateSet, true, TwoParts, with_command, with_one, ℕ, ◌+◌, ◌||◌, ◌≡◌, ◌≤◌}
-use Rattle.track9.specs.Working.Deck.{◌⊎◌}
+use Rattle.track9.specs.Working.Deck.{in_local, InPart, is_nak, is_of_goal_or_register, LocalFits, Mode, ModeSet, None, Option, PartStates, Passes, Possible, Presets}
+use Rattle.track9.specs.Working.Deck.{presets_after, Register, SetAt, ShowsStatus, Some, State, StateSet, true, TwoParts, with_command, with_one, ℕ}
 use Rattle.deck9.specs.declared.effect.Effect.TheVariants as effect
 use Rattle.deck9.specs.declared.state.Hands.TheVariants as hands
 use Rattle.track9.specs.Working.Entries.{agreeing}
