@@ -3,7 +3,7 @@ use Rattle.track9.proofs.Words.{Allows, and_from, and_parts, ap, AreFew, AreTime
 use Rattle.track9.proofs.Words.{Command, cond_both, contains-just, contains-remove_nat, count_of, Cued, either, Eject, Entries, entries_of, Entry, entry_of, eqb, eqb-true, false}
 use Rattle.track9.proofs.Words.{false_from_ne_true, false≢true, FastForward, Follows, goals_in, goals_of, goes, Hands, has, has_pair, if◌then◌else◌, in_local, inl, InPart}
 use Rattle.track9.proofs.Words.{inr, is_live, is_mode, is_mode-same, is_nak, is_nil, is_panel_live, is_set, is_some, IsKept, IsKnown, IsKnownEntry, IsSpanCount, IsTrue, Jog}
-use Rattle.track9.proofs.Words.{join_options, joined, joined_known, just, Known, known_fact, KnownEntry, KnowsModes, KnowsOf, len_within, List, max, max-zero, Mode, ModeSet}
+use Rattle.track9.proofs.Words.{join_options, joined, joined_known, just, Known, known_fact, KnownEntry, KnowsModes, KnowsOf, List, max, max-zero, Mode, ModeSet}
 use Rattle.track9.proofs.Words.{nat_cmp, nat_tests, no_states, None, not, on_two, Option, or-true, part_of, PartKnows, PartStates, Play, Possible, Presets, presets_after, Rec}
 use Rattle.track9.proofs.Words.{refl, RegIn, Register, Rewind, same_test, same_times, shown_in, shown_with, Shuttle, Some, some_entry, some_state, some_two, span_count}
 use Rattle.track9.proofs.Words.{span_count-begin_count, State, StateSet, Stop, subst, sym, Times, true, true_from_ne_false, two_of, TwoKnow, TwoParts, TwoWhole, Var, Whole}
@@ -341,9 +341,9 @@ span_count_is v r n whole e = record {
 
 none_left : (p : ℕ → Bool) → set.len (set.retain (set.empty {R = nat_cmp}) p) ≡ 0
 none_left p =
-    let within = len_within (set.retain set.empty p) set.empty (λ f h.
-    (and_parts _ _ (sym (set.contains-retain set.empty p f (λ x tie. ap p (sym (set.nat_cmp-IsAntisymmetric f x tie)))) ∙ h)).0) in
-    omega (arith, set.len-empty nat_cmp)
+    let left : Times = set.retain set.empty p in
+    let same : left ≡ set.empty = same_times left set.empty (λ f. set.contains-retain set.empty p f (λ x tie. ap p (sym (set.nat_cmp-IsAntisymmetric f x tie))) ∙ rw (set.contains-empty nat_cmp f) refl) in
+    ap (λ (s : Times). set.len s) same ∙ set.len-empty nat_cmp
 
 span_none : span_count set.empty ≡ 0
 unfolding span_count
