@@ -1,9 +1,9 @@
 -- Spans in several lists: where a frame goes, and what becomes of the whole where one list changes.
-use Rattle.tc25.proofs.Words.{[], add-one, All, All-append, All-cons, All-drop, All-nil, All-set, All-take, AllFilled, AllocError, ap, append_assoc, arith, begin_of, Bool, cond}
-use Rattle.tc25.proofs.Words.{day, drop, drop-append-le, drop-map, drop-set-lt, drop_more, end_to_end, ended_at, EndsBefore, Err, false, get_or, get_or-map, get_or-set_same}
-use Rattle.tc25.proofs.Words.{Global, glue, in_span, insert, is_covered, IsCanonical, IsListPlace, leb, length, length-append, length-map, List, list_any-append, lists_in}
-use Rattle.tc25.proofs.Words.{lt-leb, map-append, map-set, meet, nat_tests, None, Ok, OnErr, only_span, OnOk, refl, remove, Result, set, Span, suc, sym, take, take-append-drop}
-use Rattle.tc25.proofs.Words.{take-map, take-set, true, Vec, with_frame, zero, ℕ, ◌*◌, ◌++◌, ◌+◌, ◌-◌, ◌<◌, ◌∙◌, ◌∷◌, ◌≡◌, ◌≤◌}
+use Rattle.tc25.proofs.Words.{[], add-one, All, All-append, All-cons, All-drop, All-nil, All-set, All-take, AllFilled, ap, append_assoc, arith, begin_of, Bool, cond, day, drop}
+use Rattle.tc25.proofs.Words.{drop-append-le, drop-map, drop-set-lt, drop_more, end_to_end, ended_at, EndsBefore, get_or, get_or-map, get_or-set_same, Global, glue, in_span}
+use Rattle.tc25.proofs.Words.{insert, is_covered, IsCanonical, IsListPlace, leb, length, length-append, length-map, List, list_any-append, lists_in, lt-leb, map-append, map-set}
+use Rattle.tc25.proofs.Words.{meet, nat_tests, None, only_span, refl, remove, set, Span, suc, sym, take, take-append-drop, take-map, take-set, Vec, with_frame, zero, ℕ, ◌*◌}
+use Rattle.tc25.proofs.Words.{◌++◌, ◌+◌, ◌-◌, ◌<◌, ◌∙◌, ◌∷◌, ◌≡◌, ◌≤◌}
 use Rattle.tc25.proofs.SpansLemmas.{canonical_parts, canonical_with, covered_past, grown, uncovered_below, with_frame-past}
 
 -- ---- the whole, around the list at a place
@@ -43,9 +43,6 @@ module _ (vs : List (Vec Span Global)) (p : ℕ) (f : AllFilled (lists_in vs)) w
   pub filled_set : (old new : Vec Span Global) → p < length vs → old ≡ get_or vs p old → (0 < length old.items → 0 < length new.items) → AllFilled (lists_in (set vs p new))
   filled_set old new h at some = filled_all _ (All-set Filled vs p new (some (filled_vector vs p old f h at)) (all_filled vs f))
 
-  pub filled_insert : (v : Vec Span Global) → 0 < length v.items → AllFilled (lists_in (insert vs p v))
-  filled_insert v some = filled_all _ (All-append Filled _ _ (All-take Filled p vs (all_filled vs f)) (All-cons Filled v _ some (All-drop Filled p vs (all_filled vs f))))
-
   pub filled_remove : AllFilled (lists_in (remove vs p))
   filled_remove = filled_all _ (All-append Filled _ _ (All-take Filled p vs (all_filled vs f)) (All-drop Filled (suc p) vs (all_filled vs f)))
 
@@ -58,9 +55,7 @@ pub lists_in-set : (vs : List (Vec Span Global)) (p : ℕ) (v : Vec Span Global)
 lists_in-set vs p v = map-set (λ (w : Vec Span Global). w.items) vs p v
 
 pub inserted : (first : List Span) (vs ws : List (Vec Span Global)) (p : ℕ) (v : Vec Span Global) → ws ≡ insert vs p v → first ∷ lists_in ws ≡ insert (first ∷ lists_in vs) (suc p) v.items
-inserted first vs ws p v is =
-    let same : lists_in (insert vs p v) ≡ insert (lists_in vs) p v.items = simp (map-append, take-map, drop-map) in
-    rw is (ap (λ ls. first ∷ ls) same)
+inserted first vs ws p v is = grind (arith, map-append, take-map, drop-map)
 
 pub lists_in-get : (vs : List (Vec Span Global)) (p : ℕ) (d : Vec Span Global) → p < length vs → get_or (lists_in vs) p [] ≡ (get_or vs p d).items
 lists_in-get vs p d h = get_or-map (λ (v : Vec Span Global). v.items) vs p d [] h
@@ -93,14 +88,12 @@ place_parts : (f low : ℕ) (first : List Span) (ls : List (List Span)) (n : ℕ
     → All (EndsBefore (f - 1)) (end_to_end (take n (first ∷ ls))) × IsCanonical (f + 1) (end_to_end (drop n ls))
 place_parts f low first [] zero filled c fits below above = (All-nil _, tt)
 place_parts f low first ((s ∷ l) ∷ ls) zero filled c fits below above =
-    let begin = above (omega arith) in
     let behind = (canonical_parts low first ((s ∷ l) ++ end_to_end ls) c).1 in
-    (All-nil _, (omega arith, behind.1, behind.2))
+    (All-nil _, (omega (arith, above (omega arith)), behind.1, behind.2))
 place_parts f low first ((s ∷ l) ∷ ls) (suc n) filled c fits below above =
-    let before = end_before f low first s (l ++ end_to_end ls) c (below 0 (omega arith)) in
     let behind = (canonical_parts low first ((s ∷ l) ++ end_to_end ls) c).1 in
     let later = place_parts f low (s ∷ l) ls n filled.1 behind (omega arith) (λ k h. below (suc k) (omega arith)) (λ h. above (omega arith)) in
-    (All-append (EndsBefore (f - 1)) first _ before.0 later.0, later.1)
+    (All-append (EndsBefore (f - 1)) first _ (end_before f low first s (l ++ end_to_end ls) c (below 0 (omega arith))).0 later.0, later.1)
 place_parts f low first ls n filled c fits below above = absurd (omega arith)
 
 pub place_is : (f : ℕ) (first : List Span) (ls : List (List Span)) (n : ℕ) → AllFilled ls → IsCanonical 0 (first ++ end_to_end ls) → n ≤ length ls
@@ -125,8 +118,7 @@ meet-canonical s [] bs c = glue-apart_from s bs c
 meet-canonical s (t ∷ ps) bs c = ap (λ ys. s ∷ ys) (meet-canonical t ps bs c.2)
 
 meet-more : (s : Span) (xs bs : List Span) → 0 < length xs → meet (s ∷ xs) bs ≡ s ∷ meet xs bs
-meet-more s [] bs some = absurd (omega arith)
-meet-more s (t ∷ xs) bs some = refl
+meet-more s xs bs some = grind arith
 
 pub meet-nil : (xs : List Span) → meet xs [] ≡ xs
 meet-nil [] = refl
@@ -136,29 +128,23 @@ meet-nil (s ∷ t ∷ xs) = ap (λ ys. s ∷ ys) (meet-nil (t ∷ xs))
 glue-meets : (s : Span) (last : ℕ) (ps bs : List Span) → IsCanonical (last + 2) (ps ++ bs) → s.last ≤ last + 1 → glue s (ps ++ bs) ≡ meet (glue s ps) bs
 glue-meets s last [] bs c le = refl
 glue-meets s last (t ∷ ps) bs c le =
-    let touching = meet-canonical (record { first = s.first; last = t.last }) ps bs c.2 in
-    let apart = meet-canonical t ps bs c.2 in
-    grind (arith, nat_tests)
+    grind (arith, nat_tests, meet-canonical (record { first = s.first; last = t.last }) ps bs c.2, meet-canonical t ps bs c.2)
 
 -- a frame that goes into the first of two lists
 pub with_frame-meets : (f low : ℕ) (ps bs : List Span) → IsCanonical low (ps ++ bs) → IsCanonical (f + 1) bs → with_frame f (ps ++ bs) ≡ meet (with_frame f ps) bs
 with_frame-meets f low [] [] c above = refl
 with_frame-meets f low [] (q ∷ bs) c above = let glued = glue-apart_from (record { first = f; last = q.last }) bs above.2 in grind (arith, nat_tests)
 with_frame-meets f low (s ∷ ps) bs c above =
-    let later = with_frame-meets f (s.last + 2) ps bs c.2 above in
     let more = meet-more s (with_frame f ps) bs (some_with_frame f ps) in
-    let apart = meet-canonical s ps bs c.2 in
-    let glued = glue-meets (grown f s) s.last ps bs c.2 in
-    grind (arith, nat_tests)
+    grind (arith, nat_tests, more, with_frame-meets f (s.last + 2) ps bs c.2 above, meet-canonical s ps bs c.2, glue-meets (grown f s) s.last ps bs c.2)
 
 -- the whole with a frame, where it goes into the list at a place
 pub with_frame-at : (f : ℕ) (ls : List (List Span)) (p : ℕ) → IsCanonical 0 (end_to_end ls) → IsListPlace f ls p
     → with_frame f (end_to_end ls) ≡ end_to_end (take p ls) ++ meet (with_frame f (get_or ls p [])) (end_to_end (drop (p + 1) ls))
 with_frame-at f ls p c place =
-    let us = end_to_end (take p ls) in
-    let whole = around ls p place.fits in
-    let behind = (canonical_parts 0 us _ (rw whole at c)).1 in
-    ap (with_frame f) whole ∙ with_frame-past f us _ place.before ∙ ap (λ xs. us ++ xs) (with_frame-meets f 0 (get_or ls p []) _ behind place.behind)
+    let behind = (canonical_parts 0 (end_to_end (take p ls)) _ (rw (around ls p place.fits) at c)).1 in
+    let past = with_frame-past f (end_to_end (take p ls)) (get_or ls p [] ++ end_to_end (drop (p + 1) ls)) place.before in
+    grind (arith, around ls p place.fits, past, with_frame-meets f 0 (get_or ls p []) _ behind place.behind)
 
 -- ---- where two lists meet
 
@@ -180,10 +166,6 @@ spans_fit low (s ∷ xs) c le = let later = spans_fit (s.last + 2) xs c.2 (omega
 pub lists_set : (first : List Span) (vs : List (Vec Span Global)) (p i : ℕ) (old new : Vec Span Global) (change : List Span → List Span) → p ≡ suc i → i < length vs → old ≡ get_or vs i old
     → new.items ≡ change old.items → first ∷ lists_in (set vs i new) ≡ set (first ∷ lists_in vs) p (change (get_or (first ∷ lists_in vs) p []))
 lists_set first vs p i old new change e h at is = rw (e, lists_in-set vs i new, is, ← lists_in-at vs i old h at) refl
-
-pub some_added : (r : Result (Unit {0}) AllocError) (f : ℕ) (xs ys : List Span) → OnOk r (ys ≡ with_frame f xs) → OnErr r (ys ≡ xs) → 0 < length xs → 0 < length ys
-some_added (Ok u) f xs ys ok err some = rw ok (some_with_frame f xs)
-some_added (Err e) f xs ys ok err some = rw err some
 
 pub length-ended_at : (n : ℕ) (xs : List Span) → length (ended_at n xs) ≡ length xs
 length-ended_at n [] = refl
@@ -207,9 +189,6 @@ pub dropped : (first : List Span) (vs ws : List (Vec Span Global)) (i : ℕ) (v 
 dropped first vs ws i v left h at some is gone =
     rw (is, add-one i, behind_more vs i v h at, drop-append-le 1 v.items _ some, ← gone, end_to_end-append, end_to_end-append, add-one i) (sym (append_assoc first _ _))
 
-pub length_more : (vs : List (Vec Span Global)) (i : ℕ) (v : Vec Span Global) → i < length vs → v ≡ get_or vs i v → length (end_to_end (drop i (lists_in vs))) ≡ length v.items + length (end_to_end (drop (i + 1) (lists_in vs)))
-length_more vs i v h at = ap length (behind_more vs i v h at) ∙ length-append v.items (end_to_end (drop (i + 1) (lists_in vs)))
-
 -- ---- a frame added, and the list met by the next
 
 module _ (f : ℕ) (ls changed : List (List Span)) (p : ℕ) (c : IsCanonical 0 (end_to_end ls)) (place : IsListPlace f ls p) (is : changed ≡ set ls p (with_frame f (get_or ls p []))) where
@@ -227,29 +206,25 @@ module _ (f : ℕ) (ls changed : List (List Span)) (p : ℕ) (c : IsCanonical 0 
 pub covered_is : (f : ℕ) (ls : List (List Span)) (p : ℕ) → IsListPlace f ls p → is_covered f (end_to_end ls) ≡ is_covered f (get_or ls p [])
 covered_is f ls p place =
     let rest = end_to_end (drop (p + 1) ls) in
-    let none = uncovered_below (f + 1) rest place.behind f (omega arith) in
-    let parts = list_any-append (in_span f) (get_or ls p []) rest in
-    ap (is_covered f) (around ls p place.fits) ∙ covered_past f (f - 1) (end_to_end (take p ls)) _ place.before (omega arith) ∙ grind arith
+    let past = covered_past f (f - 1) (end_to_end (take p ls)) (get_or ls p [] ++ rest) place.before in
+    grind (arith, around ls p place.fits, past, list_any-append (in_span f) (get_or ls p []) rest, uncovered_below (f + 1) rest place.behind f)
 
 -- ---- a list cut in halves
 
 pub begun_still : (first : List Span) (vs : List (Vec Span Global)) (p : ℕ) → (0 < length vs → 0 < length first) → p ≤ length vs → 0 < length (get_or (first ∷ lists_in vs) p []) → 0 < length first
-begun_still first vs zero begun fits some = some
-begun_still first vs (suc p) begun fits some = begun (omega arith)
+begun_still first vs p begun fits some = grind arith
 
 pub filled_inserted : (done : Bool) (vs ws : List (Vec Span Global)) (p : ℕ) (v : Vec Span Global) → ws ≡ cond done (insert vs p v) vs → AllFilled (lists_in vs) → 0 < length v.items → AllFilled (lists_in ws)
-filled_inserted true vs ws p v is f some = rw is (filled_insert vs p f v some)
-filled_inserted false vs ws p v is f some = rw is f
+filled_inserted done vs ws p v is f some =
+    let more : AllFilled (lists_in (insert vs p v)) =
+    filled_all _ (All-append Filled _ _ (All-take Filled p vs (all_filled vs f)) (All-cons Filled v _ some (All-drop Filled p vs (all_filled vs f)))) in
+    grind arith
 
 -- ---- whether there is one span
-
-several : (s : Span) (xs : List Span) → 0 < length xs → None ≡ only_span (s ∷ xs)
-several s [] some = absurd (omega arith)
-several s (t ∷ xs) some = refl
 
 pub only_span-none : (first : List Span) (vs : List (Vec Span Global)) → AllFilled (lists_in vs) → (0 < length vs → 0 < length first) → (length first ≡ 1 → 0 < length vs)
     → None ≡ only_span (first ++ end_to_end (lists_in vs))
 only_span-none [] [] filled begun more = refl
-only_span-none (s ∷ []) (v ∷ vs) filled begun more = several s (v.items ++ _) (omega (arith, filled.0, length-append v.items (end_to_end (lists_in vs))))
+only_span-none (s ∷ []) (v ∷ vs) filled begun more = grind (arith, filled.0, length-append v.items (end_to_end (lists_in vs)))
 only_span-none (s ∷ t ∷ xs) vs filled begun more = refl
 only_span-none first vs filled begun more = absurd (omega arith)

@@ -1,27 +1,19 @@
 -- What a `SpanSet` answers, from its list of spans.
-use Rattle.tc25.proofs.Words.{[], ap, arith, Bool, cond, contains-times_where, day, eqb, eqb-true, false, false≢true, is_covered, IsCanonical, IsLeast, IsSpan, just, length}
-use Rattle.tc25.proofs.Words.{List, list_any, map, MatchOption, nat_cmp, nat_eq, nat_tests, None, not, only_span, Option, or_right, point, refl, slice_get, Some, SomeIff, Span}
-use Rattle.tc25.proofs.Words.{span_count, suc, sym, times_where, true, ℕ, ◌&&◌, ◌+◌, ◌-◌, ◌<◌, ◌||◌, ◌↔◌, ◌∙◌, ◌∷◌, ◌≡◌, ◌≤◌}
+use Rattle.tc25.proofs.Words.{[], ap, arith, Bool, contains-retain_nat, contains-times_where, day, eqb, false, false≢true, is_covered, IsCanonical, IsLeast, just, length, List}
+use Rattle.tc25.proofs.Words.{list_any, map, MatchOption, nat_cmp, nat_cmp_total, nat_eq, nat_tests, None, not, only_span, Option, refl, slice_get, Some, SomeIff, Span}
+use Rattle.tc25.proofs.Words.{span_count, sym, times_where, true, ℕ, ◌&&◌, ◌+◌, ◌-◌, ◌<◌, ◌||◌, ◌↔◌, ◌∙◌, ◌∷◌, ◌≡◌}
 use Rattle.std.specs.FinSet as set
-use Rattle.tc25.proofs.TimesLemmas.{empty_iff, just_iff, least_from, none_iff, same_times, times_where-empty, two_iff}
-use Rattle.tc25.proofs.CountLemmas.{contains-span_firsts, len_insert_fresh, span_firsts}
+use Rattle.tc25.proofs.TimesLemmas.{empty_iff, just_iff, least_from, none_iff, same_times, two_iff}
+use Rattle.tc25.proofs.CountLemmas.{span_firsts}
 use Rattle.tc25.proofs.SpansLemmas.{uncovered_below}
 
 -- the test of a list of spans
 abbrev pub in_spans : List Span → ℕ → Bool
 in_spans xs f = is_covered f xs
 
-has_first : (s : Span) (xs : List Span) → IsSpan s → is_covered s.first (s ∷ xs) ≡ true
-has_first s xs span = grind (arith, nat_tests)
-
-has_last : (s : Span) (xs : List Span) → IsSpan s → is_covered s.last (s ∷ xs) ≡ true
-has_last s xs span = grind (arith, nat_tests)
-
 pub is_empty_iff-spans : (xs : List Span) → IsCanonical 0 xs → (eqb (length xs) 0 ≡ true) ↔ (times_where (in_spans xs) ≡ set.empty)
 is_empty_iff-spans [] c = empty_iff (in_spans []) true (λ _ f h. refl) (λ is. absurd (false≢true (sym is)))
-is_empty_iff-spans (s ∷ xs) c =
-    empty_iff (in_spans (s ∷ xs)) _ (λ is. absurd (let e = eqb-true (suc (length xs)) 0 is in omega arith))
-    (λ _. (s.last, c.1.1, has_last s xs c.1))
+is_empty_iff-spans (s ∷ xs) c = empty_iff (in_spans (s ∷ xs)) _ (λ is f h. grind (arith, nat_tests)) (λ _. (s.last, c.1.1, grind (arith, nat_tests)))
 
 -- whether there is one member
 pub only_one-spans : (xs : List Span) (s : Span) (r : Option ℕ) → IsCanonical 0 xs → Some s ≡ only_span xs → s.first ≡ s.last → SomeIff r (s.first < day) s.first
@@ -32,29 +24,22 @@ only_one-spans xs s r c at same given = absurd (cc)
 pub only_wide : (xs : List Span) (s : Span) → IsCanonical 0 xs → Some s ≡ only_span xs → (s.first ≡ s.last → ⊥) → (t : ℕ) → (None ≡ Some t) ↔ (times_where (in_spans xs) ≡ just t)
 only_wide (x ∷ []) s c at other =
     let e : s ≡ x = cc in
-    two_iff (in_spans (x ∷ [])) x.first x.last (omega arith) c.1.1 (rw e at other) (has_first x [] c.1) (has_last x [] c.1)
+    two_iff (in_spans (x ∷ [])) x.first x.last (omega arith) c.1.1 (rw e at other) (grind (arith, nat_tests)) (grind (arith, nat_tests))
 only_wide xs s c at other = absurd (cc)
 
 pub only_other-spans : (xs : List Span) → IsCanonical 0 xs → None ≡ only_span xs → (t : ℕ) → (None ≡ Some t) ↔ (times_where (in_spans xs) ≡ just t)
 only_other-spans [] c none = none_iff (in_spans []) (λ f h. refl)
 only_other-spans (s ∷ []) c none = absurd (cc)
 only_other-spans (s ∷ t ∷ xs) c none =
-    two_iff (in_spans (s ∷ t ∷ xs)) s.last t.last c.1.1 c.2.1.1 (λ e. omega arith) (has_last s (t ∷ xs) c.1) (or_right _ _ (has_last t xs c.2.1))
-
-low_covered : (low : ℕ) (xs : List Span) → IsCanonical low xs → (f : ℕ) → is_covered f xs ≡ true → low ≤ f
-low_covered low xs c f there = let above = uncovered_below low xs c f in grind arith
+    two_iff (in_spans (s ∷ t ∷ xs)) s.last t.last c.1.1 c.2.1.1 (λ e. omega arith) (grind (arith, nat_tests)) (grind (arith, nat_tests))
 
 -- the first member, if there is one
-pub least_none-spans : (xs : List Span) → None ≡ slice_get xs 0 → times_where (in_spans xs) ≡ set.empty
-least_none-spans [] none = times_where-empty (in_spans []) (λ f h. refl)
-least_none-spans (s ∷ xs) none = absurd (cc)
-
 pub least_some-spans : (xs : List Span) (s : Span) (r : Option ℕ) → IsCanonical 0 xs → Some s ≡ slice_get xs 0 → SomeIff r (s.first < day) s.first
     → MatchOption r (times_where (in_spans xs) ≡ set.empty) (IsLeast (times_where (in_spans xs)))
 least_some-spans [] s r c at given = absurd (cc)
 least_some-spans (x ∷ xs) s r c at given =
     let e : s ≡ x = cc in
-    least_from (in_spans (x ∷ xs)) x.first r (rw e at given) (omega arith) (has_first x xs c.1) (λ f h there. low_covered x.first (x ∷ xs) (omega arith, c.1, c.2) f there)
+    least_from (in_spans (x ∷ xs)) x.first r (rw e at given) (omega arith) (grind (arith, nat_tests)) (λ f h there. let above = uncovered_below x.first (x ∷ xs) (omega arith, c.1, c.2) f in grind arith)
 
 -- ---- the number of spans
 
@@ -73,17 +58,12 @@ no_begin_below low (s ∷ xs) c f h = let later = no_begin_below (s.last + 2) xs
 begins_is : (low : ℕ) (xs : List Span) → IsCanonical low xs → (f : ℕ) → (is_covered f xs && (eqb f 0 || not (is_covered (f - 1) xs))) ≡ begins_at f xs
 begins_is low [] c f = refl
 begins_is low (s ∷ xs) c f =
-    let none = uncovered_below (s.last + 2) xs c.2 f in
-    let none_before = uncovered_below (s.last + 2) xs c.2 (f - 1) in
-    let none_begun = no_begin_below (s.last + 2) xs c.2 f in
-    let later = begins_is (s.last + 2) xs c.2 f in
-    grind (arith, nat_tests)
+    grind (arith, nat_tests, uncovered_below (s.last + 2) xs c.2 f, uncovered_below (s.last + 2) xs c.2 (f - 1), no_begin_below (s.last + 2) xs c.2 f, begins_is (s.last + 2) xs c.2 f)
 
 len_firsts : (low : ℕ) (xs : List Span) → IsCanonical low xs → set.len (set.from_list {R = nat_cmp} (firsts xs)) ≡ length xs
 len_firsts low [] c = set.len-empty nat_cmp
 len_firsts low (s ∷ xs) c =
-    len_insert_fresh _ s.first (set.contains-from_list_nat (firsts xs) s.first ∙ no_begin_below (s.last + 2) xs c.2 s.first (omega arith))
-    ∙ ap suc (len_firsts (s.last + 2) xs c.2)
+    grind (arith, set.len-insert nat_cmp_total, set.contains-from_list_nat (firsts xs) s.first, no_begin_below (s.last + 2) xs c.2 s.first, len_firsts (s.last + 2) xs c.2)
 
 covered_in_day : (low : ℕ) (xs : List Span) → IsCanonical low xs → (f : ℕ) → is_covered f xs ≡ true → f < day
 covered_in_day low [] c f there = absurd (false≢true there)
@@ -96,11 +76,5 @@ pub span_count-spans : (xs : List Span) → IsCanonical 0 xs → span_count (tim
 unfolding span_count
 span_count-spans xs c =
     ap set.len (same_times (span_firsts (times_where (in_spans xs))) (set.from_list (firsts xs)) (λ f.
-    contains-span_firsts (times_where (in_spans xs)) f
-    ∙ rw (contains-spans xs c f, contains-spans xs c (f - 1)) (begins_is 0 xs c f)
-    ∙ sym (set.contains-from_list_nat (firsts xs) f)))
+    grind (arith, contains-retain_nat, contains-spans xs c, begins_is 0 xs c f, set.contains-from_list_nat (firsts xs))))
     ∙ len_firsts 0 xs c
-
--- one frame of a list or nothing is what the set has in common with it
-pub kept_is : (xs : List Span) (t f : ℕ) → is_covered f (cond (is_covered t xs) (point t ∷ []) []) ≡ (is_covered f xs && eqb f t)
-kept_is xs t f = let same = λ (e : eqb f t ≡ true). ap (λ x. is_covered x xs) (eqb-true f t e) in grind (arith, nat_tests)

@@ -1,9 +1,9 @@
 -- Lists of spans in canonical form: what they cover, and what keeps their form.
-use Rattle.tc25.proofs.Words.{[], add-one, add-zero, All, and_right, ap, append_assoc, arith, Bool, cond, day, Direction, drop, drop_more, edge_of, EndsBefore, eqb, false}
-use Rattle.tc25.proofs.Words.{false≢true, far_edge_of, get_or, get_or-drop, glue, in_span, insert, is_covered, IsCanonical, IsNonDecreasingBy, IsPlace, IsSpan, joined, le-leb}
-use Rattle.tc25.proofs.Words.{le-ltb, leb, length, length-drop, length-take-le, List, list_any-append, list_any_none, lt-leb, lt-ltb, map, max, min, moved_from, nat_tests, Next}
-use Rattle.tc25.proofs.Words.{not, point, Prev, refl, remove, set, set_at, shifted_span, Span, stays, suc, suc-add, sym, take, take-append-drop, take_more, true, widened_span}
-use Rattle.tc25.proofs.Words.{with_frame, without_edge, zero, ℕ, ◌&&◌, ◌++◌, ◌+◌, ◌-◌, ◌<◌, ◌||◌, ◌∙◌, ◌∷◌, ◌≡◌, ◌≤◌}
+use Rattle.tc25.proofs.Words.{[], add-one, All, and_right, ap, append_assoc, arith, Bool, cond, day, Direction, drop, drop_more, EndsBefore, eqb, false, far_edge_of, get_or}
+use Rattle.tc25.proofs.Words.{glue, in_span, insert, is_covered, IsCanonical, IsNonDecreasingBy, IsPlace, IsSpan, joined, le-leb, leb, length, length-drop, length-take-le, List}
+use Rattle.tc25.proofs.Words.{list_any-append, list_any_none, map, max, min, moved, moved_from, nat_tests, Next, not, point, Prev, refl, remove, set, set_at, shifted_span, Span}
+use Rattle.tc25.proofs.Words.{stays, suc, sym, take, take-append-drop, take_more, true, widened_span, with_frame, without_edge, zero, ℕ, ◌&&◌, ◌++◌, ◌+◌, ◌-◌, ◌<◌, ◌||◌, ◌∙◌}
+use Rattle.tc25.proofs.Words.{◌∷◌, ◌≡◌, ◌≤◌}
 
 -- ---- order
 
@@ -45,16 +45,12 @@ covered_past f g us xs before le = rw (list_any-append, list_any_none (in_span f
 
 covered_first : (f low : ℕ) (xs : List Span) → IsCanonical low xs → ((d : Span) → 0 < length xs → f ≤ (get_or xs 0 d).last) → is_covered f xs ≡ first_by f xs
 covered_first f low [] c ends = refl
-covered_first f low (s ∷ xs) c ends =
-    let none = uncovered_below (s.last + 2) xs c.2 f in
-    let end = ends s (omega arith) in
-    grind (arith, nat_tests)
+covered_first f low (s ∷ xs) c ends = grind (arith, nat_tests, uncovered_below (s.last + 2) xs c.2 f, ends s (omega arith))
 
 pub covered_at : (f : ℕ) (xs : List Span) → IsCanonical 0 xs → (i : ℕ) → IsPlace f xs i → is_covered f xs ≡ first_by f (drop i xs)
 covered_at f xs c i p =
-    let whole = take-append-drop i xs in
-    ap (is_covered f) (sym whole) ∙ covered_past f f (take i xs) (drop i xs) p.below (omega arith)
-    ∙ covered_first f 0 (drop i xs) (canonical_parts 0 (take i xs) (drop i xs) (rw whole c)).1 p.above
+    let behind = (canonical_parts 0 (take i xs) (drop i xs) (rw take-append-drop c)).1 in
+    grind (arith, take-append-drop i xs, covered_past f f (take i xs) (drop i xs) p.below, covered_first f 0 (drop i xs) behind p.above)
 
 -- ---- glue
 
@@ -75,24 +71,21 @@ grown f s = record { first = min s.first f; last = max s.last f }
 pub canonical_with : (low f : ℕ) (xs : List Span) → IsCanonical low xs → low ≤ f → f < day → IsCanonical low (with_frame f xs)
 canonical_with low f [] c le in_day = (le, (omega arith, in_day), tt)
 canonical_with low f (s ∷ xs) c le in_day =
-    let later = canonical_with (s.last + 2) f xs c.2 in
     let glued = λ (touch : f ≤ s.last + 1). canonical_glue low (grown f s) xs (omega arith) (omega arith) (canonical_from _ (s.last + 2) xs (omega arith) c.2) in
-    grind (arith, nat_tests)
+    grind (arith, nat_tests, canonical_with (s.last + 2) f xs c.2)
 
 pub covered_with : (g low f : ℕ) (xs : List Span) → IsCanonical low xs → f < day → is_covered g (with_frame f xs) ≡ (eqb g f || is_covered g xs)
 covered_with g low f [] c in_day = grind (arith, nat_tests)
 covered_with g low f (s ∷ xs) c in_day =
-    let later = covered_with g (s.last + 2) f xs c.2 in_day in
     let glued = λ (touch : f ≤ s.last + 1). covered_glue g (grown f s) xs (omega arith) (canonical_from _ (s.last + 2) xs (omega arith) c.2) in
-    grind (arith, nat_tests)
+    grind (arith, nat_tests, covered_with g (s.last + 2) f xs c.2 in_day)
 
 -- ---- where a frame goes
 
 pub with_frame-past : (f : ℕ) (us xs : List Span) → All (EndsBefore (f - 1)) us → with_frame f (us ++ xs) ≡ us ++ with_frame f xs
 with_frame-past f [] xs before = refl
 with_frame-past f (s ∷ us) xs before =
-    let end = before 0 s (omega arith) in
-    rw (lt-ltb (s.last + 1) f (omega arith)) (ap (λ ys. s ∷ ys) (with_frame-past f us xs (λ k d h. before (suc k) d (omega arith))))
+    grind (arith, nat_tests, before 0 s (omega arith), with_frame-past f us xs (λ k d h. before (suc k) d (omega arith)))
 
 module _ (f : ℕ) (xs : List Span) (i : ℕ) (p : IsPlace (f - 1) xs i) where
   from_place : with_frame f xs ≡ take i xs ++ with_frame f (drop i xs)
@@ -100,18 +93,12 @@ module _ (f : ℕ) (xs : List Span) (i : ℕ) (p : IsPlace (f - 1) xs i) where
 
   -- a frame that a span touches goes into it
   pub with_frame-grown : (d : Span) → i < length xs → (get_or xs i d).first ≤ f + 1 → with_frame f xs ≡ take i xs ++ glue (grown f (get_or xs i d)) (drop (i + 1) xs)
-  with_frame-grown d h touch =
-      let more = drop_more xs i d h in
-      let end = rw more at (p.above d (omega (arith, length-drop i xs))) in
-      from_place ∙ rw (more, le-ltb ((get_or xs i d).last + 1) f (omega arith), le-ltb (f + 1) (get_or xs i d).first touch) refl
+  with_frame-grown d h touch = from_place ∙ grind (arith, nat_tests, length-drop, drop_more xs i d h, p.above d)
 
-  module _ (apart : (d : Span) → i < length xs → f + 1 < (get_or xs i d).first) where
-    front_apart : (d : Span) → 0 < length (drop i xs) → f + 1 < (get_or (drop i xs) 0 d).first
-    front_apart d h = rw (get_or-drop, add-zero) (apart d (omega (arith, length-drop i xs)))
-
+  module _ (apart : (d : Span) → 0 < length (drop i xs) → f + 1 < (get_or (drop i xs) 0 d).first) where
     -- a frame that no span touches is put between two
     pub with_frame-alone : with_frame f xs ≡ insert xs i (point f)
-    with_frame-alone = from_place ∙ ap (λ ys. take i xs ++ ys) (alone (drop i xs) p.above front_apart)
+    with_frame-alone = from_place ∙ ap (λ ys. take i xs ++ ys) (alone (drop i xs) p.above apart)
       where
         alone : (ys : List Span) → ((d : Span) → 0 < length ys → f - 1 ≤ (get_or ys 0 d).last) → ((d : Span) → 0 < length ys → f + 1 < (get_or ys 0 d).first) → with_frame f ys ≡ point f ∷ ys
         alone [] ends apart = refl
@@ -120,21 +107,14 @@ module _ (f : ℕ) (xs : List Span) (i : ℕ) (p : IsPlace (f - 1) xs i) where
     -- and no frame next to it is covered
     pub uncovered_near : IsCanonical 0 xs → (g : ℕ) → f ≤ g + 1 → g ≤ f + 1 → is_covered g xs ≡ false
     uncovered_near c g near far =
-        let whole = take-append-drop i xs in
-        ap (is_covered g) (sym whole) ∙ covered_past g (f - 1) (take i xs) (drop i xs) p.below (omega arith)
-        ∙ none (drop i xs) (canonical_parts 0 (take i xs) (drop i xs) (rw whole c)).1 front_apart
+        let behind = (canonical_parts 0 (take i xs) (drop i xs) (rw take-append-drop c)).1 in
+        grind (arith, take-append-drop i xs, covered_past g (f - 1) (take i xs) (drop i xs) p.below, none (drop i xs) behind apart)
       where
         none : (ys : List Span) → IsCanonical 0 ys → ((d : Span) → 0 < length ys → f + 1 < (get_or ys 0 d).first) → is_covered g ys ≡ false
         none [] c apart = refl
         none (s ∷ ys) c apart = let gap = apart s (omega arith) in uncovered_below s.first (s ∷ ys) (omega arith, c.1, c.2) g (omega arith)
 
 -- ---- a span replaced, and joined to the next
-
-pub put_apart : (xs : List Span) (i : ℕ) (s d : Span) → i < length xs → (i + 1 < length xs → s.last + 1 < (get_or xs (i + 1) d).first) → set xs i s ≡ take i xs ++ glue s (drop (i + 1) xs)
-put_apart [] i s d h apart = absurd (omega arith)
-put_apart (x ∷ []) zero s d h apart = refl
-put_apart (x ∷ t ∷ xs) zero s d h apart = rw (lt-leb t.first (s.last + 1) (apart (omega arith)))
-put_apart (x ∷ xs) (suc i) s d h apart = rw suc-add (ap (λ ys. x ∷ ys) (put_apart xs i s d (omega arith) (λ g. rw suc-add at (apart (omega arith)))))
 
 pub put_touching : (xs : List Span) (i : ℕ) (s d : Span) → i + 1 < length xs → (get_or xs (i + 1) d).first ≤ s.last + 1
     → set (remove xs (i + 1)) i (record { first = s.first; last = (get_or xs (i + 1) d).last }) ≡ take i xs ++ glue s (drop (i + 1) xs)
@@ -147,54 +127,26 @@ pub glue-glue : (s t : Span) (ys : List Span) → glue s (glue t ys) ≡ cond (l
 glue-glue s t [] = grind (arith, nat_tests)
 glue-glue s t (u ∷ ys) = grind (arith, nat_tests)
 
--- lists with the same rest have the same item before it
-pub same_at : (xs ys : List Span) (i : ℕ) (d : Span) → i < length xs → i < length ys → drop i xs ≡ drop i ys → get_or xs i d ≡ get_or ys i d
-same_at xs ys i d h g same = cc (drop_more xs i d h, drop_more ys i d g)
-
--- a span that is widened ends within the day
-pub widened_in_day : (d : Direction) (s : Span) → s.last < day → (widened_span d s).last < day
-widened_in_day d s h = grind arith
-
 -- ---- a shift within the day
 
--- the least frame that a list from `low` on can have once it is moved
-abbrev lowest : Direction → ℕ → ℕ
-lowest Next low = low + 1
-lowest Prev low = low - 1
-
-in_shifted : (d : Direction) (f : ℕ) (s : Span) → f < day → IsSpan s → (stays d s && in_span f (shifted_span d s)) ≡ (not (eqb f (far_edge_of d)) && in_span (moved_from d f) s)
-in_shifted d f s h span = grind (arith, nat_tests)
-
-canonical_shifted : (d : Direction) (low : ℕ) (xs : List Span) → IsCanonical low xs → IsCanonical (lowest d low) (map (shifted_span d) (without_edge d xs))
-canonical_shifted d low [] c = tt
-canonical_shifted d low (s ∷ xs) c = let later = canonical_shifted d (s.last + 2) xs c.2 in grind (arith, nat_tests, canonical_from)
-
-pub canonical_shift : (d : Direction) (xs : List Span) → IsCanonical 0 xs → IsCanonical 0 (map (shifted_span d) (without_edge d xs))
-canonical_shift d xs c = canonical_from 0 (lowest d 0) _ (omega arith) (canonical_shifted d 0 xs c)
+-- a list from `high` on is then from where that frame is moved to on
+pub canonical_shift : (d : Direction) (low high : ℕ) (xs : List Span) → low ≤ (shifted_span d (point high)).first → IsCanonical high xs → IsCanonical low (map (shifted_span d) (without_edge d xs))
+canonical_shift d low high [] le c = tt
+canonical_shift d low high (s ∷ xs) le c =
+    let later = λ (kept : stays d s ≡ true). canonical_shift d ((shifted_span d s).last + 2) (s.last + 2) xs (grind arith) c.2 in
+    grind (arith, nat_tests, canonical_shift d low (s.last + 2) xs (grind arith) c.2)
 
 pub covered_shift : (d : Direction) (f low : ℕ) (xs : List Span) → f < day → IsCanonical low xs → is_covered f (map (shifted_span d) (without_edge d xs)) ≡ (not (eqb f (far_edge_of d)) && is_covered (moved_from d f) xs)
 covered_shift d f low [] h c = sym (and_right _ _ refl)
 covered_shift d f low (s ∷ xs) h c =
-    let one = in_shifted d f s h c.1 in
-    let later = covered_shift d f (s.last + 2) xs h c.2 in
-    grind arith
+    let one : (stays d s && in_span f (shifted_span d s)) ≡ (not (eqb f (far_edge_of d)) && in_span (moved_from d f) s) = grind (arith, nat_tests) in
+    grind (arith, covered_shift d f (s.last + 2) xs h c.2)
 
 -- ---- a widening within the day
 
--- the least frame that a list from `low` on can have once it is widened
-abbrev start : Direction → ℕ → ℕ
-start Next low = low
-start Prev low = low - 1
-
-widened_is : (d : Direction) (low : ℕ) (s : Span) → low ≤ s.first → IsSpan s
-    → (start d low ≤ (widened_span d s).first) × IsSpan (widened_span d s) × ((widened_span d s).last + 1 ≤ start d (s.last + 2))
-widened_is d low s from span = grind arith
-
-canonical_widened : (d : Direction) (low : ℕ) (xs : List Span) → IsCanonical low xs → IsCanonical (start d low) (joined (map (widened_span d) xs))
-canonical_widened d low [] c = tt
-canonical_widened d low (s ∷ xs) c =
-    let wide = widened_is d low s c.0 c.1 in
-    canonical_glue (start d low) (widened_span d s) _ wide.0 wide.1 (canonical_from _ _ _ wide.2 (canonical_widened d (s.last + 2) xs c.2))
+pub canonical_widen : (d : Direction) (low high : ℕ) (xs : List Span) → low ≤ (widened_span d (point high)).first → IsCanonical high xs → IsCanonical low (joined (map (widened_span d) xs))
+canonical_widen d low high [] le c = tt
+canonical_widen d low high (s ∷ xs) le c = canonical_glue low (widened_span d s) _ (grind arith) (grind arith) (canonical_widen d ((widened_span d s).last + 1) (s.last + 2) xs (grind arith) c.2)
 
 in_widened : (d : Direction) (f : ℕ) (s : Span) → f < day → IsSpan s → in_span f (widened_span d s) ≡ (in_span f s || (not (eqb f (far_edge_of d)) && in_span (moved_from d f) s))
 in_widened d f s h span = grind (arith, nat_tests)
@@ -203,14 +155,8 @@ pub covered_widened : (d : Direction) (f low : ℕ) (xs : List Span) → f < day
     → is_covered f (joined (map (widened_span d) xs)) ≡ (is_covered f xs || (not (eqb f (far_edge_of d)) && is_covered (moved_from d f) xs))
 covered_widened d f low [] h c = sym (and_right _ _ refl)
 covered_widened d f low (s ∷ xs) h c =
-    let wide = widened_is d low s c.0 c.1 in
-    let glued = covered_glue f (widened_span d s) _ wide.1 (canonical_from _ _ _ wide.2 (canonical_widened d (s.last + 2) xs c.2)) in
-    let one = in_widened d f s h c.1 in
-    let later = covered_widened d f (s.last + 2) xs h c.2 in
-    grind arith
-
-pub canonical_widen : (d : Direction) (xs : List Span) → IsCanonical 0 xs → IsCanonical 0 (joined (map (widened_span d) xs))
-canonical_widen d xs c = canonical_from 0 (start d 0) _ (omega arith) (canonical_widened d 0 xs c)
+    let glued = covered_glue f (widened_span d s) _ (grind arith) (canonical_widen d _ (s.last + 2) xs (grind arith) c.2) in
+    grind (arith, in_widened d f s h c.1, covered_widened d f (s.last + 2) xs h c.2)
 
 -- ---- the span that would leave the day
 
@@ -219,26 +165,14 @@ edge_at_end low (x ∷ []) zero d c e = grind arith
 edge_at_end low (x ∷ t ∷ xs) (suc n) d c e = let later = edge_at_end (x.last + 2) (t ∷ xs) n d c.2 (omega arith) in grind (arith, nat_tests)
 edge_at_end low xs n d c e = absurd (omega arith)
 
-pub edge_at_start : (xs : List Span) (d : Span) → IsCanonical 0 xs → 0 < length xs → without_edge Prev xs ≡ cond (eqb (get_or xs 0 d).last 0) (drop 1 xs) xs
-edge_at_start [] d c some = absurd (omega arith)
-edge_at_start (s ∷ xs) d c some = let later = all_stay (s.last + 2) xs (omega arith) c.2 in grind arith
-  where
-    all_stay : (low : ℕ) (xs : List Span) → 0 < low → IsCanonical low xs → without_edge Prev xs ≡ xs
-    all_stay low [] h c = refl
-    all_stay low (s ∷ xs) h c = let later = all_stay (s.last + 2) xs (omega arith) c.2 in grind (arith, nat_tests)
-
-pub canonical_edge : (d : Direction) (low : ℕ) (xs : List Span) → IsCanonical low xs → IsCanonical low (without_edge d xs)
-canonical_edge d low [] c = tt
-canonical_edge d low (s ∷ xs) c = let later = canonical_edge d (s.last + 2) xs c.2 in grind (arith, canonical_from low (s.last + 2))
+pub edge_at_start : (low : ℕ) (xs : List Span) (d : Span) → IsCanonical low xs → 0 < length xs → without_edge Prev xs ≡ cond (eqb (get_or xs 0 d).last 0) (drop 1 xs) xs
+edge_at_start low [] d c some = absurd (omega arith)
+edge_at_start low (s ∷ []) d c some = grind arith
+edge_at_start low (s ∷ t ∷ xs) d c some = let later = edge_at_start (s.last + 2) (t ∷ xs) d c.2 (omega arith) in grind (arith, nat_tests)
 
 -- ---- round the day
-
--- the frame that comes in is the one that leaves
-pub round_the_day : (d : Direction) (p : ℕ → Bool) (f : ℕ) → eqb f (far_edge_of d) ≡ true → (p (moved_from d f) ≡ p (edge_of d)) × (p f ≡ p (far_edge_of d))
-round_the_day d p f here = grind arith
 
 -- where the frame at which a shift comes in was covered, its neighbour is covered afterwards
 pub neighbour_covered : (d : Direction) (xs : List Span) → IsCanonical 0 xs → is_covered (far_edge_of d) xs ≡ true
     → ((f : ℕ) → far_edge_of d ≤ f + 1 → f ≤ far_edge_of d + 1 → is_covered f (map (shifted_span d) (without_edge d xs)) ≡ false) → ⊥
-neighbour_covered Next xs c there none = false≢true (sym (none 1 (omega arith) (omega arith)) ∙ covered_shift Next 1 0 xs (omega arith) c ∙ there)
-neighbour_covered Prev xs c there none = false≢true (sym (none 2159998 (omega arith) (omega arith)) ∙ covered_shift Prev 2159998 0 xs (omega arith) c ∙ there)
+neighbour_covered d xs c there none = grind (arith, nat_tests, none (moved d (far_edge_of d)), covered_shift d (moved d (far_edge_of d)) 0 xs)

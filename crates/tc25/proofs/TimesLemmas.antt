@@ -1,8 +1,8 @@
 -- What the members of sets of times are, one time at a time.
-use Rattle.tc25.proofs.Words.{and_parts, Any-from_list_any, ap, arith, BelowDay, Bool, cond, contains-every_time, contains-times_where, day, Direction, eq-eqb, eqb, eqb-true}
-use Rattle.tc25.proofs.Words.{every_time, false, get_or, get_or-map, image, IsLeast, just, length, length-map, list_any, list_any_at, ltb, ltb-true, map, MatchOption, moved}
-use Rattle.tc25.proofs.Words.{moved_from, nat_cmp, nat_cmp_total, nat_eq, nat_tests, None, Option, refl, Some, SomeIff, sym, Times, times_where, times_where_below, true}
-use Rattle.tc25.proofs.Words.{true_from_ne_false, unsigned_tied, ℕ, ◌&&◌, ◌<◌, ◌||◌, ◌↔◌, ◌∙◌, ◌≡◌, ◌≤◌}
+use Rattle.tc25.proofs.Words.{[], Any-from_list_any, ap, arith, BelowDay, Bool, cond, contains-every_time, contains-times_where, day, Direction, eq-eqb, eqb, eqb-true}
+use Rattle.tc25.proofs.Words.{every_time, false, get_or, get_or-map, image, IsLeast, just, length, length-map, List, list_any, list_any_at, ltb, map, MatchOption, moved}
+use Rattle.tc25.proofs.Words.{moved_from, nat_cmp, nat_cmp_total, nat_eq, nat_tests, None, Option, refl, slice_get, Some, SomeIff, sym, Times, times_where, times_where_below}
+use Rattle.tc25.proofs.Words.{true, true_from_ne_false, unsigned_tied, ℕ, ◌&&◌, ◌<◌, ◌||◌, ◌↔◌, ◌∙◌, ◌∷◌, ◌≡◌, ◌≤◌}
 use Rattle.std.specs.FinSet as set
 
 -- ---- tests
@@ -10,6 +10,11 @@ use Rattle.std.specs.FinSet as set
 -- two tests are equal where each follows from the other
 pub same_test : (a b : Bool) → (a ≡ true → b ≡ true) → (b ≡ true → a ≡ true) → a ≡ b
 same_test a b there back = grind arith
+
+-- nothing in a list without a first item passes
+pub none_passes : {X : Type 0} (test : X → Bool) (xs : List X) → None ≡ slice_get xs 0 → list_any test xs ≡ false
+none_passes test [] none = refl
+none_passes test (x ∷ xs) none = absurd (cc)
 
 -- ---- the members of each set
 
@@ -48,26 +53,16 @@ image_to h s g there =
     let at = get_or-map h xs w.0 w.1 (h g) w.2 ∙ ap h (w.3 ∙ eqb-true w.1 g w.4) in
     set.contains-from_list_nat (map h xs) (h g) ∙ list_any_at (λ y. nat_eq y (h g)) (map h xs) w.0 (h g) (omega (arith, w.2, length-map xs h)) (eq-eqb _ (h g) at)
 
-pub moved-moved_from : (d : Direction) (f : ℕ) → f < day → f ≡ moved d (moved_from d f)
-moved-moved_from d f h = grind (arith, nat_tests)
-
-pub moved_from-moved : (d : Direction) (f : ℕ) → f < day → moved_from d (moved d f) ≡ f
-moved_from-moved d f h = grind (arith, nat_tests)
-
-pub moved_below : (d : Direction) (f : ℕ) → f < day → moved d f < day
-moved_below d f h = grind (arith, nat_tests)
-
-pub moved_from_below : (d : Direction) (f : ℕ) → f < day → moved_from d f < day
-moved_from_below d f h = grind (arith, nat_tests)
+-- a move there and back, within the day
+pub moved_back : (d : Direction) (f : ℕ) → f < day → (moved d f < day) × (moved_from d f < day) × (f ≡ moved_from d (moved d f)) × (f ≡ moved d (moved_from d f))
+moved_back d f h = grind (arith, nat_tests)
 
 -- the members of a set of times that moved
 pub contains-moved : (d : Direction) (s : Times) → BelowDay s → (f : ℕ) → set.contains (image (moved d) s) f ≡ (ltb f day && set.contains s (moved_from d f))
 contains-moved d s below f =
     same_test _ _
-    (λ there. let w = image_from (moved d) s f there in grind (arith, nat_tests, below w.0, moved_below d w.0, moved_from-moved d w.0))
-    (λ both.
-    let parts = and_parts (ltb f day) _ both in
-    rw (moved-moved_from d f (ltb-true f day parts.0)) (image_to (moved d) s (moved_from d f) parts.1))
+    (λ there. let w = image_from (moved d) s f there in grind (arith, nat_tests, below w.0, moved_back d w.0))
+    (λ both. grind (arith, nat_tests, moved_back d f, image_to (moved d) s (moved_from d f)))
 
 -- ---- the sets that the calls name, from the tests before and after
 
@@ -85,12 +80,12 @@ module _ (p q : ℕ → Bool) where
   pub times_where-moved : (d : Direction) → ((f : ℕ) → f < day → q f ≡ p (moved_from d f)) → times_where q ≡ image (moved d) (times_where p)
   times_where-moved d same =
       times_where-is q _ (λ f.
-      grind (arith, nat_tests, contains-moved d (times_where p) (times_where_below p), contains-times_where p, moved_from_below d f, same f))
+      grind (arith, nat_tests, contains-moved d (times_where p) (times_where_below p), contains-times_where p, moved_back d f, same f))
 
   pub times_where-widened : (d : Direction) → ((f : ℕ) → f < day → q f ≡ (p f || p (moved_from d f))) → times_where q ≡ set.union (times_where p) (image (moved d) (times_where p))
   times_where-widened d same =
       times_where-is q _ (λ f.
-      grind (arith, nat_tests, set.contains-union nat_cmp_total, contains-moved d (times_where p) (times_where_below p), contains-times_where p, moved_from_below d f, same f))
+      grind (arith, nat_tests, set.contains-union nat_cmp_total, contains-moved d (times_where p) (times_where_below p), contains-times_where p, moved_back d f, same f))
 
 module _ (q : ℕ → Bool) where
   pub times_where-empty : ((f : ℕ) → f < day → q f ≡ false) → times_where q ≡ set.empty
@@ -104,14 +99,9 @@ module _ (q : ℕ → Bool) where
 
 -- ---- what a set is not
 
--- a value that is given where a fact holds
-some_given : {A : Type 0} (r : Option A) (P : Type 0) (v : A) → SomeIff r P v → P → r ≡ Some v
-some_given None P v given holds = absurd (given holds)
-some_given (Some x) P v given holds = ap Some given.1
-
 -- a set of one time and no other
 pub just_iff : (q : ℕ → Bool) (x : ℕ) (r : Option ℕ) → SomeIff r (x < day) x → x < day → ((f : ℕ) → f < day → q f ≡ eqb f x) → (t : ℕ) → (r ≡ Some t) ↔ (times_where q ≡ just t)
-just_iff q x r given in_day same t = rw (some_given r (x < day) x given in_day) (
+just_iff q x r given in_day same t = let some : r ≡ Some x = grind arith in rw some (
   λ is. let e : x ≡ t = cc in times_where-just q x in_day same ∙ ap just e,
   λ is. let at = ap (λ s. set.contains s x) is in grind (arith, nat_tests, contains-times_where, contains-just, same x),
 )
@@ -131,16 +121,13 @@ none_iff q empty t = (λ is. absurd (cc), λ is. let at = ap (λ s. set.contains
 pub empty_iff : (q : ℕ → Bool) (r : Bool) → (r ≡ true → (f : ℕ) → f < day → q f ≡ false) → (r ≡ false → (a : ℕ) × (a < day) × (q a ≡ true)) → (r ≡ true) ↔ (times_where q ≡ set.empty)
 empty_iff q r none some = (
   λ is. times_where-empty q (none is),
-  λ is. true_from_ne_false r (λ is_false.
-      let w = some is_false in
-      let at = ap (λ s. set.contains s w.0) is in
-      grind (arith, nat_tests, contains-times_where, set.contains-empty nat_cmp)),
+  λ is. true_from_ne_false r (λ no. let at = ap (λ s. set.contains s (some no).0) is in grind (arith, nat_tests, contains-times_where, set.contains-empty nat_cmp, (some no).1, (some no).2)),
 )
 
 -- the least member of a set, from its test
 pub least_from : (q : ℕ → Bool) (t : ℕ) (r : Option ℕ) → SomeIff r (t < day) t → t < day → q t ≡ true → ((f : ℕ) → f < day → q f ≡ true → t ≤ f)
     → MatchOption r (times_where q ≡ set.empty) (IsLeast (times_where q))
-least_from q t r given in_day there low = rw (some_given r (t < day) t given in_day) (record {
+least_from q t r given in_day there low = let some : r ≡ Some t = grind arith in rw some (record {
   is_member = grind (arith, nat_tests, contains-times_where);
   is_below = λ u has. low u (times_where_below q u has) (grind (arith, nat_tests, contains-times_where));
 })

@@ -1,9 +1,8 @@
 -- The names from elsewhere that the proofs of this crate cite, passed on from one place. Declares nothing.
-pub use Rattle.std.proofs.Common.{[], add-one, add-zero, ap, append-nil, append_assoc, arith, Bool, cond, drop, eqb, Err, false, get_or, inl, inr, is_some, leb, length}
-pub use Rattle.std.proofs.Common.{length-append, length-drop, length-take, List, ltb, map, max, min, nat_eq, None, not, Ok, Option, refl, Result, rules, set, slice_get, Some}
-pub use Rattle.std.proofs.Common.{subst, suc, sym, take, true, Vec, vec_len, zero, ℕ, ◌&&◌, ◌*◌, ◌++◌, ◌+◌, ◌-◌, ◌/◌, ◌<◌, ◌||◌, ◌↔◌, ◌∙◌, ◌∷◌, ◌≡◌, ◌≤◌}
-pub use Rattle.std.proofs.lemmas.Bool.{and_parts, and_right, cases_Bool, eq-eqb, eqb-false, eqb-true, false≢true, le-leb, le-ltb, leb-false, leb-true, lt-leb, lt-ltb, ltb-false}
-pub use Rattle.std.proofs.lemmas.Bool.{ltb-true, or_left, or_right, true_from_ne_false}
+pub use Rattle.std.proofs.Common.{[], add-one, All, ap, append-nil, append_assoc, arith, Bool, cond, drop, eqb, false, get_or, Global, insert, is_ok, is_some, leb, length}
+pub use Rattle.std.proofs.Common.{length-append, length-drop, length-take, List, ltb, map, MatchOption, max, min, nat_cmp, nat_eq, None, not, Option, refl, remove, rules, set}
+pub use Rattle.std.proofs.Common.{slice_get, Some, SomeIff, suc, sym, take, true, unwrap_or, Vec, zero, ℕ, ◌&&◌, ◌*◌, ◌++◌, ◌+◌, ◌-◌, ◌/◌, ◌<◌, ◌||◌, ◌↔◌, ◌∙◌, ◌∷◌, ◌≡◌, ◌≤◌}
+pub use Rattle.std.proofs.lemmas.Bool.{and_right, eq-eqb, eqb-true, false≢true, le-leb, lt-leb, lt-ltb, true_from_ne_false}
 pub use Rattle.std.proofs.lemmas.Bool.Decides.{nat_tests}
 pub use Rattle.std.proofs.lemmas.Grind.{common_steps, drop_more_same}
 pub use Rattle.std.proofs.lemmas.List.{drop-append-le, drop-map, drop-set-lt, drop_all, drop_more, get_or-drop, get_or-map, get_or-set_same, get_or-take, get_or_default}
@@ -15,14 +14,9 @@ pub use Rattle.std.proofs.lemmas.List.Folds.{Any-from_list_any, list_any-append,
 pub use Rattle.std.proofs.lemmas.List.Sorted.{IsNonDecreasingBy-from_default, IsPartitionedBy-leb, IsPartitionedBy-ltb, IsPartitionPoint-from_clause, searched}
 pub use Rattle.std.proofs.lemmas.Result.{on_err_weaker, on_ok_weaker}
 pub use Rattle.std.specs.Cmp.{nat_cmp_total, unsigned_tied}
-pub use Rattle.std.specs.List.{All, insert, list_any, remove}
+pub use Rattle.std.specs.List.{list_any}
 pub use Rattle.std.specs.List.Sorted.{IsNonDecreasingBy}
-pub use Rattle.std.specs.Option.{MatchOption, SomeIff}
-pub use Rattle.std.specs.Ordering.{nat_cmp}
-pub use Rattle.std.specs.Result.{is_ok, OnErr, OnOk}
-pub use Rattle.std.specs.declared.alloc.AllocError.{AllocError}
-pub use Rattle.std.specs.declared.alloc.Global.{Global}
-pub use Rattle.tc25.specs.Day.{day, is_valid_time, next_frame, prev_frame, ReadsAs}
+pub use Rattle.tc25.specs.Day.{day, next_frame, prev_frame, ReadsAs}
 unfoldable pub use Rattle.tc25.specs.Day.{time_of}
 pub use Rattle.tc25.specs.Frames.{Ascending, is_listed}
 pub use Rattle.tc25.specs.ListSet.{members_of}
@@ -31,12 +25,11 @@ pub use Rattle.tc25.specs.SpanList.{lists_of, spans_of}
 pub use Rattle.tc25.specs.Spans.{in_span, is_covered, IsCanonical, IsSpan}
 pub use Rattle.tc25.specs.Times.{BelowDay, every_time, IsLeast, Times, times_where}
 unfoldable pub use Rattle.tc25.specs.Times.{begin_count, frames_below, image, just, span_count}
-pub use Rattle.tc25.specs.Working.Moves.{edge_of, far_edge_of, moved, moved_from}
+pub use Rattle.tc25.specs.Working.Moves.{far_edge_of, moved, moved_from}
 pub use Rattle.tc25.specs.Working.ShortLists.{begin_of, ended_at, IsListPlace, meet, only_span}
 pub use Rattle.tc25.specs.Working.SpanLists.{EndsBefore, glue, IsPlace, joined, stays, with_frame, without_edge}
 pub use Rattle.tc25.specs.Working.SpanMoves.{point, shifted_span, widened_span}
-pub use Rattle.tc25.specs.Working.TimesWhere.{contains-every_time, contains-frames_below, contains-times_where, times_where_below}
+pub use Rattle.tc25.specs.Working.TimesWhere.{contains-every_time, contains-frames_below, contains-retain_nat, contains-times_where, times_where_below}
 pub use Rattle.tc25.specs.declared.direction.Direction.{Direction}
 pub use Rattle.tc25.specs.declared.direction.Direction.TheVariants.{Next, Prev}
 pub use Rattle.tc25.specs.declared.span.Span.{Span}
-pub use native.Mathlib.Nat.{suc-add}

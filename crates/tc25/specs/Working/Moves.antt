@@ -21,5 +21,4 @@ edge_of Prev = 0
 
 -- the frame where it comes in again
 abbrev pub far_edge_of : Direction → ℕ
-far_edge_of Next = 0
-far_edge_of Prev = last_frame
+far_edge_of d = moved d (edge_of d)

@@ -5,7 +5,7 @@ use Rattle.std.proofs.lemmas.Bool.Decides.{nat_tests}
 use Rattle.std.specs.List.{list_any}
 use Rattle.std.specs.FinSet as set
 use Rattle.tc25.specs.Day.{day}
-use Rattle.tc25.specs.Times.{BelowDay, numbers_below, frames_below, every_time, times_where}
+use Rattle.tc25.specs.Times.{Times, BelowDay, numbers_below, frames_below, every_time, times_where}
 
 list_any-numbers_below : (n f : ℕ) → list_any (λ y. nat_eq y f) (numbers_below n) ≡ ltb f n
 list_any-numbers_below zero f = grind (arith, nat_tests)
@@ -19,11 +19,12 @@ pub contains-every_time : (f : ℕ) → set.contains every_time f ≡ ltb f day
 unfolding every_time
 contains-every_time f = contains-frames_below day f
 
+pub contains-retain_nat : (s : Times) (test : ℕ → Bool) (f : ℕ) → set.contains (set.retain s test) f ≡ (set.contains s f && test f)
+contains-retain_nat s test f = set.contains-retain s test f (λ x tie. ap test (sym (set.nat_cmp-IsAntisymmetric f x tie)))
+
 pub contains-times_where : (test : ℕ → Bool) (f : ℕ) → set.contains (times_where test) f ≡ (ltb f day && test f)
 unfolding times_where
-contains-times_where test f =
-    set.contains-retain every_time test f (λ x tie. ap test (sym (set.nat_cmp-IsAntisymmetric f x tie)))
-    ∙ ap (λ b. b && test f) (contains-every_time f)
+contains-times_where test f = contains-retain_nat every_time test f ∙ ap (λ b. b && test f) (contains-every_time f)
 
 -- times that pass a test are below the day
 pub times_where_below : (test : ℕ → Bool) → BelowDay (times_where test)

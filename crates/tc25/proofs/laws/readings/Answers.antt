@@ -1,12 +1,16 @@
 -- What is given is what is read, by the lemmas on one list of bytes.
-use Rattle.tc25.proofs.Lemmas.{ap, is_some, ReadsAs-from_time_of, ReadsAs-from_valid, time_of-from_none, time_of-from_ReadsAs}
+use Rattle.tc25.proofs.Lemmas.{ap, arith, is_some, ReadsAs-from_time_of, Some, time_of, time_of-from_ReadsAs, unwrap_or, ℕ, ◌≡◌}
 use Rattle.tc25.proofs.laws.readings.Goals as goal
 
 pub returns-clause-given : goal.returns-clause-given
 returns-clause-given c = λ bytes t. (ReadsAs-from_time_of bytes t, time_of-from_ReadsAs bytes t)
 
 pub returns-clause-valid : goal.returns-clause-valid
-returns-clause-valid c = λ bytes. (ReadsAs-from_valid bytes, λ read. ap is_some (time_of-from_ReadsAs bytes read.0 read.1))
+returns-clause-valid c = λ bytes. (λ valid. (unwrap_or (time_of bytes) 0, ReadsAs-from_time_of bytes _ (grind arith)), λ read. ap is_some (time_of-from_ReadsAs bytes read.0 read.1))
 
 pub returns-clause-absent : goal.returns-clause-absent
-returns-clause-absent c = λ bytes. (λ none t reads. let some = time_of-from_ReadsAs bytes t reads in cc, time_of-from_none bytes)
+returns-clause-absent c = λ bytes. (
+  λ none t reads. let some = time_of-from_ReadsAs bytes t reads in cc,
+  λ none.
+      let never = λ (t : ℕ) (e : time_of bytes ≡ Some t). none t (ReadsAs-from_time_of bytes t e) in grind arith,
+)

@@ -1,32 +1,22 @@
 -- A shift within the day, and where a frame leaves it that frame is added where it comes in.
-use Rattle.tc25.proofs.Lemmas.{arith, canonical_shift, covered_shift, covered_with, far_edge_of, is_covered, neighbour_covered, on_err_weaker, on_ok_weaker, round_the_day, ◌≡◌}
+use Rattle.tc25.proofs.Lemmas.{arith, canonical_shift, covered_shift, covered_with, far_edge_of, nat_tests, neighbour_covered, on_err_weaker, on_ok_weaker}
 use Rattle.tc25.proofs.spans.shift.Goals as goal
-use Rattle.tc25.proofs.spans.shift.Goals.{then-not-contains-2+in_ok-reserve, else-not-contains-2}
+use Rattle.tc25.proofs.spans.shift.Goals.{else-not-contains-2, then-not-contains-2+in_ok-reserve}
 
 pub returns-then-not-contains-clause-canonical : goal.returns-then-not-contains-clause-canonical
-returns-then-not-contains-clause-canonical c = rw c.shift_within.ensures.shifted (canonical_shift c.args.direction c.args.spans.now.items c.requires)
+returns-then-not-contains-clause-canonical c = rw c.shift_within.ensures.shifted (canonical_shift c.args.direction 0 0 c.args.spans.now.items (omega arith) c.requires)
 
 pub returns-then-not-contains-clause-ok : goal.returns-then-not-contains-clause-ok
-returns-then-not-contains-clause-ok c = λ f h.
-    let at = covered_shift c.args.direction f 0 c.args.spans.now.items h c.requires in
-    let round = round_the_day c.args.direction (λ x. is_covered x c.args.spans.now.items) f in
-    grind arith
+returns-then-not-contains-clause-ok c = λ f h. grind (arith, nat_tests, covered_shift c.args.direction f 0 c.args.spans.now.items h c.requires)
 
 pub add-requires-clause-canonical : goal.add-requires-clause-canonical
-add-requires-clause-canonical c =
-    let same : c.if-not-contains-2.spans.items ≡ c.args.spans.now.items = grind arith in
-    rw (c.shift_within-2.ensures.shifted, same) (canonical_shift c.args.direction c.args.spans.now.items c.requires)
+add-requires-clause-canonical c = grind (arith, canonical_shift c.args.direction 0 0 c.args.spans.now.items (omega arith) c.requires)
 
 pub returns-clause-ok : goal.returns-clause-ok
 returns-clause-ok c =
-    let xs = c.args.spans.now.items in
     let d = c.args.direction in
-    let same : c.if-not-contains-2.spans.items ≡ xs = grind arith in
     on_ok_weaker c.add.result (λ told f h.
-    let added = covered_with f 0 (far_edge_of d) _ (canonical_shift d xs c.requires) (grind arith) in
-    let at = covered_shift d f 0 xs h c.requires in
-    let round = round_the_day d (λ x. is_covered x xs) f in
-    grind arith) c.add.ensures.ok
+    grind (arith, nat_tests, covered_with f 0 (far_edge_of d) _ (canonical_shift d 0 0 c.args.spans.now.items (omega arith) c.requires), covered_shift d f 0 _ h c.requires)) c.add.ensures.ok
 
 pub returns-clause-err : goal.returns-clause-err
 returns-clause-err c =

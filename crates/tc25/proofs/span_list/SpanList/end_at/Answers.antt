@@ -4,13 +4,10 @@ use Rattle.tc25.proofs.span_list.SpanList.end_at.Goals as goal
 
 pub invariant_of-self-clause-filled : goal.invariant_of-self-clause-filled
 invariant_of-self-clause-filled c =
-    filled_set c.args.self.now.rest.items c.in-Some.index c.args.self.now.filled c.index_mut.result.now c.end_at.new.list (omega arith) c.index_mut.ensures.value (λ some.
-    rw (c.end_at.ensures, length-ended_at) some)
+    filled_set _ _ c.args.self.now.filled _ _ (omega arith) c.index_mut.ensures.value (λ some. rw (c.end_at.ensures, length-ended_at) some)
 
 pub invariant_of-self-in-None-clause-begun : goal.invariant_of-self-in-None-clause-begun
 invariant_of-self-in-None-clause-begun c = λ h. rw (c.end_at-in-None.ensures, length-ended_at) (c.args.self.now.begun h)
 
 pub returns-in-Some : goal.returns-in-Some
-returns-in-Some c =
-    let l = c.args.self.now in
-    lists_set l.first.items l.rest.items c.args.place c.in-Some.index c.index_mut.result.now c.end_at.new.list (ended_at c.args.last) (omega arith) (omega arith) c.index_mut.ensures.value c.end_at.ensures
+returns-in-Some c = lists_set _ _ c.args.place c.in-Some.index _ _ (ended_at c.args.last) (omega arith) (omega arith) c.index_mut.ensures.value c.end_at.ensures

@@ -1,6 +1,6 @@
 -- The two lists meet at a span that is joined, or they stay as they are.
-use Rattle.tc25.proofs.Lemmas.{[], add-one, all_filled, ap, append-nil, append_assoc, arith, around, drop, drop-set-lt, drop_all, drop_more, end_to_end, end_to_end-append}
-use Rattle.tc25.proofs.Lemmas.{ended_at, get_or, length, lists_in-get, lists_in-length, lists_of, meet-nil, refl, sym, take, take_more_set, ◌++◌, ◌+◌, ◌<◌, ◌∙◌}
+use Rattle.tc25.proofs.Lemmas.{[], add-one, all_filled, append-nil, append_assoc, arith, around, drop, drop-set-lt, drop_all, drop_more, end_to_end, end_to_end-append, ended_at}
+use Rattle.tc25.proofs.Lemmas.{get_or, length, lists_in-get, lists_in-length, lists_of, meet-nil, take_more_set, ◌+◌, ◌<◌}
 use Rattle.tc25.proofs.span_list.SpanList.join.Goals as goal
 
 pub meeting-requires-clause-some : goal.meeting-requires-clause-some
@@ -15,19 +15,14 @@ returns-in-Some c =
     let p = c.args.place in
     let h : p + 1 < length ls = omega (arith, lists_in-length) in
     let e = ended_at c.in-Some.last (get_or ls p []) in
-    c.drop_first.ensures
-    ∙ rw (c.end_at.ensures, take_more_set ls p e (omega arith), end_to_end-append, append-nil e, drop-set-lt (p + 1) ls p e (omega arith), drop_more ls (p + 1) [] h) (append_assoc _ e _
-    ∙ ap (λ xs. end_to_end (take p ls) ++ xs) (sym (rw (c.list.ensures, c.list-then-place-len.ensures) at (c.in-Some.ensures (end_to_end (drop (p + 1 + 1) ls))))))
+    grind (arith, take_more_set ls p e, end_to_end-append, append-nil, drop-set-lt (p + 1) ls p e, drop_more ls (p + 1) [] h, append_assoc, c.in-Some.ensures (end_to_end (drop (p + 1 + 1) ls)))
 
 pub returns-in_default : goal.returns-in_default
 returns-in_default c =
     let ls = lists_of c.args.self.now in
     let p = c.args.place in
-    let meets = rw (c.list.ensures, c.list-then-place-len.ensures) at c.in_default.ensures in
-    around ls p (omega (arith, lists_in-length)) ∙ rw (drop_more ls (p + 1) [] (omega (arith, lists_in-length)), meets) refl
+    grind (arith, lists_in-length, around ls p, drop_more ls (p + 1) [], c.in_default.ensures (end_to_end (drop (p + 1 + 1) ls)))
 
 pub returns-else-place-len : goal.returns-else-place-len
 returns-else-place-len c =
-    let ls = lists_of c.args.self.now in
-    let p = c.args.place in
-    around ls p (omega (arith, lists_in-length)) ∙ rw (drop_all (p + 1) ls (omega (arith, lists_in-length)), append-nil (get_or ls p []), meet-nil (get_or ls p [])) refl
+    grind (arith, lists_in-length, around (lists_of c.args.self.now) c.args.place, drop_all (c.args.place + 1) (lists_of c.args.self.now), append-nil, meet-nil)
