@@ -1,32 +1,30 @@
 -- The CSV records of a text as head and tail, and what a read of one does to those that are left.
-use Rattle.capture9.proofs.Words.{[], add-one, ap, arith, Bool, Config, default_config, field_after, fields_after, IfSome, inl, inr, IsPlain, length, List, next_record, NextIs}
-use Rattle.capture9.proofs.Words.{None, Option, option_map, Read, Reader, ReadRecord, ReadsNext, records_at, records_from, records_next, refl, Some, State, step, suc, sym}
-use Rattle.capture9.proofs.Words.{TakesFields, unread_records, zero, ℕ, ◌+◌, ◌<◌, ◌∙◌, ◌∷◌, ◌≡◌, ◌⊎◌}
+use Rattle.capture9.proofs.Words.{[], add-one, ap, arith, Bool, Config, default_config, field_after, fields_after, IfSome, IsPlain, length, List, next_record, NextIs, None}
+use Rattle.capture9.proofs.Words.{Option, option_map, Read, Reader, ReadRecord, ReadsNext, records_at, records_from, records_next, refl, Some, State, step, suc, TakesFields}
+use Rattle.capture9.proofs.Words.{unread_records, ℕ, ◌+◌, ◌<◌, ◌∷◌, ◌≡◌, ◌⊎◌}
 
 -- a record took bytes, or it was the last and none are left
 record Falls (bytes : List ℕ) (p : Read) : Type 0 where
   falls : (length p.2 < length bytes) ⊎ ((p.1 ≡ State.StartRecord) × (p.2 ≡ []))
 
 falls-more : (c : ℕ) (bytes : List ℕ) (p : Read) → Falls bytes p → Falls (c ∷ bytes) p
-falls-more c bytes p h = record { falls = elim h.falls [ inl lt ↦ inl (omega arith) | inr q ↦ inr q ] }
+falls-more c bytes p h = record { falls = grind (arith, h.falls) }
 
 next_falls : (cfg : Config) (s : State) (fields : List (List ℕ)) (field bytes : List ℕ) (p : Read)
     → next_record cfg s fields field bytes ≡ Some p → Falls bytes p
 unfolding next_record
 next_falls cfg s fields field [] p e = record { falls = grind arith }
 next_falls cfg s fields field (c ∷ rest) p e =
-    let more = next_falls cfg (step cfg s c).0 (fields_after (step cfg s c).1 fields field) (field_after (step cfg s c).1 c field) rest p in
-    grind (arith, falls-more)
+    grind (arith, falls-more, next_falls cfg (step cfg s c).0 (fields_after (step cfg s c).1 fields field) (field_after (step cfg s c).1 c field) rest p)
 
 pub none_at_start : (cfg : Config) (n : ℕ) → records_from cfg n State.StartRecord [] ≡ []
 unfolding records_from next_record
-none_at_start cfg zero = refl
-none_at_start cfg (suc n) = refl
+none_at_start cfg n = grind arith
 
 -- what is left after a record has as many records in n turns as in m, where that holds of fewer bytes
 after_read : (cfg : Config) (n m : ℕ) (s : State) (bytes : List ℕ) (p : Read) → next_record cfg s [] [] bytes ≡ Some p
     → (length p.2 < length bytes → records_from cfg n p.1 p.2 ≡ records_from cfg m p.1 p.2) → records_from cfg n p.1 p.2 ≡ records_from cfg m p.1 p.2
-after_read cfg n m s bytes p e same = elim (next_falls cfg s [] [] bytes p e).falls [ inl lt ↦ same lt | inr q ↦ rw (q.0, q.1) (none_at_start cfg n ∙ sym (none_at_start cfg m)) ]
+after_read cfg n m s bytes p e same = grind (arith, none_at_start, (next_falls cfg s [] [] bytes p e).falls)
 
 same_next : (f g : State → List ℕ → List (List (List ℕ))) (o : Option Read) → ((p : Read) → o ≡ Some p → f p.1 p.2 ≡ g p.1 p.2) → records_next f o ≡ records_next g o
 same_next f g None same = refl
@@ -59,9 +57,7 @@ takes-next s s2 bytes after found fields (Some p) e h = rw (h.0, h.1, records_at
 -- what a read says of the bytes, said of the CSV records that are left
 takes-fields : (s s2 : State) (before after : Option (List ℕ)) (found : Bool) (fields : List (List ℕ)) → ReadsNext default_config s before after found fields s2
     → IfSome (option_map (records_at s) before) (λ unread. TakesFields unread found fields (option_map (records_at s2) after))
-takes-fields s s2 None after found fields h = tt
-takes-fields s s2 (Some bytes) (Some rest) found fields h = takes-next s s2 bytes rest found fields _ refl h
-takes-fields s s2 before after found fields h = absurd h
+takes-fields s s2 before after found fields h = grind (arith, takes-next)
 
 -- what a read of a record says, said of the CSV records that are left
 pub read-takes : {R : Type 0} (remaining : R → Option (List ℕ)) (old new : Reader R) (found : Bool) (fields : List (List ℕ)) → IsPlain old

@@ -1,8 +1,8 @@
 -- Decimal digits, read one at a time, and the three fields of a CSV record by their places.
 use Rattle.capture9.proofs.Words.{[], all_ascii_digits, and_assoc, and_parts, ap, arith, decimal_value, digit_value, digits_after, digits_value_short, field_at, get_or}
-use Rattle.capture9.proofs.Words.{is_ascii_digit, IsNumeralModel, le-leb, length, length-append, List, lit<, mul-le-mul_left, mul-le-mul_right, nat_tests, None}
-use Rattle.capture9.proofs.Words.{numerals_by_weight, pow-add, pow-le-pow_right, pow-suc, refl, Some, suc, tells_all_ascii_digits, time_in, true, zero, ℕ, ◌&&◌, ◌*◌, ◌++◌, ◌+◌}
-use Rattle.capture9.proofs.Words.{◌-◌, ◌<◌, ◌^◌, ◌∙◌, ◌∷◌, ◌≡◌, ◌≢◌, ◌≤◌}
+use Rattle.capture9.proofs.Words.{is_ascii_digit, IsNumeralModel, length, length-append, List, lit<, mul-le-mul_left, mul-le-mul_right, nat_tests, None, numerals_by_weight}
+use Rattle.capture9.proofs.Words.{pow-add, pow-le-pow_right, pow-suc, refl, Some, suc, tells_all_ascii_digits, time_in, true, zero, ℕ, ◌&&◌, ◌*◌, ◌++◌, ◌+◌, ◌-◌, ◌<◌, ◌^◌, ◌∙◌}
+use Rattle.capture9.proofs.Words.{◌∷◌, ◌≡◌, ◌≢◌, ◌≤◌}
 
 -- what a decimal digit counts
 pub digit_value-digit : (c : ℕ) → is_ascii_digit c ≡ true → digit_value c ≡ c - 48
@@ -12,9 +12,6 @@ digit_value-digit c h = grind (arith, nat_tests)
 pub numerals : IsNumeralModel (λ ds. all_ascii_digits ds ≡ true) decimal_value
 numerals = numerals_by_weight _ tells_all_ascii_digits decimal_value (record { empty = refl; more = λ c cs digit. ap (λ v. v * 10 ^ length cs + decimal_value cs) (grind (arith, nat_tests)) })
 
-pub digit-le : (c : ℕ) → is_ascii_digit c ≡ true → c - 48 ≤ 9
-digit-le c h = grind (arith, nat_tests)
-
 pub pow-positive : (n : ℕ) → 0 < 10 ^ n
 pow-positive zero = lit< tt
 pow-positive (suc n) = rw pow-suc (omega (arith, pow-positive n))
@@ -22,15 +19,12 @@ pow-positive (suc n) = rw pow-suc (omega (arith, pow-positive n))
 -- a number with room for more digits: there is room for it, and one digit more leaves room for the others
 pub room-low : (time n : ℕ) → (time + 1) * 10 ^ suc n ≤ 10 ^ 15 → time * 10 + 10 ≤ 10 ^ 15
 room-low time n room =
-    let known : (time + 1) * (10 ^ n * 10) ≤ 10 ^ 15 = rw (pow-suc 10 n) at room in
-    let least : (time + 1) * 1 ≤ (time + 1) * 10 ^ n = mul-le-mul_left (time + 1) (pow-positive n) in
-    omega arith
+    omega (arith, rw (pow-suc 10 n) at room, mul-le-mul_left (time + 1) (pow-positive n))
 
 pub room-step : (time n c : ℕ) → is_ascii_digit c ≡ true → (time + 1) * 10 ^ suc n ≤ 10 ^ 15 → (time * 10 + (c - 48) + 1) * 10 ^ n ≤ 10 ^ 15
 room-step time n c digit room =
-    let known : (time + 1) * (10 ^ n * 10) ≤ 10 ^ 15 = rw (pow-suc 10 n) at room in
-    let more : (time * 10 + (c - 48) + 1) * 10 ^ n ≤ (time * 10 + 10) * 10 ^ n = mul-le-mul_right (10 ^ n) (omega (arith, digit-le c digit)) in
-    omega arith
+    let more : (time * 10 + (c - 48) + 1) * 10 ^ n ≤ (time * 10 + 10) * 10 ^ n = mul-le-mul_right (10 ^ n) (grind (arith, nat_tests)) in
+    omega (arith, rw (pow-suc 10 n) at room)
 
 -- a value by the digits up to a place and those from there on, where one more is read
 pub value-step : (time c : ℕ) (rest : List ℕ) → is_ascii_digit c ≡ true
@@ -40,8 +34,7 @@ value-step time c rest digit = rw (pow-suc, digit_value-digit c digit) (omega ar
 -- a time has at most fifteen digits
 pub time_in-lt : (field : List ℕ) (time : ℕ) → time_in field ≡ Some time → time < 10 ^ 15
 time_in-lt field time e =
-    let read : (length field ≤ 15) × (all_ascii_digits field ≡ true) × (decimal_value field ≡ time) = grind (arith, nat_tests) in
-    omega (arith, digits_value_short numerals field 15 read.1 read.0)
+    grind (arith, nat_tests, digits_value_short numerals field 15)
 
 -- ---- digits in two parts
 
@@ -60,14 +53,12 @@ eight-low xs n h size = let low = λ (all : all_ascii_digits xs ≡ true). digit
 pub room-after : (n k : ℕ) → n < 10 ^ 8 → k ≤ 7 → (n + 1) * 10 ^ k ≤ 10 ^ 15
 room-after n k low short =
     let power : 10 ^ k ≤ 10 ^ 7 = pow-le-pow_right {n = 10} (lit< tt) short in
-    let most : (n + 1) * 10 ^ k ≤ 10 ^ 8 * 10 ^ k = mul-le-mul_right (10 ^ k) (omega arith) in
-    omega arith
+    omega (arith, mul-le-mul_right (10 ^ k) low)
 
 -- a field of 1 to 15 bytes
 pub time_in-digits : (field : List ℕ) → 0 < length field → length field ≤ 15 → time_in field ≡ digits_after 0 field
 time_in-digits field some few =
-    let value : 0 * 10 ^ length field + decimal_value field ≡ decimal_value field = omega arith in
-    rw (le-leb 1 (length field) some, le-leb (length field) 15 few, value) refl
+    grind (arith, nat_tests)
 
 -- such a field in two parts: where the first is none, the whole is none; else the second goes on after it
 module _ (field front rest : List ℕ) (whole : field ≡ front ++ rest) (some : 0 < length field) (few : length field ≤ 15) where

@@ -1,7 +1,7 @@
 -- The records that a `Records` has given, as rows that some text can hold.
-use Rattle.capture9.proofs.Words.{[], All-push, arith, Bool, CanBeRows, CanFollow, CaptureError, false, get_or, GivesRecord, GivesRefusal, is_of_text, IsNonDecreasingBy-push}
-use Rattle.capture9.proofs.Words.{IsPlaced, IsTrue, last_time, length, length_push, LineByte, List, nil_from_length, no_rows, None, Progress, Reading, refl, Some, suc, sym, true}
-use Rattle.capture9.proofs.Words.{zero, ℕ, ◌++◌, ◌-◌, ◌<◌, ◌^◌, ◌∙◌, ◌∷◌, ◌≡◌}
+use Rattle.capture9.proofs.Words.{[], All-push, arith, CanBeRows, CaptureError, get_or, GivesRecord, GivesRefusal, is_of_text, IsNonDecreasingBy-push, IsTrue, last_time, length}
+use Rattle.capture9.proofs.Words.{length_push, LineByte, List, nil_from_length, no_rows, None, Progress, Reading, refl, Some, suc, sym, zero, ℕ, ◌++◌, ◌-◌, ◌<◌, ◌^◌, ◌∙◌, ◌∷◌}
+use Rattle.capture9.proofs.Words.{◌≡◌}
 use Rattle.capture9.proofs.LawLemmas.{can-follow}
 
 -- these are the records that were given
@@ -28,8 +28,8 @@ last-at before items n d size = absurd (omega arith)
 pub given-more : {R : Type 0} (items : List LineByte) (progress after : Progress R) (r : LineByte) → AreGiven items progress → GivesRecord progress r after → AreGiven (items ++ r ∷ []) after
 given-more items progress after r h gives = record {
   can_be = record {
-    limit = let within = gives.within in let long = count in omega arith;
-    in_order = IsNonDecreasingBy-push (λ (x : LineByte). x.time_us) items r h.can_be.in_order (λ d some. let low = gives.in_order in let last = last-at 0 items (length items - 1) d (omega arith) in let time = h.last_time in omega arith);
+    limit = omega (arith, gives.within, count);
+    in_order = IsNonDecreasingBy-push (λ (x : LineByte). x.time_us) items r h.can_be.in_order (λ d some. omega (arith, gives.in_order, last-at 0 items (length items - 1) d (omega arith), h.last_time));
     in_range = All-push (λ (x : LineByte). x.time_us < 10 ^ 15) items r h.can_be.in_range gives.in_range;
     bytes = All-push (λ (x : LineByte). x.byte < 256) items r h.can_be.bytes gives.is_byte;
     fault = tt;
@@ -39,7 +39,7 @@ given-more items progress after r h gives = record {
 }
   where
     count : after.given ≡ length (items ++ r ∷ [])
-    count = let old = h.given in let new = gives.given in let long = length_push items r in omega arith
+    count = omega (arith, h.given, gives.given, length_push items r)
 
 -- a refusal of the text after these records
 pub given-refused : {R : Type 0} (items : List LineByte) (progress after : Progress R) (e : CaptureError) → AreGiven items progress → progress.standing ≡ Reading → GivesRefusal progress e after → IsTrue (is_of_text e.kind)
@@ -49,15 +49,5 @@ given-refused items progress after e h reads refusal text = record {
   in_order = h.can_be.in_order;
   in_range = h.can_be.in_range;
   bytes = h.can_be.bytes;
-  fault = by after.is_headed refusal.place;
+  fault = grind (arith, nil_from_length items, can-follow e.kind items e.row text (refusal.place.at_its_row text));
 }
-  where
-    by : (headed : Bool) → IsPlaced headed after.given e → CanFollow e.kind items e.row
-    by true placed =
-        let place = placed.row in
-        let same = refusal.given in
-        let count = h.given in
-        can-follow e.kind items e.row text (refusal.place.at_its_row text) (omega arith) h.can_be.limit (λ late. let low = refusal.backwards reads late in let time = h.last_time in omega arith)
-    by false placed =
-        let none : items ≡ [] = nil_from_length items (sym h.given ∙ sym refusal.given ∙ placed.none_given refl) in
-        rw ((refusal.place.at_its_row text).header.1 placed.row) (none, placed.row)

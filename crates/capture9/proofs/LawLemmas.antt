@@ -1,7 +1,7 @@
 -- What always holds of the rows of a text: they are rows that some text can hold.
-use Rattle.capture9.proofs.Words.{[], All, All-cons, arith, bad_row, CanBeRows, CanFollow, CaptureError, CaptureKind, Err, false, good_row, HasHeader, headed_rows, IfSome}
-use Rattle.capture9.proofs.Words.{if◌then◌else◌, is_header, is_of_text, IsAfter, IsAtItsRow, IsNonDecreasingBy, IsNonDecreasingBy-insert, IsTrue, last_time, length, LineByte}
-use Rattle.capture9.proofs.Words.{List, most_rows, None, Ok, refl, row_of, Rows, rows_from, Some, true, ℕ, ◌+◌, ◌<◌, ◌^◌, ◌↔◌, ◌∷◌, ◌≡◌, ◌≤◌}
+use Rattle.capture9.proofs.Words.{[], All, All-cons, arith, bad_row, CanBeRows, CanFollow, CaptureError, CaptureKind, Err, good_row, HasHeader, headed_rows, is_header}
+use Rattle.capture9.proofs.Words.{is_of_text, IsAfter, IsAtItsRow, IsNonDecreasingBy, IsNonDecreasingBy-insert, IsTrue, last_time, length, LineByte, List, most_rows, Ok, refl}
+use Rattle.capture9.proofs.Words.{row_of, Rows, rows_from, Some, true, ℕ, ◌+◌, ◌<◌, ◌^◌, ◌↔◌, ◌∷◌, ◌≡◌, ◌≤◌}
 use Rattle.capture9.proofs.RuleLemmas.{at-its-row, row_of-err, row_of-ok, row_then-by, rows_from-has_header}
 
 -- the fault of rows that begin with this number, after a row of this time
@@ -23,8 +23,7 @@ pub record HoldsFrom (number before : ℕ) (rows : Rows) : Type 0 where
 holds-bad : (number before : ℕ) (fields : List (List ℕ)) (k : CaptureKind) → row_of number before fields ≡ Err k → HoldsFrom number before (bad_row k number)
 holds-bad number before fields k bad =
     let known = row_of-err number before fields k bad in
-    let text = known.of_text in
-    grind (arith, at-its-row)
+    grind (arith, at-its-row, known.of_text)
 
 holds-good : (number before : ℕ) (fields : List (List ℕ)) (r : LineByte) (rest : Rows) → row_of number before fields ≡ Ok r → HoldsFrom (number + 1) r.time_us rest
     → HoldsFrom number before (good_row r rest)
@@ -32,16 +31,12 @@ holds-good number before fields r rest good more =
     let known = row_of-ok number before fields r good in
     let low = known.in_order in
     record {
-      limit = λ h. let within = known.within in let left = more.limit (omega arith) in omega arith;
+      limit = λ h. omega (arith, known.within, more.limit);
       after = All-cons (λ x. before ≤ x.time_us) r rest.records low (λ k d h. let high = more.after k d h in omega arith);
       in_order = IsNonDecreasingBy-insert (λ x. x.time_us) rest.records 0 r more.in_order (omega arith) (λ k d low. absurd (omega arith)) (λ k d low within. more.after k d within);
       in_range = All-cons (λ x. x.time_us < 10 ^ 15) r rest.records known.in_range more.in_range;
       bytes = All-cons (λ x. x.byte < 256) r rest.records known.is_byte more.bytes;
-      fault = λ first last e h.
-          let within = known.within in
-          let wrong = more.fault (omega arith) (omega arith) e h in
-          let place = wrong.row in
-          record { of_text = wrong.of_text; at_its_row = wrong.at_its_row; row = omega arith; backwards = wrong.backwards };
+      fault = λ first last e h. let within = known.within in let wrong = more.fault (omega arith) (omega arith) e h in grind arith;
     }
 
 pub holds-from : (number before : ℕ) (unread : List (List (List ℕ))) → HoldsFrom number before (rows_from number before unread)
@@ -54,12 +49,7 @@ holds-from number before (fields ∷ rest) =
 pub has-header : (records : List (List (List ℕ)))
     → HasHeader (headed_rows records) ↔ ((fields : List (List ℕ)) × (rest : List (List (List ℕ))) × (records ≡ fields ∷ rest) × (is_header fields ≡ true))
 has-header [] = (λ h. absurd (h refl), λ w. let none = w.2 in cc)
-has-header (fields ∷ rest) =
-    elim (is_header fields) as (λ headed. is_header fields ≡ headed → HasHeader (if headed then rows_from 1 0 rest else bad_row CaptureKind.Header 0)
-    ↔ ((first : List (List ℕ)) × (others : List (List (List ℕ))) × (fields ∷ rest ≡ first ∷ others) × (is_header first ≡ true))) [
-      | true ↦ λ q. (λ h. (fields, rest, refl, q), λ w. rows_from-has_header 1 0 rest)
-      | false ↦ λ q. (λ h. absurd (h refl), λ w. let same = w.2 in let header = w.3 in absurd cc)
-    ] refl
+has-header (fields ∷ rest) = (λ h. (fields, rest, refl, grind arith), λ w. grind (arith, rows_from-has_header 1 0 rest))
 
 -- ---- rows that some text can hold
 
@@ -68,34 +58,18 @@ pub can-follow : (k : CaptureKind) (items : List LineByte) (row : ℕ) → IsTru
     → (k ≡ CaptureKind.Backwards → 0 < last_time 0 items) → CanFollow k items row
 can-follow k items row t placed place limit late = grind arith
 
-no-text : CanBeRows (bad_row CaptureKind.Header 0)
-no-text = grind arith
-
 headed-can-be : (rows : Rows) → HoldsFrom 1 0 rows → CanBeRows rows
-headed-can-be rows h = record {
+headed-can-be rows h = let limit : length rows.records ≤ most_rows = omega (arith, h.limit (omega arith)) in record {
   limit = limit;
   in_order = h.in_order;
   in_range = h.in_range;
   bytes = h.bytes;
-  fault = elim rows.fault as (λ o. rows.fault ≡ o → IfSome o (λ e. CanFollow e.kind rows.records e.row)) [
-    | None ↦ λ same. tt
-    | Some e ↦ λ same.
-        let wrong = h.fault (omega arith) (omega arith) e same in
-        let place = wrong.row in
-        can-follow e.kind rows.records e.row wrong.of_text wrong.at_its_row (omega arith) limit wrong.backwards
-  ] refl;
+  fault = grind (arith, h.fault, can-follow);
 }
-  where
-    limit : length rows.records ≤ most_rows
-    limit = let low = h.limit (omega arith) in omega arith
 
 pub can-be : (csv : List (List (List ℕ))) → CanBeRows (headed_rows csv)
-can-be [] = no-text
-can-be (fields ∷ rest) =
-    elim (is_header fields) as (λ headed. CanBeRows (if headed then rows_from 1 0 rest else bad_row CaptureKind.Header 0)) [
-      | true ↦ headed-can-be (rows_from 1 0 rest) (holds-from 1 0 rest)
-      | false ↦ no-text
-    ]
+can-be [] = grind arith
+can-be (fields ∷ rest) = grind (arith, headed-can-be (rows_from 1 0 rest) (holds-from 1 0 rest))
 
 -- what a fault that can follow records says of itself
 pub of-fault : (csv : List (List (List ℕ))) (e : CaptureError) → (headed_rows csv).fault ≡ Some e → IsTrue (is_of_text e.kind) × IsAfter (headed_rows csv).records e

@@ -1,8 +1,7 @@
 -- What the reading of one CSV record does to a `Records`, as its callers see it.
-use Rattle.capture9.proofs.Words.{[], arith, bad_row, Bool, CaptureError, CaptureKind, Err, false, GivesRecord, GivesRefusal, HasHeader, HoldsInRecords, IfSome, inl, inr}
-use Rattle.capture9.proofs.Words.{is_of_text, IsAfter, IsAtItsRow, IsPlaced, IsTrue, length, LineByte, List, most_rows, nil_from_length, None, Ok, Option, option_map, Progress}
-use Rattle.capture9.proofs.Words.{Reader, refl, row_of, rows_from, rows_to_come, Some, Standing, sym, TakesFields, TakesRecord, true, unread_rows, ℕ, ◌+◌, ◌<◌, ◌∙◌, ◌≡◌, ◌≤◌}
-use Rattle.capture9.proofs.Words.{◌⊎◌}
+use Rattle.capture9.proofs.Words.{arith, bad_row, Bool, CaptureError, CaptureKind, Err, false, GivesRecord, GivesRefusal, HasHeader, HoldsInRecords, IfSome, is_of_text, IsAfter}
+use Rattle.capture9.proofs.Words.{IsAtItsRow, IsPlaced, IsTrue, length, LineByte, List, most_rows, nil_from_length, None, Ok, Option, option_map, Progress, Reader, refl, row_of}
+use Rattle.capture9.proofs.Words.{rows_from, rows_to_come, Some, Standing, TakesFields, TakesRecord, true, unread_rows, ℕ, ◌+◌, ◌<◌, ◌≡◌, ◌≤◌}
 use Rattle.capture9.proofs.RuleLemmas.{at-its-row, row_of-err, row_of-ok, rows_from-has_header}
 
 -- how callers see a `Records` with these fields, these CSV records unread, and this reader
@@ -27,9 +26,7 @@ pub gives-record : {R : Type 0} (source left : R) (s : Standing) (headed : Bool)
     → GivesRecord (progress_of s headed given last_time unread source) r (progress_of s headed (given + 1) r.time_us after left)
 gives-record source left s headed given last_time unread after fields r reads past read good =
     let known = row_of-ok (given + 1) last_time fields r good in
-    let has_header = past-header given last_time unread in
-    let rows = takes-row given last_time unread after fields r read good in
-    rw (reads, past) search
+    rw (reads, past) (search (past-header given last_time unread, takes-row given last_time unread after fields r read good))
 
 -- what is wrong with the first of the rows to come, if it is a fault of the text
 pub record IsRowFault (given last_time : ℕ) (unread : Option (List (List (List ℕ)))) (k : CaptureKind) : Type 0 where
@@ -46,15 +43,13 @@ pub bad-first : (given last_time : ℕ) (unread after : Option (List (List (List
     → IfSome unread (λ rows. TakesFields rows true fields after) → row_of (given + 1) last_time fields ≡ Err k → IsRowFault given last_time unread k
 bad-first given last_time unread after fields k within read bad =
     let known = row_of-err (given + 1) last_time fields k bad in
-    let at_its_row = at-its-row (given + 1) last_time k (omega arith) (omega arith) known in
-    grind arith
+    grind (arith, at-its-row (given + 1) last_time k (omega arith) (omega arith) known)
 
 pub refuses-row : {R : Type 0} (source left : R) (s new : Standing) (headed : Bool) (given last_time : ℕ) (unread after : Option (List (List (List ℕ)))) (k : CaptureKind) (e : CaptureError)
     → s ≡ Standing.Reading → headed ≡ true → e ≡ record { kind = k; row = given + 1 } → new ≡ Standing.Refused e → IsRowFault given last_time unread k
     → GivesRefusal (progress_of s headed given last_time unread source) e (progress_of new headed given last_time after left)
 refuses-row source left s new headed given last_time unread after k e reads past is marked wrong =
-    let has_header = past-header given last_time unread in
-    rw (reads, past, marked, is) (grind arith)
+    rw (reads, past, marked, is) (grind (arith, past-header given last_time unread))
 
 -- what stands inside a `Records` that was refused at a row
 pub refused-holds : {R : Type 0} (left : Reader R) (new : Standing) (headed : Bool) (given last_time : ℕ) (k : CaptureKind) (e : CaptureError)
@@ -69,8 +64,4 @@ refuses-again source s headed given last_time unread e refused placed = rw refus
 
 -- where a refusal stands that came after these records
 pub refused-after : {R : Type 0} (old new : Progress R) (e : CaptureError) (items : List LineByte) → GivesRefusal old e new → old.given ≡ length items → IsAfter items e
-refused-after old new e items refusal count = record { row = by new.is_headed refusal.place; at_its_row = refusal.place.at_its_row }
-  where
-    by : (headed : Bool) → IsPlaced headed new.given e → (e.row ≡ length items + 1) ⊎ ((e.row ≡ 0) × (items ≡ []))
-    by true placed = inl (let same = refusal.given in let place = placed.row in omega arith)
-    by false placed = inr (placed.row, nil_from_length items (sym count ∙ sym refusal.given ∙ placed.none_given refl))
+refused-after old new e items refusal count = grind (arith, nil_from_length items)

@@ -1,8 +1,8 @@
 -- What a row is read as, against the rules of a row, each on its own, and what is then known of it.
-use Rattle.capture9.proofs.Words.{[], All, All-from_recursion, AllByRecursion, ap, AreGood, AreLeft, arith, bad_row, byte_in, CaptureKind, cases_lt, Err, fields_record, good_row}
-use Rattle.capture9.proofs.Words.{HasFirstPart, HasHeader, headed_rows, hex_digit_of, inl, inr, is_header, is_of_text, IsAtItsRow, IsFirstOf, IsTrue, last_time, le-ltb, length}
-use Rattle.capture9.proofs.Words.{LineByte, List, lt-ltb, most_rows, nat_tests, None, Ok, Option, pair_value, record_of, refl, Result, row_kinds, row_of, row_then, RowBreaks}
-use Rattle.capture9.proofs.Words.{Rows, rows_from, Some, Spell, time_in, true, Wire, wire_in, ℕ, ◌++◌, ◌+◌, ◌<◌, ◌^◌, ◌↔◌, ◌∷◌, ◌≡◌, ◌≢◌, ◌≤◌}
+use Rattle.capture9.proofs.Words.{[], All-from_recursion, AllByRecursion, ap, AreGood, AreLeft, arith, bad_row, byte_in, CaptureKind, cond_both, Err, fields_record, good_row}
+use Rattle.capture9.proofs.Words.{HasFirstPart, HasHeader, headed_rows, hex_digit_of, is_header, is_of_text, IsAtItsRow, IsFirstOf, IsTrue, last_time, length, LineByte, List}
+use Rattle.capture9.proofs.Words.{most_rows, nat_lt, nat_tests, None, Ok, Option, record_of, refl, Result, row_kinds, row_of, row_then, RowBreaks, Rows, rows_from, Some, Spell}
+use Rattle.capture9.proofs.Words.{time_in, true, Wire, wire_in, ℕ, ◌++◌, ◌+◌, ◌<◌, ◌^◌, ◌↔◌, ◌∷◌, ◌≡◌, ◌≢◌, ◌≤◌}
 use Rattle.capture9.proofs.FieldLemmas.{time_in-lt}
 
 -- what a row is read as: the record that it spells where it breaks no rule, and else the first rule that it breaks
@@ -18,20 +18,11 @@ record-read : (number before : ℕ) (a b c : List ℕ) (time : Option ℕ) (wire
     → time_in a ≡ time → wire_in b ≡ wire → byte_in c ≡ byte → IsRead number before (a ∷ b ∷ c ∷ []) (record_of before time wire byte)
 record-read number before a b c None wire byte few t w y = first-of _ (CaptureKind.TooMany ∷ CaptureKind.Fields ∷ []) _ CaptureKind.Time (few, (λ h. h refl, tt)) t
 record-read number before a b c (Some time) None byte few t w y = first-of _ (CaptureKind.TooMany ∷ CaptureKind.Fields ∷ CaptureKind.Time ∷ []) _ CaptureKind.Wire (few, (λ h. h refl, (λ h. cc, tt))) w
-record-read number before a b c (Some time) (Some wire) None few t w y =
-    first-of _ (CaptureKind.TooMany ∷ CaptureKind.Fields ∷ CaptureKind.Time ∷ CaptureKind.Wire ∷ []) _ CaptureKind.Byte (few, (λ h. h refl, (λ h. cc, (λ h. cc, tt)))) y
+record-read number before a b c (Some time) (Some wire) None few t w y = first-of _ (CaptureKind.TooMany ∷ CaptureKind.Fields ∷ CaptureKind.Time ∷ CaptureKind.Wire ∷ []) _ _ (grind arith) y
 record-read number before a b c (Some time) (Some wire) (Some byte) few t w y =
-    elim (cases_lt time before) [
-      | inl low ↦ rw (lt-ltb time before low) (first-of _ (CaptureKind.TooMany ∷ CaptureKind.Fields ∷ CaptureKind.Time ∷ CaptureKind.Wire ∷ CaptureKind.Byte ∷ []) _ CaptureKind.Backwards
-          (few, (λ h. h refl, (λ h. cc, (λ h. cc, (λ h. cc, tt))))) (time, t, low))
-      | inr high ↦ rw (le-ltb time before high) ((t, w, y), none high)
-    ]
-  where
-    none : before ≤ time → (k : CaptureKind) → ¬ (RowBreaks k number before (a ∷ b ∷ c ∷ []))
-    none high CaptureKind.TooMany = few
-    none high CaptureKind.Fields = λ h. h refl
-    none high CaptureKind.Backwards = λ h. let same : Some time ≡ Some h.0 = cc in let one : time ≡ h.0 = cc in let low = h.2 in omega arith
-    none high k = λ h. grind arith
+    cond_both (nat_lt time before) _ _ (IsRead number before (a ∷ b ∷ c ∷ [])) (λ low.
+    first-of _ (CaptureKind.TooMany ∷ CaptureKind.Fields ∷ CaptureKind.Time ∷ CaptureKind.Wire ∷ CaptureKind.Byte ∷ []) _ CaptureKind.Backwards (grind arith) (time, t, grind (arith, nat_tests)))
+    (λ high. ((t, w, y), λ k h. grind (arith, nat_tests)))
 
 fields-read : (number before : ℕ) (fields : List (List ℕ)) → ¬ (most_rows < number) → IsRead number before fields (fields_record before fields)
 fields-read number before (a ∷ b ∷ c ∷ []) few = record-read number before a b c (time_in a) (wire_in b) (byte_in c) few refl refl refl
@@ -39,10 +30,8 @@ fields-read number before fields few = first-of _ (CaptureKind.TooMany ∷ []) _
 
 pub row-read : (number before : ℕ) (fields : List (List ℕ)) → IsRead number before fields (row_of number before fields)
 row-read number before fields =
-    elim (cases_lt most_rows number) [
-      | inl over ↦ rw (lt-ltb most_rows number over) (first-of _ [] _ CaptureKind.TooMany tt over)
-      | inr few ↦ rw (le-ltb most_rows number few) (fields-read number before fields (λ h. omega arith))
-    ]
+    cond_both (nat_lt most_rows number) _ _ (IsRead number before fields) (λ over. first-of _ [] _ CaptureKind.TooMany tt (grind (arith, nat_tests))) (λ few.
+    fields-read number before fields (grind (arith, nat_tests)))
 
 -- what holds of a row that was read and the rows behind it, and of one that breaks a rule
 pub row_then-by : (P : Rows → Type 0) (number before : ℕ) (fields : List (List ℕ)) (rest : ℕ → Rows) → ((r : LineByte) → row_of number before fields ≡ Ok r → P (good_row r (rest r.time_us)))
@@ -78,16 +67,9 @@ first-part header rows records same good =
 hex-lt : (c d : ℕ) → hex_digit_of c ≡ Some d → d < 16
 hex-lt c d e = grind (arith, nat_tests)
 
-pair-lt : (high low : Option ℕ) (b : ℕ) → ((d : ℕ) → high ≡ Some d → d < 16) → ((d : ℕ) → low ≡ Some d → d < 16) → pair_value high low ≡ Some b → b < 256
-pair-lt high low b h l e = grind arith
-
 byte-lt : (field : List ℕ) (b : ℕ) → byte_in field ≡ Some b → b < 256
-byte-lt (x ∷ y ∷ []) b e = pair-lt (hex_digit_of x) (hex_digit_of y) b (hex-lt x) (hex-lt y) e
+byte-lt (x ∷ y ∷ []) b e = grind (arith, hex-lt x, hex-lt y)
 byte-lt field b e = cc
-
-earlier : (fields : List (List ℕ)) (number before : ℕ) → RowBreaks CaptureKind.Backwards number before fields → 0 < before
-earlier (a ∷ b ∷ c ∷ []) number before h = let low = h.2 in omega arith
-earlier fields number before h = absurd h
 
 -- ---- what is known of a row that was read, and of one that was refused
 
@@ -115,36 +97,24 @@ pub record IsRowKind (number before : ℕ) (k : CaptureKind) : Type 0 where
   pub too_many : (k ≡ CaptureKind.TooMany) ↔ (most_rows < number)
   pub backwards : k ≡ CaptureKind.Backwards → 0 < before
 
-breaks : (k : CaptureKind) (number before : ℕ) (fields : List (List ℕ)) → RowBreaks k number before fields → IsTrue (is_of_text k) × (k ≢ CaptureKind.Header)
-breaks k number before fields holds = grind arith
-
 -- a row breaks rules of a text, and none of the header
 pub row_of-err : (number before : ℕ) (fields : List (List ℕ)) (k : CaptureKind) → row_of number before fields ≡ Err k → IsRowKind number before k
 row_of-err number before fields k e =
     let read = rw e at (row-read number before fields) in
-    let told = breaks k number before fields read.holds in
     record {
-      of_text = told.0;
-      no_header = told.1;
-      too_many = (λ is. rw is at read.holds, first read.before read.after read.split read.none_before);
-      backwards = λ is. earlier fields number before (rw is at read.holds);
+      of_text = grind (arith, read.holds);
+      no_header = grind (arith, read.holds);
+      too_many = (λ is. rw is at read.holds, λ over. grind (arith, nat_tests));
+      backwards = λ is. let late = rw is at read.holds in grind arith;
     }
-  where
-    first : (js after : List CaptureKind) → row_kinds ≡ js ++ k ∷ after → All (λ j. ¬ (RowBreaks j number before fields)) js → most_rows < number → k ≡ CaptureKind.TooMany
-    first [] after split none over = cc
-    first (j ∷ js) after split none over = let is : j ≡ CaptureKind.TooMany = cc in absurd ((rw is at (none 0 j (omega arith))) over)
 
 -- the fault of a row, of which there is one too many at most, is where that kind of fault is
 pub at-its-row : (number before : ℕ) (k : CaptureKind) → 1 ≤ number → number ≤ most_rows + 1 → IsRowKind number before k → IsAtItsRow (record { kind = k; row = number })
-at-its-row number before k low within known = record {
-  header = (λ h. absurd (known.no_header h), λ zero. absurd (omega arith));
-  too_many = (λ h. let over = known.too_many.0 h in omega arith, λ last. known.too_many.1 (omega arith));
-}
+at-its-row number before k low within known = grind arith
 
 -- behind the header no row has the header's fault
 pub rows_from-has_header : (number before : ℕ) (unread : List (List (List ℕ))) → HasHeader (rows_from number before unread)
 rows_from-has_header number before [] = λ e. cc
 rows_from-has_header number before (fields ∷ rest) =
     row_then-by HasHeader number before fields (λ time. rows_from (number + 1) time rest) (λ r e. rows_from-has_header (number + 1) r.time_us rest) (λ k e same.
-    let known = row_of-err number before fields k e in
-    grind arith)
+    grind (arith, row_of-err number before fields k e))

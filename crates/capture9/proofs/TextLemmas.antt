@@ -1,9 +1,9 @@
 -- A text for rows that some text can hold.
 use Rattle.capture9.proofs.Words.{[], add-zero, All, ap, append-nil, arith, bad_row, byte_in, CanBeRows, CanFollow, CaptureError, CaptureKind, codes, Controller, decimal}
 use Rattle.capture9.proofs.Words.{decimal_nonempty, Deck, default_config, default_writer, digits_decimal, digits_value-decimal, false, fields_text, get_or, hex_digit_of}
-use Rattle.capture9.proofs.Words.{if◌then◌else◌, is_blank, IsNextRow, IsNonDecreasingBy, IsOfSomeText, last_time, le-leb, length, length-decimal-le, LineByte, List, lit<, map}
-use Rattle.capture9.proofs.Words.{most_rows, nat_lt, nat_tests, no_rows, None, Ok, Option, read-write, read_back, records_at, refl, row_of, row_text, Rows, rows_from, rows_of}
-use Rattle.capture9.proofs.Words.{rows_text, Some, State, strip_bom, suc, time_in, true, Wire, wire_in, ℕ, ◌%◌, ◌*◌, ◌++◌, ◌+◌, ◌/◌, ◌<◌, ◌^◌, ◌∙◌, ◌∷◌, ◌≡◌, ◌≢◌, ◌≤◌}
+use Rattle.capture9.proofs.Words.{if◌then◌else◌, is_blank, IsNonDecreasingBy, IsOfSomeText, last_time, le-leb, length, length-decimal-le, LineByte, List, lit<, map, most_rows}
+use Rattle.capture9.proofs.Words.{nat_lt, nat_tests, no_rows, None, Ok, Option, read-write, read_back, records_at, refl, row_of, row_text, Rows, rows_from, rows_of, rows_text}
+use Rattle.capture9.proofs.Words.{Some, State, strip_bom, suc, time_in, Wire, wire_in, ℕ, ◌%◌, ◌*◌, ◌++◌, ◌+◌, ◌/◌, ◌<◌, ◌^◌, ◌∙◌, ◌∷◌, ◌≡◌, ◌≢◌, ◌≤◌}
 use Rattle.capture9.proofs.FieldLemmas.{numerals}
 use Rattle.capture9.proofs.CsvLemmas.{none_at_start, records_at-some}
 
@@ -12,8 +12,7 @@ use Rattle.capture9.proofs.CsvLemmas.{none_at_start, records_at-some}
 time-read : (time : ℕ) → time < 10 ^ 15 → time_in (decimal time) ≡ Some time
 time-read time h =
     let small : time < 2 ^ 64 = omega arith in
-    let few = length-decimal-le 15 time (lit< tt) h small in
-    rw (le-leb 1 _ (decimal_nonempty time small), le-leb _ 15 few, digits_decimal numerals time small, digits_value-decimal numerals time small) refl
+    rw (le-leb 1 _ (decimal_nonempty time small), le-leb _ 15 (length-decimal-le 15 time (lit< tt) h small), digits_decimal numerals time small, digits_value-decimal numerals time small) refl
 
 -- ---- two hexadecimal digits
 
@@ -32,16 +31,14 @@ abbrev letter : Wire → List ℕ
 letter Controller = codes "C"
 letter Deck = codes "D"
 
-letter-read : (w : Wire) → wire_in (letter w) ≡ Some w
-letter-read w = grind arith
-
 abbrev spelled : LineByte → List (List ℕ)
 spelled r = decimal r.time_us ∷ letter r.wire ∷ (hex (r.byte / 16) ∷ hex (r.byte % 16) ∷ []) ∷ []
 
 spelled-read : (number before : ℕ) (r : LineByte) → number ≤ most_rows → before ≤ r.time_us → r.time_us < 10 ^ 15 → r.byte < 256 → row_of number before (spelled r) ≡ Ok r
 spelled-read number before r within order range byte =
     let few : (nat_lt most_rows number ≡ false) × (nat_lt r.time_us before ≡ false) = grind (arith, nat_tests) in
-    rw (few.0, time-read r.time_us range, letter-read r.wire, byte-read r.byte byte, few.1) refl
+    let named : wire_in (letter r.wire) ≡ Some r.wire = grind arith in
+    rw (few.0, time-read r.time_us range, named, byte-read r.byte byte, few.1) refl
 
 -- a row that breaks this rule first
 abbrev bad_fields : CaptureKind → List (List ℕ)
@@ -59,14 +56,10 @@ AreInRange number before (r ∷ rest) = (number ≤ most_rows) × (before ≤ r.
 in-range : (number before : ℕ) (items : List LineByte) → number + length items ≤ most_rows + 1 → ((d : LineByte) → 0 < length items → before ≤ (get_or items 0 d).time_us)
     → IsNonDecreasingBy (λ (r : LineByte). r.time_us) items → All (λ r. r.time_us < 10 ^ 15) items → All (λ r. r.byte < 256) items → AreInRange number before items
 in-range number before [] limit first order range byte = tt
-in-range number before (r ∷ rest) limit first order range byte = (
-  omega arith,
-  first r (omega arith),
-  range 0 r (omega arith),
-  byte 0 r (omega arith),
-  in-range (number + 1) r.time_us rest (omega arith) (λ d lt. order 0 1 d (omega arith) (omega arith)) (λ i j d le lt. order (suc i) (suc j) d (omega arith) (omega arith))
-      (λ k d h. range (suc k) d (omega arith)) (λ k d h. byte (suc k) d (omega arith)),
-)
+in-range number before (r ∷ rest) limit first order range byte =
+    let rise = λ (i j : ℕ) (d : LineByte) (le : i ≤ j) (lt : j < length rest). order (suc i) (suc j) d (omega arith) (omega arith) in
+    let later = in-range (number + 1) r.time_us rest (omega arith) (λ d lt. order 0 1 d (omega arith) (omega arith)) rise in
+    (omega arith, first r (omega arith), range 0 r (omega arith), byte 0 r (omega arith), later (λ k d h. range (suc k) d (omega arith)) (λ k d h. byte (suc k) d (omega arith)))
 
 -- their rows are read as those records, and then the others
 read-then : (number before : ℕ) (items : List LineByte) (rest : List (List (List ℕ))) (tail : Rows) → AreInRange number before items
@@ -96,33 +89,17 @@ no-mark rows = refl
 headed-text : (rows : List (List (List ℕ))) → rows_of (rows_text (header ∷ rows)) ≡ rows_from 1 0 (map read_back rows)
 headed-text rows = rw (no-mark rows, records-rows (header ∷ rows)) refl
 
-next-row : (items : List LineByte) (row : ℕ) → IsNextRow items row → (nat_lt most_rows (1 + length items) ≡ false) × (1 + length items ≡ row)
-next-row items row next = grind (arith, nat_tests)
-
 -- the row of a fault that can follow these records
 bad-read : (k : CaptureKind) (items : List LineByte) (row : ℕ) → CanFollow k items row → k ≢ CaptureKind.Header
     → rows_from (1 + length items) (last_time 0 items) (map read_back (bad_fields k ∷ [])) ≡ bad_row k row
-bad-read CaptureKind.Header items row follows other = absurd (other refl)
-bad-read CaptureKind.Backwards items row follows other =
-    let late = follows.1 in
-    let backwards : nat_lt 0 (last_time 0 items) ≡ true = grind (arith, nat_tests) in
-    let next = next-row items row follows.0 in
-    rw (next.0, backwards, next.1) refl
-bad-read CaptureKind.TooMany items row follows other =
-    let many : (nat_lt most_rows (1 + length items) ≡ true) × (1 + length items ≡ row) = grind (arith, nat_tests) in
-    rw (many.0, many.1) refl
-bad-read CaptureKind.Read items row follows other = absurd follows
-bad-read CaptureKind.OutOfMemory items row follows other = absurd follows
-bad-read k items row follows other = let next = next-row items row follows in rw (next.0, next.1) refl
+bad-read k items row follows other = grind (arith, nat_tests)
 
 -- a text of these records and then others
 text-then : (items : List LineByte) (rest : List (List (List ℕ))) (tail : Rows) (fault : Option CaptureError) → CanBeRows (record { records = items; fault = fault })
     → rows_from (1 + length items) (last_time 0 items) (map read_back rest) ≡ tail → (text : List ℕ) × (rows_of text ≡ record { records = items ++ tail.records; fault = tail.fault })
-text-then items rest tail fault h left = (
-  rows_text (header ∷ (map spelled items ++ rest)),
-  headed-text (map spelled items ++ rest)
-      ∙ read-then 1 0 items rest tail (in-range 1 0 items (let low = h.limit in omega arith) (λ d lt. omega arith) h.in_order h.in_range h.bytes) left,
-)
+text-then items rest tail fault h left =
+    let good = in-range 1 0 items (omega (arith, h.limit)) (λ d lt. omega arith) h.in_order h.in_range h.bytes in
+    (rows_text (header ∷ (map spelled items ++ rest)), headed-text (map spelled items ++ rest) ∙ read-then 1 0 items rest tail good left)
 
 empty-text : rows_of [] ≡ bad_row CaptureKind.Header 0
 unfolding strip_bom
@@ -135,7 +112,7 @@ text-of items (Some e) h = by e.kind items e.row h
   where
     by : (k : CaptureKind) (items : List LineByte) (row : ℕ) → (let fault : CaptureError = record { kind = k; row = row } in CanBeRows (record { records = items; fault = Some fault }))
         → (text : List ℕ) × (rows_of text ≡ record { records = items; fault = Some (record { kind = k; row = row }) })
-    by CaptureKind.Header items row h = let follows = h.fault in ([], rw (follows.0, follows.1) empty-text)
+    by CaptureKind.Header items row h = ([], rw (h.fault.0, h.fault.1) empty-text)
     by k items row h = rw (append-nil items) at (text-then items (bad_fields k ∷ []) (bad_row k row) (Some (record { kind = k; row = row })) h (bad-read k items row h.fault (λ e. cc)))
 
 pub some-text : (rows : Rows) → CanBeRows rows → IsOfSomeText rows

@@ -1,10 +1,10 @@
 -- The names from elsewhere that the proofs of this crate cite, passed on from one place. Declares nothing.
 pub use Rattle.capture9.specs.Error.{is_of_text, IsAfter, IsAtItsRow}
-pub use Rattle.capture9.specs.Fields.{byte_in, decimal_value, hex_digit_of, is_header, most_rows, pair_value, time_in, wire_in}
+pub use Rattle.capture9.specs.Fields.{byte_in, decimal_value, hex_digit_of, is_header, most_rows, time_in, wire_in}
 pub use Rattle.capture9.specs.Records.{GivesRecord, GivesRefusal, IsPlaced, Progress, TakesRecord}
 pub use Rattle.capture9.specs.RowRules.{AreGood, AreLeft, HasFirstPart, IsFirstOf, last_time, row_kinds, RowBreaks, Spell}
 pub use Rattle.capture9.specs.Rows.{bad_row, fields_record, good_row, HasHeader, headed_rows, no_rows, record_of, row_of, row_then, Rows, rows_from, rows_of}
-pub use Rattle.capture9.specs.SomeText.{CanBeRows, CanFollow, IsNextRow, IsOfSomeText}
+pub use Rattle.capture9.specs.SomeText.{CanBeRows, CanFollow, IsOfSomeText}
 pub use Rattle.capture9.specs.Working.{digits_after, HoldsInRecords, IsPlain, records_at, rows_to_come, TakesFields, unread_records, unread_rows}
 pub use Rattle.capture9.specs.declared.error.CaptureError.{CaptureError}
 pub use Rattle.capture9.specs.declared.error.CaptureKind.{CaptureKind}
@@ -17,7 +17,7 @@ pub use Rattle.csv.proofs.RoundTrip.{read-write}
 unfoldable pub use Rattle.csv.proofs.RoundTrip.{rows_text}
 pub use Rattle.csv.specs.Machine.{field_after, fields_after, Read, step}
 unfoldable pub use Rattle.csv.specs.Machine.{next_record}
-pub use Rattle.csv.specs.Reading.{default_config, NextIs, reader_source, ReadRecord, ReadsNext, records, records_next}
+pub use Rattle.csv.specs.Reading.{default_config, NextIs, ReadRecord, ReadsNext, records, records_next}
 unfoldable pub use Rattle.csv.specs.Reading.{records_from, strip_bom}
 pub use Rattle.csv.specs.Records.{fields_of}
 unfoldable pub use Rattle.csv.specs.Records.{field_at}
@@ -26,12 +26,12 @@ unfoldable pub use Rattle.csv.specs.Writing.{fields_text, is_blank}
 pub use Rattle.csv.specs.declared.parser.Config.{Config}
 pub use Rattle.csv.specs.declared.parser.State.{State}
 pub use Rattle.csv.specs.declared.reader.Reader.{Reader}
-pub use Rattle.std.proofs.Common.{[], add-one, add-zero, All, ap, append-nil, arith, Bool, codes, drop, Err, false, get_or, inl, inr, length, length-append, length-take-le, List}
-pub use Rattle.std.proofs.Common.{lit<, lit≤, map, nat_lt, None, Ok, Option, option_map, pow-add, pow-suc, refl, Result, rules, Some, suc, sym, take-append-drop, true, zero, ℕ}
-pub use Rattle.std.proofs.Common.{◌%◌, ◌&&◌, ◌*◌, ◌++◌, ◌+◌, ◌-◌, ◌/◌, ◌<◌, ◌^◌, ◌∙◌, ◌∷◌, ◌≡◌, ◌≢◌, ◌≤◌, ◌⊎◌}
+pub use Rattle.std.proofs.Common.{[], add-one, add-zero, All, ap, append-nil, arith, Bool, codes, drop, Err, false, get_or, length, length-append, length-take-le, List, lit<}
+pub use Rattle.std.proofs.Common.{lit≤, map, nat_lt, None, Ok, Option, option_map, pow-add, pow-suc, refl, Result, rules, Some, suc, sym, take-append-drop, true, zero, ℕ, ◌%◌}
+pub use Rattle.std.proofs.Common.{◌&&◌, ◌*◌, ◌++◌, ◌+◌, ◌-◌, ◌/◌, ◌<◌, ◌^◌, ◌∙◌, ◌∷◌, ◌≡◌, ◌≢◌, ◌≤◌, ◌⊎◌}
 pub use Rattle.std.proofs.Math.Bool.{and_assoc}
 pub use Rattle.std.proofs.Math.Nat.{mul-le-mul_left, mul-le-mul_right, pow-le-pow_right}
-pub use Rattle.std.proofs.lemmas.Bool.{and_parts, cases_lt, le-leb, le-ltb, lt-ltb}
+pub use Rattle.std.proofs.lemmas.Bool.{and_parts, cond_both, le-leb}
 pub use Rattle.std.proofs.lemmas.Bool.Decides.{nat_tests}
 pub use Rattle.std.proofs.lemmas.Fmt.{decimal_nonempty, digits_decimal, digits_value-decimal, length-decimal-le}
 pub use Rattle.std.proofs.lemmas.List.{drop_more, length_push, nil_from_length}

@@ -1,19 +1,15 @@
 -- One digit more: it fits, and the rest of the digits still decide.
-use Rattle.capture9.proofs.Words.{arith, drop_more, get_or, is_ascii_digit, refl, true, ◌∙◌, ◌≡◌}
-use Rattle.capture9.proofs.FieldLemmas.{digit-le, room-low, room-step, value-step}
+use Rattle.capture9.proofs.Words.{arith, drop_more, get_or, is_ascii_digit, nat_tests, true, ◌∙◌, ◌≡◌}
+use Rattle.capture9.proofs.FieldLemmas.{room-low, room-step, value-step}
 use Rattle.capture9.proofs.fields.digits_after.Goals as goal
 
 pub overflow_mul-time : goal.overflow_mul-time
 overflow_mul-time c =
-    let more = drop_more c.args.digits.now c.loop-byte.byte-index 0 c.loop-byte-test.true in
-    omega (arith, room-low c.loop-byte.time _ (rw more at c.loop-byte.invariant.room))
+    omega (arith, room-low c.loop-byte.time _ (rw (drop_more c.args.digits.now c.loop-byte.byte-index 0 c.loop-byte-test.true) at c.loop-byte.invariant.room))
 
 pub overflow_add-time : goal.overflow_add-time
 overflow_add-time c =
-    let more = drop_more c.args.digits.now c.loop-byte.byte-index 0 c.loop-byte-test.true in
-    let byte = get_or c.args.digits.now c.loop-byte.byte-index 0 in
-    let digit : is_ascii_digit byte ≡ true = cc in
-    omega (arith, digit-le byte digit, room-low c.loop-byte.time _ (rw more at c.loop-byte.invariant.room))
+    grind (arith, nat_tests, room-low c.loop-byte.time _ (rw (drop_more c.args.digits.now c.loop-byte.byte-index 0 c.loop-byte-test.true) at c.loop-byte.invariant.room))
 
 pub loop-byte-preserved : goal.loop-byte-preserved
 loop-byte-preserved c =
@@ -21,7 +17,7 @@ loop-byte-preserved c =
     let byte = get_or c.args.digits.now c.loop-byte.byte-index 0 in
     let digit : is_ascii_digit byte ≡ true = cc in
     rw c.from.ensures (record {
-      digits = c.loop-byte.invariant.digits ∙ rw (more, digit) refl;
+      digits = grind arith;
       value = rw more at c.loop-byte.invariant.value ∙ value-step _ byte _ digit;
       room = room-step _ _ byte digit (rw more at c.loop-byte.invariant.room);
     })
