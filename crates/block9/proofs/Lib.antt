@@ -8,6 +8,5 @@ pub mod OrderLemmas
 pub mod ReasonLemmas
 pub mod SpellingLemmas
 pub mod StepLemmas
-pub mod TableLemmas
 pub mod TailLemmas
 pub mod Words

@@ -1,23 +1,17 @@
 -- Which bytes spell a block.
 use Rattle.block9.proofs.Words.{[], ap, arith, Block, body_of, last_time, length, LineByte, List, same_from_push, slice_get, Some, Spells, suc, sum, sym, ℕ, ◌%◌, ◌*◌, ◌++◌, ◌+◌}
 use Rattle.block9.proofs.Words.{◌-◌, ◌∙◌, ◌∷◌, ◌≡◌}
-use Rattle.block9.proofs.LineLemmas.{byte_parts}
 
--- bytes that spell a block are its body and the sum
-pub spelled_parts : (bytes body : List ℕ) (last : ℕ) (b : Block) → bytes ≡ body ++ last ∷ [] → Spells bytes b → (body ≡ body_of b) × (last ≡ sum body % 256)
-spelled_parts bytes body last b e h =
+-- bytes that spell a block are a body, as long as its first byte says, and its sum
+pub spelled_by : (bytes body : List ℕ) (last first : ℕ) (b : Block) → bytes ≡ body ++ last ∷ [] → Some first ≡ slice_get body 0 → Spells bytes b
+    → (length body ≡ first % 16 + 2) × (last ≡ sum body % 256)
+spelled_by bytes body last first b e f h =
     let same = same_from_push body (body_of b) last (sum (body_of b) % 256) (sym e ∙ h.spelled) in
-    (same.0, same.1 ∙ ap (λ (xs : List ℕ). sum xs % 256) (sym same.0))
-
-pub spelled_len : (bytes body : List ℕ) (last first : ℕ) (b : Block) → bytes ≡ body ++ last ∷ [] → Some first ≡ slice_get body 0 → Spells bytes b → length body ≡ first % 16 + 2
-spelled_len bytes [] last first b e f h = cc
-spelled_len bytes (a ∷ body) last first b e f h =
-    let parts = spelled_parts bytes (a ∷ body) last b e h in
-    let head : first ≡ 16 * b.group + length b.bytes.items = let p = parts.0 in cc in
-    let low = (byte_parts b.group (length b.bytes.items) h.block.data_bytes).0 in
-    let same : length (a ∷ body) ≡ length (body_of b) = ap length parts.0 in
-    let low_half : first % 16 ≡ length b.bytes.items = ap (λ n. n % 16) head ∙ low in
-    omega arith
+    let bodies = same.0 in
+    let head : first ≡ 16 * b.group + length b.bytes.items = cc in
+    let count : length body ≡ length (body_of b) = ap length bodies in
+    let few = h.block.data_bytes in
+    (omega arith, same.1 ∙ ap (λ (xs : List ℕ). sum xs % 256) (sym bodies))
 
 -- the last record's time
 pub last_time-last : (records : List LineByte) (last : LineByte) → Some last ≡ slice_get records (length records - 1) → last.time_us ≡ last_time records

@@ -1,20 +1,19 @@
 -- The names from elsewhere that the proofs of this crate cite, passed on from one place. Declares nothing.
-pub use Rattle.block9.specs.Block.{body_of, IsBlock, spelling, Spells}
+pub use Rattle.block9.specs.Block.{body_of, spelling, Spells}
 pub use Rattle.block9.specs.Command.{command_of, fits, is_reply_time_valid}
 pub use Rattle.block9.specs.Exchange.{Cut, Does, IsCommand, IsExchange, IsInTime, IsKept, IsTail, tail_after}
 pub use Rattle.block9.specs.Exchange.IsTail.{after_command, in_command, in_reply, nothing}
-pub use Rattle.block9.specs.Line.{allows, block_len, byte_gap, bytes_of, first_time, IsBegun, IsLinked, IsWhole, last_time}
+pub use Rattle.block9.specs.Line.{block_len, byte_gap, bytes_of, first_time, IsBegun, IsLinked, IsWhole, last_time}
 pub use Rattle.block9.specs.Pairer.{Paired, Refuses, Takes}
 pub use Rattle.block9.specs.Reason.{EndsReply, Holds, IsAnswered, IsFirst, IsReason, IsWholeCommand, order}
 pub use Rattle.block9.specs.Working.Body.{block_of}
-pub use Rattle.block9.specs.Working.Held.{Closes, HoldsInPairer, IsHeld, IsNotBefore, IsTurn}
-pub use Rattle.block9.specs.Working.Table.{command_fault, early_fault, end_fault, ends_block, fault_at, meaning_fault, open_at, pairing, place_of, reply_fault, sum_fault}
+pub use Rattle.block9.specs.Working.Held.{closed_of, Closes, HoldsInPairer, IsHeld, IsTurn}
+pub use Rattle.block9.specs.Working.Table.{early_fault, ends_block, fault_at, open_at, pairing, place_of, reply_fault}
 pub use Rattle.block9.specs.declared.block.Block.{Block}
 pub use Rattle.block9.specs.declared.command.Command.{Command}
 pub use Rattle.block9.specs.declared.pairer.Asked.{Asked}
 pub use Rattle.block9.specs.declared.pairer.Exchange.{Exchange}
 pub use Rattle.block9.specs.declared.pairer.Step.{Step}
-pub use Rattle.block9.specs.declared.place.Place.{Place}
 pub use Rattle.block9.specs.declared.place.Place.TheVariants.{AfterCommand, Idle, InCommand, InReply}
 pub use Rattle.block9.specs.declared.reason.Reason.{Reason}
 pub use Rattle.block9.specs.declared.reason.Reason.TheVariants.{ByteGap, CommandBeforeReply, CommandInsideReply, InvalidCommandTime, InvalidReplyTime, LateReply, NoReply, NoRun}
@@ -22,11 +21,11 @@ pub use Rattle.block9.specs.declared.reason.Reason.TheVariants.{ReplyInsideComma
 pub use Rattle.capture9.specs.declared.line_byte.LineByte.{LineByte}
 pub use Rattle.capture9.specs.declared.line_byte.Wire.{Wire}
 pub use Rattle.capture9.specs.declared.line_byte.Wire.TheVariants.{Controller, Deck}
-pub use Rattle.std.proofs.Common.{[], ap, arith, Bool, drop, false, get_or, if◌then◌else◌, inl, inr, length, length-append, List, None, Option, refl, rules, slice_index_or, Some}
-pub use Rattle.std.proofs.Common.{subst, suc, sym, take, true, ℕ, ◌%◌, ◌*◌, ◌++◌, ◌+◌, ◌-◌, ◌/◌, ◌<◌, ◌∙◌, ◌∷◌, ◌≡◌, ◌≢◌, ◌≤◌, ◌⊎◌}
-pub use Rattle.std.proofs.lemmas.Bool.{cases_lt}
+pub use Rattle.std.proofs.Common.{[], ap, arith, Bool, drop, false, get_or, inl, inr, length, length-append, List, None, Option, refl, rules, slice_index_or, Some, subst, suc}
+pub use Rattle.std.proofs.Common.{sym, take, true, ℕ, ◌%◌, ◌*◌, ◌++◌, ◌+◌, ◌-◌, ◌/◌, ◌<◌, ◌↔◌, ◌∙◌, ◌∷◌, ◌≡◌, ◌≢◌, ◌≤◌}
+pub use Rattle.std.proofs.lemmas.Bool.{false≢true}
 pub use Rattle.std.proofs.lemmas.Bool.Decides.{nat_tests}
-pub use Rattle.std.proofs.lemmas.List.{append-nil, append_assoc, drop_at, length-map, length_push, map-append, same_from_push, take-append-le, take_at}
+pub use Rattle.std.proofs.lemmas.List.{append-nil, append_assoc, drop_at, length-map, length_push, map_push, same_from_push, take-append-le, take_all, take_at, take_more}
 pub use Rattle.std.specs.List.{slice_get, sum}
 pub use Rattle.std.specs.Option.{ForSome, option_or}
 unfoldable pub use Rattle.tc25.specs.Day.{time_of}

@@ -1,10 +1,10 @@
 -- Runs that believe some replies.
-use Rattle.deck9.proofs.Words.{[], All, All-head, All-tail, ap, AreAnswered, arith, behind_first, Block, Bool, CanPass, Command, done, effect_of, Exchange, false, fits, Hands}
-use Rattle.deck9.proofs.Words.{HasBelieving, HasRun, inl, inr, is_reply_time_valid, IsBelievingFrom, IsFirst, IsRightReply, IsRunFrom, length, List, MayDo, MayReply, refl}
-use Rattle.deck9.proofs.Words.{refused, SetsInDay, State, Step, subst, true, ℕ, ◌++◌, ◌+◌, ◌<◌, ◌↔◌, ◌∙◌, ◌∷◌, ◌≡◌}
-use Rattle.deck9.proofs.ReplyLemmas.{block}
-use Rattle.deck9.proofs.RestLemmas.{first_does}
+use Rattle.deck9.proofs.Words.{[], Agrees, All, All-head, All-tail, ap, AreAnswered, arith, behind_first, Block, Bool, CanPass, Command, Does, done, Effect, effect_of, Exchange}
+use Rattle.deck9.proofs.Words.{false, fits, Hands, HasBelieving, HasRun, inl, inr, is_reply_time_valid, IsBelievingFrom, IsFirst, IsRightReply, IsRunFrom, length, List, MayDo}
+use Rattle.deck9.proofs.Words.{MayReply, refl, refused, Sense, sense_of, SetsInDay, State, Step, subst, sym, true, ℕ, ◌++◌, ◌+◌, ◌<◌, ◌↔◌, ◌∙◌, ◌∷◌, ◌≡◌, ◌⊎◌}
 use Rattle.deck9.proofs.RunSearch.{first_drifts}
+use Rattle.deck9.proofs.RestLemmas.{first_does}
+use Rattle.deck9.proofs.ReplyLemmas.{block}
 
 -- ---- one command
 
@@ -19,18 +19,18 @@ unfolding fits is_reply_time_valid
 by_nak h c s t same =
     (block 1 0x12 (0 ∷ []), record { block = record { group = omega arith; data_bytes = omega arith }; kind = grind arith; valid_time = grind arith }, refused refl same)
 
-pub pass_steps : (h : Hands) (c : Command) (s t : State) → CanPass h c s t → SomeStep h c s t
+-- a command has no effect, or may be acknowledged, which shows nothing
+acked : (c : Command) → (effect_of c ≡ Effect.Nothing) ⊎ ((fits c (block 1 0x01 []) ≡ true) × (is_reply_time_valid c (block 1 0x01 []) ≡ true) × (sense_of c ≡ Sense.Nothing))
 unfolding fits is_reply_time_valid
+acked c = grind arith
+
+pub pass_steps : (h : Hands) (c : Command) (s t : State) → CanPass h c s t → SomeStep h c s t
 pass_steps h c s t (inl same) = by_nak h c s t same
-pass_steps h Command.DeviceType s t (inr same) = by_nak h _ s t same
-pass_steps h (Command.CurrentTimeSense selector) s t (inr same) = by_nak h _ s t same
-pass_steps h Command.InDataSense s t (inr same) = by_nak h _ s t same
-pass_steps h Command.OutDataSense s t (inr same) = by_nak h _ s t same
-pass_steps h Command.AudioInDataSense s t (inr same) = by_nak h _ s t same
-pass_steps h Command.AudioOutDataSense s t (inr same) = by_nak h _ s t same
-pass_steps h (Command.StatusSense asked) s t (inr same) = by_nak h _ s t same
-pass_steps h c s t (inr does) =
-    (block 1 0x01 [], record { block = record { group = omega arith; data_bytes = omega arith }; kind = refl; valid_time = refl }, done refl tt does)
+pass_steps h c s t (inr does) = elim (acked c) [
+  | inl none ↦ by_nak h c s t (subst (λ f. Does h f s t) none does)
+  | inr (kind, valid_time, silent) ↦
+      (block 1 0x01 [], record { block = record { group = omega arith; data_bytes = omega arith }; kind = kind; valid_time = valid_time }, done refl (subst (λ a. Agrees a s (block 1 0x01 [])) (sym silent) tt) does)
+]
 
 pub some_reply : (h : Hands) (c : Command) (s t : State) → CanPass h c s t ↔ SomeStep h c s t
 some_reply h c s t = (pass_steps h c s t, λ w. step_passes h c w.0 s t w.2)
@@ -67,20 +67,15 @@ whatever_else h b es = (
 
 -- ---- believing more and fewer
 
-all_is_run : (h : Hands) (es : List Exchange) (s : State) (ts : List State) → IsBelievingFrom h (λ k. true) s es ts → IsRunFrom h s es ts
-all_is_run h [] s [] run = tt
-all_is_run h (e ∷ es) s (t ∷ ts) (d, drift, step, run) = ((d, drift, step), all_is_run h es t ts run)
-all_is_run h es s ts run = absurd run
-
-run_is_all : (h : Hands) (es : List Exchange) (s : State) (ts : List State) → IsRunFrom h s es ts → IsBelievingFrom h (λ k. true) s es ts
-run_is_all h [] s [] run = tt
-run_is_all h (e ∷ es) s (t ∷ ts) ((d, drift, step), run) = (d, drift, step, run_is_all h es t ts run)
-run_is_all h es s ts run = absurd run
+all_runs : (h : Hands) (es : List Exchange) (s : State) (ts : List State) → IsBelievingFrom h (λ k. true) s es ts ↔ IsRunFrom h s es ts
+all_runs h [] s [] = (λ r. tt, λ r. tt)
+all_runs h (e ∷ es) s (t ∷ ts) = let more = all_runs h es t ts in (λ r. ((r.0, r.1, r.2), more.0 r.3), λ r. (r.0.0, r.0.1, r.0.2, more.1 r.1))
+all_runs h es s ts = (λ r. absurd r, λ r. absurd r)
 
 pub believing_all : (h : Hands) (es : List Exchange) → HasBelieving h (λ k. true) es ↔ HasRun h es
 believing_all h es = (
-  λ w. record { first = w.first; is_first = w.is_first; after = w.after; is_run = all_is_run h es w.first w.after w.is_run },
-  λ w. record { first = w.first; is_first = w.is_first; after = w.after; is_run = run_is_all h es w.first w.after w.is_run },
+  λ w. record { first = w.first; is_first = w.is_first; after = w.after; is_run = (all_runs h es w.first w.after).0 w.is_run },
+  λ w. record { first = w.first; is_first = w.is_first; after = w.after; is_run = (all_runs h es w.first w.after).1 w.is_run },
 )
 
 does_fewer : (h : Hands) (more fewer : Bool) (e : Exchange) (s t : State) → (fewer ≡ true → more ≡ true) → MayDo h more e s t → MayDo h fewer e s t
@@ -100,13 +95,7 @@ believing_fewer h more fewer es le w = record { first = w.first; is_first = w.is
 
 -- no passed command leads out of the first states
 first_passes : (h : Hands) (e : Exchange) (s t : State) → SetsInDay e → IsFirst h s → CanPass h e.command s t → IsFirst h t
-first_passes h e s t sets first passes = let does = first_does h (effect_of e.command) s t sets first in grind arith
-
-pass_of : (h : Hands) (b : Bool) (e : Exchange) (s t : State) → b ≡ false → MayDo h b e s t → CanPass h e.command s t
-pass_of h b e s t none does = grind arith
-
-keeps : (h : Hands) (b : Bool) (e : Exchange) (s : State) → b ≡ false → MayDo h b e s s
-keeps h b e s none = grind arith
+first_passes h e s t sets first passed = let does = first_does h (effect_of e.command) s t sets first in grind arith
 
 rest_of : (h : Hands) (b : ℕ → Bool) (es fs : List Exchange) (s : State) (ts : List State) → All SetsInDay es → ((k : ℕ) → k < length es → b k ≡ false) → IsFirst h s
     → IsBelievingFrom h b s (es ++ fs) ts → HasBelieving h (λ k. b (length es + k)) fs
@@ -114,8 +103,8 @@ rest_of h b [] fs s ts sets none first run =
     record { first = s; is_first = first; after = ts; is_run = runs_fewer h _ _ fs s ts (λ k is. ap b (omega arith) ∙ is) run }
 rest_of h b (e ∷ es) fs s [] sets none first run = absurd run
 rest_of h b (e ∷ es) fs s (t ∷ ts) sets none first (d, drift, does, run) =
-    let passes = pass_of h (b 0) e d t (none 0 (omega arith)) does in
-    let after = first_passes h e d t (All-head SetsInDay e es sets) (first_drifts h s d first drift) passes in
+    let passed = rw (none 0 (omega arith)) at does in
+    let after = first_passes h e d t (All-head SetsInDay e es sets) (first_drifts h s d first drift) passed in
     let rest = rest_of h (behind_first b) es fs t ts (All-tail SetsInDay e es sets) (λ k below. none (k + 1) (omega arith)) after run in
     believing_fewer h _ _ fs (λ k is. ap b (omega arith) ∙ is) rest
 
@@ -124,7 +113,7 @@ whole_of : (h : Hands) (b : ℕ → Bool) (es fs : List Exchange) (s : State) (t
 whole_of h b [] fs s ts none run = (ts, runs_fewer h _ _ fs s ts (λ k is. ap b (omega arith) ∙ is) run)
 whole_of h b (e ∷ es) fs s ts none run =
     let rest = whole_of h (behind_first b) es fs s ts (λ k below. none (k + 1) (omega arith)) (runs_fewer h _ _ fs s ts (λ k is. ap b (omega arith) ∙ is) run) in
-    (s ∷ rest.0, (s, ([], refl), keeps h (b 0) e s (none 0 (omega arith)), rest.1))
+    (s ∷ rest.0, (s, ([], refl), rw (none 0 (omega arith)) (inl refl), rest.1))
 
 pub before_the_first : (h : Hands) (b : ℕ → Bool) (es fs : List Exchange) → All SetsInDay es → ((k : ℕ) → k < length es → b k ≡ false)
     → HasBelieving h b (es ++ fs) ↔ HasBelieving h (λ k. b (length es + k)) fs

@@ -2,19 +2,12 @@
 use Rattle.deck9.proofs.Words.{[], ap, arith, arrives, Drift, DriftsTo, halts, handled, Hands, inl, inr, is_one_of, IsState, List, Mode, Move, Moves, on_the_way, PairReaches}
 use Rattle.deck9.proofs.Words.{passes, refl, State, Stop, subst, true, ◌∙◌, ◌∷◌, ◌≡◌, ◌⊎◌}
 
--- the four pairs, with one move before
-first_pairs : (g m n g' m' : Mode) → ((n ≡ g) ⊎ (is_one_of (on_the_way g) n ≡ true)) → PairReaches g n g' m' → PairReaches g m g' m'
-first_pairs g m n g' m' step reach = grind arith
-
-stop_way : (m : Mode) → is_one_of (on_the_way Stop) m ≡ true → m ≡ Stop
-stop_way m h = grind arith
-
 from_stop : (g m g' m' : Mode) → PairReaches Stop Stop g' m' → PairReaches g m g' m'
-from_stop g m g' m' reach = grind (arith, stop_way)
+from_stop g m g' m' reach = grind arith
 
+-- the four pairs, with one move before
 carry : (h : Hands) (s t : State) (n : Mode) → ((n ≡ s.goal) ⊎ (is_one_of (on_the_way s.goal) n ≡ true)) → DriftsTo h (record s { shown = n }) t → DriftsTo h s t
-carry h s t n step (inl p) = inl (p.0, first_pairs s.goal s.shown n t.goal t.shown step p.1)
-carry h s t n step (inr p) = inr p
+carry h s t n step d = grind arith
 
 pub same_entries : (u t : State) → t ≡ record u { goal = t.goal; shown = t.shown } → IsState u → IsState t
 same_entries u t e h = λ r. let before = h r in grind arith

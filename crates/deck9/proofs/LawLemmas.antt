@@ -1,9 +1,9 @@
 -- What the definitions of drifts, steps and runs come to.
-use Rattle.deck9.proofs.Words.{[], Agrees, ap, arith, Block, Bool, Command, Does, done, Drift, Effect, effect_of, Entry, Exchange, Exchanges, false, Hands, HasRun, if◌then◌else◌}
-use Rattle.deck9.proofs.Words.{ignored, inl, inr, is_of_goal_or_register, IsEntry, IsRunFrom, IsState, List, may_ignore, Moves, refl, refused, Register, Sense, sense_of, State}
-use Rattle.deck9.proofs.Words.{Step, subst, sym, with_entry, ◌++◌, ◌==◌, ◌∷◌, ◌≡◌}
+use Rattle.deck9.proofs.Words.{[], Agrees, ap, arith, Block, Bool, Command, Does, done, Drift, Effect, effect_of, Entry, Exchange, Exchanges, false, Hands, HasRun, ignored, inl}
+use Rattle.deck9.proofs.Words.{inr, is_of_goal_or_register, IsEntry, IsRunFrom, IsState, List, may_ignore, Moves, nat_tests, refused, Register, Sense, sense_of, State, Step}
+use Rattle.deck9.proofs.Words.{subst, sym, with_entry, ◌++◌, ◌∷◌, ◌≡◌}
 use Rattle.deck9.proofs.DriftLemmas.{drift_from_pairs, pairs_from_drift}
-use Rattle.deck9.proofs.RunSearch.{none_allowed, read_panel}
+use Rattle.deck9.proofs.RunSearch.{read_panel}
 
 -- ---- drifts
 
@@ -46,7 +46,7 @@ exchange_beside c reply on s t (d, drift, step) =
       | inl w ↦
           let more = step_beside c reply on d t step in
           (more.0, (with_panel on d, drift_from_pairs Hands.Allowed (with_panel on s) (with_panel on d) (inl (ap (with_panel on) w.0, w.1)), more.1))
-      | inr w ↦ absurd (none_allowed w.0)
+      | inr w ↦ absurd (let never = w.0 in cc)
     ]
 
 run_beside : (es : List Exchange) (on : Bool) (s : State) (ts : List State) → IsRunFrom Hands.None s es ts → (us : List State) × IsRunFrom Hands.Allowed (with_panel on s) es us
@@ -64,10 +64,5 @@ run_with_hands es r =
 
 -- ---- local
 
--- whatever its group, what is not listed makes the deck forget, and is not left undone
-forgets_all : (tape registers nothing : Bool) → is_of_goal_or_register (if tape then Effect.ForgetTape else (if registers then Effect.ForgetRegisters else (if nothing then Effect.Nothing else Effect.ForgetAll))) ≡ false
-forgets_all tape registers nothing = grind arith
-
 pub ignored_by_effect : (c : Command) → may_ignore c ≡ is_of_goal_or_register (effect_of c)
-ignored_by_effect (Command.Unlisted group) = sym (forgets_all (group == 2) (group == 4) (group == 6))
-ignored_by_effect _ = refl
+ignored_by_effect c = grind (arith, nat_tests)

@@ -1,30 +1,23 @@
 -- A right reply to each command in each state, and a step with it.
 use Rattle.deck9.proofs.Words.{[], arith, At, Becomes, Block, bytes_of, Change, Clear, Command, common_steps, datum, day, Does, done, Effect, effect_of, Entry, entry_of, false}
-use Rattle.deck9.proofs.Words.{fits, Hands, inl, is_nak, is_reply_time_valid, IsEntry, IsRightReply, IsState, length, List, may_show, Mode, nat_tests, Next, None, Prev}
-use Rattle.deck9.proofs.Words.{ReadsAs-from_time_of, Recall, refl, RegAudioIn, RegAudioOut, RegIn, RegOut, Reset, SetAt, SetSomewhere, Shows, ShowsStatus, slice_get_past, Some}
-use Rattle.deck9.proofs.Words.{State, Step, Tells, time_of, true, with_entry, ℕ, ◌-◌, ◌/◌, ◌<◌, ◌∷◌, ◌≡◌, ◌≤◌}
+use Rattle.deck9.proofs.Words.{fits, Hands, is_nak, is_reply_time_valid, IsEntry, IsRightReply, IsState, length, List, nat_tests, None, ReadsAs-from_time_of, Recall, refl}
+use Rattle.deck9.proofs.Words.{RegAudioIn, RegAudioOut, RegIn, RegOut, Reset, SetAt, SetSomewhere, Shows, ShowsStatus, slice_get_past, Some, State, Step, Tells, time_of, true}
+use Rattle.deck9.proofs.Words.{with_entry, ℕ, ◌-◌, ◌/◌, ◌<◌, ◌∷◌, ◌≡◌, ◌≤◌}
 
 -- ---- what a command does
 
 some_entry : (c : Change) (old : Entry) → (new : Entry) × Becomes c old new
 some_entry SetSomewhere old = (At 0, (0, omega arith, refl))
 some_entry (SetAt t) old = (At t, refl)
-some_entry Next old = (_, refl)
-some_entry Prev old = (_, refl)
 some_entry Reset old = (Clear, refl)
 some_entry Recall old = (Clear, tt)
+some_entry c old = (_, refl)
 
 some_effect : (h : Hands) (f : Effect) (s : State) → IsState s → (t : State) × Does h f s t
-some_effect h Effect.Nothing s valid = (s, refl)
 some_effect h (Effect.Go g) s valid = (record s { goal = g }, refl)
-some_effect h Effect.KeepOrStop s valid = (s, inl refl)
 some_effect h (Effect.Change r c) s valid = let new = some_entry c (entry_of r s) in (with_entry r new.0 s, (new.0, new.1, refl))
-some_effect Hands.None (Effect.Panel on) s valid = (s, refl)
 some_effect Hands.Allowed (Effect.Panel on) s valid = (record s { panel = on }, refl)
-some_effect h Effect.ForgetTape s valid = (s, (valid, refl, refl))
-some_effect h Effect.ForgetRegisters s valid = (s, (valid, refl, refl, refl, refl))
-some_effect Hands.None Effect.ForgetAll s valid = (s, (valid, refl))
-some_effect Hands.Allowed Effect.ForgetAll s valid = (s, valid)
+some_effect h f s valid = (s, grind arith)
 
 -- ---- what a reply shows
 
@@ -47,31 +40,18 @@ tells (At t) valid = ReadsAs-from_time_of (bytes_of t) t (read_back t valid)
 no_datum : (asked n : ℕ) → datum asked (block 7 0x20 []) n ≡ None
 no_datum asked n = let past = slice_get_past {X = ℕ} [] (n - asked / 16) (omega arith) in grind (arith, nat_tests)
 
-any_mode : (m : Mode) → may_show None None m ≡ true
-any_mode m = grind (arith, nat_tests)
-
 -- status data of which there are none agree with each state
 no_status : (s : State) (asked : ℕ) → ShowsStatus s asked (block 7 0x20 [])
-no_status s asked = record {
-  local = rw (no_datum asked 0) tt;
-  shown = rw (no_datum asked 1, no_datum asked 2) (any_mode s.shown);
-  ins = rw (no_datum asked 3) tt;
-  outs = rw (no_datum asked 3) tt;
-  ains = rw (no_datum asked 3) tt;
-  aouts = rw (no_datum asked 3) tt;
-}
+no_status s asked = grind (arith, nat_tests, no_datum)
 
 -- ---- a right reply
 
-record Reply (s : State) (c : Command) : Type 0 where
-  reply : Block
-  right : IsRightReply c reply
-  no_nak : is_nak reply ≡ false
-  shown : Shows s c reply
+abbrev Reply : State → Command → Type 0
+Reply s c = (reply : Block) × IsRightReply c reply × (is_nak reply ≡ false) × Shows s c reply
 
 made : (s : State) (c : Command) (b : Block) → b.group < 16 → length b.bytes.items ≤ 15 → fits c b ≡ true → is_reply_time_valid c b ≡ true → is_nak b ≡ false → Shows s c b → Reply s c
 made s c b group data_bytes kind valid_time no_nak shown =
-    record { reply = b; right = record { block = record { group = group; data_bytes = data_bytes }; kind = kind; valid_time = valid_time }; no_nak = no_nak; shown = shown }
+    (b, record { block = record { group = group; data_bytes = data_bytes }; kind = kind; valid_time = valid_time }, no_nak, shown)
 
 right_reply : (s : State) (c : Command) → IsState s → Reply s c
 unfolding fits is_reply_time_valid
@@ -88,4 +68,4 @@ pub some_step : (h : Hands) (c : Command) (s : State) → IsState s → (reply :
 some_step h c s valid =
     let r = right_reply s c valid in
     let t = some_effect h (effect_of c) s valid in
-    (r.reply, r.right, r.no_nak, t.0, done r.no_nak r.shown t.1)
+    (r.0, r.1, r.2, t.0, done r.2 r.3 t.1)

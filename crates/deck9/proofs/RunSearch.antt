@@ -1,8 +1,8 @@
 -- The search for a run: a few states before a step stand for all that there may be.
 use Rattle.deck9.proofs.Words.{[], Agrees, ap, arith, before_shift, Begins, Bool, Clear, Command, Does, done, Drift, DriftsAndSteps, Effect, effect_of, Entry, entry_of, Exchange}
 use Rattle.deck9.proofs.Words.{Exchanges, false, Hands, HasRun, ignored, inl, inr, IsEntry, IsFirst, IsRun, IsRunFrom, IsState, length, List, moved_entry, nat_tests, Next}
-use Rattle.deck9.proofs.Words.{next_frame, Prev, prev_frame, refl, refused, RegIn, Register, Sense, sense_of, State, Steps, StepsFromSome, Stop, subst, suc, sym, true}
-use Rattle.deck9.proofs.Words.{with_entry, ◌↔◌, ◌∙◌, ◌∷◌, ◌≡◌, ◌⊎◌}
+use Rattle.deck9.proofs.Words.{next_frame, Prev, prev_frame, refl, refused, Register, Sense, sense_of, State, Steps, StepsFromSome, Stop, subst, suc, sym, true, with_entry, ◌↔◌}
+use Rattle.deck9.proofs.Words.{◌∙◌, ◌∷◌, ◌≡◌, ◌⊎◌}
 use Rattle.deck9.proofs.DriftLemmas.{drift_from_pairs, pairs_from_drift, same_entries}
 
 -- ---- runs of no exchange
@@ -12,8 +12,7 @@ abbrev stopped : State
 stopped = record { goal = Stop; shown = Stop; ins = Clear; outs = Clear; ains = Clear; aouts = Clear; local = false; panel = false }
 
 is_state : IsState stopped
-is_state RegIn = tt
-is_state _ = tt
+is_state r = grind arith
 
 -- no exchange has a run
 pub run_start : (h : Hands) → HasRun h []
@@ -21,9 +20,6 @@ run_start Hands.None = record { first = stopped; is_first = (is_state, refl); af
 run_start Hands.Allowed = record { first = stopped; is_first = is_state; after = []; is_run = tt }
 
 -- ---- a step from some state
-
-same_panel : (t : State) (on : Bool) → t.panel ≡ on → t ≡ record t { panel = on }
-same_panel t on e = ap (λ (b : Bool). record t { panel = b }) e
 
 pub read_panel : (r : Register) (t : State) (on : Bool) → entry_of r (record t { panel = on }) ≡ entry_of r t
 read_panel r t on = grind arith
@@ -35,11 +31,9 @@ put_panel r e s = grind arith
 put_again : (r : Register) (e : Entry) (on : Bool) (d t : State) → d.panel ≡ on → t ≡ with_entry r e d → t ≡ with_entry r e (record t { panel = on })
 put_again r e on d t p put = grind arith
 
-next_again : (x : Entry) → IsEntry x → moved_entry next_frame (moved_entry prev_frame (moved_entry next_frame x)) ≡ moved_entry next_frame x
-next_again x h = grind (arith, nat_tests)
-
-prev_again : (x : Entry) → IsEntry x → moved_entry prev_frame (moved_entry next_frame (moved_entry prev_frame x)) ≡ moved_entry prev_frame x
-prev_again x h = grind (arith, nat_tests)
+shifted_again : (x : Entry) → IsEntry x → (moved_entry next_frame (moved_entry prev_frame (moved_entry next_frame x)) ≡ moved_entry next_frame x)
+    × (moved_entry prev_frame (moved_entry next_frame (moved_entry prev_frame x)) ≡ moved_entry prev_frame x)
+shifted_again x h = (grind (arith, nat_tests), grind (arith, nat_tests))
 
 -- a shift that led to a state leads to it from the state shifted back
 shift_again : (back move : Entry → Entry) (r : Register) (e : Entry) (on : Bool) (d t : State) → d.panel ≡ on → move (back (move (entry_of r d))) ≡ move (entry_of r d) → e ≡ move (entry_of r d) → t ≡ with_entry r e d
@@ -48,8 +42,8 @@ shift_again back move r e on d t p undone moves put = (e, grind arith, grind ari
 
 does_from : (h : Hands) (f : Effect) (on : Bool) (d t : State) → IsState d → d.panel ≡ on → Does h f d t
     → Does h f (record t { panel = on }) t ⊎ Does h f (before_shift f (record t { panel = on })) t
-does_from h (Effect.Change r Next) on d t valid p (e, b, put) = inr (shift_again (moved_entry prev_frame) (moved_entry next_frame) r e on d t p (next_again (entry_of r d) (valid r)) b put)
-does_from h (Effect.Change r Prev) on d t valid p (e, b, put) = inr (shift_again (moved_entry next_frame) (moved_entry prev_frame) r e on d t p (prev_again (entry_of r d) (valid r)) b put)
+does_from h (Effect.Change r Next) on d t valid p (e, b, put) = inr (shift_again (moved_entry prev_frame) (moved_entry next_frame) r e on d t p (shifted_again (entry_of r d) (valid r)).0 b put)
+does_from h (Effect.Change r Prev) on d t valid p (e, b, put) = inr (shift_again (moved_entry next_frame) (moved_entry prev_frame) r e on d t p (shifted_again (entry_of r d) (valid r)).1 b put)
 does_from h (Effect.Change r c) on d t valid p (e, b, put) = inl (e, b, put_again r e on d t p put)
 does_from h f on d t valid p does = inl (grind arith)
 
@@ -59,7 +53,7 @@ sensed c = grind arith
 
 -- a step that leaves the state as it was
 stays_from : (h : Hands) (e : Exchange) (on : Bool) (d t : State) → d.panel ≡ on → Steps h e d t → t ≡ d → Steps h e (record t { panel = on }) t
-stays_from h e on d t p step same = subst (λ v. Steps h e v t) (sym same ∙ same_panel t on (ap (λ (v : State). v.panel) same ∙ p)) step
+stays_from h e on d t p step same = subst (λ v. Steps h e v t) (grind arith) step
 
 steps_from : (h : Hands) (e : Exchange) (on : Bool) (d t : State) → IsState d → d.panel ≡ on → Steps h e d t
     → Steps h e (record t { panel = on }) t ⊎ Steps h e (before_shift (effect_of e.command) (record t { panel = on })) t
@@ -77,9 +71,7 @@ steps_from h e on d t valid p (done nak shown does) =
     ]
 
 shift_panel : (f : Effect) (s : State) → (before_shift f s).panel ≡ s.panel
-shift_panel (Effect.Change r Next) s = put_panel r (moved_entry prev_frame (entry_of r s)) s
-shift_panel (Effect.Change r Prev) s = put_panel r (moved_entry next_frame (entry_of r s)) s
-shift_panel _ s = refl
+shift_panel f s = grind (arith, put_panel)
 
 pub two_states : (h : Hands) (e : Exchange) (on : Bool) (t : State) (f : Effect) (same back : State) → f ≡ effect_of e.command → same ≡ record t { panel = on } → back ≡ before_shift f same → IsState same → IsState back
     → (Steps h e same t ⊎ Steps h e back t) ↔ StepsFromSome h e on t
@@ -101,29 +93,23 @@ two_states h e on t f same back is_effect is_same is_back valid valid_back =
 pub first_drifts : (h : Hands) (s d : State) → IsFirst h s → Drift h s d → IsFirst h d
 first_drifts h s d first drift = let pairs = pairs_from_drift h s d drift in let entries = same_entries s d in grind arith
 
-begins_from : (h : Hands) (e : Exchange) (t : State) → Begins h e t → (d : State) × IsFirst h d × Steps h e d t
-begins_from h e t (s, first, (d, drift, step)) = (d, first_drifts h s d first drift, step)
-
-begins_to : (h : Hands) (e : Exchange) (t d : State) → IsFirst h d → Steps h e d t → Begins h e t
-begins_to h e t d first step = (d, first, (d, ([], refl), step))
+begins_at : (h : Hands) (e : Exchange) (t : State) → Begins h e t ↔ ((d : State) × IsFirst h d × Steps h e d t)
+begins_at h e t = (λ w. let at = w.2 in (at.0, first_drifts h w.0 at.0 w.1 at.1, at.2), λ w. (w.0, w.1, (w.0, ([], refl), w.2)))
 
 pub begins_alone : (h : Hands) (e : Exchange) (t : State) → h ≡ Hands.None → StepsFromSome h e false t ↔ Begins h e t
-begins_alone Hands.None e t none = (λ w. begins_to Hands.None e t w.0 (w.1, w.2) w.3, λ w. let d = begins_from Hands.None e t w in (d.0, d.1.0, d.1.1, d.2))
+begins_alone Hands.None e t none = let begins = begins_at Hands.None e t in (λ w. begins.1 (w.0, (w.1, w.2), w.3), λ w. let d = begins.0 w in (d.0, d.1.0, d.1.1, d.2))
 begins_alone Hands.Allowed e t none = cc
 
 pub begins_touched : (h : Hands) (e : Exchange) (t : State) → h ≡ Hands.Allowed → (StepsFromSome h e false t ⊎ StepsFromSome h e true t) ↔ Begins h e t
 begins_touched Hands.None e t allowed = cc
-begins_touched Hands.Allowed e t allowed = (λ w. elim w [ inl some ↦ to some | inr some ↦ to some ], λ w. let d = begins_from Hands.Allowed e t w in from d.0 d.0.panel refl d.1 d.2)
+begins_touched Hands.Allowed e t allowed = (λ w. elim w [ inl d ↦ begins.1 (d.0, d.1, d.3) | inr d ↦ begins.1 (d.0, d.1, d.3) ], λ w. let d = begins.0 w in from d.0 d.0.panel refl d.1 d.2)
   where
-    to : {on : Bool} → StepsFromSome Hands.Allowed e on t → Begins Hands.Allowed e t
-    to (d, valid, still, step) = begins_to Hands.Allowed e t d valid step
+    begins : Begins Hands.Allowed e t ↔ ((d : State) × IsFirst Hands.Allowed d × Steps Hands.Allowed e d t)
+    begins = begins_at Hands.Allowed e t
 
     from : (d : State) (b : Bool) → d.panel ≡ b → IsState d → Steps Hands.Allowed e d t → StepsFromSome Hands.Allowed e false t ⊎ StepsFromSome Hands.Allowed e true t
     from d false p valid step = inl (d, valid, p, step)
     from d true p valid step = inr (d, valid, p, step)
-
-pub none_allowed : Hands.None ≡ Hands.Allowed → ⊥
-none_allowed e = cc
 
 pub goes_by : (h : Hands) (e : Exchange) (s t : State) → (DriftsAndSteps h e s t ⊎ ((h ≡ Hands.Allowed) × (s.panel ≡ true) × StepsFromSome h e true t)) ↔ Exchanges h e.command e.reply s t
 goes_by h e s t = (

@@ -27,16 +27,15 @@ pub use Rattle.deck9.specs.declared.state.Hands.{Hands}
 pub use Rattle.deck9.specs.declared.state.Register.{Register}
 pub use Rattle.deck9.specs.declared.state.Register.TheVariants.{RegAudioIn, RegAudioOut, RegIn, RegOut}
 pub use Rattle.deck9.specs.declared.state.State.{State}
-pub use Rattle.std.proofs.Common.{[], ap, arith, bit_and, Bool, drop, false, if◌then◌else◌, inl, inr, length, List, None, refl, rules, Some, subst, suc, sym, true, ℕ, ◌%◌, ◌&&◌}
-pub use Rattle.std.proofs.Common.{◌*◌, ◌++◌, ◌+◌, ◌-◌, ◌/◌, ◌<◌, ◌==◌, ◌||◌, ◌↔◌, ◌∙◌, ◌∷◌, ◌≡◌, ◌≤◌, ◌⊎◌}
-pub use Rattle.std.proofs.lemmas.Bool.{eq-eqb, eqb-true, false≢true}
+pub use Rattle.std.proofs.Common.{[], ap, arith, bit_and, Bool, drop, false, if◌then◌else◌, inl, inr, length, List, None, refl, rules, Some, subst, suc, sym, true, ℕ, ◌++◌, ◌+◌}
+pub use Rattle.std.proofs.Common.{◌-◌, ◌/◌, ◌<◌, ◌==◌, ◌||◌, ◌↔◌, ◌∙◌, ◌∷◌, ◌≡◌, ◌≤◌, ◌⊎◌}
+pub use Rattle.std.proofs.lemmas.Bool.{eqb-true}
 pub use Rattle.std.proofs.lemmas.Bool.Decides.{nat_tests}
 pub use Rattle.std.proofs.lemmas.Grind.{common_steps}
 pub use Rattle.std.proofs.lemmas.List.Elements.{All-head, All-tail}
 pub use Rattle.std.proofs.lemmas.Nat.{and_mask}
 pub use Rattle.std.proofs.lemmas.Nat.Bits.{and_pow}
 pub use Rattle.std.proofs.lemmas.Option.{slice_get_past}
-pub use Rattle.std.specs.Int.{bit_at}
 pub use Rattle.std.specs.Iterator.Adapters.{zip_first, zip_second}
 pub use Rattle.std.specs.List.{All}
 pub use Rattle.std.specs.Slice.Iter.{iter_rest}

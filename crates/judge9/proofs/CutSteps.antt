@@ -1,17 +1,14 @@
 -- A cut that gets one record more.
-use Rattle.judge9.proofs.Words.{[], ap, append-nil, append_assoc, arith, Cut, Does, Exchange, inl, inr, IsExchange, IsKept, IsTail, last_apart, LineByte, List, refl, Step}
+use Rattle.judge9.proofs.Words.{[], append-nil, arith, Cut, cut_joined, Does, Exchange, inl, inr, IsExchange, IsKept, IsTail, last_apart, LineByte, List, refl, Step}
 use Rattle.judge9.proofs.Words.{still_tail, subst, sym, tail_after, tail_no_exchange, ◌++◌, ◌∙◌, ◌∷◌, ◌⊎◌}
 
 -- a tail that grows
 pub cut-tail : (p : List LineByte) (es : List Exchange) (t : List LineByte) (r : LineByte) → Cut p es t → IsTail (t ++ r ∷ []) → Cut (p ++ r ∷ []) es (t ++ r ∷ [])
-cut-tail p [] t r h more = (ap (λ (l : List LineByte). l ++ r ∷ []) h.0, more)
-cut-tail p (e ∷ es) t r h more = (h.0, h.1 ++ r ∷ [], ap (λ (l : List LineByte). l ++ r ∷ []) h.2 ∙ append_assoc h.0 h.1 (r ∷ []), h.3, cut-tail h.1 es t r h.4 more)
+cut-tail p es t r h more = rw append-nil at (cut_joined p es [] t (r ∷ []) (t ++ r ∷ []) h (refl, more))
 
 -- a tail that becomes an exchange
 pub cut-exchange : (p : List LineByte) (es : List Exchange) (t : List LineByte) (r : LineByte) (e : Exchange) → Cut p es t → IsExchange (t ++ r ∷ []) e → Cut (p ++ r ∷ []) (es ++ e ∷ []) []
-cut-exchange p [] t r e h more = (t ++ r ∷ [], [], ap (λ (l : List LineByte). l ++ r ∷ []) h.0 ∙ sym (append-nil (t ++ r ∷ [])), more, (refl, IsTail.nothing refl))
-cut-exchange p (d ∷ es) t r e h more =
-    (h.0, h.1 ++ r ∷ [], ap (λ (l : List LineByte). l ++ r ∷ []) h.2 ∙ append_assoc h.0 h.1 (r ∷ []), h.3, cut-exchange h.1 es t r e h.4 more)
+cut-exchange p es t r e h more = cut_joined p es (e ∷ []) t (r ∷ []) [] h (t ++ r ∷ [], [], sym (append-nil (t ++ r ∷ [])), more, (refl, IsTail.nothing refl))
 
 -- the exchanges after a step
 abbrev pub exchanges_after : List Exchange → Step → List Exchange

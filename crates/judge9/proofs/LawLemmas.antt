@@ -1,9 +1,9 @@
 -- The laws on lists of records that keep the rules, on answers, on judging with hands, and on reasons.
-use Rattle.judge9.proofs.Words.{[], Answer, ap, append-nil, append_assoc, Applies, arith, Breaks, cases_lt, Cut, cut_once, Exchange, exchange_kept, explained_of}
+use Rattle.judge9.proofs.Words.{[], Answer, ap, append-nil, append_assoc, Applies, arith, Breaks, cases_lt, Cut, cut_once, cut_parted, drop, Exchange, exchange_kept, explained_of}
 use Rattle.judge9.proofs.Words.{first_before_last, first_holds, first_once, Hands, HasRun, Holds, inl, inr, IsAnswer, IsExchange, IsFirst, IsFirstBreak, IsKept, IsOk, IsReason}
 use Rattle.judge9.proofs.Words.{IsTail, kept_by_tail, kept_less, last_is_first, last_time, last_time-append, length, length-append, length_push, LineByte, List, None, Option}
-use Rattle.judge9.proofs.Words.{order, pairing, quiet_kept, rank, rank_low, rank_once, Reason, refl, Rows, run_with_hands, same_parts, Some, subst, sym, tail_by_kept, take}
-use Rattle.judge9.proofs.Words.{take-append_seam, Verdict, ℕ, ◌++◌, ◌-◌, ◌<◌, ◌∙◌, ◌∷◌, ◌≡◌, ◌≤◌}
+use Rattle.judge9.proofs.Words.{order, pairing, quiet_kept, rank, rank_low, rank_once, Reason, refl, Rows, run_with_hands, same_parts, Some, subst, sym, take, take-append-drop, take-append-le}
+use Rattle.judge9.proofs.Words.{take-append_seam, Verdict, ℕ, ◌++◌, ◌-◌, ◌<◌, ◌∙◌, ◌∷◌, ◌≡◌, ◌≢◌, ◌≤◌}
 use Rattle.block9.proofs.ReasonLemmas as block
 use Rattle.judge9.proofs.RunSteps.{run_less}
 use Rattle.judge9.proofs.CutSteps.{cut-exchange, cut-tail, kept_grows}
@@ -17,39 +17,29 @@ cut_tail p (e ∷ es) t h = cut_tail h.1 es t h.4
 pub kept_of : (h : Hands) (p : List LineByte) → IsOk h p → IsKept p
 kept_of h p ok = record { exchanges = ok.exchanges; tail = ok.tail; cut = ok.cut }
 
--- without their last record, records that keep the rules keep them
-pub ok_less : (h : Hands) (p : List LineByte) (r : LineByte) → IsOk h (p ++ r ∷ []) → IsOk h p
-ok_less h p r ok =
-    let kept = kept_less p r (kept_of h (p ++ r ∷ []) ok) in
-    let once = cut_once (p ++ r ∷ []) ok.exchanges in
-    let run : HasRun h kept.exchanges = elim (kept_grows kept.tail r (cut_tail p kept.exchanges kept.tail kept.cut) (tail_by_kept p kept.exchanges kept.tail r kept.cut (kept_of h (p ++ r ∷ []) ok))) [
-      | inl longer ↦ subst (HasRun h) (once kept.exchanges ok.tail (kept.tail ++ r ∷ []) ok.cut (cut-tail p kept.exchanges kept.tail r kept.cut longer)).0 ok.run
-      | inr whole ↦ run_less h kept.exchanges whole.0 (subst (HasRun h) (once (kept.exchanges ++ whole.0 ∷ []) ok.tail [] ok.cut (cut-exchange p kept.exchanges kept.tail r whole.0 kept.cut whole.1)).0 ok.run)
-    ] in
-    record { exchanges = kept.exchanges; tail = kept.tail; cut = kept.cut; run = run }
-
 -- what holds of a list without its last element where it holds of the list holds of each first part
 pub first_of : {X : Type 0} (P : List X → Type 0) → ((p : List X) (x : X) → P (p ++ x ∷ []) → P p) → (q p : List X) → P (p ++ q) → P p
 first_of P less [] p k = subst P (append-nil p) k
 first_of P less (x ∷ q) p k = less p x (first_of P less q (p ++ x ∷ []) (subst P (sym (append_assoc p (x ∷ []) q)) k))
 
+-- without their last record, records that keep the rules keep them
+pub ok_less : (h : Hands) (p : List LineByte) (r : LineByte) → IsOk h (p ++ r ∷ []) → IsOk h p
+ok_less h p r ok =
+    let kept = kept_less p r (kept_of h (p ++ r ∷ []) ok) in
+    let more = cut_parted p kept.exchanges ok.exchanges kept.tail (r ∷ []) ok.tail kept.cut ok.cut in
+    record { exchanges = kept.exchanges; tail = kept.tail; cut = kept.cut; run = first_of (HasRun h) (run_less h) more.0 kept.exchanges (rw more.1 at ok.run) }
+
 -- of two lists in one, the longer begins with the shorter
 pub shorter : {X : Type 0} (a x b y : List X) → a ++ x ≡ b ++ y → length a ≤ length b → (m : List X) × (b ≡ a ++ m)
-shorter [] x b y e h = (b, refl)
-shorter (c ∷ a) x [] y e h = absurd (omega arith)
-shorter (c ∷ a) x (d ∷ b) y e h =
-    let head : c ≡ d = cc in
-    let tails : a ++ x ≡ b ++ y = cc in
-    let found = shorter a x b y tails (omega arith) in
-    (found.0, ap (λ z. z ∷ b) (sym head) ∙ ap (λ l. c ∷ l) found.1)
+shorter a x b y e h =
+    let same : a ≡ take (length a) b = sym (take-append_seam a x) ∙ ap (take (length a)) e ∙ take-append-le (length a) b y h in
+    (drop (length a) b, sym (take-append-drop (length a) b) ∙ ap (λ l. l ++ drop (length a) b) (sym same))
 
 -- one reason
 pub breaks_once : (h : Hands) (p : List LineByte) (r : LineByte) (x y : Reason) → Breaks h p r x → Breaks h p r y → x ≡ y
 breaks_once h p r x y b c =
     let same = cut_once p b.exchanges c.exchanges b.tail c.tail b.cut c.cut in
-    let exchanges = subst (λ (es : List Exchange). IsFirst (Applies h es b.tail r) order x) same.0 b.is_reason in
-    let here = subst (λ (t : List LineByte). IsFirst (Applies h c.exchanges t r) order x) same.1 exchanges in
-    first_once (Applies h c.exchanges c.tail r) order x y here c.is_reason
+    first_once (Applies h c.exchanges c.tail r) order x y (rw (same.0, same.1) at b.is_reason) c.is_reason
 
 -- of records with a break those keep the rules that come before it, and no more
 pub is_ok : {h : Hands} {items : List LineByte} {at : ℕ} {z : Reason} → (b : IsFirstBreak h items at z) → IsOk h b.before
@@ -112,20 +102,23 @@ no_with_hands rows at other reason another w v = omega (arith, no_longer v w.bef
 
 -- ---- which reason a record gets: that of pairing where a rule of pairing is broken, and else that no run remains
 
--- ---- the reasons before the last one are those of pairing
+-- the reasons before the last one are those of pairing
 
 same_before_last : (h : Hands) (es : List Exchange) (t : List LineByte) (r : LineByte) (y : Reason) → rank y < 12 → (Holds y t r → Applies h es t r y) × (Applies h es t r y → Holds y t r)
 same_before_last h es t r Reason.NoRun low = absurd (omega arith)
 same_before_last h es t r y low = (λ k. k, λ k. k)
 
-not_last : (y : Reason) → (y ≡ Reason.NoRun → ⊥) → rank y < 12
+-- a reason of pairing is never that no run remains
+pub pairing_reason : {t : List LineByte} {r : LineByte} {x : Reason} → IsReason t r x → x ≢ Reason.NoRun
+pairing_reason {t = t} {r = r} {x = x} is same = subst (λ y. Holds y t r) same (first_holds (λ y. Holds y t r) order x is)
+
+not_last : (y : Reason) → y ≢ Reason.NoRun → rank y < 12
 not_last y other = elim (cases_lt (rank y) 12) [ inl low ↦ low | inr high ↦ absurd (other (rank_once y Reason.NoRun (omega (arith, rank_low y)))) ]
 
 -- a reason of pairing is the reason
 pub pairing_first : (h : Hands) (es : List Exchange) (t : List LineByte) (r : LineByte) (x : Reason) → IsReason t r x → IsFirst (Applies h es t r) order x
 pairing_first h es t r x is =
-    let low = not_last x (λ e. subst (λ y. Holds y t r) e (first_holds (λ y. Holds y t r) order x is)) in
-    first_before_last (λ y. Holds y t r) (Applies h es t r) x (same_before_last h es t r) low is
+    first_before_last (λ y. Holds y t r) (Applies h es t r) x (same_before_last h es t r) (not_last x (pairing_reason is)) is
 
 -- where the records are not kept, the reason is one of pairing
 pub first_pairing : (h : Hands) (es : List Exchange) (t : List LineByte) (r : LineByte) (x : Reason) → ¬ IsKept (t ++ r ∷ []) → IsFirst (Applies h es t r) order x → IsReason t r x
@@ -142,7 +135,7 @@ pub breaks_tail : (h : Hands) (p : List LineByte) (es : List Exchange) (t : List
 breaks_tail h p es t r x cut broken b =
     let same = (cut_once p b.exchanges es b.tail t b.cut cut).1 in
     subst (λ (l : List LineByte). IsReason l r x) same
-    (first_pairing h b.exchanges b.tail r x (λ kept. broken (kept_by_tail p b.exchanges b.tail r b.cut kept)) b.is_reason)
+    (first_pairing h b.exchanges b.tail r x (λ kept. broken (kept_by_tail p b.exchanges b.tail (r ∷ []) b.cut kept)) b.is_reason)
 
 pub tail_breaks : (h : Hands) (p : List LineByte) (es : List Exchange) (t : List LineByte) (r : LineByte) (x : Reason) → Cut p es t → HasRun h es → ¬ IsKept (p ++ r ∷ []) → IsReason t r x → Breaks h p r x
 tail_breaks h p es t r x cut run broken is =

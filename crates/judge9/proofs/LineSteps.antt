@@ -5,7 +5,7 @@ use Rattle.judge9.proofs.Words.{LineByte, List, None, Option, Possible, records_
 
 -- ---- how many records exchanges have
 
-exchange_len : (front : List LineByte) (e : Exchange) → IsExchange front e → length front ≡ records_of e
+pub exchange_len : (front : List LineByte) (e : Exchange) → IsExchange front e → length front ≡ records_of e
 exchange_len front e h =
     omega (arith, ap length h.split, length-append h.asked h.answered, simp length-map at (ap length h.command.whole.spelled.spelled), simp length-map at (ap length h.reply.spelled.spelled))
 

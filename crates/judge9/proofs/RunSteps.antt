@@ -1,6 +1,6 @@
 -- Runs of the deck, and the states that a tracker keeps, from one exchange to the next; and the way back to a run.
 use Rattle.judge9.proofs.Words.{[], ap, append-nil, append_assoc, AreReached, arith, Ends, ends_more, ends_none, Err, Exchange, Exchanges, Follows, get_or, GoesBack, Hands}
-use Rattle.judge9.proofs.Words.{HasRun, IfOk, inl, inr, IsRunFrom, IsTrail, last_state, Leads, length, length_push, List, Ok, OnOk, Possible, refl, Result, reverse}
+use Rattle.judge9.proofs.Words.{HasRun, IfOk, inl, inr, IsTrail, join_runs, last_joined, last_state, Leads, length, length_push, List, Ok, OnOk, Possible, refl, Result, reverse}
 use Rattle.judge9.proofs.Words.{reverse-append, slice_get, slice_get_read, slice_range, Some, some_end, State, stretch_length, subst, suc, sym, take, take-add, take-append-le}
 use Rattle.judge9.proofs.Words.{take_all, take_more, Tracked, zero, ℕ, ◌*◌, ◌++◌, ◌+◌, ◌-◌, ◌/◌, ◌<◌, ◌↔◌, ◌∙◌, ◌∷◌, ◌≡◌, ◌≤◌, ◌⊎◌}
 use Rattle.deck9.specs.State.{IsFirst}
@@ -33,9 +33,7 @@ follows-next h es k e old new low is f reached kept =
     let more = take_more es k e low ∙ ap (λ (x : Exchange). take k es ++ x ∷ []) (sym is) in
     (more, rw more (follows-more h (take k es) e old new f reached kept))
 
--- ---- the way back from the end of a capture to a run of the deck, stretch by stretch
-
--- ---- where exchanges lead
+-- ---- the way back from the end of a capture to a run of the deck: where exchanges lead
 
 pub leads_on : (h : Hands) (es : List Exchange) (X Y : State → Type 0) (t : State) → ((s : State) → X s → Y s) → Leads h X es t → Leads h Y es t
 leads_on h [] X Y t f l = f t l
@@ -48,17 +46,6 @@ ends_lead h es [] t l = subst (λ (x : List Exchange). Ends h x t) (append-nil e
 ends_lead h es (f ∷ fs) t l =
     let more = ends_lead h (es ++ f ∷ []) fs t (subst (λ (x : List Exchange). Ends h x t) (sym (append_assoc es (f ∷ []) fs)) l) in
     leads_on h fs (Ends h (es ++ f ∷ [])) (λ u. (s : State) × Ends h es s × Exchanges h f.command f.reply s u) t (λ u w. (ends_more h es f).0 u w) more
-
--- ---- runs in a row
-
-join_runs : (h : Hands) (es fs : List Exchange) (s : State) (ts us : List State) → IsRunFrom h s es ts → IsRunFrom h (last_state s ts) fs us → IsRunFrom h s (es ++ fs) (ts ++ us)
-join_runs h [] fs s [] us r more = more
-join_runs h (e ∷ es) fs s (t ∷ ts) us r more = (r.0, join_runs h es fs t ts us r.1 more)
-join_runs h es fs s ts us r more = absurd r
-
-last_joined : (s : State) (ts us : List State) → last_state s (ts ++ us) ≡ last_state (last_state s ts) us
-last_joined s [] us = refl
-last_joined s (t ∷ ts) us = last_joined t ts us
 
 -- ---- going back
 

@@ -22,8 +22,7 @@ pub record Keeps (view : View) (hands : Hands) (es : List Exchange) (tail : List
 
 -- before the first record
 pub explained-start : (which : View) (hands : Hands) → IsExplained which hands [] []
-explained-start View.Verdict hands = refl
-explained-start View.Explain hands = refl
+explained-start which hands = grind arith
 
 abbrev pub keeps-none : {tail : List LineByte} (which : View) (hands : Hands) → tail ≡ [] → Keeps which hands [] tail
 keeps-none which hands e = record { items = []; cut = (sym e, IsTail.nothing e); run = run_start hands; text = []; explained = explained-start which hands }

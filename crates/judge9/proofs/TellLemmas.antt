@@ -1,14 +1,14 @@
 -- What the result of a judging tells at each of its ends, and what it can bring whatever the reader tells of its bytes.
-use Rattle.judge9.proofs.Words.{[], Answer, answer_of, ap, append_assoc, Appends, Appends-nil, Appends-trans, AreCounts, arith, block_len_low, Bool, Breaks, CanBeResult}
+use Rattle.judge9.proofs.Words.{[], Answer, answer_of, ap, append_assoc, Appends, Appends-nil, Appends-trans, AreCounts, arith, Bool, Breaks, CanBeResult}
 use Rattle.judge9.proofs.Words.{CanBeVerdict, CaptureError, CaptureKind, Cut, cut_once, EndsRows, Err, Exchange, exchange_less, Explains, false, false≢true, Feeds, given-more}
 use Rattle.judge9.proofs.Words.{given-refused, GivesRecord, GivesRefusal, Hands, HasHeader, HasRun, IfErr, IfSome, if◌then◌else◌, inl, inr, is_of_text, IsAfter, IsAnswer}
-use Rattle.judge9.proofs.Words.{IsExchange, IsFirstBreak, IsOk, IsOkBefore, IsPlaced, IsSame, IsStartOf, IsTheAnswer, IsVerdictAfter, JudgeError, Judges, Judging, length}
+use Rattle.judge9.proofs.Words.{IsFirstBreak, IsOk, IsOkBefore, IsPlaced, IsSame, IsStartOf, IsTheAnswer, IsVerdictAfter, JudgeError, Judges, Judging, length, length_push}
 use Rattle.judge9.proofs.Words.{length-append, line_of, LineByte, List, no_rows-can_be, None, Observes, Ok, Option, option_map, part_after, Possible, Progress, Puts, Reason}
 use Rattle.judge9.proofs.Words.{refl, refusal_by, refusal_of, refused-after, Result, Rows, rows_of, Some, some_end, Spoils, Step, StoppedBefore, subst, tail_by_kept, tail_short}
-use Rattle.judge9.proofs.Words.{Told, Tracked, true, Turn, Turned, Verdict, View, whole_len, whole_long, Written, ℕ, ⊤, ◌*◌, ◌++◌, ◌+◌, ◌∙◌, ◌∷◌, ◌≡◌, ◌≢◌, ◌≤◌}
+use Rattle.judge9.proofs.Words.{Told, Tracked, true, Turn, Turned, Verdict, View, Written, ℕ, ⊤, ◌*◌, ◌++◌, ◌+◌, ◌∙◌, ◌∷◌, ◌≡◌, ◌≢◌, ◌≤◌}
 use Rattle.std.specs.Result.{result_map_both}
 use Rattle.judge9.proofs.CutSteps.{cut-exchange}
-use Rattle.judge9.proofs.LineSteps.{appended, none_after}
+use Rattle.judge9.proofs.LineSteps.{appended, exchange_len, none_after}
 use Rattle.judge9.proofs.LawLemmas.{answer_once, cut_tail, no_run_first, tail_breaks}
 use Rattle.judge9.proofs.SoFar.{Keeps, keeps-none, observed_more, of_known, read-more, Seen, seen, seen_now, so_far-exchange, so_far-more, so_far-ok, SoFar, unread, WereRead}
 
@@ -63,21 +63,16 @@ told-nothing which hands rows old =
 
 -- ---- what a judging can bring, whatever the reader tells of its bytes
 
--- an exchange has 6 to 36 records
-exchange_counts : (front : List LineByte) (e : Exchange) → IsExchange front e → (6 ≤ length front) × (length front ≤ 36)
-exchange_counts front e h =
-    let asked = whole_len _ h.asked e.block h.command.whole in
-    let answered = whole_len _ h.answered e.reply h.reply in (
-      omega (arith, ap length h.split, length-append h.asked h.answered, whole_long _ h.asked e.block h.command.whole, whole_long _ h.answered e.reply h.reply),
-      omega (arith, ap length h.split, length-append h.asked h.answered, block_len_low h.asked, block_len_low h.answered),
-    )
-
+-- the records of a cut, of which each exchange has 6 to 36
 cut_counts : (p : List LineByte) (es : List Exchange) (t : List LineByte) → Cut p es t → (length es * 6 + length t ≤ length p) × (length p ≤ length es * 36 + length t)
 cut_counts p [] t h = (omega (arith, ap length h.0), omega (arith, ap length h.0))
 cut_counts p (e ∷ es) t h =
     let more = cut_counts h.1 es t h.4 in
-    let front = exchange_counts h.0 e h.3 in
-    (omega (arith, ap length h.2, length-append h.0 h.1), omega (arith, ap length h.2, length-append h.0 h.1))
+    let parts = length-append h.0 h.1 in
+    let asked = h.3.command.whole.spelled.block.data_bytes in
+    let answered = h.3.reply.spelled.block.data_bytes in
+    let count = simp length_push at (exchange_len h.0 e h.3) in
+    (omega (arith, ap length h.2), omega (arith, ap length h.2))
 
 -- ---- all that the result tells, at each end
 
@@ -132,7 +127,7 @@ module _ {R : Type 0} {which : View} {hands : Hands} {rows : Option Rows} {j : J
   -- of pairing
   pub breaks-pairing : {k : Judging R} {next : LineByte} {reason : Reason} → Spoils j k reason next → Breaks hands h.items next reason
   breaks-pairing {next = next} {reason = reason} spoils =
-      tail_breaks hands h.items es j.pairer.tail next reason h.cut h.run (λ kept. spoils.refuses.not_kept (tail_by_kept h.items es j.pairer.tail next h.cut kept)) spoils.refuses.is_reason
+      tail_breaks hands h.items es j.pairer.tail next reason h.cut h.run (λ kept. spoils.refuses.not_kept (tail_by_kept h.items es j.pairer.tail (next ∷ []) h.cut kept)) spoils.refuses.is_reason
 
   -- or it ends an exchange with which no run remains
   pub none_observed : {k : Tracked} {e : Exchange} → Observes j.tracker k e false → ¬ HasRun hands (es ++ e ∷ [])

@@ -1,25 +1,16 @@
 -- What was written is a first part of the whole text of the report.
-use Rattle.judge9.proofs.Words.{[], Answer, answer_of, ap, append-nil, append_assoc, Appends, AppendsPart, AreLines, arith, Cut, cut_once, Err, Exchange, explained_of}
-use Rattle.judge9.proofs.Words.{first_part, Hands, HasRun, IfSome, inl, inr, IsAnswer, IsExplained, IsKept, IsOk, IsText, IsTheAnswer, IsVerdictAfter, JudgeError, kept_less}
+use Rattle.judge9.proofs.Words.{[], Answer, answer_of, ap, append-nil, append_assoc, Appends, AppendsPart, AreLines, arith, Cut, cut_once, cut_parted, Err, Exchange, explained_of}
+use Rattle.judge9.proofs.Words.{first_part, Hands, HasRun, IfSome, inl, inr, IsAnswer, IsExplained, IsOk, IsTail, IsText, IsTheAnswer, IsVerdictAfter, JudgeError}
 use Rattle.judge9.proofs.Words.{known_of_ends, last_line, length, length-append, line_of, line_of_exchange, LineByte, List, nil_from_length, Ok, Option, records_of, refl, Result}
-use Rattle.judge9.proofs.Words.{Rows, Some, subst, sym, tail_by_kept, take-length, Told, Verdict, View, Written, ℕ, ◌++◌, ◌+◌, ◌∙◌, ◌∷◌, ◌≡◌}
+use Rattle.judge9.proofs.Words.{Rows, Some, subst, sym, take-length, Told, Verdict, View, Written, ℕ, ◌++◌, ◌+◌, ◌∙◌, ◌∷◌, ◌≡◌}
 use Rattle.judge9.proofs.RunSteps.{run_less}
-use Rattle.judge9.proofs.CutSteps.{cut-exchange, cut-tail, kept_grows}
 use Rattle.judge9.proofs.LawLemmas.{answer_ok, answer_once, cut_tail, first_of, no_longer, shorter, taken}
 
--- ---- the first records have the first exchanges
+-- with no record more there is no exchange more
+no_more : (t q : List LineByte) (es : List Exchange) (u : List LineByte) → IsTail t → Cut (t ++ q) es u → q ≡ [] → es ≡ []
+no_more t q es u tail cut none = (cut_once t es [] u t (rw (none, append-nil) at cut) (refl, tail)).0
 
-cut_start : (q p : List LineByte) (es fs : List Exchange) (t u : List LineByte) → Cut p es t → Cut (p ++ q) fs u → (more : List Exchange) × (fs ≡ es ++ more) × (q ≡ [] → more ≡ [])
-cut_start [] p es fs t u h k = ([], (cut_once p fs es u t (rw append-nil at k) h).0 ∙ sym (append-nil es), λ _. refl)
-cut_start (r ∷ q) p es fs t u h k =
-    let whole = subst (λ (l : List LineByte). Cut l fs u) (sym (append_assoc p (r ∷ []) q)) k in
-    let kept = first_of IsKept kept_less q (p ++ r ∷ []) (record { exchanges = fs; tail = u; cut = whole }) in
-    elim (kept_grows t r (cut_tail p es t h) (tail_by_kept p es t r h kept)) [
-      | inl long ↦ let rest = cut_start q (p ++ r ∷ []) es fs (t ++ r ∷ []) u (cut-tail p es t r h long) whole in (rest.0, rest.1, λ e. cc)
-      | inr e ↦ let rest = cut_start q (p ++ r ∷ []) (es ++ e.0 ∷ []) fs [] u (cut-exchange p es t r e.0 h e.1) whole in (e.0 ∷ rest.0, rest.1 ∙ append_assoc es (e.0 ∷ []) rest.0, λ e. cc)
-    ]
-
--- ---- and the first lines
+-- ---- the first lines
 
 lines_start : (h : Hands) (before : List Exchange) (at : ℕ) (es more : List Exchange) (text whole : List ℕ) → HasRun h (before ++ (es ++ more)) → AreLines h before at es text → AreLines h before at (es ++ more) whole → (rest : List ℕ) × (whole ≡ text ++ rest) × (more ≡ [] → rest ≡ [])
 lines_start h before at [] more text whole run a b = (whole, ap (λ t. t ++ whole) (sym a), λ none. rw none at b)
@@ -58,8 +49,8 @@ first_of_text which h rows r old new a whole told is all = by r told.answer told
     first : (m : List LineByte) × (explained_of rows a ≡ told.items ++ m)
     first = within h rows told.items told.start.0 a (record { exchanges = told.exchanges; tail = told.tail; cut = told.cut; run = told.run }) (ap (λ (x : Rows). x.records) (sym told.is_known) ∙ told.start.1) is
 
-    more : (more : List Exchange) × (all.exchanges ≡ told.exchanges ++ more) × (first.0 ≡ [] → more ≡ [])
-    more = cut_start first.0 told.items told.exchanges all.exchanges told.tail all.tail told.cut (rw first.1 at all.cut)
+    more : (more : List Exchange) × (all.exchanges ≡ told.exchanges ++ more) × Cut (told.tail ++ first.0) more all.tail
+    more = cut_parted told.items told.exchanges all.exchanges told.tail first.0 all.tail told.cut (rw first.1 at all.cut)
 
     -- what the whole text begins with
     lines : (rest : List ℕ) × (all.text ≡ told.text ++ rest) × (more.0 ≡ [] → rest ≡ [])
@@ -76,7 +67,7 @@ first_of_text which h rows r old new a whole told is all = by r told.answer told
     line v k after =
         let same = answer_once h rows a (Answer.judged v) is (subst (λ (x : Rows). IsAnswer h x (Answer.judged v)) told.is_known k) in
         let none : first.0 ≡ [] = nil_from_length first.0 (omega (arith, same_len h rows told.items v after (subst (IsAnswer h rows) same is), ap (λ x. length (explained_of rows x)) same, ap length first.1, length-append told.items first.0)) in
-        text ∙ ap (λ l. told.text ++ (l ++ last_line a)) (lines.2 (more.2 none)) ∙ ap (λ x. told.text ++ last_line x) same
+        text ∙ ap (λ l. told.text ++ (l ++ last_line a)) (lines.2 (no_more told.tail first.0 more.0 all.tail (cut_tail told.items told.exchanges told.tail told.cut) more.2 none)) ∙ ap (λ x. told.text ++ last_line x) same
 
     by : (r : Result Verdict JudgeError) → IfSome (answer_of r) (IsTheAnswer h told.rows) → Written h told.rows told.items told.text r old new → AppendsPart old new whole
     by (Ok v) answer written = rw (line v answer.is_answer written.0) (all_of old new (told.text ++ line_of v) written.1)

@@ -1,18 +1,13 @@
 -- What is kept at each end of a judging that keeps its trail.
-use Rattle.judge9.proofs.Words.{[], ap, append_assoc, arith, BreaksAtLast, Cut, Ending, Err, Exchange, Hands, Holds, inl, inr, IsBreakAfter, IsErrAnd, IsFirst, IsTrail}
-use Rattle.judge9.proofs.Words.{JudgeError, Judging, KeepsTrail, length, length_push, LineByte, List, None, Ok, Option, order, Reason, refl, Result, Rows, some_end, subst, sym}
+use Rattle.judge9.proofs.Words.{[], ap, append_assoc, arith, BreaksAtLast, Cut, Ending, Err, Exchange, Hands, inl, inr, IsBreakAfter, IsErrAnd, IsTrail}
+use Rattle.judge9.proofs.Words.{JudgeError, Judging, KeepsTrail, length, length_push, LineByte, List, None, Ok, Option, Reason, refl, Result, Rows, some_end}
 use Rattle.judge9.proofs.Words.{take, take-append_seam, Tracked, Turn, Turned, Verdict, View, ◌++◌, ◌∙◌, ◌∷◌, ◌≡◌, ◌≢◌}
 use Rattle.judge9.proofs.CutSteps.{cut-exchange}
 use Rattle.judge9.proofs.SoFar.{SoFar}
 use Rattle.judge9.proofs.TellLemmas.{breaks-pairing, breaks-run, judges-end, judges-memory, judges-no, judges-refusal, none_observed, refusal_cases}
+use Rattle.judge9.proofs.LawLemmas.{pairing_reason}
 use Rattle.judge9.proofs.TurnSteps.{handed}
 use Rattle.judge9.proofs.DayLemmas.{cut_in_day}
-
--- a reason of pairing is never that no run remains
-pairing_reason : (tail : List LineByte) (next : LineByte) (reasons : List Reason) (reason : Reason) → IsFirst (λ x. Holds x tail next) reasons reason → reason ≢ Reason.NoRun
-pairing_reason tail next [] reason is same = absurd is
-pairing_reason tail next (x ∷ more) reason (inl is) same = let none : x ≡ Reason.NoRun = sym is.0 ∙ same in subst (λ (y : Reason). Holds y tail next) none is.1
-pairing_reason tail next (x ∷ more) reason (inr is) same = pairing_reason tail next more reason is.1 same
 
 -- ---- what is kept at each end
 
@@ -34,7 +29,7 @@ module _ {R : Type 0} {hands : Hands} {rows : Option Rows} {j : Judging R} {es :
       let both = judges-no h {new = None} (Ok (Verdict.No k.rows.given reason)) spoils.gives (breaks-pairing h spoils) refl tt in
       let is_break : IsBreakAfter both.0.told.rows.records k.rows.given k.pairer.tail next =
       record { before = h.items; after = both.1.0; split = rw append_assoc at both.1.1; number = omega (arith, spoils.gives); exchanges = es; cut = rw spoils.refuses.tail h.cut } in
-      record { judges = both.0; ends = (pairing_reason j.pairer.tail next order reason spoils.refuses.is_reason, is_break); no_write = λ q. cc }
+      record { judges = both.0; ends = (pairing_reason spoils.refuses.is_reason, is_break); no_write = λ q. cc }
 
   -- no run remains
   pub keep-no_run : {k : Judging R} {us : List Tracked} {u : Tracked} {e : Exchange} → Turned j (Ok (Turn.NoRun e)) k → KeepsTrail hands rows (Ok (Ending.NoRun k.rows.given)) k.pairer.tail (es ++ e ∷ []) us u

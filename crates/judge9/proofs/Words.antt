@@ -1,9 +1,9 @@
 -- The names from elsewhere that the proofs of this crate cite, passed on from one place. Declares nothing.
-pub use Rattle.block9.proofs.CutLemmas.{cut_once, exchange_kept, exchange_less, kept_by_tail, kept_less, last_apart, tail_by_kept, tail_no_exchange}
+pub use Rattle.block9.proofs.CutLemmas.{cut_joined, cut_once, cut_parted, exchange_kept, exchange_less, kept_by_tail, kept_less, last_apart, tail_by_kept, tail_no_exchange}
 pub use Rattle.block9.proofs.KeptLemmas.{quiet_kept}
-pub use Rattle.block9.proofs.LineLemmas.{same_parts, whole_len, whole_long}
+pub use Rattle.block9.proofs.LineLemmas.{same_parts}
 pub use Rattle.block9.proofs.OrderLemmas.{first_before_last, first_holds, first_once, last_is_first, rank, rank_low, rank_once}
-pub use Rattle.block9.proofs.StepLemmas.{block_len_low, still_tail, tail_short}
+pub use Rattle.block9.proofs.StepLemmas.{still_tail, tail_short}
 pub use Rattle.block9.proofs.TailLemmas.{last_time-append}
 pub use Rattle.block9.specs.Command.{meaning_in, Row}
 unfoldable pub use Rattle.block9.specs.Command.{command_of}
@@ -23,7 +23,7 @@ pub use Rattle.capture9.specs.Records.{IsPlaced, Progress, TakesRecord}
 pub use Rattle.capture9.specs.Rows.{HasHeader, rows_of}
 pub use Rattle.capture9.specs.SomeText.{CanBeRows, IsOfSomeText}
 pub use Rattle.deck9.proofs.LawLemmas.{run_with_hands}
-pub use Rattle.deck9.proofs.RunLemmas.{ends_more, ends_none, some_end}
+pub use Rattle.deck9.proofs.RunLemmas.{ends_more, ends_none, join_runs, last_joined, some_end}
 pub use Rattle.deck9.proofs.RunSearch.{run_start}
 pub use Rattle.deck9.specs.Contradict.{Passes}
 pub use Rattle.deck9.specs.Drift.{Drift}
@@ -38,19 +38,19 @@ pub use Rattle.judge9.specs.Report.{AreLines, explained_of, IsExplained, IsText,
 pub use Rattle.judge9.specs.Verdict.{Applies, AreCounts, Breaks, CanBeVerdict, IsFirstBreak, IsOk}
 pub use Rattle.judge9.specs.WhyVerdict.{CouldBe, CouldShow}
 pub use Rattle.judge9.specs.Working.{[], All, Appends, AppendsPart, AreReached, Bool, BreaksAtLast, CanBeResult, CaptureError, CaptureKind, Cut, Ending, Ends, Err, Exchange}
-pub use Rattle.judge9.specs.Working.{Exchanges, Explains, false, GivesRecord, GivesRefusal, Hands, IfErr, IfOk, IfSome, IsBreakAfter, IsKnowledge, IsLineOf, IsRunFrom, IsSame}
+pub use Rattle.judge9.specs.Working.{Exchanges, Explains, false, GivesRecord, GivesRefusal, Hands, IfErr, IfOk, IfSome, IsBreakAfter, IsKnowledge, IsLineOf, IsSame}
 pub use Rattle.judge9.specs.Working.{JudgeError, Judges, Judging, Knowledge, last_state, length, line_of_exchange, LineByte, List, None, Ok, Option, Possible, Puts, Reason}
 pub use Rattle.judge9.specs.Working.{refusal_of, Result, reverse, Rows, SetsInDay, slice_get, Some, Standing, State, Step, StoppedBefore, suc, take, Takes, Told, Tracked, true}
 pub use Rattle.judge9.specs.Working.{Verdict, View, zero, ℕ, ⊤}
 pub use Rattle.judge9.specs.Working.Trail.{Follows, GoesBack, IsTrail, KeepsTrail, Leads, stretch_length}
 pub use Rattle.judge9.specs.Working.Turn.{AreOpen, ComesTo, EndsRows, Feeds, IsFresh, IsObserved, IsOpen, Observes, Spoils, Turned, Waits}
 pub use Rattle.judge9.specs.declared.turn.Turn.TheVariants.{the_data as Turn}
-pub use Rattle.std.proofs.Common.{ap, arith, get_or, if◌then◌else◌, inl, inr, length-append, OnOk, option_map, refl, slice_range, subst, sym, take-add}
+pub use Rattle.std.proofs.Common.{ap, arith, drop, get_or, if◌then◌else◌, inl, inr, length-append, OnOk, option_map, refl, slice_range, subst, sym, take-add}
 pub use Rattle.std.proofs.Common.{◌*◌, ◌+◌, ◌++◌, ◌-◌, ◌/◌, ◌<◌, ◌↔◌, ◌∙◌, ◌∷◌, ◌≡◌, ◌≢◌, ◌≤◌, ◌⊎◌}
 pub use Rattle.std.proofs.KnownBytes.{Appends-nil, Appends-trans}
 pub use Rattle.std.proofs.Math.Seq.{take-append_seam, take-length}
 pub use Rattle.std.proofs.lemmas.Bool.{cases_lt, false≢true}
-pub use Rattle.std.proofs.lemmas.List.{append-nil, append_assoc, length-map, length_push, nil_from_length, reverse-append, take-append-le, take_all, take_more}
+pub use Rattle.std.proofs.lemmas.List.{append-nil, append_assoc, length-map, length_push, nil_from_length, reverse-append, take-append-drop, take-append-le, take_all, take_more}
 pub use Rattle.std.proofs.lemmas.List.Elements.{All-cons, All-nil}
 pub use Rattle.std.proofs.lemmas.Option.{slice_get_read}
 pub use Rattle.std.specs.Io.KnownBytes.{append_known}

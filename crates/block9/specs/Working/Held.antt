@@ -1,20 +1,19 @@
 -- What a `Pairer` holds, which callers do not see, and what a record does to it.
-use Rattle.std.specs.Prelude.{ℕ, ◌≡◌, ◌≤◌, ◌+◌, ◌⊎◌, length, Bool, Option, Some, None, List, [], ◌++◌, take, drop}
+use Rattle.std.specs.Prelude.{ℕ, ◌≡◌, ◌≤◌, ◌-◌, ◌⊎◌, length, Bool, Option, Some, None, List, [], take, drop}
 use Rattle.capture9.specs.declared.line_byte.LineByte.{LineByte}
-use Rattle.capture9.specs.declared.line_byte.Wire.TheVariants.{Controller, Deck}
+use Rattle.capture9.specs.declared.line_byte.Wire.TheVariants.{Controller}
 use Rattle.block9.specs.declared.pairer.Asked.{Asked}
 use Rattle.block9.specs.declared.pairer.Exchange.{Exchange}
-use Rattle.block9.specs.Exchange.{IsCommand, IsInTime}
+use Rattle.block9.specs.Exchange.{IsCommand}
 use Rattle.block9.specs.Line.{IsBegun, block_len, bytes_of, first_time, last_time}
+use Rattle.block9.specs.Reason.{IsAnswered}
 use Rattle.block9.specs.Working.Body.{block_of}
 use Rattle.block9.specs.Working.Table.{early_fault, ends_block, open_at, place_of}
 
 -- the records are a tail, and what is kept beside them is the whole command with which they begin, if they do
 abbrev pub IsHeld : List LineByte → Option Asked → Type 0
 IsHeld records None = (records ≡ []) ⊎ IsBegun Controller records
-IsHeld records (Some a) =
-    IsCommand records a.block a.command
-    ⊎ ((command : List LineByte) × (reply : List LineByte) × (records ≡ command ++ reply) × IsCommand command a.block a.command × IsBegun Deck reply × IsInTime command reply)
+IsHeld records (Some a) = IsCommand records a.block a.command ⊎ ((reply : List LineByte) × (is : IsAnswered records a.command reply) × (is.block ≡ a.block))
 
 -- a time that is known, and is not before this one; with none known, it is 0
 abbrev pub IsNotBefore : Option ℕ → ℕ → Type 0
@@ -35,10 +34,15 @@ pub record HoldsInPairer (records : List LineByte) (asked : Option Asked) (last 
 abbrev pub IsTurn : List LineByte → LineByte → Bool → Type 0
 IsTurn tail r ends = (early_fault (place_of tail) tail r ≡ None) × (ends ≡ ends_block (open_at (place_of tail) tail))
 
--- an exchange that a tail inside a reply and one more record are, as it is read
-pub record Closes (tail : List LineByte) (a : Asked) (e : Exchange) : Type 0 where
-  pub block : e.block ≡ a.block
-  pub command : e.command ≡ a.command
-  pub reply : e.reply ≡ block_of (bytes_of (drop (block_len tail) tail))
-  pub time : e.time_us ≡ first_time tail
-  pub delay : last_time (take (block_len tail) tail) + e.delay_us ≡ first_time (drop (block_len tail) tail)
+-- an exchange is the one that a tail inside a reply and one more record are, as it is read
+abbrev pub closed_of : List LineByte → Asked → Exchange
+closed_of tail a = record {
+  command = a.command;
+  block = a.block;
+  reply = block_of (bytes_of (open_at (place_of tail) tail));
+  time_us = first_time tail;
+  delay_us = first_time (drop (block_len tail) tail) - last_time (take (block_len tail) tail);
+}
+
+abbrev pub Closes : List LineByte → Asked → Exchange → Type 0
+Closes tail a e = e ≡ closed_of tail a

@@ -25,10 +25,9 @@ place_of (first ∷ more) =
 
 -- the records of the block that is open at the end of a tail
 abbrev pub open_at : Place → List LineByte → List LineByte
-open_at Idle tail = []
 open_at InCommand tail = tail
-open_at AfterCommand tail = []
 open_at InReply tail = drop (block_len tail) tail
+open_at _ tail = []
 
 -- the record is the last one of the block that is open
 abbrev pub ends_block : List LineByte → Bool
@@ -39,38 +38,25 @@ ends_block (first ∷ more) = length (first ∷ more) + 1 == block_len (first �
 abbrev pub is_soon : List LineByte → LineByte → Bool
 is_soon tail r = nat_le r.time_us (last_time tail + reply_limit)
 
--- whether this record comes soon enough after the one before it in its block
-abbrev pub is_linked : List LineByte → LineByte → Bool
-is_linked tail r = nat_le r.time_us (last_time tail + byte_gap)
-
 -- a record on the wire whose turn it is not
 abbrev pub wire_fault : Place → Wire → Bool → Option Reason
-wire_fault Idle Controller soon = None
 wire_fault Idle Deck soon = Some ReplyWithoutCommand
-wire_fault InCommand Controller soon = None
 wire_fault InCommand Deck soon = Some ReplyInsideCommand
 wire_fault AfterCommand Controller soon = if soon then Some CommandBeforeReply else Some NoReply
-wire_fault AfterCommand Deck soon = None
 wire_fault InReply Controller soon = Some CommandInsideReply
-wire_fault InReply Deck soon = None
+wire_fault _ _ soon = None
 
 -- a record that comes too late: to begin a reply, or to go on with a block
 abbrev pub time_fault : Place → Bool → Bool → Option Reason
 time_fault Idle soon linked = None
-time_fault InCommand soon linked = if linked then None else Some ByteGap
 time_fault AfterCommand soon linked = if soon then None else Some LateReply
-time_fault InReply soon linked = if linked then None else Some ByteGap
+time_fault _ soon linked = if linked then None else Some ByteGap
 
 -- a first byte whose group the wire does not allow
 abbrev pub group_fault : Place → Bool → Option Reason
 group_fault Idle allowed = if allowed then None else Some WrongGroup
-group_fault InCommand allowed = None
 group_fault AfterCommand allowed = if allowed then None else Some WrongGroup
-group_fault InReply allowed = None
-
--- a last byte that is not the sum of the bytes before it
-abbrev pub sum_fault : List LineByte → LineByte → Option Reason
-sum_fault current r = if r.byte == sum (bytes_of current) % 256 then None else Some WrongSum
+group_fault _ allowed = None
 
 -- a command with no meaning, since its time is not valid
 abbrev pub command_fault : Option Command → Option Reason
@@ -84,20 +70,19 @@ reply_fault (Some c) reply = if fits c reply then (if is_reply_time_valid c repl
 
 -- what the last record of a block breaks beside its sum; the block has the open records as its body
 abbrev pub meaning_fault : Place → List LineByte → List LineByte → Option Reason
-meaning_fault Idle tail current = None
 meaning_fault InCommand tail current = command_fault (command_of (block_of (bytes_of current)))
-meaning_fault AfterCommand tail current = None
 meaning_fault InReply tail current = reply_fault (command_of (block_of (bytes_of (take (block_len tail - 1) tail)))) (block_of (bytes_of current))
+meaning_fault _ tail current = None
 
--- what the last record of a block breaks: nothing where it is not the last one
+-- what the last record of a block breaks, by its sum or by what the block means: nothing where it is not the last one
 abbrev pub end_fault : Place → List LineByte → List LineByte → LineByte → Option Reason
 end_fault place tail current r =
-    if ends_block current then option_or (sum_fault current r) (meaning_fault place tail current) else None
+    if ends_block current then option_or (if r.byte == sum (bytes_of current) % 256 then None else Some WrongSum) (meaning_fault place tail current) else None
 
 -- what a record breaks by its turn, its time or its group
 abbrev pub early_fault : Place → List LineByte → LineByte → Option Reason
 early_fault place tail r =
-    option_or (option_or (wire_fault place r.wire (is_soon tail r)) (time_fault place (is_soon tail r) (is_linked tail r)))
+    option_or (option_or (wire_fault place r.wire (is_soon tail r)) (time_fault place (is_soon tail r) (nat_le r.time_us (last_time tail + byte_gap))))
     (group_fault place (allows r.wire (group_in r.byte)))
 
 -- the reason that stands first in the table, by the place where the tail stands

@@ -1,5 +1,6 @@
-use Rattle.block9.proofs.ReasonLemmas.{reason_once}
+use Rattle.block9.proofs.Words.{Holds, order}
+use Rattle.block9.proofs.OrderLemmas.{first_once}
 use Rattle.block9.proofs.laws.at_most_one_reason.Goals as goal
 
 pub returns : goal.returns
-returns c = reason_once
+returns c = λ tail next x y h k. first_once (λ z. Holds z tail next) order x y h k

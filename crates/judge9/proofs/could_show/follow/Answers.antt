@@ -1,9 +1,6 @@
 use Rattle.judge9.proofs.Words.{take_all}
 use Rattle.judge9.proofs.could_show.follow.Goals as goal
-use Rattle.judge9.proofs.RunSteps.{follows-next, follows-start}
-
-pub loop-exchange-init : goal.loop-exchange-init
-loop-exchange-init c = follows-start c.args.hands c.args.tracker.now c.requires.states c.requires.hands
+use Rattle.judge9.proofs.RunSteps.{follows-next}
 
 pub loop-exchange-preserved : goal.loop-exchange-preserved
 loop-exchange-preserved c =

@@ -1,9 +1,6 @@
-use Rattle.judge9.proofs.Words.{arith, Hands, take}
+use Rattle.judge9.proofs.Words.{Hands, take}
 use Rattle.judge9.proofs.fewest_hands.follow_untouched.Goals as goal
-use Rattle.judge9.proofs.RunSteps.{follows-next, follows-start, trail-pushed}
-
-pub loop-at-init : goal.loop-at-init
-loop-at-init c = record { follows = follows-start Hands.None c.args.tracker.now c.requires.states c.requires.hands; trail = rw c.requires.trail (record { enough = omega arith; before = λ k t e. cc }) }
+use Rattle.judge9.proofs.RunSteps.{follows-next, trail-pushed}
 
 pub loop-at-preserved : goal.loop-at-preserved
 loop-at-preserved c =

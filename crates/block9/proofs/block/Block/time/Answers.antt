@@ -1,15 +1,10 @@
 -- Lists of another length than four are no time.
-use Rattle.block9.proofs.Words.{[], ap, length, List, None, refl, time_of, ℕ, ◌∙◌, ◌∷◌, ◌≡◌, ◌≢◌}
+use Rattle.block9.proofs.Words.{ap, arith, length, List, None, time_of, ℕ, ◌∙◌, ◌≡◌, ◌≢◌}
 use Rattle.block9.proofs.block.Block.time.Goals as goal
 
 no_time : (bytes : List ℕ) → length bytes ≢ 4 → None ≡ time_of bytes
 unfolding time_of
-no_time [] h = refl
-no_time (a ∷ []) h = refl
-no_time (a ∷ b ∷ []) h = refl
-no_time (a ∷ b ∷ c ∷ []) h = refl
-no_time (a ∷ b ∷ c ∷ d ∷ []) h = absurd (h refl)
-no_time (a ∷ b ∷ c ∷ d ∷ e ∷ bytes) h = refl
+no_time bytes h = grind arith
 
 pub returns-in_err-bytes : goal.returns-in_err-bytes
 returns-in_err-bytes c =
