@@ -1,10 +1,10 @@
 -- What becomes of the states of a part, and so what leads from all states with one value of the panel to others: each effect, and whole exchanges where nobody touches the panel.
-use Rattle.track9.proofs.Words.{agreeing, Agrees, agrees_local, all_forgotten, all_or_none, all_states, Allows, and_from, and_parts, ap, Becomes, BelowDay, bit_and, bit_in}
+use Rattle.track9.proofs.Words.{agreeing, Agrees, agrees_local, all_forgotten, all_or_none, all_states, Allows, and_from, and_parts, ap, Becomes, bit_and, bit_in}
 use Rattle.track9.proofs.Words.{Block, Bool, both, Change, changed_entries, changed_part, Command, cond_both, counted, datum, Does, DoesOrNot, done, Drift, drift_from_pairs}
-use Rattle.track9.proofs.Words.{drifted, drifted_part, drifted_with, Effect, effect_of, either, Entries, entries_of, Entry, entry_of, Exchanged, false, false≢true}
+use Rattle.track9.proofs.Words.{drifted, drifted_part, drifted_with, Effect, effect_of, either, Entries, entries_of, entry_of, Exchanged, false, false≢true}
 use Rattle.track9.proofs.Words.{forgotten_part, goes, gone, gone_pairs, gone_part, gone_with, has, has_pair, HasEffect, if◌then◌else◌, ignored, ignored_by_effect, in_local, inl}
 use Rattle.track9.proofs.Words.{InPart, inr, InTwo, is_live, is_mode, is_mode-same, is_nak, LeadsOn, List, LocalFits, map_two, masked, may_show, Mode, modes, ModeSet, no_states}
-use Rattle.track9.proofs.Words.{None, not, not-true, Option, or-false, or-true, or_cases, PartStates, Presets, presets_after, put_aside, put_settled, ReadsStatus, refl, refused}
+use Rattle.track9.proofs.Words.{None, not, not-true, Option, or-false, or-true, or_cases, PartStates, Presets, presets_after, put_aside, put_settled, ReadsStatus, refl, refused, rules}
 use Rattle.track9.proofs.Words.{RegAudioIn, RegAudioOut, RegIn, Register, RegOut, said_part, Says, Sense, sense_of, sensed_part, settled, shown_part, shown_with, ShowsStatus}
 use Rattle.track9.proofs.Words.{Some, some_entry, some_two, State, status_part, Step, Stop, subst, sym, Tells, time_of, true, two_changed, two_drifted, two_sensed, two_status}
 use Rattle.track9.proofs.Words.{TwoBelow, TwoFew, TwoParts, TwoWhole, where_live, Whole, with_command, with_entries, with_entry, with_pairs, ℕ, ◌&&◌, ◌==◌, ◌||◌, ◌↔◌, ◌∙◌, ◌≡◌}
@@ -14,10 +14,10 @@ use Rattle.deck9.specs.declared.state.Hands.TheVariants as hands
 use Rattle.block9.specs.declared.command.Command.TheVariants as command
 use Rattle.deck9.specs.declared.sense.Sense.TheVariants as sense
 use Rattle.track9.proofs.EntryLemmas.{allowed_some, becomes_some, drifted_from, drifted_to, entry_from, entry_stays, entry_to, goes_from, goes_to, has-and, has-or, mode_self}
-use Rattle.track9.proofs.EntryLemmas.{nothing_has, pair_by_goal, pairs_some, says_exactly, some_allowed, some_mode, tells_from, tells_to}
-use Rattle.track9.proofs.PartLemmas.{a_state, all_exactly, all_in, any_entries_in, Below, drift_below, drift_some, drift_whole, each_register, few_agreeing, few_all_states}
-use Rattle.track9.proofs.PartLemmas.{few_changed_part, few_counted, few_no_states, few_pairs, few_put, few_said, few_settled, few_two, FewIn, in_all, in_any_entries, in_none}
-use Rattle.track9.proofs.PartLemmas.{in_pairs, mechanics, not_live, pairs_registers, put, put_in, read_put, settled_from, settled_to, take_out, two_live, two_state, whole_all}
+use Rattle.track9.proofs.EntryLemmas.{nothing_has, pair_by_goal, pairs_some, says_exactly, some_allowed, some_mode, tells_exactly}
+use Rattle.track9.proofs.PartLemmas.{a_state, all_exactly, any_entries, Below, drift_below, drift_some, drift_whole, each_register, every_state, few_agreeing, few_all_states}
+use Rattle.track9.proofs.PartLemmas.{few_changed_part, few_counted, few_no_states, few_pairs, few_put, few_said, few_settled, few_two, FewIn, in_none}
+use Rattle.track9.proofs.PartLemmas.{in_pairs, mechanics, not_live, pairs_registers, put, put_in, read_put, settled_exactly, take_out, two_live, two_state, whole_all}
 use Rattle.track9.proofs.PartLemmas.{whole_drift, whole_in, whole_none, whole_pairs, whole_put, whole_settled, whole_two}
 
 -- ---- part by part
@@ -96,51 +96,24 @@ goal_goes : (may_stay : Bool) (goal : Mode) (p : List ModeSet) (m : Mode) → ha
 goal_goes b goal p m h = goal_has b goal p goal m ∙ rw (mode_self goal, h) (or-true (b && has_pair p goal m))
 
 -- the states with this goal, and those that may stay as they are
-goal_from : (may_stay : Bool) (goal : Mode) (p : PartStates) (t : State) → InPart (gone_part may_stay goal p) t
-    → ((s : State) × InPart p s × (s.local ≡ t.local) × (s.panel ≡ t.panel) × (t ≡ record s { goal = goal })) ⊎ ((may_stay ≡ true) × InPart p t)
-goal_from b goal p t i =
-    let old = pairs_registers p (gone_pairs b goal p.pairs) t i in
-    elim (or_cases _ _ (sym (goal_has b goal p.pairs t.goal t.shown) ∙ i.pair)) [
-      | inl stays ↦ let w = and_parts _ _ stays in inr (w.0, in_pairs p p.pairs t t.goal t.shown old w.1)
-      | inr goes ↦ let w = and_parts _ _ goes in let f = goes_from p.pairs t.shown w.1 in
-          inl (record t { goal = f.0 }, in_pairs p p.pairs t f.0 t.shown old f.1, refl, refl, ap (λ (g : Mode). record t { goal = g }) (is_mode-same t.goal goal w.0))
-    ]
-
-goal_to : (may_stay : Bool) (goal : Mode) (p : PartStates) (s t : State) → InPart p s → (t ≡ record s { goal = goal }) ⊎ ((may_stay ≡ true) × (t ≡ s)) → InPart (gone_part may_stay goal p) t
-goal_to b goal p s t i (inl e) = subst (InPart (gone_part b goal p)) (sym e)
-    (in_pairs p (gone_pairs b goal p.pairs) s goal s.shown i.registers (goal_goes b goal p.pairs s.shown (goes_to p.pairs s.goal s.shown i.pair)))
-goal_to b goal p s t i (inr (stays, e)) = subst (InPart (gone_part b goal p)) (sym e)
-    (in_pairs p (gone_pairs b goal p.pairs) s s.goal s.shown i.registers (goal_has b goal p.pairs s.goal s.shown ∙ rw (stays, i.pair) refl))
-
-whole_goal : (may_stay : Bool) (goal : Mode) (p : PartStates) → Whole p → is_live p ≡ true → Whole (gone_part may_stay goal p)
-whole_goal b goal p whole live =
-    let m = some_mode (goes p.pairs) live in
-    whole_pairs (gone_pairs b goal p.pairs) p whole (pairs_some (gone_pairs b goal p.pairs) goal m.0 (goal_goes b goal p.pairs m.0 m.1) ∙ sym live)
-
--- ---- a register
-
--- the states with an entry that the change makes, and those that may stay as they are
-change_from : (may_stay : Bool) (r : Register) (c : Change) (p : PartStates) (t : State) → Whole p → is_live p ≡ true → InPart (changed_part may_stay r c p) t
-    → ((s : State) × InPart p s × (s.local ≡ t.local) × (s.panel ≡ t.panel) × ((e : Entry) × Becomes c (entry_of r s) e × (t ≡ with_entry r e s))) ⊎ ((may_stay ≡ true) × InPart p t)
-change_from b r c p t whole live i =
-    let new = changed_entries b c (entries_of r p) in let some = some_allowed (entries_of r p) (whole r ∙ live) in
-    elim (entry_from b c (entries_of r p) some.0 (entry_of r t) some.1 (subst (λ es. Allows es (entry_of r t)) (read_put r new p) (i.registers r))) [
-      | inl (f, a, becomes) ↦ let at = put r f t in
-          inl (with_entry r f t, take_out r new p f t i a, at.local, at.panel, (entry_of r t, subst (λ d. Becomes c d (entry_of r t)) (sym at.entry) becomes, sym at.again))
-      | inr (stays, same) ↦ inr (stays, subst (InPart p) (put r (entry_of r t) t).own (take_out r new p (entry_of r t) t i same))
-    ]
-
-change_to : (may_stay : Bool) (r : Register) (c : Change) (p : PartStates) (s t : State) → BelowDay (entries_of r p).times → InPart p s
-    → ((e : Entry) × Becomes c (entry_of r s) e × (t ≡ with_entry r e s)) ⊎ ((may_stay ≡ true) × (t ≡ s)) → InPart (changed_part may_stay r c p) t
-change_to b r c p s t below i (inl (e, becomes, same)) =
-    subst (InPart (changed_part b r c p)) (sym same) (put_in r _ p e s i (entry_to b c (entries_of r p) (entry_of r s) e (i.registers r) becomes))
-change_to b r c p s t below i (inr (stays, same)) = let e = entry_of r s in
-    subst (InPart (changed_part b r c p)) ((put r e s).own ∙ sym same) (put_in r _ p e s i (entry_stays b c (entries_of r p) e stays below (i.registers r)))
-
-whole_change : (may_stay : Bool) (r : Register) (c : Change) (p : PartStates) → Whole p → is_live p ≡ true → Whole (changed_part may_stay r c p)
-whole_change b r c p whole live =
-    let es = entries_of r p in let d = some_allowed es (whole r ∙ live) in let e = becomes_some c d.0 in
-    whole_put r (changed_entries b c es) p whole (allowed_some (changed_entries b c es) e.0 (entry_to b c es d.0 e.0 d.1 e.1) ∙ sym live)
+goal_leads : (Goes : State → State → Type 0) (may_stay : Bool → Bool) (goal : Mode) (p : PartStates) → ((s t : State) → Goes s t ↔ ((t ≡ record s { goal = goal }) ⊎ ((may_stay s.local ≡ true) × (t ≡ s))))
+    → Whole p → is_live p ≡ true → PartLeads Goes (λ n. n) p (λ l. gone_part (may_stay l) goal p)
+goal_leads Goes may_stay goal p steps whole live = record {
+  from = λ t i.
+      let b = may_stay t.local in let old = pairs_registers p (gone_pairs b goal p.pairs) t i in
+      elim (or_cases _ _ (sym (goal_has b goal p.pairs t.goal t.shown) ∙ i.pair)) [
+        | inl stays ↦ let w = and_parts _ _ stays in (t, in_pairs p p.pairs t t.goal t.shown old w.1, refl, refl, (steps t t).1 (inr (w.0, refl)))
+        | inr new ↦ let w = and_parts _ _ new in let f = goes_from p.pairs t.shown w.1 in let s : State = record t { goal = f.0 } in
+            (s, in_pairs p p.pairs t f.0 t.shown old f.1, refl, refl, (steps s t).1 (inl (ap (λ (g : Mode). record t { goal = g }) (is_mode-same t.goal goal w.0))))
+      ];
+  to = λ s t i d. let b = may_stay s.local in elim ((steps s t).0 d) [
+    | inl e ↦ rw e (in_pairs p (gone_pairs b goal p.pairs) s goal s.shown i.registers (goal_goes b goal p.pairs s.shown (goes_to p.pairs s.goal s.shown i.pair)))
+    | inr (stays, e) ↦ rw e (in_pairs p (gone_pairs b goal p.pairs) s s.goal s.shown i.registers (goal_has b goal p.pairs s.goal s.shown ∙ rw (stays, i.pair) refl))
+  ];
+  whole = λ l. let q = gone_pairs (may_stay l) goal p.pairs in let m = some_mode (goes p.pairs) live in
+      whole_pairs q p whole (pairs_some q goal m.0 (goal_goes (may_stay l) goal p.pairs m.0 m.1) ∙ sym live);
+  few = λ l n few. few_pairs n _ p few;
+}
 
 -- ---- effects
 
@@ -161,27 +134,31 @@ is_by_part effect.ForgetAll = false
 is_by_part _ = true
 
 part_leads : (may_stay : Bool) (e : Effect) (p : PartStates) → is_by_part e ≡ true → Whole p → is_live p ≡ true → Below e p → PartLeads (DoesOrNot may_stay e) (counted e) p (λ l. part_effect may_stay e l p)
-part_leads m (effect.Go g) p by whole live below = record {
-  from = λ t i. elim (goal_from (t.local || m) g p t i) [ inl w ↦ (w.0, w.1, w.2, w.3, inl w.4) | inr (stays, j) ↦ (t, j, refl, refl, inr (refl, stays, refl)) ];
-  to = λ s t i d. goal_to (s.local || m) g p s t i (elim d [ inl e ↦ inl e | inr (may, stays, e) ↦ inr (stays, e) ]);
-  whole = λ l. whole_goal (l || m) g p whole live;
-  few = λ l n few. few_pairs n _ p few;
-}
-part_leads m effect.KeepOrStop p by whole live below = record {
-  from = λ t i. elim (goal_from (t.local || true) Stop p t i) [ inl w ↦ (w.0, w.1, w.2, w.3, inl (inr w.4)) | inr (stays, j) ↦ (t, j, refl, refl, inl (inl refl)) ];
-  to = λ s t i d. goal_to (s.local || true) Stop p s t i (elim d [ inl (inl e) ↦ inr (or-true s.local, e) | inl (inr e) ↦ inl e | inr (may, stays, e) ↦ inr (or-true s.local, e) ]);
-  whole = λ l. whole_goal (l || true) Stop p whole live;
-  few = λ l n few. few_pairs n _ p few;
-}
-part_leads m (effect.Change r c) p by whole live below = record {
-  from = λ t i. elim (change_from (t.local || m) r c p t whole live i) [ inl w ↦ (w.0, w.1, w.2, w.3, inl w.4) | inr (stays, j) ↦ (t, j, refl, refl, inr (refl, stays, refl)) ];
-  to = λ s t i d. change_to (s.local || m) r c p s t (below r) i (elim d [ inl e ↦ inl e | inr (may, stays, e) ↦ inr (stays, e) ]);
-  whole = λ l. whole_change (l || m) r c p whole live;
+part_leads m (effect.Go g) p by whole live below = goal_leads (DoesOrNot m (effect.Go g)) (λ l. l || m) g p
+    (λ s t. (λ d. elim d [ inl e ↦ inl e | inr (may, stays, e) ↦ inr (stays, e) ], λ d. elim d [ inl e ↦ inl e | inr (stays, e) ↦ inr (refl, stays, e) ])) whole live
+part_leads m effect.KeepOrStop p by whole live below = goal_leads (DoesOrNot m effect.KeepOrStop) (λ l. l || true) Stop p (λ s t. (
+  λ d. elim d [ inl (inl e) ↦ inr (or-true s.local, e) | inl (inr e) ↦ inl e | inr (may, stays, e) ↦ inr (or-true s.local, e) ],
+  λ d. elim d [ inl e ↦ inl (inr e) | inr (stays, e) ↦ inl (inl e) ],
+)) whole live
+part_leads m (effect.Change r c) p by whole live below = let es = entries_of r p in let some = some_allowed es (whole r ∙ live) in record {
+  from = λ t i.
+      let b = t.local || m in let new = changed_entries b c es in let e = entry_of r t in
+      elim (entry_from b c es some.0 e some.1 (subst (λ es. Allows es e) (read_put r new p) (i.registers r))) [
+        | inl (f, a, becomes) ↦ let at = put r f t in
+            (with_entry r f t, take_out r new p f t i a, at.local, at.panel, inl (e, subst (λ d. Becomes c d e) (sym at.entry) becomes, sym at.again))
+        | inr (stays, same) ↦ (t, subst (InPart p) (put r e t).own (take_out r new p e t i same), refl, refl, inr (refl, stays, refl))
+      ];
+  to = λ s t i d. let e = entry_of r s in elim d [
+    | inl (f, becomes, same) ↦ rw same (put_in r _ p f s i (entry_to (s.local || m) c es e f (i.registers r) becomes))
+    | inr (may, stays, same) ↦ subst (InPart (changed_part (s.local || m) r c p)) ((put r e s).own ∙ sym same) (put_in r _ p e s i (entry_stays (s.local || m) c es e stays (below r) (i.registers r)))
+  ];
+  whole = λ l. let new = changed_entries (l || m) c es in let e = becomes_some c some.0 in
+      whole_put r new p whole (allowed_some new e.0 (entry_to (l || m) c es some.0 e.0 some.1 e.1) ∙ sym live);
   few = λ l n few. few_changed_part (l || m) r c n p below few;
 }
 part_leads m effect.ForgetTape p by whole live below = record {
-  from = λ t i. let w = a_state p t.local t.panel whole live in (w.0, w.1, w.2, w.3, inl (all_in t i, sym w.2, sym w.3));
-  to = λ s t i d. elim d [ inl e ↦ in_all t e.0 | inr w ↦ absurd (false≢true w.0) ];
+  from = λ t i. let w = a_state p t.local t.panel whole live in (w.0, w.1, w.2, w.3, inl ((every_state t).0 i, sym w.2, sym w.3));
+  to = λ s t i d. elim d [ inl e ↦ (every_state t).1 e.0 | inr w ↦ absurd (false≢true w.0) ];
   whole = λ l. whole_all;
   few = λ l n few. few_all_states n;
 }
@@ -189,8 +166,8 @@ part_leads m effect.ForgetRegisters p by whole live below = record {
   from = λ t i.
       let w = a_state p t.local t.panel whole live in
       let s : State = record w.0 { goal = t.goal; shown = t.shown } in
-      (s, in_pairs p p.pairs w.0 t.goal t.shown w.1.registers i.pair, w.2, w.3, inl (any_entries_in p.pairs t i, refl, refl, sym w.2, sym w.3));
-  to = λ s t i d. elim d [ inl e ↦ in_any_entries p.pairs t e.0 (rw (e.1, e.2) i.pair) | inr w ↦ absurd (false≢true w.0) ];
+      (s, in_pairs p p.pairs w.0 t.goal t.shown w.1.registers i.pair, w.2, w.3, inl (((any_entries p.pairs t).0 i).0, refl, refl, sym w.2, sym w.3));
+  to = λ s t i d. elim d [ inl e ↦ (any_entries p.pairs t).1 (e.0, rw (e.1, e.2) i.pair) | inr w ↦ absurd (false≢true w.0) ];
   whole = λ l. whole_pairs p.pairs all_states whole_all (live ∙ sym (whole_all RegIn));
   few = λ l n few. few_pairs n p.pairs all_states (few_all_states n);
 }
@@ -314,10 +291,10 @@ sense_exactly r bytes p t =
     let new = agreeing (time_of bytes) (entries_of r p) in
     let e = entry_of r t in (
       λ i.
-          let there = settled_from (with_entries r new p) t i in
-          let w = tells_from bytes (entries_of r p) e (subst (λ es. Allows es e) (read_put r new p) (there.registers r)) in
+          let there = (settled_exactly (with_entries r new p) t).0 i in
+          let w = (tells_exactly bytes (entries_of r p) e).0 (subst (λ es. Allows es e) (read_put r new p) (there.registers r)) in
           (subst (InPart p) (put r e t).own (take_out r new p e t there w.0), w.1),
-      λ (i, told). settled_to (with_entries r new p) t (subst (InPart (with_entries r new p)) (put r e t).own (put_in r new p e t i (tells_to bytes (entries_of r p) e (i.registers r) told))),
+      λ (i, told). (settled_exactly (with_entries r new p) t).1 (subst (InPart (with_entries r new p)) (put r e t).own (put_in r new p e t i ((tells_exactly bytes (entries_of r p) e).1 (i.registers r, told)))),
     )
 
 -- ---- status
@@ -342,14 +319,14 @@ status_exactly : (asked : ℕ) (reply : Block) (agree : Bool → Bool) (mask : M
 status_exactly asked reply agree mask agrees modes p t =
     let d = datum asked reply 3 in (
       λ i. cond_both (agree t.local) (shown_part mask d p) no_states (λ q. InPart q t → InPart p t × ShowsStatus t asked reply) (λ here i.
-          let there = settled_from (shown_factors mask d p) t i in
+          let there = (settled_exactly (shown_factors mask d p) t).0 i in
           let pair = and_parts (has_pair p.pairs t.goal t.shown) (has mask.0 t.shown) (sym (masked_has mask p.pairs t.goal t.shown) ∙ there.pair) in
           let a = (says_exactly 0x01 d p.ins t.ins).0 (there.registers RegIn) in let b = (says_exactly 0x02 d p.outs t.outs).0 (there.registers RegOut) in
           let c = (says_exactly 0x04 d p.ains t.ains).0 (there.registers RegAudioIn) in let e = (says_exactly 0x08 d p.aouts t.aouts).0 (there.registers RegAudioOut) in (
             record { pair = pair.0; registers = each_register _ a.0 b.0 c.0 e.0 },
             record { local = (agrees_exactly t.local (datum asked reply 0)).0 (sym (agrees t.local) ∙ here); shown = sym (modes t.shown) ∙ pair.1; ins = a.1; outs = b.1; ains = c.1; aouts = e.1 },
           )) (λ e i. in_none t i) i,
-      λ (i, h). rw (agrees t.local ∙ (agrees_exactly t.local (datum asked reply 0)).1 h.local) (settled_to (shown_factors mask d p) t (record {
+      λ (i, h). rw (agrees t.local ∙ (agrees_exactly t.local (datum asked reply 0)).1 h.local) ((settled_exactly (shown_factors mask d p) t).1 (record {
         pair = masked_has mask p.pairs t.goal t.shown ∙ and_from (has_pair p.pairs t.goal t.shown) (has mask.0 t.shown) i.pair (modes t.shown ∙ h.shown);
         registers = each_register _ ((says_exactly 0x01 d p.ins t.ins).1 (i.registers RegIn, h.ins)) ((says_exactly 0x02 d p.outs t.outs).1 (i.registers RegOut, h.outs))
             ((says_exactly 0x04 d p.ains t.ains).1 (i.registers RegAudioIn, h.ains)) ((says_exactly 0x08 d p.aouts t.aouts).1 (i.registers RegAudioOut, h.aouts));
@@ -358,31 +335,21 @@ status_exactly asked reply agree mask agrees modes p t =
 
 pub reads_status : (asked : ℕ) (reply : Block) (a : LocalFits) (mask : ModeSet) (h : TwoParts) → a.remote ≡ agrees_local false (datum asked reply 0) → a.local ≡ agrees_local true (datum asked reply 0)
     → ((m : Mode) → has mask.0 m ≡ may_show (datum asked reply 1) (datum asked reply 2) m) → TwoWhole h → ReadsStatus asked reply h (two_status a mask (datum asked reply 3) h)
-reads_status asked reply a mask h remote local modes whole = reads (λ s. ShowsStatus s asked reply) (λ l. status_part (agree l) mask d) h whole (status_exactly asked reply agree mask agree_is modes)
+reads_status asked reply a mask h remote local modes whole =
+    let d = datum asked reply 3 in
+    let agree : Bool → Bool = λ l. if l then a.local else a.remote in
+    reads (λ s. ShowsStatus s asked reply) (λ l. status_part (agree l) mask d) h whole
+    (status_exactly asked reply agree mask (λ l. elim l as (λ l. (if l then a.local else a.remote) ≡ agrees_local l (datum asked reply 0)) [ true ↦ local | false ↦ remote ]) modes)
     (λ l p. cond_both (agree l) (shown_part mask d p) no_states Whole (λ e. whole_settled (shown_factors mask d p)) (λ e. whole_none))
     (λ l n p h. cond_both (agree l) (shown_part mask d p) no_states (FewIn n) (λ e. few_settled n (shown_factors mask d p) (each_register _ (few_said n.ins (bit_in 0x01 d) p.ins (h RegIn))
     (few_said n.outs (bit_in 0x02 d) p.outs (h RegOut)) (few_said n.ains (bit_in 0x04 d) p.ains (h RegAudioIn)) (few_said n.aouts (bit_in 0x08 d) p.aouts (h RegAudioOut)))) (λ e. few_no_states n))
-  where
-    d : Option ℕ
-    d = datum asked reply 3
-
-    agree : Bool → Bool
-    agree l = if l then a.local else a.remote
-
-    agree_is : (l : Bool) → agree l ≡ agrees_local l (datum asked reply 0)
-    agree_is true = local
-    agree_is false = remote
 
 -- ---- whole exchanges
 
 -- a command that asks for something of the state has no effect
-pub sense_effect : (c : Command) (r : Register) → sense_of c ≡ sense.Register r → effect_of c ≡ effect.Nothing
-sense_effect command.InDataSense r e = refl
-sense_effect _ r e = cc
-
-pub status_effect : (c : Command) (asked : ℕ) → sense_of c ≡ sense.Status asked → effect_of c ≡ effect.Nothing
-status_effect (command.StatusSense a) asked e = refl
-status_effect _ asked e = cc
+pub asks_or_acts : (c : Command) → (sense_of c ≡ sense.Nothing) ⊎ (effect_of c ≡ effect.Nothing)
+asks_or_acts command.InDataSense = inr refl
+asks_or_acts _ = search rules
 
 -- the presets are those of the effect
 pub command_counts : (c : Command) (n : Presets) → with_command c n ≡ counted (effect_of c) n
@@ -433,7 +400,7 @@ pub exchanged_sense : (c : Command) (reply : Block) (r : Register) (h : TwoParts
 exchanged_sense c reply r h nak asked whole =
     let bytes = reply.bytes.items in
     let at = time_of bytes in
-    let none = sense_effect c r asked in
+    let none : effect_of c ≡ effect.Nothing = elim (asks_or_acts c) [ inl e ↦ cc | inr none ↦ none ] in
     rw (drift_sensed r at h) (exchanged_by c reply (λ s t. Tells (entry_of r s) bytes × (t ≡ s)) (λ n. n) h (map_two (λ l. where_live (sensed_part r at)) (two_drifted h)) whole
     (asks c reply (sense.Register r) nak asked none) (λ n. presets_of c reply n nak ∙ ap (λ e. counted e n) none)
     (reads (λ s. Tells (entry_of r s) bytes) (λ l. sensed_part r at) (two_drifted h) (drift_whole h whole) (sense_exactly r bytes) (λ l p. whole_settled (with_entries r (agreeing at (entries_of r p)) p))
@@ -441,7 +408,7 @@ exchanged_sense c reply r h nak asked whole =
 
 pub exchanged_status : (c : Command) (reply : Block) (asked : ℕ) (h g : TwoParts) → is_nak reply ≡ false → sense_of c ≡ sense.Status asked → TwoWhole h → ReadsStatus asked reply (two_drifted h) g → Exchanged c reply h g
 exchanged_status c reply asked h g nak asks_for whole read =
-    let none = status_effect c asked asks_for in
+    let none : effect_of c ≡ effect.Nothing = elim (asks_or_acts c) [ inl e ↦ cc | inr none ↦ none ] in
     exchanged_by c reply (λ s t. ShowsStatus s asked reply × (t ≡ s)) (λ n. n) h g whole (asks c reply (sense.Status asked) nak asks_for none) (λ n. presets_of c reply n nak ∙ ap (λ e. counted e n) none) read
 
 pub exchanged_effect : (c : Command) (reply : Block) (h g : TwoParts) → is_nak reply ≡ false → sense_of c ≡ sense.Nothing → TwoWhole h → HasEffect false (effect_of c) (two_drifted h) g → Exchanged c reply h g

@@ -2,7 +2,7 @@
 use Rattle.track9.proofs.Words.{[], agreeing, Allows, and-false, and-true, and_mask, and_parts, and_pow, ap, arith, At, Becomes, BelowDay, bit_and, bit_at, bit_at-lt}
 use Rattle.track9.proofs.Words.{bit_at-pow_other, bit_at-pow_same, bit_at-zero, bit_at_and, bit_at_or, bit_in, bit_of, bit_or, Bool, both_ways, by_goal, cases_Bool, cases_eq}
 use Rattle.track9.proofs.Words.{Change, changed_entries, Clear, cond_both, contains-every_time, contains-insert_nat, contains-items_nat, contains-just, Cued, day}
-use Rattle.track9.proofs.Words.{drifted_with, either, Eject, Entries, Entry, eq-eqb, eqb, eqb-true, every_time, false, false_from_ne_true, false≢true, FastForward, goal_if_shown}
+use Rattle.track9.proofs.Words.{drifted_with, Eject, Entries, Entry, eq-eqb, eqb, eqb-true, every_time, false, false_from_ne_true, false≢true, FastForward, goal_if_shown}
 use Rattle.track9.proofs.Words.{goals_of, goes, halted, has, has_pair, if◌then◌else◌, image_from, image_to, index-mode_of, index_of, inl, inr, is_mode, is_mode-same, is_nil}
 use Rattle.track9.proofs.Words.{is_one_of, is_set, is_some, Jog, just, kept_goal, List, list_any, ltb-true, mod-lt, Mode, mode_of, modes, ModeSet, moved_entry, nat_cmp}
 use Rattle.track9.proofs.Words.{nat_cmp_total, nat_eq, nat_tests, Next, next_frame, no_entries, None, not, not-true, of_modes, on_the_way, Option, or-false, or-true, or_assoc}
@@ -110,9 +110,6 @@ mode_some s m h = elim (cases_eq (bit_and s.0 1023) 0) [
 ]
 
 -- ---- pairs
-
-pub or2 : (a b : ModeSet) (m : Mode) → has (either a b).0 m ≡ true → (has a.0 m ≡ true) ⊎ (has b.0 m ≡ true)
-or2 a b m h = or_cases _ _ (sym (has-or a.0 b.0 m) ∙ h)
 
 -- the modes that are shown with a goal, of pairs that are given by goal
 pub pair_by_goal : (f : Mode → ModeSet) (g m : Mode) → has_pair (by_goal f) g m ≡ has (f g).0 m
@@ -234,21 +231,18 @@ entry_stays true _ es e stays below a = a
 -- ---- entries that agree with a reply
 
 -- exactly the entries that tell these bytes
-pub tells_from : (bytes : List ℕ) (es : Entries) (e : Entry) → Allows (agreeing (time_of bytes) es) e → Allows es e × Tells e bytes
-tells_from bytes es e h = by (time_of bytes) refl e h
+pub tells_exactly : (bytes : List ℕ) (es : Entries) (e : Entry) → Allows (agreeing (time_of bytes) es) e ↔ (Allows es e × Tells e bytes)
+tells_exactly bytes es e = by (time_of bytes) refl e
   where
-    by : (o : Option ℕ) → time_of bytes ≡ o → (e : Entry) → Allows (agreeing o es) e → Allows es e × Tells e bytes
-    by None read Clear h = (h, tt)
-    by None read (At u) h = from_empty u h
-    by (Some t) read Clear h = (h, tt)
-    by (Some t) read (At u) h = cond_both (set.contains es.times t) (just t) set.empty (λ s. set.contains s u ≡ true → (set.contains es.times u ≡ true) × Tells (At u) bytes)
-        (λ e there. let same = just_is t u there in (rw same e, rw same (ReadsAs-from_time_of bytes t read))) (λ e there. from_empty u there) h
-
-pub tells_to : (bytes : List ℕ) (es : Entries) (e : Entry) → Allows es e → Tells e bytes → Allows (agreeing (time_of bytes) es) e
-tells_to bytes es Clear h told = elim (time_of bytes) as (λ o. (agreeing o es).may_clear ≡ true) [ None ↦ h | Some t ↦ h ]
-tells_to bytes es (At t) h told =
-    subst (λ o. set.contains (agreeing o es).times t ≡ true) (sym (time_of-from_ReadsAs bytes t told))
-    (subst (λ (b : Bool). set.contains (if b then just t else set.empty) t ≡ true) (sym h) (just_self t))
+    by : (o : Option ℕ) → time_of bytes ≡ o → (e : Entry) → Allows (agreeing o es) e ↔ (Allows es e × Tells e bytes)
+    by None read Clear = (λ h. (h, tt), λ w. w.0)
+    by None read (At u) = (λ h. from_empty u h, λ w. cc (read, time_of-from_ReadsAs bytes u w.1))
+    by (Some t) read Clear = (λ h. (h, tt), λ w. w.0)
+    by (Some t) read (At u) = (
+      cond_both (set.contains es.times t) (just t) set.empty (λ s. set.contains s u ≡ true → (set.contains es.times u ≡ true) × Tells (At u) bytes)
+          (λ e there. let same = just_is t u there in (rw same e, rw same (ReadsAs-from_time_of bytes t read))) (λ e there. from_empty u there),
+      λ w. let same : t ≡ u = cc (read, time_of-from_ReadsAs bytes u w.1) in rw (same, w.0) (just_self u),
+    )
 
 -- exactly the entries that agree with a bit
 pub says_exactly : (bit : ℕ) (datum : Option ℕ) (es : Entries) (e : Entry) → Allows (said (bit_in bit datum) es) e ↔ (Allows es e × Says bit (is_set e) datum)

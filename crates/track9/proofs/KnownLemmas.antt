@@ -4,7 +4,7 @@ use Rattle.track9.proofs.Words.{Command, cond_both, contains-just, contains-remo
 use Rattle.track9.proofs.Words.{false_from_ne_true, false≢true, FastForward, Follows, goals_in, goals_of, goes, Hands, has, has_pair, if◌then◌else◌, in_local, inl, InPart}
 use Rattle.track9.proofs.Words.{inr, is_live, is_mode, is_mode-same, is_nak, is_nil, is_panel_live, is_set, is_some, IsKept, IsKnown, IsKnownEntry, IsSpanCount, IsTrue, Jog}
 use Rattle.track9.proofs.Words.{join_options, joined, joined_known, just, Known, known_fact, KnownEntry, KnowsModes, KnowsOf, List, max, max-zero, Mode, ModeSet}
-use Rattle.track9.proofs.Words.{nat_cmp, nat_tests, no_states, None, not, on_two, Option, or-true, part_of, PartKnows, PartStates, Play, Possible, Presets, presets_after, Rec}
+use Rattle.track9.proofs.Words.{nat_cmp, nat_tests, no_states, None, not, on_two, Option, part_of, PartKnows, PartStates, Play, Possible, Presets, presets_after, Rec}
 use Rattle.track9.proofs.Words.{refl, RegIn, Register, Rewind, same_test, same_times, shown_in, shown_with, Shuttle, Some, some_entry, some_state, some_two, span_count}
 use Rattle.track9.proofs.Words.{span_count-begin_count, State, StateSet, Stop, subst, sym, Times, true, true_from_ne_false, two_of, TwoKnow, TwoParts, TwoWhole, Var, Whole}
 use Rattle.track9.proofs.Words.{with_command, with_entry, ℕ, ◌&&◌, ◌+◌, ◌<◌, ◌==◌, ◌||◌, ◌↔◌, ◌∙◌, ◌≡◌, ◌≢◌, ◌≤◌, ◌⊎◌}
@@ -12,7 +12,7 @@ use Rattle.track9.specs.declared.knowledge.Known.TheVariants as known
 use Rattle.std.specs.FinSet as set
 use Rattle.track9.specs.declared.knowledge.KnownEntry.TheVariants as entry
 use Rattle.track9.proofs.EntryLemmas.{allowed_some, from_empty, goals_has, goes_from, goes_to, has-or, has_ten, just_has, just_is, mode_self, mode_some, nil_empty, no_times}
-use Rattle.track9.proofs.EntryLemmas.{nothing_allowed, or2, same_modes, some_allowed, some_mode, some_or_none, ten_bits, there_time}
+use Rattle.track9.proofs.EntryLemmas.{nothing_allowed, same_modes, some_allowed, some_mode, some_or_none, ten_bits, there_time}
 use Rattle.track9.proofs.PanelLemmas.{panel_off}
 use Rattle.track9.proofs.PartLemmas.{a_state, any_way, impossible, in_pairs, live_some, part_whole, possible, put, put_in, put_same, some_live, some_way, state_live}
 
@@ -31,13 +31,10 @@ alone s m there others = same_modes (bit_and s.0 0x3FF) (bit_of m) (ten_bits s.0
         (λ e. subst (λ k. has s.0 k ≡ true) (sym (is_mode-same n m e)) there)
 
 -- a set with nine modes missing has the tenth
-pub last_mode : (s : ModeSet) → is_some s ≡ true → has s.0 Stop ≡ false → has s.0 Play ≡ false → has s.0 Rec ≡ false → has s.0 FastForward ≡ false → has s.0 Rewind ≡ false → has s.0 Shuttle ≡ false
-    → has s.0 Jog ≡ false → has s.0 Var ≡ false → has s.0 Cued ≡ false → has s.0 Eject ≡ true
-last_mode s some a b c d e f g h i = let w = some_mode s some in by w.0 w.1
-  where
-    by : (m : Mode) → has s.0 m ≡ true → has s.0 Eject ≡ true
-    by Eject t = t
-    by _ t = cc
+pub last_mode : (s : ModeSet) (m : Mode) → has s.0 m ≡ true → has s.0 Stop ≡ false → has s.0 Play ≡ false → has s.0 Rec ≡ false → has s.0 FastForward ≡ false → has s.0 Rewind ≡ false
+    → has s.0 Shuttle ≡ false → has s.0 Jog ≡ false → has s.0 Var ≡ false → has s.0 Cued ≡ false → has s.0 Eject ≡ true
+last_mode s Eject t a b c d e f g h i = t
+last_mode s _ t a b c d e f g h i = cc
 
 pub two_modes : (s : ModeSet) (m : Mode) → has s.0 m ≡ true → (bit_and s.0 0x3FF ≡ bit_of m → ⊥) → (m n : Mode) × (has s.0 m ≡ true) × (has s.0 n ≡ true) × (m ≢ n)
 two_modes s m there not_one =
@@ -51,25 +48,21 @@ two_modes s m there not_one =
 
 -- ---- all goals, all shown modes
 
-pub goal_from : (p : List ModeSet) (g : Mode) → has (goals_of p).0 g ≡ true → (m : Mode) × (has_pair p g m ≡ true)
-goal_from p g h = some_mode (shown_with p g) (sym (goals_has p g) ∙ h)
-
 pub goal_to : (p : List ModeSet) (g m : Mode) → has_pair p g m ≡ true → has (goals_of p).0 g ≡ true
 goal_to p g m h = goals_has p g ∙ mode_some (shown_with p g) m h
 
--- in which part a mode of all parts is
-in_four : (f : List ModeSet → ModeSet) (v : StateSet) (m : Mode) → has (either (either (f (part_of v false false).pairs) (f (part_of v true false).pairs)) (either (f (part_of v false true).pairs) (f (part_of v true true).pairs))).0 m ≡ true
-    → (l pn : Bool) × (has (f (part_of v l pn).pairs).0 m ≡ true)
-in_four f v m h = elim (or2 _ _ m h) [
-  | inl a ↦ elim (or2 _ _ m a) [ inl c ↦ (false, false, c) | inr c ↦ (true, false, c) ]
-  | inr a ↦ elim (or2 _ _ m a) [ inl c ↦ (false, true, c) | inr c ↦ (true, true, c) ]
-]
+-- the modes of all parts
+abbrev all_of : (List ModeSet → ModeSet) → StateSet → ModeSet
+all_of f v = either (either (f (part_of v false false).pairs) (f (part_of v true false).pairs)) (either (f (part_of v false true).pairs) (f (part_of v true true).pairs))
 
-four_in : (f : List ModeSet → ModeSet) (v : StateSet) (m : Mode) (l pn : Bool) → has (f (part_of v l pn).pairs).0 m ≡ true
-    → has (either (either (f (part_of v false false).pairs) (f (part_of v true false).pairs)) (either (f (part_of v false true).pairs) (f (part_of v true true).pairs))).0 m ≡ true
-four_in f v m false false h = simp (has-or, h)
-four_in f v m _ false h = simp (has-or, h, or-true)
-four_in f v m _ _ h = simp (has-or, h, or-true)
+-- they are those of some part
+some_part : (f : List ModeSet → ModeSet) (v : StateSet) (m : Mode) → has (all_of f v).0 m ≡ true ↔ ((l pn : Bool) × (has (f (part_of v l pn).pairs).0 m ≡ true))
+some_part f v m =
+    let x : Bool → Bool → Bool = λ l pn. has (f (part_of v l pn).pairs).0 m in
+    let same : has (all_of f v).0 m ≡ ((x false false || x true false) || (x false true || x true true)) = simp has-or in (
+      λ h. let pn = some_way (λ pn. x false pn || x true pn) (sym same ∙ h) in let l = some_way (λ l. x l pn.0) pn.1 in (l.0, pn.0, l.1),
+      λ (l, pn, h). same ∙ any_way (λ pn. x false pn || x true pn) pn (any_way (λ l. x l pn) l h),
+    )
 
 -- a pair of a part is one of a state
 pair_state : (v : StateSet) (l pn : Bool) (g m : Mode) → AreWhole v → has_pair (part_of v l pn).pairs g m ≡ true → (s : State) × Possible v s × (s.goal ≡ g) × (s.shown ≡ m)
@@ -83,21 +76,22 @@ pub record HasModes (X : State → Type 0) (field : State → Mode) (set : ModeS
   pub there : (s : State) → X s → has set.0 (field s) ≡ true
   pub back : (m : Mode) → has set.0 m ≡ true → (s : State) × X s × (field s ≡ m)
 
-pub has_goals : (v : StateSet) → AreWhole v → HasModes (Possible v) (λ (s : State). s.goal) (goals_in v)
-has_goals v whole = record {
-  there = λ s i. four_in goals_of v s.goal s.local s.panel (goal_to (part_of v s.local s.panel).pairs s.goal s.shown (impossible v s s.local s.panel refl refl i).pair);
-  back = λ g h.
-      let a = in_four goals_of v g h in let m = goal_from (part_of v a.0 a.1).pairs g a.2 in
-      let w = pair_state v a.0 a.1 g m.0 whole m.1 in (w.0, w.1, w.2);
+-- goals, or shown modes
+has_modes : (pick : Mode → Mode → Mode) (f : List ModeSet → ModeSet) (v : StateSet) → ((p : List ModeSet) (n : Mode) → has (f p).0 n ≡ true ↔ ((g m : Mode) × (has_pair p g m ≡ true) × (pick g m ≡ n)))
+    → AreWhole v → HasModes (Possible v) (λ (s : State). pick s.goal s.shown) (all_of f v)
+has_modes pick f v exactly whole = record {
+  there = λ s i. (some_part f v _).1 (s.local, s.panel, (exactly (part_of v s.local s.panel).pairs _).1 (s.goal, s.shown, (impossible v s s.local s.panel refl refl i).pair, refl));
+  back = λ n h.
+      let a = (some_part f v n).0 h in let p = (exactly (part_of v a.0 a.1).pairs n).0 a.2 in
+      let w = pair_state v a.0 a.1 p.0 p.1 whole p.2 in (w.0, w.1, rw (w.2, w.3) p.3);
 }
 
+pub has_goals : (v : StateSet) → AreWhole v → HasModes (Possible v) (λ (s : State). s.goal) (goals_in v)
+has_goals v = has_modes (λ g m. g) goals_of v
+    (λ p n. (λ h. let m = some_mode (shown_with p n) (sym (goals_has p n) ∙ h) in (n, m.0, m.1, refl), λ (g, m, pair, e). rw (← e) (goal_to p g m pair)))
+
 pub has_shown : (v : StateSet) → AreWhole v → HasModes (Possible v) (λ (s : State). s.shown) (shown_in v)
-has_shown v whole = record {
-  there = λ s i. four_in goes v s.shown s.local s.panel (goes_to (part_of v s.local s.panel).pairs s.goal s.shown (impossible v s s.local s.panel refl refl i).pair);
-  back = λ m h.
-      let a = in_four goes v m h in let g = goes_from (part_of v a.0 a.1).pairs m a.2 in
-      let w = pair_state v a.0 a.1 g.0 m whole g.1 in (w.0, w.1, w.3);
-}
+has_shown v = has_modes (λ g m. m) goes v (λ p n. (λ h. let g = goes_from p n h in (g.0, n, g.1, refl), λ (g, m, pair, e). rw (← e) (goes_to p g m pair)))
 
 pub modes_some : (v : StateSet) (field : State → Mode) (set : ModeSet) → HasModes (Possible v) field set → AreWhole v → some_state v ≡ true → is_some set ≡ true
 modes_some v field set h whole live = let w = live_some v whole live in mode_some set (field w.0) (h.there w.0 w.1)
@@ -140,7 +134,7 @@ panel_known v whole live = fact_known (Possible v) (λ (s : State). s.panel) (λ
 
 -- ---- one set of entries
 
-at_same : (t u : ℕ) → At t ≡ At u → t ≡ u
+pub at_same : (t u : ℕ) → At t ≡ At u → t ≡ u
 at_same t u e = cc
 
 -- no time: all are Clear
@@ -292,7 +286,7 @@ remains_where v whole = (λ h. live_some v whole h, λ w. some_live v w.0 w.1)
 dead_few : (n : Presets) (v : StateSet) → AreWhole v → some_state v ≡ false → AreFew n v
 dead_few n v whole dead pn l r =
     let dead_in : is_live (part_of v l pn) ≡ false = false_from_ne_true _ (λ live.
-    let w = a_state (part_of v l pn) l pn (part_whole v whole l pn) live in false≢true (sym dead ∙ some_live v w.0 (possible v w.0 l pn w.2 w.3 w.1))) in
+    let w = live_state v l pn whole live in false≢true (sym dead ∙ some_live v w.0 w.1)) in
     rw (no_times (entries_of r (part_of v l pn)) (part_whole v whole l pn r ∙ dead_in)) (omega (arith, begin_count-empty))
 
 pub kept_after : (c : Command) (reply : Block) (v w : StateSet) (h : Hands) (n : Presets) → IsKept n v → Follows h c reply v w → IsKept (presets_after c reply (some_state w) n) w
@@ -317,16 +311,12 @@ are_times v r l pn whole t = (
   λ w. subst (λ e. Allows (entries_of r (part_of v l pn)) e) w.4 ((impossible v w.0 l pn w.2 w.3 w.1).registers r),
 )
 
+-- the greater of two, and of four
+most_of : (f : Bool → ℕ) (n : ℕ) → n ≡ max (f false) (f true) → (b : Bool) × (f b ≡ n)
+most_of f n e = let w : (f false ≡ n) ⊎ (f true ≡ n) = grind arith in elim w [ inl p ↦ (false, p) | inr p ↦ (true, p) ]
+
 is_one : (f : Bool → Bool → ℕ) (n : ℕ) → n ≡ max (max (f false false) (f true false)) (max (f false true) (f true true)) → (l pn : Bool) × (f l pn ≡ n)
-is_one f n e = elim (by (f false false) (f true false) (f false true) (f true true) e) [
-  | inl p ↦ (false, false, p)
-  | inr (inl p) ↦ (true, false, p)
-  | inr (inr (inl p)) ↦ (false, true, p)
-  | inr (inr (inr p)) ↦ (true, true, p)
-]
-  where
-    by : (a b c d : ℕ) → n ≡ max (max a b) (max c d) → (a ≡ n) ⊎ ((b ≡ n) ⊎ ((c ≡ n) ⊎ (d ≡ n)))
-    by a b c d e = grind arith
+is_one f n e = let pn = most_of (λ pn. max (f false pn) (f true pn)) n e in let l = most_of (λ l. f l pn.0) n (sym pn.1) in (l.0, pn.0, l.1)
 
 pub span_count_is : (v : StateSet) (r : Register) (n : ℕ) → AreWhole v → n ≡ most_spans v r → IsSpanCount (Possible v) r n
 span_count_is v r n whole e = record {

@@ -11,7 +11,6 @@ known_once X field known.Unknown (known.Is w) some h k = absurd (h.4 (k h.0 h.2 
 known_once X field known.Unknown known.Unknown some h k = refl
 
 entry_once : (X : State → Type 0) (r : Register) (a b : KnownEntry) → ((s : State) × X s) → IsKnownEntry X r a → IsKnownEntry X r b → a ≡ b
-entry_once X r entry.Clear entry.Clear some h k = refl
 entry_once X r entry.SetSomewhere entry.SetSomewhere some h k = refl
 entry_once X r entry.Unknown entry.Unknown some h k = refl
 entry_once X r entry.SetSomewhere entry.Unknown some h k = cc (k.4, h.0 k.0 k.2)

@@ -1,18 +1,18 @@
 -- All states: whole exchanges, and commands whose reply is not known, also where hands are allowed on the panel.
 use Rattle.track9.proofs.Words.{[], acknowledged, after_panel, all_drifted, all_or_none, AllLeadOn, Allows, ap, AreBelow, AreFew, AreReached, AreWhole, BelowDay, Block, Bool}
 use Rattle.track9.proofs.Words.{CanPass, Command, cond_both, counted, Does, DoesOrNot, done, Drift, drift_from_pairs, Effect, effect_of, either_panel, entries_of, Exchanges}
-use Rattle.track9.proofs.Words.{false, false_from_ne_true, false≢true, first_states, Follows, FollowsPassed, goes, Hands, hands_by, hands_of, has, HasEffect, if◌then◌else◌}
+use Rattle.track9.proofs.Words.{false, false≢true, first_states, Follows, FollowsPassed, goes, Hands, hands_by, hands_of, has, HasEffect, if◌then◌else◌}
 use Rattle.track9.proofs.Words.{ignored, ignored_by_effect, in_local, inl, InPart, inr, InTwo, is_nak, is_of_goal_or_register, is_panel_live, is_wide, IsIn, IsKept, IsState}
 use Rattle.track9.proofs.Words.{LeadsOn, None, on_two, Option, or-true, panel_passed, Passed, Passes, Possible, Presets, presets_after, read_panel, refl, refused, RegIn}
-use Rattle.track9.proofs.Words.{Register, Sense, sense_of, Some, some_state, State, StateSet, Step, subst, switched, sym, true, two_drifted, two_of, TwoBelow, TwoFew, TwoParts}
+use Rattle.track9.proofs.Words.{Register, sense_of, Some, some_state, State, StateSet, Step, subst, switched, sym, true, two_drifted, two_of, TwoBelow, TwoFew, TwoParts}
 use Rattle.track9.proofs.Words.{TwoWhole, with_command, ◌↔◌, ◌∙◌, ◌≡◌, ◌⊎◌}
 use Rattle.deck9.specs.declared.effect.Effect.TheVariants as effect
 use Rattle.deck9.specs.declared.sense.Sense.TheVariants as sense
 use Rattle.deck9.specs.declared.state.Hands.TheVariants as hands
-use Rattle.track9.proofs.EffectLemmas.{command_counts, does_keep, drift_leads, leads_as, leads_same, leads_then, presets_of, sense_effect, status_effect}
+use Rattle.track9.proofs.EffectLemmas.{asks_or_acts, command_counts, does_keep, drift_leads, leads_as, leads_same, leads_then, presets_of}
 use Rattle.track9.proofs.EntryLemmas.{from_empty}
-use Rattle.track9.proofs.PartLemmas.{all_exactly, both_few, by_panel, drift_below, drift_few, drift_panel, drift_state, drift_whole, few_two, first_exactly, live_some, of_two}
-use Rattle.track9.proofs.PartLemmas.{off_drift, possible_state, same_drift, some_live, state_is, to_two, two_live, two_none, two_state, whole_two}
+use Rattle.track9.proofs.PartLemmas.{all_exactly, both_few, by_panel, drift_below, drift_few, drift_panel, drift_state, drift_whole, few_two, first_exactly, live_some}
+use Rattle.track9.proofs.PartLemmas.{off_drift, possible_state, same_drift, some_live, state_is, two_live, two_none, two_state, whole_two}
 
 -- ---- where hands are not allowed
 
@@ -116,25 +116,35 @@ leads_both Goes count v off on narrow whole below first second = record {
 -- it is the effect of its command, which is acknowledged, asks for nothing and is no preset
 wide_step : (c : Command) (reply : Block) (e : Effect) → acknowledged c reply ≡ e → is_wide e ≡ true
     → ((d t : State) → Step hands.Allowed c reply d t ↔ Does hands.Allowed e d t) × ((n : Presets) → counted e n ≡ n → presets_after c reply true n ≡ n)
-wide_step c reply e was wide = (λ d t. (back d t, λ does. done ok.0 (rw (asks_nothing (sense_of c) refl) tt) (rw ok.1 does)), λ n same. presets_of c reply n ok.0 ∙ ap (λ e. counted e n) ok.1 ∙ same)
+wide_step c reply e was wide = (λ d t. (back d t, λ does. done ok.0 (rw asks_nothing tt) (rw ok.1 does)), λ n same. presets_of c reply n ok.0 ∙ ap (λ e. counted e n) ok.1 ∙ same)
   where
     ok : (is_nak reply ≡ false) × (effect_of c ≡ e)
     ok = cond_both (is_nak reply) effect.Nothing (effect_of c) (λ x. x ≡ e → (is_nak reply ≡ false) × (effect_of c ≡ e)) (λ nak was. absurd (false≢true (ap is_wide was ∙ wide))) (λ ok was. (ok, was)) was
 
-    asks_nothing : (q : Sense) → sense_of c ≡ q → sense_of c ≡ sense.Nothing
-    asks_nothing (sense.Register r) e = absurd (false≢true (ap is_wide (sym (sense_effect c r e) ∙ ok.1) ∙ wide))
-    asks_nothing (sense.Status asked) e = absurd (false≢true (ap is_wide (sym (status_effect c asked e) ∙ ok.1) ∙ wide))
-    asks_nothing sense.Nothing e = e
+    asks_nothing : sense_of c ≡ sense.Nothing
+    asks_nothing = elim (asks_or_acts c) [ inl e ↦ e | inr none ↦ absurd (false≢true (ap is_wide (sym none ∙ ok.1) ∙ wide)) ]
 
     never_both : (e : Effect) → is_wide e ≡ true → is_of_goal_or_register e ≡ true → ⊥
-    never_both (effect.Panel on) wide may = false≢true may
-    never_both effect.ForgetAll wide may = false≢true may
-    never_both _ wide may = false≢true wide
+    never_both (effect.Panel on) wide may = cc
+    never_both _ wide may = cc
 
     back : (d t : State) → Step hands.Allowed c reply d t → Does hands.Allowed e d t
     back d t (refused nak same) = absurd (false≢true (sym ok.0 ∙ nak))
     back d t (done nak shows does) = subst (λ e. Does hands.Allowed e d t) ok.1 does
     back d t (ignored nak shows may local same) = absurd (never_both e wide (ap is_of_goal_or_register (sym ok.1) ∙ sym (ignored_by_effect c) ∙ may))
+
+-- a drift alone
+all_drift : (v : StateSet) → AreWhole v → AreBelow v → AllLeadOn hands.Allowed (DriftsAndGoes (λ h s t. t ≡ s) hands.Allowed) (λ n. n) v (all_drifted v)
+all_drift v whole below = leads_both (λ h s t. t ≡ s) (λ n. n) v (two_drifted v.off) (all_or_none (is_panel_live v))
+    (record { same = λ h k s t e. e; panel = λ s t w. ap (λ (u : State). u.panel) w.2 ∙ drift_panel hands.None s w.0 w.1 }) whole below (stays v.off whole.off)
+    (subst (λ g. LeadsOn (DriftsAndGoes (λ h s t. t ≡ s) hands.None) (λ n. n) (all_or_none (is_panel_live v)) g) (none_or_all (is_panel_live v)) (stays (all_or_none (is_panel_live v)) (whole_two (is_panel_live v))))
+  where
+    none_or_all : (b : Bool) → two_drifted (all_or_none b) ≡ all_or_none b
+    none_or_all true = refl
+    none_or_all false = refl
+
+    stays : (h : TwoParts) → TwoWhole h → LeadsOn (DriftsAndGoes (λ h s t. t ≡ s) hands.None) (λ n. n) h (two_drifted h)
+    stays h whole = leads_then (Drift hands.None) (λ s t. t ≡ s) (λ n. n) (λ n. n) h (two_drifted h) (two_drifted h) (drift_leads h whole) (leads_same (two_drifted h) (drift_whole h whole))
 
 -- ---- the panel is switched
 
@@ -162,32 +172,25 @@ either_whole v whole = cond_both (is_panel_live v) (all_or_none true) (two_drift
 either_few : (v : StateSet) (n : Presets) → AreFew n v → TwoFew n (either_panel v)
 either_few v n few = cond_both (is_panel_live v) (all_or_none true) (two_drifted v.off) (TwoFew n) (λ on. few_two n true) (λ off. drift_few n v.off (few false))
 
-abbrev pub DriftsAndDoes : Effect → State → State → Type 0
-DriftsAndDoes e s t = (d : State) × Drift hands.Allowed s d × Does hands.Allowed e d t
+-- a state that a drift leads to is one of those put together whatever the panel, and each of them is one, with some value of the panel
+either_to : (v : StateSet) (t : State) (pn : Bool) → IsState t → IsIn (if pn then (all_drifted v).on else Some (all_drifted v).off) t → InPart (in_local (either_panel v) t.local) t
+either_to v t true valid i = (elim (is_panel_live v) as (λ b. InPart (in_local (all_or_none b) t.local) t → InPart (in_local (if b then all_or_none true else two_drifted v.off) t.local) t)
+    [ true ↦ λ i. i | false ↦ λ i. two_none t i ]) i
+either_to v t false valid i = cond_both (is_panel_live v) (all_or_none true) (two_drifted v.off) (λ h. InPart (in_local h t.local) t) (λ on. (all_exactly true t).1 (refl, valid)) (λ off. i)
 
-panel_reached : (on : Bool) (v : StateSet) → AreWhole v → AreBelow v → AreReached (Possible v) (DriftsAndDoes (effect.Panel on)) (Possible (after_panel on v))
-panel_reached on v whole below = (
-  λ t i. from (is_panel_live v) refl t ((switched_exactly on (either_panel v) t).0 i),
-  λ s t i (d, drift, same). subst (Possible (after_panel on v)) (sym same)
-      ((switched_exactly on (either_panel v) (record d { panel = on })).1 (in_panel (either_panel v) d on (to (is_panel_live v) refl s d i drift))),
+either_from : (v : StateSet) (t : State) → InPart (in_local (either_panel v) t.local) t → (pn : Bool) × Possible (all_drifted v) (record t { panel = pn })
+either_from v t i = (elim (is_panel_live v) as (λ b. InPart (in_local (if b then all_or_none true else two_drifted v.off) t.local) t
+    → (pn : Bool) × IsIn (if pn then Some (all_or_none b) else Some (two_drifted v.off)) (record t { panel = pn }))
+    [ true ↦ λ i. (true, (in_panel (all_or_none true) t true i).1) | false ↦ λ i. (false, (in_panel (two_drifted v.off) t false i).1) ]) i
+
+panel_reached : (on : Bool) (v : StateSet) → AreWhole v → AreBelow v → AreReached (Possible v) (DriftsAndGoes (λ h. Does h (effect.Panel on)) hands.Allowed) (Possible (after_panel on v))
+panel_reached on v whole below = let drifts = (all_drift v whole below).reached in (
+  λ t i.
+      let here = (switched_exactly on (either_panel v) t).0 i in let w = either_from v t here.1 in let a = drifts.0 (record t { panel = w.0 }) w.1 in
+      (a.0, a.1, (record t { panel = w.0 }, subst (Drift hands.Allowed a.0) (sym a.2.2) a.2.1, ap (λ b. record t { panel = b }) here.0)),
+  λ s t i (d, drift, same). rw same ((switched_exactly on (either_panel v) (record d { panel = on })).1 (in_panel (either_panel v) d on
+      (either_to v d d.panel (drift_state hands.Allowed s d (possible_state v s below i) drift) (drifts.1 s d i (d, drift, refl))))),
 )
-  where
-    from : (b : Bool) → is_panel_live v ≡ b → (t : State) → InTwo on (if b then all_or_none true else two_drifted v.off) t → (s : State) × Possible v s × DriftsAndDoes (effect.Panel on) s t
-    from true live t i =
-        let s = two_state (two_of v true) true whole.on live in
-        let d : State = record t { panel = true } in
-        let drift = drift_from_pairs hands.Allowed s.0 d (inr (refl, s.1.0, refl, ((all_exactly true d).0 (in_panel (all_or_none true) t true i.1).1).1)) in
-        (s.0, of_two v s.0 true s.1, (d, drift, ap (λ b. record t { panel = b }) i.0))
-    from false dead t i =
-        let d : State = record t { panel = false } in
-        let a = ((drift_leads v.off whole.off).reached false).0 d (in_panel (two_drifted v.off) t false i.1) in
-        (a.0, of_two v a.0 false a.1, (d, same_drift hands.Allowed a.0 d a.2, ap (λ b. record t { panel = b }) i.0))
-
-    to : (b : Bool) → is_panel_live v ≡ b → (s d : State) → Possible v s → Drift hands.Allowed s d → InPart (in_local (if b then all_or_none true else two_drifted v.off) d.local) d
-    to true live s d i drift = (all_exactly true d).1 (refl, drift_state hands.Allowed s d (possible_state v s below i) drift)
-    to false dead s d i drift =
-        let off : s.panel ≡ false = false_from_ne_true s.panel (λ on. false≢true (sym dead ∙ two_live (two_of v true) s (to_two v s true on i).1)) in
-        (((drift_leads v.off whole.off).reached false).1 s d (to_two v s false off i) (off_drift hands.Allowed s d off drift)).1
 
 pub follows_panel : (c : Command) (reply : Block) (on : Bool) (v : StateSet) → acknowledged c reply ≡ effect.Panel on → AreWhole v → AreBelow v → Follows hands.Allowed c reply v (after_panel on v)
 follows_panel c reply on v was whole below = let w = wide_step c reply (effect.Panel on) was refl in let keeps = switched_keeps on (either_panel v) (either_whole v whole) in record {
@@ -248,40 +251,19 @@ passed_effect c h g whole below has = leads_then (Drift hands.None) (CanPass han
     (leads_as (DoesOrNot true (effect_of c)) (CanPass hands.None c) (counted (effect_of c)) (with_command c) (two_drifted h) g (λ s t d. elim d [ inl does ↦ inr does | inr (may, stays, e) ↦ inl e ])
     (λ s t i. passes_back (effect_of c) s t (state_is (in_local (two_drifted h) s.local) s (drift_below h below s.local) i)) (command_counts c) has)
 
--- the panel stays
-all_drift : (v : StateSet) → AreWhole v → AreBelow v → AllLeadOn hands.Allowed (DriftsAndGoes (λ h s t. t ≡ s) hands.Allowed) (λ n. n) v (all_drifted v)
-all_drift v whole below = leads_both (λ h s t. t ≡ s) (λ n. n) v (two_drifted v.off) (all_or_none (is_panel_live v))
-    (record { same = λ h k s t e. e; panel = λ s t w. ap (λ (u : State). u.panel) w.2 ∙ drift_panel hands.None s w.0 w.1 }) whole below (stays v.off whole.off)
-    (subst (λ g. LeadsOn (DriftsAndGoes (λ h s t. t ≡ s) hands.None) (λ n. n) (all_or_none (is_panel_live v)) g) (none_or_all (is_panel_live v)) (stays (all_or_none (is_panel_live v)) (whole_two (is_panel_live v))))
-  where
-    none_or_all : (b : Bool) → two_drifted (all_or_none b) ≡ all_or_none b
-    none_or_all true = refl
-    none_or_all false = refl
-
-    stays : (h : TwoParts) → TwoWhole h → LeadsOn (DriftsAndGoes (λ h s t. t ≡ s) hands.None) (λ n. n) h (two_drifted h)
-    stays h whole = leads_then (Drift hands.None) (λ s t. t ≡ s) (λ n. n) (λ n. n) h (two_drifted h) (two_drifted h) (drift_leads h whole) (leads_same (two_drifted h) (drift_whole h whole))
-
 -- a state after a passed switch is one of those that stayed, or one of those that the switch leads to
 passed_exactly : (on : Bool) (v : StateSet) (t : State) → (Possible (panel_passed on v) t → Possible (all_drifted v) t ⊎ Possible (after_panel on v) t)
     × ((IsState t × Possible (all_drifted v) t) ⊎ Possible (after_panel on v) t → Possible (panel_passed on v) t)
 passed_exactly on v t = by on t.panel
   where
-    known_on : (b : Bool) → InPart (in_local (all_or_none b) t.local) t → InPart (in_local (if b then all_or_none true else two_drifted v.off) t.local) t
-    known_on true i = i
-    known_on false i = two_none t i
-
-    known_off : (b : Bool) → IsState t → InPart (in_local (two_drifted v.off) t.local) t → InPart (in_local (if b then all_or_none true else two_drifted v.off) t.local) t
-    known_off true valid i = (all_exactly true t).1 (refl, valid)
-    known_off false valid i = i
-
     In : Bool → StateSet → Type 0
     In pn v = IsIn (if pn then v.on else Some v.off) t
 
     by : (on pn : Bool) → (In pn (panel_passed on v) → In pn (all_drifted v) ⊎ In pn (after_panel on v)) × ((IsState t × In pn (all_drifted v)) ⊎ In pn (after_panel on v) → In pn (panel_passed on v))
     by true false = (λ i. inl i, λ w. elim w [ inl (valid, i) ↦ i | inr i ↦ two_none t i ])
     by false true = (λ i. inl i, λ w. elim w [ inl (valid, i) ↦ i | inr i ↦ two_none t i ])
-    by true true = (λ i. inr i, λ w. elim w [ inl (valid, i) ↦ known_on (is_panel_live v) i | inr i ↦ i ])
-    by false false = (λ i. inr i, λ w. elim w [ inl (valid, i) ↦ known_off (is_panel_live v) valid i | inr i ↦ i ])
+    by true true = (λ i. inr i, λ w. elim w [ inl (valid, i) ↦ either_to v t true valid i | inr i ↦ i ])
+    by false false = (λ i. inr i, λ w. elim w [ inl (valid, i) ↦ either_to v t false valid i | inr i ↦ i ])
 
 -- the panel may be switched
 pub passed_panel : (c : Command) (on : Bool) (v : StateSet) → effect_of c ≡ effect.Panel on → AreWhole v → AreBelow v → FollowsPassed hands.Allowed c v (panel_passed on v)

@@ -99,31 +99,27 @@ entry_exactly : (e : Entry) → Allows all_entries e ↔ IsEntry e
 entry_exactly Clear = (λ h. tt, λ h. refl)
 entry_exactly (At t) = (in_day t, day_in t)
 
-pub in_any_entries : (q : List ModeSet) (t : State) → IsState t → has_pair q t.goal t.shown ≡ true → InPart (with_pairs q all_states) t
-in_any_entries q t h pair =
-    record { pair = pair; registers = each_register _ ((entry_exactly t.ins).1 (h RegIn)) ((entry_exactly t.outs).1 (h RegOut)) ((entry_exactly t.ains).1 (h RegAudioIn)) ((entry_exactly t.aouts).1 (h RegAudioOut)) }
+-- those with these pairs, and all of them
+pub any_entries : (q : List ModeSet) (t : State) → InPart (with_pairs q all_states) t ↔ (IsState t × (has_pair q t.goal t.shown ≡ true))
+any_entries q t = (
+  λ i. let r = i.registers in (each_register _ ((entry_exactly t.ins).0 (r RegIn)) ((entry_exactly t.outs).0 (r RegOut)) ((entry_exactly t.ains).0 (r RegAudioIn)) ((entry_exactly t.aouts).0 (r RegAudioOut)), i.pair),
+  λ (h, pair). record { pair = pair; registers = each_register _ ((entry_exactly t.ins).1 (h RegIn)) ((entry_exactly t.outs).1 (h RegOut)) ((entry_exactly t.ains).1 (h RegAudioIn)) ((entry_exactly t.aouts).1 (h RegAudioOut)) },
+)
 
-pub any_entries_in : (q : List ModeSet) (t : State) → InPart (with_pairs q all_states) t → IsState t
-any_entries_in q t h = let r = h.registers in each_register _ ((entry_exactly t.ins).0 (r RegIn)) ((entry_exactly t.outs).0 (r RegOut)) ((entry_exactly t.ains).0 (r RegAudioIn)) ((entry_exactly t.aouts).0 (r RegAudioOut))
-
-pub in_all : (t : State) → IsState t → InPart all_states t
-in_all t h = in_any_entries all_pairs t h (pair_by_goal (λ g. modes 0x3FF) t.goal t.shown ∙ all_has t.shown)
-
-pub all_in : (t : State) → InPart all_states t → IsState t
-all_in t h = any_entries_in all_pairs t h
+pub every_state : (t : State) → InPart all_states t ↔ IsState t
+every_state t = (λ i. ((any_entries all_pairs t).0 i).0, λ valid. (any_entries all_pairs t).1 (valid, pair_by_goal (λ g. modes 0x3FF) t.goal t.shown ∙ all_has t.shown))
 
 pub in_none : {P : Type 0} (t : State) → InPart no_states t → P
 in_none t h = absurd (false≢true (sym (pair_by_goal (λ g. modes 0) t.goal t.shown ∙ nothing_has t.shown) ∙ h.pair))
 
 -- ---- a part without states is let go of
 
-pub settled_from : (p : PartStates) (t : State) → InPart (settled p) t → InPart p t
-settled_from p t h = cond_both _ p no_states (λ q. InPart q t → InPart p t) (λ e h. h) (λ e h. in_none t h) h
-
-pub settled_to : (p : PartStates) (t : State) → InPart p t → InPart (settled p) t
-settled_to p t h =
-    let a = h.registers in
-    rw (state_live p t h, allowed_some p.ins _ (a RegIn), allowed_some p.outs _ (a RegOut), allowed_some p.ains _ (a RegAudioIn), allowed_some p.aouts _ (a RegAudioOut)) h
+pub settled_exactly : (p : PartStates) (t : State) → InPart (settled p) t ↔ InPart p t
+settled_exactly p t = (
+  λ i. cond_both _ p no_states (λ q. InPart q t → InPart p t) (λ e i. i) (λ e i. in_none t i) i,
+  λ i. let a = i.registers in
+      rw (state_live p t i, allowed_some p.ins _ (a RegIn), allowed_some p.outs _ (a RegOut), allowed_some p.ains _ (a RegAudioIn), allowed_some p.aouts _ (a RegAudioOut)) i,
+)
 
 -- ---- each factor of a part keeps something, or none does
 
@@ -238,14 +234,11 @@ count_more (SetAt t) _ n = refl
 count_more _ r n = refl
 
 -- one preset more
-few_up : (n : ℕ) (es : Entries) → BelowDay es.times → FewTimes n es → FewTimes (one_more n) es
-few_up n es below h = omega (arith, h, few_in_day es.times below)
-
 few_one_more : (n : Presets) (r q : Register) (p : PartStates) → ((q : Register) → BelowDay (entries_of q p).times) → FewIn n p → FewTimes (count_of q (with_one r n)) (entries_of q p)
-few_one_more n RegIn RegIn p below h = few_up n.ins p.ins (below RegIn) (h RegIn)
-few_one_more n RegOut RegOut p below h = few_up n.outs p.outs (below RegOut) (h RegOut)
-few_one_more n RegAudioIn RegAudioIn p below h = few_up n.ains p.ains (below RegAudioIn) (h RegAudioIn)
-few_one_more n RegAudioOut RegAudioOut p below h = few_up n.aouts p.aouts (below RegAudioOut) (h RegAudioOut)
+few_one_more n RegIn RegIn p below h = omega (arith, h RegIn, few_in_day p.ins.times (below RegIn))
+few_one_more n RegOut RegOut p below h = omega (arith, h RegOut, few_in_day p.outs.times (below RegOut))
+few_one_more n RegAudioIn RegAudioIn p below h = omega (arith, h RegAudioIn, few_in_day p.ains.times (below RegAudioIn))
+few_one_more n RegAudioOut RegAudioOut p below h = omega (arith, h RegAudioOut, few_in_day p.aouts.times (below RegAudioOut))
 few_one_more n _ q p below h = h q
 
 -- what has to be known of the times of a part before an effect
@@ -292,8 +285,8 @@ pub all_exactly : (b : Bool) (t : State) → InPart (in_local (all_or_none b) t.
 all_exactly b t = by b t.local
   where
     by : (b l : Bool) → InPart (in_local (all_or_none b) l) t ↔ ((b ≡ true) × IsState t)
-    by true false = (λ i. (refl, all_in t i), λ w. in_all t w.1)
-    by true true = (λ i. (refl, all_in t i), λ w. in_all t w.1)
+    by true false = (λ i. (refl, (every_state t).0 i), λ w. (every_state t).1 w.1)
+    by true true = (λ i. (refl, (every_state t).0 i), λ w. (every_state t).1 w.1)
     by false false = (λ i. in_none t i, λ w. absurd (false≢true w.0))
     by _ _ = (λ i. in_none t i, λ w. absurd (false≢true w.0))
 

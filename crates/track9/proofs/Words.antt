@@ -7,7 +7,7 @@ pub use Rattle.deck9.proofs.RunLemmas.{some_end}
 pub use Rattle.deck9.proofs.RunSearch.{read_panel}
 pub use Rattle.deck9.specs.Run.{Ends, HasRun}
 pub use Rattle.std.proofs.Common.{[], ap, arith, bit_and, bit_or, Bool, eqb, false, IfNone, IfSome, if◌then◌else◌, inl, inr, IsTrue, List, max, mod-lt, nat_eq, None, not, Option}
-pub use Rattle.std.proofs.Common.{option_map, refl, slice_set, Some, subst, sym, take, true, ℕ, ◌&&◌, ◌*◌, ◌+◌, ◌<◌, ◌==◌, ◌^◌, ◌||◌, ◌↔◌, ◌∙◌, ◌∷◌, ◌≡◌, ◌≢◌, ◌≤◌, ◌⊎◌}
+pub use Rattle.std.proofs.Common.{option_map, refl, rules, Some, subst, sym, take, true, ℕ, ◌&&◌, ◌*◌, ◌+◌, ◌<◌, ◌==◌, ◌^◌, ◌||◌, ◌↔◌, ◌∙◌, ◌∷◌, ◌≡◌, ◌≢◌, ◌≤◌, ◌⊎◌}
 pub use Rattle.std.proofs.Math.Bool.{and-false, and-true, or-false, or-true, or_assoc}
 pub use Rattle.std.proofs.Math.Nat.{max-zero}
 pub use Rattle.std.proofs.lemmas.Bool.{and_from, and_parts, both_ways, cases_Bool, cases_eq, cond_both, eq-eqb, eqb-true, false_from_ne_true, false≢true, ltb-true, not-true}
@@ -31,7 +31,7 @@ pub use Rattle.tc25.specs.Working.TimesWhere.{contains-every_time}
 pub use Rattle.track9.specs.Knowledge.{IsKnowledge, IsKnown, IsKnownEntry}
 pub use Rattle.track9.specs.Presets.{AreTimes, IsSpanCount, one_more}
 pub use Rattle.track9.specs.Tracker.{IsIn}
-pub use Rattle.track9.specs.Working.Asked.{any_goal, any_registers, any_tape, asked_before, asked_of, entry_before, Fits, Is, IsAsked, IsUndone, just_state, LeadsTo, PairRunsTo}
+pub use Rattle.track9.specs.Working.Asked.{any_goal, asked_before, asked_of, entry_before, Fits, Is, IsAsked, IsUndone, just_state, LeadsTo, PairRunsTo}
 pub use Rattle.track9.specs.Working.Asked.{RunsTo, same_fact, with_asked}
 pub use Rattle.track9.specs.Working.Deck.{Agrees, Allows, AreReached, Asked, At, Becomes, begin_count, BelowDay, bit_of, Block, CanPass, Change, Clear, Command, count_of, Cued}
 pub use Rattle.track9.specs.Working.Deck.{datum, day, Does, done, Drift, Effect, effect_of, Eject, Entries, entries_of, Entry, entry_of, every_time, Exchanges, FastForward}
@@ -44,7 +44,7 @@ unfoldable pub use Rattle.track9.specs.Working.Deck.{span_count}
 pub use Rattle.track9.specs.Working.Entries.{agreeing, all_entries, is_nil, no_entries, said, some_entry}
 pub use Rattle.track9.specs.Working.Knowing.{goals_in, join_options, joined_known, known_fact, KnowsModes, KnowsOf, PartKnows, shown_in, TwoKnow}
 pub use Rattle.track9.specs.Working.Pairs.{all_pairs, both, by_goal, drifted, drifted_with, either, goal_if_shown, goals_of, goes, gone, gone_with, halted, is_some, joined}
-pub use Rattle.track9.specs.Working.Pairs.{kept_goal, masked, modes, no_pairs, of_modes, some_pair, way}
+pub use Rattle.track9.specs.Working.Pairs.{kept_goal, masked, modes, of_modes, some_pair, way}
 pub use Rattle.track9.specs.Working.Parts.{agrees_local, all_states, bit_in, changed_entries, changed_part, drifted_part, forgotten_part, gone_pairs, gone_part, HasState}
 pub use Rattle.track9.specs.Working.Parts.{is_live, no_states, put_aside, put_settled, said_part, sensed_part, settled, shown_part, status_part, where_live, Whole, with_entries}
 pub use Rattle.track9.specs.Working.Parts.{with_pairs}

@@ -30,7 +30,10 @@ with_asked RegAudioOut o a = record a { aouts = o }
 pub record Fits (a : Asked) (d : State) : Type 0 where
   pub goal : has a.goals.0 d.goal ≡ true
   pub shown : has a.shown.0 d.shown ≡ true
-  pub registers : (r : Register) → Is (asked_of r a) (entry_of r d)
+  pub ins : Is a.ins d.ins
+  pub outs : Is a.outs d.outs
+  pub ains : Is a.ains d.ains
+  pub aouts : Is a.aouts d.aouts
   pub local : Is a.local d.local
   pub panel : Is a.panel d.panel
 

@@ -1,4 +1,4 @@
-use Rattle.track9.proofs.Words.{false≢true, IfSome, IfSome_then, inl, inr, IsAsked, refl, subst, sym, ◌∙◌}
+use Rattle.track9.proofs.Words.{IfSome, IfSome_then, inl, inr, IsAsked, refl, subst, sym, ◌∙◌}
 use Rattle.track9.proofs.states.States.before.Goals as goal
 use Rattle.track9.proofs.BeforeLemmas.{asked_state, exchange_exactly, fits_self, if_none, if_none_so, nak_exactly}
 
@@ -8,16 +8,6 @@ origin-requires-clause-asked g c = rw c.just.ensures (c.args.target.now, c.is_st
 pub returns-then-is_nak-clause-some : goal.returns-then-is_nak-clause-some
 returns-then-is_nak-clause-some g c = IfSome_then c.origin.result c.origin.ensures.some (λ s w.
     (w.0, (nak_exactly _ c.args.command.now c.args.reply.now c.args.target.now (sym c.is_nak.ensures ∙ c.if-is_nak.true) s).0 (rw c.just.ensures at w.1)))
-
-pub returns-then-is_nak-clause-none : goal.returns-then-is_nak-clause-none
-returns-then-is_nak-clause-none g c = if_none c.origin.result c.origin.ensures.none (λ none (s, there, w).
-    none (s, there, rw c.just.ensures ((nak_exactly _ c.args.command.now c.args.reply.now c.args.target.now (sym c.is_nak.ensures ∙ c.if-is_nak.true) s).1 w)))
-
-pub returns-then-not-shows-clause-none : goal.returns-then-not-shows-clause-none
-returns-then-not-shows-clause-none g c = λ (s, there, w).
-    let exactly = exchange_exactly c.args.self.now c.args.command.now c.args.reply.now c.args.target.now (sym c.is_nak.ensures ∙ c.if-is_nak.false) c.below_day.ensures
-    c.is_state.ensures refl refl refl s there in
-    false≢true (sym c.if-not-shows.true ∙ c.shows.ensures.1 (exactly.0 w).0)
 
 pub returns-in-Some-clause-some : goal.returns-in-Some-clause-some
 returns-in-Some-clause-some g c =

@@ -4,6 +4,3 @@ use Rattle.track9.proofs.PartLemmas.{whole_two}
 
 pub exchange-requires : goal.exchange-requires
 exchange-requires g c = record { whole = rw c.in_ok-on.ensures (whole_two (is_panel_live c.args.self.now)) }
-
-pub returns-in-Ok : goal.returns-in-Ok
-returns-in-Ok g c = rw c.in_ok-on.ensures at c.in-Ok.ensures.ok

@@ -1,6 +1,6 @@
 use Rattle.track9.proofs.Words.{RegAudioIn, RegAudioOut, RegIn, RegOut, ◌∙◌}
 use Rattle.track9.proofs.states.member.first_in.Goals as goal
-use Rattle.track9.proofs.BeforeLemmas.{some_goal, some_shown, state_there}
+use Rattle.track9.proofs.BeforeLemmas.{some_goal, some_shown}
 
 pub first-goal-requires : goal.first-goal-requires
 first-goal-requires g c = rw (c.goals.ensures, c.pairs-pairs.ensures) (some_goal c.args.part.now.pairs c.requires.live)
@@ -19,8 +19,3 @@ first-requires-4 g c = rw c.entries-3.ensures (c.requires.whole RegAudioIn ∙ c
 
 pub first-requires-5 : goal.first-requires-5
 first-requires-5 g c = rw c.entries-4.ensures (c.requires.whole RegAudioOut ∙ c.requires.live)
-
-pub returns : goal.returns
-returns g c = state_there c.args.part.now c.first-goal.result c.first.result c.first-2.result c.first-3.result c.first-4.result c.first-5.result c.args.local c.args.panel
-    (rw (c.shown.ensures, c.pairs-pairs.ensures) at c.first.ensures) (rw c.entries.ensures at c.first-2.ensures) (rw c.entries-2.ensures at c.first-3.ensures)
-    (rw c.entries-3.ensures at c.first-4.ensures) (rw c.entries-4.ensures at c.first-5.ensures)

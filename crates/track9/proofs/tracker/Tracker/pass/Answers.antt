@@ -1,9 +1,6 @@
 use Rattle.track9.proofs.Words.{[], inl, refl}
 use Rattle.track9.proofs.tracker.Tracker.pass.Goals as goal
 
-pub invariant_of-self-2 : goal.invariant_of-self-2
-invariant_of-self-2 g c = rw c.count_command.ensures (record { whole = c.in_ok-pass.ensures.ok.whole; few = c.in_ok-pass.ensures.ok.few c.self.inside.presets c.self.invariant.few })
-
 pub returns-clause-reached : goal.returns-clause-reached
 returns-clause-reached g c = rw (← c.self.view_is) c.in_ok-pass.ensures.ok.reached
 
