@@ -1,40 +1,23 @@
 -- The places found: in order, contradicting with all that follow, and each of them needed.
-use Rattle.why9.proofs.Words.{[], All, All-append, All-cons, All-head, All-nil, All-tail, all_pairs_push, AllPairs, ap, AreFound, arith, behind_first, believing_all}
-use Rattle.why9.proofs.Words.{believing_fewer, Bool, BreaksAtLast, cases_Bool, Contradict, Exchange, false, false≢true, Hands, HasBelieving, inl, inr, is_among, is_among_others}
-use Rattle.why9.proofs.Words.{is_asked, IsBelievingFrom, IsContradiction, IsNext, length, length-append, List, list_any-append, MayDo, nat_le, nat_lt, nat_tests, not, or_cases}
-use Rattle.why9.proofs.Words.{or_left, refl, slice_get, Some, State, subst, suc, sym, true, ℕ, ◌&&◌, ◌++◌, ◌+◌, ◌<◌, ◌==◌, ◌||◌, ◌∙◌, ◌∷◌, ◌≡◌, ◌≤◌, ◌⊎◌}
+use Rattle.why9.proofs.Words.{[], All, All-cons, All-head, All-nil, All-push, All-tail, all_pairs_push, AllPairs, ap, AreFound, arith, behind_first, believing_all}
+use Rattle.why9.proofs.Words.{believing_fewer, Bool, BreaksAtLast, Contradict, Exchange, false, false≢true, Hands, HasBelieving, inl, inr, is_among, is_among_others, is_asked}
+use Rattle.why9.proofs.Words.{IsBelievingFrom, IsContradiction, IsNext, length, length-append, List, list_any-append, nat_lt, nat_tests, refl, slice_get, Some, State, suc, true}
+use Rattle.why9.proofs.Words.{ℕ, ◌++◌, ◌+◌, ◌<◌, ◌==◌, ◌||◌, ◌∙◌, ◌∷◌, ◌≡◌, ◌≤◌, ◌⊎◌}
 use Rattle.why9.proofs.QuestionLemmas.{same_places}
 
 -- ---- places
 
-of_le : (a b : ℕ) → a ≤ b → nat_le a b ≡ true
-of_le a b l = grind (arith, nat_tests)
-
-eq_of : (a b : ℕ) → (a == b) ≡ true → a ≡ b
-eq_of a b e = grind (arith, nat_tests)
-
-of_eq : (a : ℕ) → (a == a) ≡ true
-of_eq a = grind (arith, nat_tests)
-
 -- what holds of all places holds of each
 pub among_all : (P : ℕ → Type 0) (ps : List ℕ) (k : ℕ) → All P ps → is_among ps k ≡ true → P k
 among_all P [] k all e = absurd (false≢true e)
-among_all P (p ∷ ps) k all e = by (among_all P ps k (All-tail P p ps all)) (or_cases (p == k) (is_among ps k) e)
-  where
-    by : (is_among ps k ≡ true → P k) → ((p == k) ≡ true) ⊎ (is_among ps k ≡ true) → P k
-    by rest (inl same) = subst P (eq_of p k same) (All-head P p ps all)
-    by rest (inr more) = rest more
+among_all P (p ∷ ps) k all e = let here = All-head P p ps all in let rest = among_all P ps k (All-tail P p ps all) in grind (arith, nat_tests)
 
 -- a place is one of these and one more, if it is one of these or that one
 among_more : (ps : List ℕ) (p k : ℕ) → is_among (ps ++ p ∷ []) k ≡ (is_among ps k || ((p == k) || false))
 among_more ps p k = list_any-append (λ q. q == k) ps (p ∷ [])
 
 among_push : (ps : List ℕ) (p k : ℕ) → is_among (ps ++ p ∷ []) k ≡ true → (is_among ps k ≡ true) ⊎ (k ≡ p)
-among_push ps p k e = by (or_cases (is_among ps k) ((p == k) || false) (sym (among_more ps p k) ∙ e))
-  where
-    by : (is_among ps k ≡ true) ⊎ (((p == k) || false) ≡ true) → (is_among ps k ≡ true) ⊎ (k ≡ p)
-    by (inl is) = inl is
-    by (inr is) = inr (grind (arith, nat_tests))
+among_push ps p k e = let more = among_more ps p k in grind (arith, nat_tests)
 
 -- the first place is before all others, and before the one that they are all before
 before_first : (from first : ℕ) (rest : List ℕ) → AllPairs (λ p q. p < q) (first ∷ rest) → All (λ p. p < from) (first ∷ rest) → (k : ℕ) → k < first → is_asked from (first ∷ rest) k ≡ false
@@ -42,31 +25,20 @@ before_first from first rest ascend below k low =
     let high = All-head (λ p. p < from) first rest below in
     let from_first = All-cons (λ p. first ≤ p) first rest (omega arith) (λ i d l. let b = ascend 0 (suc i) d (omega arith) (omega arith) in omega arith) in
     let is_behind : is_among (first ∷ rest) k ≡ true → first ≤ k = among_all (λ p. first ≤ p) (first ∷ rest) k from_first in
-    none (cases_Bool (is_among (first ∷ rest) k)) high is_behind
-  where
-    none : (is_among (first ∷ rest) k ≡ true) ⊎ (is_among (first ∷ rest) k ≡ false) → first < from → (is_among (first ∷ rest) k ≡ true → first ≤ k) → is_asked from (first ∷ rest) k ≡ false
-    none (inl is) high behind = let l = behind is in absurd (omega arith)
-    none (inr not) high behind = rw not (grind (arith, nat_tests))
+    grind (arith, nat_tests)
 
 pub before_found : (from first : ℕ) (found : List ℕ) → AllPairs (λ p q. p < q) found → All (λ p. p < from) found → slice_get found 0 ≡ Some first → (k : ℕ) → k < first → is_asked from found k ≡ false
 before_found from first [] ascend below e k low = cc
 before_found from first (p ∷ ps) ascend below e k low = before_first from p ps ascend below k (let same : p ≡ first = cc in omega arith)
 
-not_itself : (b : Bool) (k : ℕ) → (b && not (k == k)) ≡ false
-not_itself true k = ap not (of_eq k)
-not_itself false k = refl
-
 -- ---- behind the last place found
-
-pushed_below : (low place : ℕ) (found : List ℕ) → All (λ p. p < low) found → low ≤ place → All (λ p. p < place + 1) (found ++ place ∷ [])
-pushed_below low place found below le = All-append (λ p. p < place + 1) found (place ∷ []) (λ i d l. let b = below i d l in omega arith) (All-cons (λ p. p < place + 1) place [] (omega arith) (All-nil (λ p. p < place + 1)))
 
 pushed_ascend : (low place : ℕ) (found : List ℕ) → AllPairs (λ p q. p < q) found → All (λ p. p < low) found → low ≤ place → AllPairs (λ p q. p < q) (found ++ place ∷ [])
 pushed_ascend low place found ascend below le = all_pairs_push (λ p q. p < q) found place ascend (λ k d l. let b = below k d l in omega arith)
 
--- what is asked of the others, behind p, goes on to a place behind p
+-- what is asked of the others, and behind p, is asked without a last place behind p
 others_push : (low p place : ℕ) (found : List ℕ) → All (λ q. q < low) found → low ≤ place → is_among found p ≡ true
-    → (k : ℕ) → is_among_others (found ++ place ∷ []) p k ≡ true → (nat_lt p k || is_among_others found p k) ≡ true
+    → (k : ℕ) → (nat_lt p k || is_among_others (found ++ place ∷ []) p k) ≡ true → (nat_lt p k || is_among_others found p k) ≡ true
 others_push low p place found below le is k e =
     let l = among_all (λ q. q < low) found p below is in let more = among_more found place k in grind (arith, nat_tests)
 
@@ -76,7 +48,7 @@ pub found-start : (h : Hands) (es : List Exchange) → BreaksAtLast h es → Are
 found-start h es breaks = record {
   ascend = λ i j d l m. absurd (omega arith);
   below = All-nil (λ p. p < 0);
-  contradict = λ w. breaks.has_none ((believing_all h es).0 (believing_fewer h (is_asked 0 []) (λ k. true) es (λ k e. or_left (nat_le 0 k) false (of_le 0 k (omega arith))) w));
+  contradict = λ w. breaks.has_none ((believing_all h es).0 (believing_fewer h (is_asked 0 []) (λ k. true) es (λ k e. grind (arith, nat_tests)) w));
   needed = λ p e. absurd (false≢true e);
 }
 
@@ -84,24 +56,14 @@ pub found-more : (h : Hands) (es : List Exchange) (low last place : ℕ) (found 
     → AreFound h es (place + 1) (found ++ place ∷ [])
 found-more h es low last place found old next = record {
   ascend = pushed_ascend low place found old.ascend old.below next.low_place;
-  below = pushed_below low place found old.below next.low_place;
-  contradict = λ w. next.contradict (believing_fewer h (is_asked (place + 1) (found ++ place ∷ [])) (is_asked place found) es asked w);
+  below = All-push (λ p. p < place + 1) found place (λ i d l. let b = old.below i d l in omega arith) (omega arith);
+  contradict = λ w. next.contradict (believing_fewer h (is_asked (place + 1) (found ++ place ∷ [])) (is_asked place found) es (λ k e. let more = among_more found place k in grind (arith, nat_tests)) w);
   needed = λ p e. by p (among_push found place p e);
 }
   where
-    asked : (k : ℕ) → is_asked place found k ≡ true → is_asked (place + 1) (found ++ place ∷ []) k ≡ true
-    asked k e = let more = among_more found place k in grind (arith, nat_tests)
-
-    -- behind the new place all is believed, and before it what was found
-    last_needed : (k : ℕ) → (nat_lt place k || is_among_others (found ++ place ∷ []) place k) ≡ true → is_asked (place + 1) found k ≡ true
-    last_needed k e = let more = among_more found place k in grind (arith, nat_tests)
-
-    old_needed : (p k : ℕ) → is_among found p ≡ true → (nat_lt p k || is_among_others (found ++ place ∷ []) p k) ≡ true → (nat_lt p k || is_among_others found p k) ≡ true
-    old_needed p k is e = let l = among_all (λ q. q < low) found p old.below is in let low_place = next.low_place in let more = among_more found place k in grind (arith, nat_tests)
-
     by : (p : ℕ) → (is_among found p ≡ true) ⊎ (p ≡ place) → HasBelieving h (λ k. nat_lt p k || is_among_others (found ++ place ∷ []) p k) es
-    by p (inl is) = believing_fewer h _ _ es (λ k e. old_needed p k is e) (old.needed p is)
-    by p (inr same) = subst (λ (x : ℕ). HasBelieving h (λ k. nat_lt x k || is_among_others (found ++ place ∷ []) x k) es) (sym same) (believing_fewer h _ _ es last_needed next.behind)
+    by p (inl is) = believing_fewer h _ _ es (others_push low p place found old.below next.low_place is) (old.needed p is)
+    by p (inr same) = believing_fewer h (is_asked (place + 1) found) _ es (λ k e. let more = among_more found place k in grind (arith, nat_tests)) next.behind
 
 -- ---- the end
 
@@ -111,7 +73,7 @@ some_last h es breaks = let n = simp length-append at (ap length breaks.is_split
 -- a run goes on by an exchange that is not believed
 passes_last : (h : Hands) (b : ℕ → Bool) (es : List Exchange) (e : Exchange) (s : State) (ts : List State) → b (length es) ≡ false → IsBelievingFrom h b s es ts
     → (us : List State) × IsBelievingFrom h b s (es ++ e ∷ []) us
-passes_last h b [] e s ts none run = (s ∷ [], (s, ([], refl), subst (λ (x : Bool). MayDo h x e s s) (sym none) (inl refl), tt))
+passes_last h b [] e s ts none run = (s ∷ [], (s, ([], refl), rw none (inl refl), tt))
 passes_last h b (f ∷ fs) e s [] none run = absurd run
 passes_last h b (f ∷ fs) e s (t ∷ ts) none (d, drift, does, run) =
     let more = passes_last h (behind_first b) fs e t ts (ap b (omega arith) ∙ none) run in
@@ -123,14 +85,14 @@ without_last h b es last breaks is none =
     let n = simp length-append at (ap length breaks.is_split) in
     let place : length breaks.before ≡ last = omega arith in
     let more = passes_last h b breaks.before breaks.last w.first w.after (ap b place ∙ none) w.is_run in
-    subst (HasBelieving h b) (sym breaks.is_split) (record { first = w.first; is_first = w.is_first; after = more.0; is_run = more.1 })
+    rw breaks.is_split (record { first = w.first; is_first = w.is_first; after = more.0; is_run = more.1 })
 
 pub found-all : (h : Hands) (es : List Exchange) (low last : ℕ) (found : List ℕ) → BreaksAtLast h es → AreFound h es low found → low ≤ last → last + 1 ≡ length es
     → Contradict h (is_asked last found) es → IsContradiction h es (found ++ last ∷ [])
 found-all h es low last found breaks old le is contradict = record {
   contradict = λ w. contradict (record { first = w.first; is_first = w.is_first; after = w.after; is_run = same_places h _ _ es w.first w.after same w.is_run });
   none_needless = λ p e. needed p (among_push found last p e);
-  is_latest = λ first rest e. latest first (among_push found last first (subst (λ (ps : List ℕ). is_among ps first ≡ true) (sym e) (or_left (first == first) (is_among rest first) (of_eq first))));
+  is_latest = λ first rest e. latest first (among_push found last first (rw e (grind (arith, nat_tests))));
   ascend = pushed_ascend low last found old.ascend old.below le;
   earlier = found;
   last = last;
@@ -142,9 +104,9 @@ found-all h es low last found breaks old le is contradict = record {
     same k below = let more = among_more found last k in grind (arith, nat_tests)
 
     needed : (p : ℕ) → (is_among found p ≡ true) ⊎ (p ≡ last) → HasBelieving h (is_among_others (found ++ last ∷ []) p) es
-    needed p (inl among) = believing_fewer h _ _ es (others_push low p last found old.below le among) (old.needed p among)
-    needed p (inr same) = without_last h _ es p breaks (ap (λ (x : ℕ). x + 1) same ∙ is) (not_itself (is_among (found ++ last ∷ []) p) p)
+    needed p (inl among) = believing_fewer h _ _ es (λ k e. others_push low p last found old.below le among k (grind (arith, nat_tests))) (old.needed p among)
+    needed p (inr same) = without_last h _ es p breaks (ap (λ (x : ℕ). x + 1) same ∙ is) (grind (arith, nat_tests))
 
     latest : (p : ℕ) → (is_among found p ≡ true) ⊎ (p ≡ last) → HasBelieving h (λ k. nat_lt p k) es
-    latest p (inl among) = believing_fewer h _ _ es (λ k e. or_left (nat_lt p k) (is_among_others found p k) e) (old.needed p among)
+    latest p (inl among) = believing_fewer h _ _ es (λ k e. grind (arith, nat_tests)) (old.needed p among)
     latest p (inr same) = without_last h _ es p breaks (ap (λ (x : ℕ). x + 1) same ∙ is) (grind (arith, nat_tests))

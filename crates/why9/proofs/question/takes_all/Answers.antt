@@ -1,4 +1,4 @@
-use Rattle.why9.proofs.Words.{arith, false≢true, is_asked, Possible, sym, ◌∙◌}
+use Rattle.why9.proofs.Words.{arith, false≢true, is_asked, Possible, sym, ◌+◌, ◌∙◌}
 use Rattle.why9.proofs.QuestionLemmas.{goes-past, goes-start, goes-through}
 use Rattle.why9.proofs.question.takes_all.Goals as goal
 
@@ -11,18 +11,16 @@ loop-place-init c = record {
 
 pub returns-then-not-branch : goal.returns-then-not-branch
 returns-then-not-branch c =
-    let reached = rw c.is_believed-is_believed.ensures at c.in_ok-takes.ensures.reached in
-    let through = goes-through c.args.hands (is_asked c.args.from c.args.found.now) c.args.exchanges.now c.loop-place.place c.index-exchanges-place.result c.loop-place.tracker c.takes.new.tracker
-    (omega arith) c.index-exchanges-place.is c.loop-place.invariant.hands reached in (
+    let through = goes-through _ (is_asked c.args.from c.args.found.now) _ c.loop-place.place _ c.loop-place.tracker c.takes.new.tracker _ (omega arith)
+    c.index-exchanges-place.is c.loop-place.invariant.hands c.is_believed-is_believed.ensures c.in_ok-takes.ensures.reached in (
       λ t. absurd (false≢true t),
       λ w. let g = through.0 (c.loop-place.invariant.goes.0 w) in absurd (false≢true (sym c.if-not-branch.true ∙ c.in_ok-takes.ensures.remains.1 (g.0, g.1))),
     )
 
 pub loop-place-preserved : goal.loop-place-preserved
 loop-place-preserved c =
-    let reached = rw c.is_believed-is_believed.ensures at c.in_ok-takes.ensures.reached in
-    let through = goes-through c.args.hands (is_asked c.args.from c.args.found.now) c.args.exchanges.now c.loop-place.place c.index-exchanges-place.result c.loop-place.tracker c.takes.new.tracker
-    (omega arith) c.index-exchanges-place.is c.loop-place.invariant.hands reached in
+    let through = goes-through _ (is_asked c.args.from c.args.found.now) _ c.loop-place.place _ c.loop-place.tracker c.takes.new.tracker _ (omega arith)
+    c.index-exchanges-place.is c.loop-place.invariant.hands c.is_believed-is_believed.ensures c.in_ok-takes.ensures.reached in
     record {
       hands = c.in_ok-takes.ensures.hands ∙ c.loop-place.invariant.hands;
       goes = (λ w. through.0 (c.loop-place.invariant.goes.0 w), λ g. c.loop-place.invariant.goes.1 (through.1 g));
@@ -30,6 +28,5 @@ loop-place-preserved c =
 
 pub returns : goal.returns
 returns c =
-    let b = is_asked c.args.from c.args.found.now in
-    let past = goes-past c.args.hands b c.args.exchanges.now c.loop-place.place (Possible c.loop-place.tracker.states) (omega arith) in
+    let past = goes-past c.args.hands (λ j. is_asked c.args.from c.args.found.now (c.loop-place.place + j)) c.args.exchanges.now c.loop-place.place (Possible c.loop-place.tracker.states) (omega arith) in
     (λ t. c.loop-place.invariant.goes.1 (past.1 (c.remains.ensures.0 t)), λ w. c.remains.ensures.1 (past.0 (c.loop-place.invariant.goes.0 w)))
