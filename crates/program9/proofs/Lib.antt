@@ -1,2 +1,1 @@
-mod VersionLemmas
 mod WhyLemmas

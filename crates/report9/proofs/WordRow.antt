@@ -4,8 +4,7 @@ use Rattle.report9.proofs.Words.{list_all, list_all_more, list_any, list_any_mor
 use Rattle.report9.proofs.Words.{◌≡◌}
 
 next_is : (between : List ℕ) (words : List (List ℕ)) → next_before between between words ≡ between
-next_is between [] = refl
-next_is between (word ∷ words) = refl
+next_is between words = grind arith
 
 next_more : (before between : List ℕ) (words more : List (List ℕ)) → next_before before between (words ++ more) ≡ next_before (next_before before between words) between more
 next_more before between [] more = refl
