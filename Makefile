@@ -1,8 +1,12 @@
-# Installs what `.ci/run` or `./ninecheck` built, and makes packages of it. Nothing is proved or built here.
+# Proves and builds the program, installs it, makes packages of it, and tries the edits that have to be refused.
 #
+#   make         proves every crate and builds the program; interrupted, it goes on from there
 #   make install [PREFIX=/usr/local] [DESTDIR=]    make uninstall, with the same
 #   make deb     out/ninecheck_VERSION_amd64.deb
 #   make dist    out/ninecheck-VERSION-linux-x86_64.tar.gz
+#   make audit   tries every edit of must-fail/ and audit/, which takes about half an hour
+#
+# Only `make` and `make audit` prove: the others take what `make` or `.ci/run` built.
 
 PREFIX ?= /usr/local
 DESTDIR ?=
@@ -20,10 +24,13 @@ for_bash := $(to)/share/bash-completion/completions/ninecheck
 for_zsh := $(to)/share/zsh/$(ZSH_FOLDER)/_ninecheck
 for_fish := $(to)/share/fish/vendor_completions.d/ninecheck.fish
 
-.PHONY: built install uninstall deb dist
+.PHONY: program built install uninstall deb dist audit
+
+program:
+	@make/prove.sh
 
 built:
-	@test -x $(PROGRAM) || { echo "nothing is built: run ./ninecheck check examples/play.csv first" >&2; exit 1; }
+	@test -x $(PROGRAM) || { echo "nothing is built yet: run make first, it proves and builds the program" >&2; exit 1; }
 
 install: built
 	install -D -m 755 ninecheck "$(to)/bin/ninecheck"
@@ -55,3 +62,6 @@ dist: built
 	rm -rf out/dist
 	$(MAKE) --no-print-directory install DESTDIR= PREFIX=out/dist/$(PACKAGE)
 	tar -C out/dist --owner=0 --group=0 -czf out/$(PACKAGE).tar.gz $(PACKAGE)
+
+audit:
+	@make/audit.sh

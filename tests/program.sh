@@ -370,82 +370,11 @@ expect 'a closed standard error' 3 '' ''
 status=$?
 expect 'a long pipe' 0 'yes: records 240000, exchanges 40000, open 0' ''
 
-# The script that builds the program where it is not built, with a builder of our own on its path: it proves each crate
-# after those that it uses, and says which it is at.
-mkdir -p "$work/tree/crates/ninecheck" "$work/tree/crates/low" "$work/tree/crates/high" "$work/bin"
-cp ninecheck HANDLES "$work/tree/"
-printf '# lowest first\nlow: csv\nhigh: low csv\nhigh_tests: low high\nninecheck: low high\n' > "$work/tree/crates.txt"
-echo 'a capture' > "$work/tree/crates/ninecheck/stdin"
-cat > "$work/bin/rt" <<'END'
-#!/bin/sh
-[ "${PWD##*/}" = low ] && exec mkdir -p out
-echo "not proved"
-exit 1
-END
-chmod +x "$work/bin/rt"
-building='ninecheck: proving and building it first, which can take half an hour
-ninecheck: proving low
-ninecheck: proving high'
-PATH="$work/bin:$PATH" "$work/tree/ninecheck" < examples/play.csv > "$work/out" 2> "$work/err"
-status=$?
-expect 'a build that fails' 125 '' "$building
-not proved"
-building="$building
-ninecheck: proving ninecheck
-ninecheck: building the program"
-cat > "$work/bin/rt" <<'END'
-#!/bin/sh
-mkdir -p out
-[ "$1" = run ] || exit 0
-printf '#!/bin/sh\necho "$@"; cat; exit 7\n' > out/ninecheck
-chmod +x out/ninecheck
-END
-echo 'a row' | PATH="$work/bin:$PATH" "$work/tree/ninecheck" two words > "$work/out" 2> "$work/err"
-status=$?
-expect 'a build that succeeds' 7 'two words
-a row' "$building"
-echo 'a row' | PATH="$work/bin:$PATH" "$work/tree/ninecheck" > "$work/out" 2> "$work/err"
-status=$?
-expect 'a program that is built' 7 '
-a row' ''
-
-# It proves side by side what can be: each of two crates here ends only once the other is begun. Each is proved over what
-# was made of the crates that it uses, and nothing else is left in the tree.
-rm -r "$work/tree/crates"
-mkdir -p "$work/tree/crates/ninecheck" "$work/tree/crates/low" "$work/tree/crates/left" "$work/tree/crates/right" "$work/begun"
-printf 'low:\nleft: low\nright: low\nninecheck: left right\n' > "$work/tree/crates.txt"
-echo 'a capture' > "$work/tree/crates/ninecheck/stdin"
-cat > "$work/bin/rt" <<'END'
-#!/bin/sh
-crate=${PWD##*/}
-touch "$BEGUN/$crate"
-case $crate in left) other=right ;; right) other=left ;; *) other=$crate ;; esac
-for second in 1 2 3 4 5 6 7 8 9 10; do
-    [ -e "$BEGUN/$other" ] || sleep 1
-done
-[ -e "$BEGUN/$other" ] || exit 1
-mkdir -p out
-echo "$1 $crate:" $(cat ../*/out/name 2> /dev/null) > out/how
-echo "$crate" > out/name
-[ "$1" = run ] || exit 0
-printf '#!/bin/sh\nexit 0\n' > out/ninecheck
-chmod +x out/ninecheck
-END
-BEGUN="$work/begun" PATH="$work/bin:$PATH" "$work/tree/ninecheck" < examples/play.csv > "$work/out" 2> "$work/err"
-status=$?
-(cd "$work/tree" && ls -A && cat crates/*/out/how) > "$work/out"
-: > "$work/err"
-expect 'a build side by side' 0 'HANDLES
-crates
-crates.txt
-ninecheck
-lib left: low
-lib low:
-run ninecheck: left low right
-lib right: low' ''
-
 # The address space that the script leaves to the program: 4 GB, or less where less is left to the script.
+mkdir -p "$work/tree/crates/ninecheck/out"
+cp ninecheck "$work/tree/"
 printf '#!/bin/sh\nulimit -v\n' > "$work/tree/crates/ninecheck/out/ninecheck"
+chmod +x "$work/tree/crates/ninecheck/out/ninecheck"
 for bound in '-v 8388608' '-S -v 8388608' '-v 4194304' '-v 1048576' '-S -v 1048576'; do
     (
         ulimit $bound

@@ -1,0 +1,131 @@
+#!/usr/bin/env bash
+# Proves every crate but those of tests, side by side where none waits for another, and builds the program. A line tells when
+# a crate is begun and when it is proved. What was proved stays: where this is interrupted, the next run goes on from there.
+#
+# Each crate is proved in a copy of the crates that shares their files, since two at work in one folder would wait for each
+# other; what was made there comes back by a rename, with a checksum of all that it was made from.
+set -um
+top=$(cd "$(dirname "$0")/.." && pwd) || exit 1
+cd "$top" || exit 1
+work=$top/.proving
+
+command -v rt > /dev/null || {
+    echo 'nothing can be proved: `rt`, the command of the Rattle kit, is not on the path' >&2
+    exit 1
+}
+mkdir -p "$work"
+exec 9> "$work/lock"
+flock -n 9 || {
+    echo 'another `make` is proving here: wait until it has ended' >&2
+    exit 1
+}
+
+# crates.txt: the crates, lowest first, and the libraries of each.
+order=()
+declare -A libraries
+while IFS=: read -r crate uses; do
+    case $crate in '' | '#'* | *_tests) continue ;; esac
+    order+=("$crate")
+    libraries[$crate]=$uses
+done < crates.txt
+
+# The time since the start, as minutes and seconds.
+since() { printf '%3d:%02d' $((SECONDS / 60)) $((SECONDS % 60)); }
+
+# A checksum of all that a crate is made from: its files, those of the libraries of this repository that it uses, and the kit.
+declare -A made_from
+sum_of() {
+    local library
+    {
+        rt version
+        cat HANDLES
+        grep "^$1:" crates.txt
+        find "crates/$1" -path "crates/$1/out" -prune -o -path "crates/$1/must-fail" -prune -o -type f -print | sort | xargs sha256sum
+        for library in ${libraries[$1]}; do echo "${made_from[$library]-}"; done
+    } | sha256sum
+}
+
+# prove CRATE: in a copy, and then back. The work of a run that was interrupted is taken up again.
+prove() {
+    local copy=$work/$1 out=crates/$1/out ask='rt lib'
+    if [ -d "$copy/$out" ]; then
+        rm -rf "$out"
+        mv "$copy/$out" "$out"
+    fi
+    rm -rf "$copy"
+    mkdir "$copy" && cp -rl crates crates.txt HANDLES "$copy" || return
+    rm -f "$copy/$out/made-from"
+    [ "$1" != ninecheck ] || ask='rt run -- check'
+    # The program is run once it is built, on the capture beside it.
+    (cd "$copy/crates/$1" && $ask) < "$(capture_for "$1")" > "$work/$1.log" 2>&1 || return
+    echo "$2" > "$copy/$out/made-from"
+    rm -rf "$out"
+    mv "$copy/$out" "$out"
+    rm -rf "$copy"
+}
+capture_for() { [ "$1" = ninecheck ] && echo crates/ninecheck/stdin || echo /dev/null; }
+
+declare -A state crate_of
+proved=0
+failed=
+
+# stands CRATE: tells that it is proved, and how many are.
+stands() {
+    state[$1]=proved
+    proved=$((proved + 1))
+    echo "$(since)  $1 $2 ($proved of ${#order[@]})"
+}
+
+# begin CRATE: unless it waits for a library, or was proved before as it stands.
+begin() {
+    local library
+    for library in ${libraries[$1]}; do
+        [ ! -d "crates/$library" ] || [ "${state[$library]-}" = proved ] || return
+    done
+    made_from[$1]=$(sum_of "$1")
+    if [ "${made_from[$1]}" = "$(cat "crates/$1/out/made-from" 2> /dev/null)" ]; then
+        stands "$1" 'was proved before'
+        return
+    fi
+    state[$1]=begun
+    echo "$(since)  $1 begun"
+    prove "$1" "${made_from[$1]}" 9>&- &
+    crate_of[$!]=$1
+}
+
+begin_all() {
+    local crate
+    for crate in "${order[@]}"; do
+        [ -n "${state[$crate]-}" ] || begin "$crate"
+    done
+}
+
+# What runs side by side takes no notice of an interrupt, so it is ended with the script.
+stop() {
+    local job
+    for job in "${!crate_of[@]}"; do kill -TERM -- "-$job" 2> /dev/null; done
+    wait 2> /dev/null
+    echo 'interrupted: `make` goes on from here' >&2
+    exit 130
+}
+trap stop INT TERM HUP
+
+begin_all
+while [ ${#crate_of[@]} -gt 0 ]; do
+    wait -n -p job "${!crate_of[@]}"
+    ended=$?
+    crate=${crate_of[$job]}
+    unset "crate_of[$job]"
+    if [ "$ended" = 0 ]; then
+        stands "$crate" proved
+        [ -n "$failed" ] || begin_all
+    else
+        failed="$failed $crate"
+        echo "$(since)  $crate NOT PROVED" >&2
+        cat "$work/$crate.log" >&2
+    fi
+done
+[ -z "$failed" ] || exit 1
+exec 9>&-
+rm -rf "$work"
+echo 'The program is proved and built. Ask it: ./ninecheck check examples/play.csv'

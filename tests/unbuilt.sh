@@ -1,0 +1,131 @@
+#!/usr/bin/env bash
+# Runs the script `ninecheck` where the program is not built, with a stand-in for `rt`: what the trial is given, and what is
+# passed on of what it says. The last line is 'N passed, M failed'.
+set -u
+cd "$(dirname "$0")/.." || exit 1
+. tests/lib/judge.sh
+
+work=$(mktemp -d)
+trap 'rm -rf "$work"' EXIT
+tree=$work/tree
+mkdir -p "$tree/crates/ninecheck/src" "$tree/a folder" "$work/bin" "$work/temporary"
+cp -r ninecheck make "$tree/"
+echo 'a capture' > "$tree/a folder/play.csv"
+first='ninecheck: not built yet: this answer comes from the same code with run-time checks and without its proof; `make` proves and builds it'
+advice='ninecheck: run `make`: it proves and builds the program, which has no such limit'
+
+# stand_in STATUS OUT SAID: an `rt` that tells its folder, its words, each in brackets, and its input in $work/told, writes OUT
+# and SAID, with printf's escapes, and ends with this status.
+stand_in() {
+    printf '%b' "$2" > "$work/give_out"
+    printf '%b' "$3" > "$work/give_said"
+    cat > "$work/bin/rt" <<END_OF_RT
+#!/bin/sh
+{ echo "\${PWD##*/tree/}"; printf '[%s]' "\$@"; cat; } > "$work/told"
+cat "$work/give_out"
+cat "$work/give_said" >&2
+exit $1
+END_OF_RT
+    chmod +x "$work/bin/rt"
+}
+
+# ask WORDS...: the script in the tree, on the standard input that it is given.
+ask() {
+    (cd "$tree" && TMPDIR="$work/temporary" PATH="$work/bin:$PATH" ./ninecheck "$@") > "$work/out" 2> "$work/err"
+    status=$?
+}
+
+# was_told LINES: what the stand-in was told.
+was_told() {
+    [ "$(cat "$work/told")" = "crates/ninecheck
+[try][--]$1" ]
+}
+
+# Both streams and the status are the program's own, and the lines that rt adds are hidden.
+stand_in 1 'no at record 7: P1 reply without a command\n' \
+    'rt: chose --jobs 4\ninterpreter: no-answer: a call\nchecked: ended status=1\nrun=ended status=1 runners=1 proved=no\n'
+ask check 'a folder/play.csv' < /dev/null
+judge 'a no' is_text 1 'no at record 7: P1 reply without a command' "$first"
+judge 'a file by its whole path' was_told "[check][$tree/a folder/play.csv]"
+stand_in 3 '' 'unreadable at row 7: byte\nexpected two hexadecimal digits\nchecked: ended status=3\nrun=ended status=3 runners=1 proved=no\n'
+ask explain --hands "$tree/a folder/play.csv" < /dev/null
+judge 'a bad row' is_text 3 '' "$first
+unreadable at row 7: byte
+expected two hexadecimal digits"
+judge 'a file that is named by its whole path' was_told "[explain][--hands][$tree/a folder/play.csv]"
+
+# A file that can't be read is told by the name that it was given, however often it is named.
+stand_in 4 '' "cannot open\n$tree/absent: No such file or directory\nchecked: ended status=4\nrun=ended status=4 runners=1 proved=no\n"
+ask run absent < /dev/null
+judge 'an absent file' is_text 4 '' "$first
+cannot open
+absent: No such file or directory"
+stand_in 4 '' 'cannot open\n: No such file or directory\nchecked: ended status=4\nrun=ended status=4 runners=1 proved=no\n'
+ask check '' < /dev/null
+judge 'a file without a name' is_text 4 '' "$first
+cannot open
+: No such file or directory"
+judge 'a file without a name stays so' was_told '[check][]'
+stand_in 0 'yes: records 6, exchanges 1, open 0\n' 'checked: ended status=0\nrun=ended status=0 runners=1 proved=no\n'
+ask check -- --hands < /dev/null
+judge 'a file whose name is that of the option' was_told "[check][--][$tree/--hands]"
+
+# Without a file the trial gets standard input; where the words name a file, or are no command, it gets nothing.
+printf 'a row\nand another' | ask why --hands
+judge 'standard input' is_text 0 'yes: records 6, exchanges 1, open 0' "$first"
+judge 'standard input is handed on' was_told '[why][--hands]a row
+and another'
+for words in 'check absent' 'check --help' 'help check' '--version' ''; do
+    # shellcheck disable=SC2086
+    echo 'a row' | ask $words
+    judge "no input for the words '$words'" eval '! grep -q "a row" "$work/told"'
+done
+ask help check < /dev/null
+judge 'words that are handed on as they are' was_told '[help][check]'
+
+# No answer: why, and what to do.
+while IFS='|' read -r name checked why; do
+    stand_in 6 '' "interpreter: no-answer: a call\nchecked: $checked\nrun=no-answer proved=no\n"
+    ask check absent < /dev/null
+    judge "$name" is_text 125 '' "$first
+ninecheck: no answer: $why
+$advice"
+done <<'CASES'
+too much output|no-answer: the program wrote more than 1048576 bytes to standard output or to standard error, the limit on each|it has over 1 MiB
+too long|no-answer: the program did not end within the time limit|it takes more than a minute
+CASES
+stand_in 4 '' 'checked: fault: an index is out of bounds\nrun=fault proved=no\n'
+ask check absent < /dev/null
+judge 'a run-time check that stops the trial' is_text 125 '' "$first
+checked: fault: an index is out of bounds
+run=fault proved=no
+ninecheck: no answer: the trial did not end as it should
+$advice"
+head -c $((64 * 1024 * 1024 + 1)) /dev/zero | ask check
+judge 'too long a capture on standard input' is_text 125 '' "$first
+ninecheck: no answer: a capture on standard input may have 64 MiB at most
+$advice"
+ask check < .
+judge 'a folder as standard input' is_text 125 '' "$first
+ninecheck: no answer: standard input can't be read
+$advice"
+rm "$work/bin/rt"
+mkdir "$work/few"
+for tool in sh bash cat dirname mktemp readlink rm; do ln -s "$(command -v $tool)" "$work/few/$tool"; done
+(cd "$tree" && PATH="$work/few" ./ninecheck check absent) > "$work/out" 2> "$work/err"
+status=$?
+judge 'no rt on the path' is_text 125 '' "$first
+ninecheck: no answer: it takes \`rt\`, the command of the Rattle kit, and that is not on the path
+$advice"
+
+judge 'nothing stays in the tree' eval '[ "$(cd "$tree" && find . | LC_ALL=C sort | head -n 4 | tr "\n" " ")" = ". ./a folder ./a folder/play.csv ./crates " ] && [ ! -e "$tree/crates/ninecheck/out" ]'
+judge 'nothing stays among the temporary files' eval '[ -z "$(ls -A "$work/temporary")" ]'
+
+# Where the program is installed there is no trial.
+mkdir -p "$work/installed/bin"
+cp ninecheck "$work/installed/bin/"
+"$work/installed/bin/ninecheck" check > "$work/out" 2> "$work/err" < /dev/null
+status=$?
+judge 'an installation without its program' is_text 125 '' 'ninecheck: the program is missing: install it again'
+
+tell_counts
