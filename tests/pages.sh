@@ -59,16 +59,17 @@ text;docs/PROFILE.md;records A to B at T: COMMAND BYTES
 text;docs/PROFILE.md;records 1067 to 1070 at 1999300:
 refuse_view;docs/VIEWS.md;delays.awk: line 3:"
 
-# The first of them builds nothing here, since the program is there; the second is the gate itself. The third installs below
-# a root of its own.
+# The first builds nothing here, since the program is there; tests/unbuilt.sh has it where it is not. The second proves, which
+# tests/make.sh has with a stand-in, and the third is the gate itself. The fourth installs below a root of its own.
 run_it() {
     in_here "${block[0]}"
     is_said "$page: ${block[0]}" 'yes: records 6, exchanges 1, open 0'
     : > "$work/want"
-    judge "$page: ${block[1]}" [ "${block[1]%% *}" = .ci/run ]
-    (cd "$work/here" && DESTDIR=$work/placed bash -c "${block[2]}") > "$work/out" 2>&1 < /dev/null
-    judge "$page: ${block[2]}" [ "$("$work/placed/usr/local/bin/ninecheck" --version)" = "ninecheck $(cat VERSION)" ]
-    judge "$page: no more than these" [ ${#block[@]} = 3 ]
+    judge "$page: ${block[1]}" [ "${block[1]%% *}" = make ]
+    judge "$page: ${block[2]}" [ "${block[2]%% *}" = .ci/run ]
+    (cd "$work/here" && DESTDIR=$work/placed bash -c "${block[3]}") > "$work/out" 2>&1 < /dev/null
+    judge "$page: ${block[3]}" [ "$("$work/placed/usr/local/bin/ninecheck" --version)" = "ninecheck $(cat VERSION)" ]
+    judge "$page: no more than these" [ ${#block[@]} = 4 ]
 }
 
 refuse() {
