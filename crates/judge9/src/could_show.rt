@@ -9,8 +9,8 @@ ghost use Rattle.judge9.specs.WhyVerdict.{CouldShow};
 
 use block9::{Command, Exchange};
 use deck9::Hands;
+use sets25::SpanSet;
 use std::alloc::{AllocError, Global};
-use tc25::SpanSet;
 use track9::{Knowledge, ModeSet, Tracker};
 
 /// What was known of the deck, and which modes it could show, when it gave the last of these replies: after a run of the

@@ -22,12 +22,12 @@ pub use Rattle.std.specs.Cmp.{nat_cmp_total}
 pub use Rattle.std.specs.Int.{bit_at}
 pub use Rattle.std.specs.List.{list_any}
 pub use Rattle.std.specs.Ordering.{nat_cmp}
-pub use Rattle.tc25.proofs.CountLemmas.{begin_count-empty, begin_count-every_time, begin_count-insert, begin_count-just, begin_count-next, begin_count-prev}
-pub use Rattle.tc25.proofs.CountLemmas.{begin_count-span_count, begin_count-widened_next, begin_count-widened_prev, contains-remove_nat, span_count-begin_count}
-pub use Rattle.tc25.proofs.CountLemmas.{span_count-in_day}
+pub use Rattle.sets25.proofs.CountLemmas.{begin_count-empty, begin_count-every_time, begin_count-insert, begin_count-just, begin_count-next, begin_count-prev}
+pub use Rattle.sets25.proofs.CountLemmas.{begin_count-span_count, begin_count-widened_next, begin_count-widened_prev, contains-remove_nat, span_count-begin_count}
+pub use Rattle.sets25.proofs.CountLemmas.{span_count-in_day}
 pub use Rattle.tc25.proofs.DayLemmas.{ReadsAs-from_time_of, time_of-from_ReadsAs}
-pub use Rattle.tc25.proofs.TimesLemmas.{contains-insert_nat, contains-items_nat, contains-just, image_from, image_to, same_test, same_times}
-pub use Rattle.tc25.specs.Working.TimesWhere.{contains-every_time}
+pub use Rattle.sets25.proofs.TimesLemmas.{contains-insert_nat, contains-items_nat, contains-just, image_from, image_to, same_test, same_times}
+pub use Rattle.sets25.specs.Working.TimesWhere.{contains-every_time}
 pub use Rattle.track9.specs.Knowledge.{IsKnowledge, IsKnown, IsKnownEntry}
 pub use Rattle.track9.specs.Presets.{AreTimes, IsSpanCount, one_more}
 pub use Rattle.track9.specs.Tracker.{IsIn}

@@ -2,7 +2,7 @@
 -- keeps. The states themselves are never listed.
 use Rattle.std.specs.Prelude.{◌≡◌, Bool, true, false, if◌then◌else◌, Option, Some, None, slice_index_or, List}
 use Rattle.std.specs.FinSet as set
-use Rattle.tc25.specs.Times.{Times}
+use Rattle.sets25.specs.Times.{Times}
 use Rattle.deck9.specs.declared.mode.Mode.{Mode}
 use Rattle.track9.specs.declared.mode_set.ModeSet.{ModeSet}
 use Rattle.track9.specs.Presets.{Presets}

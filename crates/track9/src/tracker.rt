@@ -19,9 +19,9 @@ use crate::presets::Presets;
 use crate::states::States;
 use block9::{Block, Command};
 use deck9::{Hands, Register, State};
+use sets25::{SpanSet, TimeSet};
 use std::alloc::{AllocError, Global};
 use std::marker::Model;
-use tc25::{SpanSet, TimeSet};
 
 /// All states that the deck could be in after the exchanges of a capture so far.
 ///

@@ -21,10 +21,10 @@ mod side_by_side;
 use block9::{Block, Command, reply_time_valid};
 use deck9::{Hands, Register};
 use sent::Sent;
+use sets25::{SpanSet, TimeSet};
 use std::alloc::AllocError;
 use std::fmt::Debug;
 use std::process::Abort;
-use tc25::{SpanSet, TimeSet};
 use track9::{Knowledge, Tracker};
 
 /// Holds that what was found in a case is what is wanted.

@@ -26,7 +26,7 @@ pub use Rattle.deck9.specs.declared.state.State.{State}
 pub use Rattle.std.specs.Coded.{code_by, Coded, coded_bool, coded_list, coded_option, coded_ℕ, coded×}
 pub use Rattle.std.specs.Prelude.{[], bit_and, bit_or, Bool, false, List, None, not, Option, option_map, refl, Some, true, ℕ, ⊤}
 pub use Rattle.tc25.specs.Day.{day, next_frame, prev_frame, time_of}
-pub use Rattle.tc25.specs.Times.{begin_count, BelowDay, every_time, image, just, Times}
+pub use Rattle.sets25.specs.Times.{begin_count, BelowDay, every_time, image, just, Times}
 pub use Rattle.track9.specs.ModeSet.{bit_of, has}
 pub use Rattle.track9.specs.Presets.{count_of, Presets, presets_after, with_command, with_one}
 pub use Rattle.track9.specs.Tracker.{Allows, Entries, entries_of, has_pair, in_local, InPart, PartStates, Possible, shown_with, StateSet, Tracked, TwoParts}
@@ -36,4 +36,4 @@ pub use Rattle.track9.specs.declared.knowledge.Known.{Known}
 pub use Rattle.track9.specs.declared.knowledge.KnownEntry.{KnownEntry}
 pub use Rattle.track9.specs.declared.mode_set.ModeSet.{ModeSet}
 pub use Rattle.track9.specs.declared.pairs.Pair.{Pair}
-unfoldable pub use Rattle.tc25.specs.Times.{span_count}
+unfoldable pub use Rattle.sets25.specs.Times.{span_count}

@@ -12,7 +12,7 @@ use crate::knowledge::{Known, KnownEntry};
 use crate::mode_set::ModeSet;
 use crate::states::States;
 use deck9::{Mode, Register};
-use tc25::TimeSet;
+use sets25::TimeSet;
 
 impl<S: TimeSet> States<S> {
     /// The goal, as far as all states agree. There is a state.

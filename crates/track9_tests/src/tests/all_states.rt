@@ -14,10 +14,11 @@ use block9::{Block, Command};
 use deck9::{Hands, Register};
 use edges::Edges;
 use listed::ListedDeck;
+use sets25::SpanSet;
 use std::alloc::{AllocError, Global};
 use std::process::Abort;
 use std::test::Fail;
-use tc25::{SpanSet, TimeCode};
+use tc25::TimeCode;
 use track9::{Knowledge, KnownEntry, Tracker};
 
 /// What is drawn, and the registers' places in the day that follow from it.

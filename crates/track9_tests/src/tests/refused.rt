@@ -10,10 +10,10 @@ use super::sent::{
 };
 use super::{command_of, known, same, spans_and_presets};
 use deck9::{Hands, Register};
+use sets25::{ListSet, SpanSet, TimeSet};
 use std::alloc::{AllocError, Global};
 use std::process::Abort;
 use std::test::Fail;
-use tc25::{ListSet, SpanSet, TimeSet};
 use track9::{Knowledge, Tracker};
 
 /// Spans and presets of each register.
