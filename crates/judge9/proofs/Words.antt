@@ -60,11 +60,11 @@ pub use Rattle.tc25.proofs.DayLemmas.{ReadsAs-from_time_of}
 pub use Rattle.tc25.specs.Day.{day, time_of}
 pub use Rattle.text9.proofs.WriteLemmas.{first_part, part_after}
 pub use Rattle.track9.proofs.OneKnowledge.{known_of_ends}
-pub use Rattle.track9.specs.Knowledge.{IsKnown, IsKnownEntry}
-pub use Rattle.track9.specs.ModeSet.{has}
-pub use Rattle.track9.specs.declared.knowledge.Known.TheVariants.{the_data as Known}
-pub use Rattle.track9.specs.declared.knowledge.KnownEntry.TheVariants.{the_data as KnownEntry}
-pub use Rattle.track9.specs.declared.mode_set.ModeSet.{ModeSet}
+pub use Rattle.deck9.specs.Knowledge.{IsKnown, IsKnownEntry}
+pub use Rattle.deck9.specs.ModeSet.{has}
+pub use Rattle.deck9.specs.declared.knowledge.Known.TheVariants.{the_data as Known}
+pub use Rattle.deck9.specs.declared.knowledge.KnownEntry.TheVariants.{the_data as KnownEntry}
+pub use Rattle.deck9.specs.declared.mode_set.ModeSet.{ModeSet}
 pub use Rattle.verdict9.specs.Error.{refusal_by}
 pub use Rattle.verdict9.specs.Lines.{line_of, records_of}
 pub use Rattle.verdict9.specs.OpenRecords.{asked_of, IsMeaning}

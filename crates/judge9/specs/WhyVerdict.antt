@@ -13,10 +13,10 @@ use Rattle.deck9.specs.declared.state.Hands.{Hands}
 use Rattle.deck9.specs.declared.state.State.{State}
 use Rattle.deck9.specs.Drift.{Drift}
 use Rattle.deck9.specs.Run.{Ends}
-use Rattle.track9.specs.declared.knowledge.Knowledge.{Knowledge}
-use Rattle.track9.specs.declared.mode_set.ModeSet.{ModeSet}
-use Rattle.track9.specs.Knowledge.{IsKnowledge}
-use Rattle.track9.specs.ModeSet.{has}
+use Rattle.deck9.specs.declared.knowledge.Knowledge.{Knowledge}
+use Rattle.deck9.specs.declared.mode_set.ModeSet.{ModeSet}
+use Rattle.deck9.specs.Knowledge.{IsKnowledge}
+use Rattle.deck9.specs.ModeSet.{has}
 use Rattle.why9.specs.Contradiction.{IsContradiction}
 use Rattle.verdict9.specs.declared.error.JudgeError.{JudgeError}
 use Rattle.verdict9.specs.declared.verdict.Verdict.{Verdict}

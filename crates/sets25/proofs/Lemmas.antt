@@ -3,8 +3,8 @@ pub use Rattle.sets25.proofs.Words.{[], add-one, ap, append-nil, append_assoc, a
 pub use Rattle.sets25.proofs.Words.{drop_more_same, end_to_end, ended_at, eq-eqb, eqb, false, far_edge_of, get_or, get_or-drop, get_or-insert_below, get_or-take, get_or_default}
 pub use Rattle.sets25.proofs.Words.{Global, image, is_ok, IsNonDecreasingBy-from_default, IsPartitionedBy-leb, IsPartitionedBy-ltb, IsPartitionPoint-from_clause, leb}
 pub use Rattle.sets25.proofs.Words.{length, length-append, length-drop, length-take, list_any_at, lists_in, lists_of, ltb, map-append, map_over_more, members_of, nat_tests, Next}
-pub use Rattle.sets25.proofs.Words.{on_err_weaker, on_ok_weaker, Prev, refl, remove, rules, searched, set, set-get_or, set_split, shifted_span, Some, Span, spans_of, suc, sym}
-pub use Rattle.sets25.proofs.Words.{take, take-append-drop, take-map, take_more_set, take_rest, true, Vec, with_frame, ℕ, ◌+◌, ◌-◌, ◌/◌, ◌<◌, ◌∙◌, ◌∷◌, ◌≡◌}
+pub use Rattle.sets25.proofs.Words.{on_err_weaker, on_ok_weaker, Prev, refl, remove, rules, searched, set, set-get_or, set_split, shifted_span, Span, spans_of, suc, sym}
+pub use Rattle.sets25.proofs.Words.{take, take-append-drop, take-map, take_more_set, take_rest, true, Vec, with_frame, ◌+◌, ◌-◌, ◌/◌, ◌<◌, ◌∙◌, ◌∷◌, ◌≡◌}
 pub use Rattle.sets25.proofs.TimesLemmas.{contains-just, contains-moved, image_from, image_to, kept, least_from, none_passes, times_where-common, times_where-empty}
 pub use Rattle.sets25.proofs.TimesLemmas.{times_where-every, times_where-insert, times_where-just, times_where-moved, times_where-widened, two_iff}
 pub use Rattle.sets25.proofs.ListLemmas.{Ascending-insert, ascends_at, ascends_between, in_list, is_empty_iff, is_listed-insert, least_some, listed_moved, only_one, only_other}

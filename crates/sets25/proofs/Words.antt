@@ -1,5 +1,5 @@
 -- The names from elsewhere that the proofs of this crate cite, passed on from one place. Declares nothing.
-pub use Rattle.std.proofs.Common.{[], add-one, All, ap, append-nil, append_assoc, arith, Bool, cond, drop, eqb, false, get_or, Global, insert, is_ok, is_some, leb, length}
+pub use Rattle.std.proofs.Common.{[], add-one, All, ap, append-nil, append_assoc, arith, Bool, cond, drop, eqb, false, get_or, Global, insert, is_ok, leb, length}
 pub use Rattle.std.proofs.Common.{length-append, length-drop, length-take, List, ltb, map, MatchOption, max, min, nat_cmp, nat_eq, None, not, Option, refl, remove, rules, set}
 pub use Rattle.std.proofs.Common.{slice_get, Some, SomeIff, suc, sym, take, true, Vec, zero, ℕ, ◌&&◌, ◌*◌, ◌++◌, ◌+◌, ◌-◌, ◌/◌, ◌<◌, ◌||◌, ◌↔◌, ◌∙◌, ◌∷◌, ◌≡◌, ◌≤◌}
 pub use Rattle.std.proofs.lemmas.Bool.{and_right, eq-eqb, eqb-true, false≢true, le-leb, lt-leb, lt-ltb, true_from_ne_false}

@@ -10,9 +10,8 @@ ghost use Rattle.sets25.specs.Times.{BelowDay, span_count};
 ghost use Rattle.track9.specs.Tracker.{entries_of, in_local};
 ghost use Rattle.track9.specs.Working.States.{TwoBelow, all_forgotten, all_or_none, registers_forgotten, some_two, tape_forgotten, two_changed, two_drifted, two_gone, two_sensed, two_status};
 
-use crate::mode_set::ModeSet;
 use crate::part::Part;
-use deck9::{Change, Mode, Register};
+use deck9::{Change, Mode, ModeSet, Register};
 use sets25::{SpanSet, TimeSet};
 use std::alloc::{AllocError, Global};
 use std::marker::Model;

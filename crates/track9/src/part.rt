@@ -7,11 +7,9 @@ ghost use Rattle.track9.specs.Working.Knowing.{PartKnows};
 ghost use Rattle.track9.specs.Working.Parts.{Whole, all_states, aside, bit_in, changed_entries, changed_part, drifted_part, forgotten_part, gone_part, is_live, no_states, put_aside, put_settled, said_part, settled, shown_part, status_part, where_live, with_entries, with_pairs};
 ghost use Rattle.deck9.specs.declared.state.Register.{Register as ARegister};
 
-use crate::knowledge::KnownEntry;
-use crate::mode_set::ModeSet;
 use crate::pairs::Pairs;
 use crate::register_set::RegisterSet;
-use deck9::{Change, Mode, Register};
+use deck9::{Change, KnownEntry, Mode, ModeSet, Register};
 use sets25::{SpanSet, TimeSet};
 use std::alloc::{AllocError, Global};
 use std::marker::Model;

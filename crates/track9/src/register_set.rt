@@ -7,8 +7,7 @@ ghost use Rattle.track9.specs.Working.Knowing.{KnowsOf};
 ghost use Rattle.track9.specs.Working.Entries.{agreeing, all_entries, changed, no_entries, said, some_entry, widened};
 ghost use Rattle.deck9.specs.declared.state.Entry.{Entry as AEntry};
 
-use crate::knowledge::KnownEntry;
-use deck9::{Change, Entry};
+use deck9::{Change, Entry, KnownEntry};
 use sets25::{SpanSet, TimeSet};
 use std::alloc::{AllocError, Global};
 use std::marker::Model;

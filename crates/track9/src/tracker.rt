@@ -1,8 +1,8 @@
 //! The states that the deck could be in, exchange by exchange.
 ghost use Rattle.std.specs.Prelude.{◌≡◌, ◌↔◌, ◌≤◌, ◌+◌, IfErr, IfNone, IfOk, IfSome, IsOk, IsTrue, OnErr, OnOk, false, true};
 ghost use Rattle.track9.specs.Frugal.{is_frugal, is_frugal_effect};
-ghost use Rattle.track9.specs.Knowledge.{IsKnowledge};
-ghost use Rattle.track9.specs.ModeSet.{has};
+ghost use Rattle.deck9.specs.Knowledge.{IsKnowledge};
+ghost use Rattle.deck9.specs.ModeSet.{has};
 ghost use Rattle.track9.specs.Presets.{IsSpanCount, count_of, presets_after, with_command};
 ghost use Rattle.deck9.specs.Contradict.{Passes};
 ghost use Rattle.deck9.specs.Effect.{effect_of};
@@ -13,12 +13,10 @@ ghost use Rattle.deck9.specs.declared.mode.Mode.{Mode as AMode};
 ghost use Rattle.deck9.specs.declared.state.Register.{Register as ARegister};
 ghost use Rattle.deck9.specs.declared.state.State.{State as AState};
 
-use crate::knowledge::Knowledge;
-use crate::mode_set::ModeSet;
 use crate::presets::Presets;
 use crate::states::States;
 use block9::{Block, Command};
-use deck9::{Hands, Register, State};
+use deck9::{Hands, Knowledge, ModeSet, Register, State};
 use sets25::{SpanSet, TimeSet};
 use std::alloc::{AllocError, Global};
 use std::marker::Model;

@@ -1,6 +1,5 @@
-use Rattle.track9.proofs.mode_set.ModeSet.first.Goals as goal
-use Rattle.track9.proofs.EntryLemmas.{some_mode}
-use Rattle.track9.proofs.KnownLemmas.{last_mode}
+use Rattle.deck9.proofs.mode_set.ModeSet.first.Goals as goal
+use Rattle.deck9.proofs.ModeSetLemmas.{last_mode, some_mode}
 
 pub returns-else-has-9 : goal.returns-else-has-9
 returns-else-has-9 c =

@@ -1,5 +1,5 @@
 //! What is known of the deck: that on which all possible states agree.
-use deck9::Mode;
+use crate::mode::Mode;
 use tc25::TimeCode;
 
 /// What is known of a field.
@@ -22,26 +22,6 @@ pub enum KnownEntry {
     SetSomewhere,
     /// It is Clear in one possible state and Set in another.
     Unknown,
-}
-
-impl KnownEntry {
-    ghost use Rattle.std.specs.Prelude.{◌≡◌};
-    ghost use Rattle.track9.specs.Working.Knowing.{joined_known};
-
-    /// What is known of a register that is in one of two sets of states, by what is known of it in each.
-    pub(crate) fn joined(&self, other: &KnownEntry) -> KnownEntry
-        ensures { result ≡ joined_known self.now other.now }
-    {
-        match (self, other) {
-            (KnownEntry::Clear, KnownEntry::Clear) => KnownEntry::Clear,
-            (KnownEntry::At(time), KnownEntry::At(again)) if time == again => KnownEntry::At(*time),
-            (
-                KnownEntry::At(_) | KnownEntry::SetSomewhere,
-                KnownEntry::At(_) | KnownEntry::SetSomewhere,
-            ) => KnownEntry::SetSomewhere,
-            _ => KnownEntry::Unknown,
-        }
-    }
 }
 
 /// What is known of the deck.

@@ -1,10 +1,10 @@
 -- What is known of a set of states: that on which all of them agree.
 use Rattle.std.specs.Prelude.{◌≡◌, ◌≢◌, true}
-use Rattle.track9.specs.declared.knowledge.Known.{Known}
-use Rattle.track9.specs.declared.knowledge.Known.TheVariants as known
-use Rattle.track9.specs.declared.knowledge.KnownEntry.{KnownEntry}
-use Rattle.track9.specs.declared.knowledge.KnownEntry.TheVariants as entry
-use Rattle.track9.specs.declared.knowledge.Knowledge.{Knowledge}
+use Rattle.deck9.specs.declared.knowledge.Known.{Known}
+use Rattle.deck9.specs.declared.knowledge.Known.TheVariants as known
+use Rattle.deck9.specs.declared.knowledge.KnownEntry.{KnownEntry}
+use Rattle.deck9.specs.declared.knowledge.KnownEntry.TheVariants as entry
+use Rattle.deck9.specs.declared.knowledge.Knowledge.{Knowledge}
 use Rattle.deck9.specs.declared.state.Entry.TheVariants.{Clear, At}
 use Rattle.deck9.specs.declared.state.Register.{Register}
 use Rattle.deck9.specs.declared.state.Register.TheVariants.{RegIn, RegOut, RegAudioIn, RegAudioOut}

@@ -1,8 +1,8 @@
 //! Sets of modes.
 
 use crate::knowledge::Known;
+use crate::mode::Mode;
 use bitflags::{Flag, Flags};
-use deck9::Mode;
 
 /// A set of modes, a bit for each.
 #[derive(Clone, Copy, Debug, PartialEq, Eq)]
@@ -11,15 +11,14 @@ pub struct ModeSet(u16);
 impl ModeSet {
     ghost use Rattle.std.specs.Prelude.{◌≡◌, ◌&&◌, ◌||◌, true, false};
     ghost use Rattle.deck9.specs.Mode.{is_mode, is_one_of, on_the_way};
-    ghost use Rattle.track9.specs.ModeSet.{bit_of, has};
-    ghost use Rattle.track9.specs.Working.Knowing.{KnowsModes};
-    ghost use Rattle.track9.specs.Working.Pairs.{both, either, is_some, modes, way};
+    ghost use Rattle.deck9.specs.ModeSet.{bit_of, has};
+    ghost use Rattle.deck9.specs.ModeCalls.{KnowsModes, both, either, is_some, modes, way};
     ghost use Rattle.deck9.specs.declared.mode.Mode.{Mode as AMode};
 
     /// No mode.
-    pub(crate) const NONE: ModeSet = ModeSet(0);
+    pub const NONE: ModeSet = ModeSet(0);
     /// Every mode.
-    pub(crate) const ALL: ModeSet = ModeSet(0x3FF);
+    pub const ALL: ModeSet = ModeSet(0x3FF);
 
     const STOP: ModeSet = ModeSet(0x001);
 
@@ -125,14 +124,14 @@ impl ModeSet {
     }
 
     /// Whether there is a mode in the set.
-    pub(crate) fn is_some(self) -> bool
+    pub fn is_some(self) -> bool
         ensures { result ≡ is_some self }
     {
         self.intersects(ModeSet::ALL)
     }
 
     /// The modes of either set.
-    pub(crate) fn or(self, other: ModeSet) -> ModeSet
+    pub fn or(self, other: ModeSet) -> ModeSet
         ensures bits { result ≡ either self other }
         ensures has { (m : AMode) → has result.0 m ≡ (has self.0 m || has other.0 m) }
     {
@@ -140,7 +139,7 @@ impl ModeSet {
     }
 
     /// The modes of both sets.
-    pub(crate) fn and(self, other: ModeSet) -> ModeSet
+    pub fn and(self, other: ModeSet) -> ModeSet
         ensures bits { result ≡ both self other }
         ensures has { (m : AMode) → has result.0 m ≡ (has self.0 m && has other.0 m) }
     {
@@ -148,7 +147,7 @@ impl ModeSet {
     }
 
     /// The mode of the set, where it has one alone. It has one.
-    pub(crate) fn known(self) -> Known<Mode>
+    pub fn known(self) -> Known<Mode>
         requires { is_some self ≡ true }
         ensures { KnowsModes self result }
     {
@@ -163,7 +162,7 @@ impl ModeSet {
     }
 
     /// The first mode of the set, in the order of the modes. It has one.
-    pub(crate) fn first(self) -> Mode
+    pub fn first(self) -> Mode
         requires { is_some self ≡ true }
         ensures { has self.0 result ≡ true }
     {
@@ -191,7 +190,7 @@ impl ModeSet {
     }
 
     /// The modes that may be shown on the way to a goal.
-    pub(crate) fn on_the_way(goal: Mode) -> ModeSet
+    pub fn on_the_way(goal: Mode) -> ModeSet
         ensures bits { result ≡ way goal }
         ensures has { (m : AMode) → has result.0 m ≡ is_one_of (on_the_way goal) m }
     {
@@ -205,7 +204,7 @@ impl ModeSet {
 
 impl Flags for ModeSet {
     ghost use Rattle.std.specs.Prelude.{⊤};
-    ghost use Rattle.track9.specs.ModeSet.{flags};
+    ghost use Rattle.deck9.specs.ModeSet.{flags};
 
     type Bits = u16;
 
