@@ -36,7 +36,7 @@ pub use Rattle.std.proofs.Math.Bool.{and-true, or-true}
 pub use Rattle.std.proofs.lemmas.Bool.{and_from, and_parts, both_ways, cases_Bool, cases_eq, eq-eqb, eqb-true, false_from_ne_true, false≢true, or_cases, true_from_ne_false}
 pub use Rattle.std.proofs.lemmas.Bool.Decides.{nat_tests}
 pub use Rattle.std.proofs.lemmas.Grind.{common_steps}
-pub use Rattle.std.proofs.lemmas.List.Elements.{All-head, All-tail}
+pub use Rattle.std.proofs.lemmas.List.Elements.{All-cons, All-head, All-nil, All-tail}
 pub use Rattle.std.proofs.lemmas.Nat.{and_mask, pow_pos}
 pub use Rattle.std.proofs.lemmas.Nat.Bits.{and_pow, bit_at-lt, bit_at-pow_other, bit_at-pow_same, bit_at-zero, bit_at_and, bit_at_or, same_from_bits_below}
 pub use Rattle.std.proofs.lemmas.Option.{slice_get_past}
@@ -46,5 +46,5 @@ pub use Rattle.std.specs.Iterator.Adapters.{zip_first, zip_second}
 pub use Rattle.std.specs.List.{All, list_any}
 pub use Rattle.std.specs.Slice.Iter.{iter_rest}
 pub use Rattle.tc25.proofs.DayLemmas.{ReadsAs-from_time_of, time_of-from_ReadsAs}
-pub use Rattle.tc25.specs.Day.{bytes_of, day, next_frame, prev_frame}
+pub use Rattle.tc25.specs.Day.{bcd, bytes_of, day, frames_of, hours_of, minutes_of, next_frame, prev_frame, seconds_of}
 unfoldable pub use Rattle.tc25.specs.Day.{time_of}

@@ -9,7 +9,7 @@ use bitflags::{Flag, Flags};
 pub struct ModeSet(u16);
 
 impl ModeSet {
-    ghost use Rattle.std.specs.Prelude.{◌≡◌, ◌&&◌, ◌||◌, true, false};
+    ghost use Rattle.std.specs.Prelude.{◌≡◌, ◌<◌, ◌^◌, ◌&&◌, ◌||◌, true, false};
     ghost use Rattle.deck9.specs.Mode.{is_mode, is_one_of, on_the_way};
     ghost use Rattle.deck9.specs.ModeSet.{bit_of, has};
     ghost use Rattle.deck9.specs.ModeCalls.{KnowsModes, both, either, is_some, modes, way};
@@ -144,6 +144,14 @@ impl ModeSet {
         ensures has { (m : AMode) → has result.0 m ≡ (has self.0 m && has other.0 m) }
     {
         self.intersection(other)
+    }
+
+    /// The same modes, with no bit above theirs.
+    pub fn without_other_bits(self) -> ModeSet
+        ensures has { (m : AMode) → has result.0 m ≡ has self.0 m }
+        ensures ten { result.0 < 2 ^ 10 }
+    {
+        self.intersection(ModeSet::ALL)
     }
 
     /// The mode of the set, where it has one alone. It has one.

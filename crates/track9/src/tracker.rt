@@ -1,5 +1,5 @@
 //! The states that the deck could be in, exchange by exchange.
-ghost use Rattle.std.specs.Prelude.{◌≡◌, ◌↔◌, ◌≤◌, ◌+◌, IfErr, IfNone, IfOk, IfSome, IsOk, IsTrue, OnErr, OnOk, false, true};
+ghost use Rattle.std.specs.Prelude.{◌≡◌, ◌↔◌, ◌<◌, ◌≤◌, ◌+◌, ◌^◌, IfErr, IfNone, IfOk, IfSome, IsOk, IsTrue, OnErr, OnOk, false, true};
 ghost use Rattle.track9.specs.Frugal.{is_frugal, is_frugal_effect};
 ghost use Rattle.deck9.specs.Knowledge.{IsKnowledge};
 ghost use Rattle.deck9.specs.ModeSet.{has};
@@ -150,11 +150,12 @@ impl<S: TimeSet> Tracker<S> {
         self.states.before(command, reply, target)
     }
 
-    /// The modes that some possible state shows. Takes no memory.
+    /// The modes that some possible state shows, with no bit above theirs. Takes no memory.
     pub fn shown(&self) -> ModeSet
-        ensures { (m : AMode) → (has result.0 m ≡ true) ↔ ((s : AState) × Possible self.now.states s × (s.shown ≡ m)) }
+        ensures ten { result.0 < 2 ^ 10 }
+        ensures modes { (m : AMode) → (has result.0 m ≡ true) ↔ ((s : AState) × Possible self.now.states s × (s.shown ≡ m)) }
     {
-        self.states.shown()
+        self.states.shown().without_other_bits()
     }
 
     /// What all possible states agree on, field by field. There has to be one (`remains`). Takes no memory.
