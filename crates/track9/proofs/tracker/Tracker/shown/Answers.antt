@@ -1,4 +1,4 @@
-use Rattle.track9.proofs.Words.{has, shown_in, subst, true, ◌∙◌, ◌≡◌}
+use Rattle.track9.proofs.Words.{has, shown_in, subst, true, ◌≡◌}
 use Rattle.track9.proofs.tracker.Tracker.shown.Goals as goal
 use Rattle.track9.proofs.KnownLemmas.{has_shown}
 
