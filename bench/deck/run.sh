@@ -7,14 +7,14 @@ set -eu
 here=$(cd "$(dirname "$0")" && pwd)
 work=$(mktemp -d)
 trap 'rm -rf "$work"' EXIT
-for crate in tc25 capture9 block9 deck9 track9; do
+for crate in tc25 sets25 capture9 block9 deck9 track9; do
     mkdir -p "$work/crates"
     cp -a "$here/../../crates/$crate" "$work/crates/$crate"
 done
 mkdir -p "$work/crates/track9_deck/src"
 cp "$here/rattle/main.rattle" "$work/crates/track9_deck/src/main.rt"
-grep -E '^(tc25|capture9|block9|deck9|track9):' "$here/../../crates.txt" > "$work/crates.txt"
-echo 'track9_deck: tc25 block9 deck9 track9' >> "$work/crates.txt"
+grep -E '^(tc25|sets25|capture9|block9|deck9|track9):' "$here/../../crates.txt" > "$work/crates.txt"
+echo 'track9_deck: tc25 sets25 block9 deck9 track9' >> "$work/crates.txt"
 (cd "$work/crates/track9_deck" && rt run > "$work/build.log" 2>&1) || { cat "$work/build.log"; exit 1; }
 rustc --edition 2024 -O -o "$work/rust" "$here/rust/main.rs"
 for _ in 1 2 3 4 5; do

@@ -8,14 +8,17 @@ set -eu
 here=$(cd "$(dirname "$0")" && pwd)
 work=$(mktemp -d)
 trap 'rm -rf "$work"' EXIT
-mkdir -p "$work/crates/tc25" "$work/crates/tc25_drawn/src"
-for part in src specs proofs; do
-    cp -R "$here/../../crates/tc25/$part" "$work/crates/tc25/$part"
+mkdir -p "$work/crates/sets25_drawn/src"
+for crate in tc25 sets25; do
+    mkdir -p "$work/crates/$crate"
+    for part in src specs proofs; do
+        cp -R "$here/../../crates/$crate/$part" "$work/crates/$crate/$part"
+    done
 done
-cp "$here/rattle/drawn.rattle" "$work/crates/tc25_drawn/src/main.rt"
-printf 'tc25:\ntc25_drawn: tc25\n' > "$work/crates.txt"
-(cd "$work/crates/tc25_drawn" && rt run > "$work/build.log" 2>&1) || { cat "$work/build.log"; exit 1; }
-program=$work/crates/tc25_drawn/out/tc25_drawn
+cp "$here/rattle/drawn.rattle" "$work/crates/sets25_drawn/src/main.rt"
+printf 'tc25:\nsets25: tc25\nsets25_drawn: tc25 sets25\n' > "$work/crates.txt"
+(cd "$work/crates/sets25_drawn" && rt run > "$work/build.log" 2>&1) || { cat "$work/build.log"; exit 1; }
+program=$work/crates/sets25_drawn/out/sets25_drawn
 rustc --edition 2024 -O -o "$work/drawn" "$here/rust/drawn.rs"
 cc -shared -fPIC -O2 -o "$work/refuse_growth.so" "$here/../../tests/refuse_growth.c" -ldl
 

@@ -6,16 +6,18 @@ set -eu
 here=$(cd "$(dirname "$0")" && pwd)
 work=$(mktemp -d)
 trap 'rm -rf "$work"' EXIT
-mkdir -p "$work/crates/tc25_sets/src"
-for part in src specs proofs; do
-    mkdir -p "$work/crates/tc25"
-    cp -R "$here/../../crates/tc25/$part" "$work/crates/tc25/$part"
+mkdir -p "$work/crates/sets25_calls/src"
+for crate in tc25 sets25; do
+    mkdir -p "$work/crates/$crate"
+    for part in src specs proofs; do
+        cp -R "$here/../../crates/$crate/$part" "$work/crates/$crate/$part"
+    done
 done
-cp "$here/rattle/main.rattle" "$work/crates/tc25_sets/src/main.rt"
-printf 'tc25:\ntc25_sets: tc25\n' > "$work/crates.txt"
-(cd "$work/crates/tc25_sets" && rt run > "$work/build.log" 2>&1) || { cat "$work/build.log"; exit 1; }
+cp "$here/rattle/main.rattle" "$work/crates/sets25_calls/src/main.rt"
+printf 'tc25:\nsets25: tc25\nsets25_calls: tc25 sets25\n' > "$work/crates.txt"
+(cd "$work/crates/sets25_calls" && rt run > "$work/build.log" 2>&1) || { cat "$work/build.log"; exit 1; }
 rustc --edition 2024 -O -o "$work/rust" "$here/rust/main.rs"
-"$work/crates/tc25_sets/out/tc25_sets" > "$work/rattle.txt"
+"$work/crates/sets25_calls/out/sets25_calls" > "$work/rattle.txt"
 "$work/rust" > "$work/rust.txt"
 paste -d ' ' "$work/rattle.txt" "$work/rust.txt" | awk '
     $1 != $5 || $2 != $6 || $4 != $8 { print "the two sides differ: " $0; bad = 1; next }

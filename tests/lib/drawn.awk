@@ -78,7 +78,7 @@ function end_capture(    h) {
 }
 
 # the lines of `why`: each of an exchange, ascending to the one that breaks; then what was asked of them
-function compare_why(breaks, verdict,    n, i, k, place, places_said, believed, q) {
+function compare_why(breaks, verdict,    n, i, k, place, places_said, believed, others, q) {
     n = said["why"]
     if (n < 3 || text["why", n] != verdict) { refuse("why, its verdict"); return }
     places_said = 0
@@ -93,15 +93,14 @@ function compare_why(breaks, verdict,    n, i, k, place, places_said, believed, 
     places_named[places_said]++
     if (place[places_said] != breaks) { refuse("why: the last is not the reply that breaks"); return }
     if (has_believing(believed, breaks)) { refuse("why: these do not contradict one another"); return }
+    # Each is needed, and as near to the break as it can be: the others and all replies after it can be believed.
     for (k = 1; k <= places_said; k++) {
         delete believed[place[k]]
-        if (!has_believing(believed, breaks)) { refuse("why: line " k " is needless"); return }
+        split("", others)
+        for (q in believed) others[q] = 1
+        for (q = place[k] + 1; q <= breaks; q++) others[q] = 1
+        if (!has_believing(others, breaks)) { refuse("why: line " k " is needless, or could be later"); return }
         believed[place[k]] = 1
-    }
-    for (q = place[1] + 1; q <= breaks; q++) {
-        split("", believed)
-        for (k = q; k <= breaks; k++) believed[k] = 1
-        if (!has_believing(believed, breaks)) { refuse("why: the first could be later"); return }
     }
     if (text["why", n - 1] != could_show(breaks)) refuse(text["why", n - 1] " for " could_show(breaks))
 }

@@ -1,7 +1,7 @@
-//! Tests of times and sets of them (`tc25`), of rows (`capture9`), and of blocks and their pairing (`block9`), by their
-//! public calls alone.
+//! Tests of times (`tc25`) and sets of them (`sets25`), of rows (`capture9`), and of blocks and their pairing (`block9`), by
+//! their public calls alone.
 //!
-//! They stand in a crate of their own, so that each of the three is proved once, and its must-fail edits are tried, without
+//! They stand in a crate of their own, so that each of the four is proved once, and its must-fail edits are tried, without
 //! waiting for them. Nothing but tests is here.
 #![tactic(auto)]
 

@@ -4,7 +4,7 @@ use Rattle.deck9.proofs.Words.{false, fits, Hands, HasBelieving, HasRun, inl, in
 use Rattle.deck9.proofs.Words.{MayReply, refl, refused, Sense, sense_of, SetsInDay, State, Step, subst, sym, true, ℕ, ◌++◌, ◌+◌, ◌<◌, ◌↔◌, ◌∙◌, ◌∷◌, ◌≡◌, ◌⊎◌}
 use Rattle.deck9.proofs.RunSearch.{first_drifts}
 use Rattle.deck9.proofs.RestLemmas.{first_does}
-use Rattle.deck9.proofs.ReplyLemmas.{block}
+use Rattle.deck9.proofs.ReplyLemmas.{block, no_bytes, one_byte}
 
 -- ---- one command
 
@@ -17,7 +17,7 @@ SomeStep h c s t = (reply : Block) × IsRightReply c reply × Step h c reply s t
 by_nak : (h : Hands) (c : Command) (s t : State) → t ≡ s → SomeStep h c s t
 unfolding fits is_reply_time_valid
 by_nak h c s t same =
-    (block 1 0x12 (0 ∷ []), record { block = record { group = omega arith; data_bytes = omega arith }; kind = grind arith; valid_time = grind arith }, refused refl same)
+    (block 1 0x12 (0 ∷ []), record { block = record { group = omega arith; data_bytes = omega arith }; code_byte = omega arith; data_bytes = one_byte 0 [] (omega arith) no_bytes; kind = grind arith; valid_time = grind arith }, refused refl same)
 
 -- a command has no effect, or may be acknowledged, which shows nothing
 acked : (c : Command) → (effect_of c ≡ Effect.Nothing) ⊎ ((fits c (block 1 0x01 []) ≡ true) × (is_reply_time_valid c (block 1 0x01 []) ≡ true) × (sense_of c ≡ Sense.Nothing))
@@ -29,7 +29,7 @@ pass_steps h c s t (inl same) = by_nak h c s t same
 pass_steps h c s t (inr does) = elim (acked c) [
   | inl none ↦ by_nak h c s t (subst (λ f. Does h f s t) none does)
   | inr (kind, valid_time, silent) ↦
-      (block 1 0x01 [], record { block = record { group = omega arith; data_bytes = omega arith }; kind = kind; valid_time = valid_time }, done refl (subst (λ a. Agrees a s (block 1 0x01 [])) (sym silent) tt) does)
+      (block 1 0x01 [], record { block = record { group = omega arith; data_bytes = omega arith }; code_byte = omega arith; data_bytes = no_bytes; kind = kind; valid_time = valid_time }, done refl (subst (λ a. Agrees a s (block 1 0x01 [])) (sym silent) tt) does)
 ]
 
 pub some_reply : (h : Hands) (c : Command) (s t : State) → CanPass h c s t ↔ SomeStep h c s t

@@ -2,6 +2,7 @@ pub mod ContradictLemmas
 pub mod DriftLemmas
 pub mod LawLemmas
 pub mod ModeLemmas
+pub mod ModeSetLemmas
 pub mod ReplyLemmas
 pub mod RestLemmas
 pub mod RunLemmas

@@ -10,6 +10,8 @@ pub use Rattle.deck9.specs.Effect.{Becomes, Does, effect_of, moved_entry}
 pub use Rattle.deck9.specs.Laws.{AreAnswered, is_of_goal_or_register, IsRightReply, MayReply, SetsInDay, ShowJust}
 pub use Rattle.deck9.specs.Local.{may_ignore}
 pub use Rattle.deck9.specs.Mode.{index_of, is_mode, is_one_of, on_the_way}
+pub use Rattle.deck9.specs.ModeCalls.{is_some, of_modes}
+pub use Rattle.deck9.specs.ModeSet.{bit_of, has}
 pub use Rattle.deck9.specs.Run.{Ends, HasRun, IsRun, IsRunFrom, last_state}
 pub use Rattle.deck9.specs.Shows.{Agrees, datum, may_show, sense_of, Shows, ShowsStatus, Tells}
 pub use Rattle.deck9.specs.State.{entry_of, IsEntry, IsFirst, IsState, with_entry}
@@ -20,6 +22,7 @@ pub use Rattle.deck9.specs.declared.effect.Change.TheVariants.{Next, Prev, Recal
 pub use Rattle.deck9.specs.declared.effect.Effect.{Effect}
 pub use Rattle.deck9.specs.declared.mode.Mode.{Mode}
 pub use Rattle.deck9.specs.declared.mode.Mode.TheVariants.{Cued, Eject, FastForward, Jog, Play, Rec, Rewind, Shuttle, Stop, Var}
+pub use Rattle.deck9.specs.declared.mode_set.ModeSet.{ModeSet}
 pub use Rattle.deck9.specs.declared.sense.Sense.{Sense}
 pub use Rattle.deck9.specs.declared.state.Entry.{Entry}
 pub use Rattle.deck9.specs.declared.state.Entry.TheVariants.{At, Clear}
@@ -27,18 +30,21 @@ pub use Rattle.deck9.specs.declared.state.Hands.{Hands}
 pub use Rattle.deck9.specs.declared.state.Register.{Register}
 pub use Rattle.deck9.specs.declared.state.Register.TheVariants.{RegAudioIn, RegAudioOut, RegIn, RegOut}
 pub use Rattle.deck9.specs.declared.state.State.{State}
-pub use Rattle.std.proofs.Common.{[], ap, arith, bit_and, Bool, drop, false, if◌then◌else◌, inl, inr, length, List, None, refl, rules, Some, subst, suc, sym, true, ℕ, ◌++◌, ◌+◌}
-pub use Rattle.std.proofs.Common.{◌-◌, ◌/◌, ◌<◌, ◌==◌, ◌||◌, ◌↔◌, ◌∙◌, ◌∷◌, ◌≡◌, ◌≤◌, ◌⊎◌}
-pub use Rattle.std.proofs.lemmas.Bool.{eqb-true}
+pub use Rattle.std.proofs.Common.{[], ap, arith, bit_and, bit_or, Bool, drop, false, if◌then◌else◌, inl, inr, length, List, mod-lt, None, not, refl, rules, Some, subst, suc, sym}
+pub use Rattle.std.proofs.Common.{true, ℕ, ◌&&◌, ◌*◌, ◌++◌, ◌+◌, ◌-◌, ◌/◌, ◌<◌, ◌==◌, ◌^◌, ◌||◌, ◌↔◌, ◌∙◌, ◌∷◌, ◌≡◌, ◌≢◌, ◌≤◌, ◌⊎◌}
+pub use Rattle.std.proofs.Math.Bool.{and-true, or-true}
+pub use Rattle.std.proofs.lemmas.Bool.{and_from, and_parts, both_ways, cases_Bool, cases_eq, eq-eqb, eqb-true, false_from_ne_true, false≢true, or_cases, true_from_ne_false}
 pub use Rattle.std.proofs.lemmas.Bool.Decides.{nat_tests}
 pub use Rattle.std.proofs.lemmas.Grind.{common_steps}
-pub use Rattle.std.proofs.lemmas.List.Elements.{All-head, All-tail}
-pub use Rattle.std.proofs.lemmas.Nat.{and_mask}
-pub use Rattle.std.proofs.lemmas.Nat.Bits.{and_pow}
+pub use Rattle.std.proofs.lemmas.List.Elements.{All-cons, All-head, All-nil, All-tail}
+pub use Rattle.std.proofs.lemmas.Nat.{and_mask, pow_pos}
+pub use Rattle.std.proofs.lemmas.Nat.Bits.{and_pow, bit_at-lt, bit_at-pow_other, bit_at-pow_same, bit_at-zero, bit_at_and, bit_at_or, same_from_bits_below}
 pub use Rattle.std.proofs.lemmas.Option.{slice_get_past}
+pub use Rattle.std.specs.Cmp.{both_ways as same_test}
+pub use Rattle.std.specs.Int.{bit_at}
 pub use Rattle.std.specs.Iterator.Adapters.{zip_first, zip_second}
-pub use Rattle.std.specs.List.{All}
+pub use Rattle.std.specs.List.{All, list_any}
 pub use Rattle.std.specs.Slice.Iter.{iter_rest}
 pub use Rattle.tc25.proofs.DayLemmas.{ReadsAs-from_time_of, time_of-from_ReadsAs}
-pub use Rattle.tc25.specs.Day.{bytes_of, day, next_frame, prev_frame}
+pub use Rattle.tc25.specs.Day.{bcd, bytes_of, day, frames_of, hours_of, minutes_of, next_frame, prev_frame, seconds_of}
 unfoldable pub use Rattle.tc25.specs.Day.{time_of}

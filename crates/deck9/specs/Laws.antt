@@ -1,5 +1,6 @@
 -- What the laws say beside the deck's own definitions.
 use Rattle.std.specs.Prelude.{ℕ, ◌≡◌, ◌<◌, Bool, true, false, ⊤, List, [], ◌∷◌, Some}
+use Rattle.std.specs.List.{All}
 use Rattle.tc25.specs.Day.{day}
 use Rattle.block9.specs.declared.block.Block.{Block}
 use Rattle.block9.specs.declared.command.Command.{Command}
@@ -30,9 +31,11 @@ is_of_goal_or_register effect.ForgetAll = false
 abbrev pub SetsInDay : Exchange → Type 0
 SetsInDay e = (r : Register) (t : ℕ) → effect_of e.command ≡ effect.Change r (SetAt t) → t < day
 
--- a right reply to the command: a block of a kind that the command may have, whose time is valid where it has to be
+-- a right reply to the command: a block of bytes, of a kind that the command may have, whose time is valid where it has to be
 pub record IsRightReply (command : Command) (reply : Block) : Type 0 where
   pub block : IsBlock reply
+  pub code_byte : reply.code < 256
+  pub data_bytes : All (λ byte. byte < 256) reply.bytes.items
   pub kind : fits command reply ≡ true
   pub valid_time : is_reply_time_valid command reply ≡ true
 

@@ -1,9 +1,12 @@
 pub mod Contradict
 pub mod Drift
 pub mod Effect
+pub mod Knowledge
 pub mod Laws
 pub mod Local
 pub mod Mode
+pub mod ModeCalls
+pub mod ModeSet
 pub mod Run
 pub mod Shows
 pub mod State

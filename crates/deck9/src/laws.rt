@@ -1,6 +1,6 @@
 //! The laws of the deck, each the contract of a function that does nothing: that the definitions of drifts, steps and runs
 //! mean what was meant.
-ghost use Rattle.std.specs.Prelude.{◌≡◌, ◌≢◌, ◌↔◌, ◌⊎◌, ◌<◌, ◌+◌, ◌||◌, ℕ, Bool, true, false, Some, List, [], ◌∷◌, ◌++◌, length};
+ghost use Rattle.std.specs.Prelude.{◌≡◌, ◌≢◌, ◌↔◌, ◌⊎◌, ◌<◌, ◌+◌, ◌||◌, ℕ, Bool, true, false, Some, List, [], ◌∷◌, ◌++◌, length, slice_get};
 ghost use Rattle.std.specs.List.{All};
 ghost use Rattle.block9.specs.Command.{is_nak};
 ghost use Rattle.block9.specs.declared.block.Block.{Block};
@@ -11,7 +11,7 @@ ghost use Rattle.deck9.specs.Drift.{Drift, DriftsTo};
 ghost use Rattle.deck9.specs.Effect.{effect_of};
 ghost use Rattle.deck9.specs.Laws.{AreAnswered, IsRightReply, SetsInDay, ShowJust, is_of_goal_or_register};
 ghost use Rattle.deck9.specs.Local.{may_ignore};
-ghost use Rattle.deck9.specs.Mode.{is_mode};
+ghost use Rattle.deck9.specs.Mode.{index_of, is_mode};
 ghost use Rattle.deck9.specs.Run.{Ends, HasRun};
 ghost use Rattle.deck9.specs.Shows.{may_show};
 ghost use Rattle.deck9.specs.State.{IsFirst, IsState};
@@ -19,6 +19,12 @@ ghost use Rattle.deck9.specs.Step.{AreReached, Exchanges, Step};
 
 use crate::mode::Mode;
 use crate::state::{Hands, State};
+
+/// All modes are the ten, each at its place.
+pub fn modes_in_their_order()
+    ensures ten { length Mode.ALL ≡ 10 }
+    ensures place { (m : Mode) → slice_get Mode.ALL (index_of m) ≡ Some m }
+{}
 
 /// A deck need not drift, and a drift after a drift is one.
 pub fn drifts_join()

@@ -6,14 +6,19 @@
 //! those of a run: a second opinion on the sets of states of the crate `track9`, of which nothing is known here. The module
 //! [`laws`] shows that the definitions of all this mean what was meant.
 //!
+//! What is known of a deck that could be in any of many states is told by a [`Knowledge`], and which modes it may show by a
+//! [`ModeSet`].
+//!
 //! The modes, the effects, what a status shows and the drift are this profile's choice.
 #![tactic(auto)]
 
 mod drift;
 mod effect;
+mod knowledge;
 pub mod laws;
 mod local;
 mod mode;
+mod mode_set;
 mod run;
 mod sense;
 mod shows;
@@ -21,8 +26,10 @@ mod state;
 mod step;
 
 pub use effect::{Change, Effect};
+pub use knowledge::{Knowledge, Known, KnownEntry};
 pub use local::may_ignore;
 pub use mode::Mode;
+pub use mode_set::ModeSet;
 pub use run::is_run;
 pub use sense::Sense;
 pub use shows::status_datum;

@@ -1,7 +1,7 @@
 -- What the deck could show when it gave the last of some replies.
 use Rattle.judge9.proofs.Words.{[], ap, AreReached, arith, BreaksAtLast, Command, CouldBe, CouldShow, Drift, Ends, Exchange, Follows, Hands, has, inl, inr, IsKnowledge}
 use Rattle.judge9.proofs.Words.{Knowledge, length, length-append, List, Mode, ModeSet, Passes, Possible, refl, some_end, State, subst, sym, take, take-append_seam, Tracked, true}
-use Rattle.judge9.proofs.Words.{◌-◌, ◌↔◌, ◌∙◌, ◌∷◌, ◌≡◌}
+use Rattle.judge9.proofs.Words.{◌-◌, ◌<◌, ◌↔◌, ◌^◌, ◌∙◌, ◌∷◌, ◌≡◌}
 use Rattle.judge9.proofs.LineSteps.{knowledge_same}
 
 -- all exchanges but the last
@@ -18,8 +18,9 @@ before_last h es t b f =
 
 -- what is then known, and which modes are shown
 pub could_show : (h : Hands) (es : List Exchange) (old new : Tracked) (k : Knowledge) (set : ModeSet) (b : BreaksAtLast h es) → Follows h (take (length es - 1) es) old → AreReached (Possible old.states) (Passes old.hands Command.InDataSense) (Possible new.states)
-    → IsKnowledge (Possible new.states) k → ((m : Mode) → (has set.0 m ≡ true) ↔ ((s : State) × Possible new.states s × (s.shown ≡ m))) → CouldShow h es k set
-could_show h es old new k set b f reached knows shows = record {
+    → IsKnowledge (Possible new.states) k → set.0 < 2 ^ 10 → ((m : Mode) → (has set.0 m ≡ true) ↔ ((s : State) × Possible new.states s × (s.shown ≡ m))) → CouldShow h es k set
+could_show h es old new k set b f reached knows ten shows = record {
+  ten = ten;
   before = b.before;
   last = b.last;
   split = b.is_split;

@@ -46,7 +46,7 @@ pub use Rattle.judge9.specs.Working.Trail.{Follows, GoesBack, IsTrail, KeepsTrai
 pub use Rattle.judge9.specs.Working.Turn.{AreOpen, ComesTo, EndsRows, Feeds, IsFresh, IsObserved, IsOpen, Observes, Spoils, Turned, Waits}
 pub use Rattle.judge9.specs.declared.turn.Turn.TheVariants.{the_data as Turn}
 pub use Rattle.std.proofs.Common.{ap, arith, drop, get_or, if◌then◌else◌, inl, inr, length-append, OnOk, option_map, refl, slice_range, subst, sym, take-add}
-pub use Rattle.std.proofs.Common.{◌*◌, ◌+◌, ◌++◌, ◌-◌, ◌/◌, ◌<◌, ◌↔◌, ◌∙◌, ◌∷◌, ◌≡◌, ◌≢◌, ◌≤◌, ◌⊎◌}
+pub use Rattle.std.proofs.Common.{◌*◌, ◌+◌, ◌++◌, ◌-◌, ◌/◌, ◌<◌, ◌^◌, ◌↔◌, ◌∙◌, ◌∷◌, ◌≡◌, ◌≢◌, ◌≤◌, ◌⊎◌}
 pub use Rattle.std.proofs.KnownBytes.{Appends-nil, Appends-trans}
 pub use Rattle.std.proofs.Math.Seq.{take-append_seam, take-length}
 pub use Rattle.std.proofs.lemmas.Bool.{cases_lt, false≢true}
@@ -60,11 +60,11 @@ pub use Rattle.tc25.proofs.DayLemmas.{ReadsAs-from_time_of}
 pub use Rattle.tc25.specs.Day.{day, time_of}
 pub use Rattle.text9.proofs.WriteLemmas.{first_part, part_after}
 pub use Rattle.track9.proofs.OneKnowledge.{known_of_ends}
-pub use Rattle.track9.specs.Knowledge.{IsKnown, IsKnownEntry}
-pub use Rattle.track9.specs.ModeSet.{has}
-pub use Rattle.track9.specs.declared.knowledge.Known.TheVariants.{the_data as Known}
-pub use Rattle.track9.specs.declared.knowledge.KnownEntry.TheVariants.{the_data as KnownEntry}
-pub use Rattle.track9.specs.declared.mode_set.ModeSet.{ModeSet}
+pub use Rattle.deck9.specs.Knowledge.{IsKnown, IsKnownEntry}
+pub use Rattle.deck9.specs.ModeSet.{has}
+pub use Rattle.deck9.specs.declared.knowledge.Known.TheVariants.{the_data as Known}
+pub use Rattle.deck9.specs.declared.knowledge.KnownEntry.TheVariants.{the_data as KnownEntry}
+pub use Rattle.deck9.specs.declared.mode_set.ModeSet.{ModeSet}
 pub use Rattle.verdict9.specs.Error.{refusal_by}
 pub use Rattle.verdict9.specs.Lines.{line_of, records_of}
 pub use Rattle.verdict9.specs.OpenRecords.{asked_of, IsMeaning}

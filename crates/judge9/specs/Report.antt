@@ -9,9 +9,9 @@ use Rattle.capture9.specs.Rows.{Rows}
 use Rattle.capture9.specs.SomeText.{IsOfSomeText}
 use Rattle.block9.specs.declared.pairer.Exchange.{Exchange}
 use Rattle.block9.specs.Exchange.{Cut}
-use Rattle.track9.specs.declared.knowledge.Knowledge.{Knowledge}
+use Rattle.deck9.specs.declared.knowledge.Knowledge.{Knowledge}
 use Rattle.deck9.specs.declared.state.Hands.{Hands}
-use Rattle.track9.specs.Knowledge.{IsKnowledge}
+use Rattle.deck9.specs.Knowledge.{IsKnowledge}
 use Rattle.deck9.specs.Run.{Ends, HasRun}
 use Rattle.verdict9.specs.Lines.{line_of, records_of}
 use Rattle.verdict9.specs.declared.error.JudgeError.{JudgeError}

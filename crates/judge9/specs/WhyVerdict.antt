@@ -1,5 +1,5 @@
 -- What a result of a judging tells that says why no run remains: a verdict, and which replies contradict one another.
-use Rattle.std.specs.Prelude.{◌≡◌, ◌≢◌, ◌↔◌, ⊤, true, List, [], ◌∷◌, ◌++◌, take, Option, Result, Ok, Err}
+use Rattle.std.specs.Prelude.{◌≡◌, ◌≢◌, ◌<◌, ◌^◌, ◌↔◌, ⊤, true, List, [], ◌∷◌, ◌++◌, take, Option, Result, Ok, Err}
 use Rattle.std.specs.Option.{IfNone, IfSome}
 use Rattle.std.specs.Result.{IfOk}
 use Rattle.capture9.specs.Rows.{Rows}
@@ -13,10 +13,10 @@ use Rattle.deck9.specs.declared.state.Hands.{Hands}
 use Rattle.deck9.specs.declared.state.State.{State}
 use Rattle.deck9.specs.Drift.{Drift}
 use Rattle.deck9.specs.Run.{Ends}
-use Rattle.track9.specs.declared.knowledge.Knowledge.{Knowledge}
-use Rattle.track9.specs.declared.mode_set.ModeSet.{ModeSet}
-use Rattle.track9.specs.Knowledge.{IsKnowledge}
-use Rattle.track9.specs.ModeSet.{has}
+use Rattle.deck9.specs.declared.knowledge.Knowledge.{Knowledge}
+use Rattle.deck9.specs.declared.mode_set.ModeSet.{ModeSet}
+use Rattle.deck9.specs.Knowledge.{IsKnowledge}
+use Rattle.deck9.specs.ModeSet.{has}
 use Rattle.why9.specs.Contradiction.{IsContradiction}
 use Rattle.verdict9.specs.declared.error.JudgeError.{JudgeError}
 use Rattle.verdict9.specs.declared.verdict.Verdict.{Verdict}
@@ -41,12 +41,13 @@ judged_of (Err e) = Err e
 abbrev pub CouldBe : Hands → List Exchange → State → Type 0
 CouldBe hands exchanges t = (s : State) × Ends hands exchanges s × Drift hands s t
 
--- what was known of the deck when it gave the last of these replies, and the modes that it could then show
+-- what was known of the deck when it gave the last of these replies, and the modes that it could then show, the ten alone
 pub record CouldShow (hands : Hands) (exchanges : List Exchange) (known : Knowledge) (shown : ModeSet) : Type 0 where
   pub before : List Exchange
   pub last : Exchange
   pub split : exchanges ≡ before ++ last ∷ []
   pub knows : IsKnowledge (CouldBe hands before) known
+  pub ten : shown.0 < 2 ^ 10
   pub shows : (m : Mode) → (has shown.0 m ≡ true) ↔ ((s : State) × CouldBe hands before s × (s.shown ≡ m))
 
 -- where a rule of pairing is broken, the record is the one that breaks it, with the records that are open before it, and

@@ -33,9 +33,9 @@ use Rattle.std.specs.Prelude.{◌≡◌, ◌≢◌}
 pub use Rattle.std.specs.Result.{IfErr, IfOk}
 pub use Rattle.text9.specs.Explanation.{line_of_exchange}
 pub use Rattle.text9.specs.Writing.{AppendsPart}
-pub use Rattle.track9.specs.Knowledge.{IsKnowledge}
+pub use Rattle.deck9.specs.Knowledge.{IsKnowledge}
 pub use Rattle.track9.specs.Tracker.{Possible, Tracked}
-pub use Rattle.track9.specs.declared.knowledge.Knowledge.{Knowledge}
+pub use Rattle.deck9.specs.declared.knowledge.Knowledge.{Knowledge}
 pub use Rattle.verdict9.specs.Error.{refusal_of}
 pub use Rattle.verdict9.specs.OpenRecords.{IsBreakAfter}
 pub use Rattle.verdict9.specs.declared.error.JudgeError.TheVariants.{the_data as JudgeError}

@@ -8,10 +8,10 @@ ghost use Rattle.judge9.specs.Working.Trail.{Follows};
 ghost use Rattle.judge9.specs.WhyVerdict.{CouldShow};
 
 use block9::{Command, Exchange};
-use deck9::Hands;
+use deck9::{Hands, Knowledge, ModeSet};
+use sets25::SpanSet;
 use std::alloc::{AllocError, Global};
-use tc25::SpanSet;
-use track9::{Knowledge, ModeSet, Tracker};
+use track9::Tracker;
 
 /// What was known of the deck, and which modes it could show, when it gave the last of these replies: after a run of the
 /// exchanges before it, and a drift.

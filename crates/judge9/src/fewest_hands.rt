@@ -18,8 +18,8 @@ use crate::panel::{may_be_on_after, switch_on_for_hand, switch_panels};
 use crate::trail::{Trail, go_back_from, mark};
 use block9::Exchange;
 use deck9::{Hands, State, is_run};
+use sets25::SpanSet;
 use std::alloc::{AllocError, Global};
-use tc25::SpanSet;
 use track9::Tracker;
 
 /// The states after each exchange of a trail in a run that ends in a state of this tracker, or, where hands are allowed,

@@ -15,8 +15,8 @@ ghost use Rattle.deck9.specs.declared.state.State.{State as AState};
 
 use block9::Exchange;
 use deck9::State;
+use sets25::SpanSet;
 use std::alloc::{AllocError, Global};
-use tc25::SpanSet;
 use track9::Tracker;
 
 /// How many exchanges a stretch has.

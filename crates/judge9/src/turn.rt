@@ -9,9 +9,9 @@ ghost use Rattle.judge9.specs.Working.Turn.{ComesTo, IsFresh, IsObserved};
 use block9::{Exchange, Pairer, Reason, Step};
 use capture9::{LineByte, Records};
 use deck9::Hands;
+use sets25::SpanSet;
 use std::alloc::{AllocError, Global};
 use std::io::Read;
-use tc25::SpanSet;
 use track9::Tracker;
 use verdict9::JudgeError;
 

@@ -29,10 +29,10 @@ use why9::contradicting;
 ///
 /// Where no run of the deck remains it says which replies contradict one another: no deck can have given them together,
 /// whatever it answered to everything else. The exchanges are those up to the record that breaks, and the replies are told
-/// by their places among these. The last is that of the exchange that breaks. Without any one of them the others do not
-/// contradict one another, and the first of them is as late as it can be: all the replies behind it do not. What a run may
-/// do where a reply is not believed is in `specs/Contradict.antt` of the crate `deck9`. Told with them is what was known of
-/// the deck when it gave the last of the replies, and which modes it could then show.
+/// by their places among these. The last is that of the exchange that breaks. Each is needed, and as near to the break as it
+/// can be: without it, the others and all replies after it do not contradict one another. What a run may do where a reply is
+/// not believed is in `specs/Contradict.antt` of the crate `deck9`. Told with them is what was known of the deck when it gave
+/// the last of the replies, and which modes it could then show.
 ///
 /// It writes nothing, and keeps all exchanges, and for each 256th what was possible before it. The search asks whether
 /// parts of the exchanges have a run, each time of a fresh tracker, and of no exchange before the first place in

@@ -2,10 +2,10 @@
 use Rattle.std.specs.Prelude.{ℕ, ◌+◌, List, [], ◌∷◌, ◌++◌, length, codes}
 use Rattle.std.specs.Fmt.{decimal}
 use Rattle.block9.specs.declared.pairer.Exchange.{Exchange}
-use Rattle.track9.specs.declared.knowledge.Known.TheVariants as known
-use Rattle.track9.specs.declared.knowledge.KnownEntry.{KnownEntry}
-use Rattle.track9.specs.declared.knowledge.KnownEntry.TheVariants as entry
-use Rattle.track9.specs.declared.knowledge.Knowledge.{Knowledge}
+use Rattle.deck9.specs.declared.knowledge.Known.TheVariants as known
+use Rattle.deck9.specs.declared.knowledge.KnownEntry.{KnownEntry}
+use Rattle.deck9.specs.declared.knowledge.KnownEntry.TheVariants as entry
+use Rattle.deck9.specs.declared.knowledge.Knowledge.{Knowledge}
 use Rattle.deck9.specs.declared.state.Entry.{Entry}
 use Rattle.deck9.specs.declared.state.Entry.TheVariants.{Clear, At}
 use Rattle.deck9.specs.declared.state.Hands.{Hands}

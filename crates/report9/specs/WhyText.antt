@@ -18,9 +18,9 @@ use Rattle.block9.specs.Block.{spelling}
 use Rattle.block9.specs.Command.{is_nak, name_of}
 use Rattle.block9.specs.Line.{bytes_of, last_time}
 use Rattle.block9.specs.Reason.{limit_of}
-use Rattle.track9.specs.declared.knowledge.Knowledge.{Knowledge}
-use Rattle.track9.specs.declared.mode_set.ModeSet.{ModeSet}
-use Rattle.track9.specs.ModeSet.{has}
+use Rattle.deck9.specs.declared.knowledge.Knowledge.{Knowledge}
+use Rattle.deck9.specs.declared.mode_set.ModeSet.{ModeSet}
+use Rattle.deck9.specs.ModeSet.{has}
 use Rattle.deck9.specs.declared.mode.Mode.{Mode}
 use Rattle.deck9.specs.declared.mode.Mode.TheVariants.{Stop, Play, Rec, FastForward, Rewind, Shuttle, Jog, Var, Cued, Eject}
 use Rattle.deck9.specs.declared.sense.Sense.{Sense}

@@ -16,13 +16,12 @@ ghost use Rattle.report9.specs.WhyText.{line_of_could_show, lines_at, text_of_sh
 use crate::run_text::records_of;
 use block9::{Exchange, Reason};
 use break_lines::put_break;
-use deck9::Hands;
+use deck9::{Hands, Knowledge, ModeSet};
 use exchange_line::put_contradicting;
 use modes::{Choice, put_modes};
 use std::alloc::{AllocError, Global};
 use std::io::Write;
 use text9::{WriteFault, put_all, put_fields, put_text};
-use track9::{Knowledge, ModeSet};
 use verdict9::{JudgeError, Verdict, WhyVerdict, put_verdict_line};
 
 /// Writes why a capture is a no: where no run of the deck remains a line for each of the replies that contradict one

@@ -1,5 +1,7 @@
 -- What four bytes read as.
-use Rattle.tc25.proofs.Words.{arith, common_steps, List, ReadsAs, rules, Some, time_of, ℕ, ◌≡◌}
+use Rattle.std.proofs.Common.{arith, List, rules, Some, ℕ, ◌≡◌}
+use Rattle.std.proofs.lemmas.Grind.{common_steps}
+use Rattle.tc25.specs.Day.{ReadsAs, time_of}
 
 -- the time given is read
 pub ReadsAs-from_time_of : (bytes : List ℕ) (t : ℕ) → time_of bytes ≡ Some t → ReadsAs bytes t

@@ -1,9 +1,1 @@
-pub mod CountLemmas
 pub mod DayLemmas
-pub mod Lemmas
-pub mod ListLemmas
-pub mod SpanListLemmas
-pub mod SpanSetLemmas
-pub mod SpansLemmas
-pub mod TimesLemmas
-pub mod Words

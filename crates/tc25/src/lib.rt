@@ -1,18 +1,8 @@
-//! Times of day in frames at 25 frames a second, and sets of them.
+//! Times of day in frames at 25 frames a second.
 #![tactic(auto)]
 
-mod direction;
 mod laws;
-mod list_set;
-mod span;
-mod span_list;
-mod span_set;
-mod spans;
 mod time_code;
-mod time_set;
 
-pub use laws::{memberships, neighbours, readings, span_counts};
-pub use list_set::ListSet;
-pub use span_set::SpanSet;
+pub use laws::{neighbours, readings};
 pub use time_code::TimeCode;
-pub use time_set::TimeSet;

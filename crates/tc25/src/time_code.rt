@@ -6,7 +6,7 @@ ghost use Rattle.tc25.specs.Day.{day, next_frame, prev_frame, bytes_of, ReadsAs,
 use std::marker::Model;
 
 /// The last frame of the day.
-pub(crate) const LAST_FRAME: u32 = TimeCode::FRAMES_IN_DAY - 1;
+const LAST_FRAME: u32 = TimeCode::FRAMES_IN_DAY - 1;
 
 /// A time of day at 25 frames a second: the number of frames since midnight, below 2,160,000.
 ///

@@ -7,11 +7,11 @@ use Rattle.block9.specs.declared.pairer.Exchange.{Exchange}
 use Rattle.block9.specs.Block.{first_datum, head_of}
 use Rattle.block9.specs.Command.{acknowledged, is_nak, name_of}
 use Rattle.block9.specs.Nak.{nak_bits}
-use Rattle.track9.specs.declared.knowledge.Known.{Known}
-use Rattle.track9.specs.declared.knowledge.Known.TheVariants as known
-use Rattle.track9.specs.declared.knowledge.KnownEntry.{KnownEntry}
-use Rattle.track9.specs.declared.knowledge.KnownEntry.TheVariants as entry
-use Rattle.track9.specs.declared.knowledge.Knowledge.{Knowledge}
+use Rattle.deck9.specs.declared.knowledge.Known.{Known}
+use Rattle.deck9.specs.declared.knowledge.Known.TheVariants as known
+use Rattle.deck9.specs.declared.knowledge.KnownEntry.{KnownEntry}
+use Rattle.deck9.specs.declared.knowledge.KnownEntry.TheVariants as entry
+use Rattle.deck9.specs.declared.knowledge.Knowledge.{Knowledge}
 use Rattle.deck9.specs.declared.mode.Mode.{Mode}
 use Rattle.deck9.specs.declared.state.Hands.{Hands}
 use Rattle.deck9.specs.declared.state.Hands.TheVariants as hands

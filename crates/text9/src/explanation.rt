@@ -8,10 +8,9 @@ ghost use Rattle.text9.specs.Explanation.{line_of_exchange};
 use crate::pieces::{put_count, put_text};
 use asked::{put_command, put_reply};
 use block9::Exchange;
-use deck9::Hands;
+use deck9::{Hands, Knowledge};
 use known::put_knowledge;
 use std::alloc::AllocError;
-use track9::Knowledge;
 
 /// Puts the line of an exchange to the end of the buffer: what was asked, what was answered and after how long,
 /// and what is known of the deck after it. `at` is the number of the reply's last record, counted from 1.

@@ -1,20 +1,19 @@
 -- Some state of a set, and a state that an exchange leads to another one from: patterns of states, exactly those that an effect led from, drifts to them, and whole exchanges.
-use Rattle.track9.proofs.Words.{Allows, and-false, and_from, and_parts, any_goal, ap, AreBelow, arith, Asked, asked_before, asked_of, At}
-use Rattle.track9.proofs.Words.{Becomes, Block, Bool, both, Change, Clear, Command, cond_both, day, Does, done, Drift, drift_from_pairs, drifted, drifted_with, Effect, effect_of}
-use Rattle.track9.proofs.Words.{Entries, entries_of, Entry, entry_before, entry_of, eq-eqb, eqb-true, Exchanges, false, false≢true, Fits, goals_of, goes, Hands, hands_by}
-use Rattle.track9.proofs.Words.{hands_of, has, has_pair, HasState, IfNone, IfSome, if◌then◌else◌, ignored, in_local, inl, InPart, inr, InTwo, Is, is_mode, is_mode-same, is_nak}
-use Rattle.track9.proofs.Words.{is_one_of, is_panel_live, is_some, IsAsked, IsEntry, IsState, IsUndone, just_state, LeadsTo, List, masked, Mode, ModeSet, moved_entry, nat_tests}
-use Rattle.track9.proofs.Words.{Next, next_frame, no_entries, no_states, None, on_the_way, on_two, Option, option_map, PairRunsTo, PartStates, Possible, Prev, prev_frame, Recall}
-use Rattle.track9.proofs.Words.{refl, refused, rules, RegAudioIn, RegAudioOut, RegIn, Register, RegOut, Reset, RunsTo, same_fact, SetAt, SetSomewhere, shown_with}
-use Rattle.track9.proofs.Words.{Shows, Some, some_entry, some_pair, State, StateSet, Step, Stop, subst, sym, true, true_from_ne_false, two_of, way, with_asked, with_entry, ℕ, ◌&&◌, ◌<◌}
-use Rattle.track9.proofs.Words.{◌==◌, ◌||◌, ◌↔◌, ◌∙◌, ◌≡◌, ◌⊎◌}
+use Rattle.track9.proofs.Words.{all_has, Allows, and-false, and_from, and_parts, any_goal, ap, AreBelow, arith, Asked, asked_before, asked_of, At, Becomes, Block, Bool, both}
+use Rattle.track9.proofs.Words.{Change, Clear, Command, cond_both, day, Does, done, Drift, drift_from_pairs, drifted, drifted_with, Effect, effect_of, Entries, entries_of, Entry}
+use Rattle.track9.proofs.Words.{entry_before, entry_of, eq-eqb, eqb-true, Exchanges, false, false≢true, Fits, goals_of, goes, Hands, hands_by, hands_of, has, has-and, has_pair}
+use Rattle.track9.proofs.Words.{HasState, IfNone, IfSome, if◌then◌else◌, ignored, in_local, inl, InPart, inr, InTwo, Is, is_mode, is_mode-same, is_nak, is_one_of, is_panel_live}
+use Rattle.track9.proofs.Words.{is_some, IsAsked, IsEntry, IsState, IsUndone, just_mode, just_state, LeadsTo, List, masked, Mode, mode_just, mode_self, mode_some, ModeSet}
+use Rattle.track9.proofs.Words.{moved_entry, nat_tests, Next, next_frame, no_entries, no_states, None, on_the_way, on_two, Option, option_map, PairRunsTo, PartStates, Possible}
+use Rattle.track9.proofs.Words.{Prev, prev_frame, Recall, refl, refused, RegAudioIn, RegAudioOut, RegIn, Register, RegOut, Reset, rules, RunsTo, same_fact, SetAt, SetSomewhere}
+use Rattle.track9.proofs.Words.{shown_with, Shows, Some, some_entry, some_mode, some_pair, State, StateSet, Step, Stop, subst, sym, true, true_from_ne_false, two_of, way}
+use Rattle.track9.proofs.Words.{with_asked, with_entry, ℕ, ◌&&◌, ◌<◌, ◌==◌, ◌||◌, ◌↔◌, ◌∙◌, ◌≡◌, ◌⊎◌}
 use Rattle.deck9.specs.declared.effect.Effect.TheVariants as effect
 use Rattle.deck9.specs.declared.mode.Mode.TheVariants as mode
 use Rattle.deck9.specs.declared.state.Hands.TheVariants as hands
 use Rattle.std.specs.FinSet as set
 use Rattle.track9.proofs.EffectLemmas.{asks_or_acts, masked_has}
-use Rattle.track9.proofs.EntryLemmas.{all_has, drifted_has, drifted_to, goals_has, goes_from, has-and, just_mode, mode_just, mode_self, mode_some, no_entry, pair_by_goal}
-use Rattle.track9.proofs.EntryLemmas.{some_mode}
+use Rattle.track9.proofs.EntryLemmas.{drifted_has, drifted_to, goals_has, goes_from, no_entry, pair_by_goal}
 use Rattle.track9.proofs.KnownLemmas.{at_same, goal_to}
 use Rattle.track9.proofs.PartLemmas.{drift_panel, drift_state, each_register, mechanics, off_drift, possible_state, put, put_each, to_two, two_live, two_none}
 

@@ -1,24 +1,24 @@
 -- What becomes of the states of a part, and so what leads from all states with one value of the panel to others: each effect, and whole exchanges where nobody touches the panel.
-use Rattle.track9.proofs.Words.{agreeing, Agrees, agrees_local, all_forgotten, all_or_none, all_states, Allows, and_from, and_parts, ap, Becomes, bit_and, bit_in}
-use Rattle.track9.proofs.Words.{Block, Bool, both, Change, changed_entries, changed_part, Command, cond_both, counted, datum, Does, DoesOrNot, done, Drift, drift_from_pairs}
-use Rattle.track9.proofs.Words.{drifted, drifted_part, drifted_with, Effect, effect_of, either, Entries, entries_of, entry_of, Exchanged, false, false≢true}
-use Rattle.track9.proofs.Words.{forgotten_part, goes, gone, gone_pairs, gone_part, gone_with, has, has_pair, HasEffect, if◌then◌else◌, ignored, ignored_by_effect, in_local, inl}
-use Rattle.track9.proofs.Words.{InPart, inr, InTwo, is_live, is_mode, is_mode-same, is_nak, LeadsOn, List, LocalFits, map_two, masked, may_show, Mode, modes, ModeSet, no_states}
-use Rattle.track9.proofs.Words.{None, not, not-true, Option, or-false, or-true, or_cases, PartStates, Presets, presets_after, put_aside, put_settled, ReadsStatus, refl, refused, rules}
-use Rattle.track9.proofs.Words.{RegAudioIn, RegAudioOut, RegIn, Register, RegOut, said_part, Says, Sense, sense_of, sensed_part, settled, shown_part, shown_with, ShowsStatus}
-use Rattle.track9.proofs.Words.{Some, some_entry, some_two, State, status_part, Step, Stop, subst, sym, Tells, time_of, true, two_changed, two_drifted, two_sensed, two_status}
-use Rattle.track9.proofs.Words.{TwoBelow, TwoFew, TwoParts, TwoWhole, where_live, Whole, with_command, with_entries, with_entry, with_pairs, ℕ, ◌&&◌, ◌==◌, ◌||◌, ◌↔◌, ◌∙◌, ◌≡◌}
-use Rattle.track9.proofs.Words.{◌⊎◌}
+use Rattle.track9.proofs.Words.{agreeing, Agrees, agrees_local, all_forgotten, all_or_none, all_states, Allows, and_from, and_parts, ap, Becomes, bit_and, bit_in, Block, Bool}
+use Rattle.track9.proofs.Words.{both, Change, changed_entries, changed_part, Command, cond_both, counted, datum, Does, DoesOrNot, done, Drift, drift_from_pairs, drifted}
+use Rattle.track9.proofs.Words.{drifted_part, drifted_with, Effect, effect_of, either, Entries, entries_of, entry_of, Exchanged, false, false≢true, forgotten_part, goes, gone}
+use Rattle.track9.proofs.Words.{gone_pairs, gone_part, gone_with, has, has-and, has-or, has_pair, HasEffect, if◌then◌else◌, ignored, ignored_by_effect, in_local, inl, InPart}
+use Rattle.track9.proofs.Words.{inr, InTwo, is_live, is_mode, is_mode-same, is_nak, LeadsOn, List, LocalFits, map_two, masked, may_show, Mode, mode_self, modes, ModeSet}
+use Rattle.track9.proofs.Words.{no_states, None, not, not-true, nothing_has, Option, or-false, or-true, or_cases, PartStates, Presets, presets_after, put_aside, put_settled}
+use Rattle.track9.proofs.Words.{ReadsStatus, refl, refused, RegAudioIn, RegAudioOut, RegIn, Register, RegOut, rules, said_part, Says, Sense, sense_of, sensed_part, settled}
+use Rattle.track9.proofs.Words.{shown_part, shown_with, ShowsStatus, Some, some_entry, some_mode, some_two, State, status_part, Step, Stop, subst, sym, Tells, time_of, true}
+use Rattle.track9.proofs.Words.{two_changed, two_drifted, two_sensed, two_status, TwoBelow, TwoFew, TwoParts, TwoWhole, where_live, Whole, with_command, with_entries, with_entry}
+use Rattle.track9.proofs.Words.{with_pairs, ℕ, ◌&&◌, ◌==◌, ◌||◌, ◌↔◌, ◌∙◌, ◌≡◌, ◌⊎◌}
 use Rattle.deck9.specs.declared.effect.Effect.TheVariants as effect
 use Rattle.deck9.specs.declared.state.Hands.TheVariants as hands
 use Rattle.block9.specs.declared.command.Command.TheVariants as command
 use Rattle.deck9.specs.declared.sense.Sense.TheVariants as sense
-use Rattle.track9.proofs.EntryLemmas.{allowed_some, becomes_some, drifted_from, drifted_to, entry_from, entry_stays, entry_to, goes_from, goes_to, has-and, has-or, mode_self}
-use Rattle.track9.proofs.EntryLemmas.{nothing_has, pair_by_goal, pairs_some, says_exactly, some_allowed, some_mode, tells_exactly}
+use Rattle.track9.proofs.EntryLemmas.{allowed_some, becomes_some, drifted_from, drifted_to, entry_from, entry_stays, entry_to, goes_from, goes_to, pair_by_goal, pairs_some}
+use Rattle.track9.proofs.EntryLemmas.{says_exactly, some_allowed, tells_exactly}
 use Rattle.track9.proofs.PartLemmas.{a_state, all_exactly, any_entries, Below, drift_below, drift_some, drift_whole, each_register, every_state, few_agreeing, few_all_states}
-use Rattle.track9.proofs.PartLemmas.{few_changed_part, few_counted, few_no_states, few_pairs, few_put, few_said, few_settled, few_two, FewIn, in_none}
-use Rattle.track9.proofs.PartLemmas.{in_pairs, mechanics, not_live, pairs_registers, put, put_in, read_put, settled_exactly, take_out, two_live, two_state, whole_all}
-use Rattle.track9.proofs.PartLemmas.{whole_drift, whole_in, whole_none, whole_pairs, whole_put, whole_settled, whole_two}
+use Rattle.track9.proofs.PartLemmas.{few_changed_part, few_counted, few_no_states, few_pairs, few_put, few_said, few_settled, few_two, FewIn, in_none, in_pairs, mechanics}
+use Rattle.track9.proofs.PartLemmas.{not_live, pairs_registers, put, put_in, read_put, settled_exactly, take_out, two_live, two_state, whole_all, whole_drift, whole_in}
+use Rattle.track9.proofs.PartLemmas.{whole_none, whole_pairs, whole_put, whole_settled, whole_two}
 
 -- ---- part by part
 

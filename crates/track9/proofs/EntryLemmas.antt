@@ -1,113 +1,19 @@
 -- Single things that a tracker keeps: sets of modes, one bit at a time; a drift of pairs of goal and shown mode; and what becomes of a set of entries, one entry at a time.
-use Rattle.track9.proofs.Words.{[], agreeing, Allows, and-false, and-true, and_mask, and_parts, and_pow, ap, arith, At, Becomes, BelowDay, bit_and, bit_at, bit_at-lt}
-use Rattle.track9.proofs.Words.{bit_at-pow_other, bit_at-pow_same, bit_at-zero, bit_at_and, bit_at_or, bit_in, bit_of, bit_or, Bool, both_ways, by_goal, cases_Bool, cases_eq}
-use Rattle.track9.proofs.Words.{Change, changed_entries, Clear, cond_both, contains-every_time, contains-insert_nat, contains-items_nat, contains-just, Cued, day}
-use Rattle.track9.proofs.Words.{drifted_with, Eject, Entries, Entry, eq-eqb, eqb, eqb-true, every_time, false, false_from_ne_true, false≢true, FastForward, goal_if_shown}
-use Rattle.track9.proofs.Words.{goals_of, goes, halted, has, has_pair, if◌then◌else◌, image_from, image_to, index-mode_of, index_of, inl, inr, is_mode, is_mode-same, is_nil}
-use Rattle.track9.proofs.Words.{is_one_of, is_set, is_some, Jog, just, kept_goal, List, list_any, ltb-true, mod-lt, Mode, mode_of, modes, ModeSet, moved_entry, nat_cmp}
-use Rattle.track9.proofs.Words.{nat_cmp_total, nat_eq, nat_tests, Next, next_frame, no_entries, None, not, not-true, of_modes, on_the_way, Option, or-false, or-true, or_assoc}
-use Rattle.track9.proofs.Words.{or_cases, or_left, or_right, PairReaches, Play, pow_pos, Prev, prev_frame, ReadsAs-from_time_of, Rec, Recall, refl, Reset, Rewind, said}
-use Rattle.track9.proofs.Words.{same_from_bits_below, same_mode, same_test, same_times, Says, SetAt, SetSomewhere, shown_with, Shuttle, Some, some_entry, some_pair, Stop, subst}
-use Rattle.track9.proofs.Words.{sym, Tells, time_of, time_of-from_ReadsAs, Times, true, true_from_ne_false, Var, ℕ, ◌&&◌, ◌*◌, ◌<◌, ◌==◌, ◌^◌, ◌||◌, ◌↔◌, ◌∙◌, ◌∷◌, ◌≡◌, ◌⊎◌}
+use Rattle.track9.proofs.Words.{[], agreeing, all_modes, Allows, and-false, and-true, and_parts, any_mode, ap, arith, At, Becomes, BelowDay, bit_and, bit_in, bit_of, Bool}
+use Rattle.track9.proofs.Words.{both_ways, by_goal, Change, changed_entries, Clear, cond_both, contains-every_time, contains-insert_nat, contains-items_nat, contains-just, day}
+use Rattle.track9.proofs.Words.{drifted_with, Entries, Entry, eqb, eqb-true, every_time, false, false_from_ne_true, false≢true, find_mode, goal_if_shown, goals_of, goes, halted}
+use Rattle.track9.proofs.Words.{has, has-or, has_pair, if◌then◌else◌, image_from, image_to, inl, inr, is_mode, is_mode-same, is_nil, is_one_of, is_set, is_some, just, just_has}
+use Rattle.track9.proofs.Words.{kept_goal, List, list_any, ltb-true, Mode, mode_self, mode_some, modes, ModeSet, moved_entry, nat_cmp, nat_cmp_total, nat_eq, nat_tests, Next}
+use Rattle.track9.proofs.Words.{next_frame, no_entries, None, not, not-true, nothing_has, of_modes_has, on_the_way, Option, or-false, or-true, or_assoc, or_cases, or_left}
+use Rattle.track9.proofs.Words.{or_right, PairReaches, Prev, prev_frame, ReadsAs-from_time_of, Recall, refl, Reset, said, same_test, same_times, Says, SetAt, SetSomewhere}
+use Rattle.track9.proofs.Words.{shown_with, Some, some_entry, some_mode, some_pair, Stop, subst, sym, Tells, time_of, time_of-from_ReadsAs, Times, true, true_from_ne_false, ℕ}
+use Rattle.track9.proofs.Words.{◌&&◌, ◌<◌, ◌==◌, ◌||◌, ◌↔◌, ◌∙◌, ◌∷◌, ◌≡◌, ◌⊎◌}
 use Rattle.std.specs.FinSet as set
-
-scaled : (b k : ℕ) → b < 2 → (b * 2 ^ k == 2 ^ k) ≡ (b == 1)
-scaled b k h = grind (arith, nat_tests, pow_pos k)
-
--- a set has a mode where its bit is 1
-pub has-bit : (set : ℕ) (m : Mode) → has set m ≡ (bit_at set (index_of m) == 1)
-has-bit set m = ap (λ x. x == bit_of m) (and_pow set (index_of m)) ∙ scaled (bit_at set (index_of m)) (index_of m) (bit_at-lt set (index_of m))
-
-pub has-or : (a b : ℕ) (m : Mode) → has (bit_or a b) m ≡ (has a m || has b m)
-has-or a b m = let k = index_of m in rw (has-bit (bit_or a b) m, has-bit a m, has-bit b m, bit_at_or a b k) (grind (arith, nat_tests, bit_at-lt a k, bit_at-lt b k))
-
-pub has-and : (a b : ℕ) (m : Mode) → has (bit_and a b) m ≡ (has a m && has b m)
-has-and a b m = let k = index_of m in rw (has-bit (bit_and a b) m, has-bit a m, has-bit b m, bit_at_and a b k) (grind (arith, nat_tests, bit_at-lt a k, bit_at-lt b k))
-
--- every mode
-abbrev pub all_modes : List Mode
-all_modes = Stop ∷ Play ∷ Rec ∷ FastForward ∷ Rewind ∷ Shuttle ∷ Jog ∷ Var ∷ Cued ∷ Eject ∷ []
 
 -- what is asked of every mode is asked of this one
 pub has_every : (asked : Mode → Bool) (m : Mode) → list_any (λ x. is_mode m x && asked x) all_modes ≡ asked m
 has_every asked Stop = or-false (asked Stop)
 has_every asked m = or-false (asked m)
-
--- ---- one mode
-
--- the bit of a mode is its own
-pub just_mode : (g m : Mode) → has (bit_of g) m ≡ true → m ≡ g
-just_mode g m h = elim (cases_eq (index_of m) (index_of g)) [
-  | inl same ↦ same_mode m g same
-  | inr other ↦ absurd (false≢true (sym (has-bit (bit_of g) m ∙ ap (λ b. b == 1) (bit_at-pow_other (index_of g) (index_of m) other)) ∙ h))
-]
-
-pub mode_just : (m : Mode) → has (bit_of m) m ≡ true
-mode_just m = has-bit (bit_of m) m ∙ ap (λ b. b == 1) (bit_at-pow_same (index_of m))
-
-pub mode_self : (m : Mode) → is_mode m m ≡ true
-mode_self m = eq-eqb (index_of m) (index_of m) refl
-
-pub just_has : (m n : Mode) → has (bit_of m) n ≡ is_mode n m
-just_has m n = same_test (has (bit_of m) n) (is_mode n m)
-    (λ h. subst (λ k. is_mode k m ≡ true) (sym (just_mode m n h)) (mode_self m))
-    (λ h. subst (λ k. has (bit_of m) k ≡ true) (sym (is_mode-same n m h)) (mode_just m))
-
-pub all_has : (m : Mode) → has 1023 m ≡ true
-all_has Stop = refl
-all_has _ = refl
-
-pub nothing_has : (m : Mode) → has 0 m ≡ false
-nothing_has m = has-bit 0 m ∙ ap (λ b. b == 1) (bit_at-zero (index_of m))
-
--- a set of modes, one at a time
-pub of_modes_has : (ms : List Mode) (m : Mode) → has (of_modes ms).0 m ≡ is_one_of ms m
-of_modes_has [] m = nothing_has m
-of_modes_has (x ∷ ms) m = has-or (bit_of x) (of_modes ms).0 m ∙ ap (λ b. b || has (of_modes ms).0 m) (just_has x m) ∙ ap (λ b. is_mode m x || b) (of_modes_has ms m)
-
--- ---- some mode
-
-find_mode : (f : Mode → Bool) (ms : List Mode) → list_any f ms ≡ true → (m : Mode) × (f m ≡ true)
-find_mode f [] h = absurd (false≢true h)
-find_mode f (m ∷ ms) h = elim (or_cases (f m) (list_any f ms) h) [ inl here ↦ (m, here) | inr rest ↦ find_mode f ms rest ]
-
-any_mode : (f : Mode → Bool) (m : Mode) → f m ≡ true → list_any f all_modes ≡ true
-any_mode f Stop h = simp h
-any_mode f _ h = simp (h, or-true)
-
-pub some_or_none : (f : Mode → Bool) → ((m : Mode) × (f m ≡ true)) ⊎ ((m : Mode) → f m ≡ false)
-some_or_none f = elim (cases_Bool (list_any f all_modes)) [
-  | inl some ↦ inl (find_mode f all_modes some)
-  | inr none ↦ inr (λ m. false_from_ne_true (f m) (λ h. both_ways (list_any f all_modes) none (any_mode f m h)))
-]
-
-pub ten_bits : (n : ℕ) → bit_and n 1023 < 1024
-ten_bits n = rw (and_mask n 10) (mod-lt n (pow_pos 10))
-
--- the ten bits alone
-pub has_ten : (s : ℕ) (n : Mode) → has (bit_and s 0x3FF) n ≡ has s n
-has_ten s n = has-and s 0x3FF n ∙ ap (λ b. has s n && b) (all_has n) ∙ and-true (has s n)
-
-same_bit : (a b : ℕ) → a < 2 → b < 2 → (a == 1) ≡ (b == 1) → a ≡ b
-same_bit a b p q h = grind (arith, nat_tests)
-
--- ten bits are told apart by their modes
-pub same_modes : (a b : ℕ) → a < 1024 → b < 1024 → ((m : Mode) → has a m ≡ has b m) → a ≡ b
-same_modes a b p q same = same_from_bits_below 10 a b p q (λ i h. same_bit (bit_at a i) (bit_at b i) (bit_at-lt a i) (bit_at-lt b i)
-    (subst (λ k. (bit_at a k == 1) ≡ (bit_at b k == 1)) (index-mode_of i h) (sym (has-bit a (mode_of i)) ∙ same (mode_of i) ∙ has-bit b (mode_of i))))
-
-pub some_mode : (s : ModeSet) → is_some s ≡ true → (m : Mode) × (has s.0 m ≡ true)
-some_mode s h = elim (some_or_none (has s.0)) [
-  | inl w ↦ w
-  | inr none ↦ let no : bit_and s.0 1023 ≡ 0 = same_modes (bit_and s.0 1023) 0 (ten_bits s.0) (pow_pos 10) (λ m. has_ten s.0 m ∙ none m ∙ sym (nothing_has m)) in
-      absurd (false≢true (ap (λ n. not (n == 0)) (sym no) ∙ h))
-]
-
-pub mode_some : (s : ModeSet) (m : Mode) → has s.0 m ≡ true → is_some s ≡ true
-mode_some s m h = elim (cases_eq (bit_and s.0 1023) 0) [
-  | inl none ↦ absurd (false≢true (sym (nothing_has m) ∙ ap (λ n. has n m) (sym none) ∙ has-and s.0 1023 m ∙ rw (h, all_has m) refl))
-  | inr some ↦ grind (arith, nat_tests)
-]
 
 -- ---- pairs
 

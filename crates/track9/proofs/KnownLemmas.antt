@@ -1,50 +1,18 @@
 -- What is known of modes, of facts and of a register; and what a tracker keeps, remains and counts.
-use Rattle.track9.proofs.Words.{Allows, and_from, and_parts, ap, AreFew, AreTimes, AreWhole, arith, At, begin_count-empty, bit_and, bit_of, Block, Bool, both_ways, Clear}
-use Rattle.track9.proofs.Words.{Command, cond_both, contains-just, contains-remove_nat, count_of, Cued, either, Eject, Entries, entries_of, Entry, entry_of, eqb, eqb-true, false}
-use Rattle.track9.proofs.Words.{false_from_ne_true, false≢true, FastForward, Follows, goals_in, goals_of, goes, Hands, has, has_pair, if◌then◌else◌, in_local, inl, InPart}
-use Rattle.track9.proofs.Words.{inr, is_live, is_mode, is_mode-same, is_nak, is_nil, is_panel_live, is_set, is_some, IsKept, IsKnown, IsKnownEntry, IsSpanCount, IsTrue, Jog}
-use Rattle.track9.proofs.Words.{join_options, joined, joined_known, just, Known, known_fact, KnownEntry, KnowsModes, KnowsOf, List, max, max-zero, Mode, ModeSet}
-use Rattle.track9.proofs.Words.{nat_cmp, nat_tests, no_states, None, not, on_two, Option, part_of, PartKnows, PartStates, Play, Possible, Presets, presets_after, Rec}
-use Rattle.track9.proofs.Words.{refl, RegIn, Register, Rewind, same_test, same_times, shown_in, shown_with, Shuttle, Some, some_entry, some_state, some_two, span_count}
-use Rattle.track9.proofs.Words.{span_count-begin_count, State, StateSet, Stop, subst, sym, Times, true, true_from_ne_false, two_of, TwoKnow, TwoParts, TwoWhole, Var, Whole}
-use Rattle.track9.proofs.Words.{with_command, with_entry, ℕ, ◌&&◌, ◌+◌, ◌<◌, ◌==◌, ◌||◌, ◌↔◌, ◌∙◌, ◌≡◌, ◌≢◌, ◌≤◌, ◌⊎◌}
-use Rattle.track9.specs.declared.knowledge.Known.TheVariants as known
+use Rattle.track9.proofs.Words.{Allows, and_parts, ap, AreFew, AreTimes, AreWhole, arith, At, begin_count-empty, Block, Bool, Clear, Command, cond_both, contains-just}
+use Rattle.track9.proofs.Words.{contains-remove_nat, count_of, either, Entries, entries_of, Entry, entry_of, eqb, eqb-true, false, false_from_ne_true, false≢true, Follows}
+use Rattle.track9.proofs.Words.{goals_in, goals_of, goes, Hands, has, has-or, has_pair, if◌then◌else◌, in_local, inl, InPart, inr, is_live, is_nak, is_nil, is_panel_live, is_set}
+use Rattle.track9.proofs.Words.{is_some, IsKept, IsKnown, IsKnownEntry, IsSpanCount, IsTrue, join_options, joined, joined_known, just, Known, known_fact, KnownEntry, KnowsModes}
+use Rattle.track9.proofs.Words.{KnowsOf, List, max, max-zero, Mode, mode_some, ModeSet, nat_cmp, nat_tests, no_states, None, not, on_two, Option, part_of, PartKnows, PartStates}
+use Rattle.track9.proofs.Words.{Possible, Presets, presets_after, refl, RegIn, Register, same_test, same_times, shown_in, shown_with, Some, some_entry, some_mode, some_state}
+use Rattle.track9.proofs.Words.{some_two, span_count, span_count-begin_count, State, StateSet, subst, sym, Times, true, true_from_ne_false, two_of, TwoKnow, TwoParts, TwoWhole}
+use Rattle.track9.proofs.Words.{Whole, with_command, with_entry, ℕ, ◌&&◌, ◌+◌, ◌==◌, ◌||◌, ◌↔◌, ◌∙◌, ◌≡◌, ◌≢◌, ◌≤◌, ◌⊎◌}
+use Rattle.deck9.specs.declared.knowledge.Known.TheVariants as known
 use Rattle.std.specs.FinSet as set
-use Rattle.track9.specs.declared.knowledge.KnownEntry.TheVariants as entry
-use Rattle.track9.proofs.EntryLemmas.{allowed_some, from_empty, goals_has, goes_from, goes_to, has-or, has_ten, just_has, just_is, mode_self, mode_some, nil_empty, no_times}
-use Rattle.track9.proofs.EntryLemmas.{nothing_allowed, same_modes, some_allowed, some_mode, some_or_none, ten_bits, there_time}
+use Rattle.deck9.specs.declared.knowledge.KnownEntry.TheVariants as entry
+use Rattle.track9.proofs.EntryLemmas.{allowed_some, from_empty, goals_has, goes_from, goes_to, just_is, nil_empty, no_times, nothing_allowed, some_allowed, there_time}
 use Rattle.track9.proofs.PanelLemmas.{panel_off}
 use Rattle.track9.proofs.PartLemmas.{a_state, any_way, impossible, in_pairs, live_some, part_whole, possible, put, put_in, put_same, some_live, some_way, state_live}
-
--- ---- one mode alone
-
-bit_of-lt : (m : Mode) → bit_of m < 1024
-bit_of-lt Stop = omega arith
-bit_of-lt _ = omega arith
-
--- a set that has a mode and no other is that one bit
-alone : (s : ModeSet) (m : Mode) → has s.0 m ≡ true → ((n : Mode) → (has s.0 n && not (is_mode n m)) ≡ false) → bit_and s.0 0x3FF ≡ bit_of m
-alone s m there others = same_modes (bit_and s.0 0x3FF) (bit_of m) (ten_bits s.0) (bit_of-lt m) (λ n. has_ten s.0 n ∙ same n ∙ sym (just_has m n))
-  where
-    same : (n : Mode) → has s.0 n ≡ is_mode n m
-    same n = same_test (has s.0 n) (is_mode n m) (λ h. true_from_ne_false _ (λ e. both_ways _ (others n) (and_from _ _ h (ap not e))))
-        (λ e. subst (λ k. has s.0 k ≡ true) (sym (is_mode-same n m e)) there)
-
--- a set with nine modes missing has the tenth
-pub last_mode : (s : ModeSet) (m : Mode) → has s.0 m ≡ true → has s.0 Stop ≡ false → has s.0 Play ≡ false → has s.0 Rec ≡ false → has s.0 FastForward ≡ false → has s.0 Rewind ≡ false
-    → has s.0 Shuttle ≡ false → has s.0 Jog ≡ false → has s.0 Var ≡ false → has s.0 Cued ≡ false → has s.0 Eject ≡ true
-last_mode s Eject t a b c d e f g h i = t
-last_mode s _ t a b c d e f g h i = cc
-
-pub two_modes : (s : ModeSet) (m : Mode) → has s.0 m ≡ true → (bit_and s.0 0x3FF ≡ bit_of m → ⊥) → (m n : Mode) × (has s.0 m ≡ true) × (has s.0 n ≡ true) × (m ≢ n)
-two_modes s m there not_one =
-    elim (some_or_none (λ n. has s.0 n && not (is_mode n m))) [
-      | inl w ↦ let both = and_parts (has s.0 w.0) (not (is_mode w.0 m)) w.1 in (m, w.0, there, both.0, other w.0 both.1)
-      | inr none ↦ absurd (not_one (alone s m there none))
-    ]
-  where
-    other : (n : Mode) → not (is_mode n m) ≡ true → m ≢ n
-    other n h e = false≢true (sym (ap not (subst (λ k. is_mode k m ≡ true) e (mode_self m))) ∙ h)
 
 -- ---- all goals, all shown modes
 

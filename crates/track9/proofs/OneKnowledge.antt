@@ -1,8 +1,8 @@
 -- At most one thing is known of states, of which there is one.
 use Rattle.track9.proofs.Words.{ap, Bool, Ends, Exchange, Hands, HasRun, IsKnowledge, IsKnown, IsKnownEntry, Knowledge, Known, KnownEntry, List, Mode, refl, RegAudioIn}
 use Rattle.track9.proofs.Words.{RegAudioOut, RegIn, Register, RegOut, some_end, State, sym, ◌∙◌, ◌≡◌}
-use Rattle.track9.specs.declared.knowledge.Known.TheVariants as known
-use Rattle.track9.specs.declared.knowledge.KnownEntry.TheVariants as entry
+use Rattle.deck9.specs.declared.knowledge.Known.TheVariants as known
+use Rattle.deck9.specs.declared.knowledge.KnownEntry.TheVariants as entry
 
 known_once : {A : Type 0} (X : State → Type 0) (field : State → A) (a b : Known A) → ((s : State) × X s) → IsKnown X field a → IsKnown X field b → a ≡ b
 known_once X field (known.Is v) (known.Is w) some h k = ap known.Is (sym (h some.0 some.1) ∙ k some.0 some.1)

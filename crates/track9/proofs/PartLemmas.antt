@@ -1,18 +1,18 @@
 -- The states of a part: registers put in place, parts with and without states, what each factor keeps, how often times begin; and the states with one value of the panel, and all.
-use Rattle.track9.proofs.Words.{agreeing, all_entries, all_or_none, all_pairs, all_states, Allows, and_parts, ap, AreBelow, AreFew, AreReached, AreWhole, arith, At, begin_count}
-use Rattle.track9.proofs.Words.{begin_count-empty, begin_count-every_time, begin_count-insert, begin_count-just, begin_count-next, begin_count-prev, begin_count-span_count}
-use Rattle.track9.proofs.Words.{begin_count-widened_next, begin_count-widened_prev, BelowDay, Bool, Change, changed_entries, changed_part, Clear, cond_both, count_of, counted}
-use Rattle.track9.proofs.Words.{Drift, drift_from_pairs, drifted, drifted_part, drifted_with, Effect, Entries, entries_of, Entry, entry_of, false, false≢true, first_states, goes}
-use Rattle.track9.proofs.Words.{Hands, has_pair, if◌then◌else◌, in_local, inl, InPart, inr, InTwo, is_live, IsEntry, IsFirst, IsIn, IsState, just, KeepsRest, List, Mode, modes}
-use Rattle.track9.proofs.Words.{ModeSet, Next, no_states, None, on_two, one_more, Option, or_cases, or_left, or_right, PairReaches, pairs_from_drift, part_of, PartStates}
-use Rattle.track9.proofs.Words.{Possible, Presets, Prev, refl, RegAudioIn, RegAudioOut, RegIn, Register, RegOut, Reset, said, same_entries, same_test, SetAt, settled, Some}
-use Rattle.track9.proofs.Words.{some_entry, some_pair, some_state, some_two, span_count-in_day, State, StateSet, Stop, subst, sym, Times, true, two_drifted, two_of, TwoBelow}
-use Rattle.track9.proofs.Words.{TwoFew, TwoParts, TwoWhole, Whole, with_entries, with_entry, with_one, with_pairs, ℕ, ◌&&◌, ◌+◌, ◌||◌, ◌↔◌, ◌∙◌, ◌≡◌, ◌≤◌}
+use Rattle.track9.proofs.Words.{agreeing, all_entries, all_has, all_or_none, all_pairs, all_states, Allows, and_parts, ap, AreBelow, AreFew, AreReached, AreWhole, arith, At}
+use Rattle.track9.proofs.Words.{begin_count, begin_count-empty, begin_count-every_time, begin_count-insert, begin_count-just, begin_count-next, begin_count-prev}
+use Rattle.track9.proofs.Words.{begin_count-span_count, begin_count-widened_next, begin_count-widened_prev, BelowDay, Bool, Change, changed_entries, changed_part, Clear}
+use Rattle.track9.proofs.Words.{cond_both, count_of, counted, Drift, drift_from_pairs, drifted, drifted_part, drifted_with, Effect, Entries, entries_of, Entry, entry_of, false}
+use Rattle.track9.proofs.Words.{false≢true, first_states, goes, Hands, has_pair, if◌then◌else◌, in_local, inl, InPart, inr, InTwo, is_live, IsEntry, IsFirst, IsIn, IsState, just}
+use Rattle.track9.proofs.Words.{KeepsRest, List, Mode, modes, ModeSet, Next, no_states, None, nothing_has, on_two, one_more, Option, or_cases, or_left, or_right, PairReaches}
+use Rattle.track9.proofs.Words.{pairs_from_drift, part_of, PartStates, Possible, Presets, Prev, refl, RegAudioIn, RegAudioOut, RegIn, Register, RegOut, Reset, said, same_entries}
+use Rattle.track9.proofs.Words.{same_test, SetAt, settled, Some, some_entry, some_mode, some_pair, some_state, some_two, span_count-in_day, State, StateSet, Stop, subst, sym}
+use Rattle.track9.proofs.Words.{Times, true, two_drifted, two_of, TwoBelow, TwoFew, TwoParts, TwoWhole, Whole, with_entries, with_entry, with_one, with_pairs, ℕ, ◌&&◌, ◌+◌, ◌||◌}
+use Rattle.track9.proofs.Words.{◌↔◌, ◌∙◌, ◌≡◌, ◌≤◌}
 use Rattle.std.specs.FinSet as set
 use Rattle.deck9.specs.declared.effect.Effect.TheVariants as effect
 use Rattle.deck9.specs.declared.state.Hands.TheVariants as hands
-use Rattle.track9.proofs.EntryLemmas.{all_has, allowed_some, day_in, drifted_from, drifted_to, goes_from, in_day, no_entry, nothing_has, pair_by_goal, pairs_some, some_allowed}
-use Rattle.track9.proofs.EntryLemmas.{some_mode}
+use Rattle.track9.proofs.EntryLemmas.{allowed_some, day_in, drifted_from, drifted_to, goes_from, in_day, no_entry, pair_by_goal, pairs_some, some_allowed}
 
 -- ---- registers
 

@@ -1,7 +1,7 @@
 -- Data presets that were counted, and the spans of a register's times that they allow.
 use Rattle.std.specs.Prelude.{ℕ, ◌≡◌, ◌≤◌, ◌+◌, ◌↔◌, ◌&&◌, min, if◌then◌else◌, Bool, true, not}
 use Rattle.std.specs.FinSet as set
-use Rattle.tc25.specs.Times.{Times, span_count}
+use Rattle.sets25.specs.Times.{Times, span_count}
 use Rattle.block9.specs.declared.block.Block.{Block}
 use Rattle.block9.specs.declared.command.Command.{Command}
 use Rattle.block9.specs.declared.command.Command.TheVariants as command

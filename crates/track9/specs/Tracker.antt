@@ -2,9 +2,9 @@
 -- keeps. The states themselves are never listed.
 use Rattle.std.specs.Prelude.{◌≡◌, Bool, true, false, if◌then◌else◌, Option, Some, None, slice_index_or, List}
 use Rattle.std.specs.FinSet as set
-use Rattle.tc25.specs.Times.{Times}
+use Rattle.sets25.specs.Times.{Times}
 use Rattle.deck9.specs.declared.mode.Mode.{Mode}
-use Rattle.track9.specs.declared.mode_set.ModeSet.{ModeSet}
+use Rattle.deck9.specs.declared.mode_set.ModeSet.{ModeSet}
 use Rattle.track9.specs.Presets.{Presets}
 use Rattle.deck9.specs.declared.state.Entry.{Entry}
 use Rattle.deck9.specs.declared.state.Entry.TheVariants.{Clear, At}
@@ -13,7 +13,7 @@ use Rattle.deck9.specs.declared.state.Register.{Register}
 use Rattle.deck9.specs.declared.state.Register.TheVariants.{RegIn, RegOut, RegAudioIn, RegAudioOut}
 use Rattle.deck9.specs.declared.state.State.{State}
 use Rattle.deck9.specs.Mode.{index_of}
-use Rattle.track9.specs.ModeSet.{has}
+use Rattle.deck9.specs.ModeSet.{has}
 use Rattle.deck9.specs.State.{entry_of}
 
 -- the entries that a register may have: whether it may be Clear, and the times at which it may be Set

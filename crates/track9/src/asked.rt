@@ -2,8 +2,7 @@
 ghost use Rattle.std.specs.Prelude.{◌≡◌, ◌↔◌, IsTrue};
 ghost use Rattle.track9.specs.Working.Asked.{Is, any_registers, any_tape, asked_before, entry_before, just_state, with_asked};
 
-use crate::mode_set::ModeSet;
-use deck9::{Change, Effect, Entry, Hands, Mode, Register, State};
+use deck9::{Change, Effect, Entry, Hands, Mode, ModeSet, Register, State};
 
 /// The states with one of these goals, one of these modes shown, and in each other field the value that is asked for, or
 /// any where none is.

@@ -6,17 +6,17 @@
 //! drift of the mechanics changes the pairs alone, so it may come after what becomes of the registers. What is let go of is
 //! handed to `drop`, as in `states.rt`.
 ghost use Rattle.std.specs.Prelude.{◌≡◌, IfOk, OnErr, OnOk, false, max};
-ghost use Rattle.tc25.specs.Times.{BelowDay, span_count};
+ghost use Rattle.sets25.specs.Times.{BelowDay, span_count};
 ghost use Rattle.track9.specs.Tracker.{entries_of, in_local};
 ghost use Rattle.track9.specs.Working.States.{TwoBelow, all_forgotten, all_or_none, registers_forgotten, some_two, tape_forgotten, two_changed, two_drifted, two_gone, two_sensed, two_status};
 
-use crate::mode_set::ModeSet;
 use crate::part::Part;
-use deck9::{Change, Mode, Register};
+use deck9::{Change, Mode, ModeSet, Register};
+use sets25::{SpanSet, TimeSet};
 use std::alloc::{AllocError, Global};
 use std::marker::Model;
 use std::mem::replace;
-use tc25::{SpanSet, TimeCode, TimeSet};
+use tc25::TimeCode;
 
 mod step;
 

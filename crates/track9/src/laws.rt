@@ -1,11 +1,10 @@
 //! The law of what is known, the contract of a function that does nothing.
 ghost use Rattle.std.specs.Prelude.{◌≡◌, List};
 ghost use Rattle.block9.specs.declared.pairer.Exchange.{Exchange};
-ghost use Rattle.track9.specs.Knowledge.{IsKnowledge};
+ghost use Rattle.deck9.specs.Knowledge.{IsKnowledge};
 ghost use Rattle.deck9.specs.Run.{Ends, HasRun};
 
-use crate::knowledge::Knowledge;
-use deck9::Hands;
+use deck9::{Hands, Knowledge};
 
 /// Where there is a run, at most one thing is known of the states that runs end in.
 pub fn one_knowledge()

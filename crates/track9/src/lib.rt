@@ -6,9 +6,7 @@
 
 mod asked;
 mod halves;
-mod knowledge;
 pub mod laws;
-mod mode_set;
 mod pairs;
 mod part;
 mod presets;
@@ -18,6 +16,4 @@ mod states;
 mod status;
 mod tracker;
 
-pub use knowledge::{Knowledge, Known, KnownEntry};
-pub use mode_set::ModeSet;
 pub use tracker::Tracker;

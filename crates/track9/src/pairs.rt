@@ -1,14 +1,14 @@
 //! Sets of pairs of a goal and a shown mode.
 ghost use Rattle.std.specs.Prelude.{◌≡◌, IfNone, IfSome, true};
 ghost use Rattle.deck9.specs.Drift.{PairReaches};
-ghost use Rattle.track9.specs.ModeSet.{has};
+ghost use Rattle.deck9.specs.ModeSet.{has};
 ghost use Rattle.track9.specs.Tracker.{has_pair, shown_with};
 ghost use Rattle.track9.specs.Working.Asked.{IsPairOf, PairRunsTo};
-ghost use Rattle.track9.specs.Working.Pairs.{all_pairs, drifted, drifted_with, goes, gone, gone_with, goal_if_shown, goals_of, is_some, joined, masked, no_pairs, some_pair};
+ghost use Rattle.deck9.specs.ModeCalls.{is_some};
+ghost use Rattle.track9.specs.Working.Pairs.{all_pairs, drifted, drifted_with, goes, gone, gone_with, goal_if_shown, goals_of, joined, masked, no_pairs, some_pair};
 ghost use Rattle.deck9.specs.declared.mode.Mode.{Mode as AMode};
 
-use crate::mode_set::ModeSet;
-use deck9::Mode;
+use deck9::{Mode, ModeSet};
 
 /// The modes that may be shown with each goal, in the order of the modes.
 #[derive(Clone, Copy, Debug, PartialEq, Eq)]

@@ -1,21 +1,20 @@
 //! The states with one value of local and one of panel.
 ghost use Rattle.std.specs.Prelude.{◌≡◌, IfOk, OnErr, OnOk, false, true};
-ghost use Rattle.tc25.specs.Times.{BelowDay, span_count};
+ghost use Rattle.sets25.specs.Times.{BelowDay, span_count};
 ghost use Rattle.track9.specs.Tracker.{entries_of};
 ghost use Rattle.track9.specs.Working.Entries.{agreeing};
 ghost use Rattle.track9.specs.Working.Knowing.{PartKnows};
 ghost use Rattle.track9.specs.Working.Parts.{Whole, all_states, aside, bit_in, changed_entries, changed_part, drifted_part, forgotten_part, gone_part, is_live, no_states, put_aside, put_settled, said_part, settled, shown_part, status_part, where_live, with_entries, with_pairs};
 ghost use Rattle.deck9.specs.declared.state.Register.{Register as ARegister};
 
-use crate::knowledge::KnownEntry;
-use crate::mode_set::ModeSet;
 use crate::pairs::Pairs;
 use crate::register_set::RegisterSet;
-use deck9::{Change, Mode, Register};
+use deck9::{Change, KnownEntry, Mode, ModeSet, Register};
+use sets25::{SpanSet, TimeSet};
 use std::alloc::{AllocError, Global};
 use std::marker::Model;
 use std::mem::replace;
-use tc25::{SpanSet, TimeCode, TimeSet};
+use tc25::TimeCode;
 
 /// The states with one value of local and one of panel: each pair of modes with any of the entries of each
 /// register. Either every factor has something in it, or none has.

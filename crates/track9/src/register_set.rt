@@ -1,17 +1,17 @@
 //! Sets of entries of one register.
 ghost use Rattle.std.specs.Prelude.{◌≡◌, ◌↔◌, IfNone, IfOk, IfSome, IsTrue, OnErr, OnOk, true};
-ghost use Rattle.tc25.specs.Times.{BelowDay, span_count};
+ghost use Rattle.sets25.specs.Times.{BelowDay, span_count};
 ghost use Rattle.track9.specs.Tracker.{Allows};
 ghost use Rattle.track9.specs.Working.Asked.{Is};
 ghost use Rattle.track9.specs.Working.Knowing.{KnowsOf};
 ghost use Rattle.track9.specs.Working.Entries.{agreeing, all_entries, changed, no_entries, said, some_entry, widened};
 ghost use Rattle.deck9.specs.declared.state.Entry.{Entry as AEntry};
 
-use crate::knowledge::KnownEntry;
-use deck9::{Change, Entry};
+use deck9::{Change, Entry, KnownEntry};
+use sets25::{SpanSet, TimeSet};
 use std::alloc::{AllocError, Global};
 use std::marker::Model;
-use tc25::{SpanSet, TimeCode, TimeSet};
+use tc25::TimeCode;
 
 /// The entries that a register may have.
 #[derive(Drop)]
@@ -28,7 +28,7 @@ impl<S: TimeSet> Model for RegisterSet<S> {
 
     ghost coded = { entries_code };
 
-    ghost use Rattle.tc25.specs.Times.{BelowDay};
+    ghost use Rattle.sets25.specs.Times.{BelowDay};
 
     ghost view = { λ r. record { may_clear = r.may_clear; times = S.members r.times } };
 

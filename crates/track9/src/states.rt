@@ -7,7 +7,7 @@
 //! What was made aside is handed to `drop` where memory is refused, and so is what it takes the place of. Their end in place,
 //! by `?` or by an assignment, would cost the proof of a function most of its time.
 ghost use Rattle.std.specs.Prelude.{◌≡◌, IfOk, IsOk, IsTrue, OnErr, OnOk, false, if◌then◌else◌, max, true};
-ghost use Rattle.tc25.specs.Times.{span_count};
+ghost use Rattle.sets25.specs.Times.{span_count};
 ghost use Rattle.deck9.specs.Effect.{effect_of};
 ghost use Rattle.track9.specs.Frugal.{is_frugal, is_frugal_effect};
 ghost use Rattle.track9.specs.Tracker.{entries_of};
@@ -17,10 +17,10 @@ use crate::halves::Halves;
 use crate::reply::is_nak;
 use block9::{Block, Command};
 use deck9::{Effect, Hands, Register};
+use sets25::{SpanSet, TimeSet};
 use std::alloc::{AllocError, Global};
 use std::marker::Model;
 use std::mem::replace;
-use tc25::{SpanSet, TimeSet};
 
 mod before;
 mod knowing;

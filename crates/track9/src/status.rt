@@ -3,10 +3,9 @@ ghost use Rattle.std.specs.Prelude.{◌≡◌, ◌&&◌};
 ghost use Rattle.deck9.specs.Mode.{is_mode};
 ghost use Rattle.deck9.specs.Shows.{may_show};
 ghost use Rattle.deck9.specs.declared.mode.Mode.{Mode as AMode};
-ghost use Rattle.track9.specs.ModeSet.{has};
+ghost use Rattle.deck9.specs.ModeSet.{has};
 
-use crate::mode_set::ModeSet;
-use deck9::Mode;
+use deck9::{Mode, ModeSet};
 
 /// The modes that may be shown where status data 1 and 2 are these.
 pub(crate) fn modes_shown(datum1: Option<u8>, datum2: Option<u8>) -> ModeSet

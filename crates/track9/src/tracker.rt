@@ -1,8 +1,8 @@
 //! The states that the deck could be in, exchange by exchange.
-ghost use Rattle.std.specs.Prelude.{◌≡◌, ◌↔◌, ◌≤◌, ◌+◌, IfErr, IfNone, IfOk, IfSome, IsOk, IsTrue, OnErr, OnOk, false, true};
+ghost use Rattle.std.specs.Prelude.{◌≡◌, ◌↔◌, ◌<◌, ◌≤◌, ◌+◌, ◌^◌, IfErr, IfNone, IfOk, IfSome, IsOk, IsTrue, OnErr, OnOk, false, true};
 ghost use Rattle.track9.specs.Frugal.{is_frugal, is_frugal_effect};
-ghost use Rattle.track9.specs.Knowledge.{IsKnowledge};
-ghost use Rattle.track9.specs.ModeSet.{has};
+ghost use Rattle.deck9.specs.Knowledge.{IsKnowledge};
+ghost use Rattle.deck9.specs.ModeSet.{has};
 ghost use Rattle.track9.specs.Presets.{IsSpanCount, count_of, presets_after, with_command};
 ghost use Rattle.deck9.specs.Contradict.{Passes};
 ghost use Rattle.deck9.specs.Effect.{effect_of};
@@ -13,15 +13,13 @@ ghost use Rattle.deck9.specs.declared.mode.Mode.{Mode as AMode};
 ghost use Rattle.deck9.specs.declared.state.Register.{Register as ARegister};
 ghost use Rattle.deck9.specs.declared.state.State.{State as AState};
 
-use crate::knowledge::Knowledge;
-use crate::mode_set::ModeSet;
 use crate::presets::Presets;
 use crate::states::States;
 use block9::{Block, Command};
-use deck9::{Hands, Register, State};
+use deck9::{Hands, Knowledge, ModeSet, Register, State};
+use sets25::{SpanSet, TimeSet};
 use std::alloc::{AllocError, Global};
 use std::marker::Model;
-use tc25::{SpanSet, TimeSet};
 
 /// All states that the deck could be in after the exchanges of a capture so far.
 ///
@@ -152,11 +150,12 @@ impl<S: TimeSet> Tracker<S> {
         self.states.before(command, reply, target)
     }
 
-    /// The modes that some possible state shows. Takes no memory.
+    /// The modes that some possible state shows, with no bit above theirs. Takes no memory.
     pub fn shown(&self) -> ModeSet
-        ensures { (m : AMode) → (has result.0 m ≡ true) ↔ ((s : AState) × Possible self.now.states s × (s.shown ≡ m)) }
+        ensures ten { result.0 < 2 ^ 10 }
+        ensures modes { (m : AMode) → (has result.0 m ≡ true) ↔ ((s : AState) × Possible self.now.states s × (s.shown ≡ m)) }
     {
-        self.states.shown()
+        self.states.shown().without_other_bits()
     }
 
     /// What all possible states agree on, field by field. There has to be one (`remains`). Takes no memory.

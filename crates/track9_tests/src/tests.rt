@@ -19,13 +19,13 @@ mod sent;
 mod side_by_side;
 
 use block9::{Block, Command, reply_time_valid};
-use deck9::{Hands, Register};
+use deck9::{Hands, Knowledge, Register};
 use sent::Sent;
+use sets25::{SpanSet, TimeSet};
 use std::alloc::AllocError;
 use std::fmt::Debug;
 use std::process::Abort;
-use tc25::{SpanSet, TimeSet};
-use track9::{Knowledge, Tracker};
+use track9::Tracker;
 
 /// Holds that what was found in a case is what is wanted.
 ///

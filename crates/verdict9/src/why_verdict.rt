@@ -2,7 +2,7 @@
 
 use block9::{Command, Exchange, Reason};
 use capture9::LineByte;
-use track9::{Knowledge, ModeSet};
+use deck9::{Knowledge, ModeSet};
 
 /// The verdict on the records of a capture, and why it is a no: where a rule of blocks, pairing or timing is broken the
 /// records that are open, and where no run remains the replies that contradict one another.

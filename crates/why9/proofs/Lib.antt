@@ -1,3 +1,4 @@
+pub mod OneContradiction
 pub mod QuestionLemmas
 pub mod SearchLemmas
 pub mod Words

@@ -91,8 +91,7 @@ pub found-all : (h : Hands) (es : List Exchange) (low last : ℕ) (found : List 
     → Contradict h (is_asked last found) es → IsContradiction h es (found ++ last ∷ [])
 found-all h es low last found breaks old le is contradict = record {
   contradict = λ w. contradict (record { first = w.first; is_first = w.is_first; after = w.after; is_run = same_places h _ _ es w.first w.after same w.is_run });
-  none_needless = λ p e. needed p (among_push found last p e);
-  is_latest = λ first rest e. latest first (among_push found last first (rw e (grind (arith, nat_tests))));
+  needed = λ p e. needed p (among_push found last p e);
   ascend = pushed_ascend low last found old.ascend old.below le;
   earlier = found;
   last = last;
@@ -103,10 +102,6 @@ found-all h es low last found breaks old le is contradict = record {
     same : (k : ℕ) → k < length es → is_among (found ++ last ∷ []) k ≡ is_asked last found k
     same k below = let more = among_more found last k in grind (arith, nat_tests)
 
-    needed : (p : ℕ) → (is_among found p ≡ true) ⊎ (p ≡ last) → HasBelieving h (is_among_others (found ++ last ∷ []) p) es
-    needed p (inl among) = believing_fewer h _ _ es (λ k e. others_push low p last found old.below le among k (grind (arith, nat_tests))) (old.needed p among)
+    needed : (p : ℕ) → (is_among found p ≡ true) ⊎ (p ≡ last) → HasBelieving h (λ k. nat_lt p k || is_among_others (found ++ last ∷ []) p k) es
+    needed p (inl among) = believing_fewer h _ _ es (others_push low p last found old.below le among) (old.needed p among)
     needed p (inr same) = without_last h _ es p breaks (ap (λ (x : ℕ). x + 1) same ∙ is) (grind (arith, nat_tests))
-
-    latest : (p : ℕ) → (is_among found p ≡ true) ⊎ (p ≡ last) → HasBelieving h (λ k. nat_lt p k) es
-    latest p (inl among) = believing_fewer h _ _ es (λ k e. grind (arith, nat_tests)) (old.needed p among)
-    latest p (inr same) = without_last h _ es p breaks (ap (λ (x : ℕ). x + 1) same ∙ is) (grind (arith, nat_tests))

@@ -1,5 +1,5 @@
 -- Why no run of the deck gives the replies of a capture: some of these replies contradict one another.
-use Rattle.std.specs.Prelude.{ℕ, ◌≡◌, ◌<◌, ◌+◌, ◌==◌, ◌&&◌, nat_lt, not, Bool, true, List, [], ◌∷◌, ◌++◌, length}
+use Rattle.std.specs.Prelude.{ℕ, ◌≡◌, ◌<◌, ◌+◌, ◌==◌, ◌&&◌, ◌||◌, nat_lt, not, Bool, true, List, [], ◌∷◌, ◌++◌, length}
 use Rattle.std.specs.List.{AllPairs, list_any}
 use Rattle.block9.specs.declared.pairer.Exchange.{Exchange}
 use Rattle.deck9.specs.declared.state.Hands.{Hands}
@@ -26,10 +26,8 @@ is_among_others places p k = is_among places k && not (k == p)
 pub record IsContradiction (h : Hands) (es : List Exchange) (places : List ℕ) : Type 0 where
   -- the replies at these places contradict one another
   pub contradict : Contradict h (is_among places) es
-  -- none of them is needless: without it the others do not
-  pub none_needless : (p : ℕ) → is_among places p ≡ true → HasBelieving h (is_among_others places p) es
-  -- the first is as late as it can be: the replies behind it, all of them, do not
-  pub is_latest : (first : ℕ) (rest : List ℕ) → places ≡ first ∷ rest → HasBelieving h (λ k. nat_lt first k) es
+  -- each is needed, and as late as it can be: the others, with all replies after this place, do not
+  pub needed : (p : ℕ) → is_among places p ≡ true → HasBelieving h (λ k. nat_lt p k || is_among_others places p k) es
   -- they ascend, to the place of the last exchange
   pub ascend : AllPairs (λ p q. p < q) places
   pub earlier : List ℕ

@@ -11,8 +11,8 @@ ghost use Rattle.why9.specs.Working.{Takes, is_asked};
 
 use block9::Exchange;
 use deck9::Hands;
+use sets25::SpanSet;
 use std::alloc::{AllocError, Global};
-use tc25::SpanSet;
 use track9::Tracker;
 
 /// Whether some run believes the replies from one place on, and those at the places found before it.

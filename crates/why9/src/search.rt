@@ -14,8 +14,8 @@ use std::alloc::{AllocError, Global};
 /// The places, counted from 0, of replies that contradict one another, in ascending order.
 ///
 /// The exchanges have to be those of a capture up to the first after which no state remains, and that one is the last of
-/// the places. Without any one of them the others do not contradict: a run believes them. Nor do all replies behind the
-/// first place, so no such replies lie nearer to the break. What a run that believes some replies may do is in
+/// the places. Each of the others is needed, and as near to the break as it can be: without it, the other places and all
+/// replies after it do not contradict, since a run believes them. What a run that believes some replies may do is in
 /// `specs/Contradict.antt` of the crate `deck9`.
 ///
 /// An error comes where memory is refused.

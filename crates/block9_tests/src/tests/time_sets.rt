@@ -1,10 +1,11 @@
 //! Tests of both kinds of set: each call on examples, and both kinds side by side.
 
 use crate::tests::same;
+use sets25::{ListSet, SpanSet, TimeSet};
 use std::alloc::{AllocError, Global};
 use std::process::Abort;
 use std::test::Fail;
-use tc25::{ListSet, SpanSet, TimeCode, TimeSet};
+use tc25::TimeCode;
 
 /// Frames round midnight and round noon, at which sets are compared.
 const FRAMES: [u32; 24] = [

@@ -2,13 +2,12 @@
 
 use super::parts::*;
 use super::{capture, fail, same};
-use deck9::{Hands, Mode};
+use deck9::{Hands, Knowledge, Known, KnownEntry, Mode};
 use judge9::{WhyVerdict, judge_with_contradiction};
 use std::alloc::Global;
 use std::process::Abort;
 use std::test::Fail;
 use tc25::TimeCode;
-use track9::{Knowledge, Known, KnownEntry};
 
 /// Exchanges, what was known before the last reply of them, and the modes that the deck could then show.
 type Row<'a> = (&'a [&'a str], Knowledge, &'a [Mode]);

@@ -6,10 +6,11 @@ use super::{capture, fail, same};
 use block9::{Command, Exchange};
 use deck9::{Entry, Hands, State, is_run};
 use judge9::{RunVerdict, judge_with_run};
+use sets25::SpanSet;
 use std::alloc::{AllocError, Global};
 use std::process::Abort;
 use std::test::Fail;
-use tc25::{SpanSet, TimeCode};
+use tc25::TimeCode;
 use track9::Tracker;
 
 /// LOCAL DISABLE, not acknowledged.

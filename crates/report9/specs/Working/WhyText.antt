@@ -1,6 +1,6 @@
 -- How the text of why a capture is a no is put, word by word.
 use Rattle.std.specs.Prelude.{ℕ, Bool, List, [], ◌∷◌}
-use Rattle.track9.specs.ModeSet.{has}
+use Rattle.deck9.specs.ModeSet.{has}
 use Rattle.deck9.specs.declared.mode.Mode.{Mode}
 use Rattle.deck9.specs.Shows.{may_show}
 use Rattle.report9.specs.declared.why_text.modes.Choice.TheVariants.{the_data as Choice}

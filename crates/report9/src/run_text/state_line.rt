@@ -3,7 +3,7 @@ ghost use Rattle.std.specs.Prelude.{◌≡◌, ◌++◌};
 ghost use Rattle.text9.specs.Explanation.{text_of_fields, text_of_knowledge, text_of_local, text_of_mode, text_of_panel, text_of_register};
 ghost use Rattle.report9.specs.RunText.{known_entry, known_state, line_of_state};
 ghost use Rattle.text9.specs.Writing.{Writes};
-ghost use Rattle.track9.specs.declared.knowledge.Known.TheVariants as known;
+ghost use Rattle.deck9.specs.declared.knowledge.Known.TheVariants as known;
 
 use deck9::{Entry, Hands, Mode, State};
 use std::io::Write;

@@ -5,10 +5,9 @@ ghost use Rattle.deck9.specs.Mode.{name_of};
 ghost use Rattle.report9.specs.WhyText.{in_a_row, modes, names_of, text_of_modes};
 ghost use Rattle.report9.specs.Working.WhyText.{is_chosen};
 
-use deck9::Mode;
+use deck9::{Mode, ModeSet};
 use std::alloc::AllocError;
 use text9::put_text;
-use track9::ModeSet;
 
 /// Which modes are named.
 #[derive(Clone, Copy, Debug, PartialEq, Eq)]

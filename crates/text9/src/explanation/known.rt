@@ -3,9 +3,8 @@ ghost use Rattle.std.specs.Prelude.{◌≡◌, ◌++◌, OnOk, codes};
 ghost use Rattle.text9.specs.Explanation.{text_of_fields, text_of_knowledge, text_of_local, text_of_mode, text_of_panel, text_of_register, word_of};
 
 use crate::pieces::{put_text, put_word};
-use deck9::{Hands, Mode};
+use deck9::{Hands, Knowledge, Known, KnownEntry, Mode};
 use std::alloc::AllocError;
-use track9::{Knowledge, Known, KnownEntry};
 
 /// What stands for a field on which two possible states differ.
 const UNKNOWN: &str = "unknown";

@@ -1,12 +1,11 @@
 -- Which states an effect may have led from: a pattern of fields, each fixed or free.
 use Rattle.std.specs.Prelude.{if◌then◌else◌, ◌==◌, ◌≡◌}
 use Rattle.track9.specs.Working.Deck.{Asked, At, bit_of, Bool, Change, Clear, Command, Drift, Effect, Entry, entry_of, false, Hands, has, has_pair, is_mode, IsState, KeepsRest}
-use Rattle.track9.specs.Working.Deck.{List, may_ignore, Mode, ModeSet, moved_entry, Next, next_frame, None, Option, option_map, Pair, PairReaches, Prev, prev_frame, Recall}
-use Rattle.track9.specs.Working.Deck.{RegAudioIn, RegAudioOut, RegIn, Register, RegOut, Reset, SetAt, SetSomewhere, Some, State, true, ⊤}
+use Rattle.track9.specs.Working.Deck.{List, may_ignore, Mode, modes, ModeSet, moved_entry, Next, next_frame, None, Option, option_map, Pair, PairReaches, Prev, prev_frame}
+use Rattle.track9.specs.Working.Deck.{Recall, RegAudioIn, RegAudioOut, RegIn, Register, RegOut, Reset, SetAt, SetSomewhere, Some, State, true, ⊤}
 use Rattle.deck9.specs.declared.effect.Effect.TheVariants as effect
 use Rattle.deck9.specs.declared.mode.Mode.TheVariants as mode
 use Rattle.deck9.specs.declared.state.Hands.TheVariants as hands
-use Rattle.track9.specs.Working.Pairs.{modes}
 
 -- nothing is asked for, or this
 abbrev pub Is : {A : Type 0} → Option A → A → Type 0

@@ -1,19 +1,14 @@
 -- How what is known of a set of states is put together.
 use Rattle.std.specs.Prelude.{if◌then◌else◌, ◌==◌, ◌≡◌, ◌≢◌}
-use Rattle.track9.specs.Working.Deck.{Allows, At, Bool, Clear, entries_of, Entry, false, has, is_set, Known, KnownEntry, Mode, ModeSet, None, Option, PartStates, Register, Some}
+use Rattle.track9.specs.Working.Deck.{Allows, At, Bool, Clear, either, entries_of, Entry, false, is_set, Known, KnownEntry, ModeSet, None, Option, PartStates, Register, Some}
 use Rattle.track9.specs.Working.Deck.{StateSet, true, TwoParts}
-use Rattle.track9.specs.declared.knowledge.Known.TheVariants as known
-use Rattle.track9.specs.declared.knowledge.KnownEntry.TheVariants as entry
-use Rattle.track9.specs.Working.Pairs.{either, goals_of, goes}
+use Rattle.deck9.specs.declared.knowledge.Known.TheVariants as known
+use Rattle.deck9.specs.declared.knowledge.KnownEntry.TheVariants as entry
+use Rattle.track9.specs.Working.Pairs.{goals_of, goes}
 use Rattle.track9.specs.Working.Parts.{is_live}
 use Rattle.track9.specs.Working.States.{two_of}
 
 -- ---- modes
-
--- a set has this mode alone, or two
-abbrev pub KnowsModes : ModeSet → Known Mode → Type 0
-KnowsModes set (known.Is m) = (n : Mode) → has set.0 n ≡ true → n ≡ m
-KnowsModes set known.Unknown = (m n : Mode) × (has set.0 m ≡ true) × (has set.0 n ≡ true) × (m ≢ n)
 
 -- all goals, and all shown modes
 abbrev pub two_goals : TwoParts → ModeSet

@@ -1,33 +1,7 @@
 -- How pairs of a goal and a shown mode change.
-use Rattle.std.specs.Prelude.{if◌then◌else◌, ◌&&◌, ◌==◌, ◌∷◌}
-use Rattle.track9.specs.Working.Deck.{[], bit_and, bit_of, bit_or, Bool, Cued, Eject, FastForward, is_mode, Jog, List, Mode, ModeSet, not, on_the_way, Play, Rec, Rewind}
-use Rattle.track9.specs.Working.Deck.{shown_with, Shuttle, Stop, Var, ℕ}
-
--- ---- sets of modes
-
-abbrev pub modes : ℕ → ModeSet
-modes n = record { 0 = n }
-
-abbrev pub either : ModeSet → ModeSet → ModeSet
-either a b = modes (bit_or a.0 b.0)
-
-abbrev pub both : ModeSet → ModeSet → ModeSet
-both a b = modes (bit_and a.0 b.0)
-
--- the set of these modes
-abbrev pub of_modes : List Mode → ModeSet
-of_modes [] = modes 0
-of_modes (m ∷ ms) = either (modes (bit_of m)) (of_modes ms)
-
--- the modes on the way to a goal
-abbrev pub way : Mode → ModeSet
-way g = of_modes (on_the_way g)
-
--- one of the ten bits is there
-abbrev pub is_some : ModeSet → Bool
-is_some s = not (bit_and s.0 0x3FF == 0)
-
--- ---- pairs
+use Rattle.std.specs.Prelude.{if◌then◌else◌, ◌&&◌, ◌∷◌}
+use Rattle.track9.specs.Working.Deck.{[], bit_of, Bool, both, Cued, either, Eject, FastForward, is_mode, is_some, Jog, List, Mode, modes, ModeSet, Play, Rec, Rewind, shown_with}
+use Rattle.track9.specs.Working.Deck.{Shuttle, Stop, Var, way}
 
 -- the pairs that have these shown modes for each goal
 abbrev pub by_goal : (Mode → ModeSet) → List ModeSet

@@ -11,8 +11,8 @@ use crate::reply::is_nak;
 use crate::status::modes_shown;
 use block9::{Block, Command};
 use deck9::{Effect, Mode, Sense, status_datum};
+use sets25::TimeSet;
 use std::alloc::{AllocError, Global};
-use tc25::TimeSet;
 
 impl<S: TimeSet> Halves<S> {
     /// The states after an exchange: after a drift of the mechanics and a step. Where memory is refused nothing has

@@ -18,7 +18,7 @@ use crate::reply::is_nak;
 use crate::states::States;
 use block9::{Block, Command};
 use deck9::{Effect, Entry, Register, State, may_ignore};
-use tc25::TimeSet;
+use sets25::TimeSet;
 
 impl<S: TimeSet> States<S> {
     /// A state from which the exchange leads to the target: None exactly where there is none. Takes no memory.

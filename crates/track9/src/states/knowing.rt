@@ -1,18 +1,16 @@
 //! What all states of a set agree on.
 ghost use Rattle.std.specs.Prelude.{◌≡◌, ◌||◌, false, true};
-ghost use Rattle.track9.specs.Knowledge.{IsKnown, IsKnownEntry};
+ghost use Rattle.deck9.specs.Knowledge.{IsKnown, IsKnownEntry};
 ghost use Rattle.track9.specs.Tracker.{Possible};
-ghost use Rattle.track9.specs.Working.Knowing.{TwoKnow, goals_in, join_options, known_fact, shown_in, two_goals, two_shown};
+ghost use Rattle.track9.specs.Working.Knowing.{TwoKnow, goals_in, join_options, joined_known, known_fact, shown_in, two_goals, two_shown};
 ghost use Rattle.track9.specs.Working.Parts.{is_live};
 ghost use Rattle.track9.specs.Working.States.{AreWhole, TwoWhole, part_of, some_state, two_of};
 ghost use Rattle.deck9.specs.declared.state.State.{State as AState};
 
 use crate::halves::Halves;
-use crate::knowledge::{Known, KnownEntry};
-use crate::mode_set::ModeSet;
 use crate::states::States;
-use deck9::{Mode, Register};
-use tc25::TimeSet;
+use deck9::{Known, KnownEntry, Mode, ModeSet, Register};
+use sets25::TimeSet;
 
 impl<S: TimeSet> States<S> {
     /// The goal, as far as all states agree. There is a state.
@@ -165,6 +163,21 @@ fn join_known(a: &Option<KnownEntry>, b: &Option<KnownEntry>) -> Option<KnownEnt
         (None, None) => None,
         (Some(known), None) => Some(*known),
         (None, Some(known)) => Some(*known),
-        (Some(first), Some(second)) => Some(first.joined(second)),
+        (Some(first), Some(second)) => Some(joined(first, second)),
+    }
+}
+
+/// What is known of a register that is in one of two sets of states, by what is known of it in each.
+fn joined(one: &KnownEntry, other: &KnownEntry) -> KnownEntry
+    ensures { result ≡ joined_known one.now other.now }
+{
+    match (one, other) {
+        (KnownEntry::Clear, KnownEntry::Clear) => KnownEntry::Clear,
+        (KnownEntry::At(time), KnownEntry::At(again)) if time == again => KnownEntry::At(*time),
+        (
+            KnownEntry::At(_) | KnownEntry::SetSomewhere,
+            KnownEntry::At(_) | KnownEntry::SetSomewhere,
+        ) => KnownEntry::SetSomewhere,
+        _ => KnownEntry::Unknown,
     }
 }

@@ -9,7 +9,7 @@ use crate::halves::Halves;
 use crate::part::Part;
 use crate::states::States;
 use deck9::{Register, State};
-use tc25::TimeSet;
+use sets25::TimeSet;
 
 impl<S: TimeSet> States<S> {
     /// Some state, or none exactly where there is none. Takes no memory.

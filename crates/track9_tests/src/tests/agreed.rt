@@ -2,11 +2,10 @@
 
 use super::sent::*;
 use super::*;
-use deck9::Mode;
+use deck9::{Known, KnownEntry, Mode};
+use sets25::{ListSet, SpanSet};
 use std::alloc::Global;
 use std::test::Fail;
-use tc25::{ListSet, SpanSet};
-use track9::{Known, KnownEntry};
 
 /// An exchange, and what is known after it, in the words of a report: a field of which nothing is known is left out.
 type Learnt = (Sent, &'static str);

@@ -11,14 +11,15 @@ use super::drawn::{Draw, command, moved, reply};
 use super::plain_deck::Day;
 use super::{known, observe, same};
 use block9::{Block, Command};
-use deck9::{Hands, Register};
+use deck9::{Hands, Knowledge, KnownEntry, Register};
 use edges::Edges;
 use listed::ListedDeck;
+use sets25::SpanSet;
 use std::alloc::{AllocError, Global};
 use std::process::Abort;
 use std::test::Fail;
-use tc25::{SpanSet, TimeCode};
-use track9::{Knowledge, KnownEntry, Tracker};
+use tc25::TimeCode;
+use track9::Tracker;
 
 /// What is drawn, and the registers' places in the day that follow from it.
 #[derive(Drop)]

@@ -5,9 +5,10 @@ use super::member::ONE_STATE;
 use super::sent::*;
 use super::*;
 use deck9::{Entry, Mode, State};
+use sets25::{ListSet, SpanSet};
 use std::alloc::Global;
 use std::test::Fail;
-use tc25::{ListSet, SpanSet, TimeCode};
+use tc25::TimeCode;
 
 const IN_SHIFT_REFUSED: Sent = (&[0x40, 0x18, 0x58], NAK);
 

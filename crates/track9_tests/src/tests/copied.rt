@@ -2,9 +2,9 @@
 
 use super::sent::*;
 use super::*;
+use sets25::{ListSet, SpanSet};
 use std::alloc::Global;
 use std::test::Fail;
-use tc25::{ListSet, SpanSet};
 
 /// Exchanges before a snapshot, exchanges that the tracker takes after it, and one that the snapshot takes with
 /// whether a state then remains there.

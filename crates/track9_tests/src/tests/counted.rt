@@ -3,9 +3,9 @@
 use super::plain_deck::REGISTERS;
 use super::sent::*;
 use super::*;
+use sets25::SpanSet;
 use std::alloc::Global;
 use std::test::Fail;
-use tc25::SpanSet;
 
 /// Exchanges, and then the spans and the presets of IN, and those of audio IN.
 pub(super) type Row = (&'static [Sent], (usize, u32), (usize, u32));

@@ -3,9 +3,10 @@
 use super::sent::*;
 use super::*;
 use deck9::{Entry, Mode, State};
+use sets25::{ListSet, SpanSet};
 use std::alloc::Global;
 use std::test::Fail;
-use tc25::{ListSet, SpanSet, TimeCode};
+use tc25::TimeCode;
 
 const OUT_RESET: Sent = (&[0x40, 0x21, 0x61], ACK);
 

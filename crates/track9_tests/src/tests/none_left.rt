@@ -2,9 +2,9 @@
 
 use super::sent::*;
 use super::*;
+use sets25::{ListSet, SpanSet};
 use std::alloc::Global;
 use std::test::Fail;
-use tc25::{ListSet, SpanSet};
 
 /// Exchanges after which IN is 10:00:00:00, whether or not hands are allowed: no deck says that it is 11:00:00:00.
 const BEFORE: &[Sent] = &[PANEL_OFF, REMOTE, PRESET_10];

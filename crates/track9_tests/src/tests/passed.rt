@@ -4,9 +4,9 @@ use super::agreed::tell_all;
 use super::sent::*;
 use super::*;
 use deck9::Register;
+use sets25::{ListSet, SpanSet};
 use std::alloc::Global;
 use std::test::Fail;
-use tc25::{ListSet, SpanSet};
 
 /// What the tracker takes: an exchange, or the command of one alone.
 #[derive(Clone, Copy, Debug)]

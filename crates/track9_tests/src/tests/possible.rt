@@ -3,9 +3,9 @@
 use super::rows::{AUDIO, FORGOTTEN, HANDS, REGISTERS, Row, SHIFTS, TRANSPORT};
 use super::sent::*;
 use super::*;
+use sets25::{ListSet, SpanSet};
 use std::alloc::Global;
 use std::test::Fail;
-use tc25::{ListSet, SpanSet};
 
 /// What can't bring back a state where none is left.
 const LATER: &[Sent] = &[

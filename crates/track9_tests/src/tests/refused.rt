@@ -9,12 +9,12 @@ use super::sent::{
     UNLISTED_2,
 };
 use super::{command_of, known, same, spans_and_presets};
-use deck9::{Hands, Register};
+use deck9::{Hands, Knowledge, Register};
+use sets25::{ListSet, SpanSet, TimeSet};
 use std::alloc::{AllocError, Global};
 use std::process::Abort;
 use std::test::Fail;
-use tc25::{ListSet, SpanSet, TimeSet};
-use track9::{Knowledge, Tracker};
+use track9::Tracker;
 
 /// Spans and presets of each register.
 type Counts = [(usize, u32); 4];

@@ -8,10 +8,11 @@ use super::plain_deck::{
 use super::{known, observe, same};
 use block9::{Block, Command, NakBits};
 use deck9::{Hands, Mode};
+use sets25::{ListSet, SpanSet};
 use std::alloc::{AllocError, Global};
 use std::process::Abort;
 use std::test::Fail;
-use tc25::{ListSet, SpanSet, TimeCode};
+use tc25::TimeCode;
 use track9::Tracker;
 
 /// Frames round midnight and noon, some of them neighbours.

@@ -6,4 +6,4 @@ knowledge-requires c = c.in_ok-pass.ensures.remains.0 (show.before_last c.args.h
 
 pub returns : goal.returns
 returns c =
-    show.could_show c.args.hands c.args.exchanges.now c.follow.new.tracker c.pass.new.self c.knowledge.result c.shown.result c.requires.breaks c.in_ok-follow.ensures c.in_ok-pass.ensures.reached c.knowledge.ensures c.shown.ensures
+    show.could_show c.args.hands c.args.exchanges.now c.follow.new.tracker c.pass.new.self c.knowledge.result c.shown.result c.requires.breaks c.in_ok-follow.ensures c.in_ok-pass.ensures.reached c.knowledge.ensures c.shown.ensures.ten c.shown.ensures.modes

@@ -1,5 +1,7 @@
 -- What is given is what is read, by the lemmas on one list of bytes.
-use Rattle.tc25.proofs.Lemmas.{ap, arith, is_some, ReadsAs-from_time_of, Some, time_of, time_of-from_ReadsAs, unwrap_or, ℕ, ◌≡◌}
+use Rattle.std.proofs.Common.{ap, arith, is_some, Some, unwrap_or, ℕ, ◌≡◌}
+use Rattle.tc25.proofs.DayLemmas.{ReadsAs-from_time_of, time_of-from_ReadsAs}
+use Rattle.tc25.specs.Day.{time_of}
 use Rattle.tc25.proofs.laws.readings.Goals as goal
 
 pub returns-clause-given : goal.returns-clause-given

@@ -6,11 +6,10 @@ use crate::tests::plain_deck::{
     small_of, time_of,
 };
 use block9::{Block, Command, NakBits};
-use deck9::{Hands, Register};
+use deck9::{Hands, Knowledge, Known, KnownEntry, Register};
 use std::alloc::{AllocError, Global};
 use std::mem;
 use tc25::TimeCode;
-use track9::{Knowledge, Known, KnownEntry};
 
 /// Every state of a deck with these registers whose day has three frames, and which of them are possible.
 #[derive(Drop)]

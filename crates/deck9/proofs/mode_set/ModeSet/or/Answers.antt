@@ -1,0 +1,6 @@
+use Rattle.deck9.proofs.Words.{ap, has, ◌∙◌}
+use Rattle.deck9.proofs.mode_set.ModeSet.or.Goals as goal
+use Rattle.deck9.proofs.ModeSetLemmas.{has-or}
+
+pub returns-clause-has : goal.returns-clause-has
+returns-clause-has c = λ m. ap (λ b. has b m) (c.union.ensures tt) ∙ has-or c.args.self.0 c.args.other.0 m

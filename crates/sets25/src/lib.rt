@@ -1,0 +1,16 @@
+//! Sets of times of day, at 25 frames a second.
+#![tactic(auto)]
+
+mod direction;
+mod laws;
+mod list_set;
+mod span;
+mod span_list;
+mod span_set;
+mod spans;
+mod time_set;
+
+pub use laws::{memberships, span_counts};
+pub use list_set::ListSet;
+pub use span_set::SpanSet;
+pub use time_set::TimeSet;

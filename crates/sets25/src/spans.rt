@@ -1,0 +1,204 @@
+//! Lists of spans in canonical form: the work of a `SpanSet`, in place.
+
+ghost use Rattle.std.specs.Prelude.{◌≡◌, ◌≤◌, ◌<◌, ◌+◌, ◌++◌, ◌||◌, ℕ, false, [], ◌∷◌, if◌then◌else◌, length, map, take, drop, vec_len, vec_capacity, OnOk, OnErr};
+ghost use Rattle.tc25.specs.Day.{day};
+ghost use Rattle.sets25.specs.Working.Moves.{moved_from};
+ghost use Rattle.sets25.specs.Working.SpanMoves.{point, shifted_span, widened_span};
+ghost use Rattle.sets25.specs.Spans.{is_covered, IsSpan, IsCanonical};
+ghost use Rattle.sets25.specs.Working.SpanLists.{IsPlace, glue, joined, with_frame, without_edge};
+
+use crate::direction::{Direction, LAST_FRAME};
+use crate::span::Span;
+use std::alloc::AllocError;
+
+/// Whether a frame is in a span of the list.
+pub(crate) fn contains(spans: &[Span], frame: u32) -> bool
+    requires { IsCanonical 0 spans.now }
+    ensures { result ≡ is_covered frame spans.now }
+{
+    let index = place_of(spans, frame);
+    index < spans.len() && spans[index].first <= frame
+}
+
+/// Adds a frame: to a span that it touches, or as a span of its own.
+pub(crate) fn add(spans: &mut Vec<Span>, frame: u32) -> Result<(), AllocError>
+    requires canonical { IsCanonical 0 spans.old.items }
+    requires in_day { frame < day }
+    ensures canonical { IsCanonical 0 spans.new.items }
+    ensures ok { OnOk result (spans.new.items ≡ with_frame frame spans.old.items) }
+    ensures err { OnErr result (spans.new.items ≡ spans.old.items) }
+    ensures full { OnErr result (vec_capacity spans.old ≤ vec_len spans.old) }
+    ensures apart { OnErr result ((f : ℕ) → frame ≤ f + 1 → f ≤ frame + 1 → is_covered f spans.old.items ≡ false) }
+{
+    let index = place_of(spans, frame.saturating_sub(1));
+    if index < spans.len() && spans[index].first <= frame + 1 {
+        let span = spans[index];
+        let grown = Span {
+            first: span.first.min(frame),
+            last: span.last.max(frame),
+        };
+        put_joined(spans, index, grown);
+    } else {
+        spans.insert(index, Span::of(frame))?;
+    }
+    Ok(())
+}
+
+/// Keeps one frame alone, where it is in a span, and else nothing. Takes no memory.
+pub(crate) fn keep_only(spans: &mut Vec<Span>, frame: u32)
+    requires canonical { IsCanonical 0 spans.old.items }
+    requires in_day { frame < day }
+    ensures { spans.new.items ≡ (if is_covered frame spans.old.items then point frame ∷ [] else []) }
+{
+    if contains(spans, frame) && !spans.is_empty() {
+        spans.truncate(1);
+        spans[0] = Span::of(frame);
+    } else {
+        spans.clear();
+    }
+}
+
+/// The index of the first span that ends at `frame` or later, by binary search.
+fn place_of(spans: &[Span], frame: u32) -> usize
+    requires { IsCanonical 0 spans.now }
+    ensures { IsPlace frame spans.now result }
+{
+    spans.partition_point(|span| span.last < frame)
+}
+
+/// Replaces a span, and joins it to the one after it where they touch.
+fn put_joined(spans: &mut Vec<Span>, index: usize, span: Span)
+    requires in_list { index < length spans.old.items }
+    requires in_day { span.last < day }
+    ensures { spans.new.items ≡ take index spans.old.items ++ glue span (drop (index + 1) spans.old.items) }
+{
+    if index + 1 < spans.len() && spans[index + 1].first <= span.last + 1 {
+        let after = spans.remove(index + 1);
+        spans[index] = Span {
+            first: span.first,
+            last: after.last,
+        };
+    } else {
+        spans[index] = span;
+    }
+}
+
+/// Moves each frame by one, round the day.
+pub(crate) fn shift(spans: &mut Vec<Span>, direction: Direction) -> Result<(), AllocError>
+    requires { IsCanonical 0 spans.old.items }
+    ensures canonical { IsCanonical 0 spans.new.items }
+    ensures ok { OnOk result ((f : ℕ) → f < day → is_covered f spans.new.items ≡ is_covered (moved_from direction f) spans.old.items) }
+    ensures err { OnErr result (spans.new.items ≡ spans.old.items) }
+{
+    if !contains(spans, direction.edge()) {
+        shift_within(spans, direction);
+        return Ok(());
+    }
+    let far_edge = direction.far_edge();
+    if !contains(spans, far_edge) {
+        spans.reserve(1)?;
+    }
+    shift_within(spans, direction);
+    add(spans, far_edge)
+}
+
+/// Adds the neighbour of each frame, round the day.
+pub(crate) fn widen(spans: &mut Vec<Span>, direction: Direction) -> Result<(), AllocError>
+    requires { IsCanonical 0 spans.old.items }
+    ensures canonical { IsCanonical 0 spans.new.items }
+    ensures ok { OnOk result ((f : ℕ) → f < day → is_covered f spans.new.items ≡ (is_covered f spans.old.items || is_covered (moved_from direction f) spans.old.items)) }
+    ensures err { OnErr result (spans.new.items ≡ spans.old.items) }
+{
+    if !contains(spans, direction.edge()) || contains(spans, direction.far_edge()) {
+        widen_within(spans, direction);
+        return Ok(());
+    }
+    spans.reserve(1)?;
+    widen_within(spans, direction);
+    add(spans, direction.far_edge())
+}
+
+/// Moves each frame by one. A frame that would leave the day is let go.
+fn shift_within(spans: &mut Vec<Span>, direction: Direction)
+    requires { IsCanonical 0 spans.old.items }
+    ensures shifted { spans.new.items ≡ map (shifted_span direction) (without_edge direction spans.old.items) }
+    ensures len { vec_len spans.new ≤ vec_len spans.old }
+    ensures capacity { vec_capacity spans.new ≡ vec_capacity spans.old }
+{
+    drop_edge(spans, direction);
+    shift_all(spans.as_mut_slice(), direction);
+}
+
+/// Adds the neighbour of each frame, where that is within the day.
+fn widen_within(spans: &mut Vec<Span>, direction: Direction)
+    requires { IsCanonical 0 spans.old.items }
+    ensures widened { spans.new.items ≡ joined (map (widened_span direction) spans.old.items) }
+    ensures len { vec_len spans.new ≤ vec_len spans.old }
+    ensures capacity { vec_capacity spans.new ≡ vec_capacity spans.old }
+{
+    let kept = widen_all(spans.as_mut_slice(), direction);
+    spans.truncate(kept);
+}
+
+/// Drops the span, if there is one, that would wholly leave the day.
+fn drop_edge(spans: &mut Vec<Span>, direction: Direction)
+    requires { IsCanonical 0 spans.old.items }
+    ensures dropped { spans.new.items ≡ without_edge direction spans.old.items }
+    ensures canonical { IsCanonical 0 spans.new.items }
+    ensures len { vec_len spans.new ≤ vec_len spans.old }
+    ensures capacity { vec_capacity spans.new ≡ vec_capacity spans.old }
+{
+    let count = spans.len();
+    if count == 0 {
+        return;
+    }
+    match direction {
+        Direction::Next => {
+            if spans[count - 1].first == LAST_FRAME {
+                spans.truncate(count - 1);
+            }
+        }
+        Direction::Prev => {
+            if spans[0].last == 0 {
+                spans.remove(0);
+            }
+        }
+    }
+}
+
+/// Moves each span by one frame.
+fn shift_all(spans: &mut [Span], direction: Direction)
+    requires { IsCanonical 0 spans.old }
+    ensures { spans.new ≡ map (shifted_span direction) spans.old }
+{
+    for span in spans.iter_mut() {
+        *span = span.shifted(direction);
+    }
+}
+
+/// Widens each span by one frame and joins those that then touch.
+///
+/// Answers how many spans are left, at the front of the slice.
+fn widen_all(spans: &mut [Span], direction: Direction) -> usize
+    requires { IsCanonical 0 spans.old }
+    ensures fits { result ≤ length spans.new }
+    ensures widened { take result spans.new ≡ joined (map (widened_span direction) spans.old) }
+{
+    if spans.is_empty() {
+        return 0;
+    }
+    let mut current = spans[0].widened(direction);
+    let mut kept = 0;
+    for index in 1..spans.len() {
+        let span = spans[index].widened(direction);
+        if span.first <= current.last + 1 {
+            current.last = span.last;
+        } else {
+            spans[kept] = current;
+            kept += 1;
+            current = span;
+        }
+    }
+    spans[kept] = current;
+    kept + 1
+}

@@ -1,6 +1,0 @@
--- The list has one span for each of the set.
-use Rattle.tc25.proofs.Lemmas.{span_count-spans, spans_of, sym, ◌∙◌}
-use Rattle.tc25.proofs.span_set.SpanSet.spans.Goals as goal
-
-pub returns : goal.returns
-returns c = c.len.ensures ∙ sym (span_count-spans (spans_of c.args.self.now.spans) c.args.self.now.canonical)

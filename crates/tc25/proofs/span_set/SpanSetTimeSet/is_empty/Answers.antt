@@ -1,5 +1,0 @@
-use Rattle.tc25.proofs.Lemmas.{is_empty_iff-spans, spans_of}
-use Rattle.tc25.proofs.span_set.SpanSetTimeSet.is_empty.Goals as goal
-
-pub returns : goal.returns
-returns c = rw c.is_empty.ensures (is_empty_iff-spans (spans_of c.args.self.now.spans) c.args.self.now.canonical)

@@ -1,5 +1,0 @@
-use Rattle.tc25.proofs.Lemmas.{Next, on_ok_weaker, times_where-moved}
-use Rattle.tc25.proofs.span_set.SpanSetTimeSet.shift_next.Goals as goal
-
-pub returns-clause-ok : goal.returns-clause-ok
-returns-clause-ok c = on_ok_weaker c.shift.result (times_where-moved _ _ Next) c.shift.ensures.ok

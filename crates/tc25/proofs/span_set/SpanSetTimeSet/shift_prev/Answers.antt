@@ -1,5 +1,0 @@
-use Rattle.tc25.proofs.Lemmas.{on_ok_weaker, Prev, times_where-moved}
-use Rattle.tc25.proofs.span_set.SpanSetTimeSet.shift_prev.Goals as goal
-
-pub returns-clause-ok : goal.returns-clause-ok
-returns-clause-ok c = on_ok_weaker c.shift.result (times_where-moved _ _ Prev) c.shift.ensures.ok

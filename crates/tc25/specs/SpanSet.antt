@@ -1,9 +1,0 @@
--- The members of a `SpanSet`.
-use Rattle.tc25.specs.Times.{Times, times_where}
-use Rattle.tc25.specs.SpanList.{spans_of}
-use Rattle.tc25.specs.Spans.{is_covered}
-use Rattle.tc25.specs.declared.span_set.SpanSet.{SpanSet}
-
--- the times in its spans
-abbrev pub members_of : SpanSet → Times
-members_of s = times_where (λ f. is_covered f (spans_of s.spans))

@@ -1,6 +1,0 @@
-use Rattle.track9.proofs.Words.{ap, has, ◌∙◌}
-use Rattle.track9.proofs.mode_set.ModeSet.or.Goals as goal
-use Rattle.track9.proofs.EntryLemmas.{has-or}
-
-pub returns-clause-has : goal.returns-clause-has
-returns-clause-has c = λ m. ap (λ b. has b m) (c.union.ensures tt) ∙ has-or c.args.self.0 c.args.other.0 m

@@ -1,0 +1,12 @@
+//! The law of replies that contradict one another, the contract of a function that does nothing.
+ghost use Rattle.std.specs.Prelude.{◌≡◌, ℕ, List};
+ghost use Rattle.block9.specs.declared.pairer.Exchange.{Exchange};
+ghost use Rattle.why9.specs.Contradiction.{IsContradiction};
+
+use deck9::Hands;
+
+/// Of all replies that contradict one another one choice alone is nearest to the break.
+pub fn one_contradiction()
+    ensures { (h : Hands) (es : List Exchange) (places others : List ℕ)
+        → IsContradiction h es places → IsContradiction h es others → places ≡ others }
+{}
