@@ -12,6 +12,13 @@
 #   text TEXT            the capture as it is, with \n, \r, \t and \\
 #   status N             the status
 #   out LINE, err LINE   a line of standard output, and one of standard error; none: nothing is written there
+#
+# Where many cases differ in a few words, one stands for all of them:
+#
+#   each FIELD | FIELD   the case once more, with $1, $2 and so on in its lines replaced by these fields
+#   with FIELD | FIELD   each of these cases once more, with the fields counted on behind those of `each`
+#
+# `@MARK` between records keeps the number of the record before it, which `@MARK` is in a line of what is written.
 set -u
 cd "$(dirname "$0")/.." || exit 1
 program=${NINECHECK:-$PWD/crates/ninecheck/out/ninecheck}

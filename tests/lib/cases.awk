@@ -2,14 +2,61 @@
 # The form of a table is told at the head of tests/cases.sh.
 
 function stop(what) {
-    print FILENAME ":" FNR ": " what > "/dev/stderr"
+    print FILENAME ":" (case_line ? case_line : FNR) ": " what > "/dev/stderr"
     is_broken = 1
     exit 1
 }
 
-# Begins the next case.
-function begin(name) {
+# Makes the case whose lines were read: once, or once for each of its lines `each`, and then once for each of its lines `with`.
+function make(    i, j) {
+    if (lines == 0) return
+    case_line = first_line
+    if (eaches == 0 && withs > 0) stop("with, and no each")
+    for (i = 1; i <= eaches || i == 1; i++)
+        for (j = 1; j <= withs || j == 1; j++)
+            make_one(eaches == 0 ? "" : withs == 0 ? each[i] : each[i] "|" with[j])
+    lines = eaches = withs = case_line = 0
+}
+
+# Makes a case with these fields, parted by bars.
+function make_one(list,    i, line, key) {
+    fields = list == "" ? 0 : split(list, field, /[ \t]*\|[ \t]*/)
+    for (i = 1; i <= lines; i++) {
+        line = filled(kept_line[i])
+        key = line
+        sub(/ .*/, "", key)
+        take(key, substr(line, length(key) + 2))
+    }
     finish()
+}
+
+# A line with each `$N` replaced by field N.
+function filled(line,    before, rest, number) {
+    if (fields == 0) return line
+    before = ""
+    while (match(line, /\$[0-9]+/)) {
+        number = substr(line, RSTART + 1, RLENGTH - 1) + 0
+        if (number < 1 || number > fields) stop("no such field: $" number)
+        before = before substr(line, 1, RSTART - 1) field[number]
+        line = substr(line, RSTART + RLENGTH)
+    }
+    return before line
+}
+
+# A line of what is written with each `@MARK` replaced by the number of the record before the mark.
+function numbered(line,    before, mark) {
+    before = ""
+    while (match(line, /@[a-z0-9]+/)) {
+        mark = substr(line, RSTART + 1, RLENGTH - 1)
+        if (!(mark in marks)) stop("no such mark: @" mark)
+        before = before substr(line, 1, RSTART - 1) marks[mark]
+        line = substr(line, RSTART + RLENGTH)
+    }
+    return before line
+}
+
+# Begins a case.
+function begin(name) {
     count++
     folder = sprintf("%s/%04d", into, count)
     if (system("mkdir '" folder "'") != 0) stop("can't make " folder)
@@ -20,12 +67,13 @@ function begin(name) {
     wire = ""
     time = 0
     gap = 400
+    records = 0
+    delete marks
     has_capture = 0
 }
 
 function finish(    file) {
-    if (folder == "") return
-    if (words == "" || status == "" || !has_capture) stop("the case before wants ask, status and a capture")
+    if (words == "" || status == "" || !has_capture) stop("the case wants ask, status and a capture")
     for (file in kept) {
         printf "%s", kept[file] > (folder "/" file)
         close(folder "/" file)
@@ -49,8 +97,10 @@ function put_records(list,    parts, n, i, word) {
             if (wire == "") stop("a byte before its wire")
             time += gap
             gap = 400
+            records++
             put("capture.csv", time "," wire "," word "\n")
         }
+        else if (word ~ /^@[a-z0-9]+$/) marks[substr(word, 2)] = records
         else if (word ~ /^\+[0-9]+$/) gap = substr(word, 2) + 0
         else if (word in blocks) put_records(blocks[word])
         else stop("no such block: " word)
@@ -68,16 +118,23 @@ function put_text(text,    i, letter) {
     }
 }
 
+# Takes a line of a case.
+function take(key, rest) {
+    if (key == "case") begin(rest)
+    else if (key == "ask") { words = rest; put("words", rest "\n") }
+    else if (key == "records") put_records(rest)
+    else if (key == "text") put_text(rest)
+    else if (key == "status") { status = rest; put("status", rest "\n") }
+    else if (key == "out" || key == "err") put(key, numbered(rest) "\n")
+    else stop("a line of no kind: " key)
+}
+
 { key = $1; rest = substr($0, length($1) + 2) }
 /^#/ || /^[ \t]*$/ { next }
 key == "block" { name = $2; if (name in blocks) stop("twice: " name); blocks[name] = substr(rest, length(name) + 2); next }
-key == "case" { begin(rest); next }
-folder == "" { stop("a line before the first case") }
-key == "ask" { words = rest; put("words", rest "\n"); next }
-key == "records" { put_records(rest); next }
-key == "text" { put_text(rest); next }
-key == "status" { status = rest; put("status", rest "\n"); next }
-key == "out" { put("out", rest "\n"); next }
-key == "err" { put("err", rest "\n"); next }
-{ stop("a line of no kind: " key) }
-END { if (!is_broken) finish(); if (is_broken) exit 1 }
+key == "case" { make(); first_line = FNR }
+key != "case" && lines == 0 { stop("a line before the first case") }
+key == "each" { each[++eaches] = rest; next }
+key == "with" { with[++withs] = rest; next }
+{ kept_line[++lines] = $0 }
+END { if (!is_broken) make(); if (is_broken) exit 1 }

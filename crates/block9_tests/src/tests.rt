@@ -1,10 +1,8 @@
-//! Times, rows and blocks, with values by hand.
+//! Times, rows and blocks, with values by hand: what needs a reader of its own, and calls that no command line reaches.
 mod block;
 mod command;
 mod nak;
 mod pairer;
-mod reason;
-mod reply;
 mod rows;
 mod time_sets;
 mod times;

@@ -1,8 +1,10 @@
 //! Exchanges that a tracker takes, and what it answers to them, with values from the protocol's rules, by hand.
 //!
+//! What the built program can show is in `tests/cases/`: what is known after each exchange, and whether some deck gives it.
+//! Here is what it can't: both kinds of sets, growths that are refused, drawn exchanges, and calls that no command line reaches.
+//!
 //! A function that owns a tracker hands it to `drop` when it is done: the tracker's end in place, at each way out, would
 //! cost the proof of that function most of its time.
-mod agreed;
 mod all_states;
 mod before;
 mod copied;
@@ -12,11 +14,12 @@ mod member;
 mod none_left;
 mod passed;
 mod plain_deck;
-mod possible;
 mod refused;
 mod rows;
 mod sent;
 mod side_by_side;
+mod told;
+mod worked;
 
 use block9::{Block, Command, reply_time_valid};
 use deck9::{Hands, Knowledge, Register};

@@ -1,23 +1,8 @@
-//! The reasons in NAKs, by hand.
+//! The bits of a NAK and their names, by hand.
 
 use crate::tests::same;
 use bitflags::Flags;
-use block9::{Block, NakBits};
-
-#[test]
-fn reasons_of_a_nak(rt: HostRuntime) {
-    for (reply, bits) in [
-        ([0x11, 0x12, 0x14, 0x37].as_slice(), Some(0x14)),
-        ([0x11, 0x12, 0x00, 0x23].as_slice(), Some(0x00)),
-        ([0x11, 0x12, 0x0A, 0x2D].as_slice(), Some(0x0A)),
-        ([0x10, 0x12, 0x22].as_slice(), None),
-        ([0x11, 0x01, 0x14, 0x26].as_slice(), None),
-        ([0x10, 0x01, 0x11].as_slice(), None),
-    ] {
-        let block = Block::from_bytes(reply).expect(&rt, "a block");
-        same(&rt, NakBits::of(&block).map(|nak| nak.bits()), bits, reply);
-    }
-}
+use block9::NakBits;
 
 #[test]
 fn each_reason_has_its_bit_and_name(rt: HostRuntime) {

@@ -1,27 +1,10 @@
-//! Captures that are fed record by record, and what the rules make of each record, by hand.
+//! What a pairer answers to each record, by hand. Which record of a capture breaks which rule is in `tests/cases/`.
 
 use crate::tests::same;
 use block9::{Block, Command, Exchange, Pairer, Reason, Step};
 use capture9::Wire::{Controller, Deck};
 use capture9::{LineByte, Wire};
 use std::process::Abort;
-
-mod first;
-mod listed;
-mod times;
-mod turns;
-
-/// Bytes of one wire, one every 400 microseconds from a time on.
-type Part = (u64, Wire, &'static [u8]);
-
-/// The parts of a capture, the number of the first record that breaks a rule, counted from 1, and the rule.
-type Case = (&'static [Part], Option<(usize, Reason)>);
-
-/// PLAY, sent at 400 microseconds.
-const PLAY: Part = (400, Controller, &[0x20, 0x01, 0x21]);
-
-/// A reply that acknowledges.
-const ACK: &[u8] = &[0x10, 0x01, 0x11];
 
 fn record(time_us: u64, wire: Wire, byte: u8) -> LineByte {
     LineByte {
@@ -50,44 +33,12 @@ fn take(rt: &impl Abort, pairer: &mut Pairer, line_byte: LineByte) -> (Step, usi
     }
 }
 
-/// Feeds the bytes of a part, and answers which of them breaks a rule, counted from 1, and the rule.
-fn feed_part(rt: &impl Abort, pairer: &mut Pairer, part: Part) -> Option<(usize, Reason)> {
-    let (mut time_us, wire, bytes) = part;
-    for (place, byte) in bytes.iter().enumerate() {
-        if let Err(reason) = feed(rt, pairer, record(time_us, wire, *byte)) {
-            return Some((place + 1, reason));
-        }
-        time_us = time_us.saturating_add(400);
-    }
-    None
-}
-
-/// The number of the first record that breaks a rule, counted from 1, and the rule.
-fn first_fault(rt: &impl Abort, parts: &[Part]) -> Option<(usize, Reason)> {
-    let mut pairer = Pairer::new();
-    let mut before = 0usize;
-    for part in parts {
-        if let Some((place, reason)) = feed_part(rt, &mut pairer, *part) {
-            return Some((before.saturating_add(place), reason));
-        }
-        before = before.saturating_add(part.2.len());
-    }
-    None
-}
-
-/// Holds that each capture breaks its rule first.
-fn judged(rt: &impl Abort, cases: &[Case]) {
-    for (parts, fault) in cases {
-        same(rt, first_fault(rt, parts), *fault, *parts);
-    }
-}
-
 /// PLAY and the reply that acknowledges it, 400 microseconds behind it.
 fn exchange() -> Option<Exchange> {
     Some(Exchange {
         command: Command::Play,
-        block: Block::from_bytes(PLAY.2)?,
-        reply: Block::from_bytes(ACK)?,
+        block: Block::from_bytes(&[0x20, 0x01, 0x21])?,
+        reply: Block::from_bytes(&[0x10, 0x01, 0x11])?,
         time_us: 400,
         delay_us: 400,
     })

@@ -1,7 +1,7 @@
 //! Commands that the tracker takes without their replies: what is known after each of them.
 
-use super::agreed::tell_all;
 use super::sent::*;
+use super::told::tell_all;
 use super::*;
 use deck9::Register;
 use sets25::{ListSet, SpanSet};

@@ -1,12 +1,13 @@
 //! Growths of memory that may be refused: `tests/growths.sh` runs these tests with each growth refused in turn.
 //!
-//! Where none is refused they only show the answers that the other tests show.
+//! Where none is refused they show that both kinds of sets give the answers that the program gives, over one of them, to the rows
+//! in `tests/cases/`; and that what follows brings no state back.
 
 use super::counted::ROWS;
 use super::rows::{AUDIO, FORGOTTEN, HANDS, REGISTERS, Row, SHIFTS, TRANSPORT};
 use super::sent::{
-    IN_SHIFTED_ON, PANEL_OFF, PANEL_ON, PLAYED, PRESET_10, PRESET_LAST, Sent, UNLISTED_0,
-    UNLISTED_2,
+    IN_RECALLED, IN_SHIFTED_ON, LOCAL, NAK, PANEL_OFF, PANEL_ON, PLAY, PLAYED, PRESET_10,
+    PRESET_LAST, REMOTE, Sent, UNLISTED_0, UNLISTED_2,
 };
 use super::{command_of, known, same, spans_and_presets};
 use deck9::{Hands, Knowledge, Register};
@@ -83,8 +84,23 @@ fn take_leaving<S: Counted>(
     remains: bool,
     exchanges: &[Sent],
 ) -> Result<(), AllocError> {
-    let answer = take(rt, tracker, sent)?;
-    same(rt, answer, remains, (sent, exchanges));
+    let answers = (take(rt, tracker, sent)?, tracker.remains());
+    same(rt, answers, (remains, remains), (sent, exchanges));
+    Ok(())
+}
+
+/// What can't bring back a state where none is left.
+const LATER: &[Sent] = &[PLAYED, (PLAY, NAK), REMOTE, LOCAL, IN_RECALLED, UNLISTED_0];
+
+/// Takes exchanges that can't bring back a state.
+fn stay_without<S: Counted>(
+    rt: &impl Abort,
+    tracker: &mut Tracker<S>,
+    exchanges: &[Sent],
+) -> Result<(), AllocError> {
+    for sent in LATER {
+        take_leaving(rt, tracker, *sent, false, exchanges)?;
+    }
     Ok(())
 }
 
@@ -99,7 +115,12 @@ fn judge<S: Counted>(
     for sent in before {
         take_leaving(rt, tracker, *sent, true, exchanges)?;
     }
-    take_leaving(rt, tracker, *last, remains, exchanges)
+    take_leaving(rt, tracker, *last, remains, exchanges)?;
+    if remains {
+        Ok(())
+    } else {
+        stay_without(rt, tracker, exchanges)
+    }
 }
 
 fn judge_from_first<S: Counted>(

@@ -142,8 +142,8 @@ impl Tally {
     }
 }
 
-/// Both trackers take an exchange and answer the same: whether a state remains.
-fn agree(
+/// Both trackers take an exchange and answer the same: whether a state remains, and what is known.
+pub(super) fn agree(
     rt: &impl Abort,
     lists: &mut Tracker<ListSet>,
     spans: &mut Tracker<SpanSet>,
