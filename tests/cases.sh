@@ -19,6 +19,8 @@
 # Beside that check, explain, run and why, each with hands where they are asked for, must end with the same status as what is
 # asked, with the same last line where there is a verdict, and with the same standard error. This is not tried where the words are
 # at fault or a file is not opened.
+#
+# What another script asks of a capture, and holds to the whole of its answer, is not asked here again.
 set -u
 cd "$(dirname "$0")/.." || exit 1
 program=${NINECHECK:-$PWD/crates/ninecheck/out/ninecheck}
