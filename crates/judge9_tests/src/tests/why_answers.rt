@@ -36,7 +36,7 @@ const UNTOUCHED: &[Parts] = &[
     &[REMOTE, PLAY, SHOWS_NO_MODE],
 ];
 
-/// Compares the goal and the panel that were known before the last reply of each row.
+/// Compares the number of exchanges, and the goal and the panel that were known before the last reply of each row.
 fn agree(
     rt: &impl Abort,
     alloc: Global,
@@ -47,9 +47,17 @@ fn agree(
     for parts in rows {
         let text = capture(alloc, parts)?;
         let answer = judge_with_contradiction(alloc, text.as_bytes(), hands);
-        let Ok(WhyVerdict::Contradiction { known, .. }) = &answer else {
+        let Ok(
+            WhyVerdict::Contradiction {
+                known,
+                exchanges,
+                ..
+            },
+        ) = &answer
+        else {
             fail(rt, parts)
         };
+        same(rt, exchanges.len(), parts.len(), parts);
         same(rt, (known.goal, known.panel), expected, parts);
     }
     Ok(())
