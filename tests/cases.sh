@@ -4,12 +4,15 @@
 #
 # A table has a line for each thing, with its kind as the first word; empty lines and those that start with '#' say nothing:
 #
-#   block NAME RECORDS   a name for records, for all cases after it in the same table
+#   block NAME RECORDS   a name for records, for all cases after it in the same table; those of tests/lib/blocks.txt have a name
+#                        in every table
 #   case NAME            begins a case
-#   ask WORDS            the words of the command line; the capture comes on standard input
+#   ask WORDS            the words of the command line; the capture comes on standard input. Where several such lines stand, the
+#                        same must come of each
 #   records RECORDS      a header, and then these records; more such lines go on with the capture. A record is a byte, after
-#                        the letter of its wire, 400 microseconds after the record before, or N where +N stands before it
-#   text TEXT            the capture as it is, with \n, \r, \t and \\
+#                        the letter of its wire, 400 microseconds after the record before, or N where +N stands before it.
+#                        A block's name stands for its records, and 'N times NAME' for them so often
+#   text TEXT            the capture as it is, with \n, \r, \t and \\; behind records it goes on with them
 #   status N             the status
 #   out LINE, err LINE   a line of standard output, and one of standard error; none: nothing is written there
 #
@@ -19,6 +22,12 @@
 #   with FIELD | FIELD   each of these cases once more, with the fields counted on behind those of `each`
 #
 # `@MARK` between records keeps the number of the record before it, which `@MARK` is in a line of what is written.
+#
+# Beside that check, explain, run and why, each with hands where they are asked for, must end with the same status as what is
+# asked, with the same last line where there is a verdict, and with the same standard error. This is not tried where the words are
+# at fault or a file is not opened.
+#
+# What another script asks of a capture, and holds to the whole of its answer, is not asked here again.
 set -u
 cd "$(dirname "$0")/.." || exit 1
 program=${NINECHECK:-$PWD/crates/ninecheck/out/ninecheck}
@@ -27,20 +36,51 @@ program=${NINECHECK:-$PWD/crates/ninecheck/out/ninecheck}
 work=$(mktemp -d)
 trap 'rm -rf "$work"' EXIT
 
-# is_case FOLDER: the last run ended with the status of this case, and wrote what it says.
+# run WORDS...: the program with these words, on the capture of the case.
+run() {
+    "$program" "$@" < "$folder/capture.csv" > "$work/out" 2> "$work/err"
+    status=$?
+}
+
+# is_case: the last run ended with the status of this case, and wrote what it says.
 is_case() {
-    [ "$status" = "$(cat "$1/status")" ] && cmp -s "$work/out" "$1/out" && cmp -s "$work/err" "$1/err"
+    [ "$status" = "$(cat "$folder/status")" ] && cmp -s "$work/out" "$folder/out" && cmp -s "$work/err" "$folder/err"
+}
+
+# is_end VERB: the last run ended as the case says. Where there is a verdict it is the last line, and else check, run and why
+# write nothing.
+is_end() {
+    [ "$status" = "$(cat "$folder/status")" ] && cmp -s "$work/err" "$folder/err" || return 1
+    case $status in
+        0 | 1) [ "$(tail -n 1 "$work/out")" = "$(tail -n 1 "$folder/out")" ] ;;
+        *) [ "$1" = explain ] || [ ! -s "$work/out" ] ;;
+    esac
+}
+
+# ends_so WORDS...: whatever is asked of this capture, with hands or without as these words say, the end is the same.
+ends_so() {
+    local verb hands=
+    case " $* " in *' --hands '*) hands=--hands ;; esac
+    for verb in check explain run why; do
+        # shellcheck disable=SC2086
+        run $verb $hands
+        is_end $verb || return 1
+    done
 }
 
 for table in tests/cases/*.txt; do
-    cases=$work/$(basename "$table" .txt)
-    mkdir "$cases"
-    judge "$table can be read" awk -v into="$cases" -f tests/lib/cases.awk "$table"
-    for case in "$cases"/*/; do
-        # shellcheck disable=SC2046
-        "$program" $(cat "$case/words") < "$case/capture.csv" > "$work/out" 2> "$work/err"
-        status=$?
-        judge "$(basename "$table" .txt): $(cat "$case/name")" is_case "${case%/}"
+    name=$(basename "$table" .txt)
+    mkdir "$work/$name"
+    judge "$table can be read" awk -v into="$work/$name" -f tests/lib/cases.awk tests/lib/blocks.txt "$table"
+    for folder in "$work/$name"/*; do
+        while IFS= read -r words; do
+            # shellcheck disable=SC2086
+            run $words
+            judge "$name: $(cat "$folder/name"), $words" is_case
+            case $(cat "$folder/status") in 0 | 1 | 3) ;; *) continue ;; esac
+            # shellcheck disable=SC2086
+            judge "$name: $(cat "$folder/name"), $words, and what else can be asked" ends_so $words
+        done < "$folder/words"
     done
 done
 

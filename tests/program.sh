@@ -227,7 +227,10 @@ done <<'END'
 err||error: 'ninecheck' requires a subcommand but one was not provided
 err|frob|error: unrecognized subcommand 'frob'
 err|chec|  tip: a similar subcommand exists: 'check'
+err|Check|error: unrecognized subcommand 'Check'
 err|check.csv|error: unrecognized subcommand 'check.csv'
+err|f.csv|error: unrecognized subcommand 'f.csv'
+err|--hands|error: unexpected argument '--hands' found
 err|runs|  tip: a similar subcommand exists: 'run'
 err|check a b|error: unexpected argument 'b' found
 err|run a b|error: unexpected argument 'b' found
@@ -244,6 +247,7 @@ err|check --hand|  tip: a similar argument exists: '--hands'
 err|--hands check|error: unexpected argument '--hands' found
 err|check --version|error: unexpected argument '--version' found
 err|run -V|error: unexpected argument '-V' found
+err|check -V|error: unexpected argument '-V' found
 err|frob --version|error: unrecognized subcommand 'frob'
 err|--version=1|error: unexpected value '1' for '--version' found; no more were expected
 err|--versions|  tip: a similar argument exists: '--version'
@@ -252,8 +256,12 @@ out|--help|  -V, --version  Print version
 out|--help|Usage: ninecheck <COMMAND>
 out|-h|Usage: ninecheck <COMMAND>
 out|help|Usage: ninecheck <COMMAND>
+out|-h -V|Usage: ninecheck <COMMAND>
 out|check --help|Usage: ninecheck check [OPTIONS] [FILE]
+out|check -h|Usage: ninecheck check [OPTIONS] [FILE]
+out|help check|Usage: ninecheck check [OPTIONS] [FILE]
 out|explain -h|Usage: ninecheck explain [OPTIONS] [FILE]
+out|explain --help|Usage: ninecheck explain [OPTIONS] [FILE]
 out|help explain|Usage: ninecheck explain [OPTIONS] [FILE]
 out|run --help|Usage: ninecheck run [OPTIONS] [FILE]
 out|help run|Usage: ninecheck run [OPTIONS] [FILE]

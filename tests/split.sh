@@ -98,6 +98,8 @@ done
 } > "$work/long.csv"
 "$program" check "$work/long.csv" > "$work/out" 2>&1
 judge 'a capture that is too long' [ "$(cat "$work/out")" = "$(both_lines 'unreadable at row 4000001: too many rows')" ]
+head -n 4000001 "$work/long.csv" | "$program" check > "$work/out" 2>&1
+judge 'a capture of as many rows as may be judged' [ "$(cat "$work/out")" = 'yes: records 4000000, exchanges 666666, open 4' ]
 awk=awk
 split_file "$work/long.csv" part
 judge 'its parts' [ "$(cat "$work/out")" = 'part-001.csv

@@ -63,6 +63,7 @@ function begin(name) {
     put("name", name)
     put("out", "")
     put("err", "")
+    capture = folder "/capture.csv"
     words = status = ""
     wire = ""
     time = 0
@@ -78,6 +79,7 @@ function finish(    file) {
         printf "%s", kept[file] > (folder "/" file)
         close(folder "/" file)
     }
+    close(capture)
     delete kept
 }
 
@@ -85,20 +87,26 @@ function put(file, line) {
     kept[file] = kept[file] line
 }
 
-# Puts the rows of these blocks behind those of the case.
-function put_records(list,    parts, n, i, word) {
-    if (!has_capture) put("capture.csv", "time_us,wire,byte\n")
+# Puts the rows of these records behind those of the case.
+function put_records(list,    parts, n, i, word, times) {
+    if (!has_capture) print "time_us,wire,byte" > capture
     has_capture = 1
     n = split(list, parts, " ")
     for (i = 1; i <= n; i++) {
         word = parts[i]
-        if (word ~ /^[CD]$/) wire = word
+        if (parts[i + 1] == "times") {
+            times = word
+            word = parts[i += 2]
+            if (times !~ /^[1-9][0-9]*$/ || !(word in blocks)) stop("no such block so often: " times " times " word)
+            while (times-- > 0) put_records(blocks[word])
+        }
+        else if (word ~ /^[CD]$/) wire = word
         else if (word ~ /^[0-9A-Fa-f][0-9A-Fa-f]$/) {
             if (wire == "") stop("a byte before its wire")
             time += gap
             gap = 400
             records++
-            put("capture.csv", time "," wire "," word "\n")
+            print time "," wire "," word > capture
         }
         else if (word ~ /^@[a-z0-9]+$/) marks[substr(word, 2)] = records
         else if (word ~ /^\+[0-9]+$/) gap = substr(word, 2) + 0
@@ -110,11 +118,12 @@ function put_records(list,    parts, n, i, word) {
 # Puts a text with its escapes \n, \r, \t and \\.
 function put_text(text,    i, letter) {
     has_capture = 1
+    printf "" > capture
     for (i = 1; i <= length(text); i++) {
         letter = substr(text, i, 1)
-        if (letter != "\\") { put("capture.csv", letter); continue }
+        if (letter != "\\") { printf "%s", letter > capture; continue }
         letter = substr(text, ++i, 1)
-        put("capture.csv", letter == "n" ? "\n" : letter == "r" ? "\r" : letter == "t" ? "\t" : letter)
+        printf "%s", (letter == "n" ? "\n" : letter == "r" ? "\r" : letter == "t" ? "\t" : letter) > capture
     }
 }
 

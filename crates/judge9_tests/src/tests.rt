@@ -1,14 +1,8 @@
 //! Captures and what is answered to them, with values from the protocol's rules, by hand.
-mod captures;
 mod changed;
-mod contradicting;
-mod could_show;
-mod deck;
 mod drawn;
-mod explained;
 mod fewest_hands;
 mod hostile;
-mod lines;
 mod long;
 mod open_records;
 mod parts;
@@ -18,7 +12,7 @@ mod run_lines;
 mod runs;
 mod texts;
 mod why_answers;
-mod worked;
+mod worked_runs;
 mod writers;
 
 use changed::refuse_changes;
@@ -115,47 +109,6 @@ fn report<R: Read + Drop>(
     let mut writer = Narrow::roomy(alloc);
     let answer = judge(alloc, reader, &mut writer, view, hands);
     (answer, writer.into_taken())
-}
-
-/// Compares all that is written of a capture with these lines, and tells its run. Answers whether it is a yes.
-fn tell_lines(
-    rt: &impl Abort,
-    alloc: Global,
-    text: &str,
-    view: View,
-    hands: Hands,
-    lines: &str,
-) -> Result<bool, AllocError> {
-    let (_, written) = report(alloc, text.as_bytes(), view, hands);
-    same(rt, written.as_slice(), lines.as_bytes(), text);
-    tell(rt, alloc, text, hands)
-}
-
-/// Explains a capture of these exchanges, compares all that is written, and tells its run.
-fn tell_explained(
-    rt: &impl Abort,
-    alloc: Global,
-    hands: Hands,
-    parts: &[&str],
-    lines: &str,
-) -> Result<(), Fail> {
-    let text = capture(alloc, parts)?;
-    tell_lines(rt, alloc, text.as_str(), View::Explain, hands, lines)?;
-    Ok(())
-}
-
-/// Compares the line of the verdict on a capture, where nobody touches the panel, and tells its run. What a deck gives
-/// that nobody touches, one gives too that somebody may touch.
-fn tell_untouched(
-    rt: &impl Abort,
-    alloc: Global,
-    text: &str,
-    line: &str,
-) -> Result<(), AllocError> {
-    if tell_lines(rt, alloc, text, View::Verdict, Hands::None, line)? {
-        tell_lines(rt, alloc, text, View::Verdict, Hands::Allowed, line)?;
-    }
-    Ok(())
 }
 
 /// Judges a capture with a run. The verdict has to be that of `judge`, and where it is a yes, the run has to be one,

@@ -13,8 +13,6 @@ use std::test::Fail;
 use tc25::TimeCode;
 use track9::Tracker;
 
-/// LOCAL DISABLE, not acknowledged.
-const REFUSED_DISABLE: &str = "C 00 0C 0C D 11 12 01 24";
 /// A command of group 0 that is not listed, acknowledged: the deck may have forgotten everything.
 const FORGET: &str = "C 00 40 40 D 10 01 11";
 /// OUT DATA PRESET to 10:00:00:00, acknowledged, and OUT DATA SENSE, answered with 11:00:00:00.

@@ -1,9 +1,8 @@
-//! Texts that can't be read, and readers and writers that fail.
+//! Readers and writers that fail, and what is not read.
 
-use super::explained::WOUND_AND_PLAYED_LINES;
 use super::parts::WOUND_AND_PLAYED;
-use super::readers::{Cut, Plays, Repeated};
-use super::texts::{HEADER, PLAYED, PLAYED_AND_BAD, PLAYED_AND_CUT, WRONG_SUM};
+use super::readers::{Cut, Repeated};
+use super::texts::{HEADER, PLAYED, PLAYED_AND_CUT, WRONG_SUM};
 use super::writers::{Narrow, Then};
 use super::{answer_and_text, capture, report, same};
 use block9::Reason;
@@ -33,23 +32,15 @@ const WHOLE: Verdict = Verdict::Yes {
     tail: 0,
 };
 
-/// Texts that can't be read, the refusal of each, and its row.
-const UNREADABLE: &[(&str, CaptureKind, u32)] = &[
-    ("", CaptureKind::Header, 0),
-    ("time_us,wire,byte\n400,C", CaptureKind::Fields, 1),
-    (
-        "time_us,wire,byte\n1000000000000000,C,20\n",
-        CaptureKind::Time,
-        1,
-    ),
-    ("time_us,wire,byte\n400,c,20\n", CaptureKind::Wire, 1),
-    (PLAYED_AND_BAD, CaptureKind::Byte, 7),
-    (
-        "time_us,wire,byte\n800,C,20\n400,C,01\n",
-        CaptureKind::Backwards,
-        2,
-    ),
-];
+/// The lines of a deck that winds on and plays.
+const WOUND_AND_PLAYED_LINES: &str = "\
+record 8: STATUS SENSE -> 71 20, delay 400, goal unknown, shown unknown, in unknown, out unknown, local no, ain unknown, aout unknown
+record 14: FAST FWD -> ACK, delay 400, goal FF, shown unknown, in unknown, out unknown, local no, ain unknown, aout unknown
+record 23: STATUS SENSE -> 72 20, delay 400, goal FF, shown FF, in unknown, out unknown, local no, ain unknown, aout unknown
+record 29: PLAY -> ACK, delay 400, goal PLAY, shown unknown, in unknown, out unknown, local no, ain unknown, aout unknown
+record 38: STATUS SENSE -> 72 20, delay 400, goal unknown, shown STOP, in unknown, out unknown, local no, ain unknown, aout unknown
+yes: records 38, exchanges 5, open 0
+";
 
 /// Reads a capture that is refused, of which nothing is written.
 fn tell_refused<R: Read + Drop>(
@@ -73,19 +64,6 @@ fn tell_sum_at_3<R: Read + Drop>(rt: &impl Abort, alloc: Global, reader: R, case
 }
 
 #[test]
-fn each_kind_of_unreadable_text(rt: HostRuntime) {
-    for (text, kind, row) in UNREADABLE {
-        tell_refused(&rt, rt.alloc(), text.as_bytes(), *kind, *row);
-    }
-}
-
-#[test]
-fn a_broken_rule_comes_before_a_later_bad_row(rt: HostRuntime) {
-    let text = b"time_us,wire,byte\n400,C,20\n800,C,01\n1200,C,22\n1600,D,G1\n";
-    tell_sum_at_3(&rt, rt.alloc(), text.as_slice(), "before a bad row");
-}
-
-#[test]
 fn no_row_is_read_after_the_break(rt: HostRuntime) {
     let mut reader = Repeated::new(WRONG_SUM, "1600,C,20\n", 1_000_000);
     tell_sum_at_3(&rt, rt.alloc(), &mut reader, "before a million rows");
@@ -106,12 +84,6 @@ fn readers_that_fail(rt: HostRuntime) {
     let broken = "time_us,wire,byte\n400,C,20\n800,C,01\n1200,C,22\n1600,C,20\n2000,C,20\n";
     let reader = Cut::new(broken, broken.len());
     tell_sum_at_3(&rt, rt.alloc(), reader, "before the reader fails");
-}
-
-#[test]
-fn one_record_too_many(rt: HostRuntime) {
-    let reader = Plays::new(rt.alloc(), 4_000_001);
-    tell_refused(&rt, rt.alloc(), reader, CaptureKind::TooMany, 4_000_001);
 }
 
 #[test]

@@ -19,10 +19,8 @@ const TURN: [&str; 8] = [
     SHOWS_STOP,
 ];
 
-/// IN DATA SENSE, answered with 10:00:06:00 and with 10:00:24:00: 150 and 600 frames after 10:00:00:00.
+/// IN DATA SENSE, answered with 10:00:06:00: 150 frames after 10:00:00:00.
 const IN_150_ON: &str = "C 60 10 70 D 74 10 00 06 00 10 9A";
-
-const IN_600_ON: &str = "C 60 10 70 D 74 10 00 24 00 10 B8";
 
 /// A capture of that many exchanges of a deck in remote.
 fn turns(alloc: Global, exchanges: usize) -> Result<String, AllocError> {
@@ -33,15 +31,15 @@ fn turns(alloc: Global, exchanges: usize) -> Result<String, AllocError> {
     Ok(tap.text)
 }
 
-/// A capture of a deck in local whose IN point is at 10:00:00:00, is shifted 597 times, and is then told.
-fn shifts(alloc: Global, told: &str) -> Result<String, AllocError> {
+/// A capture of a deck in local whose IN point is at 10:00:00:00, is shifted 597 times, and is then told to be 150 frames on.
+fn shifts(alloc: Global) -> Result<String, AllocError> {
     let mut tap = Tap::new(alloc)?;
     tap.put(IN_SET_LOCAL)?;
     tap.put(IN_10)?;
     for _ in 0..597 {
         tap.put(SHIFT_MORE)?;
     }
-    tap.put(told)?;
+    tap.put(IN_150_ON)?;
     Ok(tap.text)
 }
 
@@ -57,18 +55,6 @@ fn tell_turns(
     Ok(())
 }
 
-fn tell_shifts(
-    rt: &impl Abort,
-    alloc: Global,
-    told: &str,
-    expected: bool,
-) -> Result<(), AllocError> {
-    let text = shifts(alloc, told)?;
-    let is_yes = tell(rt, alloc, text.as_str(), Hands::None)?;
-    same(rt, is_yes, expected, told);
-    Ok(())
-}
-
 #[test]
 fn in_remote(rt: HostRuntime) -> Result<(), Fail> {
     for exchanges in [255, 256, 257, 512, 513, 600] {
@@ -81,7 +67,8 @@ fn in_remote(rt: HostRuntime) -> Result<(), Fail> {
 /// A run does 150 of the shifts and leaves the others undone.
 #[test]
 fn in_local(rt: HostRuntime) -> Result<(), Fail> {
-    tell_shifts(&rt, rt.alloc(), IN_150_ON, true)?;
-    tell_shifts(&rt, rt.alloc(), IN_600_ON, false)?;
+    let text = shifts(rt.alloc())?;
+    let is_yes = tell(&rt, rt.alloc(), text.as_str(), Hands::None)?;
+    same(&rt, is_yes, true, IN_150_ON);
     Ok(())
 }

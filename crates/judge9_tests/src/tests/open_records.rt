@@ -10,13 +10,8 @@ use verdict9::{asked_len, open_command};
 /// Bytes of the controller and of the deck behind them, how many are the command's, and what it means.
 type Row<'a> = (&'a [u8], &'a [u8], usize, Option<Command>);
 
-/// 20 01 21 is PLAY; with another sum it is no block.
-const ROWS: [Row; 7] = [
-    (&[], &[], 0, None),
-    (&[0x20], &[], 1, None),
-    (&[0x20, 0x01], &[], 2, None),
-    (&[0x20, 0x01, 0x21], &[], 3, Some(Command::Play)),
-    (&[0x20, 0x01, 0x21], &[0x10, 0x01], 3, Some(Command::Play)),
+/// 20 01 22 is no block; its sum would be 21. The program shows what is open at a break, and never these.
+const ROWS: [Row; 2] = [
     (&[0x20, 0x01, 0x22], &[0x10], 3, None),
     (&[], &[0x10, 0x01], 0, None),
 ];

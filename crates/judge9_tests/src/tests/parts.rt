@@ -4,10 +4,12 @@
 pub(super) const REMOTE: &str = "C 61 20 01 82 D 71 20 00 91";
 /// STATUS SENSE, and the answer that the deck is in local.
 pub(super) const LOCAL: &str = "C 61 20 01 82 D 71 20 01 92";
-/// LOCAL DISABLE and LOCAL ENABLE, acknowledged: the panel is off, and on.
+/// LOCAL DISABLE and LOCAL ENABLE, acknowledged: the panel is off, and on; and LOCAL DISABLE, not acknowledged.
 pub(super) const DISABLE: &str = "C 00 0C 0C D 10 01 11";
 
 pub(super) const ENABLE: &str = "C 00 1D 1D D 10 01 11";
+
+pub(super) const REFUSED_DISABLE: &str = "C 00 0C 0C D 11 12 01 24";
 /// IN DATA PRESET to 00:00:00:00, to 10:00:00:00 and to 23:59:59:24, acknowledged, and to 11:00:00:00, not
 /// acknowledged.
 pub(super) const PRESET_FIRST: &str = "C 44 14 00 00 00 00 58 D 10 01 11";
@@ -17,12 +19,11 @@ pub(super) const PRESET_10: &str = "C 44 14 00 00 00 10 68 D 10 01 11";
 pub(super) const PRESET_LAST: &str = "C 44 14 24 59 59 23 51 D 10 01 11";
 
 pub(super) const REFUSED_11: &str = "C 44 14 00 00 00 11 69 D 11 12 01 24";
-/// IN ENTRY, IN FLAG RESET and IN RECALL, acknowledged.
+/// IN ENTRY and IN FLAG RESET, acknowledged.
 pub(super) const IN_ENTRY: &str = "C 40 10 50 D 10 01 11";
 
 pub(super) const IN_RESET: &str = "C 40 20 60 D 10 01 11";
 
-pub(super) const IN_RECALL: &str = "C 40 24 64 D 10 01 11";
 /// IN SHIFT + and IN SHIFT -, acknowledged.
 pub(super) const SHIFT_MORE: &str = "C 40 18 58 D 10 01 11";
 
@@ -76,12 +77,8 @@ pub(super) const CUE_UP: &str = "C 24 31 04 03 02 01 5F D 10 01 11";
 pub(super) const EJECT: &str = "C 20 0F 2F D 10 01 11";
 
 pub(super) const UNLISTED: &str = "C 20 40 60 D 10 01 11";
-/// IN ENTRY, IN SHIFT + and PLAY, not acknowledged.
-pub(super) const REFUSED_ENTRY: &str = "C 40 10 50 D 11 12 01 24";
-
+/// IN SHIFT +, not acknowledged.
 pub(super) const REFUSED_SHIFT: &str = "C 40 18 58 D 11 12 01 24";
-
-pub(super) const REFUSED_PLAY: &str = "C 20 01 21 D 11 12 01 24";
 /// STATUS SENSE of the mode, answered as STOP, PLAY, REC, FF, REW, CUED, with no motion bit and as no mode at all.
 pub(super) const SHOWS_STOP: &str = "C 61 20 12 93 D 72 20 20 00 B2";
 

@@ -1,8 +1,5 @@
 //! Readers for the tests.
 
-use super::texts::HEADER;
-use std::alloc::{AllocError, Global};
-use std::fmt::Write;
 use std::io;
 use std::io::Read;
 
@@ -72,63 +69,6 @@ impl Read for Repeated<'_> {
         }
         let count = self.rest.read(buf)?;
         self.given = self.given.saturating_add(count);
-        Ok(count)
-    }
-}
-
-/// Wire and byte of each record of PLAY and its acknowledgement, from the last of the one before on.
-const PLAY_ROWS: [&str; 6] = ["D,11", "C,20", "C,01", "C,21", "D,10", "D,01"];
-
-/// Writes the header, or the row of a record: the first has the number 1.
-fn write_line(line: &mut String, number: u32) -> Result<(), AllocError> {
-    if number == 0 {
-        return line.push_str(HEADER);
-    }
-    let time = u64::from(number) * 400;
-    let row = PLAY_ROWS[(number % 6) as usize];
-    writeln!(line, "{time},{row}")
-}
-
-/// Makes the text of so many records as it is read: PLAY and its acknowledgement again and again, 400
-/// microseconds apart.
-#[derive(Drop)]
-pub(super) struct Plays {
-    line: String,
-    at: usize,
-    made: u32,
-    records: u32,
-}
-
-impl Plays {
-    pub(super) fn new(alloc: Global, records: u32) -> Self {
-        Plays {
-            line: String::new(alloc),
-            at: 0,
-            made: 0,
-            records,
-        }
-    }
-
-    fn make_line(&mut self) -> io::Result<()> {
-        self.line.clear();
-        self.at = 0;
-        let written = write_line(&mut self.line, self.made);
-        self.made = self.made.saturating_add(1);
-        written.map_err(|_| io::Error::from(io::ErrorKind::OutOfMemory))
-    }
-}
-
-impl Read for Plays {
-    fn read(&mut self, buf: &mut [u8]) -> io::Result<usize> {
-        if self.at >= self.line.len() && self.made <= self.records {
-            self.make_line()?;
-        }
-        let mut rest = match self.line.as_bytes().get(self.at..) {
-            Some(rest) => rest,
-            None => &[],
-        };
-        let count = rest.read(buf)?;
-        self.at = self.at.saturating_add(count);
         Ok(count)
     }
 }

@@ -2,7 +2,7 @@
 
 use super::same;
 use super::writers::{Narrow, Then};
-use block9::{Block, Command, Exchange, Reason};
+use block9::{Block, Command, Exchange};
 use deck9::{Entry, Hands, Mode, State};
 use judge9::{JudgeError, RunVerdict};
 use report9::write_run;
@@ -87,24 +87,6 @@ fn a_yes(rt: HostRuntime) -> Result<(), Fail> {
     tell_text(&rt, rt.alloc(), &run, Hands::None, PLAYED);
     tell_text(&rt, rt.alloc(), &run, Hands::Allowed, PLAYED_WITH_PANEL);
     Ok(())
-}
-
-#[test]
-fn a_yes_without_exchanges_and_a_no(rt: HostRuntime) {
-    let nothing = RunVerdict::Yes {
-        records: 0,
-        tail: 0,
-        exchanges: Vec::new(rt.alloc()),
-        states: Vec::new(rt.alloc()),
-    };
-    let yes = "yes: records 0, exchanges 0, open 0\n";
-    tell_text(&rt, rt.alloc(), &nothing, Hands::None, yes);
-    let broken = RunVerdict::No {
-        at: 34,
-        reason: Reason::NoRun,
-    };
-    let no = "no at record 34: M1 no run remains\n";
-    tell_text(&rt, rt.alloc(), &broken, Hands::Allowed, no);
 }
 
 #[test]

@@ -7,10 +7,6 @@ pub(super) const HEADER: &str = "time_us,wire,byte\n";
 pub(super) const PLAYED: &str =
     "time_us,wire,byte\n400,C,20\n800,C,01\n1200,C,21\n1600,D,10\n2000,D,01\n2400,D,11\n";
 
-/// PLAY and its acknowledgement, and a row whose byte is none.
-pub(super) const PLAYED_AND_BAD: &str =
-    "time_us,wire,byte\n400,C,20\n800,C,01\n1200,C,21\n1600,D,10\n2000,D,01\n2400,D,11\n2800,C,G1\n";
-
 /// PLAY and its acknowledgement, where the next row is cut off.
 pub(super) const PLAYED_AND_CUT: &str =
     "time_us,wire,byte\n400,C,20\n800,C,01\n1200,C,21\n1600,D,10\n2000,D,01\n2400,D,11\n2800,C";

@@ -2,7 +2,6 @@
 
 use crate::tests::same;
 use crate::tests::writers::{Narrow, took, took_to_the_end};
-use capture9::{CaptureError, CaptureKind};
 use deck9::Hands;
 use judge9::{JudgeError, Verdict, View};
 use program9::{Buffered, judge_and_flush, judge_with_run_and_flush};
@@ -128,24 +127,6 @@ fn nothing_is_written_after_a_write_that_failed(rt: HostRuntime) {
         same(&rt, answer.err(), Some(JudgeError::Write), room);
         took(&rt, &writer, &whole[..room], 1, 0);
     }
-}
-
-#[test]
-fn nothing_is_written_of_a_run_of_a_bad_capture(rt: HostRuntime) {
-    let text = "time_us,wire,byte\n400,C,20\n800,X,01\n";
-    let writer = Narrow::new(rt.alloc(), usize::MAX);
-    let (answer, writer) = judged_with_run(rt.alloc(), text, writer).expect(&rt, "memory");
-    let refusal = CaptureError {
-        kind: CaptureKind::Wire,
-        row: 2,
-    };
-    same(
-        &rt,
-        answer.err(),
-        Some(JudgeError::Capture(refusal)),
-        refusal,
-    );
-    same(&rt, writer.taken.is_empty(), true, refusal);
 }
 
 #[test]

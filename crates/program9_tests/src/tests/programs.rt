@@ -14,11 +14,6 @@ const PLAY: &str =
 /// What is answered to it.
 const YES: &str = "yes: records 6, exchanges 1, open 0\n";
 
-/// A status reply that the deck is not in local, and then one that it is: somebody has switched it.
-const SWITCHED: &str = "time_us,wire,byte\n\
-    400,C,61\n800,C,20\n1200,C,01\n1600,C,82\n2000,D,71\n2400,D,20\n2800,D,00\n3200,D,91\n\
-    3600,C,61\n4000,C,20\n4400,C,01\n4800,C,82\n5200,D,71\n5600,D,20\n6000,D,01\n6400,D,92\n";
-
 /// The words of a command line.
 fn words_of(alloc: Global, words: &[&str]) -> Result<Vec<String>, AllocError> {
     let mut all = Vec::new(alloc);
@@ -28,12 +23,11 @@ fn words_of(alloc: Global, words: &[&str]) -> Result<Vec<String>, AllocError> {
     Ok(all)
 }
 
-/// What stands for the files: `switched.csv`, and PLAY on standard input. Nothing else can be opened.
+/// What stands for the files: PLAY on standard input. Nothing else can be opened.
 fn opened<'a>(file: &Option<String>) -> io::Result<&'a [u8]> {
     match file {
         None => Ok(PLAY.as_bytes()),
         Some(name) => match name.as_str() {
-            "switched.csv" => Ok(SWITCHED.as_bytes()),
             "" => Err(io::Error::from(io::ErrorKind::OutOfMemory)),
             "forbidden.csv" => Err(io::Error::from(io::ErrorKind::PermissionDenied)),
             "folder" => Err(io::Error::from(io::ErrorKind::IsADirectory)),
@@ -56,70 +50,6 @@ fn is_told(end: &End, status: u8, message: Message) -> bool {
     match end {
         End::Usage(_) => false,
         End::Told(outcome) => { end.status() == status && *outcome == Outcome { status, message } }
-    }
-}
-
-#[test]
-fn the_task_of_the_words_is_carried_out(rt: HostRuntime) {
-    let (yes, no) = (
-        "yes: records 16, exchanges 2, open 0\n",
-        "no at record 16: M1 no run remains\n",
-    );
-    let table: [(&[&str], u8, &str, &str); 12] = [
-        (&["check"], 0, YES, YES),
-        (&["check", "--hands"], 0, YES, YES),
-        (&["check", "switched.csv"], 1, no, no),
-        (&["check", "switched.csv", "--hands"], 0, yes, yes),
-        (&["explain"], 0, "record 6: PLAY -> ACK, ", YES),
-        (
-            &["explain", "switched.csv"],
-            1,
-            "record 8: STATUS SENSE -> ",
-            no,
-        ),
-        (
-            &["explain", "--hands", "switched.csv"],
-            0,
-            "record 8: STATUS SENSE -> ",
-            yes,
-        ),
-        (&["run"], 0, "record 6: goal PLAY, ", YES),
-        (
-            &["run", "--hands", "switched.csv"],
-            0,
-            "record 8: goal ",
-            yes,
-        ),
-        (&["why"], 0, YES, YES),
-        (&["why", "switched.csv"], 1, "records 1 to 8 at ", no),
-        (&["why", "--hands", "switched.csv"], 0, yes, yes),
-    ];
-    for (words, status, start, last) in &table {
-        let (end, writer) = end_on(&rt, *words, Narrow::new(rt.alloc(), usize::MAX));
-        same(&rt, is_told(&end, *status, Message::Nothing), true, *words);
-        same(
-            &rt,
-            writer.taken.starts_with(start.as_bytes()),
-            true,
-            *words,
-        );
-        took_to_the_end(&rt, &writer, last.as_bytes());
-    }
-}
-
-#[test]
-fn words_that_are_no_command_end_with_2(rt: HostRuntime) {
-    let table: [&[&str]; 4] = [
-        &[],
-        &["frob"],
-        &["check", "--hands", "--hands"],
-        &["--help"],
-    ];
-    for words in &table {
-        let (end, writer) = end_on(&rt, *words, Narrow::new(rt.alloc(), usize::MAX));
-        let is_usage = matches!(&end, End::Usage(Some(_)));
-        same(&rt, (end.status(), is_usage), (2, true), *words);
-        took(&rt, &writer, b"", 0, 0);
     }
 }
 
@@ -167,12 +97,9 @@ fn a_file_that_is_not_opened(rt: HostRuntime) {
 
 #[test]
 fn the_version_is_told(rt: HostRuntime) {
-    let table: [&[&str]; 3] = [&["--version"], &["-V"], &["-V", "frob"]];
-    for words in &table {
-        let (end, writer) = end_on(&rt, *words, Narrow::new(rt.alloc(), usize::MAX));
-        same(&rt, is_told(&end, 0, Message::Nothing), true, *words);
-        took(&rt, &writer, b"ninecheck 1.0.0\n", 0, 1);
-    }
+    let (end, writer) = end_on(&rt, &["-V"], Narrow::new(rt.alloc(), usize::MAX));
+    same(&rt, is_told(&end, 0, Message::Nothing), true, "-V");
+    took(&rt, &writer, b"ninecheck 1.0.0\n", 0, 1);
     let (end, writer) = end_on(&rt, &["-V"], Narrow::new(rt.alloc(), 4));
     same(&rt, is_told(&end, 4, Message::WriteFault), true, "no room");
     took(&rt, &writer, b"nine", 1, 0);

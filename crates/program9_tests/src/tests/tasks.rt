@@ -45,21 +45,8 @@ fn are_refused(alloc: Global, words: &[&str]) -> bool {
 /// Words, and the verb, the file and the hands that they ask for.
 type Asked = (&'static [&'static str], Verb, Option<&'static str>, Hands);
 
+/// tests/cases/words.txt has others. Here a file has a blank in its name, has the option's name beside the option, or has none.
 const COMMANDS: &[Asked] = &[
-    (&["check"], Verb::Check, None, Hands::None),
-    (
-        &["explain", "f.csv"],
-        Verb::Explain,
-        Some("f.csv"),
-        Hands::None,
-    ),
-    (&["check", "--hands"], Verb::Check, None, Hands::Allowed),
-    (
-        &["check", "--hands", "f.csv"],
-        Verb::Check,
-        Some("f.csv"),
-        Hands::Allowed,
-    ),
     (
         &["explain", "a b", "--hands"],
         Verb::Explain,
@@ -67,34 +54,11 @@ const COMMANDS: &[Asked] = &[
         Hands::Allowed,
     ),
     (
-        &["check", "--", "--hands"],
-        Verb::Check,
-        Some("--hands"),
-        Hands::None,
-    ),
-    (
         &["check", "--hands", "--", "--hands"],
         Verb::Check,
         Some("--hands"),
         Hands::Allowed,
     ),
-    (&["run"], Verb::Run, None, Hands::None),
-    (
-        &["run", "f.csv", "--hands"],
-        Verb::Run,
-        Some("f.csv"),
-        Hands::Allowed,
-    ),
-    (&["why"], Verb::Why, None, Hands::None),
-    (
-        &["why", "--hands", "f.csv"],
-        Verb::Why,
-        Some("f.csv"),
-        Hands::Allowed,
-    ),
-    (&["check", "-"], Verb::Check, Some("-"), Hands::None),
-    (&["check", "check"], Verb::Check, Some("check"), Hands::None),
-    (&["check", "help"], Verb::Check, Some("help"), Hands::None),
     (&["check", ""], Verb::Check, Some(""), Hands::None),
 ];
 
@@ -106,55 +70,10 @@ fn words_that_are_a_command(rt: HostRuntime) {
     }
 }
 
-const NO_COMMANDS: &[&[&str]] = &[
-    &[],
-    &["frob"],
-    &["chec"],
-    &["Check"],
-    &[""],
-    &["f.csv"],
-    &["--hands"],
-    &["--hands", "check"],
-    &["runs"],
-    &["run", "a", "b"],
-    &["why", "a", "b"],
-    &["check", "a", "b"],
-    &["check", "--hands", "--hands"],
-    &["check", "--hands=yes"],
-    &["check", "--hand"],
-    &["check", "-h"],
-    &["explain", "--help"],
-    &["help"],
-    &["help", "check"],
-    &["--help"],
-    &["-h", "-V"],
-    &["frob", "--version"],
-    &["--versions"],
-    &["--version=1"],
-    &["check", "--version"],
-    &["check", "-V"],
-    &["help", "--version"],
-];
-
+/// tests/program.sh has others.
 #[test]
 fn words_that_are_none(rt: HostRuntime) {
-    for words in NO_COMMANDS {
-        same(&rt, are_refused(rt.alloc(), *words), true, *words);
-    }
-}
-
-const OF_VERSION: &[&[&str]] = &[
-    &["--version"],
-    &["-V"],
-    &["-Vh"],
-    &["--version", "check"],
-    &["-V", "--frob"],
-];
-
-#[test]
-fn words_that_ask_for_the_version(rt: HostRuntime) {
-    for words in OF_VERSION {
-        let asked = matches!(task_of(rt.alloc(), *words), Err(WordsFault::Version));
-        same(&rt, asked, true, *words);
-    }
+    same(&rt, are_refused(rt.alloc(), &[""]), true, "an empty word");
+    let words = &["help", "--version"];
+    same(&rt, are_refused(rt.alloc(), words), true, "help --version");
 }
