@@ -1,8 +1,7 @@
 //! What is known of a deck, in the words of a report: a field of which nothing is known is left out.
 
-use deck9::Mode;
+use deck9::{Knowledge, Known, KnownEntry, Mode};
 use std::alloc::AllocError;
-use deck9::{Knowledge, Known, KnownEntry};
 
 /// The name of a switch, if it is known.
 fn name_of(known: Known<bool>, on: &'static str, off: &'static str) -> &'static str {

@@ -5,10 +5,10 @@ use super::sent::*;
 use super::side_by_side::agree;
 use super::{exchange, same};
 use deck9::Hands;
+use sets25::{ListSet, SpanSet};
 use std::alloc::{AllocError, Global};
 use std::process::Abort;
 use std::test::Fail;
-use sets25::{ListSet, SpanSet};
 use track9::Tracker;
 
 const RUNS: &[(Hands, &[Sent])] = &[
