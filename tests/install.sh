@@ -95,7 +95,7 @@ chmod 700 "$copy"
 status=$?
 [ ! -e "$work/none" ] || status=installed
 sed -i '/^make/d' "$work/err"
-expect 'nothing is built' 2 '' 'nothing is built: run ./ninecheck check examples/play.csv first'
+expect 'nothing is built' 2 '' 'nothing is built yet: run make first, it proves and builds the program'
 
 cp crates/ninecheck/out/ninecheck "$copy/crates/ninecheck/out/ninecheck"
 

@@ -4,6 +4,8 @@
 set -u
 cd "$(dirname "$0")/.." || exit 1
 . tests/lib/judge.sh
+. tests/lib/tools.sh
+need_tools make
 
 work=$(mktemp -d)
 trap 'rm -rf "$work"' EXIT

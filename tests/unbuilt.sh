@@ -9,7 +9,7 @@ work=$(mktemp -d)
 trap 'rm -rf "$work"' EXIT
 tree=$work/tree
 mkdir -p "$tree/crates/ninecheck/src" "$tree/a folder" "$work/bin" "$work/temporary"
-cp -r ninecheck make "$tree/"
+cp -r ninecheck ./make "$tree/"
 echo 'a capture' > "$tree/a folder/play.csv"
 first='ninecheck: not built yet: this answer comes from the same code with run-time checks and without its proof; `make` proves and builds it'
 advice='ninecheck: run `make`: it proves and builds the program, which has no such limit'
