@@ -10,9 +10,9 @@
 
 PREFIX ?= /usr/local
 DESTDIR ?=
-VERSION := $(shell cat VERSION)
+VERSION = $(shell make/version.sh)
 PROGRAM := crates/ninecheck/out/ninecheck
-PACKAGE := ninecheck-$(VERSION)-linux-x86_64
+PACKAGE = ninecheck-$(VERSION)-linux-x86_64
 
 # Where zsh looks below share/zsh: what Debian's own packages bring has a folder of its own there.
 ZSH_FOLDER ?= site-functions
@@ -40,9 +40,10 @@ install: built
 	install -D -m 644 -t "$(to)/share/ninecheck/examples" examples/*.csv examples/ANSWERS
 	install -D -m 644 -t "$(to)/share/ninecheck/examples/exports" examples/exports/*
 	install -D -m 644 -t "$(to)/share/ninecheck/examples/views" examples/views/*
-	install -D -m 644 -t "$(to)/share/doc/ninecheck" README.md VERSION docs/*.md
+	install -D -m 644 -t "$(to)/share/doc/ninecheck" README.md docs/*.md
 	install -D -m 644 -t "$(to)/share/doc/ninecheck/pictures" docs/pictures/*.svg
 	install -D -m 644 man/ninecheck.1 "$(page)"
+	sed -i 's/@VERSION@/$(VERSION)/' "$(page)"
 	install -D -m 644 completions/ninecheck.bash "$(for_bash)"
 	install -D -m 644 completions/ninecheck.zsh "$(for_zsh)"
 	install -D -m 644 completions/ninecheck.fish "$(for_fish)"
