@@ -75,13 +75,6 @@ explain 'C 20 01 22'
 want='no at record 3: B2 wrong sum'
 judge 'a wrong sum' is_report 1
 
-# A register of which two things are possible: the time of the reply, or nothing in a local deck that ignored the
-# command.
-explain "C 40 10 50 $ack C 60 10 70 D 74 10 00 00 00 05 89 C 60 10 70 D 74 10 00 00 00 05 89"
-judge 'a sense, which is not enough' has_line 2 \
-    "record 16: IN DATA SENSE -> 74 10, delay 400, goal unknown, shown unknown, in unknown, out unknown, local unknown$audio"
-judge 'a sense, the verdict' has_line 4 'yes: records 26, exchanges 3, open 0'
-
 # The exchange at which the reason is found has no line.
 explain "$remote C 40 10 50 $ack C 60 10 70 D 74 10 00 00 00 05 89 C 60 10 70 D 74 10 01 00 00 05 8A"
 judge 'no run remains, the verdict' has_line 4 'no at record 34: M1 no run remains'
@@ -94,28 +87,8 @@ judge 'a refused preset' has_line 3 \
     "record 29: IN DATA PRESET -> NAK 01 undefined, delay 400, goal unknown, shown unknown, in 10:00:00:00, out unknown, local no$audio"
 judge 'a refused preset, the verdict' has_line 5 'yes: records 39, exchanges 4, open 0'
 
-# A register that is set at one of several times; the others are clear.
-explain "C 61 20 04 85 D 74 20 01 20 00 01 B6 C 60 10 70 D 74 10 00 00 00 10 94 C 40 18 58 $ack C 40 18 58 $ack C 40 18 58 $ack C 60 10 70 D 74 10 02 00 00 10 96"
-judge 'shifts of a local deck' has_line 5 \
-    'record 39: IN SHIFT + -> ACK, delay 400, goal unknown, shown unknown, in set, out clear, local yes, ain clear, aout clear'
-judge 'shifts of a local deck, the verdict' has_line 7 'yes: records 49, exchanges 6, open 0'
-
-# A preset of an audio register.
-explain "$remote C 44 16 00 00 00 10 6A $ack C 60 12 72 D 74 12 00 00 00 10 96"
-judge 'an audio preset' has_line 2 \
-    'record 18: AUDIO IN DATA PRESET -> ACK, delay 400, goal unknown, shown unknown, in unknown, out unknown, local no, ain 10:00:00:00, aout unknown'
-judge 'an audio preset, the verdict' has_line 4 'yes: records 28, exchanges 3, open 0'
-
-# Hands on the panel.
+# Hands on the panel: tests/cases/panel.txt has the lines of the first capture with hands.
 hands="C 00 0C 0C $ack $remote $preset C 00 1D 1D $ack C 60 10 70 D 74 10 00 00 00 11 95"
-explain "$hands" --hands
-judge 'hands, the first line' has_line 1 \
-    "record 6: LOCAL DISABLE -> ACK, delay 400, goal unknown, shown unknown, in unknown, out unknown, local unknown$audio, panel off"
-judge 'hands, the fourth line' has_line 4 \
-    "record 30: LOCAL ENABLE -> ACK, delay 400, goal unknown, shown unknown, in 10:00:00:00, out unknown, local no$audio, panel on"
-judge 'hands, the fifth line' has_line 5 \
-    "record 40: IN DATA SENSE -> 74 10, delay 400, goal unknown, shown unknown, in unknown, out unknown, local unknown$audio, panel on"
-judge 'hands, the verdict' has_line 6 'yes: records 40, exchanges 5, open 0'
 explain "$hands"
 judge 'the same without hands' has_line 5 'no at record 40: M1 no run remains'
 explain 'C 00 0C 0C D 11 12 01 24' --hands

@@ -7,13 +7,13 @@
 # many records as whole turns of mixed traffic allow: the last three exchanges contradict one another, or the first of those
 # three lies 94 exchanges before the last (at most 1.8 is wanted of both), or 400,000 (at most 8). All are run in turn,
 # fifteen times or as often as the first word says, and the best time of each counts. It also says the greatest resident
-# memory, that of `run` and of `why` on the same captures too. Not part of the gate. The program is the one that the gate or
-# ./ninecheck built.
+# memory, that of `run` and of `why` on the same captures too. Not part of the gate. The program is the one that `make` or
+# the gate built.
 set -u
 turns=${1:-15}
 top=$(cd "$(dirname "$0")/../.." && pwd)
 program=${NINECHECK:-$top/crates/ninecheck/out/ninecheck}
-[ -x "$program" ] || { echo "build the program first: ./ninecheck < examples/play.csv"; exit 1; }
+[ -x "$program" ] || { echo "build the program first: make"; exit 1; }
 
 # The reading loop is a crate of its own, made and built outside the repository.
 work=$(mktemp -d)

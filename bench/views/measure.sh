@@ -3,11 +3,11 @@
 # memory: at most 60 s and 600 MB are wanted, and a view that takes more ends this with status 1. The capture is two hours of
 # polling, STATUS SENSE and CURRENT TIME SENSE in each frame of a deck that plays, with a preset and its sense every minute. For
 # `run` it is a yes; for the others its last reply comes late. Not part of the gate. The program is the one that the gate or
-# ./ninecheck built.
+# `make` built.
 set -u
 top=$(cd "$(dirname "$0")/../.." && pwd)
 program=${NINECHECK:-$top/crates/ninecheck/out/ninecheck}
-[ -x "$program" ] || { echo "build the program first: ./ninecheck check examples/play.csv"; exit 1; }
+[ -x "$program" ] || { echo "build the program first: make"; exit 1; }
 command -v mawk > /dev/null || { echo "mawk is not there"; exit 1; }
 
 work=$(mktemp -d)
