@@ -7,7 +7,7 @@ cd "$(dirname "$0")/.." || exit 1
 
 . tests/lib/judge.sh
 . tests/lib/tools.sh
-need_tools mandoc make zsh fish jq
+need_tools mandoc make zsh fish jq objdump=binutils
 
 work=$(mktemp -d)
 trap 'rm -rf "$work"' EXIT
@@ -35,9 +35,10 @@ as_nobody() {
     status=$?
 }
 
-# run_installed NAME ROOT: the program below this root, by a symlink and from another folder.
+# run_installed NAME ROOT PREFIX: the program below this root, by a symlink and from another folder. The man page's example names
+# a converter below the prefix.
 run_installed() {
-    local name=$1 root=$2
+    local name=$1 root=$2 prefix=$3 example
     as_nobody "$root/bin/ninecheck" --version
     expect "$name: the version" 0 "ninecheck $(make/version.sh)" ''
     ln -sf "$root/bin/ninecheck" "$work/a folder/nine"
@@ -48,10 +49,9 @@ run_installed() {
     run_pages "$name" "$root"
     : > "$work/out"
     judge "$name: the version of the man page" grep -qE "^\.TH NINECHECK 1 [0-9-]+ \"ninecheck $(make/version.sh)\"" "$root/share/man/man1/ninecheck.1"
-    judge "$name: the man page's converter" [ -f "$root${example#/usr/local}" ]
+    example=$(grep -o "$prefix/share[^ ]*\.awk" "$root/share/man/man1/ninecheck.1")
+    judge "$name: the man page's converter" [ -f "$root${example#"$prefix"}" ]
 }
-# The man page's example names a converter where make puts it if it is told nothing else.
-example=$(grep -o '/usr/local/[^ ]*\.awk' man/ninecheck.1)
 
 # run_pages NAME ROOT: the commands of the installed pages on captures and on views, in a copy of the folder that has the
 # installed examples, converters and views, make what they make here.
@@ -104,7 +104,7 @@ cp crates/ninecheck/out/ninecheck "$copy/crates/ninecheck/out/ninecheck"
 place="$work/a place"
 root="$place/srv/a nine"
 holds 'make install' make -C "$copy" install "DESTDIR=$place" 'PREFIX=/srv/a nine'
-run_installed 'installed' "$root"
+run_installed 'installed' "$root" '/srv/a nine'
 mv "$root/lib/ninecheck" "$root/lib/away"
 as_nobody ./nine check capture.csv
 expect 'installed without the program' 125 '' 'ninecheck: the program is missing: install it again'
@@ -171,8 +171,10 @@ mkdir -p "$deb/var/lib/dpkg/updates" "$deb/var/lib/dpkg/info" "$deb/var/lib/dpkg
 chmod 755 "$deb"
 package="$copy/out/ninecheck_$(make/version.sh)_amd64.deb"
 # The root is empty, so the C library, on which the package depends, is not in it.
+needs=$(grep -ao 'GLIBC_[0-9.]*' "$copy/crates/ninecheck/out/ninecheck" | sed 's/GLIBC_//' | sort -V | tail -n 1)
+judge 'the package names the C library that the program needs' [ "$(dpkg-deb -f "$package" Depends)" = "libc6 (>= $needs)" ]
 holds 'dpkg installs it' dpkg --root="$deb" --force-depends --log=/dev/null -i "$package"
-run_installed 'the package' "$deb/usr"
+run_installed 'the package' "$deb/usr" /usr
 # Debian's zsh looks there by itself, and the package has it there.
 zsh -fc 'print -l $fpath' > "$work/out"
 judge "the package's folder for zsh is one of zsh's own" grep -qx /usr/share/zsh/vendor-completions "$work/out"
@@ -187,7 +189,7 @@ expect 'nothing of the package is left' 0 '' ''
 holds 'make dist' make -C "$copy" dist
 mkdir "$work/un packed"
 tar -C "$work/un packed" -xzf "$copy/out/ninecheck-$(make/version.sh)-linux-x86_64.tar.gz"
-run_installed 'the archive' "$work/un packed/ninecheck-$(make/version.sh)-linux-x86_64"
+run_installed 'the archive' "$work/un packed/ninecheck-$(make/version.sh)-linux-x86_64" /usr/local
 
 # The script in the repository, by a symlink.
 ln -s "$PWD/ninecheck" "$work/linked"
