@@ -52,11 +52,11 @@ many.sh;docs/MANY.md;find captures
 text;docs/MANY.md;1 captures/tuesday.csv:
 many.sh;docs/MANY.md;find captures
 many.sh;docs/MANY.md;cut
-text;docs/PROFILE.md;record N: COMMAND
-text;docs/PROFILE.md;record N: goal G
-text;docs/PROFILE.md;records A to B at T: COMMAND BYTES -> REPLY
-text;docs/PROFILE.md;records A to B at T: COMMAND BYTES
-text;docs/PROFILE.md;records 1067 to 1070 at 1999300:
+text;docs/OUTPUT.md;record N: COMMAND
+text;docs/OUTPUT.md;record N: goal G
+text;docs/OUTPUT.md;records A to B at T: COMMAND BYTES -> REPLY
+text;docs/OUTPUT.md;records A to B at T: COMMAND BYTES
+text;docs/OUTPUT.md;records 1067 to 1070 at 1999300:
 refuse_view;docs/VIEWS.md;delays.awk: line 3:"
 
 # The first builds nothing here, since the program is there; tests/unbuilt.sh has it where it is not. The second proves, which

@@ -1,7 +1,7 @@
 #!/usr/bin/env bash
 # Runs the built program on what docs/PROFILE.md says of commands that are not listed, and of replies that are P5 here,
-# row by row of its tables, and compares its table of second lines with the one that the other tests go by. The last line is
-# 'N passed, M failed'.
+# row by row of its tables, and compares the table of second lines in docs/OUTPUT.md with the one that the other tests go by.
+# The last line is 'N passed, M failed'.
 set -u
 cd "$(dirname "$0")/.." || exit 1
 program=${NINECHECK:-$PWD/crates/ninecheck/out/ninecheck}
@@ -74,7 +74,7 @@ while IFS='|' read -r first second; do
     both_lines "${first/row K/row 7}" > "$work/out"
     judge "the second line of '$first'" [ "$(tail -n +2 "$work/out")" = "$second" ]
     rows=$((rows + 1))
-done < <(sed -n '/^| First line | Second line |$/,/^$/p' docs/PROFILE.md | grep '^| `' | grep -v 'FILE' |
+done < <(sed -n '/^| First line | Second line |$/,/^$/p' docs/OUTPUT.md | grep '^| `' | grep -v 'FILE' |
     sed 's/^| `//; s/` |$//; s/` | `/|/')
 judge "rows of second lines: $rows" [ "$rows" = 10 ]
 

@@ -5,12 +5,11 @@ use super::readers::Cut;
 use super::texts::PLAYED_AND_CUT;
 use super::{capture, fail, same};
 use capture9::{CaptureError, CaptureKind};
-use deck9::{Hands, Mode};
+use deck9::{Hands, Known, Mode};
 use judge9::{JudgeError, WhyVerdict, judge_with_contradiction};
 use std::alloc::Global;
 use std::process::Abort;
 use std::test::Fail;
-use track9::Known;
 
 /// Exchanges up to a break.
 type Parts<'a> = &'a [&'a str];
