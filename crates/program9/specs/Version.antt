@@ -9,5 +9,5 @@ use Rattle.program9.specs.declared.ending.Outcome.{Outcome}
 -- its name and version were written, and the status is 0; or the writer failed, and a first part was written
 abbrev pub TellsVersion : Option (List ℕ) → Outcome → Option (List ℕ) → Type 0
 TellsVersion old end now =
-    ((end ≡ record { status = 0; message = message.Nothing }) × Appends old now VERSION_LINE)
-    ⊎ ((end ≡ record { status = 4; message = message.WriteFault }) × AppendsPart old now VERSION_LINE)
+    ((end ≡ record { status = 0; message = message.Nothing }) × Appends old now VERSION_LINE.now)
+    ⊎ ((end ≡ record { status = 4; message = message.WriteFault }) × AppendsPart old now VERSION_LINE.now)
