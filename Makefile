@@ -10,10 +10,14 @@
 
 PREFIX ?= /usr/local
 DESTDIR ?=
-VERSION := $(shell cat VERSION)
+VERSION = $(shell make/version.sh)
+# The version of the C library that the program needs, by the names that it takes from it.
+LIBC = $(shell objdump -T $(PROGRAM) | grep -o 'GLIBC_[0-9.]*' | sed 's/GLIBC_//' | sort -V | tail -n 1)
 PROGRAM := crates/ninecheck/out/ninecheck
-PACKAGE := ninecheck-$(VERSION)-linux-x86_64
+PACKAGE = ninecheck-$(VERSION)-linux-x86_64
 
+# The folder that the man page's examples name.
+PAGE_PREFIX ?= $(PREFIX)
 # Where zsh looks below share/zsh: what Debian's own packages bring has a folder of its own there.
 ZSH_FOLDER ?= site-functions
 
@@ -40,9 +44,10 @@ install: built
 	install -D -m 644 -t "$(to)/share/ninecheck/examples" examples/*.csv examples/ANSWERS
 	install -D -m 644 -t "$(to)/share/ninecheck/examples/exports" examples/exports/*
 	install -D -m 644 -t "$(to)/share/ninecheck/examples/views" examples/views/*
-	install -D -m 644 -t "$(to)/share/doc/ninecheck" README.md VERSION docs/*.md
+	install -D -m 644 -t "$(to)/share/doc/ninecheck" README.md docs/*.md
 	install -D -m 644 -t "$(to)/share/doc/ninecheck/pictures" docs/pictures/*.svg
 	install -D -m 644 man/ninecheck.1 "$(page)"
+	sed -i 's/@VERSION@/$(VERSION)/; s|/usr/local/|$(PAGE_PREFIX)/|' "$(page)"
 	install -D -m 644 completions/ninecheck.bash "$(for_bash)"
 	install -D -m 644 completions/ninecheck.zsh "$(for_zsh)"
 	install -D -m 644 completions/ninecheck.fish "$(for_fish)"
@@ -55,12 +60,13 @@ deb: built
 	rm -rf out/deb
 	$(MAKE) --no-print-directory install DESTDIR=out/deb PREFIX=/usr ZSH_FOLDER=vendor-completions
 	mkdir -p out/deb/DEBIAN
-	sed 's/@VERSION@/$(VERSION)/' debian-control > out/deb/DEBIAN/control
+	test -n "$(LIBC)"
+	sed 's/@VERSION@/$(VERSION)/; s/@LIBC@/$(LIBC)/' debian-control > out/deb/DEBIAN/control
 	dpkg-deb --root-owner-group --build out/deb out/ninecheck_$(VERSION)_amd64.deb
 
 dist: built
 	rm -rf out/dist
-	$(MAKE) --no-print-directory install DESTDIR= PREFIX=out/dist/$(PACKAGE)
+	$(MAKE) --no-print-directory install DESTDIR= PREFIX=out/dist/$(PACKAGE) PAGE_PREFIX=/usr/local
 	tar -C out/dist --owner=0 --group=0 -czf out/$(PACKAGE).tar.gz $(PACKAGE)
 
 audit:

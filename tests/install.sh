@@ -7,7 +7,7 @@ cd "$(dirname "$0")/.." || exit 1
 
 . tests/lib/judge.sh
 . tests/lib/tools.sh
-need_tools mandoc make zsh fish jq
+need_tools mandoc make zsh fish jq objdump=binutils
 
 work=$(mktemp -d)
 trap 'rm -rf "$work"' EXIT
@@ -35,11 +35,12 @@ as_nobody() {
     status=$?
 }
 
-# run_installed NAME ROOT: the program below this root, by a symlink and from another folder.
+# run_installed NAME ROOT PREFIX: the program below this root, by a symlink and from another folder. The man page's example names
+# a converter below the prefix.
 run_installed() {
-    local name=$1 root=$2
+    local name=$1 root=$2 prefix=$3 example
     as_nobody "$root/bin/ninecheck" --version
-    expect "$name: the version" 0 "ninecheck $(cat VERSION)" ''
+    expect "$name: the version" 0 "ninecheck $(make/version.sh)" ''
     ln -sf "$root/bin/ninecheck" "$work/a folder/nine"
     as_nobody ./nine check capture.csv
     expect "$name: a check" 0 'yes: records 6, exchanges 1, open 0' ''
@@ -47,10 +48,10 @@ run_installed() {
     expect "$name: an example" 1 'no at record 7: P1 reply without a command' ''
     run_pages "$name" "$root"
     : > "$work/out"
-    judge "$name: the man page's converter" [ -f "$root${example#/usr/local}" ]
+    judge "$name: the version of the man page" grep -qE "^\.TH NINECHECK 1 [0-9-]+ \"ninecheck $(make/version.sh)\"" "$root/share/man/man1/ninecheck.1"
+    example=$(grep -o "$prefix/share[^ ]*\.awk" "$root/share/man/man1/ninecheck.1")
+    judge "$name: the man page's converter" [ -f "$root${example#"$prefix"}" ]
 }
-# The man page's example names a converter where make puts it if it is told nothing else.
-example=$(grep -o '/usr/local/[^ ]*\.awk' man/ninecheck.1)
 
 # run_pages NAME ROOT: the commands of the installed pages on captures and on views, in a copy of the folder that has the
 # installed examples, converters and views, make what they make here.
@@ -87,8 +88,9 @@ cp examples/play.csv "$work/a folder/capture.csv"
 chmod 755 "$work/a folder"
 copy="$work/copy of it"
 mkdir "$copy"
-cp -r Makefile VERSION README.md ninecheck debian-control convert view man completions examples docs "$copy"
-mkdir -p "$copy/crates/ninecheck/out"
+cp -r Makefile make README.md ninecheck debian-control convert view man completions examples docs "$copy"
+mkdir -p "$copy/crates/ninecheck/out" "$copy/crates/words9/src"
+cp crates/words9/src/task.rt "$copy/crates/words9/src"
 chmod 700 "$copy"
 
 (cd "$copy" && make install "DESTDIR=$work/none") > "$work/out" 2> "$work/err"
@@ -102,7 +104,7 @@ cp crates/ninecheck/out/ninecheck "$copy/crates/ninecheck/out/ninecheck"
 place="$work/a place"
 root="$place/srv/a nine"
 holds 'make install' make -C "$copy" install "DESTDIR=$place" 'PREFIX=/srv/a nine'
-run_installed 'installed' "$root"
+run_installed 'installed' "$root" '/srv/a nine'
 mv "$root/lib/ninecheck" "$root/lib/away"
 as_nobody ./nine check capture.csv
 expect 'installed without the program' 125 '' 'ninecheck: the program is missing: install it again'
@@ -167,10 +169,12 @@ deb="$work/a deb"
 mkdir -p "$deb/var/lib/dpkg/updates" "$deb/var/lib/dpkg/info" "$deb/var/lib/dpkg/triggers"
 : > "$deb/var/lib/dpkg/status"
 chmod 755 "$deb"
-package="$copy/out/ninecheck_$(cat VERSION)_amd64.deb"
+package="$copy/out/ninecheck_$(make/version.sh)_amd64.deb"
 # The root is empty, so the C library, on which the package depends, is not in it.
+needs=$(grep -ao 'GLIBC_[0-9.]*' "$copy/crates/ninecheck/out/ninecheck" | sed 's/GLIBC_//' | sort -V | tail -n 1)
+judge 'the package names the C library that the program needs' [ "$(dpkg-deb -f "$package" Depends)" = "libc6 (>= $needs)" ]
 holds 'dpkg installs it' dpkg --root="$deb" --force-depends --log=/dev/null -i "$package"
-run_installed 'the package' "$deb/usr"
+run_installed 'the package' "$deb/usr" /usr
 # Debian's zsh looks there by itself, and the package has it there.
 zsh -fc 'print -l $fpath' > "$work/out"
 judge "the package's folder for zsh is one of zsh's own" grep -qx /usr/share/zsh/vendor-completions "$work/out"
@@ -184,8 +188,8 @@ expect 'nothing of the package is left' 0 '' ''
 
 holds 'make dist' make -C "$copy" dist
 mkdir "$work/un packed"
-tar -C "$work/un packed" -xzf "$copy/out/ninecheck-$(cat VERSION)-linux-x86_64.tar.gz"
-run_installed 'the archive' "$work/un packed/ninecheck-$(cat VERSION)-linux-x86_64"
+tar -C "$work/un packed" -xzf "$copy/out/ninecheck-$(make/version.sh)-linux-x86_64.tar.gz"
+run_installed 'the archive' "$work/un packed/ninecheck-$(make/version.sh)-linux-x86_64" /usr/local
 
 # The script in the repository, by a symlink.
 ln -s "$PWD/ninecheck" "$work/linked"
@@ -207,9 +211,6 @@ complete_words ninecheck run --
 expect 'options are offered' 0 '--hands --help' ''
 complete_words ninecheck check examples/play
 expect 'a file is completed' 0 'examples/play.csv' ''
-
-# The page and the program have the version of the file.
-holds 'the version of the man page' grep -qE "^\.TH NINECHECK 1 [0-9-]+ \"ninecheck $(cat VERSION)\"" man/ninecheck.1
 
 # The man page is rendered without a warning, also of its style.
 mandoc -T lint man/ninecheck.1 > "$work/out" 2> "$work/err"

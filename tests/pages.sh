@@ -68,7 +68,7 @@ run_it() {
     judge "$page: ${block[1]}" [ "${block[1]%% *}" = make ]
     judge "$page: ${block[2]}" [ "${block[2]%% *}" = .ci/run ]
     (cd "$work/here" && DESTDIR=$work/placed bash -c "${block[3]}") > "$work/out" 2>&1 < /dev/null
-    judge "$page: ${block[3]}" [ "$("$work/placed/usr/local/bin/ninecheck" --version)" = "ninecheck $(cat VERSION)" ]
+    judge "$page: ${block[3]}" [ "$("$work/placed/usr/local/bin/ninecheck" --version)" = "ninecheck $(make/version.sh)" ]
     judge "$page: no more than these" [ ${#block[@]} = 4 ]
 }
 

@@ -275,10 +275,10 @@ echo "$judged" > "$work/out"
 expect 'the subcommands that the help lists' 2 'check explain run why help ' ''
 run "$(printf '\377')" < examples/play.csv
 expect 'a word that is not UTF-8' 2 '' 'error: a word of the command line is not UTF-8
-give a file of such a name as standard input: ninecheck check < FILE'
+pass a file with such a name on standard input: ninecheck check < FILE'
 
 # The version, also where other words follow it: the words are read in order, and it is told at once.
-version="ninecheck $(cat VERSION)"
+version="ninecheck $(make/version.sh)"
 while IFS= read -r words; do
     run $words < /dev/null
     expect "the words '$words'" 0 "$version" ''

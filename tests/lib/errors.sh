@@ -13,13 +13,13 @@ both_lines() {
         *': time') echo 'expected 1 to 15 decimal digits, the time in microseconds' ;;
         *': wire') echo "expected C for the controller's wire, or D for the deck's" ;;
         *': byte') echo 'expected two hexadecimal digits' ;;
-        *': backwards') echo 'expected a time that is not below that of the row before' ;;
+        *': backwards') echo 'expected a time no earlier than that of the row before' ;;
         *': too many rows')
             echo 'expected at most 4000000 rows; convert/split.awk cuts a longer capture, see docs/CAPTURE.md' ;;
-        'read fault at row '*) echo 'expected a capture that can be read to its end, and is no directory' ;;
+        'read fault at row '*) echo 'expected a capture that can be read to its end, not a directory' ;;
         'write fault')
-            echo 'standard output is full or closed, and has a first part of what was to be written' ;;
-        'out of memory') echo 'a row may have no end, or memory is short: see ulimit -v' ;;
+            echo 'standard output is full or closed; it has only the first part of the report' ;;
+        'out of memory') echo 'a row may never end, or memory is short: see ulimit -v' ;;
         *) echo "no second line is known of: $1" ;;
     esac
 }

@@ -47,7 +47,7 @@ fn tell(rt: &HostRuntime, end: &End) {
     let _ = match end {
         End::Usage(Some(text)) => text.print(rt),
         End::Usage(None) => eprintln!(rt;
-            "error: a word of the command line is not UTF-8\ngive a file of such a name as standard input: ninecheck check < FILE"
+            "error: a word of the command line is not UTF-8\npass a file with such a name on standard input: ninecheck check < FILE"
         ),
         End::Told(outcome) => match &outcome.message {
             Message::Nothing => Ok(()),

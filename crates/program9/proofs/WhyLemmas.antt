@@ -1,5 +1,5 @@
 -- What is left of the answer of a judging that says why no run remains, once its text is handed on.
-use Rattle.std.proofs.Common.{inl, inr, ℕ, List, Option, Some, None, Result, Ok, Err, subst, sym, ◌∙◌}
+use Rattle.std.proofs.Common.{inl, inr, ℕ, List, Option, Some, None, Result, Ok, Err, subst, sym}
 use Rattle.std.specs.Option.{IfSome}
 use Rattle.std.specs.Result.{IfErr}
 use Rattle.capture9.specs.Rows.{rows_of}
@@ -10,32 +10,31 @@ use Rattle.verdict9.specs.declared.verdict.Verdict.{Verdict}
 use Rattle.verdict9.specs.declared.why_verdict.WhyVerdict.{WhyVerdict}
 use Rattle.judge9.specs.Judging.{IsTheAnswer, StoppedBefore, answer_of}
 use Rattle.judge9.specs.WhyVerdict.{judged_of}
-use Rattle.program9.specs.Judging.{HandsOn, WritesWhy}
+use Rattle.program9.specs.Judging.{WritesWhy}
 
 -- what holds of the answer, of a write fault and of want of memory holds of what is told
-handed : (P : Result Verdict JudgeError → Type 0) (hands : Hands) (found : Result WhyVerdict JudgeError) (judged result : Result Verdict JudgeError) (old all now : Option (List ℕ))
-    → P (judged_of found) → P (Err error.Write) → P (Err error.OutOfMemory) → WritesWhy hands found judged old all → HandsOn judged all result now → P result
-handed P hands found judged result old all now is write memory written (inr fault) = subst P (sym fault.0) write
-handed P hands (Err e) judged result old all now is write memory written (inl same) = subst P (sym (same.0 ∙ written.0)) is
-handed P hands (Ok why) judged result old all now is write memory (inl told) (inl same) = subst P (sym (same.0 ∙ told.0)) is
-handed P hands (Ok why) judged result old all now is write memory (inr (inl fault)) (inl same) = subst P (sym (same.0 ∙ fault.0)) write
-handed P hands (Ok why) judged result old all now is write memory (inr (inr want)) (inl same) = subst P (sym (same.0 ∙ want.0)) memory
+handed : (P : Result Verdict JudgeError → Type 0) (hands : Hands) (found : Result WhyVerdict JudgeError) (judged : Result Verdict JudgeError) (old all : Option (List ℕ))
+    → P (judged_of found) → P (Err error.Write) → P (Err error.OutOfMemory) → WritesWhy hands found judged old all → P judged
+handed P hands (Err e) judged old all is write memory written = subst P (sym written.0) is
+handed P hands (Ok why) judged old all is write memory (inl told) = subst P (sym told.0) is
+handed P hands (Ok why) judged old all is write memory (inr (inl fault)) = subst P (sym fault.0) write
+handed P hands (Ok why) judged old all is write memory (inr (inr want)) = subst P (sym want.0) memory
 
 -- the one answer of the text
-pub answer_handed : (hands : Hands) (text : Option (List ℕ)) (found : Result WhyVerdict JudgeError) (judged result : Result Verdict JudgeError) (old all now : Option (List ℕ))
-    → IfSome text (λ t. IfSome (answer_of (judged_of found)) (IsTheAnswer hands (rows_of t))) → WritesWhy hands found judged old all → HandsOn judged all result now
-    → IfSome text (λ t. IfSome (answer_of result) (IsTheAnswer hands (rows_of t)))
-answer_handed hands None found judged result old all now is written on = tt
-answer_handed hands (Some t) found judged result old all now is written on =
-    handed (λ r. IfSome (answer_of r) (IsTheAnswer hands (rows_of t))) hands found judged result old all now is tt tt written on
+pub answer_handed : (hands : Hands) (text : Option (List ℕ)) (found : Result WhyVerdict JudgeError) (judged : Result Verdict JudgeError) (old all : Option (List ℕ))
+    → IfSome text (λ t. IfSome (answer_of (judged_of found)) (IsTheAnswer hands (rows_of t))) → WritesWhy hands found judged old all
+    → IfSome text (λ t. IfSome (answer_of judged) (IsTheAnswer hands (rows_of t)))
+answer_handed hands None found judged old all is written = tt
+answer_handed hands (Some t) found judged old all is written =
+    handed (λ r. IfSome (answer_of r) (IsTheAnswer hands (rows_of t))) hands found judged old all is tt tt written
 
 -- what a refusal says of the rows before it
-pub stopped_handed : (hands : Hands) (text : Option (List ℕ)) (found : Result WhyVerdict JudgeError) (judged result : Result Verdict JudgeError) (old all now : Option (List ℕ))
-    → IfSome text (λ t. IfErr found (StoppedBefore hands (rows_of t))) → WritesWhy hands found judged old all → HandsOn judged all result now
-    → IfSome text (λ t. IfErr result (StoppedBefore hands (rows_of t)))
-stopped_handed hands None found judged result old all now is written on = tt
-stopped_handed hands (Some t) found judged result old all now is written on =
-    handed (λ r. IfErr r (StoppedBefore hands (rows_of t))) hands found judged result old all now (same found is) tt tt written on
+pub stopped_handed : (hands : Hands) (text : Option (List ℕ)) (found : Result WhyVerdict JudgeError) (judged : Result Verdict JudgeError) (old all : Option (List ℕ))
+    → IfSome text (λ t. IfErr found (StoppedBefore hands (rows_of t))) → WritesWhy hands found judged old all
+    → IfSome text (λ t. IfErr judged (StoppedBefore hands (rows_of t)))
+stopped_handed hands None found judged old all is written = tt
+stopped_handed hands (Some t) found judged old all is written =
+    handed (λ r. IfErr r (StoppedBefore hands (rows_of t))) hands found judged old all (same found is) tt tt written
   where
     same : (r : Result WhyVerdict JudgeError) → IfErr r (StoppedBefore hands (rows_of t)) → IfErr (judged_of r) (StoppedBefore hands (rows_of t))
     same (Ok why) h = tt

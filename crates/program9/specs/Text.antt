@@ -9,7 +9,7 @@ use Rattle.program9.specs.Word.{expected_of, file_name_of, first_line_of, reason
 abbrev pub text_of : Message → List ℕ
 text_of message.Nothing = []
 text_of (message.Unreadable e) = codes "unreadable at row " ++ decimal e.row ++ codes ": " ++ word_of e.kind ++ codes "\n" ++ expected_of e.kind
-text_of (message.ReadFault row) = codes "read fault at row " ++ decimal row ++ codes "\nexpected a capture that can be read to its end, and is no directory"
+text_of (message.ReadFault row) = codes "read fault at row " ++ decimal row ++ codes "\nexpected a capture that can be read to its end, not a directory"
 text_of (message.CannotOpen u) = first_line_of u.why ++ codes "\n" ++ file_name_of u.file ++ codes ": " ++ reason_of u.why
-text_of message.WriteFault = codes "write fault\nstandard output is full or closed, and has a first part of what was to be written"
-text_of message.NoMemory = codes "out of memory\na row may have no end, or memory is short: see ulimit -v"
+text_of message.WriteFault = codes "write fault\nstandard output is full or closed; it has only the first part of the report"
+text_of message.NoMemory = codes "out of memory\na row may never end, or memory is short: see ulimit -v"

@@ -26,10 +26,10 @@ expected_of kind.Fields = codes "expected three fields: time_us,wire,byte"
 expected_of kind.Time = codes "expected 1 to 15 decimal digits, the time in microseconds"
 expected_of kind.Wire = codes "expected C for the controller's wire, or D for the deck's"
 expected_of kind.Byte = codes "expected two hexadecimal digits"
-expected_of kind.Backwards = codes "expected a time that is not below that of the row before"
+expected_of kind.Backwards = codes "expected a time no earlier than that of the row before"
 expected_of kind.TooMany = codes "expected at most 4000000 rows; convert/split.awk cuts a longer capture, see docs/CAPTURE.md"
 expected_of kind.Read = codes "expected a capture that can be read to its end"
-expected_of kind.OutOfMemory = codes "expected a row that has an end"
+expected_of kind.OutOfMemory = codes "expected a row that ends"
 
 -- the first line where a file was not opened: a directory is told as its first read would be
 abbrev pub first_line_of : WhyUnopened → List ℕ
@@ -48,4 +48,4 @@ reason_of why.PermissionDenied = codes "Permission denied"
 reason_of why.IsADirectory = codes "Is a directory"
 reason_of why.NotADirectory = codes "Not a directory"
 reason_of why.FilesystemLoop = codes "Too many levels of symbolic links"
-reason_of why.Other = codes "The system does not open it"
+reason_of why.Other = codes "The system cannot open it"

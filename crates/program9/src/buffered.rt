@@ -1,9 +1,9 @@
 //! A writer behind a buffer that tries no failed write again, and writes nothing when it is dropped.
-ghost use Rattle.std.specs.Prelude.{◌≡◌, ◌-◌, ◌≤◌, [], length, drop, take, IfErr, IfOk, OnOk, vec_capacity, vec_len};
-ghost use Rattle.std.specs.Io.KnownBytes.{Appends};
+ghost use Rattle.std.specs.Prelude.{◌≡◌, ◌-◌, ◌≤◌, [], drop, IfErr, IfOk, OnOk, vec_capacity, vec_len};
 
 use std::alloc::Global;
 use std::io::{self, Write};
+use text9::put_some;
 
 /// How many bytes a buffer holds.
 const CAPACITY: usize = 8192;
@@ -75,24 +75,6 @@ impl<W: Write + Drop> Write for Buffered<W> {
         self.hand_on()?;
         self.to.flush()
     }
-}
-
-/// Writes until all bytes are taken or a call fails, is interrupted or takes none: how many were taken, and
-/// whether all were.
-pub(crate) fn put_some<W: Write>(to: &mut W, bytes: &[u8]) -> (usize, io::Result<()>)
-    ensures bound { result.0 ≤ length bytes.now }
-    ensures all { OnOk result.1 (result.0 ≡ length bytes.now) }
-    ensures bytes { Appends (W.contents to.old) (W.contents to.new) (take result.0 bytes.now) }
-{
-    let mut sent = 0;
-    while sent < bytes.len() {
-        match to.write(&bytes[sent..]) {
-            Ok(0) => return (sent, Err(io::Error::from(io::ErrorKind::WriteZero))),
-            Ok(n) => sent += n,
-            Err(e) => return (sent, Err(e)),
-        }
-    }
-    (sent, Ok(()))
 }
 
 /// Takes the first n bytes out.

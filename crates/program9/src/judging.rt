@@ -1,13 +1,13 @@
-//! A judging whose report goes through a buffer, and the flush after it.
+//! The judging that a verb asks for, whose report goes through a buffer, and the flush after it.
 ghost use Rattle.std.specs.Prelude.{◌≡◌, ◌≢◌, Err, IfSome, IfErr, option_map};
 ghost use Rattle.capture9.specs.Rows.{rows_of};
 ghost use Rattle.judge9.specs.Judging.{CanBeResult, IsTheAnswer, StoppedBefore, answer_of};
-ghost use Rattle.judge9.specs.Report.{Told};
 ghost use Rattle.judge9.specs.RunVerdict.{judged_of, verdict_of};
 ghost use Rattle.judge9.specs.Verdict.{CanBeVerdict};
 ghost use Rattle.judge9.specs.WhyVerdict.{verdict_of as verdict_of_why};
 ghost use Rattle.program9.specs.Output.{contents_behind, held_contents};
-ghost use Rattle.program9.specs.Judging.{EndsAs, HandsOn, TellsRun, TellsWhy, WritesRun, WritesWhy};
+ghost use Rattle.program9.specs.Judging.{EndsAs, HandsOn, WritesRun, WritesWhy};
+ghost use Rattle.program9.specs.Program.{TellsFor};
 
 use crate::buffered::Buffered;
 use block9::Reason;
@@ -20,49 +20,26 @@ use judge9::{
 use report9::{write_run, write_why};
 use std::alloc::Global;
 use std::io::{Read, Write};
+use words9::Verb;
 
-/// Judges the capture that the reader gives, and hands the whole report on to the writer behind the buffer.
+/// Judges the capture that the reader gives as the verb says, and hands the whole report on to the writer behind the buffer.
 ///
-/// The result is that of `judge` where the writer took all that `judge` wrote. Else it is `Err(Write)`, and the
-/// writer has a first part of that; what the buffer still holds is not written. After a write that failed, that was
-/// interrupted or that took no byte, none is tried again.
+/// The report is that of `judge`, the text of the run that `judge_with_run` answered, or the text of the verdict that
+/// `judge_with_contradiction` answered; of the last two there is none where there is no verdict. The result is the
+/// verdict or the refusal of that judging where the writer took the whole report. `Err(OutOfMemory)` comes also where memory
+/// for the text of why is refused: nothing of it is written. Else it is `Err(Write)`, and the writer has a first part of the
+/// report; what the buffer still holds is not written. After a write that failed, that was interrupted or that took no
+/// byte, none is tried again.
 pub fn judge_and_flush<R: Read + Drop, W: Write + Drop>(
     alloc: Global,
     reader: R,
     out: &mut Buffered<W>,
-    view: View,
+    verb: Verb,
     hands: Hands,
 ) -> Result<Verdict, JudgeError>
     ensures answer { IfSome (R.remaining reader)
         (λ text. IfSome (answer_of result) (IsTheAnswer hands (rows_of text))) }
-    ensures told { EndsAs (λ judged all. Told view hands (option_map rows_of (R.remaining reader)) judged
-        (held_contents W.contents out.old) all)
-        result (contents_behind W.contents out.new) }
-    ensures stopped { IfSome (R.remaining reader)
-        (λ text. IfErr result (StoppedBefore hands (rows_of text))) }
-    ensures kind { (e : CaptureError) → result ≡ Err (JudgeError.Capture e)
-        → e.kind ≢ CaptureKind.OutOfMemory }
-    ensures can_be { CanBeResult result }
-{
-    let judged = judge(alloc, reader, out, view, hands);
-    ended(out, judged)
-}
-
-/// Judges the capture that the reader gives, and hands the text of a run on to the writer behind the buffer.
-///
-/// What is written is the text of the run that `judge_with_run` answered, and nothing where it answered none. The result
-/// is its verdict, or its refusal, where the writer took all of that. Else it is `Err(Write)`, and the writer has a
-/// first part of the text; what the buffer still holds is not written. After a write that failed, that was interrupted
-/// or that took no byte, none is tried again.
-pub fn judge_with_run_and_flush<R: Read + Drop, W: Write + Drop>(
-    alloc: Global,
-    reader: R,
-    out: &mut Buffered<W>,
-    hands: Hands,
-) -> Result<Verdict, JudgeError>
-    ensures answer { IfSome (R.remaining reader)
-        (λ text. IfSome (answer_of result) (IsTheAnswer hands (rows_of text))) }
-    ensures told { EndsAs (TellsRun hands (option_map rows_of (R.remaining reader))
+    ensures told { EndsAs (TellsFor verb hands (option_map rows_of (R.remaining reader))
         (held_contents W.contents out.old))
         result (contents_behind W.contents out.new) }
     ensures stopped { IfSome (R.remaining reader)
@@ -71,9 +48,40 @@ pub fn judge_with_run_and_flush<R: Read + Drop, W: Write + Drop>(
         → e.kind ≢ CaptureKind.OutOfMemory }
     ensures can_be { CanBeResult result }
 {
-    let found = judge_with_run(alloc, reader, hands);
-    let judged = tell_run(out, found, hands);
+    let judged = tell(alloc, reader, out, verb, hands);
     ended(out, judged)
+}
+
+/// Judges the capture as the verb says, and writes the report.
+fn tell<R: Read + Drop, W: Write>(
+    alloc: Global,
+    reader: R,
+    writer: &mut W,
+    verb: Verb,
+    hands: Hands,
+) -> Result<Verdict, JudgeError>
+    ensures answer { IfSome (R.remaining reader)
+        (λ text. IfSome (answer_of result) (IsTheAnswer hands (rows_of text))) }
+    ensures told { TellsFor verb hands (option_map rows_of (R.remaining reader))
+        (W.contents writer.old) result (W.contents writer.new) }
+    ensures stopped { IfSome (R.remaining reader)
+        (λ text. IfErr result (StoppedBefore hands (rows_of text))) }
+    ensures kind { (e : CaptureError) → result ≡ Err (JudgeError.Capture e)
+        → e.kind ≢ CaptureKind.OutOfMemory }
+    ensures can_be { CanBeResult result }
+{
+    match verb {
+        Verb::Check => judge(alloc, reader, writer, View::Verdict, hands),
+        Verb::Explain => judge(alloc, reader, writer, View::Explain, hands),
+        Verb::Run => {
+            let found = judge_with_run(alloc, reader, hands);
+            tell_run(writer, found, hands)
+        }
+        Verb::Why => {
+            let found = judge_with_contradiction(alloc, reader, hands);
+            tell_why(alloc, writer, found, hands)
+        }
+    }
 }
 
 /// Writes the text of a run where there is one, and answers its verdict.
@@ -111,35 +119,6 @@ fn verdict_of(run: &RunVerdict) -> Verdict
             reason: *reason,
         },
     }
-}
-
-/// Judges the capture that the reader gives, and hands the text of why it is a no on to the writer behind the buffer.
-///
-/// What is written is the text of the verdict that `judge_with_contradiction` answered, and nothing where it answered
-/// none. The result is that verdict, or the refusal, where the writer took all of that. `Err(OutOfMemory)` comes also
-/// where memory for the text is refused: nothing of it is written. Else it is `Err(Write)`, and the writer has a first
-/// part of the text; what the buffer still holds is not written. After a write that failed, that was interrupted or
-/// that took no byte, none is tried again.
-pub fn judge_with_why_and_flush<R: Read + Drop, W: Write + Drop>(
-    alloc: Global,
-    reader: R,
-    out: &mut Buffered<W>,
-    hands: Hands,
-) -> Result<Verdict, JudgeError>
-    ensures answer { IfSome (R.remaining reader)
-        (λ text. IfSome (answer_of result) (IsTheAnswer hands (rows_of text))) }
-    ensures told { EndsAs (TellsWhy hands (option_map rows_of (R.remaining reader))
-        (held_contents W.contents out.old))
-        result (contents_behind W.contents out.new) }
-    ensures stopped { IfSome (R.remaining reader)
-        (λ text. IfErr result (StoppedBefore hands (rows_of text))) }
-    ensures kind { (e : CaptureError) → result ≡ Err (JudgeError.Capture e)
-        → e.kind ≢ CaptureKind.OutOfMemory }
-    ensures can_be { CanBeResult result }
-{
-    let found = judge_with_contradiction(alloc, reader, hands);
-    let judged = tell_why(alloc, out, found, hands);
-    ended(out, judged)
 }
 
 /// Writes the text of why a capture is a no where there is a verdict, and answers that verdict.

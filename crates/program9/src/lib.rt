@@ -12,6 +12,6 @@ mod version;
 
 pub use buffered::Buffered;
 pub use ending::{End, Message, Outcome, Unopened, WhyUnopened};
-pub use judging::{judge_and_flush, judge_with_run_and_flush, judge_with_why_and_flush};
+pub use judging::judge_and_flush;
 pub use program::run_program;
 pub use status::outcome;

@@ -23,7 +23,7 @@ impl fmt::Display for Message {
                 let row = *row;
                 write!(
                     f,
-                    "read fault at row {row}\nexpected a capture that can be read to its end, and is no directory"
+                    "read fault at row {row}\nexpected a capture that can be read to its end, not a directory"
                 )
             }
             Message::CannotOpen(unopened) => {
@@ -33,11 +33,11 @@ impl fmt::Display for Message {
             }
             Message::WriteFault => write!(
                 f,
-                "write fault\nstandard output is full or closed, and has a first part of what was to be written"
+                "write fault\nstandard output is full or closed; it has only the first part of the report"
             ),
             Message::NoMemory => write!(
                 f,
-                "out of memory\na row may have no end, or memory is short: see ulimit -v"
+                "out of memory\na row may never end, or memory is short: see ulimit -v"
             ),
         }
     }
@@ -71,11 +71,11 @@ fn expected_of<'a>(kind: CaptureKind) -> &'a str
         CaptureKind::Time => "expected 1 to 15 decimal digits, the time in microseconds",
         CaptureKind::Wire => "expected C for the controller's wire, or D for the deck's",
         CaptureKind::Byte => "expected two hexadecimal digits",
-        CaptureKind::Backwards => "expected a time that is not below that of the row before",
+        CaptureKind::Backwards => "expected a time no earlier than that of the row before",
         CaptureKind::TooMany =>
             "expected at most 4000000 rows; convert/split.awk cuts a longer capture, see docs/CAPTURE.md",
         CaptureKind::Read => "expected a capture that can be read to its end",
-        CaptureKind::OutOfMemory => "expected a row that has an end",
+        CaptureKind::OutOfMemory => "expected a row that ends",
     }
 }
 
@@ -109,6 +109,6 @@ fn reason_of<'a>(why: WhyUnopened) -> &'a str
         WhyUnopened::IsADirectory => "Is a directory",
         WhyUnopened::NotADirectory => "Not a directory",
         WhyUnopened::FilesystemLoop => "Too many levels of symbolic links",
-        WhyUnopened::Other => "The system does not open it",
+        WhyUnopened::Other => "The system cannot open it",
     }
 }

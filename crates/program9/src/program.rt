@@ -1,19 +1,16 @@
 //! From the words of the command line to how the program ends.
 ghost use Rattle.std.specs.Prelude.{◌≡◌};
 ghost use Rattle.std.specs.Fn.{FnOnceReturnsAt};
-ghost use Rattle.program9.specs.Output.{contents_behind, held_contents};
-ghost use Rattle.program9.specs.Program.{EndsProgram, EndsTask, EndsWithout, IsJudgedFor, outcome_unopened, why_of};
+ghost use Rattle.program9.specs.Program.{EndsProgram, EndsTask, EndsWithout, outcome_unopened, why_of};
 
 use crate::buffered::Buffered;
 use crate::ending::{End, Message, Outcome, Unopened, WhyUnopened};
-use crate::judging::{judge_and_flush, judge_with_run_and_flush, judge_with_why_and_flush};
+use crate::judging::judge_and_flush;
 use crate::status::outcome;
 use crate::version::tell_version;
-use deck9::Hands;
-use judge9::{JudgeError, Verdict, View};
 use std::alloc::Global;
 use std::io::{self, Read, Write};
-use words9::{Task, Verb, WordsFault, read_words};
+use words9::{Task, WordsFault, read_words};
 
 /// The program from its words, or from why there are none, to its end: reads the task, opens its capture, judges that
 /// and writes the report to `out`; or writes its version there. It answers how the program ends, and the writer as it left
@@ -82,7 +79,7 @@ fn carry_out<F: FnOnce(&Option<String>) -> io::Result<R>, R: Read + Drop, W: Wri
         Ok(out) => out,
         Err(out) => return (Outcome::new(5, Message::NoMemory), out),
     };
-    let judged = judge_for(alloc, reader, &mut out, verb, hands);
+    let judged = judge_and_flush(alloc, reader, &mut out, verb, hands);
     (outcome(&judged), out.into_writer())
 }
 
@@ -110,24 +107,5 @@ fn why_of(kind: io::ErrorKind) -> WhyUnopened
         io::ErrorKind::NotADirectory => WhyUnopened::NotADirectory,
         io::ErrorKind::FilesystemLoop => WhyUnopened::FilesystemLoop,
         _ => WhyUnopened::Other,
-    }
-}
-
-/// The judging that a verb asks for.
-fn judge_for<R: Read + Drop, W: Write + Drop>(
-    alloc: Global,
-    reader: R,
-    out: &mut Buffered<W>,
-    verb: Verb,
-    hands: Hands,
-) -> Result<Verdict, JudgeError>
-    ensures { IsJudgedFor verb hands (R.remaining reader) (held_contents W.contents out.old)
-        result (contents_behind W.contents out.new) }
-{
-    match verb {
-        Verb::Check => judge_and_flush(alloc, reader, out, View::Verdict, hands),
-        Verb::Explain => judge_and_flush(alloc, reader, out, View::Explain, hands),
-        Verb::Run => judge_with_run_and_flush(alloc, reader, out, hands),
-        Verb::Why => judge_with_why_and_flush(alloc, reader, out, hands),
     }
 }

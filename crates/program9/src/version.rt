@@ -1,9 +1,9 @@
 //! What the program says where it is asked for its version.
 ghost use Rattle.program9.specs.Version.{TellsVersion};
 
-use crate::buffered::put_some;
 use crate::ending::{Message, Outcome};
 use std::io::Write;
+use text9::put_all;
 use words9::VERSION_LINE;
 
 /// Writes the program's name and version: the end, and the writer as it is left. Takes no memory.
@@ -11,8 +11,7 @@ pub(crate) fn tell_version<W: Write + Drop>(out: W) -> (Outcome, W)
     ensures { TellsVersion (W.contents out) result.0 (W.contents result.1) }
 {
     let mut writer = out;
-    let (_, put) = put_some(&mut writer, VERSION_LINE.as_bytes());
-    let Ok(()) = put else {
+    let Ok(()) = put_all(&mut writer, VERSION_LINE.as_bytes()) else {
         return (Outcome::new(4, Message::WriteFault), writer);
     };
     match writer.flush() {

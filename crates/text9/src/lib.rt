@@ -16,4 +16,4 @@ pub use explanation::known::put_fields;
 pub use explanation::put_exchange_line;
 pub use pieces::{put_count, put_hex, put_text, put_wide, put_word};
 pub use straight::{write_count, write_text, write_word};
-pub use writing::{WriteFault, put_all};
+pub use writing::{WriteFault, put_all, put_some};

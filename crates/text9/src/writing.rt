@@ -1,9 +1,9 @@
 //! How the lines of a report are written.
-ghost use Rattle.std.specs.Prelude.{OnOk, OnErr};
+ghost use Rattle.std.specs.Prelude.{◌≡◌, ◌≤◌, length, take, OnOk, OnErr};
 ghost use Rattle.std.specs.Io.KnownBytes.{Appends};
 ghost use Rattle.text9.specs.Writing.{AppendsPart};
 
-use std::io::Write;
+use std::io::{self, Write};
 
 /// The writer failed, was interrupted, or took no byte.
 #[derive(Clone, Copy, Debug, PartialEq, Eq)]
@@ -15,13 +15,26 @@ pub fn put_all<W: Write>(writer: &mut W, bytes: &[u8]) -> Result<(), WriteFault>
     ensures ok { OnOk result (Appends (W.contents writer.old) (W.contents writer.new) bytes.now) }
     ensures err { OnErr result (AppendsPart (W.contents writer.old) (W.contents writer.new) bytes.now) }
 {
+    match put_some(writer, bytes) {
+        (_, Ok(())) => Ok(()),
+        (_, Err(_)) => Err(WriteFault),
+    }
+}
+
+/// Writes until all bytes are taken, or a call fails, is interrupted or takes none: how many were taken, and whether
+/// all were. No call is tried again.
+pub fn put_some<W: Write>(writer: &mut W, bytes: &[u8]) -> (usize, io::Result<()>)
+    ensures bound { result.0 ≤ length bytes.now }
+    ensures all { OnOk result.1 (result.0 ≡ length bytes.now) }
+    ensures bytes { Appends (W.contents writer.old) (W.contents writer.new) (take result.0 bytes.now) }
+{
     let mut at = 0;
     while at < bytes.len() {
         match writer.write(&bytes[at..]) {
-            Ok(0) => return Err(WriteFault),
+            Ok(0) => return (at, Err(io::Error::from(io::ErrorKind::WriteZero))),
             Ok(n) => at += n,
-            Err(_) => return Err(WriteFault),
+            Err(e) => return (at, Err(e)),
         }
     }
-    Ok(())
+    (at, Ok(()))
 }

@@ -66,7 +66,3 @@ AsksVersion words = fault_of program words ≡ DisplayVersion ∷ []
 -- it is among what may be the first, where `clap`'s definition leaves a choice
 abbrev pub MayAskVersion : List Text → Type 0
 MayAskVersion words = IsAmong DisplayVersion (fault_of program words)
-
--- what is then written
-abbrev pub version_line : Text
-version_line = codes "ninecheck 1.0.0\n"

@@ -3,8 +3,8 @@
 use clap::Error;
 use deck9::Hands;
 
-/// The program's name and version, with a line feed. The file `VERSION` and the man page have the same number.
-pub const VERSION_LINE: &str = "ninecheck 1.0.0\n";
+/// The program's name and version, with a line feed. The package and the man page take the number from this line.
+pub const VERSION_LINE: &str = "ninecheck 1.1.0\n";
 
 /// What is to be done with a capture.
 #[derive(Clone, Copy, Debug, PartialEq, Eq)]

@@ -58,12 +58,12 @@ fn subcommand<'a>(alloc: Global, verb: Verb) -> Result<Command<'a>, AllocError>
     ensures local { IfOk result (λ c. (fields_of c).has_globals ≡ false) }
 {
     let file = Arg::new(alloc, "FILE").help(
-        "The capture of both wires of the RS-422 line, as CSV; standard input where it is left out",
+        "The capture of both wires of the RS-422 line, as CSV; standard input if left out",
     );
     let hands = Arg::new(alloc, "hands")
         .long("hands")
         .action(ArgAction::SetTrue)
-        .help("Somebody may have touched the deck's panel during the capture");
+        .help("Allow that somebody touched the deck's front panel during the capture");
     let command = Command::new(alloc, name_of(verb)).about(about(verb));
     let command = command.arg(file)?.arg(hands)?;
     Ok(command)
@@ -85,12 +85,12 @@ fn name_of<'a>(verb: Verb) -> &'a str
 fn about<'a>(verb: Verb) -> &'a str {
     match verb {
         Verb::Check =>
-            "Say whether the capture keeps the protocol, or which record is the first that does not",
+            "Say whether the capture keeps the protocol, or which record breaks it first",
         Verb::Explain =>
-            "The same, with a line for each exchange before it: command, reply, and what is known of the deck",
+            "The same, after a line for each exchange: command, reply, and what is known of the deck",
         Verb::Run =>
-            "Hand out one run of the deck that explains the replies: the deck's state after each exchange",
+            "Write one run of the deck that explains the replies: the deck's state after each exchange",
         Verb::Why =>
-            "Say why a no is one: what is open before the break, or which replies contradict one another",
+            "Say why the answer is no: what was open at the break, or which replies contradict one another",
     }
 }

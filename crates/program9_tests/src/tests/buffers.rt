@@ -3,10 +3,11 @@
 use crate::tests::same;
 use crate::tests::writers::{Narrow, took, took_to_the_end};
 use deck9::Hands;
-use judge9::{JudgeError, Verdict, View};
-use program9::{Buffered, judge_and_flush, judge_with_run_and_flush};
+use judge9::{JudgeError, Verdict};
+use program9::{Buffered, judge_and_flush};
 use std::alloc::{AllocError, Global};
 use std::io::Write;
+use words9::Verb;
 
 /// PLAY and its acknowledgement.
 const PLAY: &str =
@@ -15,33 +16,22 @@ const PLAY: &str =
 /// What is answered to it.
 const YES: &str = "yes: records 6, exchanges 1, open 0\n";
 
-/// The answer of a judging, with no hands, before this writer; and the writer after it.
+/// The answer of a judging with this verb, with no hands, before this writer; and the writer after it.
 fn judged(
     alloc: Global,
     text: &str,
-    view: View,
+    verb: Verb,
     writer: Narrow,
 ) -> Option<(Result<Verdict, JudgeError>, Narrow)> {
     let mut out = Buffered::new(alloc, writer).ok()?;
-    let answer = judge_and_flush(alloc, text.as_bytes(), &mut out, view, Hands::None);
-    Some((answer, out.into_writer()))
-}
-
-/// The same of a judging with a run.
-fn judged_with_run(
-    alloc: Global,
-    text: &str,
-    writer: Narrow,
-) -> Option<(Result<Verdict, JudgeError>, Narrow)> {
-    let mut out = Buffered::new(alloc, writer).ok()?;
-    let answer = judge_with_run_and_flush(alloc, text.as_bytes(), &mut out, Hands::None);
+    let answer = judge_and_flush(alloc, text.as_bytes(), &mut out, verb, Hands::None);
     Some((answer, out.into_writer()))
 }
 
 #[test]
 fn the_report_is_handed_on(rt: HostRuntime) {
     let writer = Narrow::new(rt.alloc(), usize::MAX);
-    let found = judged(rt.alloc(), PLAY, View::Verdict, writer);
+    let found = judged(rt.alloc(), PLAY, Verb::Check, writer);
     let (answer, writer) = found.expect(&rt, "memory");
     same(&rt, answer.is_ok(), true, YES);
     took(&rt, &writer, YES.as_bytes(), 0, 1);
@@ -51,7 +41,7 @@ fn the_report_is_handed_on(rt: HostRuntime) {
 fn a_write_that_fails_is_a_write_fault(rt: HostRuntime) {
     for room in 0..YES.len() {
         let writer = Narrow::new(rt.alloc(), room);
-        let found = judged(rt.alloc(), PLAY, View::Verdict, writer);
+        let found = judged(rt.alloc(), PLAY, Verb::Check, writer);
         let (answer, writer) = found.expect(&rt, "memory");
         same(&rt, answer.err(), Some(JudgeError::Write), room);
         took(&rt, &writer, &YES.as_bytes()[..room], 1, 0);
@@ -61,7 +51,7 @@ fn a_write_that_fails_is_a_write_fault(rt: HostRuntime) {
 #[test]
 fn a_run_is_handed_on_or_a_first_part_of_it(rt: HostRuntime) {
     let writer = Narrow::new(rt.alloc(), usize::MAX);
-    let (answer, writer) = judged_with_run(rt.alloc(), PLAY, writer).expect(&rt, "memory");
+    let (answer, writer) = judged(rt.alloc(), PLAY, Verb::Run, writer).expect(&rt, "memory");
     let yes = Verdict::Yes {
         records: 6,
         exchanges: 1,
@@ -73,7 +63,7 @@ fn a_run_is_handed_on_or_a_first_part_of_it(rt: HostRuntime) {
     same(&rt, whole.starts_with(b"record 6: goal "), true, whole);
     for room in 0..whole.len() {
         let writer = Narrow::new(rt.alloc(), room);
-        let (answer, writer) = judged_with_run(rt.alloc(), PLAY, writer).expect(&rt, "memory");
+        let (answer, writer) = judged(rt.alloc(), PLAY, Verb::Run, writer).expect(&rt, "memory");
         same(&rt, answer.err(), Some(JudgeError::Write), room);
         took(&rt, &writer, &whole[..room], 1, 0);
     }
@@ -81,7 +71,7 @@ fn a_run_is_handed_on_or_a_first_part_of_it(rt: HostRuntime) {
 
 #[test]
 fn a_flush_that_fails_is_a_write_fault(rt: HostRuntime) {
-    for view in [View::Verdict, View::Explain] {
+    for view in [Verb::Check, Verb::Explain] {
         let writer = Narrow::that_fails_to_flush(rt.alloc());
         let found = judged(rt.alloc(), PLAY, view, writer);
         let (answer, writer) = found.expect(&rt, "memory");
@@ -89,7 +79,7 @@ fn a_flush_that_fails_is_a_write_fault(rt: HostRuntime) {
         took_to_the_end(&rt, &writer, YES.as_bytes());
     }
     let writer = Narrow::that_fails_to_flush(rt.alloc());
-    let (answer, writer) = judged_with_run(rt.alloc(), PLAY, writer).expect(&rt, "memory");
+    let (answer, writer) = judged(rt.alloc(), PLAY, Verb::Run, writer).expect(&rt, "memory");
     same(
         &rt,
         answer.err(),
@@ -114,7 +104,7 @@ fn many_exchanges(alloc: Global) -> Result<String, AllocError> {
 fn nothing_is_written_after_a_write_that_failed(rt: HostRuntime) {
     let text = many_exchanges(rt.alloc()).expect(&rt, "memory");
     let writer = Narrow::new(rt.alloc(), usize::MAX);
-    let found = judged(rt.alloc(), text.as_str(), View::Explain, writer);
+    let found = judged(rt.alloc(), text.as_str(), Verb::Explain, writer);
     let (answer, writer) = found.expect(&rt, "memory");
     let whole = writer.taken.as_slice();
     same(&rt, answer.is_ok(), true, "the whole");
@@ -122,7 +112,7 @@ fn nothing_is_written_after_a_write_that_failed(rt: HostRuntime) {
     assert!(rt; whole.len() > 20_000);
     for room in [0, 1, 8191, 8192, 8193, 16_384, 20_000] {
         let writer = Narrow::new(rt.alloc(), room);
-        let found = judged(rt.alloc(), text.as_str(), View::Explain, writer);
+        let found = judged(rt.alloc(), text.as_str(), Verb::Explain, writer);
         let (answer, writer) = found.expect(&rt, "memory");
         same(&rt, answer.err(), Some(JudgeError::Write), room);
         took(&rt, &writer, &whole[..room], 1, 0);

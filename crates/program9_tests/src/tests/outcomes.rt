@@ -17,17 +17,17 @@ fn a_refusal_has_its_status_and_its_two_lines(rt: HostRuntime) {
         (
             JudgeError::Capture(unread),
             4,
-            "read fault at row 4\nexpected a capture that can be read to its end, and is no directory",
+            "read fault at row 4\nexpected a capture that can be read to its end, not a directory",
         ),
         (
             JudgeError::Write,
             4,
-            "write fault\nstandard output is full or closed, and has a first part of what was to be written",
+            "write fault\nstandard output is full or closed; it has only the first part of the report",
         ),
         (
             JudgeError::OutOfMemory,
             5,
-            "out of memory\na row may have no end, or memory is short: see ulimit -v",
+            "out of memory\na row may never end, or memory is short: see ulimit -v",
         ),
     ];
     for (refusal, status, line) in faults {
@@ -54,7 +54,7 @@ fn a_capture_that_is_not_opened_is_told_by_its_name(rt: HostRuntime) {
         (
             Some("a b.csv"),
             WhyUnopened::Other,
-            "cannot open\na b.csv: The system does not open it",
+            "cannot open\na b.csv: The system cannot open it",
         ),
         (
             None,

@@ -99,13 +99,13 @@ fn a_file_that_is_not_opened(rt: HostRuntime) {
 fn the_version_is_told(rt: HostRuntime) {
     let (end, writer) = end_on(&rt, &["-V"], Narrow::new(rt.alloc(), usize::MAX));
     same(&rt, is_told(&end, 0, Message::Nothing), true, "-V");
-    took(&rt, &writer, b"ninecheck 1.0.0\n", 0, 1);
+    took(&rt, &writer, b"ninecheck 1.1.0\n", 0, 1);
     let (end, writer) = end_on(&rt, &["-V"], Narrow::new(rt.alloc(), 4));
     same(&rt, is_told(&end, 4, Message::WriteFault), true, "no room");
     took(&rt, &writer, b"nine", 1, 0);
     let (end, writer) = end_on(&rt, &["-V"], Narrow::that_fails_to_flush(rt.alloc()));
     same(&rt, is_told(&end, 4, Message::WriteFault), true, "no flush");
-    took_to_the_end(&rt, &writer, b"ninecheck 1.0.0\n");
+    took_to_the_end(&rt, &writer, b"ninecheck 1.1.0\n");
 }
 
 #[test]
