@@ -5,8 +5,8 @@ A definition reaches the names in its text, and a declared type the types of its
 names a variable counts as reached: the page can say too much for it, but not too little. The library std is followed
 nowhere, clap to the names that the crates cite, and csv into its definitions where `rt doc` says where the kit is.
 
-The page has a table for each part, and before the table it names the part's functions and its declared types (in the
-sentences with 'that the code declares'). A part lists what the parts before it do not. Where a file is not reached
+The page has a table for each part, and before the table it names the part's functions, its declared types and its
+constants (in the sentences with 'that the code declares'). A part lists what the parts before it do not. Where a file is not reached
 whole, its row says '(all but `A` and `B`)', '`A` and `B` alone' or 'the first N lines', which are the definitions that begin
 there. A row of clap names what is cited. The last line is 'N passed, M failed'.
 """
@@ -136,6 +136,8 @@ class Sources:
             return LIBRARY, ".".join(path), name
         if path[1] not in self.followed:
             return None
+        if path[-1] == "TheConstants":
+            return (TYPE, path[1], name) if path[1] in self.crates else None
         if path[3] == "declared":
             ends = [path.index(it) for it in ("TheVariants", "TheViews") if it in path]
             return (TYPE, path[1], path[: min(ends, default=len(path))][-1]) if path[1] in self.crates else None
