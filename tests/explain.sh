@@ -9,7 +9,7 @@ program=${NINECHECK:-$PWD/crates/ninecheck/out/ninecheck}
 work=$(mktemp -d)
 trap 'rm -rf "$work"' EXIT
 
-# What stands for blocks: an acknowledgement; a status reply that the deck is not in local, and one that it is; a
+# What stands for blocks: an acknowledgement; a status reply that the deck is in REMOTE, and one that it is in LOCAL; a
 # preset of IN to 10:00:00:00.
 ack='D 10 01 11'
 remote='C 61 20 01 82 D 71 20 00 91'
@@ -73,7 +73,7 @@ want='yes: records 2, exchanges 0, open 2'
 judge 'an open command' is_report 0
 explain 'C 20 01 22'
 want='no at record 3: B2 wrong sum'
-judge 'a wrong sum' is_report 1
+judge 'a wrong checksum' is_report 1
 
 # The exchange at which the reason is found has no line.
 explain "$remote C 40 10 50 $ack C 60 10 70 D 74 10 00 00 00 05 89 C 60 10 70 D 74 10 01 00 00 05 8A"

@@ -11,7 +11,7 @@ program=${NINECHECK:-$PWD/crates/ninecheck/out/ninecheck}
 work=$(mktemp -d)
 trap 'rm -rf "$work"' EXIT
 
-# What stands for blocks: an acknowledgement; a status reply that the deck is not in local, and one that it is; a
+# What stands for blocks: an acknowledgement; a status reply that the deck is in REMOTE, and one that it is in LOCAL; a
 # preset of IN to 10:00:00:00; a deck in local whose IN point is 10:00:00:00; a shift of IN by a frame.
 ack='D 10 01 11'
 remote='C 61 20 01 82 D 71 20 00 91'
@@ -155,7 +155,7 @@ judge 'the dispute, the panel' has_line 4 \
 judge 'the dispute, the hand' has_line 5 \
     "$(line_form 40 "$mode" "$mode" 11:00:00:00 "$register" '(yes|no)'), panel on"
 
-# What may be left undone, refused, forgotten or captured, and what only one view can tell.
+# What may be ignored, refused, forgotten or captured, and what only one view can tell.
 while IFS='|' read -r name records; do
     capture_of "$records"
     judge "$name" is_run "$work/capture.csv"

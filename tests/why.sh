@@ -12,7 +12,7 @@ program=${NINECHECK:-$PWD/crates/ninecheck/out/ninecheck}
 work=$(mktemp -d)
 trap 'rm -rf "$work"' EXIT
 
-# What stands for blocks: an acknowledgement; a status reply that the deck is not in local; a preset of IN to 10:00:00:00;
+# What stands for blocks: an acknowledgement; a status reply that the deck is in REMOTE; a preset of IN to 10:00:00:00;
 # a sense of IN that answers 11:00:00:00.
 ack='D 10 01 11'
 remote='C 61 20 01 82 D 71 20 00 91'
@@ -93,8 +93,8 @@ refused='D 11 12 01 24'
 disable="C 00 0C 0C $ack"
 unlisted="C 30 00 30 $ack"
 
-# After PLAY, and a status that shows it, a deck can show PLAY or STOP. That it is not in local is needed, since one in local may
-# have left PLAY undone, and pass PLAY and REW on the way to where it cues.
+# After PLAY, and a status that shows it, a deck can show PLAY or STOP. That it is in REMOTE is needed, since one in LOCAL may
+# have ignored PLAY, and pass PLAY and REW on the way to where it cues.
 capture_of "$remote $play $shows_play $shows_rew"
 is_no 'PLAY, and REW after it' 'records 1 to 8 at 400: STATUS SENSE 61 20 01 82 -> 71 20 00 91, says local no
 records 9 to 14 at 3600: PLAY 20 01 21 -> 10 01 11
@@ -131,7 +131,7 @@ records 9525 to 9534 at 3810000: IN DATA SENSE 60 10 70 -> 10:00:00:00 74 10 00 
 could show: shown any, in 10:00:00:01, out unknown, local no, ain unknown, aout unknown
 no at record 9534: M1 no run remains'
 
-# An IN point that was captured answers one time. Two are answered by a deck in local alone, which left the entry undone: its IN is
+# An IN point that was captured answers one time. Two are answered by a deck in LOCAL alone, which ignored the entry: its IN is
 # Clear, and so it answers anything.
 capture_of "$entry $sensed_at_5 $sensed_a_frame_on $remote"
 is_no 'an entry, and two senses' 'records 1 to 6 at 400: IN ENTRY 40 10 50 -> 10 01 11
@@ -216,7 +216,7 @@ $disputed, panel off
 no at record 34: M1 no run remains" --hands
 
 # A command that is not listed made the deck forget everything, local and the panel too. So neither what was told before it nor
-# itself is named: behind it a deck in local could have left the preset undone, and the last status says that it is in none.
+# itself is named: after it a deck in LOCAL could have ignored the preset, and the last status says that it is in none.
 capture_of "$remote $preset $unlisted $preset $sensed_at_11 $remote"
 is_no 'what a deck has forgotten' 'records 25 to 34 at 10000: IN DATA PRESET 10:00:00:00 44 14 00 00 00 10 68 -> 10 01 11
 records 35 to 44 at 14000: IN DATA SENSE 60 10 70 -> 11:00:00:00 74 10 00 00 00 11 95

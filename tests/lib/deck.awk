@@ -30,7 +30,7 @@ function deck_setup(    g, m, p, i, n, word, list) {
     register_bit[2] = 4
     register_bit[3] = 8
 
-    # commands: what they do, and whether a deck in local may leave them undone
+    # commands: what they do, and whether a deck in LOCAL may ignore them
     listed_as("000C", "panel 0", 0)
     listed_as("001D", "panel 1", 0)
     list = "2000 1 2001 2 2002 3 200F 10 2010 4 2111 7 2211 7 2112 8 2212 8 2113 6 2213 6 2020 5"
