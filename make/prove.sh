@@ -29,6 +29,17 @@ while IFS=: read -r crate uses; do
     libraries[$crate]=$uses
 done < crates.txt
 
+# How many lines are still to be proved from a crate on, along the longest line of crates of which each uses the one before.
+declare -A ahead=()
+for ((at = ${#order[@]} - 1; at >= 0; at--)); do
+    crate=${order[at]}
+    longest=0
+    for user in "${order[@]:at + 1}"; do
+        case " ${libraries[$user]} " in *" $crate "*) [ "${ahead[$user]}" -le "$longest" ] || longest=${ahead[$user]} ;; esac
+    done
+    ahead[$crate]=$((longest + $(find "crates/$crate/src" "crates/$crate/specs" "crates/$crate/proofs" -type f -exec cat {} + 2> /dev/null | wc -l)))
+done
+
 # The time since the start, as minutes and seconds.
 since() { printf '%3d:%02d' $((SECONDS / 60)) $((SECONDS % 60)); }
 
@@ -45,7 +56,7 @@ sum_of() {
     } | sha256sum
 }
 
-# prove CRATE: in a copy, and then back. The work of a run that was interrupted is taken up again.
+# prove CRATE SUM NICENESS: in a copy, and then back. The work of a run that was interrupted is taken up again.
 prove() {
     local copy=$work/$1 out=crates/$1/out ask='rt lib'
     if [ -d "$copy/$out" ]; then
@@ -57,7 +68,7 @@ prove() {
     rm -f "$copy/$out/made-from"
     [ "$1" != ninecheck ] || ask='rt run -- check'
     # The program is run once it is built, on the capture beside it.
-    (cd "$copy/crates/$1" && $ask) < "$(capture_for "$1")" > "$work/$1.log" 2>&1 || return
+    (cd "$copy/crates/$1" && exec nice -n "$3" $ask) < "$(capture_for "$1")" > "$work/$1.log" 2>&1 || return
     echo "$2" > "$copy/$out/made-from"
     rm -rf "$out"
     mv "$copy/$out" "$out"
@@ -65,7 +76,7 @@ prove() {
 }
 capture_for() { [ "$1" = ninecheck ] && echo crates/ninecheck/stdin || echo /dev/null; }
 
-declare -A state crate_of
+declare -A state=() crate_of=()
 proved=0
 failed=
 
@@ -76,9 +87,9 @@ stands() {
     echo "$(since)  $1 $2 ($proved of ${#order[@]})"
 }
 
-# begin CRATE: unless it waits for a library, or was proved before as it stands.
+# begin CRATE: unless it waits for a library, or was proved before as it stands. It gives way to a crate on which more waits.
 begin() {
-    local library
+    local library other niceness=0
     for library in ${libraries[$1]}; do
         [ ! -d "crates/$library" ] || [ "${state[$library]-}" = proved ] || return
     done
@@ -87,9 +98,12 @@ begin() {
         stands "$1" 'was proved before'
         return
     fi
+    for other in "${crate_of[@]}"; do
+        [ "${ahead[$other]}" -le "${ahead[$1]}" ] || niceness=10
+    done
     state[$1]=begun
     echo "$(since)  $1 begun"
-    prove "$1" "${made_from[$1]}" 9>&- &
+    prove "$1" "${made_from[$1]}" "$niceness" 9>&- &
     crate_of[$!]=$1
 }
 

@@ -57,7 +57,7 @@ END
 chmod +x "$work/bin/rt"
 
 # without_times: what make says, without the times and the lines of make itself.
-without_times() { sed -E 's/^ *[0-9]+:[0-9]{2}  //; /^make/d'; }
+without_times() { sed -E 's/^ *[0-9]+:[0-9]{2}  //; /^make(:|\[)/d'; }
 
 # make_tree WORDS...: make in the tree.
 make_tree() {
