@@ -396,15 +396,17 @@ judge 'jq: the bits of a NAK' [ "$(jq -c 'select(.nak) | [.nak, .bits]' "$work/o
     '["14",["checksum","parity"]]["02",[]]' ]
 
 # What the views have in common is the same in each.
-for view in digest delays json picture; do
+for view in digest delays motion json picture; do
     sed -n '/^# From here on every view is the same/,$p' view/$view.awk > "$work/$view.every"
-    sed -n '/^# From here on digest.awk and delays.awk are the same/,$p' view/$view.awk > "$work/$view.two"
+    sed -n '/^# From here on digest.awk, delays.awk and motion.awk are the same/,$p' view/$view.awk > "$work/$view.some"
 done
 judge 'a common end' [ -s "$work/digest.every" ]
 judge 'the same end of delays.awk' cmp "$work/digest.every" "$work/delays.every"
+judge 'the same end of motion.awk' cmp "$work/digest.every" "$work/motion.every"
 judge 'the same end of json.awk' cmp "$work/digest.every" "$work/json.every"
 judge 'the same end of picture.awk' cmp "$work/digest.every" "$work/picture.every"
-judge 'a longer common end' [ -s "$work/digest.two" ]
-judge 'the same longer end of delays.awk' cmp "$work/digest.two" "$work/delays.two"
+judge 'a longer common end' [ -s "$work/digest.some" ]
+judge 'the same longer end of delays.awk' cmp "$work/digest.some" "$work/delays.some"
+judge 'the same longer end of motion.awk' cmp "$work/digest.some" "$work/motion.some"
 
 tell_counts

@@ -81,7 +81,7 @@ function marks(mark, n,    text) {
     return text
 }
 
-# From here on digest.awk and delays.awk are the same.
+# From here on digest.awk, delays.awk and motion.awk are the same.
 
 # The capture's header is row 0.
 BEGIN {

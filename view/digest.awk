@@ -89,7 +89,7 @@ function seconds(digits) {
     return substr(digits, 1, length(digits) - 6) "." substr(digits, length(digits) - 5)
 }
 
-# From here on digest.awk and delays.awk are the same.
+# From here on digest.awk, delays.awk and motion.awk are the same.
 
 # The capture's header is row 0.
 BEGIN {
