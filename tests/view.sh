@@ -6,6 +6,7 @@ cd "$(dirname "$0")/.." || exit 1
 program=${NINECHECK:-$PWD/crates/ninecheck/out/ninecheck}
 
 . tests/lib/judge.sh
+. tests/lib/closed.sh
 . tests/lib/tools.sh
 need_tools mawk gawk busybox jq
 
@@ -363,6 +364,16 @@ full_device() {
     done
 }
 
+# A reader that has gone before the view is written.
+closed_early() {
+    local view
+    cp examples/views/session.txt "$work/in"
+    for view in digest delays motion json picture; do
+        into_closed $awk -v capture=examples/views/session.csv -f view/$view.awk
+        judge "$awk: $view: a reader that has gone" is_silent
+    done
+}
+
 for awk in mawk 'gawk --posix' 'busybox awk'; do
     stored_texts
     short_texts
@@ -375,6 +386,7 @@ for awk in mawk 'gawk --posix' 'busybox awk'; do
     odd_captures
     program_texts
     full_device
+    closed_early
     judge "$awk: no file is left" [ -z "$(ls "$TMPDIR")" ]
 done
 
