@@ -275,6 +275,30 @@ worth looking at: 1
 yes: records 48, exchanges 5, open 0
 END
 
+# A command that is sent again does not end what holds, and one for the other way does.
+is_motion 'a command again and again' 'PLAY s=01,00 t=10:00:00:00 3*( PLAY +400000 s=01,00 ) t=10:00:00:00 s=01,00' <<'END'
+@first
+record 6, 0.002400 s: PLAY: PLAY shown after 0.003600 s, by status 1 of 1 (PLAY 1); time 10:00:00:00 alone
+record 32, 0.012800 s: PLAY: PLAY shown after 0.403600 s, by status 1 of 1 (PLAY 1)
+record 47, 0.418800 s: PLAY: PLAY shown after 0.403600 s, by status 1 of 1 (PLAY 1)
+record 62, 0.824800 s: PLAY: PLAY shown after 0.403600 s, by status 1 of 2 (PLAY 2); time 10:00:00:00 alone
+@table
+       4      4      0     0.403600         32  PLAY
+worth looking at: 1
+    record 15, 0.006000 s: time stands still at 10:00:00:00 for 1.222400 s, while PLAY is shown
+yes: records 91, exchanges 11, open 0
+END
+is_motion 'a command for the other way' 'SHUTTLE+ s=00,20 t=10:00:00:00 +495600 t=10:00:01:00 s=00,20 SHUTTLE- s=00,20' <<'END'
+@first
+record 7, 0.002800 s: SHUTTLE FWD: SHUTTLE shown after 0.003600 s, by status 1 of 2 (SHUTTLE 2); time 10:00:00:00 to 10:00:01:00, 25 frames in 0.500000 s, 2.00 of real time
+record 55, 0.517600 s: SHUTTLE REV: SHUTTLE shown after 0.003600 s, by status 1 of 1 (SHUTTLE 1)
+@table
+       1      1      0     0.003600          7  SHUTTLE FWD
+       1      1      0     0.003600         55  SHUTTLE REV
+worth looking at: nothing
+yes: records 64, exchanges 7, open 0
+END
+
 # Of more than a hundred the rest is counted. A turn has 15 records, 6,000 microseconds.
 {
     echo '@first'

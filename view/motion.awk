@@ -16,7 +16,7 @@
 # to the next, and 25 of them in a second are 1.00 of real time; where the time runs back both are below 0.
 #
 # "Worth looking at" is a mode that no status shows, and what holds from one status to another, with the same mode in all
-# between: a time that stands still for a second or more where PLAY or REC is shown; one that moves 25 frames or more where
+# between and no command that asks for another mode or way: a time that stands still for a second or more where PLAY or REC is shown; one that moves 25 frames or more where
 # STOP, CUED or EJECT is, or against the way of the command.
 
 BEGIN {
@@ -100,12 +100,14 @@ function value_of(digits) {
 
 # ---- a command, and what the deck did after it
 
+# A stretch goes on where the command asks for what is shown, and for the same way as the one before: some controllers send a
+# command again and again.
 function begin_command() {
-    end_stretch()
     end_command()
+    if (label_of_stretch != mode_of[command] || way != way_of[command] + 0) end_stretch()
     name = command
-    mode = command in mode_of ? mode_of[command] : ""
-    way = command in way_of ? way_of[command] : 0
+    mode = mode_of[command]
+    way = way_of[command] + 0
     acknowledged = "record " record ", " seconds(now) " s: " name (known["local"] == "yes" ? " in local" : "")
     acknowledged_at = now
     acknowledged_record = record
