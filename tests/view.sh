@@ -395,6 +395,8 @@ done
 judge 'the stored explanation of session.csv' cmp "$work/out" examples/views/session.txt
 "$program" explain --hands examples/views/hands.csv > "$work/out" 2> "$work/err"
 judge 'the stored explanation of hands.csv' cmp "$work/out" examples/views/hands.txt
+"$program" explain examples/views/keeps-playing.csv > "$work/out" 2> "$work/err"
+judge 'the stored explanation of keeps-playing.csv' cmp "$work/out" examples/views/keeps-playing.txt
 
 # What a reader of the JSON can tell apart.
 awk=mawk
