@@ -179,17 +179,19 @@ worth looking at: nothing
 yes: records 75, exchanges 10, open 0
 END
 
-# Data 00 and 01 fit CUED, and EJECT without a cassette. What was shown before tells them apart, where it is known.
-is_motion 'a status that fits two modes' 'CUE s=00,01 d=0,00 STOP s=20,00 CUE s=00,01' <<'END'
+# Data 00 and 01 fit CUED, and EJECT without a cassette. It is taken for what was commanded, and else for both.
+is_motion 'a status that fits two modes' 'CUE s=00,01 STOP s=00,01 EJECT s=00,01' <<'END'
 @first
-record 10, 0.004000 s: CUE UP WITH DATA: CUED shown after 0.003600 s, by status 1 of 1 (CUED|EJECT 1)
-record 33, 0.013200 s: STOP: STOP shown after 0.003600 s, by status 1 of 1 (STOP 1)
-record 52, 0.020800 s: CUE UP WITH DATA: CUED shown after 0.003600 s, by status 1 of 1 (CUED 1)
+record 10, 0.004000 s: CUE UP WITH DATA: CUED shown after 0.003600 s, by status 1 of 1 (CUED 1)
+record 25, 0.010000 s: STOP: STOP not shown, 1 status over 0.003600 s (CUED|EJECT 1)
+record 40, 0.016000 s: EJECT: EJECT shown after 0.003600 s, by status 1 of 1 (EJECT 1)
 @table
-       2      2      0     0.003600         10  CUE UP WITH DATA
-       1      1      0     0.003600         33  STOP
-worth looking at: nothing
-yes: records 61, exchanges 7, open 0
+       1      1      0     0.003600         10  CUE UP WITH DATA
+       1      0      1            -          -  STOP
+       1      1      0     0.003600         40  EJECT
+worth looking at: 1
+    record 25, 0.010000 s: STOP: STOP not shown, 1 status over 0.003600 s (CUED|EJECT 1)
+yes: records 49, exchanges 6, open 0
 END
 
 is_motion 'a deck in local' 'd=0,01 PLAY s=20,00' <<'END'
@@ -258,12 +260,19 @@ yes: records 40, exchanges 4, open 0
 END
 is_motion 'a time that runs back in a cue, and another mode between' 'CUE s=00,01 t=10:00:02:00 +1995600 t=10:00:01:00 s=00,01 s=20,00 s=00,01 t=10:00:01:00 s=00,01' <<'END'
 @first
-record 10, 0.004000 s: CUE UP WITH DATA: CUED shown after 0.003600 s, by status 1 of 5 (CUED|EJECT 4, STOP 1); time 10:00:02:00 to 10:00:01:00, -25 frames in 2.015200 s, -0.50 of real time
+record 10, 0.004000 s: CUE UP WITH DATA: CUED shown after 0.003600 s, by status 1 of 5 (CUED 4, STOP 1); time 10:00:02:00 to 10:00:01:00, -25 frames in 2.015200 s, -0.50 of real time
 @table
        1      1      0     0.003600         10  CUE UP WITH DATA
 worth looking at: 1
-    record 19, 0.007600 s: time runs, 10:00:02:00 to 10:00:01:00, -25 frames in 2.000000 s, -0.50 of real time, while CUED|EJECT is shown
+    record 19, 0.007600 s: time runs, 10:00:02:00 to 10:00:01:00, -25 frames in 2.000000 s, -0.50 of real time, while CUED is shown
 yes: records 88, exchanges 9, open 0
+END
+is_motion 'a time that runs while one of two modes is shown' 's=00,01 t=10:00:00:00 +995600 t=10:00:01:00 s=00,01' <<'END'
+@first
+no transport command with a mode of its own was acknowledged
+worth looking at: 1
+    record 9, 0.003600 s: time runs, 10:00:00:00 to 10:00:01:00, 25 frames in 1.000000 s, 1.00 of real time, while CUED|EJECT is shown
+yes: records 40, exchanges 4, open 0
 END
 is_motion 'a time that runs against the command' 'SHUTTLE- s=00,20 t=10:00:00:00 +495600 t=10:00:01:00 s=00,20' <<'END'
 @first
@@ -341,7 +350,7 @@ END
 # With hands on the panel each line has a field more. Nobody knows the mode after a status of one datum, so those that fit are told.
 is_motion 'hands, and one datum' 'PLAY d=1,01 d=2,20/--hands' <<'END'
 @first
-record 6, 0.002400 s: PLAY: PLAY shown after 0.003200 s, by status 1 of 2 (PLAY|SHUTTLE|JOG|VAR 1, FF|REW|SHUTTLE 1)
+record 6, 0.002400 s: PLAY: PLAY shown after 0.003200 s, by status 1 of 2 (PLAY 1, FF|REW|SHUTTLE 1)
 @table
        1      1      0     0.003200          6  PLAY
 worth looking at: nothing

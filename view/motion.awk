@@ -10,8 +10,9 @@
 # command that is acknowledged, or before the end.
 #
 # Times of records are those of the reply's last record, and a response is the time from the acknowledgement to the first
-# status that shows the mode. A status shows the mode that the explanation knows after it, and where that is unknown each
-# mode that its data fit, with bars between; one without data 1 and 2 is not counted. Times are those under 74 04, 06, 14 and
+# status that shows the mode. A status shows the mode that the explanation knows after it. Where that is unknown it is the mode
+# of the command, if the data fit that one, and else each mode that they fit, with bars between. A status without data 1 and 2 is
+# not counted. Times are those under 74 04, 06, 14 and
 # 16, or where none came the `timer`, under 74 00 and 01. Frames are counted the shorter way round the day from each answer
 # to the next, and 25 of them in a second are 1.00 of real time; where the time runs back both are below 0.
 #
@@ -125,11 +126,12 @@ function take_status(    first, d1, d2, label) {
     if (d1 == "" && d2 == "") return
     label = known["shown"] != "unknown" ? known["shown"] : modes_that_fit(d1, d2)
     if (name != "") {
+        if (mode != "" && index("|" label "|", "|" mode "|") > 0) label = mode
         statuses++
         if (!(label in shown_times)) shown_mode[++shown_modes] = label
         shown_times[label]++
         last_status_at = now
-        if (response == "" && mode != "" && index("|" label "|", "|" mode "|") > 0) {
+        if (response == "" && mode != "" && label == mode) {
             response = now - acknowledged_at
             response_status = statuses
         }
