@@ -255,6 +255,9 @@ def check_wires(work):
         ('a command before the reply', f'C {play} 61 D 10 C 20 D 01 C 01 D 11 C 82', 'P3', ['PLAY', 'STATUS SENSE', '(ACK)']),
         ('a command that is begun, and one after a pause', f'C {sense} D 71 20 C 20 D 00 91 + C {play} D {ack}', 'P4',
          ['STATUS SENSE', 'begun', '(PLAY)', 'STATUS']),
+        ('a reply that is cut off', f'C {sense} D 71 20 C {play} D {ack}', 'P4', ['STATUS SENSE', 'STATUS', 'PLAY', '(ACK)']),
+        ('a command that is cut off', f'C 61 20 D {ack} C {play} D {ack}', 'P2', ['STATUS SENSE', 'ACK', '(PLAY)', '(ACK)']),
+        ('a reply that goes on until the capture ends', f'C {sense} D 71 20 C {play} D 00', 'P4', ['STATUS SENSE', 'STATUS', 'PLAY']),
         ('a reply without a command', f'C {play} D {ack} {ack}', 'P1', ['PLAY', 'ACK', 'ACK']),
     ]
     for name, words, reason, want in cases:

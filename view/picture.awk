@@ -70,6 +70,7 @@ function read_capture(number,    k) {
     if (rows < number) refuse("the capture ends before record " number ": " capture)
     oldest = number > keep ? number - keep : 1
     newest = readable
+    for (k = number + 1; k <= newest; k++) begin_or_go_on(k)
     # what is open at the record in question: the command with what there is of the reply
     open_from = number
     if (number > 1 && tail_of[number - 1] > 0) open_from = tail_of[number - 1]
@@ -101,7 +102,7 @@ function take_record(    part, number) {
     stamp[number] = part[1] + 0
     wire[number] = part[2]
     byte[number] = value_of(part[3])
-    begin_or_go_on(number)
+    if (number <= breaking) begin_or_go_on(number)
     forget(number - keep - 40)
 }
 
@@ -119,13 +120,12 @@ function forget(number) {
 }
 
 # The block that a record belongs to: the open one on its wire, or a new one. Each wire is read by itself, since where a rule of
-# the turns is broken a block of the one comes inside a block of the other. Behind that record nothing is judged, and a block ends
-# where its wire rests longer than a block may. `tail_of` is the first record of the command that is open after it, and 0 where
-# none is.
+# the turns is broken a block of the one comes inside a block of the other. `tail_of` is the first record of the command that is
+# open after it, and 0 where none is.
 function begin_or_go_on(number,    on, is_open) {
     on = wire[number]
     is_open = held[on] < length_of[first[on]]
-    if (number > breaking && stamp[number] - latest[on] > limit_of["B3"]) is_open = 0
+    if (is_open && number > breaking) is_open = goes_on(number, on)
     latest[on] = stamp[number]
     if (is_open) held[on]++
     else {
@@ -140,6 +140,20 @@ function begin_or_go_on(number,    on, is_open) {
     is_closed = on == "D" && held[on] == length_of[first[on]]
     tail_of[number] = is_closed ? 0 : first["C"]
     is_between[number] = held["C"] == length_of[first["C"]] && held["D"] == length_of[first["D"]]
+}
+
+# Whether the open block of a wire goes on with this record, behind the one in question, where nothing is judged any more: not
+# where the wire has rested longer than a block may, nor where the other wire came between and the sum would be wrong.
+function goes_on(number, on,    k, n, sum) {
+    if (stamp[number] - latest[on] > limit_of["B3"]) return 0
+    if (wire[number - 1] == on) return 1
+    n = sum = 0
+    for (k = first[on]; k <= newest; k++) {
+        if (k < number ? first_of[k] != first[on] : wire[k] != on) continue
+        if (++n == length_of[first[on]]) return byte[k] == sum % 256
+        sum += byte[k]
+    }
+    return 1
 }
 
 function value_of(digits) {
