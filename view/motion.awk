@@ -172,13 +172,11 @@ function fits(digits, set, clear,    value, bit) {
 
 function end_command(    text) {
     if (name == "") return
-    text = acknowledged ": "
-    if (mode == "") text = text "no mode of its own"
-    else if (response != "") text = text mode " shown after " seconds(response) " s, by status " response_status " of " statuses
-    else if (statuses > 0) text = text mode " not shown"
-    if (mode == "" || response == "") text = text (statuses > 0 ? ", " counted(statuses) " over " seconds(last_status_at - acknowledged_at) " s" \
-        : mode == "" ? ", no status" : "no status")
-    text = text modes_told() times_told(span)
+    text = statuses == 0 ? "no status" : counted(statuses, "status", "es") " over " seconds(last_status_at - acknowledged_at) " s"
+    if (mode == "") text = "no mode of its own, " text
+    else if (response != "") text = mode " shown after " seconds(response) " s, by status " response_status " of " statuses
+    else if (statuses > 0) text = mode " not shown, " text
+    text = acknowledged ": " text modes_told() times_told(span)
     put(text)
     if (mode == "") return
     if (!(name in commands_of)) command_name[++command_names] = name
@@ -201,8 +199,8 @@ function modes_told(    text, k) {
     return text ")"
 }
 
-function counted(n) {
-    return n " status" (n == 1 ? "" : "es")
+function counted(n, what, plural) {
+    return n " " what (n == 1 || n == -1 ? "" : plural)
 }
 
 # ---- times
@@ -267,9 +265,8 @@ function times_told(of,    track) {
 
 function way_told(of, track,    elapsed) {
     elapsed = of[track, "ended"] - of[track, "began"]
-    return clock(of[track, "first"]) " to " clock(of[track, "last"]) ", " of[track, "moved"] " frame" \
-        (of[track, "moved"] == 1 || of[track, "moved"] == -1 ? "" : "s") " in " seconds(elapsed) " s, " \
-        hundredths(of[track, "moved"] * 4000000 / elapsed) " of real time"
+    return clock(of[track, "first"]) " to " clock(of[track, "last"]) ", " counted(of[track, "moved"], "frame", "s") \
+        " in " seconds(elapsed) " s, " hundredths(of[track, "moved"] * 4000000 / elapsed) " of real time"
 }
 
 function clock(frames) {
@@ -307,17 +304,18 @@ function go_on(label,    k) {
     for (k in ahead) behind[k] = ahead[k]
 }
 
-function end_stretch(    track, moved, while_shown) {
+function end_stretch(    track, moved, elapsed, while_shown) {
     track = label_of_stretch == "" ? "" : told_track(behind)
     while_shown = ", while " label_of_stretch " is shown"
     if (track != "") {
         moved = behind[track, "moved"]
-        if (moved == 0 && behind[track, "ended"] - behind[track, "began"] >= 1000000 && label_of_stretch ~ /^(PLAY|REC)$/) {
-            worth(stretch track " stands still at " clock(behind[track, "last"]) " for " \
-                seconds(behind[track, "ended"] - behind[track, "began"]) " s" while_shown)
-        } else if ((moved >= 25 || moved <= -25) && behind[track, "ended"] > behind[track, "began"]) {
-            if (label_of_stretch ~ /^(STOP|CUED|EJECT)([|](STOP|CUED|EJECT))*$/) worth(stretch track " runs, " way_told(behind, track) while_shown)
-            else if (name != "" && label_of_stretch == mode && moved * way < 0) {
+        elapsed = behind[track, "ended"] - behind[track, "began"]
+        if (moved == 0 && elapsed >= 1000000 && label_of_stretch ~ /^(PLAY|REC)$/) {
+            worth(stretch track " stands still at " clock(behind[track, "last"]) " for " seconds(elapsed) " s" while_shown)
+        } else if ((moved >= 25 || moved <= -25) && elapsed > 0) {
+            if (label_of_stretch ~ /^(STOP|CUED|EJECT)([|](STOP|CUED|EJECT))*$/) {
+                worth(stretch track " runs, " way_told(behind, track) while_shown)
+            } else if (label_of_stretch == mode && moved * way < 0) {
                 worth(stretch track " runs against " name " of record " acknowledged_record ", " way_told(behind, track) while_shown)
             }
         }
