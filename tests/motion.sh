@@ -236,8 +236,15 @@ is_motion 'a time that stands still in PLAY' 's=01,00 t=10:00:00:00 s=01,00 +992
 @first
 no transport command with a mode of its own was acknowledged
 worth looking at: 1
-    record 9, 0.003600 s: time stands still at 10:00:00:00 for 1.000000 s, while PLAY is shown
+    record 20, 0.008000 s: time stands still at 10:00:00:00 for 1.000000 s, while PLAY is shown
 yes: records 60, exchanges 6, open 0
+END
+is_motion 'a time that runs, and then stands still' 's=01,00 t=10:00:00:00 t=10:00:01:00 +1000000 t=10:00:01:00 t=10:00:01:01 s=01,00' <<'END'
+@first
+no transport command with a mode of its own was acknowledged
+worth looking at: 1
+    record 31, 0.012400 s: time stands still at 10:00:01:00 for 1.004400 s, while PLAY is shown
+yes: records 62, exchanges 6, open 0
 END
 is_motion 'a time that stands still for less than a second' 's=02,00 t=10:00:00:00 s=02,00 +991999 t=10:00:00:00 s=02,00' <<'END'
 @first
@@ -294,7 +301,7 @@ record 62, 0.824800 s: PLAY: PLAY shown after 0.403600 s, by status 1 of 2 (PLAY
 @table
        4      4      0     0.403600         32  PLAY
 worth looking at: 1
-    record 15, 0.006000 s: time stands still at 10:00:00:00 for 1.222400 s, while PLAY is shown
+    record 26, 0.010400 s: time stands still at 10:00:00:00 for 1.222400 s, while PLAY is shown
 yes: records 91, exchanges 11, open 0
 END
 is_motion 'a command for the other way' 'SHUTTLE+ s=00,20 t=10:00:00:00 +495600 t=10:00:01:00 s=00,20 SHUTTLE- s=00,20' <<'END'

@@ -11,14 +11,15 @@
 #
 # Times of records are those of the reply's last record, and a response is the time from the acknowledgement to the first
 # status that shows the mode. A status shows the mode that the explanation knows after it. Where that is unknown it is the mode
-# of the command, if the data fit that one, and else each mode that they fit, with bars between. A status without data 1 and 2 is
-# not counted. Times are those under 74 04, 06, 14 and
-# 16, or where none came the `timer`, under 74 00 and 01. Frames are counted the shorter way round the day from each answer
-# to the next, and 25 of them in a second are 1.00 of real time; where the time runs back both are below 0.
+# of the command, if the data fit that one, and else each mode that they fit, with bars between. A status without data 1 and 2
+# is not counted. Times are those under 74 04, 06, 14 and 16, or where none came the `timer`, under 74 00 and 01. Frames are
+# counted the shorter way round the day from each answer to the next, and 25 of them in a second are 1.00 of real time; where
+# the time runs back both are below 0.
 #
 # "Worth looking at" is a mode that no status shows, and what holds from one status to another, with the same mode in all
-# between and no command that asks for another mode or way: a time that stands still for a second or more where PLAY or REC is shown; one that moves 25 frames or more where
-# STOP, CUED or EJECT is, or against the way of the command.
+# between and no command that asks for another mode or way: a time that stands still for a second or more where PLAY or REC is
+# shown, from the answer on that its line names; one that moves 25 frames or more where STOP, CUED or EJECT is shown, or against
+# the way of the command.
 
 BEGIN {
     view = "motion.awk"
@@ -231,8 +232,17 @@ function digits_of(digits, flags, greatest,    value) {
     return value <= greatest ? value : -1
 }
 
-# Times that are followed: of a track the first and the last, when they were answered, and how far it moved between.
+# Times that are followed: of a track the first and the last, when they were answered, how far it moved between, and how long it
+# stood still at most, from which answer on.
 function move(of, track, frames,    by) {
+    if (!((track, "last") in of) || frames != of[track, "last"]) {
+        of[track, "same_since"] = now
+        of[track, "same_record"] = record
+    } else if (now - of[track, "same_since"] > of[track, "still"] + 0) {
+        of[track, "still"] = now - of[track, "same_since"]
+        of[track, "still_from"] = "record " of[track, "same_record"] ", " seconds(of[track, "same_since"]) " s: "
+        of[track, "still_at"] = frames
+    }
     if ((track, "last") in of) {
         by = frames - of[track, "last"]
         if (by > day / 2) by -= day
@@ -310,9 +320,11 @@ function end_stretch(    track, moved, elapsed, while_shown) {
     if (track != "") {
         moved = behind[track, "moved"]
         elapsed = behind[track, "ended"] - behind[track, "began"]
-        if (moved == 0 && elapsed >= 1000000 && label_of_stretch ~ /^(PLAY|REC)$/) {
-            worth(stretch track " stands still at " clock(behind[track, "last"]) " for " seconds(elapsed) " s" while_shown)
-        } else if ((moved >= 25 || moved <= -25) && elapsed > 0) {
+        if (behind[track, "still"] >= 1000000 && label_of_stretch ~ /^(PLAY|REC)$/) {
+            worth(behind[track, "still_from"] track " stands still at " clock(behind[track, "still_at"]) " for " \
+                seconds(behind[track, "still"]) " s" while_shown)
+        }
+        if ((moved >= 25 || moved <= -25) && elapsed > 0) {
             if (label_of_stretch ~ /^(STOP|CUED|EJECT)([|](STOP|CUED|EJECT))*$/) {
                 worth(stretch track " runs, " way_told(behind, track) while_shown)
             } else if (label_of_stretch == mode && moved * way < 0) {
