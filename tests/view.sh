@@ -319,6 +319,8 @@ program_texts() {
                 judge "$awk: digest of $file $hands" ends_with_verdict
                 view delays.awk "-v capture=examples/$file" < "$work/in"
                 judge "$awk: delays of $file $hands" ends_with_verdict
+                view motion.awk "-v capture=examples/$file" < "$work/in"
+                judge "$awk: motion of $file $hands" ends_with_verdict
             done
         done
     done < examples/ANSWERS
