@@ -411,6 +411,10 @@ judge 'jq: numbers are numbers' [ "$(jq -s 'map(.record // .records, .delay_us /
 judge 'jq: the bits of a NAK' [ "$(jq -c 'select(.nak) | [.nak, .bits]' "$work/out" | tr -d '\n')" = \
     '["14",["checksum","parity"]]["02",[]]' ]
 
+# What awk prints for a number's point depends on the country, so none is asked for.
+grep -nE '%[-+0-9]*[.][1-9][0-9]*[feg]' view/*.awk convert/*.awk > "$work/out"
+judge 'numbers are printed without a point' [ ! -s "$work/out" ]
+
 # What the views have in common is the same in each.
 for view in digest delays motion json picture; do
     sed -n '/^# From here on every view is the same/,$p' view/$view.awk > "$work/$view.every"

@@ -327,7 +327,7 @@ function put_cut(k,    about, gone) {
     put_slashes(about, 312)
     put_slashes(about, lane_of["C"] + tall)
     put_slashes(about, lane_of["D"] + tall)
-    gone = sprintf("%.1f ms", (stamp[k] - stamp[k - 1]) / 1000)
+    gone = with_point((stamp[k] - stamp[k - 1]) / 100, 1) " ms"
     free_row("cut", about, gone, 1)
     if (!measured || k < breaking || x_of(k) > x_of(breaking)) put_text(middle, measured ? 216 : 190, "middle", "font-size=\"11\" fill=\"#555555\"", gone)
 }
@@ -488,7 +488,7 @@ function put_gap(n, y, high,    about, between) {
 }
 
 # A time in seconds from one second on, and below in milliseconds.
-function long_time(us) { return us >= 1000000 ? sprintf("%.3f s", us / 1000000) : milliseconds(us) }
+function long_time(us) { return us >= 1000000 ? with_point(us / 1000, 3) " s" : milliseconds(us) }
 
 # Text that stands for itself in an SVG.
 function escaped(text) {
@@ -502,9 +502,18 @@ function escaped(text) {
 
 function x_of(k) { return left + x[k] }
 
-function px(n) { return sprintf("%.1f", n) }
+function px(n) { return with_point(n * 10, 1) }
 
-function milliseconds(us) { return sprintf("%.3f ms", us / 1000) }
+function milliseconds(us) { return with_point(us, 3) " ms" }
+
+# A number rounded to a whole one, with a point before so many of its last digits: what awk prints for a number's point depends on
+# the country, and an SVG has one alone.
+function with_point(n, places,    sign, digits) {
+    sign = n < 0 ? "-" : ""
+    digits = sprintf("%.0f", n < 0 ? -n : n)
+    while (length(digits) <= places) digits = "0" digits
+    return sign substr(digits, 1, length(digits) - places) "." substr(digits, length(digits) - places + 1)
+}
 
 function thousands(us,    digits, text) {
     digits = sprintf("%.0f", us)
