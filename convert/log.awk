@@ -11,32 +11,61 @@
 # the point, and may stand in brackets, with its date. Its times count from the beginning of the first line's day.
 #
 # The line's time is that of its first byte, cut to whole microseconds; each next byte of the line is taken to
-# come 287 microseconds later, one byte's time on the wire. `-v from=SECONDS` and `-v to=SECONDS` leave the bytes before
-# the one and from the other on out.
+# come 287 microseconds later, one byte's time on the wire, but not later than the next line. Bytes of the same time stay in
+# the order of the log. `-v from=SECONDS` and `-v to=SECONDS` leave the bytes before the one and from the other on out.
+#
+# Where the stamps are coarser than 100 microseconds a line on standard error says that limits of time mean little. That is so
+# where each stamp of the log is a multiple of 125 microseconds or each one of 200: so are stamps in milliseconds, however many
+# zeros stand behind them, and those of clocks that tick every 125, 200, 250 or 500 microseconds or every 15.625 milliseconds.
 
 BEGIN {
     converter = "log.awk"
-    output = "cat || { cat > /dev/null; false; }"
+    in_order = 1
     if (controller == "" || deck == "") refuse("-v controller=PORT or -v deck=PORT is missing")
     if (controller "" == deck "") refuse("-v controller and -v deck are the same port")
     port_wire[controller] = "C"
     port_wire[deck] = "D"
 }
 
-# A date that a blank parts from its clock is a field of its own.
+# A date that a blank parts from its clock is a field of its own. A line waits for the next one, whose time its bytes may not
+# pass.
 {
     sub(/\r$/, "")
     port_at = is_date($1) ? 3 : 2
+    if (NF <= port_at) refuse("unknown line: " $0)
+    time = time_of(port_at == 3 ? $1 "T" $2 : $1)
+    if (time % 125 != 0) is_off_125 = 1
+    if (time % 200 != 0) is_off_200 = 1
+    if (NR > 1) take_waiting(time)
+    waiting = $0
+    waiting_number = NR
+    waiting_time = time
 }
 
-NF <= port_at { refuse("unknown line: " $0) }
+END {
+    if (refused) exit 1
+    if (NR > 0) take_waiting(waiting_time + 287 * length(waiting))
+    if (count["C"] + count["D"] > 0 && !(is_off_125 && is_off_200)) {
+        print converter ": stamps are coarser than 100 microseconds, so L1, L2 and B3 mean little" | "cat >&2"
+        close("cat >&2")
+    }
+}
 
-{
-    line_time = time_of(port_at == 3 ? $1 "T" $2 : $1)
+# Keeps the bytes of the line that waited. It is made the line that is read for as long, so that it is told where it is refused.
+# Only a next line of a later time has a say: in a log of one port after the other there is one of an earlier time.
+function take_waiting(next_time,    line, line_number, k, time) {
+    line = $0
+    line_number = NR
+    $0 = waiting
+    NR = waiting_number
+    port_at = is_date($1) ? 3 : 2
     for (k = port_at + 1; k <= NF; k++) {
-        time = line_time + 287 * (k - port_at - 1)
+        time = waiting_time + 287 * (k - port_at - 1)
+        if (next_time >= waiting_time && time > next_time) time = next_time
         if (inside(time)) keep_field($k, time)
     }
+    $0 = line
+    NR = line_number
 }
 
 function keep_field(byte, time) {
@@ -143,13 +172,16 @@ function microseconds(seconds,    sign, power, parts, digits, places, whole, res
     return sign * whole - (sign < 0 && rest ~ /[1-9]/)
 }
 
-# Keeps a byte until the whole export was read, so that a refused export leaves no part of a capture behind.
+# Keeps a byte until the whole export was read, so that a refused export leaves no part of a capture behind. In an export that
+# is in the line's own order it is kept how many of the controller's bytes stand before one of the deck's, where they reach its
+# time.
 function keep(time, wire, byte) {
     if (time > 999999999999999) refuse("a time of more than fifteen digits: " $0)
     if (count[wire] > 0 && time < times[slot(wire, count[wire])]) {
         refuse("a time below the one before on this wire: " $0)
     }
     count[wire]++
+    if (in_order && wire == "D" && count["C"] > 0 && times[slot("C", count["C"])] >= time) stand_before[count["D"]] = count["C"]
     times[slot(wire, count[wire])] = time
     bytes[slot(wire, count[wire])] = toupper(byte)
 }
@@ -172,11 +204,16 @@ function refuse(what) {
     exit 1
 }
 
-# The wire whose next byte is the earlier one: the controller's, where both have the same time.
-function next_wire() {
+# The wire whose next byte is the earlier one. Where both have the same time it is the one that stands first in an export that
+# is in the line's own order, and else the controller's.
+function next_wire(    ahead) {
     if (written["C"] == count["C"]) return "D"
     if (written["D"] == count["D"]) return "C"
-    return times[slot("D", written["D"] + 1)] < times[slot("C", written["C"] + 1)] ? "D" : "C"
+    ahead = times[slot("D", written["D"] + 1)] - times[slot("C", written["C"] + 1)]
+    if (ahead == 0 && in_order) {
+        return (written["D"] + 1 in stand_before) && stand_before[written["D"] + 1] > written["C"] ? "C" : "D"
+    }
+    return ahead < 0 ? "D" : "C"
 }
 
 function write(wire,    k) {
@@ -185,13 +222,18 @@ function write(wire,    k) {
 }
 
 # The capture goes through `cat`, since no awk tells what became of its own output. Where it can't be written the rest is
-# read all the same: an awk whose pipe has lost its reader is ended, and says nothing.
+# read all the same: an awk whose pipe has lost its reader is ended, and says nothing. A reader that ends before the capture
+# does, as `ninecheck check` at a break, ends `cat` by a signal, which the shell tells as 141: then nothing is said, and the
+# status is the same. One awk answers 256 times the status.
 END {
     if (refused) exit 1
     count["C"] += 0
     count["D"] += 0
     if (count["C"] + count["D"] == 0) refuse("no byte in " (from to == "" ? "the export" : "this stretch of the export"))
+    output = "cat || { ended=$?; cat > /dev/null; exit $ended; }"
     print "time_us,wire,byte" | output
     while (written["C"] < count["C"] || written["D"] < count["D"]) write(next_wire())
-    if (close(output) != 0) refuse("the capture can't be written")
+    ended = close(output)
+    if (ended == 141 || ended == 141 * 256) exit 141
+    if (ended != 0) refuse("the capture can't be written")
 }

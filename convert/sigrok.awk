@@ -9,7 +9,6 @@
 
 BEGIN {
     converter = "sigrok.awk"
-    output = "cat || { cat > /dev/null; false; }"
     if (rate !~ /^[1-9][0-9]*$/ || rate + 0 > 1000000000) refuse("-v rate=SAMPLES_A_SECOND is missing, or wrong")
 }
 
@@ -100,13 +99,16 @@ function microseconds(seconds,    sign, power, parts, digits, places, whole, res
     return sign * whole - (sign < 0 && rest ~ /[1-9]/)
 }
 
-# Keeps a byte until the whole export was read, so that a refused export leaves no part of a capture behind.
+# Keeps a byte until the whole export was read, so that a refused export leaves no part of a capture behind. In an export that
+# is in the line's own order it is kept how many of the controller's bytes stand before one of the deck's, where they reach its
+# time.
 function keep(time, wire, byte) {
     if (time > 999999999999999) refuse("a time of more than fifteen digits: " $0)
     if (count[wire] > 0 && time < times[slot(wire, count[wire])]) {
         refuse("a time below the one before on this wire: " $0)
     }
     count[wire]++
+    if (in_order && wire == "D" && count["C"] > 0 && times[slot("C", count["C"])] >= time) stand_before[count["D"]] = count["C"]
     times[slot(wire, count[wire])] = time
     bytes[slot(wire, count[wire])] = toupper(byte)
 }
@@ -129,11 +131,16 @@ function refuse(what) {
     exit 1
 }
 
-# The wire whose next byte is the earlier one: the controller's, where both have the same time.
-function next_wire() {
+# The wire whose next byte is the earlier one. Where both have the same time it is the one that stands first in an export that
+# is in the line's own order, and else the controller's.
+function next_wire(    ahead) {
     if (written["C"] == count["C"]) return "D"
     if (written["D"] == count["D"]) return "C"
-    return times[slot("D", written["D"] + 1)] < times[slot("C", written["C"] + 1)] ? "D" : "C"
+    ahead = times[slot("D", written["D"] + 1)] - times[slot("C", written["C"] + 1)]
+    if (ahead == 0 && in_order) {
+        return (written["D"] + 1 in stand_before) && stand_before[written["D"] + 1] > written["C"] ? "C" : "D"
+    }
+    return ahead < 0 ? "D" : "C"
 }
 
 function write(wire,    k) {
@@ -142,13 +149,18 @@ function write(wire,    k) {
 }
 
 # The capture goes through `cat`, since no awk tells what became of its own output. Where it can't be written the rest is
-# read all the same: an awk whose pipe has lost its reader is ended, and says nothing.
+# read all the same: an awk whose pipe has lost its reader is ended, and says nothing. A reader that ends before the capture
+# does, as `ninecheck check` at a break, ends `cat` by a signal, which the shell tells as 141: then nothing is said, and the
+# status is the same. One awk answers 256 times the status.
 END {
     if (refused) exit 1
     count["C"] += 0
     count["D"] += 0
     if (count["C"] + count["D"] == 0) refuse("no byte in " (from to == "" ? "the export" : "this stretch of the export"))
+    output = "cat || { ended=$?; cat > /dev/null; exit $ended; }"
     print "time_us,wire,byte" | output
     while (written["C"] < count["C"] || written["D"] < count["D"]) write(next_wire())
-    if (close(output) != 0) refuse("the capture can't be written")
+    ended = close(output)
+    if (ended == 141 || ended == 141 * 256) exit 141
+    if (ended != 0) refuse("the capture can't be written")
 }

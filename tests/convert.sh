@@ -6,6 +6,7 @@ cd "$(dirname "$0")/.." || exit 1
 program=${NINECHECK:-$PWD/crates/ninecheck/out/ninecheck}
 
 . tests/lib/judge.sh
+. tests/lib/closed.sh
 . tests/lib/tools.sh
 need_tools mawk gawk busybox python3 ts=moreutils
 
@@ -48,14 +49,25 @@ stored_exports() {
     judge "$awk: sigrok-damaged.txt" is_refused 'sigrok.awk: line 10: a damaged byte: 5613-5666 uart-2: Parity error'
 }
 
-# Exports with printf's escapes, and the rows of their captures.
+# The line that a log with coarse stamps has on standard error.
+coarse='log.awk: stamps are coarser than 100 microseconds, so L1, L2 and B3 mean little'
+
+# is_coarse_capture FILE: the same, but for that line.
+is_coarse_capture() {
+    [ "$status" = 0 ] && cmp "$work/out" "$1" && [ "$(cat "$work/err")" = "$coarse" ]
+}
+
+# Exports with printf's escapes, and the rows of their captures. A log that is called coarse has the line on standard error.
 good_exports() {
     local name converter words text rows
     while IFS='|' read -r name converter words text rows; do
         printf "$text" > "$work/in"
         convert "$converter" "$words" < "$work/in"
         printf "time_us,wire,byte\n$rows" > "$work/want"
-        judge "$awk: $name" is_capture "$work/want"
+        case $name in
+            coarse*) judge "$awk: $name" is_coarse_capture "$work/want" ;;
+            *) judge "$awk: $name" is_capture "$work/want" ;;
+        esac
     done <<'END'
 sigrok: the deck's wire first|sigrok.awk|-v rate=1000000|1626-1834 uart-2: 10\n426-634 uart-1: 20\n|426,C,20\n1626,D,10\n
 sigrok: both wires by turns|sigrok.awk|-v rate=1000000|5-213 uart-1: 20\n7-215 uart-2: 10\n6-214 uart-1: 01\n8-216 uart-2: 01\n|5,C,20\n6,C,01\n7,D,10\n8,D,01\n
@@ -74,8 +86,8 @@ saleae: times below 0 on the deck's wire alone|saleae.awk|-v controller=A -v dec
 saleae: CRLF in two older files|saleae.awk||Time [s],Value,Parity Error,Framing Error\r\n1.5,0x20,,\r\nTime [s],Value,Parity Error,Framing Error\r\n1.25,0x10,,\r\n|1250000,D,10\n1500000,C,20\n
 saleae: an older file without a byte|saleae.awk||Time [s],Value,Parity Error,Framing Error\nTime [s],Value,Parity Error,Framing Error\n1.25,0x10,,\n|1250000,D,10\n
 sigrok: zeros in front|sigrok.awk|-v rate=1000000|010-218 uart-1: 20\n|10,C,20\n
-log: zeros in front, and seconds without a point|log.awk|-v controller=A -v deck=B|010 A 20\n0011.0100 A 01\n|10000000,C,20\n11010000,C,01\n
-log: ports that are numbers, and blanks|log.awk|-v controller=1 -v deck=01| 1   1 \t 20 fF\r\n01.0000019 01 10\n|1000000,C,20\n1000001,D,10\n1000287,C,FF\n
+coarse log: zeros in front, and seconds without a point|log.awk|-v controller=A -v deck=B|010 A 20\n0011.0100 A 01\n|10000000,C,20\n11010000,C,01\n
+log: ports that are numbers, and blanks|log.awk|-v controller=1 -v deck=01| 1   1 \t 20 fF\r\n01.0000019 01 10\n|1000000,C,20\n1000001,C,FF\n1000001,D,10\n
 sigrok: from a byte on, up to another|sigrok.awk|-v rate=1000000 -v from=0.000426 -v to=0.002|425-633 uart-1: FF\n426-634 uart-1: 20\n1999-2207 uart-1: 01\n2000-2208 uart-1: FE\n425-633 uart-2: FD\n1626-1834 uart-2: 10\n|426,C,20\n1626,D,10\n1999,C,01\n
 sigrok: from alone, of a recording that begins inside a byte|sigrok.awk|-v rate=1000000 -v from=0.001|5-213 uart-1: 20\n239-265 uart-1: Frame error\n1000-1208 uart-1: 21\n|1000,C,21\n
 sigrok: to alone, and damage later|sigrok.awk|-v rate=1000000 -v to=1|5-213 uart-1: 20\n1000000-1000208 uart-1: 21\n1000208-1000234 uart-1: Parity error\n999740-999948 uart-2: 10\n1000000-1000300 uart-2: Break condition\n|5,C,20\n999740,D,10\n
@@ -86,7 +98,7 @@ saleae: a stretch, with damage before and after|saleae.awk|-v controller=A -v de
 saleae: a stretch below 0|saleae.awk|-v controller=A -v deck=B -v from=-1.5 -v to=-0.5|name,type,start_time,duration,data,error\nA,data,-1.5000001,1,0x20,\nA,data,-1.5,1,0x21,\nB,data,-0.5000001,1,0x10,\nB,data,-0.5,1,0x11,\n|500000,C,21\n1499999,D,10\n
 saleae: times below 0 outside of the stretch move nothing|saleae.awk|-v controller=A -v deck=B -v from=0|name,type,start_time,duration,data,error\nA,data,-2,1,0x20,\nB,data,1,1,0x10,\n|1000000,D,10\n
 saleae: a stretch of two older files|saleae.awk|-v from=1.25|Time [s],Value,Parity Error,Framing Error\n1,0x20,,Error\n1.5,0x21,,\nTime [s],Value,Parity Error,Framing Error\n1,0x10,Error,\n1.25,0x11,,\n|1250000,D,11\n1500000,C,21\n
-log: a stretch that begins and ends inside a line|log.awk|-v controller=A -v deck=B -v from=1.000287 -v to=2.0002870|0.5 C 2?\n1 A 2! 01 21\n2 B 10 1!\n2.5 A !!\n|1000287,C,01\n1000574,C,21\n2000000,D,10\n
+coarse log: a stretch that begins and ends inside a line|log.awk|-v controller=A -v deck=B -v from=1.000287 -v to=2.0002870|0.5 C 2?\n1 A 2! 01 21\n2 B 10 1!\n2.5 A !!\n|1000287,C,01\n1000574,C,21\n2000000,D,10\n
 log: a stretch in more digits than microseconds, with zeros in front|log.awk|-v controller=A -v deck=B -v from=010.0000019 -v to=011|10 A 20\n10.000001 A 21\n11 A 22\n|10000001,C,21\n
 sigrok: the shortest and the longest byte at a rate|sigrok.awk|-v rate=1000000|1000-1205 uart-1: 20\n2000-2212 uart-1: 01\n|1000,C,20\n2000,C,01\n
 sigrok: two samples off at a low rate|sigrok.awk|-v rate=100000|10-29 uart-1: 20\n40-62 uart-1: 01\n|100,C,20\n400,C,01\n
@@ -96,15 +108,24 @@ log: dates and clocks with a T between, CRLF|log.awk|-v controller=A -v deck=B|2
 log: clocks alone, in the order of the log|log.awk|-v controller=A -v deck=B|00:00:00.000 A 20\n00:00:00.000001 A 01\n12:34:56.789012 A 21\n12:34:56.789012 B 10\n23:59:59.999999 B 01\n|0,C,20\n1,C,01\n45296789012,C,21\n45296789012,D,10\n86399999999,D,01\n
 log: clocks in brackets|log.awk|-v controller=A -v deck=B|[12:34:56.789012] A 20 01\n[12:34:57.000] B 10\n|45296789012,C,20\n45296789299,C,01\n45297000000,D,10\n
 log: dates and clocks in brackets|log.awk|-v controller=A -v deck=B|[2024-03-01 12:34:56.789012] A 20\n[2024-03-02T00:00:00.000] B 10\n2024-03-02 00:00:01.000 A 21\n|45296789012,C,20\n86400000000,D,10\n86401000000,C,21\n
-log: past midnight into the 29th of February, and out of it|log.awk|-v controller=A -v deck=B|2024-02-28 23:59:59.999 A 20\n2024-02-29 00:00:00.001 B 10\n2024-03-01 00:00:00.001 B 01\n|86399999000,C,20\n86400001000,D,10\n172800001000,D,01\n
-log: the end of February in a year without a 29th|log.awk|-v controller=A -v deck=B|2023-02-28 23:59:59.999 A 20\n2023-03-01 00:00:00.001 B 10\n|86399999000,C,20\n86400001000,D,10\n
-log: the 29th of February 2000|log.awk|-v controller=A -v deck=B|2000-02-29 00:00:00.000 A 20\n2000-03-01 00:00:00.001 B 10\n|0,C,20\n86400001000,D,10\n
-log: the end of February 2100|log.awk|-v controller=A -v deck=B|2100-02-28 00:00:00.000 A 20\n2100-03-01 00:00:00.001 B 10\n|0,C,20\n86400001000,D,10\n
-log: past the end of a year|log.awk|-v controller=A -v deck=B|2023-12-31 23:59:59.999 A 20\n2024-01-01 00:00:00.001 B 10\n|86399999000,C,20\n86400001000,D,10\n
-log: the last day of each month|log.awk|-v controller=A -v deck=B|2023-01-31 00:00:00.000 A 01\n2023-02-28 00:00:00.000 A 02\n2023-03-31 00:00:00.000 A 03\n2023-04-30 00:00:00.000 A 04\n2023-05-31 00:00:00.000 A 05\n2023-06-30 00:00:00.000 A 06\n2023-07-31 00:00:00.000 A 07\n2023-08-31 00:00:00.000 A 08\n2023-09-30 00:00:00.000 A 09\n2023-10-31 00:00:00.000 A 10\n2023-11-30 00:00:00.000 A 11\n2023-12-31 00:00:00.000 A 12\n|0,C,01\n2419200000000,C,02\n5097600000000,C,03\n7689600000000,C,04\n10368000000000,C,05\n12960000000000,C,06\n15638400000000,C,07\n18316800000000,C,08\n20908800000000,C,09\n23587200000000,C,10\n26179200000000,C,11\n28857600000000,C,12\n
-log: one wire after the other, with dates|log.awk|-v controller=A -v deck=B|2024-03-01 12:00:01.000 B 10\n2024-03-01 12:00:00.000 A 20\n|43200000000,C,20\n43201000000,D,10\n
-log: a stretch of clocks|log.awk|-v controller=A -v deck=B -v from=45296.79 -v to=45297|12:34:56.789 A 2? 21\n12:34:56.790 B 10\n12:34:57.000 A 20\n|45296790000,D,10\n
-log: a stretch past midnight|log.awk|-v controller=A -v deck=B -v from=86400|2024-03-01 23:59:59.999 A 2?\n2024-03-02 00:00:00.000 A 20\n|86400000000,C,20\n
+coarse log: past midnight into the 29th of February, and out of it|log.awk|-v controller=A -v deck=B|2024-02-28 23:59:59.999 A 20\n2024-02-29 00:00:00.001 B 10\n2024-03-01 00:00:00.001 B 01\n|86399999000,C,20\n86400001000,D,10\n172800001000,D,01\n
+coarse log: the end of February in a year without a 29th|log.awk|-v controller=A -v deck=B|2023-02-28 23:59:59.999 A 20\n2023-03-01 00:00:00.001 B 10\n|86399999000,C,20\n86400001000,D,10\n
+coarse log: the 29th of February 2000|log.awk|-v controller=A -v deck=B|2000-02-29 00:00:00.000 A 20\n2000-03-01 00:00:00.001 B 10\n|0,C,20\n86400001000,D,10\n
+coarse log: the end of February 2100|log.awk|-v controller=A -v deck=B|2100-02-28 00:00:00.000 A 20\n2100-03-01 00:00:00.001 B 10\n|0,C,20\n86400001000,D,10\n
+coarse log: past the end of a year|log.awk|-v controller=A -v deck=B|2023-12-31 23:59:59.999 A 20\n2024-01-01 00:00:00.001 B 10\n|86399999000,C,20\n86400001000,D,10\n
+coarse log: the last day of each month|log.awk|-v controller=A -v deck=B|2023-01-31 00:00:00.000 A 01\n2023-02-28 00:00:00.000 A 02\n2023-03-31 00:00:00.000 A 03\n2023-04-30 00:00:00.000 A 04\n2023-05-31 00:00:00.000 A 05\n2023-06-30 00:00:00.000 A 06\n2023-07-31 00:00:00.000 A 07\n2023-08-31 00:00:00.000 A 08\n2023-09-30 00:00:00.000 A 09\n2023-10-31 00:00:00.000 A 10\n2023-11-30 00:00:00.000 A 11\n2023-12-31 00:00:00.000 A 12\n|0,C,01\n2419200000000,C,02\n5097600000000,C,03\n7689600000000,C,04\n10368000000000,C,05\n12960000000000,C,06\n15638400000000,C,07\n18316800000000,C,08\n20908800000000,C,09\n23587200000000,C,10\n26179200000000,C,11\n28857600000000,C,12\n
+coarse log: one wire after the other, with dates|log.awk|-v controller=A -v deck=B|2024-03-01 12:00:01.000 B 10\n2024-03-01 12:00:00.000 A 20\n|43200000000,C,20\n43201000000,D,10\n
+coarse log: a stretch of clocks|log.awk|-v controller=A -v deck=B -v from=45296.79 -v to=45297|12:34:56.789 A 2? 21\n12:34:56.790 B 10\n12:34:57.000 A 20\n|45296790000,D,10\n
+coarse log: a stretch past midnight|log.awk|-v controller=A -v deck=B -v from=86400|2024-03-01 23:59:59.999 A 2?\n2024-03-02 00:00:00.000 A 20\n|86400000000,C,20\n
+coarse log: bytes up to the next line, and one time in the order of the log|log.awk|-v controller=A -v deck=B|0.001 A 44 14 00 00 00 10 68\n0.002 B 10 01 11\n0.002 A 61 20\n0.002 B 12\n0.002 A 20 31\n0.003 A 33\n|1000,C,44\n1287,C,14\n1574,C,00\n1861,C,00\n2000,C,00\n2000,C,10\n2000,C,68\n2000,D,10\n2000,D,01\n2000,D,11\n2000,C,61\n2000,C,20\n2000,D,12\n2000,C,20\n2287,C,31\n3000,C,33\n
+log: bytes up to the next line of the other port|log.awk|-v controller=A -v deck=B|1.000001 A 20 01 21\n1.000300 B 10\n|1000001,C,20\n1000288,C,01\n1000300,C,21\n1000300,D,10\n
+log: bytes up to the next line of the same port|log.awk|-v controller=A -v deck=B|1.000001 A 20 01 00\n1.000573 A 21\n|1000001,C,20\n1000288,C,01\n1000573,C,00\n1000573,C,21\n
+log: bytes up to a line that is out of the stretch|log.awk|-v controller=A -v deck=B -v to=1.000300|1.000001 A 20 01 00\n1.000299 B 10\n1.000300 B 11\n|1000001,C,20\n1000288,C,01\n1000299,C,00\n1000299,D,10\n
+log: one port after the other, and one time|log.awk|-v controller=A -v deck=B|2.000001 B 10 01\n3.000001 B 11\n1.000001 A 20 01\n3.000001 A 21\n|1000001,C,20\n1000288,C,01\n2000001,D,10\n2000288,D,01\n3000001,D,11\n3000001,C,21\n
+coarse log: a clock that ticks every 125 microseconds|log.awk|-v controller=A -v deck=B|0.000125 A 20\n0.015625 A 01\n|125,C,20\n15625,C,01\n
+coarse log: a clock that ticks every 200 microseconds|log.awk|-v controller=A -v deck=B|0.000200 A 20\n0.000600 A 01\n|200,C,20\n600,C,01\n
+log: a clock that ticks every 100 microseconds|log.awk|-v controller=A -v deck=B|0.000200 A 20\n0.000300 A 01\n|200,C,20\n300,C,01\n
+log: one fine stamp, out of the stretch|log.awk|-v controller=A -v deck=B -v to=0.002|0.001 A 20\n0.002001 A 01\n|1000,C,20\n
 END
 }
 
@@ -159,7 +180,9 @@ log: an empty line|log.awk|-v controller=A -v deck=B|2|unknown line: |1 A 20\n\n
 log: a decimal comma|log.awk|-v controller=A -v deck=B|1|no time in seconds: 1,5 A 20|1,5 A 20\n
 log: another port|log.awk|-v controller=A -v deck=B|2|neither the controller's port nor the deck's: 2 C 20|1 A 20\n2 C 20\n
 log: a byte that is marked|log.awk|-v controller=A -v deck=B|2|no byte of two hexadecimal digits: 2 A 01 21! 20|1 A 20\n2 A 01 21! 20\n
-log: a line that begins before the last one's end|log.awk|-v controller=A -v deck=B|2|a time below the one before on this wire: 1.000573 A 21|1 A 20 01 00\n1.000573 A 21\n
+log: a line before the last one at its port|log.awk|-v controller=A -v deck=B|2|a time below the one before on this wire: 1.4 A 21|1.5 A 20\n1.4 A 21\n
+log: a line before the last one at its port, and more lines|log.awk|-v controller=A -v deck=B|2|a time below the one before on this wire: 1.4 A 21|1.5 A 20\n1.4 A 21\n1.6 A 22\n1.7 A 23\n
+log: a byte that is marked, and more lines|log.awk|-v controller=A -v deck=B|2|no byte of two hexadecimal digits: 2 A 2!|1 A 20\n2 A 2!\n3 A 22\n4 A 23\n
 log: seconds since 1970|log.awk|-v controller=A -v deck=B|1|a time of more than fifteen digits: 1700000000.5 A 20|1700000000.5 A 20\n
 sigrok: a beginning that is no number|sigrok.awk|-v rate=1000000 -v from=1s|0|-v from=SECONDS or -v to=SECONDS is wrong|5-213 uart-1: 20\n
 sigrok: an end with a decimal comma|sigrok.awk|-v rate=1000000 -v to=1,5|0|-v from=SECONDS or -v to=SECONDS is wrong|5-213 uart-1: 20\n
@@ -241,11 +264,64 @@ full_device() {
     done
 }
 
+# Reads 40 polls of a deck, whose bytes come 300 microseconds apart, as a log in whole milliseconds: a line for each byte, or for
+# each block. In the order of the log it is a yes; with the controller's byte first at each time that of bytes is none.
+coarse_logs() {
+    local lines
+    for lines in bytes blocks; do
+        awk -v lines=$lines '
+            function send(port, bytes, n, k, byte) {
+                n = split(bytes, byte, " ")
+                for (k = 1; k <= n; k++) {
+                    if (k == 1 || lines == "bytes") printf "%s%d.%03d %s", NR++ ? "\n" : "", now / 1000000, int(now / 1000) % 1000, port
+                    printf " %s", byte[k]
+                    now += 300
+                }
+            }
+            BEGIN {
+                for (turn = 1; turn <= 40; turn++) { send("A", "61 20 01 82"); send("B", "71 20 00 91") }
+                print ""
+            }' > "$work/in"
+        convert log.awk '-v controller=A -v deck=B' < "$work/in"
+        judge "$awk: a log in milliseconds, a line for each of its $lines" [ "$status" = 0 ]
+        judge "$awk: what is said of it once" [ "$(cat "$work/err")" = "$coarse" ]
+        judge "$awk: it is a yes" is_verdict 0 'yes: records 320, exchanges 40, open 0'
+        [ $lines = bytes ] || continue
+        { head -n 1 "$work/out"; tail -n +2 "$work/out" | sort -s -t, -k1,1n -k2,2; } > "$work/sorted"
+        mv "$work/sorted" "$work/out"
+        judge "$awk: with the controller first it is a no" is_no
+    done
+}
+
+is_no() {
+    "$program" check < "$work/out" > "$work/verdict"
+    grep -q '^no at record [0-9]*: P4 ' "$work/verdict"
+}
+
+# A reader that has gone, of each converter, with a capture that a pipe holds and with one that it does not.
+closed_early() {
+    local lines
+    for lines in 17 20000; do
+        awk -v lines=$lines 'BEGIN { for (k = 1; k <= lines; k++) print k * 1000 "-" k * 1000 + 208 " uart-1: 20" }' > "$work/in"
+        into_closed $awk -v rate=1000000 -f convert/sigrok.awk
+        judge "$awk: sigrok: a reader that has gone, $lines lines" is_silent
+        awk -v lines=$lines 'BEGIN { for (k = 1; k <= lines; k++) printf "%d.%06d A 20\n", k / 1000, k % 1000 * 1000 + 1 }' > "$work/in"
+        into_closed $awk -v controller=A -v deck=B -f convert/log.awk
+        judge "$awk: log: a reader that has gone, $lines lines" is_silent
+        awk -v lines=$lines 'BEGIN { print "name,type,start_time,duration,data,error"
+            for (k = 1; k <= lines; k++) printf "A,data,%d.%06d,1,0x20,\n", k / 1000, k % 1000 * 1000 }' > "$work/in"
+        into_closed $awk -v controller=A -v deck=B -f convert/saleae.awk
+        judge "$awk: saleae: a reader that has gone, $lines lines" is_silent
+    done
+}
+
 for awk in mawk 'gawk --posix' 'busybox awk'; do
     stored_exports
     good_exports
     bad_exports
+    coarse_logs
     full_device
+    closed_early
 done
 
 # The commands of docs/CAPTURE.md that are to be copied: those on the stored exports, and the one that takes off

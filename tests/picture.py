@@ -1,6 +1,7 @@
 """Checks the pictures of view/picture.awk: that each awk draws the same, that the drawn bytes are those of the capture, that
-the record in question and the measured time stand out, and that no text lies on another or on a byte; and of the picture of
-each reason that rsvg-convert renders it, with the record in question on it."""
+the record in question and the measured time stand out, and that no text lies on another or on a byte; that the rows of a
+contradiction are those of `why`; and of the picture of each reason that rsvg-convert renders it, with the record in question on
+it."""
 import math
 import os
 import random
@@ -62,34 +63,21 @@ def box_of_rect(rect):
     return Box(*(float(rect.get(side)) for side in ('x', 'y', 'width', 'height')))
 
 
-def problems_of(svg, verdict, rows):
-    """What is wrong with a picture."""
-    problems = []
-
-    def want(what, is_so):
-        if not is_so:
-            problems.append(what)
-
+def parts_of(svg, verdict, rows, want):
+    """The picture with its texts and drawn bytes, and the records of these; and what holds of each kind of picture."""
     root = xml.fromstring(svg)
     frame = Box(0, 0, float(root.get('width')), float(root.get('height')))
-    number, reason = re.match(r'no at record (\d+): (\w\w)', verdict).groups()
+    number = re.match(r'no at record (\d+)', verdict)[1]
     texts = [(text, box_of_text(text)) for text in root.findall(SVG + 'text')]
     bytes_drawn = [rect for rect in root.findall(SVG + 'rect') if rect.find(SVG + 'title') is not None]
-
-    # the bytes are records of the capture in their order, with nothing left out
     records = []
     for rect in bytes_drawn:
         record, milliseconds = re.fullmatch(r'record (\d+), (\d+\.\d+) ms', rect.find(SVG + 'title').text).groups()
-        time, wire, byte = rows[int(record) - 1].split(',')
+        time, _, byte = rows[int(record) - 1].split(',')
         inside = [text.text for text, box in texts if box_of_rect(rect).meets(box)]
         want(f'record {record} has {inside} in its box', inside == [byte.upper()])
-        want(f'record {record} is on the other wire', rect.get('y') == {'C': '118', 'D': '226'}[wire])
         want(f'record {record} has another stamp', milliseconds == f'{int(time) / 1000:.3f}')
         records.append(int(record))
-    want('a record is left out', sorted(records) == list(range(min(records), max(records) + 1)))
-    brackets = [path.get('d').split()[1] for path in root.findall(SVG + 'path')]
-    first = min(bytes_drawn, key=lambda rect: int(rect.find(SVG + 'title').text.split()[1].rstrip(',')))
-    want('it begins inside a block', first.get('x') in brackets)
     dark = [rect.find(SVG + 'title').text for rect in bytes_drawn if rect.get('fill') == '#b00020']
     want(f'{dark} stand out', len(dark) == 1 and dark[0].startswith(f'record {number}, '))
     want('the verdict does not stand above', texts[0][0].text == verdict)
@@ -101,7 +89,28 @@ def problems_of(svg, verdict, rows):
         want(f'{text.text} lies on {on}', not on)
     boxes = sorted((box_of_rect(rect) for rect in bytes_drawn), key=lambda box: (box.top, box.left))
     want('a byte lies on another', not any(a.meets(b) for a, b in zip(boxes, boxes[1:])))
+    return root, texts, bytes_drawn, records
 
+
+def problems_of(svg, verdict, rows):
+    """What is wrong with a picture."""
+    problems = []
+
+    def want(what, is_so):
+        if not is_so:
+            problems.append(what)
+
+    root, texts, bytes_drawn, records = parts_of(svg, verdict, rows, want)
+    number, reason = re.match(r'no at record (\d+): (\w\w)', verdict).groups()
+
+    # the bytes are records of the capture in their order, with nothing left out
+    for record, rect in zip(records, bytes_drawn):
+        wire = rows[record - 1].split(',')[1]
+        want(f'record {record} is on the other wire', rect.get('y') == {'C': '118', 'D': '226'}[wire])
+    want('a record is left out', sorted(records) == list(range(min(records), max(records) + 1)))
+    brackets = [path.get('d').split()[1] for path in root.findall(SVG + 'path')]
+    first = min(bytes_drawn, key=lambda rect: int(rect.find(SVG + 'title').text.split()[1].rstrip(',')))
+    want('it begins inside a block', first.get('x') in brackets)
     told = [text.text for text, _ in texts if text.text.endswith('passed')]
     if reason not in LIMITS:
         want(f'{told} is measured', not told)
@@ -118,6 +127,58 @@ def problems_of(svg, verdict, rows):
     return problems
 
 
+def problems_of_rows(svg, why, rows):
+    """What is wrong with a picture of replies that contradict one another."""
+    problems = []
+
+    def want(what, is_so):
+        if not is_so:
+            problems.append(what)
+
+    *exchanges, could_show, verdict = why.splitlines()
+    root, texts, bytes_drawn, records = parts_of(svg, verdict, rows, want)
+    told = [text.text for text, _ in texts]
+    stamps = [int(row.split(',')[0]) for row in rows]
+    row_tops, next_record, last = [], 0, None
+    for line in exchanges:
+        began, ended, asked, answered, says = re.fullmatch(
+            r'records (\d+) to (\d+) at \d+: (.*?) -> (.*?)(?:, (says .*))?', line).groups()
+        began, ended = int(began), int(ended)
+        of_row = bytes_drawn[next_record:next_record + ended - began + 1]
+        want(f'other records than {began} to {ended}', records[next_record:next_record + len(of_row)] == list(range(began, ended + 1)))
+        want(f'record {began} has no row of its own', len({rect.get('y') for rect in of_row}) == 1)
+        row_tops.append(float(of_row[0].get('y')))
+        next_record += len(of_row)
+        name = re.sub(r'((^| )[0-9A-F]{2})+$', '', asked)
+        want(f'{name} is not named', name in told or (name == '' and asked[:5] in told))
+        reply_time = re.match(r'\d\d:\d\d:\d\d:\d\d', answered)
+        want(f'{answered} is not told', not reply_time or any(text.endswith(' ' + reply_time[0]) for text in told))
+        want(f'{says} is not told', not says or says in told)
+        want(f'the time of record {began} is not told', f'{stamps[began - 1] / 1000:.3f} ms' in told)
+        if last is not None:
+            gap = stamps[began - 1] - stamps[last - 1]
+            length = f'{gap / 1000000:.3f} s' if gap >= 1000000 else f'{gap / 1000:.3f} ms'
+            between = began - last - 1
+            want(f'the gap before record {began} is not told', any(
+                text == f'{length}, ' + (f'{between} record{"s" * (between > 1)} between' if between else 'nothing between') for text in told))
+        last = ended
+    want('a record too many', next_record == len(records))
+    want('the rows are not one below the other', all(a + 60 < b for a, b in zip(row_tops, row_tops[1:])))
+    known = [field for field in could_show[len('could show: '):].split(', ') if field.split()[1] not in ('any', 'unknown')]
+    want('what was known is not told', f'known of the deck before the last reply: {", ".join(known) or "nothing"}' in told)
+    return problems
+
+
+def check_contradiction(name, path):
+    """The picture of what `why` says of a capture that is a no by M1."""
+    _, why, _ = run([PROGRAM, 'why', path])
+    rows = [row for row in open(path).read().split('\n')[1:] if row]
+    drawn = [picture(awk, why, f'capture={path}') for awk in AWKS]
+    judge(f'{name}: every awk draws the contradiction, and the same: {drawn[0][2]}', drawn[0][0] == 0 and all(one == drawn[0] for one in drawn))
+    problems = problems_of_rows(drawn[0][1], why, rows)
+    judge(f'{name}: {problems}', not problems)
+
+
 def check_capture(name, path, all_awks):
     status, out, _ = run([PROGRAM, 'check', path])
     if status != 1:
@@ -128,6 +189,8 @@ def check_capture(name, path, all_awks):
         judge(f'{name}, {width}: every awk draws it, and the same', drawn[0][0] == 0 and all(one == drawn[0] for one in drawn))
         problems = problems_of(drawn[0][1], out.strip(), rows)
         judge(f'{name}, {width}: {problems}', not problems)
+    if ': M1 ' in out:
+        check_contradiction(f'{name}, why', path)
 
 
 def block(head, code, *data):
@@ -175,10 +238,99 @@ def check_stored():
         if not os.path.exists(stored):
             continue
         _, out, _ = run([PROGRAM, 'check', f'examples/{name}'])
-        judge(f'{stored} is as drawn', picture('mawk', out, f'capture=examples/{name}')[1] == open(stored).read())
+        if ': M1 ' not in out:
+            judge(f'{stored} is as drawn', picture('mawk', out, f'capture=examples/{name}')[1] == open(stored).read())
         _, out, _ = run([PROGRAM, 'why', f'examples/{name}'])
         judge(f'{stored} is as drawn of why', picture('mawk', out, f'capture=examples/{name}')[1] == open(stored).read())
         judge(f'{stored} is shown', f'pictures/{name[:-4]}.svg' in page)
+
+
+def check_wires(work):
+    """Where a byte of one wire comes inside a block of the other, each block has its name all the same."""
+    sense, play, ack = '61 20 01 82', '20 01 21', '10 01 11'
+    cases = [
+        ('a command inside a reply', f'C {sense} D 71 20 C 20 D 00 C 01 D 91 C 21', 'P4', ['STATUS SENSE', 'PLAY', 'STATUS']),
+        ('a whole command inside a reply', f'C {sense} D 71 20 C {play} D 00 91', 'P4', ['STATUS SENSE', 'PLAY', 'STATUS']),
+        ('a reply inside a command', f'C 61 20 D 10 C 01 D 01 C 82 D 11', 'P2', ['STATUS SENSE', 'ACK']),
+        ('a command before the reply', f'C {play} 61 D 10 C 20 D 01 C 01 D 11 C 82', 'P3', ['PLAY', 'STATUS SENSE', '(ACK)']),
+        ('a command that is begun, and one after a pause', f'C {sense} D 71 20 C 20 D 00 91 + C {play} D {ack}', 'P4',
+         ['STATUS SENSE', 'begun', '(PLAY)', 'STATUS']),
+        ('a reply that is cut off', f'C {sense} D 71 20 C {play} D {ack}', 'P4', ['STATUS SENSE', 'STATUS', 'PLAY', '(ACK)']),
+        ('a command that is cut off', f'C 61 20 D {ack} C {play} D {ack}', 'P2', ['STATUS SENSE', 'ACK', '(PLAY)', '(ACK)']),
+        ('a reply that goes on until the capture ends', f'C {sense} D 71 20 C {play} D 00', 'P4', ['STATUS SENSE', 'STATUS', 'PLAY']),
+        ('a reply without a command', f'C {play} D {ack} {ack}', 'P1', ['PLAY', 'ACK', 'ACK']),
+    ]
+    for name, words, reason, want in cases:
+        now, wire, rows = 0, '', []
+        for word in words.split():
+            if word in 'CD':
+                wire = word
+            elif word == '+':
+                now += 20000
+            else:
+                now += 400
+                rows.append(f'{now},{wire},{word}')
+        path = f'{work}/wires.csv'
+        open(path, 'w').write('time_us,wire,byte\n' + ''.join(row + '\n' for row in rows))
+        _, out, _ = run([PROGRAM, 'check', path])
+        judge(f'{name}: {out}', f': {reason} ' in out)
+        for awk in AWKS:
+            _, svg, _ = picture(awk, out, f'capture={path}')
+            names = [text.text for text in xml.fromstring(svg).findall(SVG + 'text') if text.get('text-anchor') == 'middle']
+            names = [text for text in names if re.fullmatch(r'\(?[A-Za-z ]{3,}\)?', text)]
+            judge(f'{awk}: {name}: {names}', sorted(names) == sorted(want))
+            problems = problems_of(svg, out.strip(), rows)
+            judge(f'{awk}: {name}: {problems}', not problems)
+
+
+def check_contradictions(work):
+    """Contradictions with long names and long replies, with much between, and with commands that are not listed."""
+    ack = block(1, 0x01)
+    not_local = [(block(6, 0x20, 0x01), block(7, 0x20, 0x00))]
+    polls = [(block(6, 0x0C, 0x01), block(7, 0x04, 0, 0, 0, 1))] * 500
+    cases = [
+        ('a long reply', not_local + [(block(4, 0x17, 0, 0, 0, 0x10), ack)] + polls + [(block(6, 0x13), block(7, 0x13, 1, 0, 0, 0x10))], 0),
+        ('all status data', not_local + [(block(2, 0x01), ack), (block(6, 0x20, 0x12), block(7, 0x20, 0x01, 0)),
+                                      (block(6, 0x20, 0x0F), block(7, 0x20, 0, 0x08, 0, 5, *[0] * 11))], 2500),
+        ('no mode', [(block(6, 0x20, 0x12), block(7, 0x20, 0x02, 0x20))], 0),
+        ('two modes', not_local + [(block(2, 0x00), ack), (block(6, 0x20, 0x12), block(7, 0x20, 0x20, 0)),
+                                  (block(6, 0x20, 0x12), block(7, 0x20, 0x01, 0))], 1200000),
+    ]
+    for name, exchanges, pause in cases:
+        now, rows = 0, []
+        for asked, answered in exchanges:
+            now += pause
+            for wire, sent in (('C', asked), ('D', answered)):
+                for byte in sent:
+                    now += 400
+                    rows.append(f'{now},{wire},{byte:02X}')
+        path = f'{work}/contradiction.csv'
+        open(path, 'w').write('time_us,wire,byte\n' + ''.join(row + '\n' for row in rows))
+        _, out, _ = run([PROGRAM, 'check', path])
+        judge(f'{name}: {out}', ': M1 ' in out)
+        check_contradiction(name, path)
+    # a name that has what an SVG writes otherwise
+    _, why, _ = run([PROGRAM, 'why', path])
+    for awk in AWKS:
+        _, svg, _ = picture(awk, why.replace('STATUS SENSE', 'A<&>B'), f'capture={path}')
+        told = [text.text for text in xml.fromstring(svg).findall(SVG + 'text')]
+        judge(f'{awk}: a name with marks: {told}', 'A<&>B' in told)
+    # the capture beside it has to be the one that was asked of
+    _, why, _ = run([PROGRAM, 'why', path])
+    first = int(re.match(r'records (\d+) ', why)[1])
+    for what, changed, message in (
+            ('another byte', [*rows[:first], re.sub('..$', 'FF', rows[first]), *rows[first + 1:]],
+             f'record {first + 1} of the capture is another one than the report has'),
+            ('another wire', [*rows[:first], rows[first].replace('C', 'D'), *rows[first + 1:]],
+             f'record {first + 1} of the capture is another one than the report has'),
+            ('a bad row', [*rows[:first], '1,C,2', *rows[first + 1:]], f'row {first + 1} of the capture is no record: 1,C,2'),
+            ('a short capture', rows[:-1], f'the capture ends before record {len(rows)}')):
+        other = f'{work}/other.csv'
+        open(other, 'w').write('time_us,wire,byte\n' + ''.join(row + '\n' for row in changed))
+        for awk in AWKS:
+            status, out, err = picture(awk, why, f'capture={other}')
+            tail = '' if what == 'a bad row' else f': {other}'
+            judge(f'{awk}: {what}: {err}', (status, out, err) == (1, '', f'picture.awk: line {len(why.splitlines())}: {message}{tail}\n'))
 
 
 def pixels_of(png):
@@ -267,6 +419,8 @@ def main():
             path = f'{work}/drawn.csv'
             open(path, 'w').write(drawn_capture(chance))
             check_capture(f'drawn {k}', path, k % 10 == 0)
+        check_wires(work)
+        check_contradictions(work)
         check_refusals(work)
         check_stored()
         check_rendered()

@@ -8,6 +8,7 @@ top=$PWD
 
 . tests/lib/judge.sh
 . tests/lib/errors.sh
+. tests/lib/closed.sh
 . tests/lib/tools.sh
 need_tools mawk gawk busybox
 
@@ -86,6 +87,10 @@ it's a part-002.csv" ]
     awk=${awk% --posix} split_into "$capture" none/part
     judge "$awk: a folder that is not there" is_refused_last \
         "split.awk: line 14: the part none/part-001.csv can't be written"
+    # The names go to standard output by themselves, so each awk tells what became of them.
+    printf "$capture" > "$work/in"
+    into_closed $awk -v to="$work/parts/part" -v rows=6 -f convert/split.awk
+    judge "$awk: a reader of the names that has gone" [ "$status" = 141 -a ! -s "$work/err" ]
     split_into "$capture"'22,C\n' part -v rows=6
     judge "$awk: a bad row, and no part is left" is_refused 'split.awk: line 15: no row of a time, a wire and a byte: 22,C'
 done

@@ -6,6 +6,7 @@ cd "$(dirname "$0")/.." || exit 1
 program=${NINECHECK:-$PWD/crates/ninecheck/out/ninecheck}
 
 . tests/lib/judge.sh
+. tests/lib/closed.sh
 . tests/lib/tools.sh
 need_tools mawk gawk busybox jq
 
@@ -318,6 +319,8 @@ program_texts() {
                 judge "$awk: digest of $file $hands" ends_with_verdict
                 view delays.awk "-v capture=examples/$file" < "$work/in"
                 judge "$awk: delays of $file $hands" ends_with_verdict
+                view motion.awk "-v capture=examples/$file" < "$work/in"
+                judge "$awk: motion of $file $hands" ends_with_verdict
             done
         done
     done < examples/ANSWERS
@@ -363,6 +366,16 @@ full_device() {
     done
 }
 
+# A reader that has gone before the view is written.
+closed_early() {
+    local view
+    cp examples/views/session.txt "$work/in"
+    for view in digest delays motion json picture; do
+        into_closed $awk -v capture=examples/views/session.csv -f view/$view.awk
+        judge "$awk: $view: a reader that has gone" is_silent
+    done
+}
+
 for awk in mawk 'gawk --posix' 'busybox awk'; do
     stored_texts
     short_texts
@@ -375,6 +388,7 @@ for awk in mawk 'gawk --posix' 'busybox awk'; do
     odd_captures
     program_texts
     full_device
+    closed_early
     judge "$awk: no file is left" [ -z "$(ls "$TMPDIR")" ]
 done
 
@@ -383,6 +397,8 @@ done
 judge 'the stored explanation of session.csv' cmp "$work/out" examples/views/session.txt
 "$program" explain --hands examples/views/hands.csv > "$work/out" 2> "$work/err"
 judge 'the stored explanation of hands.csv' cmp "$work/out" examples/views/hands.txt
+"$program" explain examples/views/keeps-playing.csv > "$work/out" 2> "$work/err"
+judge 'the stored explanation of keeps-playing.csv' cmp "$work/out" examples/views/keeps-playing.txt
 
 # What a reader of the JSON can tell apart.
 awk=mawk
@@ -395,16 +411,22 @@ judge 'jq: numbers are numbers' [ "$(jq -s 'map(.record // .records, .delay_us /
 judge 'jq: the bits of a NAK' [ "$(jq -c 'select(.nak) | [.nak, .bits]' "$work/out" | tr -d '\n')" = \
     '["14",["checksum","parity"]]["02",[]]' ]
 
+# What awk prints for a number's point depends on the country, so none is asked for.
+grep -nE '%[-+0-9]*[.][1-9][0-9]*[feg]' view/*.awk convert/*.awk > "$work/out"
+judge 'numbers are printed without a point' [ ! -s "$work/out" ]
+
 # What the views have in common is the same in each.
-for view in digest delays json picture; do
+for view in digest delays motion json picture; do
     sed -n '/^# From here on every view is the same/,$p' view/$view.awk > "$work/$view.every"
-    sed -n '/^# From here on digest.awk and delays.awk are the same/,$p' view/$view.awk > "$work/$view.two"
+    sed -n '/^# From here on digest.awk, delays.awk and motion.awk are the same/,$p' view/$view.awk > "$work/$view.some"
 done
 judge 'a common end' [ -s "$work/digest.every" ]
 judge 'the same end of delays.awk' cmp "$work/digest.every" "$work/delays.every"
+judge 'the same end of motion.awk' cmp "$work/digest.every" "$work/motion.every"
 judge 'the same end of json.awk' cmp "$work/digest.every" "$work/json.every"
 judge 'the same end of picture.awk' cmp "$work/digest.every" "$work/picture.every"
-judge 'a longer common end' [ -s "$work/digest.two" ]
-judge 'the same longer end of delays.awk' cmp "$work/digest.two" "$work/delays.two"
+judge 'a longer common end' [ -s "$work/digest.some" ]
+judge 'the same longer end of delays.awk' cmp "$work/digest.some" "$work/delays.some"
+judge 'the same longer end of motion.awk' cmp "$work/digest.some" "$work/motion.some"
 
 tell_counts

@@ -81,7 +81,7 @@ function marks(mark, n,    text) {
     return text
 }
 
-# From here on digest.awk and delays.awk are the same.
+# From here on digest.awk, delays.awk and motion.awk are the same.
 
 # The capture's header is row 0.
 BEGIN {
@@ -164,7 +164,7 @@ BEGIN {
     name_forms()
     # Keeps the lines in a file that has no name any more, and writes them where the last one says that all is whole.
     hold = "{ held=$(mktemp) && exec 3> \"$held\" 4< \"$held\" 5< \"$held\" && rm \"$held\" && cat >&3" \
-        " || { cat > /dev/null; false; }; } && [ \"$(tail -n 1 <&4)\" = whole ] && sed '$d' <&5"
+        " || { cat > /dev/null; false; }; } && [ \"$(tail -n 1 <&4)\" = whole ] && sed '$d' <&5 || exit $?"
 }
 
 # The forms of the lines that `why` writes, and what may stand before a line of each kind.
@@ -405,9 +405,13 @@ function refuse(what) {
     exit 1
 }
 
+# A reader of the view that ends before the view does, such as `head`, ends `sed` by a signal, which the shell tells as 141:
+# then nothing is said, and the status is the same. One awk answers 256 times the status.
 END {
     if (refused) exit 1
     if (kind != "yes" && kind != "no") refuse("no verdict: the capture can't be read, or the text was cut short")
     put("whole")
-    if (close(hold) != 0) refuse("the view can't be written")
+    ended = close(hold)
+    if (ended == 141 || ended == 141 * 256) exit 141
+    if (ended != 0) refuse("the view can't be written")
 }

@@ -7,6 +7,9 @@
 # and has its name. The record that breaks the rule is a dark box with an arrow. Where the reason is one of time, the
 # time that passed stands over the limit, in the same measure. A longer silence is cut, with its length beside the cut.
 # -v width=N says how wide the picture may be, in pixels (1200); it is wider where what breaks the rule would not fit.
+#
+# Of a no by M1 `why` names the replies that contradict one another. Then each of them has a row, with the command that it answers,
+# and between the rows stands how long after the one the other begins.
 
 BEGIN {
     view = "picture.awk"
@@ -21,6 +24,10 @@ BEGIN {
     lane_of["C"] = 118 # where the boxes of a wire begin, from above
     lane_of["D"] = 226
     tall = 24
+    plain_look = "fill=\"#f2f2f2\" stroke=\"#444444\""
+    plain_ink = "fill=\"#000000\""
+    dark_look = "fill=\"#b00020\" stroke=\"#000000\" stroke-width=\"2.5\""
+    dark_ink = "fill=\"#ffffff\" font-weight=\"bold\""
     limit_of["P3"] = limit_of["L1"] = limit_of["L2"] = 9287
     limit_of["B3"] = 10287
     name_commands()
@@ -29,6 +36,10 @@ BEGIN {
 
 { read_line() }
 
+kind == "contradicting_exchange" { keep_exchange() }
+
+kind == "could_show" { could_show = "known of the deck before the last reply: " known_of_deck() }
+
 { verdict = $0 }
 
 END {
@@ -36,10 +47,15 @@ END {
     if (kind == "yes") refuse("the verdict is a yes: there is nothing to draw")
     if (kind == "no") {
         if (capture == "") refuse("-v capture=FILE is missing")
-        read_capture(record + 0)
-        place_records()
-        choose_records()
-        draw()
+        if (exchanges_kept > 0) {
+            read_exchanges()
+            draw_exchanges()
+        } else {
+            read_capture(record + 0)
+            place_records()
+            choose_records()
+            draw()
+        }
     }
 }
 
@@ -54,6 +70,7 @@ function read_capture(number,    k) {
     if (rows < number) refuse("the capture ends before record " number ": " capture)
     oldest = number > keep ? number - keep : 1
     newest = readable
+    for (k = number + 1; k <= newest; k++) begin_or_go_on(k)
     # what is open at the record in question: the command with what there is of the reply
     open_from = number
     if (number > 1 && tail_of[number - 1] > 0) open_from = tail_of[number - 1]
@@ -85,7 +102,7 @@ function take_record(    part, number) {
     stamp[number] = part[1] + 0
     wire[number] = part[2]
     byte[number] = value_of(part[3])
-    begin_or_go_on(number)
+    if (number <= breaking) begin_or_go_on(number)
     forget(number - keep - 40)
 }
 
@@ -98,23 +115,45 @@ function forget(number) {
     delete place_of[number]
     delete tail_of[number]
     delete length_of[number]
+    delete second_of[number]
+    delete is_between[number]
 }
 
-# The block that a record belongs to: the open one on its wire, or a new one. `tail_of` is the first record of the command
-# that is open after it, and 0 where none is.
-function begin_or_go_on(number) {
-    if (open_wire == wire[number] && held < length_of[first]) held++
+# The block that a record belongs to: the open one on its wire, or a new one. Each wire is read by itself, since where a rule of
+# the turns is broken a block of the one comes inside a block of the other. `tail_of` is the first record of the command that is
+# open after it, and 0 where none is.
+function begin_or_go_on(number,    on, is_open) {
+    on = wire[number]
+    is_open = held[on] < length_of[first[on]]
+    if (is_open && number > breaking) is_open = goes_on(number, on)
+    latest[on] = stamp[number]
+    if (is_open) held[on]++
     else {
-        if (wire[number] == "C") command_first = number
-        first = number
-        held = 1
-        open_wire = wire[number]
-        length_of[first] = byte[number] % 16 + 3
+        first[on] = number
+        held[on] = 1
+        length_of[number] = byte[number] % 16 + 3
+        second_of[number] = 0
     }
-    first_of[number] = first
-    place_of[number] = held
-    is_closed = open_wire == "D" && held == length_of[first]
-    tail_of[number] = is_closed ? 0 : command_first
+    if (held[on] == 2) second_of[first[on]] = number
+    first_of[number] = first[on]
+    place_of[number] = held[on]
+    is_closed = on == "D" && held[on] == length_of[first[on]]
+    tail_of[number] = is_closed ? 0 : first["C"]
+    is_between[number] = held["C"] == length_of[first["C"]] && held["D"] == length_of[first["D"]]
+}
+
+# Whether the open block of a wire goes on with this record, behind the one in question, where nothing is judged any more: not
+# where the wire has rested longer than a block may, nor where the other wire came between and the sum would be wrong.
+function goes_on(number, on,    k, n, sum) {
+    if (stamp[number] - latest[on] > limit_of["B3"]) return 0
+    if (wire[number - 1] == on) return 1
+    n = sum = 0
+    for (k = first[on]; k <= newest; k++) {
+        if (k < number ? first_of[k] != first[on] : wire[k] != on) continue
+        if (++n == length_of[first[on]]) return byte[k] == sum % 256
+        sum += byte[k]
+    }
+    return 1
 }
 
 function value_of(digits) {
@@ -151,16 +190,18 @@ function place_records(    k, rest, step) {
 
 # The records that are drawn: what is open and the record in question, whole blocks behind it on a third of the room at
 # most, and as many whole blocks before as then fit.
-function choose_records(    room, need, end, k) {
+function choose_records(    room, need, end, whole, k) {
     end = x[breaking] + box
     if (measured && x[breaking - 1] + limit_of[reason] * scale > end) end = x[breaking - 1] + limit_of[reason] * scale
     need = end - x[open_from]
     room = width - 2 * margin - 90
     if (room < need + 100) room = need + 100
-    to = breaking
+    to = whole = breaking
     for (k = breaking + 1; k <= newest && x[k] + box - x[open_from] <= room && x[k] - x[breaking] <= room / 3; k++) {
         if (place_of[k] == length_of[first_of[k]]) to = k
+        if (is_between[k]) whole = k
     }
+    if (whole > breaking) to = whole
     if (x[to] + box > end) need = x[to] + box - x[open_from]
     from = open_from
     for (k = open_from - 1; k >= oldest && need + x[open_from] - x[k] <= room; k--) if (first_of[k] == k) from = k
@@ -171,13 +212,8 @@ function choose_records(    room, need, end, k) {
 
 # ---- the drawing
 
-function draw(    k, title) {
-    put("<svg xmlns=\"http://www.w3.org/2000/svg\" width=\"" px(full) "\" height=\"364\" viewBox=\"0 0 " px(full) " 364\""\
-        " style=\"max-width:100%;height:auto\" font-family=\"DejaVu Sans Mono, Menlo, Consolas, monospace\" font-size=\"12\">")
-    put("<title>" verdict "</title>")
-    put("<rect width=\"100%\" height=\"100%\" fill=\"#ffffff\"/>")
-    put_text(margin, 28, "start", "font-size=\"16\" font-weight=\"bold\"", verdict)
-    put_text(margin, 48, "start", "fill=\"#333333\"", sentence())
+function draw(    k) {
+    put_head(364, sentence())
     put_lane("C", "controller")
     put_lane("D", "deck")
     put_line(margin + 60, 312, full - margin, 312, "stroke=\"#444444\"")
@@ -192,6 +228,15 @@ function draw(    k, title) {
     put("</svg>")
 }
 
+function put_head(high, below) {
+    put("<svg xmlns=\"http://www.w3.org/2000/svg\" width=\"" px(full) "\" height=\"" high "\" viewBox=\"0 0 " px(full) " " high "\""\
+        " style=\"max-width:100%;height:auto\" font-family=\"DejaVu Sans Mono, Menlo, Consolas, monospace\" font-size=\"12\">")
+    put("<title>" verdict "</title>")
+    put("<rect width=\"100%\" height=\"100%\" fill=\"#ffffff\"/>")
+    put_text(margin, 28, "start", "font-size=\"16\" font-weight=\"bold\"", verdict)
+    put_text(margin, 48, "start", "fill=\"#333333\"", below)
+}
+
 function put_lane(letter, name,    y) {
     y = lane_of[letter]
     put_text(margin, y + 16, "start", "font-size=\"14\" font-weight=\"bold\"", letter)
@@ -201,18 +246,22 @@ function put_lane(letter, name,    y) {
 
 function put_byte(k,    y, look, ink) {
     y = lane_of[wire[k]]
-    look = "fill=\"#f2f2f2\" stroke=\"#444444\""
-    ink = "fill=\"#000000\""
+    look = plain_look
+    ink = plain_ink
     if (k == breaking) {
-        look = "fill=\"#b00020\" stroke=\"#000000\" stroke-width=\"2.5\""
-        ink = "fill=\"#ffffff\" font-weight=\"bold\""
+        look = dark_look
+        ink = dark_ink
         put_arrow(x_of(k) + box / 2, wire[k] == "C" ? y + tall + 4 : y - 4, wire[k] == "C" ? 12 : -12)
     } else if (k > breaking) {
         look = "fill=\"#ffffff\" stroke=\"#999999\" stroke-dasharray=\"3 2\""
         ink = "fill=\"#666666\""
     }
-    put("<rect x=\"" px(x_of(k)) "\" y=\"" y "\" width=\"" px(box) "\" height=\"" tall "\" " look "><title>record " k ", " milliseconds(stamp[k]) "</title></rect>")
-    put_text(x_of(k) + box / 2, y + 16, "middle", ink, sprintf("%02X", byte[k]))
+    put_box(x_of(k), y, look, ink, k, stamp[k], sprintf("%02X", byte[k]))
+}
+
+function put_box(at, y, look, ink, number, us, digits) {
+    put("<rect x=\"" px(at) "\" y=\"" y "\" width=\"" px(box) "\" height=\"" tall "\" " look "><title>record " number ", " milliseconds(us) "</title></rect>")
+    put_text(at + box / 2, y + 16, "middle", ink, digits)
 }
 
 function put_arrow(tip, y, length_down) {
@@ -220,10 +269,9 @@ function put_arrow(tip, y, length_down) {
 }
 
 # The bracket of a block and its name, above the controller's boxes and below the deck's.
-function put_block(begin,    last, y, down, x1, x2, name, row_of) {
-    last = begin
-    while (last < to && first_of[last + 1] == begin) last++
+function put_block(begin,    k, last, y, down, x1, x2, name, row_of) {
     if (begin < from) return
+    for (k = begin; k <= to; k++) if (first_of[k] == begin) last = k
     down = wire[begin] == "D"
     y = down ? lane_of["D"] + tall + 6 : lane_of["C"] - 6
     x1 = x_of(begin)
@@ -279,7 +327,7 @@ function put_cut(k,    about, gone) {
     put_slashes(about, 312)
     put_slashes(about, lane_of["C"] + tall)
     put_slashes(about, lane_of["D"] + tall)
-    gone = sprintf("%.1f ms", (stamp[k] - stamp[k - 1]) / 1000)
+    gone = with_point((stamp[k] - stamp[k - 1]) / 100, 1) " ms"
     free_row("cut", about, gone, 1)
     if (!measured || k < breaking || x_of(k) > x_of(breaking)) put_text(middle, measured ? 216 : 190, "middle", "font-size=\"11\" fill=\"#555555\"", gone)
 }
@@ -326,13 +374,146 @@ function put_text(about, y, anchor, look, text) {
     put("<text x=\"" px(about) "\" y=\"" y "\" text-anchor=\"" anchor "\"" (look == "" ? "" : " " look) ">" text "</text>")
 }
 
+# ---- the replies that contradict one another
+
+# Keeps a line of `why`: an exchange, with what is written above its bytes and below.
+function keep_exchange(    n, k) {
+    n = ++exchanges_kept
+    began[n] = given["first_record"]
+    ended_at[n] = given["record"]
+    asked_bytes[n] = given["command_bytes"]
+    answered_bytes[n] = given["reply_bytes"]
+    asked_name[n] = ("command" in given ? given["command"] : name_of_bytes("C", substr(given["command_bytes"], 1, 5)))
+    if ("command_time" in given) asked_name[n] = asked_name[n] " " given["command_time"]
+    answered_name[n] = name_of_bytes("D", substr(given["reply_bytes"], 1, 5))
+    if ("reply_time" in given) answered_name[n] = answered_name[n] " " given["reply_time"]
+    says_below[n] = ""
+    for (k = 1; k <= said; k++) says_below[n] = says_below[n] (k == 1 ? "says " : ", ") said_name[k] " " said_value[k]
+}
+
+# What is known of the deck, of the line that says what it could show.
+function known_of_deck(    text, k) {
+    text = ""
+    for (k = 2; k <= told; k++) {
+        if (known[field[k]] == "unknown" || known[field[k]] == "any") continue
+        text = text (text == "" ? "" : ", ") field[k] " " known[field[k]]
+    }
+    return text == "" ? "nothing" : text
+}
+
+# Reads the capture as far as the last of these exchanges, and keeps the stamps of their records, which have to be their bytes.
+function read_exchanges(    n, k, bytes, commands, part, want) {
+    rows = -1
+    if (!next_row() || row !~ /time_us"?,"?wire"?,"?byte"?\r?$/) refuse("no header of a capture: " capture)
+    for (n = 1; n <= exchanges_kept; n++) {
+        commands = split(asked_bytes[n] " " answered_bytes[n], bytes, " ") - split(answered_bytes[n], part, " ")
+        for (k = 1; k in bytes; k++) {
+            while (rows < began[n] + k - 1) if (!next_row()) refuse("the capture ends before record " began[n] + k - 1 ": " capture)
+            gsub(/["\r]/, "", row)
+            split(row, part, ",")
+            want = (k <= commands ? "C" : "D") "," bytes[k]
+            if (row !~ /^[0-9]+,[CD],[0-9A-Fa-f][0-9A-Fa-f]$/) refuse("row " rows " of the capture is no record: " row)
+            if (part[2] "," toupper(part[3]) != want) refuse("record " rows " of the capture is another one than the report has: " capture)
+            stamp_of[n, k] = part[1] + 0
+        }
+        last_of[n] = k - 1
+    }
+}
+
+# A row for each of them: the command's bytes side by side, and the reply's, under their names, and below what the reply says.
+function draw_exchanges(    n, tall_row, gap) {
+    tall_row = 64
+    gap = 38
+    top = 84
+    asked_at = margin + 160
+    answered_at = asked_at + widest_asked() + 36
+    full = widest(widest_answered() + margin, widest(margin * 2 + length(could_show) * 7.25, 700))
+    put_head(top + exchanges_kept * (tall_row + gap) + 44, "No deck can have given all of these replies.")
+    put_text(asked_at, 76, "start", "font-weight=\"bold\"", "C, controller")
+    put_text(answered_at, 76, "start", "font-weight=\"bold\"", "D, deck")
+    for (n = 1; n <= exchanges_kept; n++) {
+        put_exchange(n, top + (n - 1) * (tall_row + gap))
+        if (n < exchanges_kept) put_gap(n, top + (n - 1) * (tall_row + gap) + tall_row, gap)
+    }
+    n = top + exchanges_kept * (tall_row + gap)
+    put_text(margin, n, "start", "", could_show)
+    put_text(margin, n + 28, "start", "font-size=\"11\" fill=\"#555555\"", "a box is a byte; between two rows is the time from the last byte above to the first below")
+    put("</svg>")
+}
+
+function widest(a, b) { return a > b ? a : b }
+
+# How much room the bytes and the names need, from the left end of their boxes on.
+function widest_asked(    n, need) {
+    need = 100
+    for (n = 1; n <= exchanges_kept; n++) {
+        need = widest(need, widest((length(asked_bytes[n]) + 1) / 3 * (box + 2), length(asked_name[n]) * 7.25))
+    }
+    return need
+}
+
+function widest_answered(    n, need) {
+    need = 100
+    for (n = 1; n <= exchanges_kept; n++) {
+        need = widest(need, widest((length(answered_bytes[n]) + 1) / 3 * (box + 2) + 20, length(answered_name[n]) * 7.25))
+        need = widest(need, length(says_below[n]) * 6.65)
+    }
+    return answered_at + need
+}
+
+function put_exchange(n, y,    k, bytes, asked_here, dark, at) {
+    put_text(margin, y + 34, "start", "font-weight=\"bold\"", milliseconds(stamp_of[n, 1]))
+    put_text(margin, y + 48, "start", "font-size=\"9\" fill=\"#555555\"", "records " began[n] " to " ended_at[n])
+    put_text(asked_at, y + 12, "start", "", escaped(asked_name[n]))
+    put_text(answered_at, y + 12, "start", "", escaped(answered_name[n]))
+    if (says_below[n] != "") put_text(answered_at, y + 58, "start", "font-size=\"11\"", says_below[n])
+    asked_here = split(asked_bytes[n], bytes, " ")
+    split(asked_bytes[n] " " answered_bytes[n], bytes, " ")
+    for (k = 1; k <= last_of[n]; k++) {
+        dark = n == exchanges_kept && k == last_of[n]
+        at = k <= asked_here ? asked_at + (k - 1) * (box + 2) : answered_at + (k - asked_here - 1) * (box + 2)
+        put_box(at, y + 18, dark ? dark_look : plain_look, dark ? dark_ink : plain_ink, began[n] + k - 1, stamp_of[n, k], bytes[k])
+        if (dark) put("<path d=\"M " px(at + box + 4) " " (y + 18 + tall / 2) " l 12 -5 v 10 z\" fill=\"#b00020\" stroke=\"#000000\"/>")
+    }
+}
+
+# The time between two rows, on a line that is cut.
+function put_gap(n, y, high,    about, between) {
+    about = asked_at + box / 2
+    put_line(about, y + 2, about, y + high - 6, "stroke=\"#444444\" stroke-dasharray=\"3 2\"")
+    put_slashes(about, y + high / 2 - 2)
+    between = began[n + 1] - ended_at[n] - 1
+    put_text(about + 16, y + high / 2 + 2, "start", "font-size=\"11\" fill=\"#555555\"", long_time(stamp_of[n + 1, 1] - stamp_of[n, last_of[n]]) \
+        (between == 0 ? ", nothing between" : ", " between " record" (between == 1 ? "" : "s") " between"))
+}
+
+# A time in seconds from one second on, and below in milliseconds.
+function long_time(us) { return us >= 1000000 ? with_point(us / 1000, 3) " s" : milliseconds(us) }
+
+# Text that stands for itself in an SVG.
+function escaped(text) {
+    gsub(/&/, "\\&amp;", text)
+    gsub(/</, "\\&lt;", text)
+    gsub(/>/, "\\&gt;", text)
+    return text
+}
+
 # ---- words and numbers
 
 function x_of(k) { return left + x[k] }
 
-function px(n) { return sprintf("%.1f", n) }
+function px(n) { return with_point(n * 10, 1) }
 
-function milliseconds(us) { return sprintf("%.3f ms", us / 1000) }
+function milliseconds(us) { return with_point(us, 3) " ms" }
+
+# A number rounded to a whole one, with a point before so many of its last digits: what awk prints for a number's point depends on
+# the country, and an SVG has one alone.
+function with_point(n, places,    sign, digits) {
+    sign = n < 0 ? "-" : ""
+    digits = sprintf("%.0f", n < 0 ? -n : n)
+    while (length(digits) <= places) digits = "0" digits
+    return sign substr(digits, 1, length(digits) - places) "." substr(digits, length(digits) - places + 1)
+}
 
 function thousands(us,    digits, text) {
     digits = sprintf("%.0f", us)
@@ -355,10 +536,12 @@ function sentence(    k, sum) {
 # The name of a block: a command's or a reply's, or its first two bytes where it has none.
 function name_of(begin, last,    head) {
     if (last == begin) return "begun"
-    head = sprintf("%02X %02X", byte[begin], byte[begin + 1])
-    if (wire[begin] == "D" && (substr(head, 1, 1) substr(head, 3)) == "7 20") head = "7n 20"
-    head = wire[begin] " " head
-    return head in name_of_head ? name_of_head[head] : substr(head, 3)
+    return name_of_bytes(wire[begin], sprintf("%02X %02X", byte[begin], byte[second_of[begin]]))
+}
+
+function name_of_bytes(on, head,    row_of_table) {
+    row_of_table = on " " (on == "D" && head ~ /^7. 20$/ ? "7n 20" : head)
+    return row_of_table in name_of_head ? name_of_head[row_of_table] : head
 }
 
 function name_commands(    k, n, part, rows_of_table, cell) {
@@ -419,7 +602,7 @@ BEGIN {
     name_forms()
     # Keeps the lines in a file that has no name any more, and writes them where the last one says that all is whole.
     hold = "{ held=$(mktemp) && exec 3> \"$held\" 4< \"$held\" 5< \"$held\" && rm \"$held\" && cat >&3" \
-        " || { cat > /dev/null; false; }; } && [ \"$(tail -n 1 <&4)\" = whole ] && sed '$d' <&5"
+        " || { cat > /dev/null; false; }; } && [ \"$(tail -n 1 <&4)\" = whole ] && sed '$d' <&5 || exit $?"
 }
 
 # The forms of the lines that `why` writes, and what may stand before a line of each kind.
@@ -660,9 +843,13 @@ function refuse(what) {
     exit 1
 }
 
+# A reader of the view that ends before the view does, such as `head`, ends `sed` by a signal, which the shell tells as 141:
+# then nothing is said, and the status is the same. One awk answers 256 times the status.
 END {
     if (refused) exit 1
     if (kind != "yes" && kind != "no") refuse("no verdict: the capture can't be read, or the text was cut short")
     put("whole")
-    if (close(hold) != 0) refuse("the view can't be written")
+    ended = close(hold)
+    if (ended == 141 || ended == 141 * 256) exit 141
+    if (ended != 0) refuse("the view can't be written")
 }

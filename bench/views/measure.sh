@@ -94,10 +94,10 @@ for name, verb, capture, last_line in (('check', 'check', late, no), ('explain',
     sizes[name] = write_report(verb, capture, f'{work}/{name}', last_line)
 
 too_much = False
-for view, report in (('digest', 'explain'), ('delays', 'explain'), ('json', 'explain'), ('json', 'run'), ('json', 'why'),
-                     ('picture', 'check'), ('picture', 'why')):
+for view, report in (('digest', 'explain'), ('delays', 'explain'), ('motion', 'explain'), ('json', 'explain'), ('json', 'run'),
+                     ('json', 'why'), ('picture', 'check'), ('picture', 'why'), ('clock', 'explain')):
     words = ['mawk', '-f', f'{views}/{view}.awk']
-    if view != 'json':
+    if view not in ('json', 'clock'):
         words[1:1] = ['-v', f'capture={late}']
     seconds, high = measure(words, f'{work}/{report}', f'{work}/view')
     too_much = too_much or seconds > SECONDS or high > KILOBYTES

@@ -1,0 +1,27 @@
+# To be sourced by a script of tests that has something write into a pipe whose reader has gone. It works in the folder $work. It
+# tests nothing itself, so it stands where the gate does not look for scripts.
+
+# into_closed COMMAND...: runs it on $work/in, once the reader of its output has closed its end, with the signal of a broken pipe as
+# a system has it. Its status is left in $status, and what it said in $work/err.
+into_closed() {
+    rm -f "$work/closed"
+    {
+        until [ -e "$work/closed" ]; do sleep 0.01; done
+        env --default-signal=PIPE "$@" < "$work/in" 2> "$work/err"
+        echo $? > "$work/status"
+    } | {
+        exec <&-
+        touch "$work/closed"
+    }
+    status=$(cat "$work/status")
+    : > "$work/out"
+}
+
+# is_silent: the run ended as one does that a signal of the pipe ends, and said nothing. Under its option --posix gawk does not tell
+# what became of a pipe, so there it ended well.
+is_silent() {
+    case $awk in
+        *--posix) [ "$status" = 0 ] && [ ! -s "$work/err" ] ;;
+        *) [ "$status" = 141 ] && [ ! -s "$work/err" ] ;;
+    esac
+}
