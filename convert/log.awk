@@ -14,7 +14,7 @@
 # come 287 microseconds later, one byte's time on the wire, but not later than the next line. Bytes of the same time stay in
 # the order of the log. `-v from=SECONDS` and `-v to=SECONDS` leave the bytes before the one and from the other on out.
 #
-# Where the stamps are coarser than 100 microseconds a line on standard error says that limits of time mean little. That is so
+# Where the timestamps are coarser than 100 microseconds a line on standard error says that limits of time mean little. That is so
 # where each stamp of the log is a multiple of 125 microseconds or each one of 200: so are stamps in milliseconds, however many
 # zeros stand behind them, and those of clocks that tick every 125, 200, 250 or 500 microseconds or every 15.625 milliseconds.
 
@@ -46,7 +46,7 @@ END {
     if (refused) exit 1
     if (NR > 0) take_waiting(waiting_time + 287 * length(waiting))
     if (count["C"] + count["D"] > 0 && !(is_off_125 && is_off_200)) {
-        print converter ": stamps are coarser than 100 microseconds, so L1, L2 and B3 mean little" | "cat >&2"
+        print converter ": timestamps are coarser than 100 microseconds, so L1, L2 and B3 mean little" | "cat >&2"
         close("cat >&2")
     }
 }

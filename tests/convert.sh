@@ -50,7 +50,7 @@ stored_exports() {
 }
 
 # The line that a log with coarse stamps has on standard error.
-coarse='log.awk: stamps are coarser than 100 microseconds, so L1, L2 and B3 mean little'
+coarse='log.awk: timestamps are coarser than 100 microseconds, so L1, L2 and B3 mean little'
 
 # is_coarse_capture FILE: the same, but for that line.
 is_coarse_capture() {

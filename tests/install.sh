@@ -74,7 +74,7 @@ run_pages() {
         esac
     done < <(sed -n 's/^    \(awk .*examples\/exports.*\)/\1/p' "$root/share/doc/ninecheck/CAPTURE.md"
         sed -n 's/^    \$ //p' "$root/share/doc/ninecheck/VIEWS.md" | sed 's#\./ninecheck#ninecheck#')
-    judge "$name: the pages' commands: $commands" [ "$commands" = 15 ]
+    judge "$name: the pages' commands: $commands" [ "$commands" = 18 ]
     cmp "$work/a copy/late-reply.svg" docs/pictures/late-reply.svg > "$work/out" 2>&1
     status=$?
     judge "$name: the picture" [ "$status" = 0 ]

@@ -43,6 +43,7 @@ convert.sh;docs/CAPTURE.md;awk -f convert/saleae.awk < examples/exports/saleae-o
 convert.sh;docs/CAPTURE.md;awk -v controller=COM3 -v deck=COM4 -f convert/log.awk < examples/exports/serial.log
 convert.sh;docs/CAPTURE.md;awk -v controller=COM3 -v deck=COM4 -f convert/log.awk < examples/exports/serial-clock.log
 convert.sh;docs/CAPTURE.md;for port in /dev/ttyUSB0 /dev/ttyUSB1
+coarse;docs/CAPTURE.md;log.awk: timestamps are coarser
 convert.sh;docs/CAPTURE.md;awk -v rate=2000000 -v from=0.02 -f convert/sigrok.awk < examples/exports/sigrok-damaged.txt
 refuse;docs/CAPTURE.md;sigrok.awk: line 10:
 convert.sh;docs/CAPTURE.md;awk -F,
@@ -74,6 +75,12 @@ run_it() {
 
 refuse() {
     in_here 'awk -v rate=2000000 -f convert/sigrok.awk < examples/exports/sigrok-damaged.txt'
+    is_said "$page: ${block[0]}" "${block[0]}"
+}
+
+coarse() {
+    printf '0.001 A 20\n0.002 A 01\n' > "$work/here/coarse.log"
+    in_here 'awk -v controller=A -v deck=B -f convert/log.awk < coarse.log > capture.csv'
     is_said "$page: ${block[0]}" "${block[0]}"
 }
 
@@ -148,7 +155,7 @@ for page in README.md docs/*.md; do
     done < "$page"
     [ ${#block[@]} = 0 ] || take_block
 done
-judge "the commands with a dollar sign: $shown" [ "$shown" = 15 ]
+judge "the commands with a dollar sign: $shown" [ "$shown" = 18 ]
 judge "the other blocks: $others" [ "$others" = "$(wc -l <<< "$blocks")" ]
 
 # The command that stands in a sentence: it joins two exports into the one that is stored.
