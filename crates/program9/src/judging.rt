@@ -70,18 +70,19 @@ fn tell<R: Read + Drop, W: Write>(
         → e.kind ≢ CaptureKind.OutOfMemory }
     ensures can_be { CanBeResult result }
 {
-    match verb {
-        Verb::Check => judge(alloc, reader, writer, View::Verdict, hands),
-        Verb::Explain => judge(alloc, reader, writer, View::Explain, hands),
+    let view = match verb {
+        Verb::Check => View::Verdict,
+        Verb::Explain => View::Explain,
         Verb::Run => {
             let found = judge_with_run(alloc, reader, hands);
-            tell_run(writer, found, hands)
+            return tell_run(writer, found, hands);
         }
         Verb::Why => {
             let found = judge_with_contradiction(alloc, reader, hands);
-            tell_why(alloc, writer, found, hands)
+            return tell_why(alloc, writer, found, hands);
         }
-    }
+    };
+    judge(alloc, reader, writer, view, hands)
 }
 
 /// Writes the text of a run where there is one, and answers its verdict.
