@@ -6,6 +6,7 @@ cd "$(dirname "$0")/.." || exit 1
 program=${NINECHECK:-$PWD/crates/ninecheck/out/ninecheck}
 
 . tests/lib/judge.sh
+. tests/lib/views.sh
 . tests/lib/tools.sh
 need_tools mawk gawk busybox
 
@@ -72,17 +73,6 @@ capture_of() {
 motion() {
     $awk $1 -f view/motion.awk < "$work/in" > "$work/out" 2> "$work/err"
     status=$?
-}
-
-# is_view FILE: the run made this text and said nothing.
-is_view() {
-    [ "$status" = 0 ] && cmp "$work/out" "$1" && [ ! -s "$work/err" ]
-}
-
-# is_refused LINE: the run wrote this line to standard error, and nothing to standard output.
-is_refused() {
-    printf '%s\n' "$1" > "$work/want"
-    [ "$status" = 1 ] && [ ! -s "$work/out" ] && cmp "$work/err" "$work/want"
 }
 
 # is_motion NAME WORDS: of the capture of these words the view makes the text on standard input, in which @first is the first

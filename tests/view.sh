@@ -6,6 +6,7 @@ cd "$(dirname "$0")/.." || exit 1
 program=${NINECHECK:-$PWD/crates/ninecheck/out/ninecheck}
 
 . tests/lib/judge.sh
+. tests/lib/views.sh
 . tests/lib/closed.sh
 . tests/lib/tools.sh
 need_tools mawk gawk busybox jq
@@ -20,17 +21,6 @@ mkdir "$TMPDIR"
 view() {
     $awk $2 -f "view/$1" > "$work/out" 2> "$work/err"
     status=$?
-}
-
-# is_view FILE: the run made this text and said nothing.
-is_view() {
-    [ "$status" = 0 ] && cmp "$work/out" "$1" && [ ! -s "$work/err" ]
-}
-
-# is_refused LINE: the run wrote this line to standard error, and nothing to standard output.
-is_refused() {
-    printf '%s\n' "$1" > "$work/want"
-    [ "$status" = 1 ] && [ ! -s "$work/out" ] && cmp "$work/err" "$work/want"
 }
 
 # text_of WORDS: the text that words of printf stand for, with these put in: @nothing for a deck of which nothing is known,
