@@ -1,4 +1,5 @@
 -- Which bytes spell a block.
+use Rattle.std.specs.List.{fold}
 use Rattle.block9.proofs.Words.{[], ap, arith, Block, body_of, last_time, length, LineByte, List, same_from_push, slice_get, Some, Spells, suc, sum, sym, ℕ, ◌%◌, ◌*◌, ◌++◌, ◌+◌}
 use Rattle.block9.proofs.Words.{◌-◌, ◌∙◌, ◌∷◌, ◌≡◌}
 
@@ -20,3 +21,8 @@ last_time-last (a ∷ []) last e = let same : last ≡ a = cc in ap (λ (r : Lin
 last_time-last (a ∷ b ∷ records) last e =
     let count : length (a ∷ b ∷ records) - 1 ≡ suc (length (b ∷ records) - 1) = omega arith in
     last_time-last (b ∷ records) last (e ∙ ap (λ (n : ℕ). slice_get (a ∷ b ∷ records) n) count)
+
+-- a sum that begins with another number
+pub sum_from : (start : ℕ) (bytes : List ℕ) → fold (λ a x. a + x) start bytes ≡ start + sum bytes
+sum_from start [] = omega arith
+sum_from start (byte ∷ bytes) = let more = sum_from (start + byte) bytes in let all = sum_from (0 + byte) bytes in omega arith

@@ -1,5 +1,5 @@
 -- What a record that breaks no rule makes of a tail.
-use Rattle.block9.proofs.Words.{[], after_command, AfterCommand, ap, append_assoc, arith, Asked, block_len, block_of, bytes_of, closed_of, Command, Controller, Deck, Does, drop}
+use Rattle.block9.proofs.Words.{[], after_command, AfterCommand, ap, append_assoc, arith, OpenCommand, block_len, block_of, bytes_of, closed_of, Command, Controller, Deck, Does, drop}
 use Rattle.block9.proofs.Words.{ends_block, false, first_time, in_command, in_reply, inl, inr, IsAnswered, IsBegun, IsCommand, IsExchange, IsHeld, IsTail, last_time, length}
 use Rattle.block9.proofs.Words.{length-append, LineByte, List, None, nothing, open_at, Option, pairing, place_of, refl, Some, Step, tail_after, take, true, ◌++◌, ◌∙◌, ◌∷◌, ◌≡◌}
 use Rattle.block9.proofs.Words.{◌≢◌, ◌≤◌}
@@ -10,13 +10,13 @@ use Rattle.block9.proofs.TailLemmas.{after_command_quiet, answered, idle_quiet, 
 -- ---- what is held
 
 -- what is held is a tail, and something is held beside each tail
-pub held_tail : (t : List LineByte) (o : Option Asked) → IsHeld t o → IsTail t
+pub held_tail : (t : List LineByte) (o : Option OpenCommand) → IsHeld t o → IsTail t
 held_tail t None (inl e) = nothing e
 held_tail t None (inr h) = in_command h
 held_tail t (Some a) (inl h) = after_command a.block a.command h
 held_tail t (Some a) (inr (reply, is, same)) = in_reply is.command reply is.block a.command is.split is.is_command is.begun is.in_time
 
-pub tail_held : (t : List LineByte) → IsTail t → (o : Option Asked) × IsHeld t o
+pub tail_held : (t : List LineByte) → IsTail t → (o : Option OpenCommand) × IsHeld t o
 tail_held t (nothing e) = (None, inl e)
 tail_held t (in_command h) = (None, inr h)
 tail_held t (after_command b c h) = (Some (record { command = c; block = b }), inl h)
@@ -28,7 +28,7 @@ pub begun_now : (t : List LineByte) → IsHeld t None → ends_block (open_at (p
 begun_now t h ends = grind arith
 
 -- and where one is held, its reply is begun
-pub reply_now : (t : List LineByte) (a : Asked) → IsHeld t (Some a) → ends_block (open_at (place_of t) t) ≡ true → (reply : List LineByte) × (is : IsAnswered t a.command reply) × (is.block ≡ a.block)
+pub reply_now : (t : List LineByte) (a : OpenCommand) → IsHeld t (Some a) → ends_block (open_at (place_of t) t) ≡ true → (reply : List LineByte) × (is : IsAnswered t a.command reply) × (is.block ≡ a.block)
 reply_now t a (inl h) ends = absurd (let place = place_of_command Controller t a.block h.whole in cc)
 reply_now t a (inr parts) ends = parts
 
@@ -42,11 +42,11 @@ delay_fits t reply c is = let parts = answered t reply c is in rw (parts.first, 
 still_begun : (t : List LineByte) → IsBegun Controller t → IsHeld t None × (place_of t ≢ AfterCommand)
 still_begun t h = (inr h, let place = place_in_command Controller t h in λ p. cc)
 
-still_answered : (t reply : List LineByte) (a : Asked) (is : IsAnswered t a.command reply) → is.block ≡ a.block → IsHeld t (Some a) × (place_of t ≢ AfterCommand)
+still_answered : (t reply : List LineByte) (a : OpenCommand) (is : IsAnswered t a.command reply) → is.block ≡ a.block → IsHeld t (Some a) × (place_of t ≢ AfterCommand)
 still_answered t reply a is same = (inr (reply, is, same), let place = (answered t reply a.command is).place in λ p. cc)
 
 -- a record that does not end its block
-pub waits : (t : List LineByte) (o : Option Asked) (r : LineByte) → IsHeld t o → last_time t ≤ r.time_us → pairing t r ≡ None → ends_block (open_at (place_of t) t) ≡ false
+pub waits : (t : List LineByte) (o : Option OpenCommand) (r : LineByte) → IsHeld t o → last_time t ≤ r.time_us → pairing t r ≡ None → ends_block (open_at (place_of t) t) ≡ false
     → IsHeld (t ++ r ∷ []) o × (place_of (t ++ r ∷ []) ≢ AfterCommand)
 waits t None r (inl e) later quiet ends = rw e (still_begun (r ∷ []) ((idle_quiet r).0 (rw e at quiet)))
 waits t None r (inr h) later quiet ends =
@@ -79,7 +79,7 @@ commands t r held later quiet ends =
     (right.1, record { whole = whole_now Controller t r h next.0 same right.0; meaning = right.2 })
 
 -- a record that ends a reply
-pub closes : (t reply : List LineByte) (a : Asked) (r : LineByte) (is : IsAnswered t a.command reply) → is.block ≡ a.block → last_time t ≤ r.time_us
+pub closes : (t reply : List LineByte) (a : OpenCommand) (r : LineByte) (is : IsAnswered t a.command reply) → is.block ≡ a.block → last_time t ≤ r.time_us
     → pairing t r ≡ None → ends_block (open_at (place_of t) t) ≡ true → IsExchange (t ++ r ∷ []) (closed_of t a)
 closes t reply a r is same later quiet ends =
     let parts = answered t reply a.command is in

@@ -4,14 +4,14 @@ pub use Rattle.block9.specs.Command.{command_of, fits, is_reply_time_valid}
 pub use Rattle.block9.specs.Exchange.{Cut, Does, IsCommand, IsExchange, IsInTime, IsKept, IsTail, tail_after}
 pub use Rattle.block9.specs.Exchange.IsTail.{after_command, in_command, in_reply, nothing}
 pub use Rattle.block9.specs.Line.{block_len, byte_gap, bytes_of, first_time, IsBegun, IsLinked, IsWhole, last_time}
-pub use Rattle.block9.specs.Pairer.{Paired, Refuses, Takes}
+pub use Rattle.block9.specs.Pairer.{BeginsWith, Paired, Refuses, Takes}
 pub use Rattle.block9.specs.Reason.{EndsReply, Holds, IsAnswered, IsFirst, IsReason, IsWholeCommand, order}
 pub use Rattle.block9.specs.Working.Body.{block_of}
 pub use Rattle.block9.specs.Working.Held.{closed_of, Closes, HoldsInPairer, IsHeld, IsTurn}
 pub use Rattle.block9.specs.Working.Table.{early_fault, ends_block, fault_at, open_at, pairing, place_of, reply_fault}
 pub use Rattle.block9.specs.declared.block.Block.{Block}
 pub use Rattle.block9.specs.declared.command.Command.{Command}
-pub use Rattle.block9.specs.declared.pairer.Asked.{Asked}
+pub use Rattle.block9.specs.declared.pairer.OpenCommand.{OpenCommand}
 pub use Rattle.block9.specs.declared.pairer.Exchange.{Exchange}
 pub use Rattle.block9.specs.declared.pairer.Step.{Step}
 pub use Rattle.block9.specs.declared.place.Place.TheVariants.{AfterCommand, Idle, InCommand, InReply}
@@ -28,4 +28,5 @@ pub use Rattle.std.proofs.lemmas.Bool.Decides.{nat_tests}
 pub use Rattle.std.proofs.lemmas.List.{append-nil, append_assoc, drop_at, length-map, length_push, map_push, same_from_push, take-append-le, take_all, take_at, take_more}
 pub use Rattle.std.specs.List.{slice_get, sum}
 pub use Rattle.std.specs.Option.{ForSome, option_or}
+pub use Rattle.std.specs.Prelude.{option_map}
 unfoldable pub use Rattle.tc25.specs.Day.{time_of}

@@ -137,6 +137,15 @@ meaning_in (r ∷ rows) head b = if r.head == head then r.meaning b else meaning
 unfoldable pub command_of : Block → Option Command
 command_of b = meaning_in (table_of b.group) (head_of b) b
 
+-- the time that is in a command
+unfoldable pub time_in : Command → Option ℕ
+time_in (CueUpWithData time) = Some time
+time_in (InDataPreset time) = Some time
+time_in (OutDataPreset time) = Some time
+time_in (AudioInDataPreset time) = Some time
+time_in (AudioOutDataPreset time) = Some time
+time_in _ = None
+
 -- ---- kinds of reply
 
 -- a block with these first two bytes
@@ -148,8 +157,8 @@ abbrev pub is_nak : Block → Bool
 is_nak = begins 0x11_12
 
 -- acknowledged: no data
-abbrev pub acknowledged : Block → Bool
-acknowledged = begins 0x10_01
+abbrev pub is_ack : Block → Bool
+is_ack = begins 0x10_01
 
 -- the first two bytes of a timer's time, whose bytes are free
 abbrev pub timer_heads : List ℕ
@@ -180,55 +189,55 @@ named name answer = record { name = Some name; answer = answer }
 
 -- each command; one that is not listed has no name, and takes any reply
 abbrev pub listing : Command → Listing
-listing LocalDisable = named (codes "LOCAL DISABLE") acknowledged
+listing LocalDisable = named (codes "LOCAL DISABLE") is_ack
 listing DeviceType = named (codes "DEVICE TYPE") (begins 0x12_11)
-listing LocalEnable = named (codes "LOCAL ENABLE") acknowledged
-listing Stop = named (codes "STOP") acknowledged
-listing Play = named (codes "PLAY") acknowledged
-listing Record = named (codes "RECORD") acknowledged
-listing StandbyOff = named (codes "STANDBY OFF") acknowledged
-listing StandbyOn = named (codes "STANDBY ON") acknowledged
-listing Eject = named (codes "EJECT") acknowledged
-listing FastForward = named (codes "FAST FWD") acknowledged
-listing JogForward = named (codes "JOG FWD") acknowledged
-listing VarForward = named (codes "VAR FWD") acknowledged
-listing ShuttleForward = named (codes "SHUTTLE FWD") acknowledged
-listing Rewind = named (codes "REWIND") acknowledged
-listing JogReverse = named (codes "JOG REV") acknowledged
-listing VarReverse = named (codes "VAR REV") acknowledged
-listing ShuttleReverse = named (codes "SHUTTLE REV") acknowledged
-listing Preroll = named (codes "PREROLL") acknowledged
-listing (CueUpWithData time) = named (codes "CUE UP WITH DATA") acknowledged
-listing SyncPlay = named (codes "SYNC PLAY") acknowledged
-listing InEntry = named (codes "IN ENTRY") acknowledged
-listing OutEntry = named (codes "OUT ENTRY") acknowledged
-listing AudioInEntry = named (codes "AUDIO IN ENTRY") acknowledged
-listing AudioOutEntry = named (codes "AUDIO OUT ENTRY") acknowledged
-listing (InDataPreset time) = named (codes "IN DATA PRESET") acknowledged
-listing (OutDataPreset time) = named (codes "OUT DATA PRESET") acknowledged
-listing (AudioInDataPreset time) = named (codes "AUDIO IN DATA PRESET") acknowledged
-listing (AudioOutDataPreset time) = named (codes "AUDIO OUT DATA PRESET") acknowledged
-listing InShiftPlus = named (codes "IN SHIFT +") acknowledged
-listing InShiftMinus = named (codes "IN SHIFT -") acknowledged
-listing OutShiftPlus = named (codes "OUT SHIFT +") acknowledged
-listing OutShiftMinus = named (codes "OUT SHIFT -") acknowledged
-listing AudioInShiftPlus = named (codes "AUDIO IN SHIFT +") acknowledged
-listing AudioInShiftMinus = named (codes "AUDIO IN SHIFT -") acknowledged
-listing AudioOutShiftPlus = named (codes "AUDIO OUT SHIFT +") acknowledged
-listing AudioOutShiftMinus = named (codes "AUDIO OUT SHIFT -") acknowledged
-listing InFlagReset = named (codes "IN FLAG RESET") acknowledged
-listing OutFlagReset = named (codes "OUT FLAG RESET") acknowledged
-listing AudioInFlagReset = named (codes "AUDIO IN FLAG RESET") acknowledged
-listing AudioOutFlagReset = named (codes "AUDIO OUT FLAG RESET") acknowledged
-listing InRecall = named (codes "IN RECALL") acknowledged
-listing OutRecall = named (codes "OUT RECALL") acknowledged
-listing AudioInRecall = named (codes "AUDIO IN RECALL") acknowledged
-listing AudioOutRecall = named (codes "AUDIO OUT RECALL") acknowledged
-listing EditPreset = named (codes "EDIT PRESET") acknowledged
-listing PrerollPreset = named (codes "PREROLL PRESET") acknowledged
-listing TimerModeSelect = named (codes "TIMER MODE SELECT") acknowledged
-listing AutoModeOff = named (codes "AUTO MODE OFF") acknowledged
-listing AutoModeOn = named (codes "AUTO MODE ON") acknowledged
+listing LocalEnable = named (codes "LOCAL ENABLE") is_ack
+listing Stop = named (codes "STOP") is_ack
+listing Play = named (codes "PLAY") is_ack
+listing Record = named (codes "RECORD") is_ack
+listing StandbyOff = named (codes "STANDBY OFF") is_ack
+listing StandbyOn = named (codes "STANDBY ON") is_ack
+listing Eject = named (codes "EJECT") is_ack
+listing FastForward = named (codes "FAST FWD") is_ack
+listing JogForward = named (codes "JOG FWD") is_ack
+listing VarForward = named (codes "VAR FWD") is_ack
+listing ShuttleForward = named (codes "SHUTTLE FWD") is_ack
+listing Rewind = named (codes "REWIND") is_ack
+listing JogReverse = named (codes "JOG REV") is_ack
+listing VarReverse = named (codes "VAR REV") is_ack
+listing ShuttleReverse = named (codes "SHUTTLE REV") is_ack
+listing Preroll = named (codes "PREROLL") is_ack
+listing (CueUpWithData time) = named (codes "CUE UP WITH DATA") is_ack
+listing SyncPlay = named (codes "SYNC PLAY") is_ack
+listing InEntry = named (codes "IN ENTRY") is_ack
+listing OutEntry = named (codes "OUT ENTRY") is_ack
+listing AudioInEntry = named (codes "AUDIO IN ENTRY") is_ack
+listing AudioOutEntry = named (codes "AUDIO OUT ENTRY") is_ack
+listing (InDataPreset time) = named (codes "IN DATA PRESET") is_ack
+listing (OutDataPreset time) = named (codes "OUT DATA PRESET") is_ack
+listing (AudioInDataPreset time) = named (codes "AUDIO IN DATA PRESET") is_ack
+listing (AudioOutDataPreset time) = named (codes "AUDIO OUT DATA PRESET") is_ack
+listing InShiftPlus = named (codes "IN SHIFT +") is_ack
+listing InShiftMinus = named (codes "IN SHIFT -") is_ack
+listing OutShiftPlus = named (codes "OUT SHIFT +") is_ack
+listing OutShiftMinus = named (codes "OUT SHIFT -") is_ack
+listing AudioInShiftPlus = named (codes "AUDIO IN SHIFT +") is_ack
+listing AudioInShiftMinus = named (codes "AUDIO IN SHIFT -") is_ack
+listing AudioOutShiftPlus = named (codes "AUDIO OUT SHIFT +") is_ack
+listing AudioOutShiftMinus = named (codes "AUDIO OUT SHIFT -") is_ack
+listing InFlagReset = named (codes "IN FLAG RESET") is_ack
+listing OutFlagReset = named (codes "OUT FLAG RESET") is_ack
+listing AudioInFlagReset = named (codes "AUDIO IN FLAG RESET") is_ack
+listing AudioOutFlagReset = named (codes "AUDIO OUT FLAG RESET") is_ack
+listing InRecall = named (codes "IN RECALL") is_ack
+listing OutRecall = named (codes "OUT RECALL") is_ack
+listing AudioInRecall = named (codes "AUDIO IN RECALL") is_ack
+listing AudioOutRecall = named (codes "AUDIO OUT RECALL") is_ack
+listing EditPreset = named (codes "EDIT PRESET") is_ack
+listing PrerollPreset = named (codes "PREROLL PRESET") is_ack
+listing TimerModeSelect = named (codes "TIMER MODE SELECT") is_ack
+listing AutoModeOff = named (codes "AUTO MODE OFF") is_ack
+listing AutoModeOn = named (codes "AUTO MODE ON") is_ack
 listing (CurrentTimeSense selector) = named (codes "CURRENT TIME SENSE") is_time
 listing InDataSense = named (codes "IN DATA SENSE") (begins 0x74_10)
 listing OutDataSense = named (codes "OUT DATA SENSE") (begins 0x74_11)

@@ -1,5 +1,5 @@
 -- Exchanges, tails, and how a list of records is cut into them.
-use Rattle.std.specs.Prelude.{◌+◌, ◌≤◌, ◌≡◌, true, Some, List, [], ◌∷◌, ◌++◌}
+use Rattle.std.specs.Prelude.{ℕ, ◌+◌, ◌≤◌, ◌≡◌, true, Some, List, [], ◌∷◌, ◌++◌, length}
 use Rattle.capture9.specs.declared.line_byte.LineByte.{LineByte}
 use Rattle.capture9.specs.declared.line_byte.Wire.TheVariants.{Controller, Deck}
 use Rattle.block9.specs.declared.block.Block.{Block}
@@ -7,6 +7,7 @@ use Rattle.block9.specs.declared.command.Command.{Command}
 use Rattle.block9.specs.declared.pairer.Exchange.{Exchange}
 use Rattle.block9.specs.declared.pairer.Step.{Step}
 use Rattle.block9.specs.declared.pairer.Step.TheVariants as step
+use Rattle.block9.specs.Block.{spelling}
 use Rattle.block9.specs.Command.{command_of, fits, is_reply_time_valid}
 use Rattle.block9.specs.Line.{IsWhole, IsBegun, first_time, last_time, reply_limit}
 
@@ -32,6 +33,10 @@ pub record IsExchange (records : List LineByte) (e : Exchange) : Type 0 where
   pub delay : last_time asked + e.delay_us ≡ first_time answered
   pub kind : fits e.command e.reply ≡ true
   pub valid_time : is_reply_time_valid e.command e.reply ≡ true
+
+-- how many records an exchange has
+abbrev pub records_of : Exchange → ℕ
+records_of e = length (spelling e.block) + length (spelling e.reply)
 
 -- what may be open at the end: nothing, a command that is begun or whole, or a command and the beginning of its reply
 pub data IsTail (records : List LineByte) : Type 0 where

@@ -3,7 +3,9 @@ use Rattle.std.specs.Prelude.{◌≡◌, ℕ, Option, Some, None, List, [], ◌�
 use Rattle.capture9.specs.declared.line_byte.LineByte.{LineByte}
 use Rattle.block9.specs.declared.pairer.Step.{Step}
 use Rattle.block9.specs.declared.reason.Reason.{Reason}
-use Rattle.block9.specs.Exchange.{Does, IsKept, tail_after}
+use Rattle.block9.specs.declared.block.Block.{Block}
+use Rattle.block9.specs.declared.command.Command.{Command}
+use Rattle.block9.specs.Exchange.{Does, IsCommand, IsKept, tail_after}
 use Rattle.block9.specs.Reason.{IsReason}
 
 -- a `Pairer` as its callers see it
@@ -29,3 +31,11 @@ pub record Refuses (old : Paired) (r : LineByte) (reason : Reason) (new : Paired
   pub tail : new.tail ≡ old.tail
   pub last_time : new.last_time ≡ Some r.time_us
   pub known : new.reason ≡ Some reason
+
+-- a tail begins with a whole command, and this is what it means
+pub record BeginsWith (tail : List LineByte) (c : Command) : Type 0 where
+  pub records : List LineByte
+  pub reply : List LineByte
+  pub split : tail ≡ records ++ reply
+  pub block : Block
+  pub command : IsCommand records block c

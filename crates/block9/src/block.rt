@@ -2,6 +2,7 @@
 ghost use Rattle.std.specs.Prelude.{◌≡◌, ℕ, ◌%◌, ◌≤◌, IfSome, IfNone, length};
 ghost use Rattle.std.specs.List.{sum};
 
+use crate::reply::{ACK, NAK};
 use arrayvec::ArrayVec;
 use capture9::LineByte;
 use tc25::TimeCode;
@@ -26,7 +27,10 @@ pub struct Block {
 impl Block {
     ghost use Rattle.std.specs.Prelude.{◌≡◌, ◌≤◌, IfSome, IfNone, length};
     ghost use Rattle.tc25.specs.Day.{time_of};
-    ghost use Rattle.block9.specs.Block.{Spells, first_datum, head_of};
+    ghost use Rattle.std.specs.Prelude.{◌%◌};
+    ghost use Rattle.std.specs.List.{sum};
+    ghost use Rattle.block9.specs.Block.{Spells, body_of, first_datum, head_of};
+    ghost use Rattle.block9.specs.Command.{is_ack, is_nak};
     ghost use Rattle.block9.specs.Line.{bytes_of};
     ghost use Rattle.block9.specs.Working.Body.{block_of, most_body};
 
@@ -47,11 +51,38 @@ impl Block {
     }
 
     /// The first two bytes of the block as one number: 0x2001 for a block that begins with `20 01`.
-    pub(crate) fn head(&self) -> u32
+    pub fn head(&self) -> u32
         ensures { result ≡ head_of self.now }
     {
         let (group, code) = (u32::from(self.group), u32::from(self.code));
         (group * 16 + self.bytes.len() as u32) * 256 + code
+    }
+
+    /// The last byte of the block on the line: the sum of all bytes before it modulo 256.
+    pub fn checksum(&self) -> u8
+        ensures { result ≡ sum (body_of self.now) % 256 }
+    {
+        let first_byte = self
+            .group
+            .wrapping_mul(16)
+            .wrapping_add(self.bytes.len() as u8);
+        first_byte
+            .wrapping_add(self.code)
+            .wrapping_add(sum_of(self.bytes.as_slice()))
+    }
+
+    /// Whether the block is an acknowledgement: `10 01`, without data.
+    pub fn is_ack(&self) -> bool
+        ensures { result ≡ is_ack self.now }
+    {
+        self.head() == ACK
+    }
+
+    /// Whether the block is a NAK: `11 12`, with one byte that says why.
+    pub fn is_nak(&self) -> bool
+        ensures { result ≡ is_nak self.now }
+    {
+        self.head() == NAK
     }
 
     /// The first data byte, and 0 where there is none.

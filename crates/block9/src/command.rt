@@ -7,7 +7,7 @@ ghost use Rattle.std.specs.Prelude.{◌≡◌};
 ghost use Rattle.block9.specs.Command.{meaning_in, preset_control, selected, sense_requests, system_control, transport_control};
 
 use crate::block::Block;
-use crate::reply::{ACK, NAK, is_status, is_time};
+use crate::reply::{is_status, is_time};
 use tc25::TimeCode;
 
 /// What a block on the controller's wire is.
@@ -157,7 +157,7 @@ pub enum Command {
 
 impl Command {
     ghost use Rattle.std.specs.Prelude.{◌≡◌, option_map};
-    ghost use Rattle.block9.specs.Command.{command_of, fits, name_of};
+    ghost use Rattle.block9.specs.Command.{command_of, fits, name_of, time_in};
 
     /// The command that a block of the controller is, by its first two bytes, and of CURRENT TIME SENSE by
     /// its selector too.
@@ -242,6 +242,21 @@ impl Command {
         }
     }
 
+    /// The time that is in the command: `None` where it has none.
+    #[tactic(auto, unfolding(crate::specs::Command::time_in))]
+    pub fn time(&self) -> Option<TimeCode>
+        ensures { result ≡ time_in self.now }
+    {
+        match self {
+            Command::CueUpWithData { time }
+            | Command::InDataPreset { time }
+            | Command::OutDataPreset { time }
+            | Command::AudioInDataPreset { time }
+            | Command::AudioOutDataPreset { time } => Some(*time),
+            _ => None,
+        }
+    }
+
     /// Whether a reply is of a kind that the command may have.
     ///
     /// A NAK may come to every command, and any block to one that is not listed. Otherwise the deck
@@ -251,10 +266,10 @@ impl Command {
     pub fn fits(&self, reply: &Block) -> bool
         ensures { result ≡ fits self.now reply.now }
     {
-        let head = reply.head();
-        if head == NAK {
+        if reply.is_nak() {
             return true;
         }
+        let head = reply.head();
         match self {
             Command::DeviceType => head == 0x12_11,
             Command::CurrentTimeSense { .. } => is_time(reply),
@@ -264,7 +279,7 @@ impl Command {
             Command::AudioOutDataSense => head == 0x74_13,
             Command::StatusSense { asked } => is_status(reply, asked % 16),
             Command::Unlisted { .. } => true,
-            _ => head == ACK,
+            _ => reply.is_ack(),
         }
     }
 }

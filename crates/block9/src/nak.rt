@@ -1,7 +1,6 @@
 //! The reasons that a NAK gives.
 
 use crate::block::Block;
-use crate::reply::NAK;
 use bitflags::{Flag, Flags};
 
 /// Why the deck refused a command: the byte of a NAK, with a bit for each reason.
@@ -60,7 +59,7 @@ impl NakBits {
     pub fn of(reply: &Block) -> Option<NakBits>
         ensures { result ≡ (if is_nak reply.now then Some (record { 0 = first_datum reply.now }) else None) }
     {
-        (reply.head() == NAK).then(|| NakBits(reply.first_datum()))
+        reply.is_nak().then(|| NakBits(reply.first_datum()))
     }
 }
 

@@ -1,7 +1,8 @@
 //! Pairs commands with replies, one record at a time.
-ghost use Rattle.std.specs.Prelude.{◌≡◌, ◌≤◌, length, true, IfOk, IfErr, Some};
-ghost use Rattle.block9.specs.Command.{fits, is_reply_time_valid};
+ghost use Rattle.std.specs.Prelude.{◌≡◌, ◌≤◌, length, true, IfOk, IfErr, OnErr, OnOk, None, Some};
+ghost use Rattle.std.specs.Option.{ForSome};
 ghost use Rattle.block9.specs.Exchange.{Does, tail_after};
+ghost use Rattle.block9.specs.declared.pairer.OpenCommand.{OpenCommand as Open};
 ghost use Rattle.block9.specs.Line.{bytes_of, last_time};
 ghost use Rattle.block9.specs.Working.Body.{block_of};
 ghost use Rattle.block9.specs.Working.Held.{Closes, IsHeld, IsTurn, most_open};
@@ -37,6 +38,19 @@ pub struct Exchange {
     pub delay_us: u64,
 }
 
+impl Exchange {
+    ghost use Rattle.std.specs.Prelude.{◌≡◌, ◌≤◌};
+    ghost use Rattle.block9.specs.Exchange.{records_of};
+
+    /// How many records the exchange has: those of its two blocks, at most 36.
+    pub fn records(&self) -> usize
+        ensures records { result ≡ records_of self.now }
+        ensures few { result ≤ 36 }
+    {
+        self.block.bytes.len() + 3 + self.reply.bytes.len() + 3
+    }
+}
+
 /// What a record does that keeps the rules.
 #[derive(Debug, Drop, PartialEq, Eq)]
 pub enum Step {
@@ -48,9 +62,9 @@ pub enum Step {
     Exchange(Exchange),
 }
 
-/// A whole command, as it is kept beside its records while its reply is to come.
+/// A complete command whose reply is still to come.
 #[derive(Drop)]
-struct Asked {
+struct OpenCommand {
     /// What the command's block means.
     command: Command,
     /// The command's block.
@@ -69,31 +83,43 @@ fn early_fault(place: Place, tail: &[LineByte], line_byte: LineByte) -> Option<R
         .or(rules::group_fault(place, rules::allows(line_byte.wire, line_byte.byte / 16)))
 }
 
-/// The exchange that the tail and a whole reply to its command are.
-#[inline(always)] // else an exchange is handed on through memory
-fn exchange_of(tail: &[LineByte], asked: Asked, reply: Block) -> Result<Exchange, Reason>
-    requires held { IsHeld tail.now (Some asked) }
-    requires ends { ends_block (open_at (place_of tail.now) tail.now) ≡ true }
-    requires reply { reply ≡ block_of (bytes_of (open_at (place_of tail.now) tail.now)) }
-    ensures ok { IfOk result (λ e. Closes tail.now asked e × (fits e.command e.reply ≡ true) × (is_reply_time_valid e.command e.reply ≡ true)) }
-    ensures err { IfErr result (λ reason. reply_fault (Some asked.command) reply ≡ Some reason) }
+/// Whether this may be the reply to the open command, if there is one: an error is the rule that it breaks, by its kind or
+/// its time.
+#[inline(always)]
+fn reply_fits(open_command: &Option<OpenCommand>, reply: &Block) -> Result<(), Reason>
+    ensures ok { OnOk result (ForSome open_command.now (λ (a : Open). reply_fault (Some a.command) reply.now ≡ None)) }
+    ensures err { IfErr result (λ reason. (a : Open) × (open_command.now ≡ Some a) × (reply_fault (Some a.command) reply.now ≡ Some reason)) }
 {
-    let Asked { command, block } = asked;
-    if !command.fits(&reply) {
+    let Some(OpenCommand { command, .. }) = open_command else {
+        return Ok(());
+    };
+    if !command.fits(reply) {
         return Err(Reason::WrongReply);
     }
-    if !reply_time_valid(&command, &reply) {
+    if !reply_time_valid(command, reply) {
         return Err(Reason::InvalidReplyTime);
     }
+    Ok(())
+}
+
+/// The exchange that the tail and a complete reply to its command are.
+#[inline(always)] // else an exchange is handed on through memory
+fn exchange_of(tail: &[LineByte], open_command: OpenCommand, reply: Block) -> Exchange
+    requires held { IsHeld tail.now (Some open_command) }
+    requires ends { ends_block (open_at (place_of tail.now) tail.now) ≡ true }
+    requires reply { reply ≡ block_of (bytes_of (open_at (place_of tail.now) tail.now)) }
+    ensures { Closes tail.now open_command result }
+{
+    let OpenCommand { command, block } = open_command;
     let (asked, answered) = tail.split_at(block_len(tail));
     let delay_us = first_time(answered) - last_time(asked);
-    Ok(Exchange {
+    Exchange {
         command,
         block,
         reply,
         time_us: first_time(tail),
         delay_us,
-    })
+    }
 }
 
 /// Whether the record is the last one of the block that it goes on with, or the first rule that it breaks before its
@@ -127,15 +153,21 @@ fn turn(tail: &[LineByte], line_byte: LineByte) -> Result<bool, Reason>
     }
 }
 
-/// What the last record of a block does, where it breaks no rule before its block is whole, or the first rule that it
-/// breaks. `asked`: the whole command with which the tail begins, if it does; it is left as the record leaves it.
+/// What the last record of a block does, where it breaks no rule before its block is complete, or the first rule that it
+/// breaks. `open_command`: the complete command with which the tail begins, if it does; an exchange takes it, and a record that
+/// breaks a rule leaves it.
 #[inline(always)] // else an exchange is handed on through memory
-fn end(tail: &[LineByte], asked: &mut Option<Asked>, line_byte: LineByte) -> Result<Step, Reason>
-    requires held { IsHeld tail.now asked.old }
+fn end(
+    tail: &[LineByte],
+    open_command: &mut Option<OpenCommand>,
+    line_byte: LineByte,
+) -> Result<Step, Reason>
+    requires held { IsHeld tail.now open_command.old }
     requires later { last_time tail.now ≤ line_byte.time_us }
     requires ends { IsTurn tail.now line_byte true }
-    ensures ok { IfOk result (λ step. Does tail.now line_byte step × IsHeld (tail_after tail.now line_byte step) asked.new) }
+    ensures ok { IfOk result (λ step. Does tail.now line_byte step × IsHeld (tail_after tail.now line_byte step) open_command.new) }
     ensures err { IfErr result (λ reason. pairing tail.now line_byte ≡ Some reason) }
+    ensures kept { OnErr result (open_command.new ≡ open_command.old) }
 {
     let place = Place::of(tail);
     let open_block = place.open_in(tail);
@@ -143,14 +175,12 @@ fn end(tail: &[LineByte], asked: &mut Option<Asked>, line_byte: LineByte) -> Res
         return Err(Reason::WrongSum);
     }
     let block = Block::of_records(open_block);
-    match asked.take() {
-        Some(command) => {
-            let exchange = exchange_of(tail, command, block)?;
-            Ok(Step::Exchange(exchange))
-        }
+    reply_fits(open_command, &block)?;
+    match open_command.take() {
+        Some(command) => Ok(Step::Exchange(exchange_of(tail, command, block))),
         None => match Command::of(&block) {
             Some(command) => {
-                *asked = Some(Asked { command, block });
+                *open_command = Some(OpenCommand { command, block });
                 Ok(Step::Command)
             }
             None => Err(Reason::InvalidCommandTime),
@@ -187,8 +217,8 @@ fn refuse(kept: &mut Option<Reason>, reason: Reason) -> Reason
 #[derive(Drop)]
 pub struct Pairer {
     tail: ArrayVec<LineByte, MOST_OPEN>,
-    /// The command with which the tail begins, once it is whole.
-    asked: Option<Asked>,
+    /// The command with which the tail begins, once it is complete.
+    open_command: Option<OpenCommand>,
     last_time: Option<u64>,
     reason: Option<Reason>,
 }
@@ -202,13 +232,13 @@ impl Model for Pairer {
 
     ghost view = { λ p. record { tail = p.tail.items; last_time = p.last_time; reason = p.reason } };
 
-    ghost invariant = { λ p. p.reason ≡ None → HoldsInPairer p.tail.items p.asked p.last_time };
+    ghost invariant = { λ p. HoldsInPairer p.tail.items p.open_command p.last_time };
 }
 
 impl Pairer {
-    ghost use Rattle.std.specs.Prelude.{◌≡◌, ◌≤◌, length, None, Some, [], IfOk, IfErr};
+    ghost use Rattle.std.specs.Prelude.{◌≡◌, ◌≤◌, ◌↔◌, length, None, Some, [], IfOk, IfErr};
     ghost use Rattle.std.specs.Option.{ForSome};
-    ghost use Rattle.block9.specs.Pairer.{Takes, Refuses};
+    ghost use Rattle.block9.specs.Pairer.{BeginsWith, Takes, Refuses};
 
     /// A pairer that was fed nothing: it has no tail, no last time and no reason.
     pub fn new() -> Pairer
@@ -216,7 +246,7 @@ impl Pairer {
     {
         Pairer {
             tail: ArrayVec::new(),
-            asked: None,
+            open_command: None,
             last_time: None,
             reason: None,
         }
@@ -250,7 +280,7 @@ impl Pairer {
                 self.tail.push(line_byte);
                 Ok(Step::Waiting)
             }
-            Ok(true) => match end(self.tail.as_slice(), &mut self.asked, line_byte) {
+            Ok(true) => match end(self.tail.as_slice(), &mut self.open_command, line_byte) {
                 Ok(step) => {
                     advance(&mut self.tail, line_byte, &step);
                     Ok(step)
@@ -278,9 +308,19 @@ impl Pairer {
         self.tail.as_slice()
     }
 
-    /// How many records came since the last whole exchange, at most 35. Not asked after a reason.
+    /// What the command means with which the tail begins, once that is complete. After a reason it is that of the tail before
+    /// the record which broke the rule.
+    pub fn open_command(&self) -> Option<Command>
+        ensures { (c : Command) → (result ≡ Some c) ↔ BeginsWith self.now.tail c }
+    {
+        match &self.open_command {
+            Some(open) => Some(open.command),
+            None => None,
+        }
+    }
+
+    /// How many records came since the last whole exchange, at most 35.
     pub fn tail_len(&self) -> usize
-        requires { self.now.reason ≡ None }
         ensures len { result ≡ length self.now.tail }
         ensures bound { result ≤ 35 }
     {

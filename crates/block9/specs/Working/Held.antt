@@ -2,7 +2,7 @@
 use Rattle.std.specs.Prelude.{ℕ, ◌≡◌, ◌≤◌, ◌-◌, ◌⊎◌, length, Bool, Option, Some, None, List, [], take, drop}
 use Rattle.capture9.specs.declared.line_byte.LineByte.{LineByte}
 use Rattle.capture9.specs.declared.line_byte.Wire.TheVariants.{Controller}
-use Rattle.block9.specs.declared.pairer.Asked.{Asked}
+use Rattle.block9.specs.declared.pairer.OpenCommand.{OpenCommand}
 use Rattle.block9.specs.declared.pairer.Exchange.{Exchange}
 use Rattle.block9.specs.Exchange.{IsCommand}
 use Rattle.block9.specs.Line.{IsBegun, block_len, bytes_of, first_time, last_time}
@@ -11,7 +11,7 @@ use Rattle.block9.specs.Working.Body.{block_of}
 use Rattle.block9.specs.Working.Table.{early_fault, ends_block, open_at, place_of}
 
 -- the records are a tail, and what is kept beside them is the whole command with which they begin, if they do
-abbrev pub IsHeld : List LineByte → Option Asked → Type 0
+abbrev pub IsHeld : List LineByte → Option OpenCommand → Type 0
 IsHeld records None = (records ≡ []) ⊎ IsBegun Controller records
 IsHeld records (Some a) = IsCommand records a.block a.command ⊎ ((reply : List LineByte) × (is : IsAnswered records a.command reply) × (is.block ≡ a.block))
 
@@ -25,7 +25,7 @@ abbrev pub most_open : ℕ
 most_open = 35
 
 -- what holds inside a `Pairer`: none of its records is later than the last one that was fed
-pub record HoldsInPairer (records : List LineByte) (asked : Option Asked) (last : Option ℕ) : Type 0 where
+pub record HoldsInPairer (records : List LineByte) (asked : Option OpenCommand) (last : Option ℕ) : Type 0 where
   pub held : IsHeld records asked
   pub short : length records ≤ most_open
   pub in_order : IsNotBefore last (last_time records)
@@ -35,7 +35,7 @@ abbrev pub IsTurn : List LineByte → LineByte → Bool → Type 0
 IsTurn tail r ends = (early_fault (place_of tail) tail r ≡ None) × (ends ≡ ends_block (open_at (place_of tail) tail))
 
 -- an exchange is the one that a tail inside a reply and one more record are, as it is read
-abbrev pub closed_of : List LineByte → Asked → Exchange
+abbrev pub closed_of : List LineByte → OpenCommand → Exchange
 closed_of tail a = record {
   command = a.command;
   block = a.block;
@@ -44,5 +44,5 @@ closed_of tail a = record {
   delay_us = first_time (drop (block_len tail) tail) - last_time (take (block_len tail) tail);
 }
 
-abbrev pub Closes : List LineByte → Asked → Exchange → Type 0
+abbrev pub Closes : List LineByte → OpenCommand → Exchange → Type 0
 Closes tail a e = e ≡ closed_of tail a
