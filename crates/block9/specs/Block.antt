@@ -12,9 +12,13 @@ pub record IsBlock (b : Block) : Type 0 where
   pub group : b.group < 16
   pub data_bytes : length b.bytes.items ≤ most_data
 
--- the bytes before the sum: the group and the number of data bytes in one byte, the code, the data
+-- the first byte: the group and the number of data bytes
+abbrev pub first_byte_of : Block → ℕ
+first_byte_of b = 16 * b.group + length b.bytes.items
+
+-- the bytes before the sum: the first one, the code, the data
 abbrev pub body_of : Block → List ℕ
-body_of b = (16 * b.group + length b.bytes.items) ∷ b.code ∷ b.bytes.items
+body_of b = first_byte_of b ∷ b.code ∷ b.bytes.items
 
 -- a block as it is sent: its body, and the sum of the body's bytes modulo 256
 abbrev pub spelling : Block → List ℕ
@@ -27,7 +31,7 @@ pub record Spells (bytes : List ℕ) (b : Block) : Type 0 where
 
 -- the first two bytes of a block as one number: 0x2001 for a block that begins with 20 01
 abbrev pub head_of : Block → ℕ
-head_of b = 256 * (16 * b.group + length b.bytes.items) + b.code
+head_of b = 256 * first_byte_of b + b.code
 
 -- the first data byte, and 0 where there is none
 abbrev pub first_datum : Block → ℕ

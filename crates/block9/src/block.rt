@@ -29,7 +29,7 @@ impl Block {
     ghost use Rattle.tc25.specs.Day.{time_of};
     ghost use Rattle.std.specs.Prelude.{◌%◌};
     ghost use Rattle.std.specs.List.{sum};
-    ghost use Rattle.block9.specs.Block.{Spells, body_of, first_datum, head_of};
+    ghost use Rattle.block9.specs.Block.{Spells, body_of, first_byte_of, first_datum, head_of};
     ghost use Rattle.block9.specs.Command.{is_ack, is_nak};
     ghost use Rattle.block9.specs.Line.{bytes_of};
     ghost use Rattle.block9.specs.Working.Body.{block_of, most_body};
@@ -58,14 +58,19 @@ impl Block {
         (group * 16 + self.bytes.len() as u32) * 256 + code
     }
 
+    /// The first byte of the block on the line: its group in the high four bits, and how many data bytes it has in the low
+    /// four.
+    pub fn first_byte(&self) -> u32
+        ensures { result ≡ first_byte_of self.now }
+    {
+        u32::from(self.group) * 16 + self.bytes.len() as u32
+    }
+
     /// The last byte of the block on the line: the sum of all bytes before it modulo 256.
     pub fn checksum(&self) -> u8
         ensures { result ≡ sum (body_of self.now) % 256 }
     {
-        let first_byte = self
-            .group
-            .wrapping_mul(16)
-            .wrapping_add(self.bytes.len() as u8);
+        let first_byte = (self.first_byte() % 256) as u8;
         first_byte
             .wrapping_add(self.code)
             .wrapping_add(sum_of(self.bytes.as_slice()))

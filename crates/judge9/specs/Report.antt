@@ -13,7 +13,8 @@ use Rattle.deck9.specs.declared.knowledge.Knowledge.{Knowledge}
 use Rattle.deck9.specs.declared.state.Hands.{Hands}
 use Rattle.deck9.specs.Knowledge.{IsKnowledge}
 use Rattle.deck9.specs.Run.{Ends, HasRun}
-use Rattle.verdict9.specs.Lines.{line_of, records_of}
+use Rattle.block9.specs.Exchange.{records_of}
+use Rattle.verdict9.specs.Lines.{line_of}
 use Rattle.verdict9.specs.declared.error.JudgeError.{JudgeError}
 use Rattle.verdict9.specs.declared.error.JudgeError.TheVariants as error
 use Rattle.verdict9.specs.declared.verdict.Verdict.{Verdict}

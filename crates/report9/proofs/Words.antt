@@ -34,7 +34,8 @@ pub use Rattle.text9.specs.Explanation.{hex_byte, text_of_fields, text_of_local,
 unfoldable pub use Rattle.text9.specs.Explanation.{text_of_knowledge, text_of_register}
 pub use Rattle.text9.specs.Writing.{AppendsPart, Writes}
 pub use Rattle.deck9.specs.declared.knowledge.Known.TheVariants.{the_data as Known}
-pub use Rattle.verdict9.specs.Lines.{line_of, records_of}
+pub use Rattle.block9.specs.Exchange.{records_of}
+pub use Rattle.verdict9.specs.Lines.{line_of}
 pub use Rattle.verdict9.specs.OpenRecords.{answered_of, asked_of}
 pub use Rattle.verdict9.specs.declared.verdict.Verdict.TheVariants.{the_data as Verdict}
 pub use denote.Shadow.{shadow}

@@ -14,7 +14,8 @@ use Rattle.verdict9.specs.declared.run_verdict.RunVerdict.{RunVerdict}
 use Rattle.verdict9.specs.declared.run_verdict.RunVerdict.TheVariants as run
 use Rattle.verdict9.specs.declared.verdict.Verdict.TheVariants as verdict
 use Rattle.text9.specs.Explanation.{text_of_knowledge}
-use Rattle.verdict9.specs.Lines.{line_of, records_of}
+use Rattle.block9.specs.Exchange.{records_of}
+use Rattle.verdict9.specs.Lines.{line_of}
 
 -- all that can be known of a register: what it holds
 abbrev pub known_entry : Entry → KnownEntry

@@ -10,12 +10,11 @@ use Rattle.capture9.specs.declared.line_byte.Wire.{Wire}
 use Rattle.capture9.specs.declared.line_byte.Wire.TheVariants.{Controller, Deck}
 use Rattle.block9.specs.declared.block.Block.{Block}
 use Rattle.block9.specs.declared.command.Command.{Command}
-use Rattle.block9.specs.declared.command.Command.TheVariants.{CueUpWithData, InDataPreset, OutDataPreset, AudioInDataPreset, AudioOutDataPreset}
 use Rattle.block9.specs.declared.pairer.Exchange.{Exchange}
 use Rattle.block9.specs.declared.reason.Reason.{Reason}
 use Rattle.block9.specs.declared.reason.Reason.TheVariants.{NoRun}
 use Rattle.block9.specs.Block.{spelling}
-use Rattle.block9.specs.Command.{is_nak, name_of}
+use Rattle.block9.specs.Command.{is_nak, name_of, time_in}
 use Rattle.block9.specs.Line.{bytes_of, last_time}
 use Rattle.block9.specs.Reason.{limit_of}
 use Rattle.deck9.specs.declared.knowledge.Knowledge.{Knowledge}
@@ -34,7 +33,8 @@ use Rattle.verdict9.specs.declared.why_verdict.WhyVerdict.{WhyVerdict}
 use Rattle.verdict9.specs.declared.why_verdict.WhyVerdict.TheVariants as why
 use Rattle.text9.specs.Explanation.{has_bit, hex_byte, text_of_fields}
 use Rattle.verdict9.specs.OpenRecords.{answered_of, asked_of}
-use Rattle.verdict9.specs.Lines.{line_of, records_of}
+use Rattle.block9.specs.Exchange.{records_of}
+use Rattle.verdict9.specs.Lines.{line_of}
 
 -- ---- pieces
 
@@ -75,15 +75,6 @@ unfoldable pub text_of_modes : (Mode → Bool) → List ℕ
 text_of_modes is_chosen = if list_any is_chosen modes then in_a_row [] (codes "|") (names_of is_chosen modes) else codes "none"
 
 -- ---- what was asked, and what was answered
-
--- the valid time of a command that has one
-unfoldable pub time_in : Command → Option ℕ
-time_in (CueUpWithData time) = Some time
-time_in (InDataPreset time) = Some time
-time_in (OutDataPreset time) = Some time
-time_in (AudioInDataPreset time) = Some time
-time_in (AudioOutDataPreset time) = Some time
-time_in _ = None
 
 -- the name of a command that is listed, and its time
 unfoldable pub words_of : Command → List ℕ

@@ -1,9 +1,9 @@
 //! The text of a run of the deck, written piece by piece: that takes no memory, however long the run is.
 mod state_line;
 
-ghost use Rattle.std.specs.Prelude.{◌≡◌, ◌≤◌, OnErr, OnOk, IfErr};
+ghost use Rattle.std.specs.Prelude.{◌≡◌, OnErr, OnOk, IfErr};
 ghost use Rattle.std.specs.Io.KnownBytes.{Appends};
-ghost use Rattle.verdict9.specs.Lines.{line_of, records_of};
+ghost use Rattle.verdict9.specs.Lines.{line_of};
 ghost use Rattle.text9.specs.Writing.{AppendsPart, Writes};
 ghost use Rattle.report9.specs.RunText.{lines_of_run, text_of_run};
 ghost use Rattle.verdict9.specs.declared.verdict.Verdict.TheVariants as verdict;
@@ -69,18 +69,10 @@ fn write_lines<W: Write>(
 {
     let mut at = 0u128;
     for (exchange, state) in exchanges.iter().zip(states) {
-        at += records_of(exchange) as u128;
+        at += exchange.records() as u128;
         write_state_line(writer, hands, at, state)?;
     }
     Ok(())
-}
-
-/// How many records an exchange has: those of two blocks, each with its first byte, its code and its sum.
-pub(crate) fn records_of(exchange: &Exchange) -> usize
-    ensures records { result ≡ records_of exchange.now }
-    ensures few { result ≤ 36 }
-{
-    exchange.block.bytes.len() + 3 + exchange.reply.bytes.len() + 3
 }
 
 /// Writes the line of a yes.

@@ -13,7 +13,6 @@ ghost use Rattle.text9.specs.Writing.{AppendsPart};
 ghost use Rattle.verdict9.specs.declared.verdict.Verdict.TheVariants as verdict;
 ghost use Rattle.report9.specs.WhyText.{line_of_could_show, lines_at, text_of_shown, text_of_why};
 
-use crate::run_text::records_of;
 use block9::{Exchange, Reason};
 use break_lines::put_break;
 use deck9::{Hands, Knowledge, ModeSet};
@@ -121,7 +120,7 @@ fn put_lines(text: &mut Vec<u8>, places: &[usize], exchanges: &[Exchange]) -> Re
         if places.contains(&place) {
             put_contradicting(text, at, exchange)?;
         }
-        at += records_of(exchange) as u128;
+        at += exchange.records() as u128;
     }
     Ok(())
 }

@@ -5,7 +5,7 @@ use Rattle.tc25.specs.Day.{text_of}
 use Rattle.block9.specs.declared.block.Block.{Block}
 use Rattle.block9.specs.declared.pairer.Exchange.{Exchange}
 use Rattle.block9.specs.Block.{first_datum, head_of}
-use Rattle.block9.specs.Command.{acknowledged, is_nak, name_of}
+use Rattle.block9.specs.Command.{is_ack, is_nak, name_of}
 use Rattle.block9.specs.Nak.{nak_bits}
 use Rattle.deck9.specs.declared.knowledge.Known.{Known}
 use Rattle.deck9.specs.declared.knowledge.Known.TheVariants as known
@@ -54,7 +54,7 @@ text_of_nak byte = codes "NAK " ++ hex_byte byte ++ names_after (codes " ") byte
 -- a reply: an acknowledgement, a NAK with its reasons, or the first two bytes of what was sent
 unfoldable pub text_of_reply : Block → List ℕ
 text_of_reply reply =
-    if acknowledged reply then codes "ACK"
+    if is_ack reply then codes "ACK"
     else (if is_nak reply then text_of_nak (first_datum reply) else text_of_head reply)
 
 -- ---- what is known of the deck

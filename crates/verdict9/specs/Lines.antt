@@ -1,8 +1,6 @@
--- The line of a verdict, and how many records lie behind a line that tells an exchange.
-use Rattle.std.specs.Prelude.{ℕ, ◌+◌, List, ◌++◌, codes, length}
+-- The line of a verdict.
+use Rattle.std.specs.Prelude.{ℕ, List, ◌++◌, codes}
 use Rattle.std.specs.Fmt.{decimal}
-use Rattle.block9.specs.declared.pairer.Exchange.{Exchange}
-use Rattle.block9.specs.Block.{spelling}
 use Rattle.block9.specs.Reason.{name_of, text_of}
 use Rattle.verdict9.specs.declared.verdict.Verdict.{Verdict}
 use Rattle.verdict9.specs.declared.verdict.Verdict.TheVariants.{Yes, No}
@@ -13,7 +11,3 @@ line_of (Yes records exchanges tail) =
     codes "yes: records " ++ decimal records ++ codes ", exchanges " ++ decimal exchanges ++ codes ", open " ++ decimal tail ++ codes "\n"
 line_of (No at reason) =
     codes "no at record " ++ decimal at ++ codes ": " ++ name_of reason ++ codes " " ++ text_of reason ++ codes "\n"
-
--- how many records an exchange has
-abbrev pub records_of : Exchange → ℕ
-records_of e = length (spelling e.block) + length (spelling e.reply)

@@ -2,9 +2,8 @@
 ghost use Rattle.std.specs.Prelude.{◌≡◌, ◌≤◌, ◌^◌, ◌++◌, OnOk};
 ghost use Rattle.block9.specs.Command.{name_of};
 ghost use Rattle.deck9.specs.Shows.{sense_of};
-ghost use Rattle.report9.specs.WhyText.{line_of_contradicting, text_of_answered, text_of_asked, text_of_records, time_in, time_told, time_with_space, with_space, words_of};
+ghost use Rattle.report9.specs.WhyText.{line_of_contradicting, text_of_answered, text_of_asked, text_of_records, time_told, time_with_space, with_space, words_of};
 
-use crate::run_text::records_of;
 use crate::why_text::block_bytes::put_block;
 use crate::why_text::said::put_said;
 use block9::{Command, Exchange};
@@ -23,7 +22,7 @@ pub(super) fn put_contradicting(
     requires { at ≤ 2 ^ 100 }
     ensures { OnOk result (line.new.items ≡ line.old.items ++ line_of_contradicting at exchange.now) }
 {
-    put_records(line, at, records_of(exchange), exchange.time_us)?;
+    put_records(line, at, exchange.records(), exchange.time_us)?;
     put_asked(line, ": ", exchange)?;
     put_answered(line, " -> ", exchange)?;
     put_text(line, "\n")
@@ -59,7 +58,7 @@ pub(super) fn put_words(line: &mut Vec<u8>, command: &Command) -> Result<(), All
     ensures { OnOk result (line.new.items ≡ line.old.items ++ words_of command.now) }
 {
     put_name(line, command)?;
-    put_time(line, time_in(command))
+    put_time(line, command.time())
 }
 
 /// Puts a label and what was answered: the time of a register, the bytes of the block, and what status data say.
@@ -91,21 +90,6 @@ fn put_time(line: &mut Vec<u8>, time: Option<TimeCode>) -> Result<(), AllocError
     };
     line.extend_from_slice(&time.text())?;
     put_text(line, " ")
-}
-
-/// The valid time of a command that has one.
-#[tactic(auto, unfolding(crate::specs::WhyText::time_in))]
-fn time_in(command: &Command) -> Option<TimeCode>
-    ensures { result ≡ time_in command.now }
-{
-    match command {
-        Command::CueUpWithData { time }
-        | Command::InDataPreset { time }
-        | Command::OutDataPreset { time }
-        | Command::AudioInDataPreset { time }
-        | Command::AudioOutDataPreset { time } => Some(*time),
-        _ => None,
-    }
 }
 
 /// The time that a reply tells of a register, where it is valid.

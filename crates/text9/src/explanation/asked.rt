@@ -1,6 +1,5 @@
 //! What was asked and what was answered, put to the end of a line.
 ghost use Rattle.std.specs.Prelude.{◌≡◌, ◌++◌, IfOk, OnOk, if◌then◌else◌, codes};
-ghost use Rattle.block9.specs.Block.{head_of};
 ghost use Rattle.block9.specs.Nak.{nak_bits};
 ghost use Rattle.text9.specs.Explanation.{has_bit, names_after, text_of_command, text_of_head, text_of_nak, text_of_reply};
 
@@ -8,9 +7,6 @@ use crate::pieces::{put_hex, put_text};
 use bitflags::{Flag, Flags};
 use block9::{Block, Exchange, NakBits};
 use std::alloc::AllocError;
-
-/// The first two bytes of an acknowledgement.
-const ACK: u32 = 0x10_01;
 
 /// Puts a label and a command: its name, or the first two bytes of one that is not listed.
 #[tactic(auto, unfolding(crate::specs::Explanation::text_of_command))]
@@ -34,7 +30,7 @@ pub(super) fn put_reply(line: &mut Vec<u8>, label: &str, reply: &Block) -> Resul
     ensures { OnOk result (line.new.items ≡ line.old.items ++ (label.now ++ text_of_reply reply.now)) }
 {
     put_text(line, label)?;
-    if head(reply) == ACK {
+    if reply.is_ack() {
         return put_text(line, "ACK");
     }
     match NakBits::of(reply) {
@@ -88,16 +84,8 @@ fn put_nak_name<'a>(
 fn put_head(line: &mut Vec<u8>, block: &Block) -> Result<(), AllocError>
     ensures { OnOk result (line.new.items ≡ line.old.items ++ text_of_head block.now) }
 {
-    let head = head(block);
+    let head = block.head();
     put_hex(line, head / 256)?;
     put_text(line, " ")?;
     put_hex(line, head % 256)
-}
-
-/// The first two bytes of a block as one number: 0x2001 for a block that begins with `20 01`.
-fn head(block: &Block) -> u32
-    ensures { result ≡ head_of block.now }
-{
-    let (group, code) = (u32::from(block.group), u32::from(block.code));
-    (group * 16 + block.bytes.len() as u32) * 256 + code
 }
