@@ -68,4 +68,3 @@ pub use Rattle.deck9.specs.declared.mode_set.ModeSet.{ModeSet}
 pub use Rattle.verdict9.specs.Error.{refusal_by}
 pub use Rattle.block9.specs.Exchange.{records_of}
 pub use Rattle.verdict9.specs.Lines.{line_of}
-pub use Rattle.verdict9.specs.OpenRecords.{asked_of, IsMeaning}

@@ -7,7 +7,8 @@ use Rattle.capture9.specs.SomeText.{IsOfSomeText}
 use Rattle.block9.specs.declared.reason.Reason.TheVariants.{NoRun}
 use Rattle.block9.specs.declared.pairer.Exchange.{Exchange}
 use Rattle.block9.specs.Exchange.{Cut}
-use Rattle.block9.specs.Line.{bytes_of}
+use Rattle.block9.specs.Pairer.{BeginsWith}
+use Rattle.block9.specs.declared.command.Command.{Command}
 use Rattle.deck9.specs.declared.mode.Mode.{Mode}
 use Rattle.deck9.specs.declared.state.Hands.{Hands}
 use Rattle.deck9.specs.declared.state.State.{State}
@@ -24,7 +25,7 @@ use Rattle.verdict9.specs.declared.verdict.Verdict.TheVariants as verdict
 use Rattle.verdict9.specs.declared.why_verdict.WhyVerdict.{WhyVerdict}
 use Rattle.verdict9.specs.declared.why_verdict.WhyVerdict.TheVariants as why
 use Rattle.judge9.specs.Judging.{IsTheAnswer, answer_of}
-use Rattle.verdict9.specs.OpenRecords.{IsBreakAfter, IsMeaning, asked_of}
+use Rattle.verdict9.specs.OpenRecords.{IsBreakAfter}
 
 -- the verdict alone
 abbrev pub verdict_of : WhyVerdict → Verdict
@@ -57,7 +58,7 @@ pub record CouldShow (hands : Hands) (exchanges : List Exchange) (known : Knowle
 abbrev pub HasItsWhy : Hands → Rows → WhyVerdict → Type 0
 HasItsWhy hands rows (why.Yes records exchanges tail) = ⊤
 HasItsWhy hands rows (why.Break at reason tail command r) =
-    (reason ≢ NoRun) × IsBreakAfter rows.records at tail.items r × IsMeaning (bytes_of (asked_of tail.items)) command
+    (reason ≢ NoRun) × IsBreakAfter rows.records at tail.items r × ((c : Command) → (command ≡ Some c) ↔ BeginsWith tail.items c)
 HasItsWhy hands rows (why.Contradiction at exchanges places known shown) =
     Cut (take at rows.records) exchanges.items [] × IsContradiction hands exchanges.items places.items × CouldShow hands exchanges.items known shown
 

@@ -2,9 +2,7 @@
 //! one another where no run of the deck remains.
 ghost use Rattle.std.specs.Prelude.{◌≡◌, ◌≢◌, IfSome, IfOk, IfErr, option_map};
 ghost use Rattle.capture9.specs.Rows.{rows_of};
-ghost use Rattle.block9.specs.Line.{bytes_of};
 ghost use Rattle.judge9.specs.Judging.{CanBeResult, IsTheAnswer, StoppedBefore, answer_of};
-ghost use Rattle.verdict9.specs.OpenRecords.{IsMeaning, asked_of};
 ghost use Rattle.judge9.specs.WhyVerdict.{IsJudgedWhy, judged_of};
 ghost use Rattle.judge9.specs.Working.Trail.{JudgesWhy};
 ghost use Rattle.judge9.specs.Working.Turn.{IsFresh};
@@ -14,12 +12,12 @@ use crate::ending::Ending;
 use crate::trail::Trail;
 use crate::trail_judging::keep_trail;
 use crate::turn::Judging;
-use block9::{Command, Pairer};
+use block9::Pairer;
 use capture9::{CaptureError, CaptureKind, LineByte};
 use deck9::Hands;
 use std::alloc::{AllocError, Global};
 use std::io::Read;
-use verdict9::{JudgeError, WhyVerdict, open_command};
+use verdict9::{JudgeError, WhyVerdict};
 use why9::contradicting;
 
 /// Judges the capture that the reader gives, as [`judge`](crate::judge) does, and says why a no is one.
@@ -91,9 +89,10 @@ fn judge_rows<R: Read + Drop>(
                 breaking,
             },
         ) => {
-            let Ok((tail, command)) = open_of(alloc, &judging.pairer) else {
+            let Ok(tail) = open_records(alloc, &judging.pairer) else {
                 return Err(JudgeError::OutOfMemory);
             };
+            let command = judging.pairer.open_command();
             Ok(WhyVerdict::Break {
                 at,
                 reason,
@@ -122,12 +121,11 @@ fn judge_rows<R: Read + Drop>(
     }
 }
 
-/// The records that are open, and what the command means that they begin with, if it is whole.
-fn open_of(alloc: Global, pairer: &Pairer) -> Result<(Vec<LineByte>, Option<Command>), AllocError>
-    ensures { IfOk result (λ found. (found.0.items ≡ pairer.now.tail) × IsMeaning (bytes_of (asked_of pairer.now.tail)) found.1) }
+/// The records that are open, in memory of their own.
+fn open_records(alloc: Global, pairer: &Pairer) -> Result<Vec<LineByte>, AllocError>
+    ensures { IfOk result (λ tail. tail.items ≡ pairer.now.tail) }
 {
     let mut tail = Vec::new(alloc);
     tail.extend_from_slice(pairer.tail())?;
-    let command = open_command(alloc, tail.as_slice())?;
-    Ok((tail, command))
+    Ok(tail)
 }

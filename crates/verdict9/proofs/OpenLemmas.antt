@@ -3,12 +3,7 @@ use Rattle.std.proofs.Common.{◌≡◌, ◌∙◌, ℕ, ◌+◌, ◌<◌, true,
 use Rattle.std.proofs.lemmas.List.{append-nil, drop_more, take_more}
 use Rattle.std.proofs.Math.Seq.{drop-length}
 use Rattle.capture9.specs.declared.line_byte.LineByte.{LineByte}
-use Rattle.block9.specs.declared.block.Block.{Block}
-use Rattle.block9.specs.declared.command.Command.{Command}
-use Rattle.block9.specs.Block.{Spells}
-use Rattle.block9.specs.Command.{command_of}
-use Rattle.block9.proofs.LineLemmas.{spelled_once}
-use Rattle.verdict9.specs.OpenRecords.{IsMeaning, answered_of, asked_of, is_asked}
+use Rattle.verdict9.specs.OpenRecords.{answered_of, asked_of, is_asked}
 
 -- the first records, so many, are the command's
 pub record AreAsked (tail : List LineByte) (n : ℕ) : Type 0 where
@@ -35,7 +30,3 @@ pub parts_all : (n : ℕ) (tail : List LineByte) → n ≡ length tail → AreAs
 parts_all n tail same are =
     let none : drop n tail ≡ [] = ap (λ k. drop k tail) same ∙ drop-length tail in
     rw (← same) (sym (rw append-nil at (rw none at are.asked)), rw none (sym (rw none at are.answered)))
-
--- what a block means, by the bytes that it is spelled with
-pub is_meaning : (bytes : List ℕ) (b : Block) (command : Option Command) → Spells bytes b → command ≡ command_of b → IsMeaning bytes command
-is_meaning bytes b command spells same c = (λ q. (b, spells, sym same ∙ q), λ x. same ∙ ap command_of (spelled_once bytes b x.0 spells x.1) ∙ x.2)

@@ -3,11 +3,7 @@ use Rattle.std.specs.Prelude.{◌≡◌, ◌↔◌, ℕ, ◌+◌, Bool, if◌the
 use Rattle.capture9.specs.declared.line_byte.LineByte.{LineByte}
 use Rattle.capture9.specs.declared.line_byte.Wire.{Wire}
 use Rattle.capture9.specs.declared.line_byte.Wire.TheVariants.{Controller, Deck}
-use Rattle.block9.specs.declared.block.Block.{Block}
-use Rattle.block9.specs.declared.command.Command.{Command}
 use Rattle.block9.specs.declared.pairer.Exchange.{Exchange}
-use Rattle.block9.specs.Block.{Spells}
-use Rattle.block9.specs.Command.{command_of}
 use Rattle.block9.specs.Exchange.{Cut}
 
 -- of these records the one with this number, counted from 1, and the open ones before it
@@ -32,7 +28,3 @@ asked_of (r ∷ records) = if is_asked r.wire then r ∷ asked_of records else [
 abbrev pub answered_of : List LineByte → List LineByte
 answered_of [] = []
 answered_of (r ∷ records) = if is_asked r.wire then answered_of records else r ∷ records
-
--- what the block means that these bytes spell, where they spell a whole one that has a meaning
-abbrev pub IsMeaning : List ℕ → Option Command → Type 0
-IsMeaning bytes command = (c : Command) → (command ≡ Some c) ↔ ((b : Block) × Spells bytes b × (command_of b ≡ Some c))

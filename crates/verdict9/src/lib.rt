@@ -12,7 +12,7 @@ mod verdict_line;
 mod why_verdict;
 
 pub use error::JudgeError;
-pub use open_records::{asked_len, open_command};
+pub use open_records::asked_len;
 pub use run_verdict::RunVerdict;
 pub use verdict::{Verdict, View};
 pub use verdict_line::put_verdict_line;

@@ -33,7 +33,7 @@ fn take(rt: &impl Abort, pairer: &mut Pairer, line_byte: LineByte) -> (Step, usi
     }
 }
 
-/// PLAY and the reply that acknowledges it, 400 microseconds behind it.
+/// PLAY and the reply that acknowledges it, 400 microseconds after it.
 fn exchange() -> Option<Exchange> {
     Some(Exchange {
         command: Command::Play,
@@ -50,15 +50,17 @@ fn a_command_and_its_reply_are_an_exchange(rt: HostRuntime) {
     let mut pairer = Pairer::new();
     same(&rt, pairer.last_time(), None, "the start");
     same(&rt, pairer.tail_len(), 0, "the start");
-    for (line_byte, taken) in &[
-        (record(400, Controller, 0x20), (Step::Waiting, 1)),
-        (record(800, Controller, 0x01), (Step::Waiting, 2)),
-        (record(1_200, Controller, 0x21), (Step::Command, 3)),
-        (record(1_600, Deck, 0x10), (Step::Waiting, 4)),
-        (record(2_000, Deck, 0x01), (Step::Waiting, 5)),
-        (record(2_400, Deck, 0x11), (Step::Exchange(exchange), 0)),
+    for (line_byte, taken, is_open) in &[
+        (record(400, Controller, 0x20), (Step::Waiting, 1), false),
+        (record(800, Controller, 0x01), (Step::Waiting, 2), false),
+        (record(1_200, Controller, 0x21), (Step::Command, 3), true),
+        (record(1_600, Deck, 0x10), (Step::Waiting, 4), true),
+        (record(2_000, Deck, 0x01), (Step::Waiting, 5), true),
+        (record(2_400, Deck, 0x11), (Step::Exchange(exchange), 0), false),
     ] {
         same(&rt, &take(&rt, &mut pairer, *line_byte), taken, *line_byte);
+        let open = is_open.then_some(Command::Play);
+        same(&rt, pairer.open_command(), open, *line_byte);
         same(&rt, pairer.last_time(), Some(line_byte.time_us), *line_byte);
     }
 }
@@ -89,4 +91,24 @@ fn a_reason_stays(rt: HostRuntime) {
         same(&rt, pairer.last_time(), Some(1_200), line_byte);
         same(&rt, pairer.tail(), [first, second].as_slice(), line_byte);
     }
+}
+
+#[test]
+fn a_wrong_reply_leaves_the_command_open(rt: HostRuntime) {
+    let mut pairer = Pairer::new();
+    for (at, byte) in [0x20, 0x01, 0x21].into_iter().enumerate() {
+        let line_byte = record(400 * at as u64, Controller, byte);
+        assert!(rt; feed(&rt, &mut pairer, line_byte).is_ok());
+    }
+    // 10 02 is no acknowledgement: that has the code 01.
+    for (at, byte, answer) in [
+        (1_200, 0x10, Ok(Step::Waiting)),
+        (1_600, 0x02, Ok(Step::Waiting)),
+        (2_000, 0x12, Err(Reason::WrongReply)),
+        (2_400, 0x11, Err(Reason::WrongReply)),
+    ] {
+        same(&rt, feed(&rt, &mut pairer, record(at, Deck, byte)), answer, byte);
+        same(&rt, pairer.open_command(), Some(Command::Play), byte);
+    }
+    same(&rt, pairer.tail_len(), 5, "the command and two bytes of the reply");
 }

@@ -15,4 +15,4 @@ returns-in-Ok-could_show g c =
 pub returns-in-Ok : goal.returns-in-Ok
 returns-in-Ok g c =
     let ended = rw c.in-Ok-Break.field-0-is at c.in-Ok-Break.ensures in
-    record { judges = ended.judges; why = (ended.ends.0, rw c.in-Ok.ensures.0 ended.ends.1, rw c.in-Ok.ensures.0 c.in-Ok.ensures.1); no_write = λ q. cc }
+    record { judges = ended.judges; why = (ended.ends.0, rw c.in-Ok.ensures ended.ends.1, rw c.in-Ok.ensures c.open_command-command.ensures); no_write = λ q. cc }
