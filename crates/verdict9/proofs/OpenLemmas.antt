@@ -1,5 +1,5 @@
 -- The records of an open command, and behind them those of its reply.
-use Rattle.std.proofs.Common.{◌≡◌, ◌∙◌, ℕ, ◌+◌, ◌<◌, true, false, Option, List, [], ◌++◌, length, take, drop, get_or, sym, ap, append_assoc}
+use Rattle.std.proofs.Common.{◌≡◌, ◌∙◌, ℕ, ◌+◌, ◌<◌, true, false, List, [], ◌++◌, length, take, drop, get_or, sym, ap, append_assoc}
 use Rattle.std.proofs.lemmas.List.{append-nil, drop_more, take_more}
 use Rattle.std.proofs.Math.Seq.{drop-length}
 use Rattle.capture9.specs.declared.line_byte.LineByte.{LineByte}
