@@ -1,7 +1,7 @@
 -- Sets of modes, one bit at a time; some mode of a set, and one mode alone.
 use Rattle.deck9.proofs.Words.{[], and-true, and_from, and_mask, and_parts, and_pow, ap, arith, bit_and, bit_at, bit_at-lt, bit_at-pow_other, bit_at-pow_same, bit_at-zero}
 use Rattle.deck9.proofs.Words.{bit_at_and, bit_at_or, bit_of, bit_or, Bool, both_ways, cases_Bool, cases_eq, Cued, Eject, eq-eqb, false, false_from_ne_true, false≢true}
-use Rattle.deck9.proofs.Words.{FastForward, has, index_of, inl, inr, is_mode, is_one_of, is_some, Jog, List, list_any, mod-lt, Mode, ModeSet, nat_tests, not, of_modes, or-true}
+use Rattle.deck9.proofs.Words.{every_mode, FastForward, has, index_of, inl, inr, is_mode, is_one_of, is_some, Jog, List, list_any, mod-lt, Mode, ModeSet, nat_tests, not, of_modes, or-true}
 use Rattle.deck9.proofs.Words.{or_cases, Play, pow_pos, Rec, refl, Rewind, same_from_bits_below, same_test, Shuttle, Stop, subst, sym, true, true_from_ne_false, Var, ℕ, ◌&&◌}
 use Rattle.deck9.proofs.Words.{◌*◌, ◌<◌, ◌==◌, ◌^◌, ◌||◌, ◌∙◌, ◌∷◌, ◌≡◌, ◌≢◌, ◌⊎◌}
 use Rattle.deck9.proofs.ModeLemmas.{index-mode_of, is_mode-same, mode_of, same_mode}
@@ -18,10 +18,6 @@ has-or a b m = let k = index_of m in rw (has-bit (bit_or a b) m, has-bit a m, ha
 
 pub has-and : (a b : ℕ) (m : Mode) → has (bit_and a b) m ≡ (has a m && has b m)
 has-and a b m = let k = index_of m in rw (has-bit (bit_and a b) m, has-bit a m, has-bit b m, bit_at_and a b k) (grind (arith, nat_tests, bit_at-lt a k, bit_at-lt b k))
-
--- every mode
-abbrev pub all_modes : List Mode
-all_modes = Stop ∷ Play ∷ Rec ∷ FastForward ∷ Rewind ∷ Shuttle ∷ Jog ∷ Var ∷ Cued ∷ Eject ∷ []
 
 -- ---- one mode
 
@@ -61,14 +57,14 @@ pub find_mode : (f : Mode → Bool) (ms : List Mode) → list_any f ms ≡ true 
 find_mode f [] h = absurd (false≢true h)
 find_mode f (m ∷ ms) h = elim (or_cases (f m) (list_any f ms) h) [ inl here ↦ (m, here) | inr rest ↦ find_mode f ms rest ]
 
-pub any_mode : (f : Mode → Bool) (m : Mode) → f m ≡ true → list_any f all_modes ≡ true
+pub any_mode : (f : Mode → Bool) (m : Mode) → f m ≡ true → list_any f every_mode ≡ true
 any_mode f Stop h = simp h
 any_mode f _ h = simp (h, or-true)
 
 pub some_or_none : (f : Mode → Bool) → ((m : Mode) × (f m ≡ true)) ⊎ ((m : Mode) → f m ≡ false)
-some_or_none f = elim (cases_Bool (list_any f all_modes)) [
-  | inl some ↦ inl (find_mode f all_modes some)
-  | inr none ↦ inr (λ m. false_from_ne_true (f m) (λ h. both_ways (list_any f all_modes) none (any_mode f m h)))
+some_or_none f = elim (cases_Bool (list_any f every_mode)) [
+  | inl some ↦ inl (find_mode f every_mode some)
+  | inr none ↦ inr (λ m. false_from_ne_true (f m) (λ h. both_ways (list_any f every_mode) none (any_mode f m h)))
 ]
 
 pub ten_bits : (n : ℕ) → bit_and n 1023 < 1024
@@ -98,6 +94,9 @@ mode_some s m h = elim (cases_eq (bit_and s.0 1023) 0) [
   | inl none ↦ absurd (false≢true (sym (nothing_has m) ∙ ap (λ n. has n m) (sym none) ∙ has-and s.0 1023 m ∙ rw (h, all_has m) refl))
   | inr some ↦ grind (arith, nat_tests)
 ]
+
+pub some_any : (s : ModeSet) → is_some s ≡ list_any (has s.0) every_mode
+some_any s = same_test (is_some s) (list_any (has s.0) every_mode) (λ h. let w = some_mode s h in any_mode (has s.0) w.0 w.1) (λ h. let w = find_mode (has s.0) every_mode h in mode_some s w.0 w.1)
 
 -- ---- one mode alone
 

@@ -1,7 +1,7 @@
 -- A right reply to each command in each state, and a step with it.
 use Rattle.deck9.proofs.Words.{[], All, All-cons, All-nil, arith, bcd, At, Becomes, Block, bytes_of, Change, Clear, Command, common_steps, datum, day, Does, done, Effect, effect_of, Entry, entry_of, false}
 use Rattle.deck9.proofs.Words.{fits, frames_of, Hands, hours_of, is_nak, is_reply_time_valid, IsEntry, IsRightReply, IsState, length, List, minutes_of, nat_tests, None, ReadsAs-from_time_of, Recall, refl}
-use Rattle.deck9.proofs.Words.{RegAudioIn, RegAudioOut, RegIn, RegOut, Reset, seconds_of, SetAt, SetSomewhere, Shows, ShowsStatus, slice_get_past, Some, State, Step, Tells, time_of, true}
+use Rattle.deck9.proofs.Words.{RegAudioIn, RegAudioOut, RegIn, RegOut, Reset, seconds_of, SetAt, SetSomewhere, Shows, ShowsStatus, slice_get_past, Some, State, status_of, Step, Tells, time_of, true}
 use Rattle.deck9.proofs.Words.{with_entry, ℕ, ◌-◌, ◌/◌, ◌<◌, ◌∷◌, ◌≡◌, ◌≤◌}
 
 -- ---- what a command does
@@ -41,8 +41,8 @@ no_datum : (asked n : ℕ) → datum asked (block 7 0x20 []) n ≡ None
 no_datum asked n = let past = slice_get_past {X = ℕ} [] (n - asked / 16) (omega arith) in grind (arith, nat_tests)
 
 -- status data of which there are none agree with each state
-no_status : (s : State) (asked : ℕ) → ShowsStatus s asked (block 7 0x20 [])
-no_status s asked = grind (arith, nat_tests, no_datum)
+no_status : (s : State) (asked : ℕ) → ShowsStatus s (status_of asked (block 7 0x20 []))
+no_status s asked = rw (no_datum asked 0, no_datum asked 1, no_datum asked 2, no_datum asked 3) (record { local = tt; shown = tt; registers = tt })
 
 -- ---- bytes
 

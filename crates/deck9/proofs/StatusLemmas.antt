@@ -1,6 +1,17 @@
--- Which modes status data tell.
-use Rattle.deck9.proofs.Words.{and_mask, and_pow, arith, bit_and, Bool, Cued, Eject, FastForward, is_mode, Jog, may_show, Mode, nat_tests, Play, Rec, refl, Rewind, ShowJust}
-use Rattle.deck9.proofs.Words.{Shuttle, Some, Stop, true, Var, ℕ, ◌<◌, ◌||◌, ◌≡◌, ◌⊎◌}
+-- Which modes status data allow, and which they tell.
+use Rattle.deck9.proofs.Words.{[], and_mask, and_pow, arith, bit_and, bit_of, Bool, Cued, Eject, either, FastForward, filter, if◌then◌else◌, is_mode, Jog, List, may_show, Mode, modes, ModeSet, nat_tests, of_modes, Play, Rec, refl, Rewind, ShowJust}
+use Rattle.deck9.proofs.Words.{Shuttle, Some, Stop, true, Var, ℕ, ◌<◌, ◌||◌, ◌∷◌, ◌≡◌, ◌⊎◌}
+
+-- the set of those of some modes that are allowed
+pub record AreAllowed (p : Mode → Bool) (ms : List Mode) (set : ModeSet) : Type 0 where
+  pub is : set ≡ of_modes (filter p ms)
+
+pub none_allowed : (p : Mode → Bool) → AreAllowed p [] (modes 0)
+none_allowed p = record { is = refl }
+
+-- with one mode before them
+pub one_more : (p : Mode → Bool) (m : Mode) {ms : List Mode} {old new : ModeSet} → AreAllowed p ms old → new ≡ (if p m then either (modes (bit_of m)) old else old) → AreAllowed p (m ∷ ms) new
+one_more p m {ms} {old} {new} before after = record { is = let was = before.is in grind arith }
 
 show_just : (p : Mode → Bool) (datum1 datum2 : ℕ) → datum1 < 256 → datum2 < 256 → ((m : Mode) → may_show (Some datum1) (Some datum2) m ≡ p m) → ShowJust p
 show_just p datum1 datum2 is_byte1 is_byte2 just = record { datum1 = datum1; datum2 = datum2; is_byte1 = is_byte1; is_byte2 = is_byte2; just = just }

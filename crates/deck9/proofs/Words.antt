@@ -9,12 +9,13 @@ pub use Rattle.deck9.specs.Drift.{arrives, Drift, DriftsTo, halts, handled, Move
 pub use Rattle.deck9.specs.Effect.{Becomes, Does, effect_of, moved_entry}
 pub use Rattle.deck9.specs.Laws.{AreAnswered, is_of_goal_or_register, IsRightReply, MayReply, SetsInDay, ShowJust}
 pub use Rattle.deck9.specs.Local.{may_ignore}
-pub use Rattle.deck9.specs.Mode.{index_of, is_mode, is_one_of, on_the_way}
-pub use Rattle.deck9.specs.ModeCalls.{is_some, of_modes}
-pub use Rattle.deck9.specs.ModeSet.{bit_of, has}
+pub use Rattle.deck9.specs.Mode.{every_mode, index_of, is_mode, is_one_of, on_the_way}
+pub use Rattle.deck9.specs.ModeCalls.{is_some}
+pub use Rattle.deck9.specs.ModeSet.{bit_of, either, has, modes, of_modes}
 pub use Rattle.deck9.specs.Run.{Ends, HasRun, IsRun, IsRunFrom, last_state}
-pub use Rattle.deck9.specs.Shows.{Agrees, datum, may_show, sense_of, Shows, ShowsStatus, Tells}
+pub use Rattle.deck9.specs.Shows.{Agrees, sense_of, Shows, ShowsStatus, Tells}
 pub use Rattle.deck9.specs.State.{entry_of, IsEntry, IsFirst, IsState, with_entry}
+pub use Rattle.deck9.specs.Status.{datum, may_show, status_of}
 pub use Rattle.deck9.specs.Step.{AreReached, done, Exchanges, ignored, refused, Step}
 pub use Rattle.deck9.specs.Working.{before_shift, Begins, DriftsAndSteps, PassesOne, Steps, StepsFromSome}
 pub use Rattle.deck9.specs.declared.effect.Change.{Change}
@@ -43,7 +44,7 @@ pub use Rattle.std.proofs.lemmas.Option.{slice_get_past}
 pub use Rattle.std.specs.Cmp.{both_ways as same_test}
 pub use Rattle.std.specs.Int.{bit_at}
 pub use Rattle.std.specs.Iterator.Adapters.{zip_first, zip_second}
-pub use Rattle.std.specs.List.{All, list_any}
+pub use Rattle.std.specs.List.{All, filter, list_any}
 pub use Rattle.std.specs.Slice.Iter.{iter_rest}
 pub use Rattle.tc25.proofs.DayLemmas.{ReadsAs-from_time_of, time_of-from_ReadsAs}
 pub use Rattle.tc25.specs.Day.{bcd, bytes_of, day, frames_of, hours_of, minutes_of, next_frame, prev_frame, seconds_of}

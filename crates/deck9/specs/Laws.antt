@@ -14,7 +14,7 @@ use Rattle.deck9.specs.declared.mode.Mode.{Mode}
 use Rattle.deck9.specs.declared.state.Register.{Register}
 use Rattle.deck9.specs.Contradict.{behind_first}
 use Rattle.deck9.specs.Effect.{effect_of}
-use Rattle.deck9.specs.Shows.{may_show}
+use Rattle.deck9.specs.Status.{may_show}
 
 -- the goal changes, or a register does: what a listed transport or preset command does, if it does anything
 abbrev pub is_of_goal_or_register : Effect → Bool

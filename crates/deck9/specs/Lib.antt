@@ -10,5 +10,6 @@ pub mod ModeSet
 pub mod Run
 pub mod Shows
 pub mod State
+pub mod Status
 pub mod Step
 pub mod Working

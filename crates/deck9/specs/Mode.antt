@@ -4,6 +4,10 @@ use Rattle.std.specs.List.{list_any}
 use Rattle.deck9.specs.declared.mode.Mode.{Mode}
 use Rattle.deck9.specs.declared.mode.Mode.TheVariants.{Stop, Play, Rec, FastForward, Rewind, Shuttle, Jog, Var, Cued, Eject}
 
+-- the modes in their order
+abbrev pub every_mode : List Mode
+every_mode = Stop ∷ Play ∷ Rec ∷ FastForward ∷ Rewind ∷ Shuttle ∷ Jog ∷ Var ∷ Cued ∷ Eject ∷ []
+
 -- the name that a report gives
 abbrev pub name_of : Mode → List ℕ
 name_of Stop = codes "STOP"

@@ -1,28 +1,15 @@
 -- What the calls of a set of modes give.
-use Rattle.std.specs.Prelude.{ℕ, ◌==◌, ◌≡◌, ◌≢◌, Bool, true, not, bit_and, bit_or, List, [], ◌∷◌}
+use Rattle.std.specs.Prelude.{◌==◌, ◌≡◌, ◌≢◌, Bool, true, not, bit_and}
 use Rattle.deck9.specs.declared.knowledge.Known.{Known}
 use Rattle.deck9.specs.declared.knowledge.Known.TheVariants as known
 use Rattle.deck9.specs.declared.mode.Mode.{Mode}
 use Rattle.deck9.specs.declared.mode_set.ModeSet.{ModeSet}
 use Rattle.deck9.specs.Mode.{on_the_way}
-use Rattle.deck9.specs.ModeSet.{bit_of, has}
-
--- the set with these bits
-abbrev pub modes : ℕ → ModeSet
-modes n = record { 0 = n }
-
--- the modes of either
-abbrev pub either : ModeSet → ModeSet → ModeSet
-either a b = modes (bit_or a.0 b.0)
+use Rattle.deck9.specs.ModeSet.{has, modes, of_modes}
 
 -- the modes of both
 abbrev pub both : ModeSet → ModeSet → ModeSet
 both a b = modes (bit_and a.0 b.0)
-
--- the set of these modes
-abbrev pub of_modes : List Mode → ModeSet
-of_modes [] = modes 0
-of_modes (m ∷ ms) = either (modes (bit_of m)) (of_modes ms)
 
 -- the modes on the way to a goal
 abbrev pub way : Mode → ModeSet

@@ -1,18 +1,21 @@
 -- What a reply shows of the deck's state.
-use Rattle.std.specs.Prelude.{◌≡◌, ◌-◌, ◌/◌, ◌==◌, ◌&&◌, ◌||◌, nat_lt, Bool, true, if◌then◌else◌, List, ℕ, ⊤, Option, Some, None, slice_get, bit_and}
+use Rattle.std.specs.Prelude.{◌≡◌, true, List, ℕ, ⊤}
+use Rattle.std.specs.Option.{IfSome}
 use Rattle.tc25.specs.Day.{ReadsAs}
 use Rattle.block9.specs.declared.block.Block.{Block}
 use Rattle.block9.specs.declared.command.Command.{Command}
 use Rattle.block9.specs.declared.command.Command.TheVariants as command
-use Rattle.deck9.specs.declared.mode.Mode.{Mode}
-use Rattle.deck9.specs.declared.mode.Mode.TheVariants.{Stop, Play, Rec, FastForward, Rewind, Shuttle, Jog, Var, Cued, Eject}
 use Rattle.deck9.specs.declared.sense.Sense.{Sense}
 use Rattle.deck9.specs.declared.sense.Sense.TheVariants as sense
 use Rattle.deck9.specs.declared.state.Entry.{Entry}
 use Rattle.deck9.specs.declared.state.Entry.TheVariants.{Clear, At}
 use Rattle.deck9.specs.declared.state.Register.TheVariants.{RegIn, RegOut, RegAudioIn, RegAudioOut}
 use Rattle.deck9.specs.declared.state.State.{State}
+use Rattle.deck9.specs.declared.status.RegistersSet.{RegistersSet}
+use Rattle.deck9.specs.declared.status.Status.{Status}
+use Rattle.deck9.specs.ModeSet.{has}
 use Rattle.deck9.specs.State.{entry_of, is_set}
+use Rattle.deck9.specs.Status.{status_of}
 
 -- what each command asks for of the state
 abbrev pub sense_of : Command → Sense
@@ -82,49 +85,25 @@ Tells (At t) bytes = ReadsAs bytes t
 
 -- ---- status
 
--- a datum has these bits set and those clear; one that the reply does not carry fits
-abbrev pub has_bits : ℕ → ℕ → Option ℕ → Bool
-has_bits set clear None = true
-has_bits set clear (Some byte) = bit_and byte set == set && bit_and byte clear == 0
+-- each register is Set exactly where these say so
+pub record AreSet (s : State) (set : RegistersSet) : Type 0 where
+  pub ins : is_set s.ins ≡ set.ins
+  pub outs : is_set s.outs ≡ set.outs
+  pub ains : is_set s.ains ≡ set.ains
+  pub aouts : is_set s.aouts ≡ set.aouts
 
--- these two data may come where the mode is shown: which bits of status datum 1 are set and which are clear, and the same of
--- datum 2; the others are free. A deck without a cassette may also clear every motion bit.
-abbrev pub may_show : Option ℕ → Option ℕ → Mode → Bool
-may_show datum1 datum2 Stop = has_bits 0x20 0x1F datum1 && has_bits 0x00 0x38 datum2
-may_show datum1 datum2 Play = has_bits 0x01 0x3E datum1 && has_bits 0x00 0x38 datum2
-may_show datum1 datum2 Rec = has_bits 0x02 0x3C datum1 && has_bits 0x00 0x38 datum2
-may_show datum1 datum2 FastForward = has_bits 0x04 0x3B datum1 && has_bits 0x00 0x18 datum2
-may_show datum1 datum2 Rewind = has_bits 0x08 0x37 datum1 && has_bits 0x00 0x18 datum2
-may_show datum1 datum2 Shuttle = has_bits 0x00 0x12 datum1 && has_bits 0x20 0x18 datum2
-may_show datum1 datum2 Jog = has_bits 0x00 0x12 datum1 && has_bits 0x10 0x28 datum2
-may_show datum1 datum2 Var = has_bits 0x00 0x12 datum1 && has_bits 0x08 0x30 datum2
-may_show datum1 datum2 Cued = has_bits 0x00 0x1F datum1 && has_bits 0x01 0x38 datum2
-may_show datum1 datum2 Eject = (has_bits 0x10 0x0F datum1 || has_bits 0x00 0x3F datum1) && has_bits 0x00 0x38 datum2
-
--- the datum with this number: the request has the number of the first one in its high four bits
-abbrev pub datum : ℕ → Block → ℕ → Option ℕ
-datum asked reply n = if nat_lt n (asked / 16) then None else slice_get reply.bytes.items (n - asked / 16)
-
--- a bit of the datum, if the reply carries it, is 1 exactly where this is so
-abbrev pub Says : ℕ → Bool → Option ℕ → Type 0
-Says bit b None = ⊤
-Says bit b (Some byte) = (bit_and byte bit == bit) ≡ b
-
--- what status data show: LOCAL, the shown mode, and which registers are Set
-pub record ShowsStatus (s : State) (asked : ℕ) (reply : Block) : Type 0 where
-  pub local : Says 0x01 s.local (datum asked reply 0)
-  pub shown : may_show (datum asked reply 1) (datum asked reply 2) s.shown ≡ true
-  pub ins : Says 0x01 (is_set s.ins) (datum asked reply 3)
-  pub outs : Says 0x02 (is_set s.outs) (datum asked reply 3)
-  pub ains : Says 0x04 (is_set s.ains) (datum asked reply 3)
-  pub aouts : Says 0x08 (is_set s.aouts) (datum asked reply 3)
+-- what a status reports is so of the state: LOCAL, the shown mode as one of those that are reported, and the registers
+pub record ShowsStatus (s : State) (status : Status) : Type 0 where
+  pub local : IfSome status.local (λ local. s.local ≡ local)
+  pub shown : IfSome status.shown (λ modes. has modes.0 s.shown ≡ true)
+  pub registers : IfSome status.registers (AreSet s)
 
 -- ---- both
 
 -- a reply to what was asked for agrees with the state
 abbrev pub Agrees : Sense → State → Block → Type 0
 Agrees (sense.Register r) s reply = Tells (entry_of r s) reply.bytes.items
-Agrees (sense.Status asked) s reply = ShowsStatus s asked reply
+Agrees (sense.Status asked) s reply = ShowsStatus s (status_of asked reply)
 Agrees sense.Nothing s reply = ⊤
 
 -- a reply to a command agrees with the state

@@ -13,8 +13,8 @@ ghost use Rattle.deck9.specs.Laws.{AreAnswered, IsRightReply, SetsInDay, ShowJus
 ghost use Rattle.deck9.specs.Local.{may_ignore};
 ghost use Rattle.deck9.specs.Mode.{index_of, is_mode};
 ghost use Rattle.deck9.specs.Run.{Ends, HasRun};
-ghost use Rattle.deck9.specs.Shows.{may_show};
 ghost use Rattle.deck9.specs.State.{IsFirst, IsState};
+ghost use Rattle.deck9.specs.Status.{may_show};
 ghost use Rattle.deck9.specs.Step.{AreReached, Exchanges, Step};
 
 use crate::mode::Mode;

@@ -2,7 +2,7 @@
 //!
 //! A [`State`] is the mode that the deck's mechanics go for, the mode that it shows, four registers, and whether it is in
 //! local and its panel is on. It drifts between two exchanges; a command has an [`Effect`] on it, and a reply shows some of
-//! it ([`Sense`]); and a run is a list of states that drifts and steps lead through. [`is_run`] says whether given states are
+//! it ([`Sense`], [`Status`]); and a run is a list of states that drifts and steps lead through. [`is_run`] says whether given states are
 //! those of a run: a second opinion on the sets of states of the crate `track9`, of which nothing is known here. The module
 //! [`laws`] shows that the definitions of all this mean what was meant.
 //!
@@ -23,6 +23,7 @@ mod run;
 mod sense;
 mod shows;
 mod state;
+mod status;
 mod step;
 
 pub use effect::{Change, Effect};
@@ -32,5 +33,5 @@ pub use mode::Mode;
 pub use mode_set::ModeSet;
 pub use run::is_run;
 pub use sense::Sense;
-pub use shows::status_datum;
 pub use state::{Entry, Hands, Register, State};
+pub use status::{RegistersSet, Status};

@@ -11,8 +11,8 @@ pub struct ModeSet(u16);
 impl ModeSet {
     ghost use Rattle.std.specs.Prelude.{◌≡◌, ◌<◌, ◌^◌, ◌&&◌, ◌||◌, true, false};
     ghost use Rattle.deck9.specs.Mode.{is_mode, is_one_of, on_the_way};
-    ghost use Rattle.deck9.specs.ModeSet.{bit_of, has};
-    ghost use Rattle.deck9.specs.ModeCalls.{KnowsModes, both, either, is_some, modes, way};
+    ghost use Rattle.deck9.specs.ModeSet.{bit_of, either, has};
+    ghost use Rattle.deck9.specs.ModeCalls.{KnowsModes, both, is_some, way};
     ghost use Rattle.deck9.specs.declared.mode.Mode.{Mode as AMode};
 
     /// No mode.

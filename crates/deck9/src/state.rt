@@ -173,7 +173,7 @@ impl State {
     }
 
     /// Does nothing. Its contract says that the registers of a state hold times of the day.
-    pub(crate) fn is_valid(&self)
+    pub fn is_valid(&self)
         ensures { IsState self.now }
     {
         self.ins.is_valid();

@@ -1,6 +1,6 @@
 -- What the deck could show when it gave the last of some replies.
-use Rattle.judge9.proofs.Words.{[], ap, AreReached, arith, BreaksAtLast, Command, CouldBe, CouldShow, Drift, Ends, Exchange, Follows, Hands, has, inl, inr, IsKnowledge}
-use Rattle.judge9.proofs.Words.{Knowledge, length, length-append, List, Mode, ModeSet, Passes, Possible, refl, some_end, State, subst, sym, take, take-append_seam, Tracked, true}
+use Rattle.judge9.proofs.Words.{[], ap, AreReached, arith, BreaksAtLast, CouldBe, CouldShow, Drift, Ends, Exchange, Follows, Hands, has, IsKnowledge}
+use Rattle.judge9.proofs.Words.{Knowledge, length, length-append, List, Mode, ModeSet, Possible, some_end, State, subst, sym, take, take-append_seam, Tracked, true}
 use Rattle.judge9.proofs.Words.{◌-◌, ◌<◌, ◌↔◌, ◌^◌, ◌∙◌, ◌∷◌, ◌≡◌}
 use Rattle.judge9.proofs.LineSteps.{knowledge_same}
 
@@ -17,7 +17,7 @@ before_last h es t b f =
     (end.0, (f.states end.0).1 (subst (λ l. Ends h l end.0) (sym (but_last h es b)) end.1))
 
 -- what is then known, and which modes are shown
-pub could_show : (h : Hands) (es : List Exchange) (old new : Tracked) (k : Knowledge) (set : ModeSet) (b : BreaksAtLast h es) → Follows h (take (length es - 1) es) old → AreReached (Possible old.states) (Passes old.hands Command.InDataSense) (Possible new.states)
+pub could_show : (h : Hands) (es : List Exchange) (old new : Tracked) (k : Knowledge) (set : ModeSet) (b : BreaksAtLast h es) → Follows h (take (length es - 1) es) old → AreReached (Possible old.states) (Drift old.hands) (Possible new.states)
     → IsKnowledge (Possible new.states) k → set.0 < 2 ^ 10 → ((m : Mode) → (has set.0 m ≡ true) ↔ ((s : State) × Possible new.states s × (s.shown ≡ m))) → CouldShow h es k set
 could_show h es old new k set b f reached knows ten shows = record {
   ten = ten;
@@ -28,11 +28,8 @@ could_show h es old new k set b f reached knows ten shows = record {
   shows = λ m. (λ t. let s = (shows m).0 t in (s.0, (same s.0).0 s.1, s.2), λ s. (shows m).1 (s.0, (same s.0).1 s.1, s.2));
 }
   where
-    -- a command without an effect leaves what the drift before it does
     same : (t : State) → Possible new.states t ↔ CouldBe h b.before t
     same t =
         let follows = rw (but_last h es b) at f in
-        let goes = rw follows.hands at reached in (
-          λ p. let s = goes.0 t p in let is : s.2.0 ≡ t = elim s.2.2 [ inl e ↦ sym {b = s.2.0} e | inr e ↦ sym {b = s.2.0} e ] in (s.0, (follows.states s.0).0 s.1, subst (Drift h s.0) {x = s.2.0} is s.2.1),
-          λ w. goes.1 w.0 t ((follows.states w.0).1 w.1) (t, w.2, inl refl),
-        )
+        let goes = rw follows.hands at reached in
+        (λ p. let s = goes.0 t p in (s.0, (follows.states s.0).0 s.1, s.2), λ w. goes.1 w.0 t ((follows.states w.0).1 w.1) w.2)

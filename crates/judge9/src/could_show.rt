@@ -7,7 +7,7 @@ ghost use Rattle.why9.specs.Contradiction.{BreaksAtLast};
 ghost use Rattle.judge9.specs.Working.Trail.{Follows};
 ghost use Rattle.judge9.specs.WhyVerdict.{CouldShow};
 
-use block9::{Command, Exchange};
+use block9::Exchange;
 use deck9::{Hands, Knowledge, ModeSet};
 use sets25::SpanSet;
 use std::alloc::{AllocError, Global};
@@ -41,8 +41,7 @@ fn shown_after(
     ensures { IfOk result (λ told. CouldShow hands exchanges.now told.0 told.1) }
 {
     follow(tracker, hands, &exchanges[..exchanges.len() - 1])?;
-    // A command without an effect leaves what the drift before it does.
-    tracker.pass(&Command::InDataSense)?;
+    tracker.drift()?;
     Ok((tracker.knowledge(), tracker.shown()))
 }
 

@@ -1,6 +1,6 @@
 -- Words, the names of modes, and the bytes of a block in a row, some after others.
-use Rattle.report9.proofs.Words.{[], ap, append-nil, append_assoc, arith, Bool, codes, drop, drop-cons, false, get_or, hex_byte, hex_bytes, if◌then◌else◌, in_a_row, length, List}
-use Rattle.report9.proofs.Words.{list_all, list_all_more, list_any, list_any_more, Mode, name_of, names_of, next_before, refl, suc, sym, take, true, ℕ, ◌++◌, ◌+◌, ◌<◌, ◌∙◌, ◌∷◌}
+use Rattle.report9.proofs.Words.{[], ap, append-nil, append_assoc, arith, Bool, codes, drop, drop-cons, get_or, hex_byte, hex_bytes, if◌then◌else◌, in_a_row, length, List}
+use Rattle.report9.proofs.Words.{list_all, list_all_more, Mode, name_of, names_of, next_before, refl, suc, sym, take, true, ℕ, ◌++◌, ◌+◌, ◌<◌, ◌∙◌, ◌∷◌}
 use Rattle.report9.proofs.Words.{◌≡◌}
 
 next_is : (between : List ℕ) (words : List (List ℕ)) → next_before between between words ≡ between
@@ -21,9 +21,6 @@ row_pieces l before between second third us vs ws x y z p is_second q is_third r
     rw (r, is_third, q, is_second, p, row_more before between (us ++ vs) ws, row_more before between us vs, next_more before between us vs) (simp append_assoc)
 
 -- ---- the chosen ones of some modes, and their names
-
-pub none_more : (p : Mode → Bool) (ms : List Mode) (i : ℕ) (d : Mode) → i < length ms → list_any p (take i ms) ≡ false → p (get_or ms i d) ≡ false → list_any p (take (i + 1) ms) ≡ false
-none_more p ms i d h none not = list_any_more p ms i d h ∙ rw (none, not) refl
 
 pub every_more : (p : Mode → Bool) (ms : List Mode) (i : ℕ) (d : Mode) → i < length ms → list_all p (take i ms) ≡ true → p (get_or ms i d) ≡ true → list_all p (take (i + 1) ms) ≡ true
 every_more p ms i d h all is = list_all_more p ms i d h ∙ rw (all, is) refl

@@ -5,22 +5,23 @@ pub use Rattle.block9.specs.declared.command.Command.{Command}
 pub use Rattle.block9.specs.declared.pairer.Exchange.{Exchange}
 pub use Rattle.block9.specs.declared.reason.Reason.{Reason}
 pub use Rattle.capture9.specs.declared.line_byte.LineByte.{LineByte}
-pub use Rattle.deck9.specs.Mode.{name_of}
-pub use Rattle.deck9.specs.Shows.{datum}
+pub use Rattle.deck9.proofs.ModeSetLemmas.{some_any}
+pub use Rattle.deck9.specs.Mode.{every_mode, name_of}
+pub use Rattle.deck9.specs.ModeSet.{has}
 pub use Rattle.deck9.specs.declared.mode.Mode.{Mode}
 pub use Rattle.deck9.specs.declared.state.Hands.{Hands}
 pub use Rattle.deck9.specs.declared.state.State.{State}
 pub use Rattle.report9.specs.RunText.{known_entry, known_state, lines_of_run}
 unfoldable pub use Rattle.report9.specs.RunText.{line_of_state}
-pub use Rattle.report9.specs.WhyText.{hex_bytes, in_a_row, lines_at, local_said, modes, names_of, since_told, words_if_whole}
-unfoldable pub use Rattle.report9.specs.WhyText.{line_of_breaking, line_of_contradicting, line_of_could_show, line_of_open, lines_of_break, text_of_answered, text_of_asked}
+pub use Rattle.report9.specs.WhyText.{hex_bytes, in_a_row, lines_at, local_said, names_of, since_told, words_if_whole}
+unfoldable pub use Rattle.report9.specs.WhyText.{line_of_breaking, line_of_contradicting, line_of_could_show, line_of_open, lines_of_break, text_of_answered, text_of_asked, text_of_modes}
 unfoldable pub use Rattle.report9.specs.WhyText.{text_of_block, text_of_records, words_of}
-pub use Rattle.report9.specs.Working.WhyText.{is_chosen, next_before}
+pub use Rattle.report9.specs.Working.WhyText.{next_before}
 pub use Rattle.std.proofs.Common.{[], ap, append_assoc, arith, Bool, codes, drop, drop-cons, false, get_or, if◌then◌else◌, inl, inr, length, length-append, List, Option, refl}
 pub use Rattle.std.proofs.Common.{Result, rules, slice_get, Some, suc, sym, take, true, ℕ, ◌%◌, ◌*◌, ◌++◌, ◌+◌, ◌-◌, ◌<◌, ◌∙◌, ◌∷◌, ◌≡◌, ◌≤◌, ◌⊎◌}
 pub use Rattle.std.proofs.KnownBytes.{Appends-trans}
 pub use Rattle.std.proofs.lemmas.List.{append-nil}
-pub use Rattle.std.proofs.lemmas.List.Folds.{list_all_at, list_all_more, list_any_at, list_any_more}
+pub use Rattle.std.proofs.lemmas.List.Folds.{list_all_at, list_all_more}
 pub use Rattle.std.proofs.lemmas.Result.{on_ok_weaker}
 pub use Rattle.std.proofs.lemmas.Slice.Zip.{either_empty_from_Zip, Zip-more}
 pub use Rattle.std.specs.Fmt.{decimal}

@@ -21,17 +21,19 @@ use Rattle.deck9.specs.declared.knowledge.Knowledge.{Knowledge}
 use Rattle.deck9.specs.declared.mode_set.ModeSet.{ModeSet}
 use Rattle.deck9.specs.ModeSet.{has}
 use Rattle.deck9.specs.declared.mode.Mode.{Mode}
-use Rattle.deck9.specs.declared.mode.Mode.TheVariants.{Stop, Play, Rec, FastForward, Rewind, Shuttle, Jog, Var, Cued, Eject}
 use Rattle.deck9.specs.declared.sense.Sense.{Sense}
 use Rattle.deck9.specs.declared.sense.Sense.TheVariants as sense
 use Rattle.deck9.specs.declared.state.Hands.{Hands}
-use Rattle.deck9.specs.Mode.{name_of as name_of_mode}
-use Rattle.deck9.specs.Shows.{datum, may_show, sense_of}
+use Rattle.deck9.specs.declared.status.RegistersSet.{RegistersSet}
+use Rattle.deck9.specs.declared.status.Status.{Status}
+use Rattle.deck9.specs.Mode.{every_mode, name_of as name_of_mode}
+use Rattle.deck9.specs.Shows.{sense_of}
+use Rattle.deck9.specs.Status.{status_of}
 use Rattle.why9.specs.Contradiction.{is_among}
 use Rattle.verdict9.specs.declared.verdict.Verdict.TheVariants as verdict
 use Rattle.verdict9.specs.declared.why_verdict.WhyVerdict.{WhyVerdict}
 use Rattle.verdict9.specs.declared.why_verdict.WhyVerdict.TheVariants as why
-use Rattle.text9.specs.Explanation.{has_bit, hex_byte, text_of_fields}
+use Rattle.text9.specs.Explanation.{hex_byte, text_of_fields}
 use Rattle.verdict9.specs.OpenRecords.{answered_of, asked_of}
 use Rattle.block9.specs.Exchange.{records_of}
 use Rattle.verdict9.specs.Lines.{line_of}
@@ -61,18 +63,14 @@ abbrev pub time_with_space : Option ℕ → List ℕ
 time_with_space None = []
 time_with_space (Some time) = text_of time ++ codes " "
 
--- the modes in their order
-abbrev pub modes : List Mode
-modes = Stop ∷ Play ∷ Rec ∷ FastForward ∷ Rewind ∷ Shuttle ∷ Jog ∷ Var ∷ Cued ∷ Eject ∷ []
-
 -- the names of those of some modes that are chosen
 abbrev pub names_of : (Mode → Bool) → List Mode → List (List ℕ)
 names_of is_chosen [] = []
 names_of is_chosen (m ∷ ms) = if is_chosen m then name_of_mode m ∷ names_of is_chosen ms else names_of is_chosen ms
 
--- the chosen modes, with bars between them, and `none` where none is
-unfoldable pub text_of_modes : (Mode → Bool) → List ℕ
-text_of_modes is_chosen = if list_any is_chosen modes then in_a_row [] (codes "|") (names_of is_chosen modes) else codes "none"
+-- the modes of a set, with bars between them, and `none` where there is none
+unfoldable pub text_of_modes : ModeSet → List ℕ
+text_of_modes set = if list_any (has set.0) every_mode then in_a_row [] (codes "|") (names_of (has set.0) every_mode) else codes "none"
 
 -- ---- what was asked, and what was answered
 
@@ -84,29 +82,26 @@ words_of c = with_space (name_of c) ++ time_with_space (time_in c)
 unfoldable pub text_of_asked : Exchange → List ℕ
 text_of_asked e = words_of e.command ++ text_of_block e.block
 
--- what status data say by themselves, each where the reply carries its datum: LOCAL; the modes that may be shown; the
--- registers
-abbrev pub local_said : Option ℕ → List (List ℕ)
+-- what a status says by itself, each part where it is reported: LOCAL; the modes that may be shown; the registers
+abbrev pub local_said : Option Bool → List (List ℕ)
 local_said None = []
-local_said (Some byte) = (codes "local " ++ (if has_bit byte 0x01 then codes "yes" else codes "no")) ∷ []
+local_said (Some local) = (codes "local " ++ (if local then codes "yes" else codes "no")) ∷ []
 
-abbrev pub shown_said : Option ℕ → Option ℕ → List (List ℕ)
-shown_said None None = []
-shown_said (Some byte) datum2 = (codes "shown " ++ text_of_modes (may_show (Some byte) datum2)) ∷ []
-shown_said None (Some byte) = (codes "shown " ++ text_of_modes (may_show None (Some byte))) ∷ []
+abbrev pub shown_said : Option ModeSet → List (List ℕ)
+shown_said None = []
+shown_said (Some modes) = (codes "shown " ++ text_of_modes modes) ∷ []
 
-abbrev pub register_said : List ℕ → ℕ → ℕ → List ℕ
-register_said label byte bit = label ++ (if has_bit byte bit then codes "set" else codes "clear")
+abbrev pub register_said : List ℕ → Bool → List ℕ
+register_said label is_set = label ++ (if is_set then codes "set" else codes "clear")
 
-abbrev pub registers_said : Option ℕ → List (List ℕ)
+abbrev pub registers_said : Option RegistersSet → List (List ℕ)
 registers_said None = []
-registers_said (Some byte) =
-    register_said (codes "in ") byte 0x01 ∷ register_said (codes "out ") byte 0x02
-    ∷ register_said (codes "ain ") byte 0x04 ∷ register_said (codes "aout ") byte 0x08 ∷ []
+registers_said (Some set) =
+    register_said (codes "in ") set.ins ∷ register_said (codes "out ") set.outs
+    ∷ register_said (codes "ain ") set.ains ∷ register_said (codes "aout ") set.aouts ∷ []
 
-abbrev pub said_by_status : ℕ → Block → List (List ℕ)
-said_by_status asked reply =
-    local_said (datum asked reply 0) ++ shown_said (datum asked reply 1) (datum asked reply 2) ++ registers_said (datum asked reply 3)
+abbrev pub said_by_status : Status → List (List ℕ)
+said_by_status status = local_said status.local ++ shown_said status.shown ++ registers_said status.registers
 
 -- the time before a reply's bytes: the valid one of a register
 abbrev pub time_told : Sense → Block → Option ℕ
@@ -117,7 +112,7 @@ time_told sense.Nothing reply = None
 -- the words after them: those of status data
 abbrev pub said : Sense → Block → List (List ℕ)
 said (sense.Register r) reply = []
-said (sense.Status asked) reply = if is_nak reply then [] else said_by_status asked reply
+said (sense.Status asked) reply = if is_nak reply then [] else said_by_status (status_of asked reply)
 said sense.Nothing reply = []
 
 unfoldable pub text_of_answered : Exchange → List ℕ
@@ -148,7 +143,7 @@ lines_at places place at (e ∷ es) =
 
 -- the modes that the deck could show, and `any` where that is every one
 unfoldable pub text_of_shown : ModeSet → List ℕ
-text_of_shown set = if list_all (has set.0) modes then codes "any" else text_of_modes (has set.0)
+text_of_shown set = if list_all (has set.0) every_mode then codes "any" else text_of_modes set
 
 -- the line of what the deck could show
 unfoldable pub line_of_could_show : Hands → Knowledge → ModeSet → List ℕ

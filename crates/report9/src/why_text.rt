@@ -17,7 +17,7 @@ use block9::{Exchange, Reason};
 use break_lines::put_break;
 use deck9::{Hands, Knowledge, ModeSet};
 use exchange_line::put_contradicting;
-use modes::{Choice, put_modes};
+use modes::{is_every, put_modes};
 use std::alloc::{AllocError, Global};
 use std::io::Write;
 use text9::{WriteFault, put_all, put_fields, put_text};
@@ -145,9 +145,8 @@ fn put_could_show(
 fn put_shown(text: &mut Vec<u8>, shown: ModeSet) -> Result<(), AllocError>
     ensures { OnOk result (text.new.items ≡ text.old.items ++ text_of_shown shown) }
 {
-    let choice = Choice::Of(shown);
-    if choice.is_every() {
+    if is_every(shown) {
         return put_text(text, "any");
     }
-    put_modes(text, choice)
+    put_modes(text, shown)
 }

@@ -1,22 +1,22 @@
 -- What becomes of the states of a part, and so what leads from all states with one value of the panel to others: each effect, and whole exchanges where nobody touches the panel.
-use Rattle.track9.proofs.Words.{agreeing, Agrees, agrees_local, all_forgotten, all_or_none, all_states, Allows, and_from, and_parts, ap, Becomes, bit_and, bit_in, Block, Bool}
-use Rattle.track9.proofs.Words.{both, Change, changed_entries, changed_part, Command, cond_both, counted, datum, Does, DoesOrNot, done, Drift, drift_from_pairs, drifted}
+use Rattle.track9.proofs.Words.{agreeing, Agrees, all_forgotten, all_or_none, all_states, Allows, and_from, and_parts, ap, AreSet, Becomes, Block, Bool}
+use Rattle.track9.proofs.Words.{both, Change, changed_entries, changed_part, Command, cond_both, counted, Does, DoesOrNot, done, Drift, drift_from_pairs, drifted}
 use Rattle.track9.proofs.Words.{drifted_part, drifted_with, Effect, effect_of, either, Entries, entries_of, entry_of, Exchanged, false, false≢true, forgotten_part, goes, gone}
-use Rattle.track9.proofs.Words.{gone_pairs, gone_part, gone_with, has, has-and, has-or, has_pair, HasEffect, if◌then◌else◌, ignored, ignored_by_effect, in_local, inl, InPart}
-use Rattle.track9.proofs.Words.{inr, InTwo, is_live, is_mode, is_mode-same, is_nak, LeadsOn, List, LocalFits, map_two, masked, may_show, Mode, mode_self, modes, ModeSet}
-use Rattle.track9.proofs.Words.{no_states, None, not, not-true, nothing_has, Option, or-false, or-true, or_cases, PartStates, Presets, presets_after, put_aside, put_settled}
-use Rattle.track9.proofs.Words.{ReadsStatus, refl, refused, RegAudioIn, RegAudioOut, RegIn, Register, RegOut, rules, said_part, Says, Sense, sense_of, sensed_part, settled}
-use Rattle.track9.proofs.Words.{shown_part, shown_with, ShowsStatus, Some, some_entry, some_mode, some_two, State, status_part, Step, Stop, subst, sym, Tells, time_of, true}
+use Rattle.track9.proofs.Words.{gone_pairs, gone_part, gone_with, has, has-and, has-or, has_pair, HasEffect, if◌then◌else◌, IfSome, ignored, ignored_by_effect, in_local, inl, InPart}
+use Rattle.track9.proofs.Words.{inr, InTwo, is_as_asked, is_live, is_mode, is_mode-same, is_nak, LeadsOn, List, map_two, masked, masked_part, Mode, mode_self, modes, ModeSet}
+use Rattle.track9.proofs.Words.{no_states, None, nothing_has, Option, or-false, or-true, or_cases, PartStates, Presets, presets_after, put_aside, put_settled}
+use Rattle.track9.proofs.Words.{refl, refused, RegAudioIn, RegAudioOut, RegIn, Register, RegistersSet, RegOut, reported_part, rules, Sense, sense_of, sensed_part, set_where, settled}
+use Rattle.track9.proofs.Words.{shown_with, ShowsStatus, Some, some_entry, some_mode, some_two, State, Status, status_of, status_part, Step, Stop, subst, sym, Tells, time_of, true}
 use Rattle.track9.proofs.Words.{two_changed, two_drifted, two_sensed, two_status, TwoBelow, TwoFew, TwoParts, TwoWhole, where_live, Whole, with_command, with_entries, with_entry}
-use Rattle.track9.proofs.Words.{with_pairs, ℕ, ◌&&◌, ◌==◌, ◌||◌, ◌↔◌, ◌∙◌, ◌≡◌, ◌⊎◌}
+use Rattle.track9.proofs.Words.{ℕ, ◌&&◌, ◌==◌, ◌||◌, ◌↔◌, ◌∙◌, ◌≡◌, ◌⊎◌}
 use Rattle.deck9.specs.declared.effect.Effect.TheVariants as effect
 use Rattle.deck9.specs.declared.state.Hands.TheVariants as hands
 use Rattle.block9.specs.declared.command.Command.TheVariants as command
 use Rattle.deck9.specs.declared.sense.Sense.TheVariants as sense
 use Rattle.track9.proofs.EntryLemmas.{allowed_some, becomes_some, drifted_from, drifted_to, entry_from, entry_stays, entry_to, goes_from, goes_to, pair_by_goal, pairs_some}
-use Rattle.track9.proofs.EntryLemmas.{says_exactly, some_allowed, tells_exactly}
+use Rattle.track9.proofs.EntryLemmas.{set_exactly, some_allowed, tells_exactly}
 use Rattle.track9.proofs.PartLemmas.{a_state, all_exactly, any_entries, Below, drift_below, drift_some, drift_whole, each_register, every_state, few_agreeing, few_all_states}
-use Rattle.track9.proofs.PartLemmas.{few_changed_part, few_counted, few_no_states, few_pairs, few_put, few_said, few_settled, few_two, FewIn, in_none, in_pairs, mechanics}
+use Rattle.track9.proofs.PartLemmas.{few_changed_part, few_counted, few_no_states, few_pairs, few_put, few_set, few_settled, few_two, FewIn, in_none, in_pairs, mechanics}
 use Rattle.track9.proofs.PartLemmas.{not_live, pairs_registers, put, put_in, read_put, settled_exactly, take_out, two_live, two_state, whole_all, whole_drift, whole_in}
 use Rattle.track9.proofs.PartLemmas.{whole_none, whole_pairs, whole_put, whole_settled, whole_two}
 
@@ -60,7 +60,7 @@ leads Goes count keeps f h whole few each = leads_by Goes count keeps (λ l. whe
     by l false dead = record { from = λ t i. not_live _ t dead i; to = λ s t i goes. not_live _ s dead i; whole = λ k. whole_in h whole l; few = λ k n. few l n }
 
 -- what is read leaves the states of which it is true
-pub reads : (P : State → Type 0) (f : Bool → PartStates → PartStates) (h : TwoParts) → TwoWhole h → ((p : PartStates) (t : State) → InPart (f t.local p) t ↔ (InPart p t × P t))
+reads : (P : State → Type 0) (f : Bool → PartStates → PartStates) (h : TwoParts) → TwoWhole h → ((p : PartStates) (t : State) → InPart (f t.local p) t ↔ (InPart p t × P t))
     → ((l : Bool) (p : PartStates) → Whole (f l p)) → ((l : Bool) (n : Presets) (p : PartStates) → FewIn n p → FewIn n (f l p)) → LeadsOn (λ s t. P s × (t ≡ s)) (λ n. n) h (map_two (λ l. where_live (f l)) h)
 reads P f h whole exactly wholes few = leads (λ s t. P s × (t ≡ s)) (λ n. n) (record { local = λ s t d. rw d.1; panel = λ s t d. rw d.1 }) f h whole (λ l n h. h) (λ l live. let p = in_local h l in record {
   from = λ t i. let w = (exactly p t).0 i in (t, w.0, refl, refl, (w.1, refl));
@@ -302,47 +302,62 @@ sense_exactly r bytes p t =
 pub masked_has : (mask : ModeSet) (p : List ModeSet) (g m : Mode) → has_pair (masked mask p) g m ≡ (has_pair p g m && has mask.0 m)
 masked_has mask p g m = pair_by_goal (λ f. both (shown_with p f) mask) g m ∙ has-and (shown_with p g).0 mask.0 m
 
-agrees_exactly : (l : Bool) (d : Option ℕ) → (agrees_local l d ≡ true) ↔ Says 0x01 l d
-agrees_exactly true None = (λ e. tt, λ e. refl)
-agrees_exactly false None = (λ e. tt, λ e. refl)
-agrees_exactly true (Some byte) = (λ e. e, λ e. e)
-agrees_exactly false (Some byte) = (λ e. not-true (bit_and byte 0x01 == 0x01) e, λ e. ap not e)
+local_exactly : (o : Option Bool) (local : Bool) → (is_as_asked o local ≡ true) ↔ IfSome o (λ b. local ≡ b)
+local_exactly None local = (λ e. tt, λ e. refl)
+local_exactly (Some true) true = (λ e. refl, λ e. refl)
+local_exactly (Some false) false = (λ e. refl, λ e. refl)
+local_exactly (Some true) false = (λ e. e, λ e. e)
+local_exactly (Some false) true = (λ e. sym e, λ e. sym e)
 
--- the factors that agree with the modes and with datum 3
-abbrev pub shown_factors : ModeSet → Option ℕ → PartStates → PartStates
-shown_factors mask d p = said_part d (with_pairs (masked mask p.pairs) p)
+-- exactly the states that show a reported mode
+masked_exactly : (o : Option ModeSet) (p : PartStates) (t : State) → InPart (masked_part o p) t ↔ (InPart p t × IfSome o (λ modes. has modes.0 t.shown ≡ true))
+masked_exactly None p t = (λ i. (i, tt), λ w. w.0)
+masked_exactly (Some mask) p t = (
+  λ i.
+      let pair = and_parts (has_pair p.pairs t.goal t.shown) (has mask.0 t.shown) (sym (masked_has mask p.pairs t.goal t.shown) ∙ i.pair) in
+      (in_pairs p p.pairs t t.goal t.shown (pairs_registers p (masked mask p.pairs) t i) pair.0, pair.1),
+  λ (i, h). in_pairs p (masked mask p.pairs) t t.goal t.shown i.registers (masked_has mask p.pairs t.goal t.shown ∙ and_from (has_pair p.pairs t.goal t.shown) (has mask.0 t.shown) i.pair h),
+)
 
--- exactly the states with which status data agree
-status_exactly : (asked : ℕ) (reply : Block) (agree : Bool → Bool) (mask : ModeSet) → ((l : Bool) → agree l ≡ agrees_local l (datum asked reply 0))
-    → ((m : Mode) → has mask.0 m ≡ may_show (datum asked reply 1) (datum asked reply 2) m)
-    → (p : PartStates) (t : State) → InPart (status_part (agree t.local) mask (datum asked reply 3) p) t ↔ (InPart p t × ShowsStatus t asked reply)
-status_exactly asked reply agree mask agrees modes p t =
-    let d = datum asked reply 3 in (
-      λ i. cond_both (agree t.local) (shown_part mask d p) no_states (λ q. InPart q t → InPart p t × ShowsStatus t asked reply) (λ here i.
-          let there = (settled_exactly (shown_factors mask d p) t).0 i in
-          let pair = and_parts (has_pair p.pairs t.goal t.shown) (has mask.0 t.shown) (sym (masked_has mask p.pairs t.goal t.shown) ∙ there.pair) in
-          let a = (says_exactly 0x01 d p.ins t.ins).0 (there.registers RegIn) in let b = (says_exactly 0x02 d p.outs t.outs).0 (there.registers RegOut) in
-          let c = (says_exactly 0x04 d p.ains t.ains).0 (there.registers RegAudioIn) in let e = (says_exactly 0x08 d p.aouts t.aouts).0 (there.registers RegAudioOut) in (
-            record { pair = pair.0; registers = each_register _ a.0 b.0 c.0 e.0 },
-            record { local = (agrees_exactly t.local (datum asked reply 0)).0 (sym (agrees t.local) ∙ here); shown = sym (modes t.shown) ∙ pair.1; ins = a.1; outs = b.1; ains = c.1; aouts = e.1 },
-          )) (λ e i. in_none t i) i,
-      λ (i, h). rw (agrees t.local ∙ (agrees_exactly t.local (datum asked reply 0)).1 h.local) ((settled_exactly (shown_factors mask d p) t).1 (record {
-        pair = masked_has mask p.pairs t.goal t.shown ∙ and_from (has_pair p.pairs t.goal t.shown) (has mask.0 t.shown) i.pair (modes t.shown ∙ h.shown);
-        registers = each_register _ ((says_exactly 0x01 d p.ins t.ins).1 (i.registers RegIn, h.ins)) ((says_exactly 0x02 d p.outs t.outs).1 (i.registers RegOut, h.outs))
-            ((says_exactly 0x04 d p.ains t.ains).1 (i.registers RegAudioIn, h.ains)) ((says_exactly 0x08 d p.aouts t.aouts).1 (i.registers RegAudioOut, h.aouts));
-      })),
-    )
+-- exactly the states with registers Set as reported
+set_exactly_where : (o : Option RegistersSet) (p : PartStates) (t : State) → InPart (set_where o p) t ↔ (InPart p t × IfSome o (AreSet t))
+set_exactly_where None p t = (λ i. (i, tt), λ w. w.0)
+set_exactly_where (Some set) p t = (
+  λ i.
+      let a = (set_exactly set.ins p.ins t.ins).0 (i.registers RegIn) in let b = (set_exactly set.outs p.outs t.outs).0 (i.registers RegOut) in
+      let c = (set_exactly set.ains p.ains t.ains).0 (i.registers RegAudioIn) in let d = (set_exactly set.aouts p.aouts t.aouts).0 (i.registers RegAudioOut) in
+      (record { pair = i.pair; registers = each_register _ a.0 b.0 c.0 d.0 }, record { ins = a.1; outs = b.1; ains = c.1; aouts = d.1 }),
+  λ (i, h). record {
+    pair = i.pair;
+    registers = each_register _ ((set_exactly set.ins p.ins t.ins).1 (i.registers RegIn, h.ins)) ((set_exactly set.outs p.outs t.outs).1 (i.registers RegOut, h.outs))
+        ((set_exactly set.ains p.ains t.ains).1 (i.registers RegAudioIn, h.ains)) ((set_exactly set.aouts p.aouts t.aouts).1 (i.registers RegAudioOut, h.aouts));
+  },
+)
 
-pub reads_status : (asked : ℕ) (reply : Block) (a : LocalFits) (mask : ModeSet) (h : TwoParts) → a.remote ≡ agrees_local false (datum asked reply 0) → a.local ≡ agrees_local true (datum asked reply 0)
-    → ((m : Mode) → has mask.0 m ≡ may_show (datum asked reply 1) (datum asked reply 2) m) → TwoWhole h → ReadsStatus asked reply h (two_status a mask (datum asked reply 3) h)
-reads_status asked reply a mask h remote local modes whole =
-    let d = datum asked reply 3 in
-    let agree : Bool → Bool = λ l. if l then a.local else a.remote in
-    reads (λ s. ShowsStatus s asked reply) (λ l. status_part (agree l) mask d) h whole
-    (status_exactly asked reply agree mask (λ l. elim l as (λ l. (if l then a.local else a.remote) ≡ agrees_local l (datum asked reply 0)) [ true ↦ local | false ↦ remote ]) modes)
-    (λ l p. cond_both (agree l) (shown_part mask d p) no_states Whole (λ e. whole_settled (shown_factors mask d p)) (λ e. whole_none))
-    (λ l n p h. cond_both (agree l) (shown_part mask d p) no_states (FewIn n) (λ e. few_settled n (shown_factors mask d p) (each_register _ (few_said n.ins (bit_in 0x01 d) p.ins (h RegIn))
-    (few_said n.outs (bit_in 0x02 d) p.outs (h RegOut)) (few_said n.ains (bit_in 0x04 d) p.ains (h RegAudioIn)) (few_said n.aouts (bit_in 0x08 d) p.aouts (h RegAudioOut)))) (λ e. few_no_states n))
+-- exactly the states with which a status agrees
+status_exactly : (status : Status) (p : PartStates) (t : State) → InPart (status_part t.local status p) t ↔ (InPart p t × ShowsStatus t status)
+status_exactly status p t = let q = masked_part status.shown p in (
+  λ i. cond_both (is_as_asked status.local t.local) (reported_part status p) no_states (λ q. InPart q t → InPart p t × ShowsStatus t status) (λ here i.
+      let a = (set_exactly_where status.registers q t).0 ((settled_exactly (set_where status.registers q) t).0 i) in let b = (masked_exactly status.shown p t).0 a.0 in
+      (b.0, record { local = (local_exactly status.local t.local).0 here; shown = b.1; registers = a.1 })) (λ e i. in_none t i) i,
+  λ (i, h). rw ((local_exactly status.local t.local).1 h.local)
+      ((settled_exactly (set_where status.registers q) t).1 ((set_exactly_where status.registers q t).1 ((masked_exactly status.shown p t).1 (i, h.shown), h.registers))),
+)
+
+few_masked : (n : Presets) (o : Option ModeSet) (p : PartStates) → FewIn n p → FewIn n (masked_part o p)
+few_masked n None p few = few
+few_masked n (Some mask) p few = few_pairs n _ p few
+
+few_where : (n : Presets) (o : Option RegistersSet) (p : PartStates) → FewIn n p → FewIn n (set_where o p)
+few_where n None p few = few
+few_where n (Some set) p few = each_register _ (few_set n.ins set.ins p.ins (few RegIn)) (few_set n.outs set.outs p.outs (few RegOut))
+    (few_set n.ains set.ains p.ains (few RegAudioIn)) (few_set n.aouts set.aouts p.aouts (few RegAudioOut))
+
+reads_status : (status : Status) (h : TwoParts) → TwoWhole h → LeadsOn (λ s t. ShowsStatus s status × (t ≡ s)) (λ n. n) h (two_status status h)
+reads_status status h whole = reads (λ s. ShowsStatus s status) (λ l. status_part l status) h whole (status_exactly status)
+    (λ l p. cond_both (is_as_asked status.local l) (reported_part status p) no_states Whole (λ e. whole_settled (set_where status.registers (masked_part status.shown p))) (λ e. whole_none))
+    (λ l n p few. cond_both (is_as_asked status.local l) (reported_part status p) no_states (FewIn n)
+    (λ e. few_settled n (set_where status.registers (masked_part status.shown p)) (few_where n status.registers (masked_part status.shown p) (few_masked n status.shown p few))) (λ e. few_no_states n))
 
 -- ---- whole exchanges
 
@@ -406,10 +421,13 @@ exchanged_sense c reply r h nak asked whole =
     (reads (λ s. Tells (entry_of r s) bytes) (λ l. sensed_part r at) (two_drifted h) (drift_whole h whole) (sense_exactly r bytes) (λ l p. whole_settled (with_entries r (agreeing at (entries_of r p)) p))
     (λ l n p few. few_settled n _ (few_put n r (agreeing at (entries_of r p)) p few (few_agreeing _ at (entries_of r p))))))
 
-pub exchanged_status : (c : Command) (reply : Block) (asked : ℕ) (h g : TwoParts) → is_nak reply ≡ false → sense_of c ≡ sense.Status asked → TwoWhole h → ReadsStatus asked reply (two_drifted h) g → Exchanged c reply h g
-exchanged_status c reply asked h g nak asks_for whole read =
+pub exchanged_status : (c : Command) (reply : Block) (asked : ℕ) (h : TwoParts) → is_nak reply ≡ false → sense_of c ≡ sense.Status asked → TwoWhole h
+    → Exchanged c reply h (two_status (status_of asked reply) (two_drifted h))
+exchanged_status c reply asked h nak asks_for whole =
+    let status = status_of asked reply in
     let none : effect_of c ≡ effect.Nothing = elim (asks_or_acts c) [ inl e ↦ cc | inr none ↦ none ] in
-    exchanged_by c reply (λ s t. ShowsStatus s asked reply × (t ≡ s)) (λ n. n) h g whole (asks c reply (sense.Status asked) nak asks_for none) (λ n. presets_of c reply n nak ∙ ap (λ e. counted e n) none) read
+    exchanged_by c reply (λ s t. ShowsStatus s status × (t ≡ s)) (λ n. n) h (two_status status (two_drifted h)) whole (asks c reply (sense.Status asked) nak asks_for none)
+    (λ n. presets_of c reply n nak ∙ ap (λ e. counted e n) none) (reads_status status (two_drifted h) (drift_whole h whole))
 
 pub exchanged_effect : (c : Command) (reply : Block) (h g : TwoParts) → is_nak reply ≡ false → sense_of c ≡ sense.Nothing → TwoWhole h → HasEffect false (effect_of c) (two_drifted h) g → Exchanged c reply h g
 exchanged_effect c reply h g nak sensed whole =

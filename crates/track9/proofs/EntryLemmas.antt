@@ -1,17 +1,17 @@
 -- Single things that a tracker keeps: sets of modes, one bit at a time; a drift of pairs of goal and shown mode; and what becomes of a set of entries, one entry at a time.
-use Rattle.track9.proofs.Words.{[], agreeing, all_modes, Allows, and-false, and-true, and_parts, any_mode, ap, arith, At, Becomes, BelowDay, bit_and, bit_in, bit_of, Bool}
+use Rattle.track9.proofs.Words.{[], agreeing, Allows, and-false, and-true, and_parts, any_mode, ap, arith, At, Becomes, BelowDay, bit_of, Bool}
 use Rattle.track9.proofs.Words.{both_ways, by_goal, Change, changed_entries, Clear, cond_both, contains-every_time, contains-insert_nat, contains-items_nat, contains-just, day}
-use Rattle.track9.proofs.Words.{drifted_with, Entries, Entry, eqb, eqb-true, every_time, false, false_from_ne_true, false≢true, find_mode, goal_if_shown, goals_of, goes, halted}
+use Rattle.track9.proofs.Words.{drifted_with, Entries, Entry, eqb, eqb-true, every_mode, every_time, false, false_from_ne_true, false≢true, find_mode, goal_if_shown, goals_of, goes, halted}
 use Rattle.track9.proofs.Words.{has, has-or, has_pair, if◌then◌else◌, image_from, image_to, inl, inr, is_mode, is_mode-same, is_nil, is_one_of, is_set, is_some, just, just_has}
 use Rattle.track9.proofs.Words.{kept_goal, List, list_any, ltb-true, Mode, mode_self, mode_some, modes, ModeSet, moved_entry, nat_cmp, nat_cmp_total, nat_eq, nat_tests, Next}
 use Rattle.track9.proofs.Words.{next_frame, no_entries, None, not, not-true, nothing_has, of_modes_has, on_the_way, Option, or-false, or-true, or_assoc, or_cases, or_left}
-use Rattle.track9.proofs.Words.{or_right, PairReaches, Prev, prev_frame, ReadsAs-from_time_of, Recall, refl, Reset, said, same_test, same_times, Says, SetAt, SetSomewhere}
+use Rattle.track9.proofs.Words.{or_right, PairReaches, Prev, prev_frame, ReadsAs-from_time_of, Recall, refl, Reset, same_test, same_times, set_entries, SetAt, SetSomewhere}
 use Rattle.track9.proofs.Words.{shown_with, Some, some_entry, some_mode, some_pair, Stop, subst, sym, Tells, time_of, time_of-from_ReadsAs, Times, true, true_from_ne_false, ℕ}
-use Rattle.track9.proofs.Words.{◌&&◌, ◌<◌, ◌==◌, ◌||◌, ◌↔◌, ◌∙◌, ◌∷◌, ◌≡◌, ◌⊎◌}
+use Rattle.track9.proofs.Words.{◌&&◌, ◌<◌, ◌||◌, ◌↔◌, ◌∙◌, ◌∷◌, ◌≡◌, ◌⊎◌}
 use Rattle.std.specs.FinSet as set
 
 -- what is asked of every mode is asked of this one
-pub has_every : (asked : Mode → Bool) (m : Mode) → list_any (λ x. is_mode m x && asked x) all_modes ≡ asked m
+pub has_every : (asked : Mode → Bool) (m : Mode) → list_any (λ x. is_mode m x && asked x) every_mode ≡ asked m
 has_every asked Stop = or-false (asked Stop)
 has_every asked m = or-false (asked m)
 
@@ -23,11 +23,11 @@ pair_by_goal f Stop m = refl
 pair_by_goal f _ m = refl
 
 -- a mode may be shown where it is shown with some goal
-goes_any : (p : List ModeSet) (m : Mode) → has (goes p).0 m ≡ list_any (λ g. has_pair p g m) all_modes
+goes_any : (p : List ModeSet) (m : Mode) → has (goes p).0 m ≡ list_any (λ g. has_pair p g m) every_mode
 goes_any p m = simp (has-or, or_assoc, or-false)
 
 pub goes_from : (p : List ModeSet) (m : Mode) → has (goes p).0 m ≡ true → (g : Mode) × (has_pair p g m ≡ true)
-goes_from p m h = find_mode (λ g. has_pair p g m) all_modes (sym (goes_any p m) ∙ h)
+goes_from p m h = find_mode (λ g. has_pair p g m) every_mode (sym (goes_any p m) ∙ h)
 
 pub goes_to : (p : List ModeSet) (g m : Mode) → has_pair p g m ≡ true → has (goes p).0 m ≡ true
 goes_to p g m h = goes_any p m ∙ any_mode (λ g. has_pair p g m) g h
@@ -150,16 +150,12 @@ tells_exactly bytes es e = by (time_of bytes) refl e
       λ w. let same : t ≡ u = cc (read, time_of-from_ReadsAs bytes u w.1) in rw (same, w.0) (just_self u),
     )
 
--- exactly the entries that agree with a bit
-pub says_exactly : (bit : ℕ) (datum : Option ℕ) (es : Entries) (e : Entry) → Allows (said (bit_in bit datum) es) e ↔ (Allows es e × Says bit (is_set e) datum)
-says_exactly bit None es e = (λ h. (h, tt), λ w. w.0)
-says_exactly bit (Some byte) es e = by (bit_and byte bit == bit) e
-  where
-    by : (b : Bool) (e : Entry) → Allows (said (Some b) es) e ↔ (Allows es e × (b ≡ is_set e))
-    by true Clear = (λ h. absurd (false≢true h), λ w. absurd (false≢true (sym w.1)))
-    by false (At t) = (λ h. from_empty t h, λ w. absurd (false≢true w.1))
-    by _ Clear = (λ h. (h, refl), λ w. w.0)
-    by _ (At t) = (λ h. (h, refl), λ w. w.0)
+-- exactly the entries that are Set, or are Clear
+pub set_exactly : (b : Bool) (es : Entries) (e : Entry) → Allows (set_entries b es) e ↔ (Allows es e × (is_set e ≡ b))
+set_exactly true es Clear = (λ h. absurd (false≢true h), λ w. absurd (false≢true w.1))
+set_exactly false es (At t) = (λ h. from_empty t h, λ w. absurd (false≢true (sym w.1)))
+set_exactly _ es Clear = (λ h. (h, refl), λ w. w.0)
+set_exactly _ es (At t) = (λ h. (h, refl), λ w. w.0)
 
 -- ---- whether there is an entry
 

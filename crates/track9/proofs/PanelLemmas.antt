@@ -1,7 +1,7 @@
 -- All states: whole exchanges, and commands whose reply is not known, also where hands are allowed on the panel.
 use Rattle.track9.proofs.Words.{[], acknowledged, after_panel, all_drifted, all_or_none, AllLeadOn, Allows, ap, AreBelow, AreFew, AreReached, AreWhole, BelowDay, Block, Bool}
 use Rattle.track9.proofs.Words.{CanPass, Command, cond_both, counted, Does, DoesOrNot, done, Drift, drift_from_pairs, Effect, effect_of, either_panel, entries_of, Exchanges}
-use Rattle.track9.proofs.Words.{false, false≢true, first_states, Follows, FollowsPassed, goes, Hands, hands_by, hands_of, has, HasEffect, if◌then◌else◌}
+use Rattle.track9.proofs.Words.{false, false≢true, first_states, Follows, FollowsDrift, FollowsPassed, goes, Hands, hands_by, hands_of, has, HasEffect, if◌then◌else◌}
 use Rattle.track9.proofs.Words.{ignored, ignored_by_effect, in_local, inl, InPart, inr, InTwo, is_nak, is_of_goal_or_register, is_panel_live, is_wide, IsIn, IsKept, IsState}
 use Rattle.track9.proofs.Words.{LeadsOn, None, on_two, Option, or-true, panel_passed, Passed, Passes, Possible, Presets, presets_after, read_panel, refl, refused, RegIn}
 use Rattle.track9.proofs.Words.{Register, sense_of, Some, some_state, State, StateSet, Step, subst, switched, sym, true, two_drifted, two_of, TwoBelow, TwoFew, TwoParts}
@@ -145,6 +145,17 @@ all_drift v whole below = leads_both (λ h s t. t ≡ s) (λ n. n) v (two_drifte
 
     stays : (h : TwoParts) → TwoWhole h → LeadsOn (DriftsAndGoes (λ h s t. t ≡ s) hands.None) (λ n. n) h (two_drifted h)
     stays h whole = leads_then (Drift hands.None) (λ s t. t ≡ s) (λ n. n) (λ n. n) h (two_drifted h) (two_drifted h) (drift_leads h whole) (leads_same (two_drifted h) (drift_whole h whole))
+
+pub follows_drift : (v : StateSet) → AreWhole v → AreBelow v → FollowsDrift hands.Allowed v (all_drifted v)
+follows_drift v whole below = let a = all_drift v whole below in record {
+  reached = (
+    λ t i. let w = a.reached.0 t i in (w.0, w.1, subst (Drift hands.Allowed w.0) (sym w.2.2) w.2.1),
+    λ s t i drift. a.reached.1 s t i (t, drift, refl),
+  );
+  hands = refl;
+  whole = a.whole;
+  few = a.few;
+}
 
 -- ---- the panel is switched
 

@@ -5,7 +5,7 @@ use Rattle.track9.proofs.Words.{begin_count-span_count, begin_count-widened_next
 use Rattle.track9.proofs.Words.{cond_both, count_of, counted, Drift, drift_from_pairs, drifted, drifted_part, drifted_with, Effect, Entries, entries_of, Entry, entry_of, false}
 use Rattle.track9.proofs.Words.{false≢true, first_states, goes, Hands, has_pair, if◌then◌else◌, in_local, inl, InPart, inr, InTwo, is_live, IsEntry, IsFirst, IsIn, IsState, just}
 use Rattle.track9.proofs.Words.{KeepsRest, List, Mode, modes, ModeSet, Next, no_states, None, nothing_has, on_two, one_more, Option, or_cases, or_left, or_right, PairReaches}
-use Rattle.track9.proofs.Words.{pairs_from_drift, part_of, PartStates, Possible, Presets, Prev, refl, RegAudioIn, RegAudioOut, RegIn, Register, RegOut, Reset, said, same_entries}
+use Rattle.track9.proofs.Words.{pairs_from_drift, part_of, PartStates, Possible, Presets, Prev, refl, RegAudioIn, RegAudioOut, RegIn, Register, RegOut, Reset, same_entries, set_entries}
 use Rattle.track9.proofs.Words.{same_test, SetAt, settled, Some, some_entry, some_mode, some_pair, some_state, some_two, span_count-in_day, State, StateSet, Stop, subst, sym}
 use Rattle.track9.proofs.Words.{Times, true, two_drifted, two_of, TwoBelow, TwoFew, TwoParts, TwoWhole, Whole, with_entries, with_entry, with_one, with_pairs, ℕ, ◌&&◌, ◌+◌, ◌||◌}
 use Rattle.track9.proofs.Words.{◌↔◌, ◌∙◌, ◌≡◌, ◌≤◌}
@@ -196,10 +196,9 @@ pub few_agreeing : (n : ℕ) (o : Option ℕ) (es : Entries) → FewTimes n (agr
 few_agreeing n None es = omega (arith, begin_count-empty)
 few_agreeing n (Some t) es = cond_both (set.contains es.times t) (just t) set.empty (λ s. begin_count s ≤ n + 1) (λ e. omega (arith, begin_count-just t)) (λ e. omega (arith, begin_count-empty))
 
-pub few_said : (n : ℕ) (o : Option Bool) (es : Entries) → FewTimes n es → FewTimes n (said o es)
-few_said n None es h = h
-few_said n (Some true) es h = h
-few_said n (Some false) es h = omega (arith, begin_count-empty)
+pub few_set : (n : ℕ) (b : Bool) (es : Entries) → FewTimes n es → FewTimes n (set_entries b es)
+few_set n true es h = h
+few_set n false es h = omega (arith, begin_count-empty)
 
 -- the presets to a register after one more change
 abbrev pub counted_to : Change → ℕ → ℕ

@@ -1,6 +1,6 @@
 //! Which states are asked for: a pattern of fields, each fixed or free.
 ghost use Rattle.std.specs.Prelude.{◌≡◌, ◌↔◌, IsTrue};
-ghost use Rattle.track9.specs.Working.Asked.{Is, any_registers, any_tape, asked_before, entry_before, just_state, with_asked};
+ghost use Rattle.track9.specs.Working.Asked.{Is, any_registers, any_tape, asked_before, entry_before, is_as_asked, just_state, with_asked};
 
 use deck9::{Change, Effect, Entry, Hands, Mode, ModeSet, Register, State};
 
@@ -129,7 +129,8 @@ fn entry_before(change: &Change, entry: &Entry) -> Option<Option<Entry>>
 
 /// Whether a fact is as it is asked for.
 pub(crate) fn is_asked(asked: Option<bool>, fact: bool) -> bool
-    ensures { IsTrue result ↔ Is asked fact }
+    ensures is { IsTrue result ↔ Is asked fact }
+    ensures test { result ≡ is_as_asked asked fact }
 {
     match asked {
         Some(wanted) => fact == wanted,

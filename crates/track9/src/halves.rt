@@ -11,7 +11,7 @@ ghost use Rattle.track9.specs.Tracker.{entries_of, in_local};
 ghost use Rattle.track9.specs.Working.States.{TwoBelow, all_forgotten, all_or_none, registers_forgotten, some_two, tape_forgotten, two_changed, two_drifted, two_gone, two_sensed, two_status};
 
 use crate::part::Part;
-use deck9::{Change, Mode, ModeSet, Register};
+use deck9::{Change, Mode, Register, Status};
 use sets25::{SpanSet, TimeSet};
 use std::alloc::{AllocError, Global};
 use std::marker::Model;
@@ -36,13 +36,6 @@ impl<S: TimeSet> Model for Halves<S> {
     ghost coded = { two_code };
 
     ghost view = { λ h. record { remote = h.remote; local = h.local } };
-}
-
-/// Whether a reply's bit LOCAL agrees with a deck in remote, and with one in local.
-#[derive(Clone, Copy, Debug, PartialEq, Eq)]
-pub(crate) struct LocalFits {
-    pub(crate) remote: bool,
-    pub(crate) local: bool,
 }
 
 impl<S: TimeSet> Halves<S> {
@@ -144,13 +137,12 @@ impl<S: TimeSet> Halves<S> {
         Ok(())
     }
 
-    /// Status data were read: whether LOCAL agrees with a deck in remote and with one in local, the modes that
-    /// may be shown, and datum 3. Takes no memory.
-    fn keep_status(&mut self, alloc: Global, agrees: LocalFits, shown: ModeSet, datum: Option<u8>)
-        ensures { self.new ≡ two_status agrees shown datum self.old }
+    /// Keeps the states that agree with a status. Takes no memory.
+    fn keep_status(&mut self, alloc: Global, status: &Status)
+        ensures { self.new ≡ two_status status.now self.old }
     {
-        self.remote.keep_status(alloc, agrees.remote, shown, datum);
-        self.local.keep_status(alloc, agrees.local, shown, datum);
+        self.remote.keep_status(alloc, false, status);
+        self.local.keep_status(alloc, true, status);
     }
 
     /// Goal, shown mode and registers are forgotten.

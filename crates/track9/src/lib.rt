@@ -13,7 +13,6 @@ mod presets;
 mod register_set;
 mod reply;
 mod states;
-mod status;
 mod tracker;
 
 pub use tracker::Tracker;

@@ -4,12 +4,13 @@ ghost use Rattle.sets25.specs.Times.{BelowDay, span_count};
 ghost use Rattle.track9.specs.Tracker.{entries_of};
 ghost use Rattle.track9.specs.Working.Entries.{agreeing};
 ghost use Rattle.track9.specs.Working.Knowing.{PartKnows};
-ghost use Rattle.track9.specs.Working.Parts.{Whole, all_states, aside, bit_in, changed_entries, changed_part, drifted_part, forgotten_part, gone_part, is_live, no_states, put_aside, put_settled, said_part, settled, shown_part, status_part, where_live, with_entries, with_pairs};
+ghost use Rattle.track9.specs.Working.Parts.{Whole, all_states, aside, changed_entries, changed_part, drifted_part, forgotten_part, gone_part, is_live, no_states, put_aside, put_settled, reported_part, set_part, settled, status_part, where_live, with_entries, with_pairs};
 ghost use Rattle.deck9.specs.declared.state.Register.{Register as ARegister};
 
+use crate::asked::is_asked;
 use crate::pairs::Pairs;
 use crate::register_set::RegisterSet;
-use deck9::{Change, KnownEntry, Mode, ModeSet, Register};
+use deck9::{Change, KnownEntry, Mode, Register, RegistersSet, Status};
 use sets25::{SpanSet, TimeSet};
 use std::alloc::{AllocError, Global};
 use std::marker::Model;
@@ -283,53 +284,41 @@ impl<S: TimeSet> Part<S> {
         }
     }
 
-    /// Keeps the states that agree with status data: none where LOCAL does not agree. Takes no memory.
-    pub(crate) fn keep_status(
-        &mut self,
-        alloc: Global,
-        agrees: bool,
-        mask: ModeSet,
-        datum: Option<u8>,
-    )
-        ensures { self.new ≡ where_live (status_part agrees mask datum) self.old }
+    /// Keeps the states that agree with a status, where their local is this. Takes no memory.
+    pub(crate) fn keep_status(&mut self, alloc: Global, local: bool, status: &Status)
+        ensures { self.new ≡ where_live (status_part local status.now) self.old }
     {
         if !self.is_live() {
             return;
         }
-        if agrees {
-            self.keep_shown(alloc, mask, datum);
+        if is_asked(status.local, local) {
+            self.keep_reported(alloc, status);
         } else {
             drop(replace(self, Part::none(alloc)));
         }
     }
 
-    /// Keeps the states with these modes shown, and with registers Set as the bits of status datum 3 say.
-    fn keep_shown(&mut self, alloc: Global, mask: ModeSet, datum: Option<u8>)
-        ensures { self.new ≡ shown_part mask datum self.old }
+    /// Keeps the states with a reported mode shown, and with registers Set as reported.
+    fn keep_reported(&mut self, alloc: Global, status: &Status)
+        ensures { self.new ≡ reported_part status.now self.old }
     {
-        self.pairs = self.pairs.masked(mask);
-        self.keep_said(alloc, datum);
+        if let Some(modes) = status.shown {
+            self.pairs = self.pairs.masked(modes);
+        }
+        if let Some(set) = status.registers {
+            self.keep_set(alloc, &set);
+        }
         self.settle(alloc);
     }
 
-    /// Keeps each register's entries as the bits of status datum 3 say, Set or Clear.
-    fn keep_said(&mut self, alloc: Global, datum: Option<u8>)
-        ensures { self.new ≡ said_part datum self.old }
+    /// Keeps each register's entries that are Set, or those that are Clear.
+    fn keep_set(&mut self, alloc: Global, set: &RegistersSet)
+        ensures { self.new ≡ set_part set.now self.old }
     {
-        self.ins.keep_said(alloc, bit_in(0x01, datum));
-        self.outs.keep_said(alloc, bit_in(0x02, datum));
-        self.ains.keep_said(alloc, bit_in(0x04, datum));
-        self.aouts.keep_said(alloc, bit_in(0x08, datum));
-    }
-}
-
-/// Whether the bit of a datum is 1, if there is the datum.
-fn bit_in(bit: u8, datum: Option<u8>) -> Option<bool>
-    ensures { result ≡ bit_in bit datum }
-{
-    match datum {
-        Some(byte) => Some(byte & bit == bit),
-        None => None,
+        self.ins.keep_set(alloc, set.ins);
+        self.outs.keep_set(alloc, set.outs);
+        self.ains.keep_set(alloc, set.ains);
+        self.aouts.keep_set(alloc, set.aouts);
     }
 }
 

@@ -4,7 +4,7 @@ ghost use Rattle.sets25.specs.Times.{BelowDay, span_count};
 ghost use Rattle.track9.specs.Tracker.{Allows};
 ghost use Rattle.track9.specs.Working.Asked.{Is};
 ghost use Rattle.track9.specs.Working.Knowing.{KnowsOf};
-ghost use Rattle.track9.specs.Working.Entries.{agreeing, all_entries, changed, no_entries, said, some_entry, widened};
+ghost use Rattle.track9.specs.Working.Entries.{agreeing, all_entries, changed, no_entries, set_entries, some_entry, widened};
 ghost use Rattle.deck9.specs.declared.state.Entry.{Entry as AEntry};
 
 use deck9::{Change, Entry, KnownEntry};
@@ -227,14 +227,14 @@ impl<S: TimeSet> RegisterSet<S> {
         })
     }
 
-    /// Keeps the entries that are Set, or those that are Clear, where a status reply says which.
-    pub(crate) fn keep_said(&mut self, alloc: Global, is_set: Option<bool>)
-        ensures { self.new ≡ said is_set self.old }
+    /// Keeps the entries that are Set, or those that are Clear.
+    pub(crate) fn keep_set(&mut self, alloc: Global, is_set: bool)
+        ensures { self.new ≡ set_entries is_set self.old }
     {
-        match is_set {
-            Some(true) => self.may_clear = false,
-            Some(false) => self.times = S::none(alloc),
-            None => {}
+        if is_set {
+            self.may_clear = false;
+        } else {
+            self.times = S::none(alloc);
         }
     }
 }

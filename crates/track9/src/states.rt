@@ -11,7 +11,7 @@ ghost use Rattle.sets25.specs.Times.{span_count};
 ghost use Rattle.deck9.specs.Effect.{effect_of};
 ghost use Rattle.track9.specs.Frugal.{is_frugal, is_frugal_effect};
 ghost use Rattle.track9.specs.Tracker.{entries_of};
-ghost use Rattle.track9.specs.Working.States.{AreBelow, AreWhole, Exchanged, Follows, FollowsPassed, Passed, acknowledged, after_panel, all_or_none, either_panel, first_states, hands_of, is_panel_live, is_wide, panel_passed, part_of, some_state};
+ghost use Rattle.track9.specs.Working.States.{AreBelow, AreWhole, Exchanged, Follows, FollowsDrift, FollowsPassed, Passed, acknowledged, after_panel, all_drifted, all_or_none, either_panel, first_states, hands_of, is_panel_live, is_wide, panel_passed, part_of, some_state};
 
 use crate::halves::Halves;
 use crate::reply::is_nak;
@@ -155,6 +155,36 @@ impl<S: TimeSet> States<S> {
             Effect::ForgetAll => self.forget_all(alloc),
             _ => self.exchange_both(alloc, command, reply),
         }
+    }
+
+    /// The states after a drift alone. Where memory is refused nothing has changed.
+    pub(crate) fn drift(&mut self, alloc: Global) -> Result<(), AllocError>
+        requires { AreWhole self.old }
+        ensures ok { OnOk result (FollowsDrift (hands_of self.old) self.old self.new) }
+        ensures err { OnErr result (self.new ≡ self.old) }
+        ensures frugal { hands_of self.old ≡ Hands.None → IsOk result }
+    {
+        match self.hands() {
+            Hands::None => {
+                self.off.drift();
+                Ok(())
+            }
+            Hands::Allowed => {
+                self.below_day();
+                self.drift_by_hand(alloc)
+            }
+        }
+    }
+
+    /// The same where hands are allowed.
+    fn drift_by_hand(&mut self, alloc: Global) -> Result<(), AllocError>
+        ensures ok { OnOk result (self.new ≡ all_drifted self.old) }
+        ensures err { OnErr result (self.new ≡ self.old) }
+    {
+        let on = self.drifted_on(alloc)?;
+        self.off.drift();
+        drop(replace(&mut self.on, Some(on)));
+        Ok(())
     }
 
     /// What a drift leaves with the panel on: every state, if there was any.

@@ -5,6 +5,7 @@ ghost use Rattle.deck9.specs.Knowledge.{IsKnowledge};
 ghost use Rattle.deck9.specs.ModeSet.{has};
 ghost use Rattle.track9.specs.Presets.{IsSpanCount, count_of, presets_after, with_command};
 ghost use Rattle.deck9.specs.Contradict.{Passes};
+ghost use Rattle.deck9.specs.Drift.{Drift};
 ghost use Rattle.deck9.specs.Effect.{effect_of};
 ghost use Rattle.deck9.specs.State.{IsFirst};
 ghost use Rattle.deck9.specs.Step.{AreReached, Exchanges};
@@ -109,6 +110,24 @@ impl<S: TimeSet> Tracker<S> {
     {
         self.states.pass(self.alloc, command)?;
         self.presets.count_command(command);
+        Ok(())
+    }
+
+    /// Lets the deck drift, and do nothing else.
+    ///
+    /// The states are then exactly those that a drift leads to from a state before. So there is one where there was one.
+    /// What a drift may do is in `specs/Drift.antt` of `deck9`.
+    ///
+    /// An error comes where memory is refused, and the tracker is then as it was. Where hands are not allowed none comes.
+    pub fn drift(&mut self) -> Result<(), AllocError>
+        ensures reached { OnOk result (AreReached (Possible self.old.states) (Drift self.old.hands) (Possible self.new.states)) }
+        ensures remains { OnOk result (((s : AState) × Possible self.old.states s) ↔ ((s : AState) × Possible self.new.states s)) }
+        ensures hands { OnOk result (self.new.hands ≡ self.old.hands) }
+        ensures presets { OnOk result (self.new.presets ≡ self.old.presets) }
+        ensures unchanged { OnErr result (self.new ≡ self.old) }
+        ensures frugal { self.old.hands ≡ Hands.None → IsOk result }
+    {
+        self.states.drift(self.alloc)?;
         Ok(())
     }
 

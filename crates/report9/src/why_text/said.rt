@@ -1,13 +1,12 @@
-//! What status data say of the deck by themselves, in a row of words.
+//! What a status says of the deck by itself, in a row of words.
 ghost use Rattle.std.specs.Prelude.{◌≡◌, ◌++◌, codes, if◌then◌else◌, IfOk, OnOk};
-ghost use Rattle.text9.specs.Explanation.{has_bit};
 ghost use Rattle.report9.specs.WhyText.{in_a_row, local_said, register_said, registers_said, said, said_by_status, shown_said};
 ghost use Rattle.report9.specs.Working.WhyText.{next_before};
 ghost use Rattle.deck9.specs.Shows.{sense_of};
 
-use crate::why_text::modes::{Choice, put_modes};
+use crate::why_text::modes::put_modes;
 use block9::{Block, Exchange, NakBits};
-use deck9::{Sense, status_datum};
+use deck9::{ModeSet, RegistersSet, Sense, Status};
 use std::alloc::AllocError;
 use text9::{put_text, put_word};
 
@@ -30,95 +29,80 @@ fn put_status(line: &mut Vec<u8>, asked: u8, reply: &Block) -> Result<(), AllocE
     if NakBits::of(reply).is_some() {
         return Ok(());
     }
-    put_data(line, asked, reply)
+    put_reported(line, &Status::of(asked, reply))
 }
 
-/// Puts what status data say: LOCAL, the modes that may be shown, and the registers.
-fn put_data(line: &mut Vec<u8>, asked: u8, reply: &Block) -> Result<(), AllocError>
+/// Puts what a status reports: LOCAL, the modes that may be shown, and the registers.
+fn put_reported(line: &mut Vec<u8>, status: &Status) -> Result<(), AllocError>
     ensures { OnOk result (line.new.items ≡ line.old.items
-        ++ in_a_row (codes ", says ") (codes ", ") (said_by_status asked reply.now)) }
+        ++ in_a_row (codes ", says ") (codes ", ") (said_by_status status.now)) }
 {
-    let before = put_local(line, ", says ", status_datum(asked, reply, 0))?;
-    let before = put_shown(
-        line,
-        before,
-        status_datum(asked, reply, 1),
-        status_datum(asked, reply, 2),
-    )?;
-    put_registers(line, before, status_datum(asked, reply, 3))
+    let before = put_local(line, ", says ", status.local)?;
+    let before = put_shown(line, before, status.shown)?;
+    put_registers(line, before, &status.registers)
 }
 
-/// Puts what status datum 0 says of LOCAL, where it is there, and answers what stands before the next words.
+/// Puts what is reported of LOCAL, if it is, and answers what stands before the next words.
 fn put_local<'a>(
     line: &mut Vec<u8>,
     before: &'a str,
-    datum: Option<u8>,
+    local: Option<bool>,
 ) -> Result<&'a str, AllocError>
     ensures text { OnOk result (line.new.items ≡ line.old.items
-        ++ in_a_row before.entry.now (codes ", ") (local_said datum)) }
-    ensures next { IfOk result (λ s. s.now ≡ next_before before.entry.now (codes ", ") (local_said datum)) }
+        ++ in_a_row before.entry.now (codes ", ") (local_said local)) }
+    ensures next { IfOk result (λ s. s.now ≡ next_before before.entry.now (codes ", ") (local_said local)) }
 {
-    let Some(byte) = datum else {
+    let Some(is_local) = local else {
         return Ok(before);
     };
-    let word = if has_bit(byte, 0x01) { "yes" } else { "no" };
     put_text(line, before)?;
-    put_word(line, "local ", word)?;
+    put_word(line, "local ", if is_local { "yes" } else { "no" })?;
     Ok(", ")
 }
 
-/// Puts the modes that may be shown where these are status data 1 and 2, if one of them is there, and answers what
-/// stands before the next words.
+/// Puts the modes that are reported, if they are, and answers what stands before the next words.
 fn put_shown<'a>(
     line: &mut Vec<u8>,
     before: &'a str,
-    datum1: Option<u8>,
-    datum2: Option<u8>,
+    shown: Option<ModeSet>,
 ) -> Result<&'a str, AllocError>
     ensures text { OnOk result (line.new.items ≡ line.old.items
-        ++ in_a_row before.entry.now (codes ", ") (shown_said datum1 datum2)) }
-    ensures next { IfOk result (λ s. s.now ≡ next_before before.entry.now (codes ", ") (shown_said datum1 datum2)) }
+        ++ in_a_row before.entry.now (codes ", ") (shown_said shown)) }
+    ensures next { IfOk result (λ s. s.now ≡ next_before before.entry.now (codes ", ") (shown_said shown)) }
 {
-    if datum1.is_none() && datum2.is_none() {
+    let Some(modes) = shown else {
         return Ok(before);
-    }
+    };
     put_word(line, before, "shown ")?;
-    put_modes(line, Choice::Fitting(datum1, datum2))?;
+    put_modes(line, modes)?;
     Ok(", ")
 }
 
-/// Puts which registers status datum 3 says to be set, where it is there.
-fn put_registers(line: &mut Vec<u8>, before: &str, datum: Option<u8>) -> Result<(), AllocError>
+/// Puts which registers are reported to be Set, if they are.
+fn put_registers(
+    line: &mut Vec<u8>,
+    before: &str,
+    registers: &Option<RegistersSet>,
+) -> Result<(), AllocError>
     ensures { OnOk result (line.new.items ≡ line.old.items
-        ++ in_a_row before.now (codes ", ") (registers_said datum)) }
+        ++ in_a_row before.now (codes ", ") (registers_said registers.now)) }
 {
-    let Some(byte) = datum else {
+    let Some(set) = registers else {
         return Ok(());
     };
     put_text(line, before)?;
-    put_register(line, "in ", byte, 0x01)?;
+    put_register(line, "in ", set.ins)?;
     put_text(line, ", ")?;
-    put_register(line, "out ", byte, 0x02)?;
+    put_register(line, "out ", set.outs)?;
     put_text(line, ", ")?;
-    put_register(line, "ain ", byte, 0x04)?;
+    put_register(line, "ain ", set.ains)?;
     put_text(line, ", ")?;
-    put_register(line, "aout ", byte, 0x08)
+    put_register(line, "aout ", set.aouts)
 }
 
-/// Puts what a bit of status datum 3 says of a register.
-fn put_register(line: &mut Vec<u8>, label: &str, byte: u8, bit: u8) -> Result<(), AllocError>
-    ensures { OnOk result (line.new.items ≡ line.old.items ++ register_said label.now byte bit) }
+/// Puts whether a register is Set.
+fn put_register(line: &mut Vec<u8>, label: &str, is_set: bool) -> Result<(), AllocError>
+    ensures { OnOk result (line.new.items ≡ line.old.items ++ register_said label.now is_set) }
 {
-    put_word(
-        line,
-        label,
-        if has_bit(byte, bit) { "set" } else { "clear" },
-    )
-}
-
-/// Whether a bit is set in a byte.
-fn has_bit(byte: u8, bit: u8) -> bool
-    ensures { result ≡ has_bit byte bit }
-{
-    byte & bit == bit
+    put_word(line, label, if is_set { "set" } else { "clear" })
 }

@@ -12,6 +12,17 @@ abbrev pub Is : {A : Type 0} → Option A → A → Type 0
 Is None x = ⊤
 Is (Some y) x = x ≡ y
 
+-- two facts are one
+abbrev pub same_fact : Bool → Bool → Bool
+same_fact true b = b
+same_fact false true = false
+same_fact false false = true
+
+-- a fact is as it is asked for, if it is
+abbrev pub is_as_asked : Option Bool → Bool → Bool
+is_as_asked None fact = true
+is_as_asked (Some wanted) fact = same_fact fact wanted
+
 -- the entry of a register that is asked for
 abbrev pub asked_of : Register → Asked → Option Entry
 asked_of RegIn a = a.ins
@@ -66,12 +77,6 @@ entry_before Recall e = Some None
 -- the same, with any goal
 abbrev pub any_goal : State → Asked
 any_goal t = record (just_state t) { goals = modes 0x3FF }
-
--- two facts are one
-abbrev pub same_fact : Bool → Bool → Bool
-same_fact true b = b
-same_fact false true = false
-same_fact false false = true
 
 -- any registers
 abbrev pub any_registers : Asked → Asked

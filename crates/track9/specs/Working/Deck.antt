@@ -8,10 +8,11 @@ pub use Rattle.deck9.specs.Effect.{Becomes, Does, effect_of, moved_entry}
 pub use Rattle.deck9.specs.Laws.{is_of_goal_or_register}
 pub use Rattle.deck9.specs.Local.{may_ignore}
 pub use Rattle.deck9.specs.Mode.{is_mode, is_one_of, on_the_way}
-pub use Rattle.deck9.specs.ModeCalls.{both, either, is_some, KnowsModes, modes, way}
-pub use Rattle.deck9.specs.ModeSet.{bit_of, has}
-pub use Rattle.deck9.specs.Shows.{Agrees, datum, may_show, Says, sense_of, Shows, ShowsStatus, Tells}
+pub use Rattle.deck9.specs.ModeCalls.{both, is_some, KnowsModes, way}
+pub use Rattle.deck9.specs.ModeSet.{bit_of, either, has, modes}
+pub use Rattle.deck9.specs.Shows.{Agrees, AreSet, sense_of, Shows, ShowsStatus, Tells}
 pub use Rattle.deck9.specs.State.{entry_of, is_set, IsEntry, IsFirst, IsState, with_entry}
+pub use Rattle.deck9.specs.Status.{status_of}
 pub use Rattle.deck9.specs.Step.{AreReached, done, Exchanges, ignored, refused, Step}
 pub use Rattle.deck9.specs.declared.effect.Change.{Change}
 pub use Rattle.deck9.specs.declared.effect.Change.TheVariants.{Next, Prev, Recall, Reset, SetAt, SetSomewhere}
@@ -28,6 +29,8 @@ pub use Rattle.deck9.specs.declared.state.Hands.{Hands}
 pub use Rattle.deck9.specs.declared.state.Register.{Register}
 pub use Rattle.deck9.specs.declared.state.Register.TheVariants.{RegAudioIn, RegAudioOut, RegIn, RegOut}
 pub use Rattle.deck9.specs.declared.state.State.{State}
+pub use Rattle.deck9.specs.declared.status.RegistersSet.{RegistersSet}
+pub use Rattle.deck9.specs.declared.status.Status.{Status}
 pub use Rattle.std.specs.Coded.{code_by, Coded, coded_bool, coded_list, coded_option, coded_ℕ, coded×}
 pub use Rattle.std.specs.Prelude.{[], bit_and, bit_or, Bool, false, List, None, not, Option, option_map, refl, Some, true, ℕ, ⊤}
 pub use Rattle.tc25.specs.Day.{day, next_frame, prev_frame, time_of}
@@ -35,6 +38,5 @@ pub use Rattle.sets25.specs.Times.{begin_count, BelowDay, every_time, image, jus
 pub use Rattle.track9.specs.Presets.{count_of, Presets, presets_after, with_command, with_one}
 pub use Rattle.track9.specs.Tracker.{Allows, Entries, entries_of, has_pair, in_local, InPart, PartStates, Possible, shown_with, StateSet, Tracked, TwoParts}
 pub use Rattle.track9.specs.declared.asked.Asked.{Asked}
-pub use Rattle.track9.specs.declared.halves.LocalFits.{LocalFits}
 pub use Rattle.track9.specs.declared.pairs.Pair.{Pair}
 unfoldable pub use Rattle.sets25.specs.Times.{span_count}

@@ -37,11 +37,10 @@ abbrev pub agreeing : Option ℕ → Entries → Entries
 agreeing None es = entries es.may_clear set.empty
 agreeing (Some t) es = entries es.may_clear (if set.contains es.times t then just t else set.empty)
 
--- the entries that are Set, or are Clear; all of them where nothing was said
-abbrev pub said : Option Bool → Entries → Entries
-said None es = es
-said (Some true) es = entries false es.times
-said (Some false) es = entries es.may_clear set.empty
+-- the entries that are Set, or are Clear
+abbrev pub set_entries : Bool → Entries → Entries
+set_entries true es = entries false es.times
+set_entries false es = entries es.may_clear set.empty
 
 -- nothing is listed
 abbrev pub is_nil : List ℕ → Bool

@@ -1,8 +1,9 @@
 -- How the states with one value of local and one of panel change.
-use Rattle.std.specs.Prelude.{if◌then◌else◌, ◌&&◌, ◌==◌, ◌≡◌}
-use Rattle.track9.specs.Working.Deck.{bit_and, Bool, Change, Entries, entries_of, false, InPart, List, Mode, ModeSet, None, not, Option, option_map, PartStates, RegAudioIn}
-use Rattle.track9.specs.Working.Deck.{RegAudioOut, RegIn, Register, RegOut, Some, State, true, ℕ}
-use Rattle.track9.specs.Working.Entries.{agreeing, all_entries, changed, no_entries, said, some_entry, widened}
+use Rattle.std.specs.Prelude.{if◌then◌else◌, ◌&&◌, ◌≡◌}
+use Rattle.track9.specs.Working.Asked.{is_as_asked}
+use Rattle.track9.specs.Working.Deck.{Bool, Change, Entries, entries_of, InPart, List, Mode, ModeSet, None, Option, PartStates, RegAudioIn}
+use Rattle.track9.specs.Working.Deck.{RegAudioOut, RegIn, Register, RegistersSet, RegOut, Some, State, Status, ℕ}
+use Rattle.track9.specs.Working.Entries.{agreeing, all_entries, changed, no_entries, set_entries, some_entry, widened}
 use Rattle.track9.specs.Working.Pairs.{all_pairs, drifted, gone, joined, masked, no_pairs, some_pair}
 
 -- no state, and every state
@@ -85,32 +86,32 @@ put_settled r (Some es) p = settled (with_entries r es p)
 
 -- ---- status
 
--- a bit of a datum
-abbrev pub bit_in : ℕ → Option ℕ → Option Bool
-bit_in bit datum = option_map (λ byte. bit_and byte bit == bit) datum
+-- the states with one of these modes shown, where they are reported
+abbrev pub masked_part : Option ModeSet → PartStates → PartStates
+masked_part None p = p
+masked_part (Some mask) p = with_pairs (masked mask p.pairs) p
 
--- each register's entries as the bits of a datum say, Set or Clear
-abbrev pub said_part : Option ℕ → PartStates → PartStates
-said_part datum p = record p {
-  ins = said (bit_in 0x01 datum) p.ins;
-  outs = said (bit_in 0x02 datum) p.outs;
-  ains = said (bit_in 0x04 datum) p.ains;
-  aouts = said (bit_in 0x08 datum) p.aouts;
+-- those with registers Set and Clear as these say
+abbrev pub set_part : RegistersSet → PartStates → PartStates
+set_part set p = record p {
+  ins = set_entries set.ins p.ins;
+  outs = set_entries set.outs p.outs;
+  ains = set_entries set.ains p.ains;
+  aouts = set_entries set.aouts p.aouts;
 }
 
--- the states with these modes shown, and with registers Set as the bits of a datum say
-abbrev pub shown_part : ModeSet → Option ℕ → PartStates → PartStates
-shown_part mask datum p = settled (said_part datum (with_pairs (masked mask p.pairs) p))
+-- the same, where they are reported
+abbrev pub set_where : Option RegistersSet → PartStates → PartStates
+set_where None p = p
+set_where (Some set) p = set_part set p
 
--- the states that agree with LOCAL, with these modes shown, and with datum 3
-abbrev pub status_part : Bool → ModeSet → Option ℕ → PartStates → PartStates
-status_part agrees mask datum p = if agrees then shown_part mask datum p else no_states
+-- those with the reported modes and registers
+abbrev pub reported_part : Status → PartStates → PartStates
+reported_part status p = settled (set_where status.registers (masked_part status.shown p))
 
--- a deck in remote or in local may send this datum 0
-abbrev pub agrees_local : Bool → Option ℕ → Bool
-agrees_local local None = true
-agrees_local true (Some byte) = bit_and byte 0x01 == 0x01
-agrees_local false (Some byte) = not (bit_and byte 0x01 == 0x01)
+-- those with the reported LOCAL too, where it is this for each
+abbrev pub status_part : Bool → Status → PartStates → PartStates
+status_part local status p = if is_as_asked status.local local then reported_part status p else no_states
 
 -- the registers are forgotten
 abbrev pub forgotten_part : PartStates → PartStates

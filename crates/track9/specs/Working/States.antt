@@ -1,8 +1,8 @@
 -- How a set of states changes.
 use Rattle.std.specs.Prelude.{if◌then◌else◌, ◌+◌, ◌||◌, ◌≡◌, ◌≤◌, ◌⊎◌}
-use Rattle.track9.specs.Working.Deck.{AreReached, begin_count, BelowDay, Block, Bool, Change, Command, count_of, Does, Effect, effect_of, entries_of, Exchanges, false, Hands}
-use Rattle.track9.specs.Working.Deck.{in_local, InPart, is_nak, is_of_goal_or_register, LocalFits, Mode, ModeSet, None, Option, PartStates, Passes, Possible, Presets}
-use Rattle.track9.specs.Working.Deck.{presets_after, Register, SetAt, ShowsStatus, Some, State, StateSet, true, TwoParts, with_command, with_one, ℕ}
+use Rattle.track9.specs.Working.Deck.{AreReached, begin_count, BelowDay, Block, Bool, Change, Command, count_of, Does, Drift, Effect, effect_of, entries_of, Exchanges, false, Hands}
+use Rattle.track9.specs.Working.Deck.{in_local, InPart, is_nak, is_of_goal_or_register, Mode, None, Option, PartStates, Passes, Possible, Presets}
+use Rattle.track9.specs.Working.Deck.{presets_after, Register, SetAt, Some, State, StateSet, Status, true, TwoParts, with_command, with_one, ℕ}
 use Rattle.deck9.specs.declared.effect.Effect.TheVariants as effect
 use Rattle.deck9.specs.declared.state.Hands.TheVariants as hands
 use Rattle.track9.specs.Working.Entries.{agreeing}
@@ -58,9 +58,9 @@ two_changed may_stay r c h = record {
 abbrev pub two_sensed : Register → Option ℕ → TwoParts → TwoParts
 two_sensed r time h = map_two (λ local p. put_settled r (aside p (agreeing time (entries_of r p))) p) h
 
--- status data agree with some states
-abbrev pub two_status : LocalFits → ModeSet → Option ℕ → TwoParts → TwoParts
-two_status agrees mask datum h = map_two (λ local. where_live (status_part (if local then agrees.local else agrees.remote) mask datum)) h
+-- a status agrees with some states
+abbrev pub two_status : Status → TwoParts → TwoParts
+two_status status h = map_two (λ local. where_live (status_part local status)) h
 
 -- what is forgotten
 abbrev pub tape_forgotten : TwoParts → TwoParts
@@ -90,10 +90,6 @@ pub record LeadsOn (Goes : State → State → Type 0) (count : Presets → Pres
 -- the states after an effect
 abbrev pub HasEffect : Bool → Effect → TwoParts → TwoParts → Type 0
 HasEffect may_stay e h g = LeadsOn (DoesOrNot may_stay e) (counted e) h g
-
--- the states after status data were read
-abbrev pub ReadsStatus : ℕ → Block → TwoParts → TwoParts → Type 0
-ReadsStatus asked reply h g = LeadsOn (λ s t. ShowsStatus s asked reply × (t ≡ s)) (λ n. n) h g
 
 -- the states after an exchange where nobody touches the panel
 abbrev pub Exchanged : Command → Block → TwoParts → TwoParts → Type 0
@@ -193,6 +189,10 @@ pub record AllLeadOn (h : Hands) (Goes : State → State → Type 0) (count : Pr
   pub hands : hands_of w ≡ h
   pub whole : AreWhole w
   pub few : (n : Presets) → AreFew n v → AreFew (count n) w
+
+-- the states after a drift
+abbrev pub FollowsDrift : Hands → StateSet → StateSet → Type 0
+FollowsDrift h v w = AllLeadOn h (Drift h) (λ n. n) v w
 
 -- the states after an exchange
 abbrev pub Follows : Hands → Command → Block → StateSet → StateSet → Type 0

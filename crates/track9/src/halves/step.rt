@@ -3,14 +3,12 @@
 ghost use Rattle.std.specs.Prelude.{◌≡◌, IsOk, IsTrue, OnErr, OnOk};
 ghost use Rattle.deck9.specs.Effect.{effect_of};
 ghost use Rattle.track9.specs.Frugal.{is_frugal, is_frugal_effect};
-ghost use Rattle.track9.specs.Working.Parts.{agrees_local};
-ghost use Rattle.track9.specs.Working.States.{Exchanged, HasEffect, Passed, ReadsStatus, TwoWhole, two_drifted};
+ghost use Rattle.track9.specs.Working.States.{Exchanged, HasEffect, Passed, TwoWhole, two_drifted};
 
-use crate::halves::{Halves, LocalFits};
+use crate::halves::Halves;
 use crate::reply::is_nak;
-use crate::status::modes_shown;
 use block9::{Block, Command};
-use deck9::{Effect, Mode, Sense, status_datum};
+use deck9::{Effect, Mode, Sense, Status};
 use sets25::TimeSet;
 use std::alloc::{AllocError, Global};
 
@@ -40,7 +38,7 @@ impl<S: TimeSet> Halves<S> {
             }
             Sense::Status(asked) => {
                 self.drift();
-                self.read_status(alloc, asked, reply);
+                self.keep_status(alloc, &Status::of(asked, reply));
             }
             Sense::Nothing => {
                 let effect = Effect::of(command);
@@ -61,20 +59,6 @@ impl<S: TimeSet> Halves<S> {
         self.below_day();
         let effect = Effect::of(command);
         self.apply(alloc, true, &effect)
-    }
-
-    /// Keeps the states that agree with status data. Takes no memory.
-    fn read_status(&mut self, alloc: Global, asked: u8, reply: &Block)
-        requires { TwoWhole self.old }
-        ensures { ReadsStatus asked reply.now self.old self.new }
-    {
-        let said = status_datum(asked, reply, 0);
-        let agrees = LocalFits {
-            remote: agrees_local(false, said),
-            local: agrees_local(true, said),
-        };
-        let shown = modes_shown(status_datum(asked, reply, 1), status_datum(asked, reply, 2));
-        self.keep_status(alloc, agrees, shown, status_datum(asked, reply, 3));
     }
 
     /// The states after a drift and an effect, which a deck in local may leave undone, and any where `may_stay`.
@@ -116,15 +100,5 @@ impl<S: TimeSet> Halves<S> {
             }
         }
         Ok(())
-    }
-}
-
-/// Whether a deck in remote or in local may send this status datum 0, if the reply carries it.
-fn agrees_local(local: bool, datum: Option<u8>) -> bool
-    ensures { result ≡ agrees_local local datum }
-{
-    match datum {
-        Some(byte) => (byte & 0x01 == 0x01) == local,
-        None => true,
     }
 }

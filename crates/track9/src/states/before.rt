@@ -3,7 +3,7 @@
 //! What leads to the target by the step alone is a pattern of states, or two of them; and whether a drift leads to
 //! one of a pattern is asked factor by factor, so that no set is copied.
 ghost use Rattle.std.specs.Prelude.{◌≡◌, IfNone, IfSome, false, true};
-ghost use Rattle.deck9.specs.State.{IsEntry, IsState};
+ghost use Rattle.deck9.specs.State.{IsState};
 ghost use Rattle.deck9.specs.Step.{Exchanges};
 ghost use Rattle.track9.specs.Tracker.{Possible};
 ghost use Rattle.track9.specs.Working.Asked.{Is, IsAsked, IsUndone, LeadsTo, RunsTo, just_state};
@@ -17,7 +17,7 @@ use crate::part::Part;
 use crate::reply::is_nak;
 use crate::states::States;
 use block9::{Block, Command};
-use deck9::{Effect, Entry, Register, State, may_ignore};
+use deck9::{Effect, Register, State, may_ignore};
 use sets25::TimeSet;
 
 impl<S: TimeSet> States<S> {
@@ -28,7 +28,7 @@ impl<S: TimeSet> States<S> {
         ensures none { IfNone result (¬ ((s : AState) × Possible self.now s × Exchanges (hands_of self.now) command.now reply.now s target.now)) }
     {
         self.below_day();
-        is_state(target);
+        target.is_valid();
         if is_nak(reply) {
             return self.origin(&Asked::just(target));
         }
@@ -120,26 +120,4 @@ fn origin_in<S: TimeSet>(part: &Part<S>, asked: &Asked, local: bool) -> Option<S
         local,
         panel: false,
     })
-}
-
-/// A state's times are times of the day. Does nothing.
-fn is_state(state: &State)
-    ensures { IsState state.now }
-{
-    is_entry(&state.ins);
-    is_entry(&state.outs);
-    is_entry(&state.ains);
-    is_entry(&state.aouts);
-}
-
-/// A time is a time of the day. Does nothing.
-fn is_entry(entry: &Entry)
-    ensures { IsEntry entry.now }
-{
-    match entry {
-        Entry::Clear => {}
-        Entry::At(time) => {
-            let _ = time.frames();
-        }
-    }
 }

@@ -1,4 +1,4 @@
-//! Commands that the tracker takes without their replies: what is known after each of them.
+//! Commands that the tracker takes without their replies, and drifts without a command: what is known after each of them.
 
 use super::sent::*;
 use super::told::tell_all;
@@ -8,14 +8,15 @@ use sets25::{ListSet, SpanSet};
 use std::alloc::Global;
 use std::test::Fail;
 
-/// What the tracker takes: an exchange, or the command of one alone.
+/// What the tracker takes: an exchange, the command of one alone, or nothing, while the deck drifts.
 #[derive(Clone, Copy, Debug)]
 enum Taken {
     Exchange(Sent),
     Passed(Sent),
+    Drifted,
 }
 
-use Taken::{Exchange, Passed};
+use Taken::{Drifted, Exchange, Passed};
 
 /// What is taken, and what is known after it, in the words of a report.
 type Learnt = (Taken, &'static str);
@@ -87,6 +88,36 @@ const SWITCHED: &[Learnt] = &[
     (Passed(UNLISTED_0), ""),
 ];
 
+/// The mechanics drift, and leave the registers as they are.
+const DRIFTED: &[Learnt] = &[
+    (Exchange(REMOTE), "local no, panel off"),
+    (Exchange(PRESET_10), "in 10:00:00:00, local no, panel off"),
+    // FAST FORWARD.
+    (
+        Exchange((&[0x20, 0x10, 0x30], ACK)),
+        "goal FF, in 10:00:00:00, local no, panel off",
+    ),
+    (
+        Exchange(SHOWS_FAST_FORWARD),
+        "goal FF, shown FF, in 10:00:00:00, local no, panel off",
+    ),
+    // The tape may have come to its end.
+    (Drifted, "in 10:00:00:00, local no, panel off"),
+    (
+        Exchange(SHOWS_FAST_FORWARD),
+        "goal FF, shown FF, in 10:00:00:00, local no, panel off",
+    ),
+];
+
+/// With hands on the panel: they act once it is on.
+const TOUCHED: &[Learnt] = &[
+    (Exchange(PANEL_OFF), "panel off"),
+    (Exchange(REMOTE), "local no, panel off"),
+    (Drifted, "local no, panel off"),
+    (Exchange(PANEL_ON), "local no, panel on"),
+    (Drifted, "panel on"),
+];
+
 /// Takes a command without its reply.
 fn pass<S: TimeSet>(
     rt: &impl Abort,
@@ -105,6 +136,7 @@ fn take_one<S: TimeSet>(
     match taken {
         Exchange(sent) => take_leaving(rt, tracker, sent, true, "taken"),
         Passed(sent) => pass(rt, tracker, sent),
+        Drifted => tracker.drift(),
     }
 }
 
@@ -138,7 +170,9 @@ fn learn_from_first<S: TimeSet>(
 fn learn_all<S: TimeSet>(rt: &impl Abort, alloc: Global) -> Result<(), AllocError> {
     learn_from_first::<S>(rt, alloc, Hands::None, PRESET)?;
     learn_from_first::<S>(rt, alloc, Hands::None, MOVED)?;
-    learn_from_first::<S>(rt, alloc, Hands::Allowed, SWITCHED)
+    learn_from_first::<S>(rt, alloc, Hands::None, DRIFTED)?;
+    learn_from_first::<S>(rt, alloc, Hands::Allowed, SWITCHED)?;
+    learn_from_first::<S>(rt, alloc, Hands::Allowed, TOUCHED)
 }
 
 #[test]
@@ -160,8 +194,12 @@ fn count(rt: &impl Abort, tracker: &mut Tracker<SpanSet>) -> Result<(), AllocErr
     pass(rt, tracker, PRESET_11)?;
     let counts = spans_and_presets(tracker, Register::RegIn);
     same(rt, counts, (2, 3), "spans and presets");
+    tracker.drift()?;
+    let counts = spans_and_presets(tracker, Register::RegIn);
+    same(rt, counts, (2, 3), "after a drift");
     take_leaving(rt, tracker, LOCAL, false, "no state")?;
     pass(rt, tracker, UNLISTED_0)?;
+    tracker.drift()?;
     same(rt, tracker.remains(), false, "no state");
     Ok(())
 }

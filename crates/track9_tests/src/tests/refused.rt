@@ -198,7 +198,7 @@ fn counts(rt: HostRuntime) -> Result<(), Fail> {
     Ok(())
 }
 
-/// Exchanges of which the commands alone are taken.
+/// Exchanges of which the commands alone are taken, each with a drift after it.
 const PASSED: &[Sent] = &[
     PRESET_10,
     PANEL_OFF,
@@ -227,9 +227,22 @@ fn pass<S: Counted>(
     }
 }
 
+/// Lets the deck drift. Where memory is refused all answers are as before, and the same call again gives one.
+fn drift<S: Counted>(rt: &impl Abort, tracker: &mut Tracker<S>) -> Result<(), AllocError> {
+    let before = answers(rt, tracker);
+    match tracker.drift() {
+        Ok(()) => Ok(()),
+        Err(_) => {
+            same(rt, answers(rt, tracker), before, "a drift");
+            tracker.drift()
+        }
+    }
+}
+
 fn pass_all<S: Counted>(rt: &impl Abort, tracker: &mut Tracker<S>) -> Result<(), AllocError> {
     for sent in PASSED {
         pass(rt, tracker, *sent)?;
+        drift(rt, tracker)?;
         same(rt, tracker.remains(), true, *sent);
     }
     Ok(())

@@ -24,7 +24,7 @@ returns-clause-some g c =
     let run = c.in_ok-pair.ensures.some.1 in
     let x = rw c.entries.ensures at c.in_ok-pick.ensures.some in let y = rw c.entries-2.ensures at c.in_ok-pick-2.ensures.some in
     let z = rw c.entries-3.ensures at c.in_ok-pick-3.ensures.some in let w = rw c.entries-4.ensures at c.in_ok-pick-4.ensures.some in
-    let local = c.is_asked-fits_local.ensures.0 c.if-not-fits_local.false in let panel = c.is_asked-fits_panel.ensures.0 c.if-not-fits_panel.false in
+    let local = c.is_asked-fits_local.ensures.is.0 c.if-not-fits_local.false in let panel = c.is_asked-fits_panel.ensures.is.0 c.if-not-fits_panel.false in
     let d : State =
     record { goal = run.0; shown = run.1; ins = c.in_ok-pick.field-0; outs = c.in_ok-pick-2.field-0; ains = c.in_ok-pick-3.field-0; aouts = c.in_ok-pick-4.field-0; local = c.args.local; panel = false } in (
       record { inside = record { pair = rw c.pairs.ensures at c.in_ok-pair.ensures.some.0; registers = each_register _ x.0 y.0 z.0 w.0 }; local = refl; panel = refl },
