@@ -91,15 +91,7 @@ limit_of ByteGap = Some byte_gap
 limit_of CommandBeforeReply = Some reply_limit
 limit_of LateReply = Some reply_limit
 limit_of NoReply = Some reply_limit
-limit_of WrongGroup = None
-limit_of WrongSum = None
-limit_of ReplyWithoutCommand = None
-limit_of ReplyInsideCommand = None
-limit_of CommandInsideReply = None
-limit_of WrongReply = None
-limit_of InvalidCommandTime = None
-limit_of InvalidReplyTime = None
-limit_of NoRun = None
+limit_of _ = None
 
 -- the short name that a report gives
 abbrev pub name_of : Reason → List ℕ

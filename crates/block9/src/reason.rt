@@ -51,15 +51,7 @@ impl Reason {
             Reason::CommandBeforeReply | Reason::LateReply | Reason::NoReply => {
                 Some(REPLY_LIMIT_US)
             }
-            Reason::WrongGroup
-            | Reason::WrongSum
-            | Reason::ReplyWithoutCommand
-            | Reason::ReplyInsideCommand
-            | Reason::CommandInsideReply
-            | Reason::WrongReply
-            | Reason::InvalidCommandTime
-            | Reason::InvalidReplyTime
-            | Reason::NoRun => None,
+            _ => None,
         }
     }
 

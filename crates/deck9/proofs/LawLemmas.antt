@@ -1,6 +1,8 @@
 -- What the definitions of drifts, steps and runs come to.
 use Rattle.deck9.proofs.Words.{[], Agrees, ap, arith, Block, Bool, Command, Does, done, Drift, Effect, effect_of, Entry, Exchange, Exchanges, false, Hands, HasRun, ignored, inl}
-use Rattle.deck9.proofs.Words.{inr, is_of_goal_or_register, IsEntry, IsRunFrom, IsState, List, may_ignore, Moves, nat_tests, refused, Register, Sense, sense_of, State, Step}
+use Rattle.deck9.proofs.Words.{inr, IsEntry, IsRunFrom, IsState, List, may_ignore, Moves, nat_tests, refused, Register, Sense, sense_of, State, Step}
+use Rattle.std.specs.Prelude.{None, true, ◌≢◌}
+use Rattle.deck9.proofs.Words.{name_of}
 use Rattle.deck9.proofs.Words.{subst, sym, with_entry, ◌++◌, ◌∷◌, ◌≡◌}
 use Rattle.deck9.proofs.DriftLemmas.{drift_from_pairs, pairs_from_drift}
 use Rattle.deck9.proofs.RunSearch.{read_panel}
@@ -64,5 +66,6 @@ run_with_hands es r =
 
 -- ---- local
 
-pub ignored_by_effect : (c : Command) → may_ignore c ≡ is_of_goal_or_register (effect_of c)
-ignored_by_effect c = grind (arith, nat_tests)
+pub ignored_is_listed : (c : Command) → may_ignore c ≡ true → name_of c ≢ None
+unfolding name_of
+ignored_is_listed c h = grind (arith, nat_tests)

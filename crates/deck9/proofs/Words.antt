@@ -1,14 +1,14 @@
 -- The names from elsewhere that the proofs of this crate cite, passed on from one place. Declares nothing.
 pub use Rattle.block9.specs.Command.{is_nak}
-unfoldable pub use Rattle.block9.specs.Command.{fits, is_reply_time_valid}
+unfoldable pub use Rattle.block9.specs.Command.{fits, is_reply_time_valid, name_of}
 pub use Rattle.block9.specs.declared.block.Block.{Block}
 pub use Rattle.block9.specs.declared.command.Command.{Command}
 pub use Rattle.block9.specs.declared.pairer.Exchange.{Exchange}
 pub use Rattle.deck9.specs.Contradict.{behind_first, CanPass, HasBelieving, IsBelievingFrom, MayDo}
 pub use Rattle.deck9.specs.Drift.{arrives, Drift, DriftsTo, halts, handled, Move, Moves, PairReaches, passes}
 pub use Rattle.deck9.specs.Effect.{Becomes, Does, effect_of, moved_entry}
-pub use Rattle.deck9.specs.Laws.{AreAnswered, is_of_goal_or_register, IsRightReply, MayReply, SetsInDay, ShowJust}
-pub use Rattle.deck9.specs.Local.{may_ignore}
+pub use Rattle.deck9.specs.Laws.{AreAnswered, IsRightReply, MayReply, SetsInDay, ShowJust}
+pub use Rattle.deck9.specs.Local.{is_of_goal_or_register, may_ignore}
 pub use Rattle.deck9.specs.Mode.{every_mode, index_of, is_mode, is_one_of, on_the_way}
 pub use Rattle.deck9.specs.ModeCalls.{is_some}
 pub use Rattle.deck9.specs.ModeSet.{bit_of, either, has, modes, of_modes}

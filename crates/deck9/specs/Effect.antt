@@ -68,19 +68,8 @@ effect_of command.AudioInRecall = effect.Change RegAudioIn Recall
 effect_of command.AudioOutRecall = effect.Change RegAudioOut Recall
 effect_of command.LocalEnable = effect.Panel true
 effect_of command.LocalDisable = effect.Panel false
-effect_of command.DeviceType = effect.Nothing
-effect_of command.EditPreset = effect.Nothing
-effect_of command.PrerollPreset = effect.Nothing
-effect_of command.TimerModeSelect = effect.Nothing
-effect_of command.AutoModeOff = effect.Nothing
-effect_of command.AutoModeOn = effect.Nothing
-effect_of (command.CurrentTimeSense selector) = effect.Nothing
-effect_of command.InDataSense = effect.Nothing
-effect_of command.OutDataSense = effect.Nothing
-effect_of command.AudioInDataSense = effect.Nothing
-effect_of command.AudioOutDataSense = effect.Nothing
-effect_of (command.StatusSense asked) = effect.Nothing
 effect_of (command.Unlisted group) = forgotten group
+effect_of _ = effect.Nothing
 
 -- ---- what an effect may do
 

@@ -7,7 +7,6 @@ use Rattle.block9.specs.declared.command.Command.{Command}
 use Rattle.block9.specs.declared.pairer.Exchange.{Exchange}
 use Rattle.block9.specs.Block.{IsBlock}
 use Rattle.block9.specs.Command.{fits, is_reply_time_valid}
-use Rattle.deck9.specs.declared.effect.Effect.{Effect}
 use Rattle.deck9.specs.declared.effect.Effect.TheVariants as effect
 use Rattle.deck9.specs.declared.effect.Change.TheVariants.{SetAt}
 use Rattle.deck9.specs.declared.mode.Mode.{Mode}
@@ -15,17 +14,6 @@ use Rattle.deck9.specs.declared.state.Register.{Register}
 use Rattle.deck9.specs.Contradict.{behind_first}
 use Rattle.deck9.specs.Effect.{effect_of}
 use Rattle.deck9.specs.Status.{may_show}
-
--- the goal changes, or a register does: what a listed transport or preset command does, if it does anything
-abbrev pub is_of_goal_or_register : Effect → Bool
-is_of_goal_or_register effect.Nothing = false
-is_of_goal_or_register (effect.Go g) = true
-is_of_goal_or_register effect.KeepOrStop = true
-is_of_goal_or_register (effect.Change r c) = true
-is_of_goal_or_register (effect.Panel on) = false
-is_of_goal_or_register effect.ForgetTape = false
-is_of_goal_or_register effect.ForgetRegisters = false
-is_of_goal_or_register effect.ForgetAll = false
 
 -- where the exchange's command sets a register at a time, that is a time of the day
 abbrev pub SetsInDay : Exchange → Type 0

@@ -103,18 +103,7 @@ impl Effect {
                 6 => Effect::Nothing,
                 _ => Effect::ForgetAll,
             },
-            Command::DeviceType
-            | Command::EditPreset
-            | Command::PrerollPreset
-            | Command::TimerModeSelect
-            | Command::AutoModeOff
-            | Command::AutoModeOn
-            | Command::CurrentTimeSense { .. }
-            | Command::InDataSense
-            | Command::OutDataSense
-            | Command::AudioInDataSense
-            | Command::AudioOutDataSense
-            | Command::StatusSense { .. } => Effect::Nothing,
+            _ => Effect::Nothing,
         }
     }
 }

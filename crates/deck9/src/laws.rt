@@ -1,15 +1,14 @@
 //! The laws of the deck, each the contract of a function that does nothing: that the definitions of drifts, steps and runs
 //! mean what was meant.
-ghost use Rattle.std.specs.Prelude.{◌≡◌, ◌≢◌, ◌↔◌, ◌⊎◌, ◌<◌, ◌+◌, ◌||◌, ℕ, Bool, true, false, Some, List, [], ◌∷◌, ◌++◌, length, slice_get};
+ghost use Rattle.std.specs.Prelude.{◌≡◌, ◌≢◌, ◌↔◌, ◌⊎◌, ◌<◌, ◌+◌, ◌||◌, ℕ, Bool, true, false, None, Some, List, [], ◌∷◌, ◌++◌, length, slice_get};
 ghost use Rattle.std.specs.List.{All};
-ghost use Rattle.block9.specs.Command.{is_nak};
+ghost use Rattle.block9.specs.Command.{is_nak, name_of};
 ghost use Rattle.block9.specs.declared.block.Block.{Block};
 ghost use Rattle.block9.specs.declared.command.Command.{Command};
 ghost use Rattle.block9.specs.declared.pairer.Exchange.{Exchange};
 ghost use Rattle.deck9.specs.Contradict.{CanPass, HasBelieving};
 ghost use Rattle.deck9.specs.Drift.{Drift, DriftsTo};
-ghost use Rattle.deck9.specs.Effect.{effect_of};
-ghost use Rattle.deck9.specs.Laws.{AreAnswered, IsRightReply, SetsInDay, ShowJust, is_of_goal_or_register};
+ghost use Rattle.deck9.specs.Laws.{AreAnswered, IsRightReply, SetsInDay, ShowJust};
 ghost use Rattle.deck9.specs.Local.{may_ignore};
 ghost use Rattle.deck9.specs.Mode.{index_of, is_mode};
 ghost use Rattle.deck9.specs.Run.{Ends, HasRun};
@@ -43,9 +42,9 @@ pub fn a_nak_changes_nothing()
     ensures { (h : Hands) (command : Command) (reply : Block) (s t : State) → is_nak reply ≡ true → (Step h command reply s t ↔ (t ≡ s)) }
 {}
 
-/// The commands that a deck in local may leave undone are those that change its goal or a register.
-pub fn local_ignores_goals_and_registers()
-    ensures { (command : Command) → may_ignore command ≡ is_of_goal_or_register (effect_of command) }
+/// A deck in LOCAL may ignore listed commands alone.
+pub fn local_ignores_listed_commands()
+    ensures { (command : Command) → may_ignore command ≡ true → name_of command ≢ None }
 {}
 
 /// Replies that a deck can give that nobody touches, a deck can give too that somebody may touch.

@@ -7,13 +7,13 @@ use crate::effect::{Change, Effect};
 use crate::local::may_ignore;
 use crate::mode::Mode;
 use crate::state::{Entry, Hands, Register, State};
-use block9::{Exchange, NakBits};
+use block9::Exchange;
 
 /// Whether the step of an exchange can take the deck from a state, without a drift, to another.
 pub(crate) fn steps(hands: Hands, exchange: &Exchange, before: &State, after: &State) -> bool
     ensures { IsTrue result ↔ Steps hands exchange.now before.now after.now }
 {
-    if NakBits::of(&exchange.reply).is_some() {
+    if exchange.reply.is_nak() {
         return after.is(before);
     }
     if !before.shows(&exchange.command, &exchange.reply) {

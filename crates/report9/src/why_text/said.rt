@@ -5,7 +5,7 @@ ghost use Rattle.report9.specs.Working.WhyText.{next_before};
 ghost use Rattle.deck9.specs.Shows.{sense_of};
 
 use crate::why_text::modes::put_modes;
-use block9::{Block, Exchange, NakBits};
+use block9::{Block, Exchange};
 use deck9::{ModeSet, RegistersSet, Sense, Status};
 use std::alloc::AllocError;
 use text9::{put_text, put_word};
@@ -26,7 +26,7 @@ fn put_status(line: &mut Vec<u8>, asked: u8, reply: &Block) -> Result<(), AllocE
     ensures { OnOk result (line.new.items ≡ line.old.items
         ++ in_a_row (codes ", says ") (codes ", ") (said (Sense.Status asked) reply.now)) }
 {
-    if NakBits::of(reply).is_some() {
+    if reply.is_nak() {
         return Ok(());
     }
     put_reported(line, &Status::of(asked, reply))
