@@ -29,13 +29,7 @@ const NOT_JOGGED: &[Mode] = &[
 ];
 
 /// Those with no bit set in datum 1, whatever datum 2 is.
-const NO_MOTION_BIT: &[Mode] = &[
-    Mode::Shuttle,
-    Mode::Jog,
-    Mode::Var,
-    Mode::Cued,
-    Mode::Eject,
-];
+const NO_MOTION_BIT: &[Mode] = &[Mode::Shuttle, Mode::Jog, Mode::Var, Mode::Cued, Mode::Eject];
 
 /// IN and audio IN are.
 const INS: RegistersSet = RegistersSet {
@@ -74,9 +68,21 @@ const ROWS: &[Row] = &[
     (0x01, &[0x71, 0x20, 0x01, 0x92], Some(true), None, None),
     (0x04, &[0x71, 0x20, 0xFE, 0x8F], Some(false), None, None),
     // Datum 1 alone.
-    (0x11, &[0x71, 0x20, 0x01, 0x92], None, Some(PLAY_OR_JOGGED), None),
+    (
+        0x11,
+        &[0x71, 0x20, 0x01, 0x92],
+        None,
+        Some(PLAY_OR_JOGGED),
+        None,
+    ),
     // Datum 2 alone.
-    (0x21, &[0x71, 0x20, 0x00, 0x91], None, Some(NOT_JOGGED), None),
+    (
+        0x21,
+        &[0x71, 0x20, 0x00, 0x91],
+        None,
+        Some(NOT_JOGGED),
+        None,
+    ),
     (
         0x21,
         &[0x71, 0x20, 0x20, 0xB1],
@@ -85,8 +91,20 @@ const ROWS: &[Row] = &[
         None,
     ),
     // Both, of one mode, of two and of none.
-    (0x12, &[0x72, 0x20, 0x20, 0x00, 0xB2], None, Some(&[Mode::Stop]), None),
-    (0x12, &[0x72, 0x20, 0x03, 0x00, 0x95], None, Some(&[Mode::Rec]), None),
+    (
+        0x12,
+        &[0x72, 0x20, 0x20, 0x00, 0xB2],
+        None,
+        Some(&[Mode::Stop]),
+        None,
+    ),
+    (
+        0x12,
+        &[0x72, 0x20, 0x03, 0x00, 0x95],
+        None,
+        Some(&[Mode::Rec]),
+        None,
+    ),
     (
         0x12,
         &[0x72, 0x20, 0x00, 0x01, 0x93],
@@ -100,7 +118,13 @@ const ROWS: &[Row] = &[
     (0x31, &[0x71, 0x20, 0xF2, 0x83], None, None, Some(OUT)),
     (0x31, &[0x71, 0x20, 0x08, 0x99], None, None, Some(AUDIO_OUT)),
     // A request that begins at datum 2.
-    (0x22, &[0x72, 0x20, 0x00, 0x0F, 0xA1], None, Some(NOT_JOGGED), Some(ALL)),
+    (
+        0x22,
+        &[0x72, 0x20, 0x00, 0x0F, 0xA1],
+        None,
+        Some(NOT_JOGGED),
+        Some(ALL),
+    ),
     // Every datum, and one that is free.
     (
         0x05,
@@ -145,7 +169,13 @@ fn reports(rt: HostRuntime) -> Result<(), Fail> {
 /// A NAK whose byte would say LOCAL tells nothing.
 fn take_nak(rt: &impl Abort, alloc: Global) -> Result<(), AllocError> {
     let mut tracker: Tracker<SpanSet> = Tracker::new(alloc, Hands::None)?;
-    let result = take_leaving(rt, &mut tracker, (&[0x61, 0x20, 0x01, 0x82], NAK), true, "a NAK");
+    let result = take_leaving(
+        rt,
+        &mut tracker,
+        (&[0x61, 0x20, 0x01, 0x82], NAK),
+        true,
+        "a NAK",
+    );
     let local = known(rt, &tracker).local;
     drop(tracker);
     same(rt, local, Known::Unknown, "a NAK");
