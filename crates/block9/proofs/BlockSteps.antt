@@ -13,13 +13,15 @@ begun_push w (a ∷ rest) r some =
     (λ h. let l = linked.0 h.linked in grind (arith, nat_tests), λ h. let l = linked.1 (h.0.linked, h.1) in grind (arith, nat_tests))
 
 -- a record that ends its block with the right sum
-pub whole_now : (w : Wire) (records : List LineByte) (r : LineByte) → IsBegun w records → GoesOn w records r → ends_block records ≡ true → r.byte ≡ sum (bytes_of records) % 256 → IsWhole w (records ++ r ∷ []) (block_of (bytes_of records))
+pub whole_now : (w : Wire) (records : List LineByte) (r : LineByte) → IsBegun w records → GoesOn w records r → ends_block records ≡ true
+    → r.byte ≡ sum (bytes_of records) % 256 → IsWhole w (records ++ r ∷ []) (block_of (bytes_of records))
 whole_now w (a ∷ c ∷ rest) r h g e s =
     let n : length (a ∷ c ∷ rest) + 1 ≡ block_len (a ∷ c ∷ rest) = grind (arith, nat_tests) in
     let low : a.byte / 16 < 16 = let allowed = h.allowed in grind (arith, nat_tests) in
     let len = length-map rest (λ (r : LineByte). r.byte) in
     let pushed = map_push (λ (r : LineByte). r.byte) (a ∷ c ∷ rest) r in
-    let body : bytes_of (a ∷ c ∷ rest) ≡ body_of (block_of (bytes_of (a ∷ c ∷ rest))) = ap (λ (x : ℕ). let bytes : List ℕ = x ∷ bytes_of (c ∷ rest) in bytes) (omega (arith, len, n)) in
+    let body : bytes_of (a ∷ c ∷ rest) ≡ body_of (block_of (bytes_of (a ∷ c ∷ rest))) =
+    ap (λ (x : ℕ). let bytes : List ℕ = x ∷ bytes_of (c ∷ rest) in bytes) (omega (arith, len, n)) in
     record {
       linked = (linked_push w a (c ∷ rest) r).1 (h.linked, g);
       spelled = record { block = record { group = low; data_bytes = omega (arith, len, n) }; spelled = cc (pushed, body, s) };
@@ -27,7 +29,7 @@ whole_now w (a ∷ c ∷ rest) r h g e s =
     }
 whole_now w records r h g e s = absurd (grind (arith, nat_tests))
 
--- a whole block without its last record is begun, and the record goes on with it and ends it
+-- a complete block without its last record is begun, and the record goes on with it and ends it
 pub record EndsNow (w : Wire) (records : List LineByte) (r : LineByte) (b : Block) : Type 0 where
   pub begun : IsBegun w records
   pub goes_on : GoesOn w records r

@@ -9,7 +9,8 @@ use Rattle.block9.proofs.TailLemmas.{after_command_quiet, idle_quiet, in_command
 -- a last record is the last one of the second of two parts
 pub last_apart : (t c d : List LineByte) (r : LineByte) → t ++ r ∷ [] ≡ c ++ d → 0 < length d → (d' : List LineByte) × (d ≡ d' ++ r ∷ []) × (t ≡ c ++ d')
 last_apart t [] d r e some = (t, sym e, refl)
-last_apart [] (x ∷ c) d r e some = absurd (let none : [] ≡ c ++ d = cc in let n = length-append c d in let m : 0 ≡ length (c ++ d) = ap length none in omega arith)
+last_apart [] (x ∷ c) d r e some = absurd (let none : [] ≡ c ++ d = cc in let n = length-append c d in let m : 0 ≡ length (c ++ d) = ap length none in
+    omega arith)
 last_apart (a ∷ t) (x ∷ c) d r e some =
     let tails : t ++ r ∷ [] ≡ c ++ d = cc in let more = last_apart t c d r tails some in (more.0, more.1, let heads : a ≡ x = cc in let same = more.2 in cc)
 
@@ -21,14 +22,19 @@ tail_less (a ∷ rest) r (in_command h) =
     let parts = (begun_push Controller (a ∷ rest) r (omega arith)).0 h in
     (in_command parts.0, (in_command_quiet (a ∷ rest) r parts.0 parts.1.1).1 (parts.1, λ e. absurd (false≢true (sym parts.2 ∙ e))))
 tail_less t r (after_command b c h) =
-    let parts = whole_less Controller t r b h.whole in
-    (in_command parts.begun, (in_command_quiet t r parts.begun parts.goes_on.1).1 (parts.goes_on, λ e. (parts.sum_right, c, ap command_of (sym parts.block) ∙ h.meaning)))
+    let parts = whole_less Controller t r b h.whole in (
+      in_command parts.begun,
+      (in_command_quiet t r parts.begun parts.goes_on.1).1
+          (parts.goes_on, λ e. (parts.sum_right, c, ap command_of (sym parts.block) ∙ h.meaning)),
+    )
 tail_less t r (in_reply command reply b c e hc hd soon) =
     let parts = last_apart t command reply r e hd.begun in
     in_reply_less t command parts.0 r b c parts.2 hc (rw parts.1 at hd) (rw parts.1 at soon)
   where
-    in_reply_less : (t command front : List LineByte) (r : LineByte) (b : Block) (c : Command) → t ≡ command ++ front → IsCommand command b c → IsBegun Deck (front ++ r ∷ []) → IsInTime command (front ++ r ∷ []) → IsTail t × (pairing t r ≡ None)
-    in_reply_less t command [] r b c e hc hd soon = let same : t ≡ command = e ∙ append-nil command in rw same (after_command b c hc, (after_command_quiet command r b hc.whole soon.later).1 (hd, soon))
+    in_reply_less : (t command front : List LineByte) (r : LineByte) (b : Block) (c : Command) → t ≡ command ++ front → IsCommand command b c
+        → IsBegun Deck (front ++ r ∷ []) → IsInTime command (front ++ r ∷ []) → IsTail t × (pairing t r ≡ None)
+    in_reply_less t command [] r b c e hc hd soon = let same : t ≡ command = e ∙ append-nil command in
+        rw same (after_command b c hc, (after_command_quiet command r b hc.whole soon.later).1 (hd, soon))
     in_reply_less t command (a ∷ rest) r b c e hc hd soon =
         let parts = (begun_push Deck (a ∷ rest) r (omega arith)).0 hd in
         let place = in_reply_of command (a ∷ rest) t b c e hc (omega arith) in (
@@ -46,11 +52,18 @@ exchange_less t r e h =
     let first = first_time-push_any apart.0 r parts.begun.begun in
     let in_time = rw apart.1 at h.in_time in (
       in_reply h.asked apart.0 e.block e.command apart.2 h.command parts.begun (omega arith),
-      (in_reply_quiet h.asked apart.0 t e.command r place (rw place.last parts.goes_on.1)).1
-          (parts.goes_on, λ ends. (parts.sum_right, ap (fits e.command) (sym parts.block) ∙ h.kind, ap (is_reply_time_valid e.command) (sym parts.block) ∙ h.valid_time)),
+      (in_reply_quiet h.asked apart.0 t e.command r place (rw place.last parts.goes_on.1)).1 (
+        parts.goes_on,
+        λ ends. (
+          parts.sum_right,
+          ap (fits e.command) (sym parts.block) ∙ h.kind,
+          ap (is_reply_time_valid e.command) (sym parts.block)
+              ∙ h.valid_time,
+        ),
+      ),
     )
 
--- no tail begins with a whole exchange
+-- no tail begins with a complete exchange
 pub tail_no_exchange : (t front rest : List LineByte) (e : Exchange) → IsTail t → IsExchange front e → t ≡ front ++ rest → ⊥
 tail_no_exchange t front rest e tail h split = by tail
   where
@@ -97,9 +110,11 @@ pub exchange_kept : (front : List LineByte) (e : Exchange) → IsExchange front 
 exchange_kept front e h = subst (λ (l : List LineByte). IsKept l) (append-nil front) (cut_more front [] e h (tail_kept [] (nothing refl)))
 
 -- a list that is kept with a last record has a cut without it, and the record breaks no rule after the tail
-last_less : (p : List LineByte) (r : LineByte) (es : List Exchange) (u : List LineByte) → Cut (p ++ r ∷ []) es u → (ds : List Exchange) × (t : List LineByte) × Cut p ds t × (pairing t r ≡ None)
+last_less : (p : List LineByte) (r : LineByte) (es : List Exchange) (u : List LineByte) → Cut (p ++ r ∷ []) es u
+    → (ds : List Exchange) × (t : List LineByte) × Cut p ds t × (pairing t r ≡ None)
 last_less p r [] u h = let less = tail_less p r (rw (← h.0) at h.1) in ([], p, (refl, less.0), less.1)
-last_less p r (e ∷ es) u (front, [], split, is, more) = let less = exchange_less p r e (rw (← (split ∙ append-nil front)) at is) in ([], p, (refl, less.0), less.1)
+last_less p r (e ∷ es) u (front, [], split, is, more) = let less = exchange_less p r e (rw (← (split ∙ append-nil front)) at is) in
+    ([], p, (refl, less.0), less.1)
 last_less p r (e ∷ es) u (front, a ∷ rest, split, is, more) =
     let parts = last_apart p front (a ∷ rest) r split (omega arith) in
     let less = last_less parts.0 r es u (subst (λ (l : List LineByte). Cut l es u) parts.1 more) in
@@ -121,7 +136,8 @@ pub cut_joined : (p : List LineByte) (es fs : List Exchange) (t q u : List LineB
 cut_joined p [] fs t q u h k = rw h.0 k
 cut_joined p (e ∷ es) fs t q u h k = (h.0, h.1 ++ q, rw h.2 (append_assoc h.0 h.1 q), h.3, cut_joined h.1 es fs t q u h.4 k)
 
-pub cut_parted : (p : List LineByte) (es gs : List Exchange) (t q u : List LineByte) → Cut p es t → Cut (p ++ q) gs u → (fs : List Exchange) × (gs ≡ es ++ fs) × Cut (t ++ q) fs u
+pub cut_parted : (p : List LineByte) (es gs : List Exchange) (t q u : List LineByte) → Cut p es t → Cut (p ++ q) gs u
+    → (fs : List Exchange) × (gs ≡ es ++ fs) × Cut (t ++ q) fs u
 cut_parted p [] gs t q u h k = (gs, refl, rw h.0 at k)
 cut_parted p (e ∷ es) [] t q u h k = absurd (tail_no_exchange (p ++ q) h.0 (h.1 ++ q) e (rw (← k.0) at k.1) h.3 (rw h.2 (append_assoc h.0 h.1 q)))
 cut_parted p (e ∷ es) (d ∷ gs) t q u h k =

@@ -14,7 +14,8 @@ idle_holds r WrongGroup h = (inl refl, grind (arith, nat_tests))
 idle_holds r x h = absurd (grind (arith, nat_tests))
 
 -- inside a command
-in_command_holds : (t : List LineByte) (r : LineByte) (x : Reason) → IsBegun Controller t → last_time t ≤ r.time_us → fault_at InCommand t r ≡ Some x → Holds x t r
+in_command_holds : (t : List LineByte) (r : LineByte) (x : Reason) → IsBegun Controller t → last_time t ≤ r.time_us → fault_at InCommand t r ≡ Some x
+    → Holds x t r
 in_command_holds t r ReplyInsideCommand begun later h = (begun, grind (arith, nat_tests))
 in_command_holds t r ByteGap begun later h = ((t, inl (refl, begun)), grind (arith, nat_tests))
 in_command_holds t r WrongSum begun later h = (t, inl (refl, begun), grind (arith, nat_tests), λ e. grind (arith, nat_tests))
@@ -23,7 +24,7 @@ in_command_holds t r InvalidCommandTime begun later h =
     (block_of (bytes_of t), whole_now Controller t r begun end.2 end.0 end.1, grind (arith, nat_tests))
 in_command_holds t r x begun later h = absurd (grind (arith, nat_tests))
 
--- after a whole command
+-- after a complete command
 after_command_holds : (t : List LineByte) (r : LineByte) (x : Reason) → IsWholeCommand t → fault_at AfterCommand t r ≡ Some x → Holds x t r
 after_command_holds t r CommandBeforeReply whole h = (whole, grind (arith, nat_tests), grind (arith, nat_tests))
 after_command_holds t r NoReply whole h = (whole, grind (arith, nat_tests), grind (arith, nat_tests))
@@ -32,7 +33,8 @@ after_command_holds t r WrongGroup whole h = (inr whole, grind (arith, nat_tests
 after_command_holds t r x whole h = absurd (grind (arith, nat_tests))
 
 -- inside a reply
-in_reply_holds : (t reply : List LineByte) (r : LineByte) (x : Reason) (c : Command) (is : IsAnswered t c reply) → last_time t ≡ last_time reply → last_time t ≤ r.time_us
+in_reply_holds : (t reply : List LineByte) (r : LineByte) (x : Reason) (c : Command) (is : IsAnswered t c reply) → last_time t ≡ last_time reply
+    → last_time t ≤ r.time_us
     → drop (block_len t) t ≡ reply → command_of (block_of (bytes_of (take (block_len t - 1) t))) ≡ Some c → fault_at InReply t r ≡ Some x → Holds x t r
 in_reply_holds t reply r CommandInsideReply c is last later current meant h = ((c, reply, is), grind (arith, nat_tests))
 in_reply_holds t reply r ByteGap c is last later current meant h = ((reply, inr (c, is)), grind (arith, nat_tests))

@@ -7,12 +7,13 @@ use Rattle.block9.proofs.Words.{◌<◌, ◌↔◌, ◌∙◌, ◌∷◌, ◌≡
 abbrev pub GoesOn : Wire → List LineByte → LineByte → Type 0
 GoesOn w records r = (r.wire ≡ w) × (last_time records ≤ r.time_us) × (r.time_us ≤ last_time records + byte_gap)
 
-pub linked_push : (w : Wire) (a : LineByte) (records : List LineByte) (r : LineByte) → IsLinked w ((a ∷ records) ++ r ∷ []) ↔ (IsLinked w (a ∷ records) × GoesOn w (a ∷ records) r)
+pub linked_push : (w : Wire) (a : LineByte) (records : List LineByte) (r : LineByte)
+    → IsLinked w ((a ∷ records) ++ r ∷ []) ↔ (IsLinked w (a ∷ records) × GoesOn w (a ∷ records) r)
 linked_push w a [] r = (λ h. (h.0, (h.3, h.1, h.2)), λ h. (h.0, h.1.1, h.1.2, h.1.0))
 linked_push w a (b ∷ records) r =
     let more = linked_push w b records r in (λ h. let m = more.0 h.3 in ((h.0, h.1, h.2, m.0), m.1), λ h. (h.0.0, h.0.1, h.0.2, more.1 (h.0.3, h.1)))
 
--- what the first byte of a whole block says: how many data bytes there are, the group, and so how many records
+-- what the first byte of a complete block says: how many data bytes there are, the group, and so how many records
 pub whole_first : (w : Wire) (a : LineByte) (rest : List LineByte) (b : Block) → IsWhole w (a ∷ rest) b
     → (a.byte % 16 ≡ length b.bytes.items) × (a.byte / 16 ≡ b.group) × (length (a ∷ rest) ≡ length b.bytes.items + 3)
 whole_first w a rest b h =
@@ -49,7 +50,7 @@ spelled_once bytes a b ha hb =
     let bodies = (same_from_push (body_of a) (body_of b) _ _ (sym ha.spelled ∙ hb.spelled)).0 in
     sym (block_of-body_of a ha.block.data_bytes) ∙ ap block_of bodies ∙ block_of-body_of b hb.block.data_bytes
 
--- a whole block is no beginning of another one
+-- a complete block is no beginning of another one
 pub whole_parts : (w : Wire) (c d x y : List LineByte) (a b : Block) → IsWhole w c a → IsWhole w d b → c ++ x ≡ d ++ y → (c ≡ d) × (x ≡ y) × (a ≡ b)
 whole_parts w c d x y a b hc hd e =
     let same : block_len (c ++ x) ≡ block_len (d ++ y) = ap block_len e in

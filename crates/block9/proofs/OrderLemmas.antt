@@ -41,7 +41,8 @@ in_order_first holds x h least = grind arith
 -- ---- another line for the last reason: a crate that follows the deck puts its own there
 
 -- a reason before the last one stays the first
-pub first_before_last : (holds more : Reason → Type 0) (x : Reason) → ((y : Reason) → rank y < 12 → (holds y → more y) × (more y → holds y)) → rank x < 12 → IsFirst holds order x → IsFirst more order x
+pub first_before_last : (holds more : Reason → Type 0) (x : Reason) → ((y : Reason) → rank y < 12 → (holds y → more y) × (more y → holds y)) → rank x < 12
+    → IsFirst holds order x → IsFirst more order x
 first_before_last holds more x same low h = grind (arith, same)
 
 -- where none before it holds, the last one is the first

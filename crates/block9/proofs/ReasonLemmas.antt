@@ -12,13 +12,14 @@ use Rattle.block9.proofs.OrderLemmas.{first_holds, in_order_first, rank, rank_lo
 
 -- ---- where a reason holds, the table answers one that is not later
 
--- the place of an answer in the order; no answer is behind all
+-- the place of an answer in the order; no answer is after all
 abbrev rank_at : Option Reason → ℕ
 rank_at None = 13
 rank_at (Some x) = rank x
 
 -- a record that ends a reply, after the wire, the time and the group
-reply_told : (t : List LineByte) (r : LineByte) (c : Command) (answer : Block) → EndsReply t r c answer → pairing t r ≡ option_or (early_fault InReply t r) (reply_fault (Some c) answer)
+reply_told : (t : List LineByte) (r : LineByte) (c : Command) (answer : Block) → EndsReply t r c answer
+    → pairing t r ≡ option_or (early_fault InReply t r) (reply_fault (Some c) answer)
 reply_told t r c answer h =
     let parts = answered t h.0 c h.1 in
     let last = whole_less Deck h.0 r answer h.2 in

@@ -1,5 +1,5 @@
 -- What a record that breaks no rule makes of a tail.
-use Rattle.block9.proofs.Words.{[], after_command, AfterCommand, ap, append_assoc, arith, OpenCommand, block_len, block_of, bytes_of, closed_of, Command, Controller, Deck, Does, drop}
+use Rattle.block9.proofs.Words.{[], after_command, AfterCommand, ap, append_assoc, arith, OpenCommand, block_len, block_of, bytes_of, closed_of, Command, Controller, Deck, IsStep, drop}
 use Rattle.block9.proofs.Words.{ends_block, false, first_time, in_command, in_reply, inl, inr, IsAnswered, IsBegun, IsCommand, IsExchange, IsHeld, IsTail, last_time, length}
 use Rattle.block9.proofs.Words.{length-append, LineByte, List, None, nothing, open_at, Option, pairing, place_of, refl, Some, Step, tail_after, take, true, ◌++◌, ◌∙◌, ◌∷◌, ◌≡◌}
 use Rattle.block9.proofs.Words.{◌≢◌, ◌≤◌}
@@ -20,15 +20,22 @@ pub tail_held : (t : List LineByte) → IsTail t → (o : Option OpenCommand) ×
 tail_held t (nothing e) = (None, inl e)
 tail_held t (in_command h) = (None, inr h)
 tail_held t (after_command b c h) = (Some (record { command = c; block = b }), inl h)
-tail_held t (in_reply command reply b c e hc hd soon) =
-    (Some (record { command = c; block = b }), inr (reply, record { command = command; block = b; split = e; is_command = hc; begun = hd; in_time = soon }, refl))
+tail_held t (in_reply command reply b c e hc hd soon) = (
+  Some (record { command = c; block = b }),
+  inr (
+    reply,
+    record { command = command; block = b; split = e; is_command = hc; begun = hd; in_time = soon },
+    refl,
+  ),
+)
 
 -- where the last record of a block is to come and no command is held, a command is begun
 pub begun_now : (t : List LineByte) → IsHeld t None → ends_block (open_at (place_of t) t) ≡ true → IsBegun Controller t
 begun_now t h ends = grind arith
 
 -- and where one is held, its reply is begun
-pub reply_now : (t : List LineByte) (a : OpenCommand) → IsHeld t (Some a) → ends_block (open_at (place_of t) t) ≡ true → (reply : List LineByte) × (is : IsAnswered t a.command reply) × (is.block ≡ a.block)
+pub reply_now : (t : List LineByte) (a : OpenCommand) → IsHeld t (Some a) → ends_block (open_at (place_of t) t) ≡ true
+    → (reply : List LineByte) × (is : IsAnswered t a.command reply) × (is.block ≡ a.block)
 reply_now t a (inl h) ends = absurd (let place = place_of_command Controller t a.block h.whole in cc)
 reply_now t a (inr parts) ends = parts
 
@@ -42,11 +49,13 @@ delay_fits t reply c is = let parts = answered t reply c is in rw (parts.first, 
 still_begun : (t : List LineByte) → IsBegun Controller t → IsHeld t None × (place_of t ≢ AfterCommand)
 still_begun t h = (inr h, let place = place_in_command Controller t h in λ p. cc)
 
-still_answered : (t reply : List LineByte) (a : OpenCommand) (is : IsAnswered t a.command reply) → is.block ≡ a.block → IsHeld t (Some a) × (place_of t ≢ AfterCommand)
+still_answered : (t reply : List LineByte) (a : OpenCommand) (is : IsAnswered t a.command reply) → is.block ≡ a.block
+    → IsHeld t (Some a) × (place_of t ≢ AfterCommand)
 still_answered t reply a is same = (inr (reply, is, same), let place = (answered t reply a.command is).place in λ p. cc)
 
 -- a record that does not end its block
-pub waits : (t : List LineByte) (o : Option OpenCommand) (r : LineByte) → IsHeld t o → last_time t ≤ r.time_us → pairing t r ≡ None → ends_block (open_at (place_of t) t) ≡ false
+pub waits : (t : List LineByte) (o : Option OpenCommand) (r : LineByte) → IsHeld t o → last_time t ≤ r.time_us → pairing t r ≡ None
+    → ends_block (open_at (place_of t) t) ≡ false
     → IsHeld (t ++ r ∷ []) o × (place_of (t ++ r ∷ []) ≢ AfterCommand)
 waits t None r (inl e) later quiet ends = rw e (still_begun (r ∷ []) ((idle_quiet r).0 (rw e at quiet)))
 waits t None r (inr h) later quiet ends =
@@ -109,7 +118,7 @@ pub tail_short : (t : List LineByte) → IsTail t → length t ≤ 35
 tail_short t h = grind (arith, whole_len, block_len_low, length-append)
 
 -- what it leaves is a tail, with no record after the one that was fed
-pub still_tail : (t : List LineByte) (r : LineByte) (s : Step) → Does t r s → IsTail (tail_after t r s)
+pub still_tail : (t : List LineByte) (r : LineByte) (s : Step) → IsStep t r s → IsTail (tail_after t r s)
 still_tail t r Step.Waiting h = h.0
 still_tail t r Step.Command h = after_command h.0 h.1 h.2
 still_tail t r (Step.Exchange e) h = nothing refl

@@ -15,14 +15,17 @@ pub place_in_command : (w : Wire) (t : List LineByte) → IsBegun w t → place_
 place_in_command w t h = let b = h.begun in let s = h.short in grind (arith, nat_tests)
 
 pub in_command_quiet : (t : List LineByte) (r : LineByte) → IsBegun Controller t → last_time t ≤ r.time_us
-    → pairing t r ≡ None ↔ (GoesOn Controller t r × (ends_block t ≡ true → (r.byte ≡ sum (bytes_of t) % 256) × (c : Command) × (command_of (block_of (bytes_of t)) ≡ Some c)))
-in_command_quiet t r h later = rw (place_in_command Controller t h) (λ quiet. (grind (arith, nat_tests), λ ends. grind (arith, nat_tests)), λ k. grind (arith, nat_tests))
+    → pairing t r ≡ None ↔ (GoesOn Controller t r × (ends_block t ≡ true
+    → (r.byte ≡ sum (bytes_of t) % 256) × (c : Command) × (command_of (block_of (bytes_of t)) ≡ Some c)))
+in_command_quiet t r h later = rw (place_in_command Controller t h)
+    (λ quiet. (grind (arith, nat_tests), λ ends. grind (arith, nat_tests)), λ k. grind (arith, nat_tests))
 
--- after a whole command
+-- after a complete command
 pub place_of_command : (w : Wire) (t : List LineByte) (b : Block) → IsWhole w t b → place_of t ≡ AfterCommand
 place_of_command w t b h = let len = whole_len w t b h in let long = whole_long w t b h in grind (arith, nat_tests)
 
-pub after_command_quiet : (t : List LineByte) (r : LineByte) (b : Block) → IsWhole Controller t b → last_time t ≤ r.time_us → pairing t r ≡ None ↔ (IsBegun Deck (r ∷ []) × IsInTime t (r ∷ []))
+pub after_command_quiet : (t : List LineByte) (r : LineByte) (b : Block) → IsWhole Controller t b → last_time t ≤ r.time_us
+    → pairing t r ≡ None ↔ (IsBegun Deck (r ∷ []) × IsInTime t (r ∷ []))
 after_command_quiet t r b h later = rw (place_of_command Controller t b h) (λ quiet. grind (arith, nat_tests), λ k. grind (arith, nat_tests))
 
 -- inside a reply
@@ -39,7 +42,8 @@ pub record InReplyOf (command reply tail : List LineByte) (c : Command) : Type 0
   pub meant : command_of (block_of (bytes_of (take (block_len tail - 1) tail))) ≡ Some c
   pub last : last_time tail ≡ last_time reply
 
-pub in_reply_of : (command reply tail : List LineByte) (b : Block) (c : Command) → tail ≡ command ++ reply → IsCommand command b c → 0 < length reply → InReplyOf command reply tail c
+pub in_reply_of : (command reply tail : List LineByte) (b : Block) (c : Command) → tail ≡ command ++ reply → IsCommand command b c → 0 < length reply
+    → InReplyOf command reply tail c
 in_reply_of command reply tail b c split h some =
     let len = whole_len Controller command b h.whole in
     let long = whole_long Controller command b h.whole in
@@ -49,7 +53,8 @@ in_reply_of command reply tail b c split h some =
     let apart : command ≡ take last command ++ get_or command last (record { time_us = 0; wire = Deck; byte = 0 }) ∷ [] =
     sym (take_all (last + 1) command (omega arith)) ∙ take_more command last (record { time_us = 0; wire = Deck; byte = 0 }) (omega arith) in
     let body = (whole_less Controller _ _ b (subst (λ (l : List LineByte). IsWhole Controller l b) apart h.whole)).block in
-    let front : take (block_len (command ++ reply) - 1) (command ++ reply) ≡ take last command = ap (λ n. take (n - 1) (command ++ reply)) whole ∙ take-append-le last command reply (omega arith) in
+    let front : take (block_len (command ++ reply) - 1) (command ++ reply) ≡ take last command =
+    ap (λ n. take (n - 1) (command ++ reply)) whole ∙ take-append-le last command reply (omega arith) in
     rw split (record {
       place = grind (arith, nat_tests);
       current = ap (λ n. drop n (command ++ reply)) whole ∙ drop_at command reply (length command) refl;
@@ -63,5 +68,7 @@ answered t reply c is = in_reply_of is.command reply t is.block c is.split is.is
 
 pub in_reply_quiet : (command reply t : List LineByte) (c : Command) (r : LineByte) → InReplyOf command reply t c → last_time t ≤ r.time_us
     → pairing t r ≡ None
-    ↔ (GoesOn Deck reply r × (ends_block reply ≡ true → (r.byte ≡ sum (bytes_of reply) % 256) × (fits c (block_of (bytes_of reply)) ≡ true) × (is_reply_time_valid c (block_of (bytes_of reply)) ≡ true)))
-in_reply_quiet command reply t c r parts later = rw parts.place (λ quiet. (grind (arith, nat_tests), λ ends. grind (arith, nat_tests)), λ k. grind (arith, nat_tests))
+    ↔ (GoesOn Deck reply r × (ends_block reply ≡ true → (r.byte ≡ sum (bytes_of reply) % 256) × (fits c (block_of (bytes_of reply)) ≡ true)
+    × (is_reply_time_valid c (block_of (bytes_of reply)) ≡ true)))
+in_reply_quiet command reply t c r parts later = rw parts.place
+    (λ quiet. (grind (arith, nat_tests), λ ends. grind (arith, nat_tests)), λ k. grind (arith, nat_tests))

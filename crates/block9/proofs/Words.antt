@@ -1,7 +1,7 @@
 -- The names from elsewhere that the proofs of this crate cite, passed on from one place. Declares nothing.
 pub use Rattle.block9.specs.Block.{body_of, spelling, Spells}
 pub use Rattle.block9.specs.Command.{command_of, fits, is_reply_time_valid}
-pub use Rattle.block9.specs.Exchange.{Cut, Does, IsCommand, IsExchange, IsInTime, IsKept, IsTail, tail_after}
+pub use Rattle.block9.specs.Exchange.{Cut, IsStep, IsCommand, IsExchange, IsInTime, IsKept, IsTail, tail_after}
 pub use Rattle.block9.specs.Exchange.IsTail.{after_command, in_command, in_reply, nothing}
 pub use Rattle.block9.specs.Line.{block_len, byte_gap, bytes_of, first_time, IsBegun, IsLinked, IsWhole, last_time}
 pub use Rattle.block9.specs.Pairer.{BeginsWith, Paired, Refuses, Takes}

@@ -16,11 +16,11 @@ pub record IsBlock (b : Block) : Type 0 where
 abbrev pub first_byte_of : Block → ℕ
 first_byte_of b = 16 * b.group + length b.bytes.items
 
--- the bytes before the sum: the first one, the code, the data
+-- the bytes before the checksum: the first one, the code, the data
 abbrev pub body_of : Block → List ℕ
 body_of b = first_byte_of b ∷ b.code ∷ b.bytes.items
 
--- a block as it is sent: its body, and the sum of the body's bytes modulo 256
+-- a block as it is sent: its body, and the checksum, which is the sum of the body's bytes modulo 256
 abbrev pub spelling : Block → List ℕ
 spelling b = body_of b ++ sum (body_of b) % 256 ∷ []
 

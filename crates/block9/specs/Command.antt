@@ -178,7 +178,7 @@ is_status most reply = reply.group == 7 && reply.code == 0x20 && nat_le (length 
 
 -- ---- the name of each command, and its reply
 
--- the name that the protocol manual gives to a command, and the reply that it may have beside a NAK
+-- the name that the protocol manual gives to a command, and the reply that it may have besides a NAK
 pub record Listing : Type 0 where
   pub name : Option (List ℕ)
   pub answer : Block → Bool

@@ -11,7 +11,7 @@ use Rattle.block9.specs.Block.{spelling}
 use Rattle.block9.specs.Command.{command_of, fits, is_reply_time_valid}
 use Rattle.block9.specs.Line.{IsWhole, IsBegun, first_time, last_time, reply_limit}
 
--- a whole command: a block on the controller's wire, with what it means
+-- a complete command: a block on the controller's wire, with what it means
 pub record IsCommand (records : List LineByte) (b : Block) (c : Command) : Type 0 where
   pub whole : IsWhole Controller records b
   pub meaning : command_of b ≡ Some c
@@ -38,12 +38,13 @@ pub record IsExchange (records : List LineByte) (e : Exchange) : Type 0 where
 abbrev pub records_of : Exchange → ℕ
 records_of e = length (spelling e.block) + length (spelling e.reply)
 
--- what may be open at the end: nothing, a command that is begun or whole, or a command and the beginning of its reply
+-- what may be open at the end: nothing, a command that is begun or complete, or a command and the beginning of its reply
 pub data IsTail (records : List LineByte) : Type 0 where
   nothing : records ≡ [] → IsTail records
   in_command : IsBegun Controller records → IsTail records
   after_command : (b : Block) (c : Command) → IsCommand records b c → IsTail records
-  in_reply : (command reply : List LineByte) (b : Block) (c : Command) → records ≡ command ++ reply → IsCommand command b c → IsBegun Deck reply → IsInTime command reply → IsTail records
+  in_reply : (command reply : List LineByte) (b : Block) (c : Command) → records ≡ command ++ reply → IsCommand command b c → IsBegun Deck reply
+      → IsInTime command reply → IsTail records
 
 -- the records are those of the exchanges, in order, and then the tail
 abbrev pub Cut : List LineByte → List Exchange → List LineByte → Type 0
@@ -56,14 +57,14 @@ pub record IsKept (records : List LineByte) : Type 0 where
   pub tail : List LineByte
   pub cut : Cut records exchanges tail
 
--- the tail that a step leaves: it grows by the record, and a whole exchange leaves nothing open
+-- the tail that a step leaves: it grows by the record, and a complete exchange leaves nothing open
 abbrev pub tail_after : List LineByte → LineByte → Step → List LineByte
 tail_after tail r step.Waiting = tail ++ r ∷ []
 tail_after tail r step.Command = tail ++ r ∷ []
 tail_after tail r (step.Exchange e) = []
 
 -- what a record does that keeps the rules after a tail
-abbrev pub Does : List LineByte → LineByte → Step → Type 0
-Does tail r step.Waiting = IsTail (tail ++ r ∷ []) × ((b : Block) (c : Command) → ¬ IsCommand (tail ++ r ∷ []) b c)
-Does tail r step.Command = (b : Block) × (c : Command) × IsCommand (tail ++ r ∷ []) b c
-Does tail r (step.Exchange e) = IsExchange (tail ++ r ∷ []) e
+abbrev pub IsStep : List LineByte → LineByte → Step → Type 0
+IsStep tail r step.Waiting = IsTail (tail ++ r ∷ []) × ((b : Block) (c : Command) → ¬ IsCommand (tail ++ r ∷ []) b c)
+IsStep tail r step.Command = (b : Block) × (c : Command) × IsCommand (tail ++ r ∷ []) b c
+IsStep tail r (step.Exchange e) = IsExchange (tail ++ r ∷ []) e

@@ -1,4 +1,4 @@
--- Blocks as they stand on a wire: lists of captured records.
+-- Blocks on a wire: lists of captured records.
 use Rattle.std.specs.Prelude.{ℕ, ◌+◌, ◌/◌, ◌%◌, ◌<◌, ◌≤◌, ◌≡◌, ◌&&◌, ◌==◌, nat_lt, not, Bool, true, List, [], ◌∷◌, map, length}
 use Rattle.capture9.specs.declared.line_byte.LineByte.{LineByte}
 use Rattle.capture9.specs.declared.line_byte.Wire.{Wire}

@@ -5,12 +5,12 @@ use Rattle.block9.specs.declared.pairer.Step.{Step}
 use Rattle.block9.specs.declared.reason.Reason.{Reason}
 use Rattle.block9.specs.declared.block.Block.{Block}
 use Rattle.block9.specs.declared.command.Command.{Command}
-use Rattle.block9.specs.Exchange.{Does, IsCommand, IsKept, tail_after}
+use Rattle.block9.specs.Exchange.{IsStep, IsCommand, IsKept, tail_after}
 use Rattle.block9.specs.Reason.{IsReason}
 
 -- a `Pairer` as its callers see it
 pub record Paired : Type 0 where
-  -- the records since the last whole exchange, without the one that broke a rule
+  -- the records since the last complete exchange, without the one that broke a rule
   pub tail : List LineByte
   -- the time of the last record that it was fed
   pub last_time : Option ℕ
@@ -19,7 +19,7 @@ pub record Paired : Type 0 where
 
 -- a record that keeps the rules was taken
 pub record Takes (old : Paired) (r : LineByte) (step : Step) (new : Paired) : Type 0 where
-  pub does : Does old.tail r step
+  pub does : IsStep old.tail r step
   pub tail : new.tail ≡ tail_after old.tail r step
   pub last_time : new.last_time ≡ Some r.time_us
   pub reason : new.reason ≡ None
@@ -32,7 +32,7 @@ pub record Refuses (old : Paired) (r : LineByte) (reason : Reason) (new : Paired
   pub last_time : new.last_time ≡ Some r.time_us
   pub known : new.reason ≡ Some reason
 
--- a tail begins with a whole command, and this is what it means
+-- a tail begins with a complete command, and this is what it means
 pub record BeginsWith (tail : List LineByte) (c : Command) : Type 0 where
   pub records : List LineByte
   pub reply : List LineByte

@@ -12,13 +12,13 @@ use Rattle.block9.specs.Command.{command_of, fits, is_reply_time_valid}
 use Rattle.block9.specs.Line.{IsBegun, IsWhole, allows, block_len, byte_gap, bytes_of, group_in, last_time, reply_limit}
 use Rattle.block9.specs.Exchange.{IsCommand, IsInTime}
 
--- ---- what a tail is, beside nothing and a begun command
+-- ---- what a tail is, besides nothing and a begun command
 
--- a whole command
+-- a complete command
 abbrev pub IsWholeCommand : List LineByte → Type 0
 IsWholeCommand tail = (b : Block) × (c : Command) × IsCommand tail b c
 
--- a whole command, and after it, in time, the first records of its reply
+-- a complete command, and after it, in time, the first records of its reply
 pub record IsAnswered (tail : List LineByte) (c : Command) (reply : List LineByte) : Type 0 where
   pub command : List LineByte
   pub block : Block
@@ -52,7 +52,7 @@ Holds LateReply tail r = IsWholeCommand tail × (r.wire ≡ Deck) × (last_time 
 Holds ByteGap tail r = ((records : List LineByte) × IsOpen tail records) × (last_time tail + byte_gap < r.time_us)
 -- the first record of a block has a group that its wire does not allow
 Holds WrongGroup tail r = ((tail ≡ []) ⊎ IsWholeCommand tail) × (allows r.wire (group_in r.byte) ≡ false)
--- a block is begun, and the record stands where its sum does and is not the sum of the bytes before it
+-- a block is begun, and the record is in the place of its checksum and is not the sum of the bytes before it
 Holds WrongSum tail r =
     (records : List LineByte) × IsOpen tail records × (length records + 1 ≡ block_len records) × (r.byte ≢ sum (bytes_of records) % 256)
 -- a command that ends has no meaning, since its time is not valid

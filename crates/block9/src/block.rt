@@ -12,8 +12,8 @@ const MOST_DATA: usize = 15;
 
 /// A block: a group, a code, and 0 to 15 data bytes.
 ///
-/// On the line stand the group and the number of data bytes in one byte, the code, the data, and the sum
-/// of all these bytes modulo 256 (the protocol manual).
+/// Its bytes on the line are: the group and the number of data bytes in one byte, the code, the data, and the checksum,
+/// which is the sum of all these bytes modulo 256 (the protocol manual).
 #[derive(Debug, Drop, PartialEq, Eq)]
 pub struct Block {
     /// The high four bits of the first byte, so below 16: what kind of message it is.
@@ -34,10 +34,10 @@ impl Block {
     ghost use Rattle.block9.specs.Line.{bytes_of};
     ghost use Rattle.block9.specs.Working.Body.{block_of, most_body};
 
-    /// The block that these bytes spell, its sum included.
+    /// The block that these bytes spell, its checksum included.
     ///
-    /// `None` exactly where they are not the spelling of one whole block: there are fewer or more of them
-    /// than the first byte says, or the last one is not the sum.
+    /// `None` exactly where they are not the spelling of one complete block: there are fewer or more of them
+    /// than the first byte says, or the last one is not the checksum.
     pub fn from_bytes(bytes: &[u8]) -> Option<Block>
         ensures some { IfSome result (Spells bytes.now) }
         ensures none { IfNone result ((b : Block) → ¬ Spells bytes.now b) }
@@ -66,7 +66,7 @@ impl Block {
         u32::from(self.group) * 16 + self.bytes.len() as u32
     }
 
-    /// The last byte of the block on the line: the sum of all bytes before it modulo 256.
+    /// The last byte of the block on the line: the checksum, the sum of all bytes before it modulo 256.
     pub fn checksum(&self) -> u8
         ensures { result ≡ sum (body_of self.now) % 256 }
     {
@@ -106,7 +106,7 @@ impl Block {
         TimeCode::from_bytes(*bytes)
     }
 
-    /// The block with this body: the bytes before the sum.
+    /// The block with this body: the bytes before the checksum.
     pub(crate) fn of_body(body: &[u8]) -> Block
         requires code { 2 ≤ length body.now }
         requires data { length body.now ≤ most_body }
@@ -123,7 +123,7 @@ impl Block {
         }
     }
 
-    /// The block whose bytes before the sum are those of these records.
+    /// The block whose bytes before the checksum are those of these records.
     pub(crate) fn of_records(records: &[LineByte]) -> Block
         requires code { 2 ≤ length records.now }
         requires data { length records.now ≤ most_body }

@@ -1,7 +1,7 @@
 //! Pairs commands with replies, one record at a time.
 ghost use Rattle.std.specs.Prelude.{◌≡◌, ◌≤◌, length, true, IfOk, IfErr, OnErr, OnOk, None, Some};
 ghost use Rattle.std.specs.Option.{ForSome};
-ghost use Rattle.block9.specs.Exchange.{Does, tail_after};
+ghost use Rattle.block9.specs.Exchange.{IsStep, tail_after};
 ghost use Rattle.block9.specs.declared.pairer.OpenCommand.{OpenCommand as Open};
 ghost use Rattle.block9.specs.Line.{bytes_of, last_time};
 ghost use Rattle.block9.specs.Working.Body.{block_of};
@@ -19,10 +19,10 @@ use arrayvec::ArrayVec;
 use capture9::LineByte;
 use std::marker::Model;
 
-/// The most records since the last whole exchange: a command of 18, and all of its reply but the last.
+/// The most records since the last complete exchange: a command of 18, and all of its reply but the last.
 const MOST_OPEN: usize = 35;
 
-/// A whole command and its whole reply.
+/// A complete command and its complete reply.
 #[derive(Debug, Drop, PartialEq, Eq)]
 pub struct Exchange {
     /// What the command's block means.
@@ -58,7 +58,7 @@ pub enum Step {
     Waiting,
     /// It is the last record of a command, whose reply is still to come.
     Command,
-    /// It is the last record of a reply: this exchange is whole.
+    /// It is the last record of a reply: this exchange is complete.
     Exchange(Exchange),
 }
 
@@ -71,7 +71,7 @@ struct OpenCommand {
     block: Block,
 }
 
-/// The rule that the record breaks before its block is whole: its turn, its time, its group.
+/// The rule that the record breaks before its block is complete: its turn, its time, its group.
 fn early_fault(place: Place, tail: &[LineByte], line_byte: LineByte) -> Option<Reason>
     requires later { last_time tail.now ≤ line_byte.time_us }
     ensures { result ≡ early_fault place tail.now line_byte }
@@ -123,7 +123,7 @@ fn exchange_of(tail: &[LineByte], open_command: OpenCommand, reply: Block) -> Ex
 }
 
 /// Whether the record is the last one of the block that it goes on with, or the first rule that it breaks before its
-/// block is whole. `place`: where the tail stands.
+/// block is complete. `place`: where the tail stands.
 #[inline(always)]
 fn turn_at(place: Place, tail: &[LineByte], line_byte: LineByte) -> Result<bool, Reason>
     requires place { place ≡ place_of tail.now }
@@ -137,8 +137,9 @@ fn turn_at(place: Place, tail: &[LineByte], line_byte: LineByte) -> Result<bool,
     Ok(ends_block(place.open_in(tail)))
 }
 
-/// The same at whatever place the tail stands. Each place has a call of its own, which is compiled for it alone: most
-/// records neither begin nor end a block, and are done after this.
+/// Whether the record is the last one of the block that it goes on with, or the first rule that it breaks before its block is
+/// complete. Each place has a call of its own, which is compiled for it alone: most records neither begin nor end a block,
+/// and are done after this.
 #[inline(always)]
 fn turn(tail: &[LineByte], line_byte: LineByte) -> Result<bool, Reason>
     requires { last_time tail.now ≤ line_byte.time_us }
@@ -165,7 +166,7 @@ fn end(
     requires held { IsHeld tail.now open_command.old }
     requires later { last_time tail.now ≤ line_byte.time_us }
     requires ends { IsTurn tail.now line_byte true }
-    ensures ok { IfOk result (λ step. Does tail.now line_byte step × IsHeld (tail_after tail.now line_byte step) open_command.new) }
+    ensures ok { IfOk result (λ step. IsStep tail.now line_byte step × IsHeld (tail_after tail.now line_byte step) open_command.new) }
     ensures err { IfErr result (λ reason. pairing tail.now line_byte ≡ Some reason) }
     ensures kept { OnErr result (open_command.new ≡ open_command.old) }
 {
@@ -188,7 +189,7 @@ fn end(
     }
 }
 
-/// Leaves the tail as a step does: it has the record at its end, or is empty after a whole exchange.
+/// Leaves the tail as a step does: it has the record at its end, or is empty after a complete exchange.
 #[inline(always)]
 fn advance(tail: &mut ArrayVec<LineByte, MOST_OPEN>, line_byte: LineByte, step: &Step)
     requires { length (tail_after tail.old.items line_byte step.now) ≤ most_open }
@@ -211,7 +212,7 @@ fn refuse(kept: &mut Option<Reason>, reason: Reason) -> Reason
 
 /// Pairs commands with replies, one record at a time.
 ///
-/// It holds its tail, which is the records since the last whole exchange: at most a command of 18 records
+/// It holds its tail, which is the records since the last complete exchange: at most a command of 18 records
 /// and 17 of its reply. Once a record broke a rule it holds the reason too, and the tail before that record. No call
 /// takes memory.
 #[derive(Drop)]
@@ -299,8 +300,8 @@ impl Pairer {
         self.last_time
     }
 
-    /// The records since the last whole exchange: those of a command whose reply is not whole yet, with what there is of the
-    /// reply, or of a command that is not whole itself. After a reason they are those before the record which broke the
+    /// The records since the last complete exchange: those of a command whose reply is unfinished yet, with what there is of the
+    /// reply, or of a command that is unfinished itself. After a reason they are those before the record which broke the
     /// rule.
     pub fn tail(&self) -> &[LineByte]
         ensures { result.now ≡ self.now.tail }
@@ -319,7 +320,7 @@ impl Pairer {
         }
     }
 
-    /// How many records came since the last whole exchange, at most 35.
+    /// How many records came since the last complete exchange, at most 35.
     pub fn tail_len(&self) -> usize
         ensures len { result ≡ length self.now.tail }
         ensures bound { result ≤ 35 }

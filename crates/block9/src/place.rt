@@ -4,7 +4,7 @@ ghost use Rattle.std.specs.Prelude.{◌≡◌};
 use crate::line::block_len;
 use capture9::LineByte;
 
-/// Where a tail stands: the records since the last whole exchange.
+/// Where a tail stands: the records since the last complete exchange.
 #[derive(Clone, Copy, Debug, PartialEq, Eq)]
 pub enum Place {
     /// No command is begun.

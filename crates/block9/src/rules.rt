@@ -1,4 +1,4 @@
-//! The rules that a record may break before its block is whole, by the place where the tail stands. What each
+//! The rules that a record may break before its block is complete, by the place where the tail stands. What each
 //! reason says is in `specs/Reason.antt`.
 ghost use Rattle.std.specs.Prelude.{◌≡◌, ◌<◌};
 ghost use Rattle.block9.specs.Line.{allows};
@@ -43,7 +43,7 @@ pub(crate) fn group_fault(place: Place, allowed: bool) -> Option<Reason>
     }
 }
 
-/// Whether blocks of this group may stand on the wire. The protocol has groups 1 and 7 for the deck, and
+/// Whether blocks of this group may come on the wire. The protocol has groups 1 and 7 for the deck, and
 /// 0, 2, 4 and 6 for the controller; this profile takes every other group on both wires.
 pub(crate) fn allows(wire: Wire, group: u8) -> bool
     requires { group < 16 }

@@ -26,7 +26,8 @@ after_read : (cfg : Config) (n m : ℕ) (s : State) (bytes : List ℕ) (p : Read
     → (length p.2 < length bytes → records_from cfg n p.1 p.2 ≡ records_from cfg m p.1 p.2) → records_from cfg n p.1 p.2 ≡ records_from cfg m p.1 p.2
 after_read cfg n m s bytes p e same = grind (arith, none_at_start, (next_falls cfg s [] [] bytes p e).falls)
 
-same_next : (f g : State → List ℕ → List (List (List ℕ))) (o : Option Read) → ((p : Read) → o ≡ Some p → f p.1 p.2 ≡ g p.1 p.2) → records_next f o ≡ records_next g o
+same_next : (f g : State → List ℕ → List (List (List ℕ))) (o : Option Read) → ((p : Read) → o ≡ Some p → f p.1 p.2 ≡ g p.1 p.2)
+    → records_next f o ≡ records_next g o
 same_next f g None same = refl
 same_next f g (Some p) same = ap (λ t. p.0 ∷ t) (same p refl)
 
@@ -35,7 +36,8 @@ enough_turns : (cfg : Config) (n m : ℕ) (s : State) (bytes : List ℕ) → len
     → records_from cfg n s bytes ≡ records_from cfg m s bytes
 unfolding records_from
 enough_turns cfg (suc n) (suc m) s bytes h k =
-    same_next (records_from cfg n) (records_from cfg m) _ (λ p e. after_read cfg n m s bytes p e (λ lt. enough_turns cfg n m p.1 p.2 (omega arith) (omega arith)))
+    same_next (records_from cfg n) (records_from cfg m) _
+        (λ p e. after_read cfg n m s bytes p e (λ lt. enough_turns cfg n m p.1 p.2 (omega arith) (omega arith)))
 enough_turns cfg n m s bytes h k = absurd (omega arith)
 
 pub records_at-some : (s : State) (bytes : List ℕ) (p : Read) → next_record default_config s [] [] bytes ≡ Some p

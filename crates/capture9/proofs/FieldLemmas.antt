@@ -10,7 +10,8 @@ digit_value-digit c h = grind (arith, nat_tests)
 
 -- decimal digits and their value are std's
 pub numerals : IsNumeralModel (λ ds. all_ascii_digits ds ≡ true) decimal_value
-numerals = numerals_by_weight _ tells_all_ascii_digits decimal_value (record { empty = refl; more = λ c cs digit. ap (λ v. v * 10 ^ length cs + decimal_value cs) (grind (arith, nat_tests)) })
+numerals = numerals_by_weight _ tells_all_ascii_digits decimal_value
+    (record { empty = refl; more = λ c cs digit. ap (λ v. v * 10 ^ length cs + decimal_value cs) (grind (arith, nat_tests)) })
 
 pub pow-positive : (n : ℕ) → 0 < 10 ^ n
 pow-positive zero = lit< tt
@@ -72,7 +73,8 @@ module _ (field front rest : List ℕ) (whole : field ≡ front ++ rest) (some :
 
 -- they are digits where each of them is, two by two
 pub all-eight : (xs : List ℕ) → length xs ≡ 8
-    → all_ascii_digits xs ≡ ((is_ascii_digit (get_or xs 0 0) && is_ascii_digit (get_or xs 1 0)) && ((is_ascii_digit (get_or xs 2 0) && is_ascii_digit (get_or xs 3 0))
+    → all_ascii_digits xs ≡ ((is_ascii_digit (get_or xs 0 0) && is_ascii_digit (get_or xs 1 0)) &&
+        ((is_ascii_digit (get_or xs 2 0) && is_ascii_digit (get_or xs 3 0))
     && ((is_ascii_digit (get_or xs 4 0) && is_ascii_digit (get_or xs 5 0)) && ((is_ascii_digit (get_or xs 6 0) && is_ascii_digit (get_or xs 7 0)) && true))))
 all-eight (a ∷ b ∷ c ∷ d ∷ e ∷ f ∷ g ∷ h ∷ []) size = simp and_assoc
 all-eight xs size = absurd (omega arith)
@@ -80,7 +82,8 @@ all-eight xs size = absurd (omega arith)
 -- what their bytes come to: each `0` is 48 too many
 pub value-eight : (xs : List ℕ) → length xs ≡ 8 → all_ascii_digits xs ≡ true
     → decimal_value xs + 533333328
-    ≡ ((get_or xs 0 0 * 10 + get_or xs 1 0) * 100 + (get_or xs 2 0 * 10 + get_or xs 3 0)) * 10000 + ((get_or xs 4 0 * 10 + get_or xs 5 0) * 100 + (get_or xs 6 0 * 10 + get_or xs 7 0))
+    ≡ ((get_or xs 0 0 * 10 + get_or xs 1 0) * 100 + (get_or xs 2 0 * 10 + get_or xs 3 0)) * 10000 +
+        ((get_or xs 4 0 * 10 + get_or xs 5 0) * 100 + (get_or xs 6 0 * 10 + get_or xs 7 0))
 value-eight (a ∷ b ∷ c ∷ d ∷ e ∷ f ∷ g ∷ h ∷ []) size all = grind (arith, nat_tests, digit_value-digit, and_parts)
 value-eight xs size all = absurd (omega arith)
 

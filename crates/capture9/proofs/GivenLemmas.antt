@@ -25,11 +25,13 @@ last-at before (x ∷ []) zero d size = refl
 last-at before (x ∷ y ∷ items) (suc n) d size = last-at x.time_us (y ∷ items) n d (omega arith)
 last-at before items n d size = absurd (omega arith)
 
-pub given-more : {R : Type 0} (items : List LineByte) (progress after : Progress R) (r : LineByte) → AreGiven items progress → GivesRecord progress r after → AreGiven (items ++ r ∷ []) after
+pub given-more : {R : Type 0} (items : List LineByte) (progress after : Progress R) (r : LineByte) → AreGiven items progress → GivesRecord progress r after
+    → AreGiven (items ++ r ∷ []) after
 given-more items progress after r h gives = record {
   can_be = record {
     limit = omega (arith, gives.within, count);
-    in_order = IsNonDecreasingBy-push (λ (x : LineByte). x.time_us) items r h.can_be.in_order (λ d some. omega (arith, gives.in_order, last-at 0 items (length items - 1) d (omega arith), h.last_time));
+    in_order = IsNonDecreasingBy-push (λ (x : LineByte). x.time_us) items r h.can_be.in_order
+        (λ d some. omega (arith, gives.in_order, last-at 0 items (length items - 1) d (omega arith), h.last_time));
     in_range = All-push (λ (x : LineByte). x.time_us < 10 ^ 15) items r h.can_be.in_range gives.in_range;
     bytes = All-push (λ (x : LineByte). x.byte < 256) items r h.can_be.bytes gives.is_byte;
     fault = tt;
@@ -42,7 +44,8 @@ given-more items progress after r h gives = record {
     count = omega (arith, h.given, gives.given, length_push items r)
 
 -- a refusal of the text after these records
-pub given-refused : {R : Type 0} (items : List LineByte) (progress after : Progress R) (e : CaptureError) → AreGiven items progress → progress.standing ≡ Reading → GivesRefusal progress e after → IsTrue (is_of_text e.kind)
+pub given-refused : {R : Type 0} (items : List LineByte) (progress after : Progress R) (e : CaptureError) → AreGiven items progress
+    → progress.standing ≡ Reading → GivesRefusal progress e after → IsTrue (is_of_text e.kind)
     → CanBeRows (record { records = items; fault = Some e })
 given-refused items progress after e h reads refusal text = record {
   limit = h.can_be.limit;

@@ -25,7 +25,8 @@ holds-bad number before fields k bad =
     let known = row_of-err number before fields k bad in
     grind (arith, at-its-row, known.of_text)
 
-holds-good : (number before : ℕ) (fields : List (List ℕ)) (r : LineByte) (rest : Rows) → row_of number before fields ≡ Ok r → HoldsFrom (number + 1) r.time_us rest
+holds-good : (number before : ℕ) (fields : List (List ℕ)) (r : LineByte) (rest : Rows) → row_of number before fields ≡ Ok r
+    → HoldsFrom (number + 1) r.time_us rest
     → HoldsFrom number before (good_row r rest)
 holds-good number before fields r rest good more =
     let known = row_of-ok number before fields r good in
@@ -33,7 +34,8 @@ holds-good number before fields r rest good more =
     record {
       limit = λ h. omega (arith, known.within, more.limit);
       after = All-cons (λ x. before ≤ x.time_us) r rest.records low (λ k d h. let high = more.after k d h in omega arith);
-      in_order = IsNonDecreasingBy-insert (λ x. x.time_us) rest.records 0 r more.in_order (omega arith) (λ k d low. absurd (omega arith)) (λ k d low within. more.after k d within);
+      in_order = IsNonDecreasingBy-insert (λ x. x.time_us) rest.records 0 r more.in_order (omega arith) (λ k d low. absurd (omega arith))
+          (λ k d low within. more.after k d within);
       in_range = All-cons (λ x. x.time_us < 10 ^ 15) r rest.records known.in_range more.in_range;
       bytes = All-cons (λ x. x.byte < 256) r rest.records known.is_byte more.bytes;
       fault = λ first last e h. let within = known.within in let wrong = more.fault (omega arith) (omega arith) e h in grind arith;
@@ -54,7 +56,8 @@ has-header (fields ∷ rest) = (λ h. (fields, rest, refl, grind arith), λ w. g
 -- ---- rows that some text can hold
 
 -- a fault of a data row can follow the records before it
-pub can-follow : (k : CaptureKind) (items : List LineByte) (row : ℕ) → IsTrue (is_of_text k) → IsAtItsRow (record { kind = k; row = row }) → row ≡ length items + 1 → length items ≤ most_rows
+pub can-follow : (k : CaptureKind) (items : List LineByte) (row : ℕ) → IsTrue (is_of_text k) → IsAtItsRow (record { kind = k; row = row })
+    → row ≡ length items + 1 → length items ≤ most_rows
     → (k ≡ CaptureKind.Backwards → 0 < last_time 0 items) → CanFollow k items row
 can-follow k items row t placed place limit late = grind arith
 
@@ -72,5 +75,6 @@ can-be [] = grind arith
 can-be (fields ∷ rest) = grind (arith, headed-can-be (rows_from 1 0 rest) (holds-from 1 0 rest))
 
 -- what a fault that can follow records says of itself
-pub of-fault : (csv : List (List (List ℕ))) (e : CaptureError) → (headed_rows csv).fault ≡ Some e → IsTrue (is_of_text e.kind) × IsAfter (headed_rows csv).records e
+pub of-fault : (csv : List (List (List ℕ))) (e : CaptureError) → (headed_rows csv).fault ≡ Some e
+    → IsTrue (is_of_text e.kind) × IsAfter (headed_rows csv).records e
 of-fault csv e same = let follows = rw same at (can-be csv).fault in grind arith

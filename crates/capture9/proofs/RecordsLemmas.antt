@@ -16,11 +16,12 @@ takes-row : (given last_time : ℕ) (unread after : Option (List (List (List ℕ
 takes-row given last_time None after fields r read good = tt
 takes-row given last_time (Some rows) after fields r read good = rw (read.1, read.2) (rows_from (given + 1 + 1) r.time_us read.0, refl, rw good refl)
 
--- behind the header none of the rows to come has the header's fault
+-- after the header none of the rows to come has the header's fault
 past-header : (given last_time : ℕ) (unread : Option (List (List (List ℕ)))) → IfSome (option_map (unread_rows true given last_time) unread) HasHeader
 past-header given last_time unread = grind (arith, rows_from-has_header)
 
-pub gives-record : {R : Type 0} (source left : R) (s : Standing) (headed : Bool) (given last_time : ℕ) (unread after : Option (List (List (List ℕ)))) (fields : List (List ℕ)) (r : LineByte)
+pub gives-record : {R : Type 0} (source left : R) (s : Standing) (headed : Bool) (given last_time : ℕ) (unread after : Option (List (List (List ℕ))))
+    (fields : List (List ℕ)) (r : LineByte)
     → s ≡ Standing.Reading → headed ≡ true
     → IfSome unread (λ rows. TakesFields rows true fields after) → row_of (given + 1) last_time fields ≡ Ok r
     → GivesRecord (progress_of s headed given last_time unread source) r (progress_of s headed (given + 1) r.time_us after left)
@@ -45,7 +46,8 @@ bad-first given last_time unread after fields k within read bad =
     let known = row_of-err (given + 1) last_time fields k bad in
     grind (arith, at-its-row (given + 1) last_time k (omega arith) (omega arith) known)
 
-pub refuses-row : {R : Type 0} (source left : R) (s new : Standing) (headed : Bool) (given last_time : ℕ) (unread after : Option (List (List (List ℕ)))) (k : CaptureKind) (e : CaptureError)
+pub refuses-row : {R : Type 0} (source left : R) (s new : Standing) (headed : Bool) (given last_time : ℕ) (unread after : Option (List (List (List ℕ))))
+    (k : CaptureKind) (e : CaptureError)
     → s ≡ Standing.Reading → headed ≡ true → e ≡ record { kind = k; row = given + 1 } → new ≡ Standing.Refused e → IsRowFault given last_time unread k
     → GivesRefusal (progress_of s headed given last_time unread source) e (progress_of new headed given last_time after left)
 refuses-row source left s new headed given last_time unread after k e reads past is marked wrong =
@@ -59,9 +61,11 @@ refused-holds left new headed given last_time k e past within is marked at_its_r
 
 -- a refusal is told again, and nothing changes
 pub refuses-again : {R : Type 0} (source : R) (s : Standing) (headed : Bool) (given last_time : ℕ) (unread : Option (List (List (List ℕ)))) (e : CaptureError)
-    → s ≡ Standing.Refused e → IsPlaced headed given e → GivesRefusal (progress_of s headed given last_time unread source) e (progress_of s headed given last_time unread source)
+    → s ≡ Standing.Refused e → IsPlaced headed given e → GivesRefusal (progress_of s headed given last_time unread source) e
+        (progress_of s headed given last_time unread source)
 refuses-again source s headed given last_time unread e refused placed = rw refused (grind arith)
 
 -- where a refusal stands that came after these records
-pub refused-after : {R : Type 0} (old new : Progress R) (e : CaptureError) (items : List LineByte) → GivesRefusal old e new → old.given ≡ length items → IsAfter items e
+pub refused-after : {R : Type 0} (old new : Progress R) (e : CaptureError) (items : List LineByte) → GivesRefusal old e new → old.given ≡ length items
+    → IsAfter items e
 refused-after old new e items refusal count = grind (arith, nil_from_length items)

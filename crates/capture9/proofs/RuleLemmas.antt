@@ -11,17 +11,23 @@ IsRead number before fields (Ok r) = Spell fields r × ((k : CaptureKind) → ¬
 IsRead number before fields (Err k) = IsFirstOf (λ j. RowBreaks j number before fields) row_kinds k
 
 -- the first of the rules that a row breaks, by those before it that it keeps
-first-of : (P : CaptureKind → Type 0) (before after : List CaptureKind) (k : CaptureKind) → AllByRecursion (λ j. ¬ (P j)) before → P k → IsFirstOf P (before ++ k ∷ after) k
-first-of P before after k none holds = record { before = before; after = after; split = refl; holds = holds; none_before = All-from_recursion (λ j. ¬ (P j)) before none }
+first-of : (P : CaptureKind → Type 0) (before after : List CaptureKind) (k : CaptureKind) → AllByRecursion (λ j. ¬ (P j)) before → P k
+    → IsFirstOf P (before ++ k ∷ after) k
+first-of P before after k none holds = record { before = before; after = after; split = refl; holds = holds; none_before =
+    All-from_recursion (λ j. ¬ (P j)) before none }
 
 record-read : (number before : ℕ) (a b c : List ℕ) (time : Option ℕ) (wire : Option Wire) (byte : Option ℕ) → ¬ (most_rows < number)
     → time_in a ≡ time → wire_in b ≡ wire → byte_in c ≡ byte → IsRead number before (a ∷ b ∷ c ∷ []) (record_of before time wire byte)
-record-read number before a b c None wire byte few t w y = first-of _ (CaptureKind.TooMany ∷ CaptureKind.Fields ∷ []) _ CaptureKind.Time (few, (λ h. h refl, tt)) t
-record-read number before a b c (Some time) None byte few t w y = first-of _ (CaptureKind.TooMany ∷ CaptureKind.Fields ∷ CaptureKind.Time ∷ []) _ CaptureKind.Wire (few, (λ h. h refl, (λ h. cc, tt))) w
-record-read number before a b c (Some time) (Some wire) None few t w y = first-of _ (CaptureKind.TooMany ∷ CaptureKind.Fields ∷ CaptureKind.Time ∷ CaptureKind.Wire ∷ []) _ _ (grind arith) y
+record-read number before a b c None wire byte few t w y =
+    first-of _ (CaptureKind.TooMany ∷ CaptureKind.Fields ∷ []) _ CaptureKind.Time (few, (λ h. h refl, tt)) t
+record-read number before a b c (Some time) None byte few t w y = first-of _ (CaptureKind.TooMany ∷ CaptureKind.Fields ∷ CaptureKind.Time ∷ []) _
+    CaptureKind.Wire (few, (λ h. h refl, (λ h. cc, tt))) w
+record-read number before a b c (Some time) (Some wire) None few t w y =
+    first-of _ (CaptureKind.TooMany ∷ CaptureKind.Fields ∷ CaptureKind.Time ∷ CaptureKind.Wire ∷ []) _ _ (grind arith) y
 record-read number before a b c (Some time) (Some wire) (Some byte) few t w y =
     cond_both (nat_lt time before) _ _ (IsRead number before (a ∷ b ∷ c ∷ [])) (λ low.
-    first-of _ (CaptureKind.TooMany ∷ CaptureKind.Fields ∷ CaptureKind.Time ∷ CaptureKind.Wire ∷ CaptureKind.Byte ∷ []) _ CaptureKind.Backwards (grind arith) (time, t, grind (arith, nat_tests)))
+    first-of _ (CaptureKind.TooMany ∷ CaptureKind.Fields ∷ CaptureKind.Time ∷ CaptureKind.Wire ∷ CaptureKind.Byte ∷ []) _ CaptureKind.Backwards (grind arith)
+        (time, t, grind (arith, nat_tests)))
     (λ high. ((t, w, y), λ k h. grind (arith, nat_tests)))
 
 fields-read : (number before : ℕ) (fields : List (List ℕ)) → ¬ (most_rows < number) → IsRead number before fields (fields_record before fields)
@@ -33,8 +39,9 @@ row-read number before fields =
     cond_both (nat_lt most_rows number) _ _ (IsRead number before fields) (λ over. first-of _ [] _ CaptureKind.TooMany tt (grind (arith, nat_tests))) (λ few.
     fields-read number before fields (grind (arith, nat_tests)))
 
--- what holds of a row that was read and the rows behind it, and of one that breaks a rule
-pub row_then-by : (P : Rows → Type 0) (number before : ℕ) (fields : List (List ℕ)) (rest : ℕ → Rows) → ((r : LineByte) → row_of number before fields ≡ Ok r → P (good_row r (rest r.time_us)))
+-- what holds of a row that was read and the rows after it, and of one that breaks a rule
+pub row_then-by : (P : Rows → Type 0) (number before : ℕ) (fields : List (List ℕ)) (rest : ℕ → Rows)
+    → ((r : LineByte) → row_of number before fields ≡ Ok r → P (good_row r (rest r.time_us)))
     → ((k : CaptureKind) → row_of number before fields ≡ Err k → P (bad_row k number)) → P (row_then number (row_of number before fields) rest)
 row_then-by P number before fields rest good bad =
     elim (row_of number before fields) as (λ o. row_of number before fields ≡ o → P (row_then number o rest)) [ Ok r ↦ good r | Err k ↦ bad k ] refl
@@ -53,11 +60,13 @@ part-from number before (fields ∷ rest) =
     row_then-by (HasPartFrom number before (fields ∷ rest)) number before fields (λ time. rows_from (number + 1) time rest) (λ r e.
     let m = part-from (number + 1) r.time_us rest in
     let read = rw e at (row-read number before fields) in
-    record { good = fields ∷ m.good; left = m.left; split = ap (λ (l : List (List (List ℕ))). fields ∷ l) m.split; are_good = (read.0, read.1, m.are_good); are_left = λ n e. m.are_left n (omega arith) }) (λ k e.
+    record { good = fields ∷ m.good; left = m.left; split = ap (λ (l : List (List (List ℕ))). fields ∷ l) m.split; are_good =
+        (read.0, read.1, m.are_good); are_left = λ n e. m.are_left n (omega arith) }) (λ k e.
     let read = rw e at (row-read number before fields) in
     record { good = []; left = fields ∷ rest; split = refl; are_good = refl; are_left = λ n e. let same : n ≡ number = omega arith in rw same (k, read, refl) })
 
-pub first-part : (header : List (List ℕ)) (rows records : List (List (List ℕ))) → records ≡ header ∷ rows → is_header header ≡ true → HasFirstPart rows (headed_rows records)
+pub first-part : (header : List (List ℕ)) (rows records : List (List (List ℕ))) → records ≡ header ∷ rows → is_header header ≡ true
+    → HasFirstPart rows (headed_rows records)
 first-part header rows records same good =
     let m = part-from 1 0 rows in
     rw (same, good) (record { good = m.good; left = m.left; split = m.split; are_good = m.are_good; are_left = m.are_left _ refl })
@@ -109,10 +118,11 @@ row_of-err number before fields k e =
     }
 
 -- the fault of a row, of which there is one too many at most, is where that kind of fault is
-pub at-its-row : (number before : ℕ) (k : CaptureKind) → 1 ≤ number → number ≤ most_rows + 1 → IsRowKind number before k → IsAtItsRow (record { kind = k; row = number })
+pub at-its-row : (number before : ℕ) (k : CaptureKind) → 1 ≤ number → number ≤ most_rows + 1 → IsRowKind number before k
+    → IsAtItsRow (record { kind = k; row = number })
 at-its-row number before k low within known = grind arith
 
--- behind the header no row has the header's fault
+-- after the header no row has the header's fault
 pub rows_from-has_header : (number before : ℕ) (unread : List (List (List ℕ))) → HasHeader (rows_from number before unread)
 rows_from-has_header number before [] = λ e. cc
 rows_from-has_header number before (fields ∷ rest) =

@@ -12,7 +12,8 @@ use Rattle.capture9.proofs.CsvLemmas.{none_at_start, records_at-some}
 time-read : (time : ℕ) → time < 10 ^ 15 → time_in (decimal time) ≡ Some time
 time-read time h =
     let small : time < 2 ^ 64 = omega arith in
-    rw (le-leb 1 _ (decimal_nonempty time small), le-leb _ 15 (length-decimal-le 15 time (lit< tt) h small), digits_decimal numerals time small, digits_value-decimal numerals time small) refl
+    rw (le-leb 1 _ (decimal_nonempty time small), le-leb _ 15 (length-decimal-le 15 time (lit< tt) h small), digits_decimal numerals time small,
+        digits_value-decimal numerals time small) refl
 
 -- ---- two hexadecimal digits
 
@@ -34,7 +35,8 @@ letter Deck = codes "D"
 abbrev spelled : LineByte → List (List ℕ)
 spelled r = decimal r.time_us ∷ letter r.wire ∷ (hex (r.byte / 16) ∷ hex (r.byte % 16) ∷ []) ∷ []
 
-spelled-read : (number before : ℕ) (r : LineByte) → number ≤ most_rows → before ≤ r.time_us → r.time_us < 10 ^ 15 → r.byte < 256 → row_of number before (spelled r) ≡ Ok r
+spelled-read : (number before : ℕ) (r : LineByte) → number ≤ most_rows → before ≤ r.time_us → r.time_us < 10 ^ 15 → r.byte < 256
+    → row_of number before (spelled r) ≡ Ok r
 spelled-read number before r within order range byte =
     let few : (nat_lt most_rows number ≡ false) × (nat_lt r.time_us before ≡ false) = grind (arith, nat_tests) in
     let named : wire_in (letter r.wire) ≡ Some r.wire = grind arith in
@@ -51,19 +53,24 @@ bad_fields _ = [] ∷ []
 -- records that keep the limits, from the row with this number on and after a row of this time
 abbrev AreInRange : ℕ → ℕ → List LineByte → Type 0
 AreInRange number before [] = Unit {0}
-AreInRange number before (r ∷ rest) = (number ≤ most_rows) × (before ≤ r.time_us) × (r.time_us < 10 ^ 15) × (r.byte < 256) × AreInRange (number + 1) r.time_us rest
+AreInRange number before (r ∷ rest) = (number ≤ most_rows) × (before ≤ r.time_us) × (r.time_us < 10 ^ 15) × (r.byte < 256)
+    × AreInRange (number + 1) r.time_us rest
 
-in-range : (number before : ℕ) (items : List LineByte) → number + length items ≤ most_rows + 1 → ((d : LineByte) → 0 < length items → before ≤ (get_or items 0 d).time_us)
-    → IsNonDecreasingBy (λ (r : LineByte). r.time_us) items → All (λ r. r.time_us < 10 ^ 15) items → All (λ r. r.byte < 256) items → AreInRange number before items
+in-range : (number before : ℕ) (items : List LineByte) → number + length items ≤ most_rows + 1
+    → ((d : LineByte) → 0 < length items → before ≤ (get_or items 0 d).time_us)
+    → IsNonDecreasingBy (λ (r : LineByte). r.time_us) items → All (λ r. r.time_us < 10 ^ 15) items → All (λ r. r.byte < 256) items
+        → AreInRange number before items
 in-range number before [] limit first order range byte = tt
 in-range number before (r ∷ rest) limit first order range byte =
     let rise = λ (i j : ℕ) (d : LineByte) (le : i ≤ j) (lt : j < length rest). order (suc i) (suc j) d (omega arith) (omega arith) in
     let later = in-range (number + 1) r.time_us rest (omega arith) (λ d lt. order 0 1 d (omega arith) (omega arith)) rise in
-    (omega arith, first r (omega arith), range 0 r (omega arith), byte 0 r (omega arith), later (λ k d h. range (suc k) d (omega arith)) (λ k d h. byte (suc k) d (omega arith)))
+    (omega arith, first r (omega arith), range 0 r (omega arith), byte 0 r (omega arith), later (λ k d h. range (suc k) d (omega arith))
+        (λ k d h. byte (suc k) d (omega arith)))
 
 -- their rows are read as those records, and then the others
 read-then : (number before : ℕ) (items : List LineByte) (rest : List (List (List ℕ))) (tail : Rows) → AreInRange number before items
-    → rows_from (number + length items) (last_time before items) (map read_back rest) ≡ tail → rows_from number before (map read_back (map spelled items ++ rest)) ≡ record { records = items ++ tail.records; fault = tail.fault }
+    → rows_from (number + length items) (last_time before items) (map read_back rest) ≡ tail
+        → rows_from number before (map read_back (map spelled items ++ rest)) ≡ record { records = items ++ tail.records; fault = tail.fault }
 read-then number before [] rest tail good left = rw add-zero at left
 read-then number before (r ∷ items) rest tail good left =
     let next : number + length (r ∷ items) ≡ number + 1 + length items = omega arith in
@@ -76,7 +83,8 @@ records-rows : (rows : List (List (List ℕ))) → records_at State.StartRecord 
 unfolding rows_text
 records-rows [] = none_at_start default_config 1
 records-rows (row ∷ rows) =
-    records_at-some State.StartRecord (row_text default_writer row ++ rows_text rows) (read_back row, State.StartRecord, rows_text rows) (read-write row (rows_text rows))
+    records_at-some State.StartRecord (row_text default_writer row ++ rows_text rows) (read_back row, State.StartRecord, rows_text rows)
+        (read-write row (rows_text rows))
     ∙ ap (λ (t : List (List (List ℕ))). read_back row ∷ t) (records-rows rows)
 
 abbrev header : List (List ℕ)
@@ -95,8 +103,10 @@ bad-read : (k : CaptureKind) (items : List LineByte) (row : ℕ) → CanFollow k
 bad-read k items row follows other = grind (arith, nat_tests)
 
 -- a text of these records and then others
-text-then : (items : List LineByte) (rest : List (List (List ℕ))) (tail : Rows) (fault : Option CaptureError) → CanBeRows (record { records = items; fault = fault })
-    → rows_from (1 + length items) (last_time 0 items) (map read_back rest) ≡ tail → (text : List ℕ) × (rows_of text ≡ record { records = items ++ tail.records; fault = tail.fault })
+text-then : (items : List LineByte) (rest : List (List (List ℕ))) (tail : Rows) (fault : Option CaptureError)
+    → CanBeRows (record { records = items; fault = fault })
+    → rows_from (1 + length items) (last_time 0 items) (map read_back rest) ≡ tail
+        → (text : List ℕ) × (rows_of text ≡ record { records = items ++ tail.records; fault = tail.fault })
 text-then items rest tail fault h left =
     let good = in-range 1 0 items (omega (arith, h.limit)) (λ d lt. omega arith) h.in_order h.in_range h.bytes in
     (rows_text (header ∷ (map spelled items ++ rest)), headed-text (map spelled items ++ rest) ∙ read-then 1 0 items rest tail good left)
@@ -106,14 +116,17 @@ unfolding strip_bom
 empty-text = rw (none_at_start default_config 1) refl
 
 -- a text of these records and this fault
-text-of : (items : List LineByte) (fault : Option CaptureError) → CanBeRows (record { records = items; fault = fault }) → (text : List ℕ) × (rows_of text ≡ record { records = items; fault = fault })
+text-of : (items : List LineByte) (fault : Option CaptureError) → CanBeRows (record { records = items; fault = fault })
+    → (text : List ℕ) × (rows_of text ≡ record { records = items; fault = fault })
 text-of items None h = rw (append-nil items) at (text-then items [] no_rows None h refl)
 text-of items (Some e) h = by e.kind items e.row h
   where
-    by : (k : CaptureKind) (items : List LineByte) (row : ℕ) → (let fault : CaptureError = record { kind = k; row = row } in CanBeRows (record { records = items; fault = Some fault }))
+    by : (k : CaptureKind) (items : List LineByte) (row : ℕ) → (let fault : CaptureError = record { kind = k; row = row } in
+        CanBeRows (record { records = items; fault = Some fault }))
         → (text : List ℕ) × (rows_of text ≡ record { records = items; fault = Some (record { kind = k; row = row }) })
     by CaptureKind.Header items row h = ([], rw (h.fault.0, h.fault.1) empty-text)
-    by k items row h = rw (append-nil items) at (text-then items (bad_fields k ∷ []) (bad_row k row) (Some (record { kind = k; row = row })) h (bad-read k items row h.fault (λ e. cc)))
+    by k items row h = rw (append-nil items) at (text-then items (bad_fields k ∷ []) (bad_row k row) (Some (record { kind = k; row = row })) h
+        (bad-read k items row h.fault (λ e. cc)))
 
 pub some-text : (rows : Rows) → CanBeRows rows → IsOfSomeText rows
 some-text rows h = text-of rows.records rows.fault h

@@ -1,4 +1,4 @@
--- What a capture that was read whole has of its text.
+-- What a capture that was read to its end has of its text.
 use Rattle.std.specs.Prelude.{◌≡◌, ◌≢◌, List, ◌++◌, Option, Some, None}
 use Rattle.std.specs.Bool.{MatchBool}
 use Rattle.capture9.specs.declared.error.CaptureError.{CaptureError}

@@ -70,6 +70,6 @@ pub record GivesRefusal {R : Type 0} (old : Progress R) (e : CaptureError) (new 
   pub has_header : new.is_headed ≡ true → IfSome old.rows HasHeader
   -- a fault of the text is the one that was to come
   pub fault : IsTrue (is_of_text e.kind) → IfSome old.rows (λ rows. rows ≡ bad_row e.kind e.row)
-  -- a row is told as backwards only behind a time above 0
+  -- a row is told as backwards only after a time above 0
   pub backwards : old.standing ≡ standing.Reading → e.kind ≡ kind.Backwards → 0 < old.last_time
   pub rows : new.rows ≡ None

@@ -58,7 +58,7 @@ fn read_into<R: Read + Drop>(
     Ok(())
 }
 
-/// Want of memory at the row after so many.
+/// Out of memory at the row after so many.
 fn no_room(held: usize) -> CaptureError
     requires { held ≤ most_rows }
     ensures { result ≡ record { kind = CaptureKind.OutOfMemory; row = held + 1 } }

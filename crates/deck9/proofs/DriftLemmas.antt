@@ -6,7 +6,8 @@ from_stop : (g m g' m' : Mode) → PairReaches Stop Stop g' m' → PairReaches g
 from_stop g m g' m' reach = grind arith
 
 -- the four pairs, with one move before
-carry : (h : Hands) (s t : State) (n : Mode) → ((n ≡ s.goal) ⊎ (is_one_of (on_the_way s.goal) n ≡ true)) → DriftsTo h (record s { shown = n }) t → DriftsTo h s t
+carry : (h : Hands) (s t : State) (n : Mode) → ((n ≡ s.goal) ⊎ (is_one_of (on_the_way s.goal) n ≡ true)) → DriftsTo h (record s { shown = n }) t
+    → DriftsTo h s t
 carry h s t n step d = grind arith
 
 pub same_entries : (u t : State) → t ≡ record u { goal = t.goal; shown = t.shown } → IsState u → IsState t
@@ -17,7 +18,10 @@ before : (h : Hands) (s u t : State) → Move h s u → DriftsTo h u t → Drift
 before h s u t (arrives e) d = carry h s t s.goal (inl refl) (subst (λ v. DriftsTo h v t) e d)
 before h s u t (passes m way e) d = carry h s t m (inr way) (subst (λ v. DriftsTo h v t) e d)
 before h s u t (halts at_goal e) d = elim (subst (λ v. DriftsTo h v t) e d) [ inl p ↦ inl (p.0, from_stop s.goal s.shown t.goal t.shown p.1) | inr p ↦ inr p ]
-before h s u t (handled allowed on still valid) d = elim d [ inl p ↦ inr (allowed, on, ap (λ (v : State). v.panel) p.0 ∙ still, same_entries u t p.0 valid) | inr p ↦ inr (allowed, on, p.2, p.3) ]
+before h s u t (handled allowed on still valid) d = elim d [
+  | inl p ↦ inr (allowed, on, ap (λ (v : State). v.panel) p.0 ∙ still, same_entries u t p.0 valid)
+  | inr p ↦ inr (allowed, on, p.2, p.3)
+]
 
 pub pairs_from_moves : (h : Hands) (us : List State) (s t : State) → Moves h s us t → DriftsTo h s t
 pairs_from_moves h [] s t e = inl (rw e refl, inl (ap (λ (v : State). v.goal) e, inl (ap (λ (v : State). v.shown) e)))
@@ -30,5 +34,8 @@ pub drift_from_pairs : (h : Hands) (s t : State) → DriftsTo h s t → Drift h 
 drift_from_pairs h s t (inl (keeps, inl (same, inl shown))) = ([], keeps ∙ rw (same, shown) refl)
 drift_from_pairs h s t (inl (keeps, inl (same, inr (inl shown)))) = (t ∷ [], (arrives (keeps ∙ rw (same, shown) refl), refl))
 drift_from_pairs h s t (inl (keeps, inl (same, inr (inr way)))) = (t ∷ [], (passes t.shown way (keeps ∙ rw same refl), refl))
-drift_from_pairs h s t (inl (keeps, inr (stop, shown))) = (record s { shown = s.goal } ∷ t ∷ [], (arrives refl, (halts refl (keeps ∙ rw (stop, shown) refl), refl)))
+drift_from_pairs h s t (inl (keeps, inr (stop, shown))) = (
+  record s { shown = s.goal } ∷ t ∷ [],
+  (arrives refl, (halts refl (keeps ∙ rw (stop, shown) refl), refl)),
+)
 drift_from_pairs h s t (inr (allowed, on, still, valid)) = (t ∷ [], (handled allowed on still valid, refl))

@@ -1,6 +1,6 @@
 -- What the definitions of drifts, steps and runs come to.
 use Rattle.deck9.proofs.Words.{[], Agrees, ap, arith, Block, Bool, Command, Does, done, Drift, Effect, effect_of, Entry, Exchange, Exchanges, false, Hands, HasRun, ignored, inl}
-use Rattle.deck9.proofs.Words.{inr, IsEntry, IsRunFrom, IsState, List, may_ignore, Moves, nat_tests, refused, Register, Sense, sense_of, State, Step}
+use Rattle.deck9.proofs.Words.{inr, IsEntry, IsRunFrom, IsState, List, may_ignore, Moves, nat_tests, refused, Register, Sense, sense_of, State, DeckStep}
 use Rattle.std.specs.Prelude.{None, true, ◌≢◌}
 use Rattle.deck9.proofs.Words.{name_of}
 use Rattle.deck9.proofs.Words.{subst, sym, with_entry, ◌++◌, ◌∷◌, ◌≡◌}
@@ -34,7 +34,8 @@ does_beside f on s t does = (on, grind (arith, read_panel, put_beside, valid_bes
 agrees_beside : (asked : Sense) (on : Bool) (s : State) (reply : Block) → Agrees asked s reply → Agrees asked (with_panel on s) reply
 agrees_beside asked on s reply shows = grind (arith, read_panel)
 
-step_beside : (c : Command) (reply : Block) (on : Bool) (s t : State) → Step Hands.None c reply s t → (off : Bool) × Step Hands.Allowed c reply (with_panel on s) (with_panel off t)
+step_beside : (c : Command) (reply : Block) (on : Bool) (s t : State) → DeckStep Hands.None c reply s t
+    → (off : Bool) × DeckStep Hands.Allowed c reply (with_panel on s) (with_panel off t)
 step_beside c reply on s t (refused nak same) = (on, refused nak (ap (with_panel on) same))
 step_beside c reply on s t (ignored other shown may local same) =
     (on, ignored other (agrees_beside (sense_of c) on s reply shown) may local (ap (with_panel on) same))
@@ -42,7 +43,8 @@ step_beside c reply on s t (done other shown does) =
     let w = does_beside (effect_of c) on s t does in
     (w.0, done other (agrees_beside (sense_of c) on s reply shown) w.1)
 
-exchange_beside : (c : Command) (reply : Block) (on : Bool) (s t : State) → Exchanges Hands.None c reply s t → (off : Bool) × Exchanges Hands.Allowed c reply (with_panel on s) (with_panel off t)
+exchange_beside : (c : Command) (reply : Block) (on : Bool) (s t : State) → Exchanges Hands.None c reply s t
+    → (off : Bool) × Exchanges Hands.Allowed c reply (with_panel on s) (with_panel off t)
 exchange_beside c reply on s t (d, drift, step) =
     elim (pairs_from_drift Hands.None s d drift) [
       | inl w ↦
@@ -51,7 +53,8 @@ exchange_beside c reply on s t (d, drift, step) =
       | inr w ↦ absurd (let never = w.0 in cc)
     ]
 
-run_beside : (es : List Exchange) (on : Bool) (s : State) (ts : List State) → IsRunFrom Hands.None s es ts → (us : List State) × IsRunFrom Hands.Allowed (with_panel on s) es us
+run_beside : (es : List Exchange) (on : Bool) (s : State) (ts : List State) → IsRunFrom Hands.None s es ts
+    → (us : List State) × IsRunFrom Hands.Allowed (with_panel on s) es us
 run_beside [] on s [] r = ([], tt)
 run_beside (e ∷ es) on s (t ∷ ts) r =
     let first = exchange_beside e.command e.reply on s t r.0 in

@@ -3,7 +3,8 @@ use Rattle.deck9.proofs.Words.{arith, Cued, Eject, eqb-true, FastForward, if◌t
 use Rattle.deck9.proofs.Words.{◌<◌, ◌==◌, ◌≡◌}
 
 abbrev pub mode_of : ℕ → Mode
-mode_of n = if n == 0 then Stop else (if n == 1 then Play else (if n == 2 then Rec else (if n == 3 then FastForward else (if n == 4 then Rewind else (if n == 5 then Shuttle else (if n == 6 then Jog else (if n == 7 then Var else (if n == 8 then Cued else (Eject)))))))))
+mode_of n = if n == 0 then Stop else (if n == 1 then Play else (if n == 2 then Rec else (if n == 3 then FastForward
+    else (if n == 4 then Rewind else (if n == 5 then Shuttle else (if n == 6 then Jog else (if n == 7 then Var else (if n == 8 then Cued else (Eject)))))))))
 
 pub index-mode_of : (n : ℕ) → n < 10 → index_of (mode_of n) ≡ n
 index-mode_of n h = grind (arith, nat_tests)

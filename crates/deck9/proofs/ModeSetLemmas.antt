@@ -14,10 +14,12 @@ pub has-bit : (set : ℕ) (m : Mode) → has set m ≡ (bit_at set (index_of m) 
 has-bit set m = ap (λ x. x == bit_of m) (and_pow set (index_of m)) ∙ scaled (bit_at set (index_of m)) (index_of m) (bit_at-lt set (index_of m))
 
 pub has-or : (a b : ℕ) (m : Mode) → has (bit_or a b) m ≡ (has a m || has b m)
-has-or a b m = let k = index_of m in rw (has-bit (bit_or a b) m, has-bit a m, has-bit b m, bit_at_or a b k) (grind (arith, nat_tests, bit_at-lt a k, bit_at-lt b k))
+has-or a b m = let k = index_of m in rw (has-bit (bit_or a b) m, has-bit a m, has-bit b m, bit_at_or a b k)
+    (grind (arith, nat_tests, bit_at-lt a k, bit_at-lt b k))
 
 pub has-and : (a b : ℕ) (m : Mode) → has (bit_and a b) m ≡ (has a m && has b m)
-has-and a b m = let k = index_of m in rw (has-bit (bit_and a b) m, has-bit a m, has-bit b m, bit_at_and a b k) (grind (arith, nat_tests, bit_at-lt a k, bit_at-lt b k))
+has-and a b m = let k = index_of m in rw (has-bit (bit_and a b) m, has-bit a m, has-bit b m, bit_at_and a b k)
+    (grind (arith, nat_tests, bit_at-lt a k, bit_at-lt b k))
 
 -- ---- one mode
 
@@ -49,7 +51,8 @@ nothing_has m = has-bit 0 m ∙ ap (λ b. b == 1) (bit_at-zero (index_of m))
 -- a set of modes, one at a time
 pub of_modes_has : (ms : List Mode) (m : Mode) → has (of_modes ms).0 m ≡ is_one_of ms m
 of_modes_has [] m = nothing_has m
-of_modes_has (x ∷ ms) m = has-or (bit_of x) (of_modes ms).0 m ∙ ap (λ b. b || has (of_modes ms).0 m) (just_has x m) ∙ ap (λ b. is_mode m x || b) (of_modes_has ms m)
+of_modes_has (x ∷ ms) m = has-or (bit_of x) (of_modes ms).0 m ∙ ap (λ b. b || has (of_modes ms).0 m) (just_has x m)
+    ∙ ap (λ b. is_mode m x || b) (of_modes_has ms m)
 
 -- ---- some mode
 
@@ -85,7 +88,8 @@ same_modes a b p q same = same_from_bits_below 10 a b p q (λ i h. same_bit (bit
 pub some_mode : (s : ModeSet) → is_some s ≡ true → (m : Mode) × (has s.0 m ≡ true)
 some_mode s h = elim (some_or_none (has s.0)) [
   | inl w ↦ w
-  | inr none ↦ let no : bit_and s.0 1023 ≡ 0 = same_modes (bit_and s.0 1023) 0 (ten_bits s.0) (pow_pos 10) (λ m. has_ten s.0 m ∙ none m ∙ sym (nothing_has m)) in
+  | inr none ↦ let no : bit_and s.0 1023 ≡ 0 = same_modes (bit_and s.0 1023) 0 (ten_bits s.0) (pow_pos 10) (λ m. has_ten s.0 m ∙ none m ∙ sym (nothing_has m))
+      in
       absurd (false≢true (ap (λ n. not (n == 0)) (sym no) ∙ h))
 ]
 
@@ -96,7 +100,8 @@ mode_some s m h = elim (cases_eq (bit_and s.0 1023) 0) [
 ]
 
 pub some_any : (s : ModeSet) → is_some s ≡ list_any (has s.0) every_mode
-some_any s = same_test (is_some s) (list_any (has s.0) every_mode) (λ h. let w = some_mode s h in any_mode (has s.0) w.0 w.1) (λ h. let w = find_mode (has s.0) every_mode h in mode_some s w.0 w.1)
+some_any s = same_test (is_some s) (list_any (has s.0) every_mode) (λ h. let w = some_mode s h in any_mode (has s.0) w.0 w.1)
+    (λ h. let w = find_mode (has s.0) every_mode h in mode_some s w.0 w.1)
 
 -- ---- one mode alone
 
@@ -113,12 +118,14 @@ alone s m there others = same_modes (bit_and s.0 0x3FF) (bit_of m) (ten_bits s.0
         (λ e. subst (λ k. has s.0 k ≡ true) (sym (is_mode-same n m e)) there)
 
 -- a set with nine modes missing has the tenth
-pub last_mode : (s : ModeSet) (m : Mode) → has s.0 m ≡ true → has s.0 Stop ≡ false → has s.0 Play ≡ false → has s.0 Rec ≡ false → has s.0 FastForward ≡ false → has s.0 Rewind ≡ false
+pub last_mode : (s : ModeSet) (m : Mode) → has s.0 m ≡ true → has s.0 Stop ≡ false → has s.0 Play ≡ false → has s.0 Rec ≡ false → has s.0 FastForward ≡ false
+    → has s.0 Rewind ≡ false
     → has s.0 Shuttle ≡ false → has s.0 Jog ≡ false → has s.0 Var ≡ false → has s.0 Cued ≡ false → has s.0 Eject ≡ true
 last_mode s Eject t a b c d e f g h i = t
 last_mode s _ t a b c d e f g h i = cc
 
-pub two_modes : (s : ModeSet) (m : Mode) → has s.0 m ≡ true → (bit_and s.0 0x3FF ≡ bit_of m → ⊥) → (m n : Mode) × (has s.0 m ≡ true) × (has s.0 n ≡ true) × (m ≢ n)
+pub two_modes : (s : ModeSet) (m : Mode) → has s.0 m ≡ true → (bit_and s.0 0x3FF ≡ bit_of m → ⊥)
+    → (m n : Mode) × (has s.0 m ≡ true) × (has s.0 n ≡ true) × (m ≢ n)
 two_modes s m there not_one =
     elim (some_or_none (λ n. has s.0 n && not (is_mode n m))) [
       | inl w ↦ let both = and_parts (has s.0 w.0) (not (is_mode w.0 m)) w.1 in (m, w.0, there, both.0, other w.0 both.1)

@@ -1,6 +1,6 @@
 -- What is left of a run without its first exchanges is a run.
 use Rattle.deck9.proofs.Words.{[], All, All-head, All-tail, ap, arith, Becomes, Change, day, Does, Effect, effect_of, Entry, entry_of, Exchange, Hands, HasRun, IsEntry, IsFirst}
-use Rattle.deck9.proofs.Words.{IsRunFrom, IsState, List, nat_tests, Register, SetAt, SetsInDay, State, Step, subst, sym, with_entry, ℕ, ◌++◌, ◌<◌, ◌∷◌, ◌≡◌}
+use Rattle.deck9.proofs.Words.{IsRunFrom, IsState, List, nat_tests, Register, SetAt, SetsInDay, State, DeckStep, subst, sym, with_entry, ℕ, ◌++◌, ◌<◌, ◌∷◌, ◌≡◌}
 use Rattle.deck9.proofs.RunSearch.{first_drifts, put_panel}
 
 -- ---- steps lead from states to states
@@ -17,12 +17,13 @@ does_valid h (Effect.Change r c) s t sets valid (e, becomes, put) =
 does_valid h f s t sets valid does = λ r. let before = valid r in grind arith
 
 -- where hands are not allowed no effect switches the panel
-pub first_does : (h : Hands) (f : Effect) (s t : State) → ((r : Register) (u : ℕ) → f ≡ Effect.Change r (SetAt u) → u < day) → IsFirst h s → Does h f s t → IsFirst h t
+pub first_does : (h : Hands) (f : Effect) (s t : State) → ((r : Register) (u : ℕ) → f ≡ Effect.Change r (SetAt u) → u < day) → IsFirst h s → Does h f s t
+    → IsFirst h t
 first_does Hands.None f s t sets first does = (does_valid Hands.None f s t sets first.0 does, let off = first.1 in grind (arith, put_panel))
 first_does Hands.Allowed f s t sets first does = does_valid Hands.Allowed f s t sets first does
 
 -- no step leads out of the first states
-first_steps : (h : Hands) (e : Exchange) (s t : State) → SetsInDay e → IsFirst h s → Step h e.command e.reply s t → IsFirst h t
+first_steps : (h : Hands) (e : Exchange) (s t : State) → SetsInDay e → IsFirst h s → DeckStep h e.command e.reply s t → IsFirst h t
 first_steps h e s t sets first step = let does = first_does h (effect_of e.command) s t sets first in grind arith
 
 -- ---- runs

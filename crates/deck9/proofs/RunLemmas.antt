@@ -9,7 +9,8 @@ split h (f ∷ fs) e s (t ∷ ts) r = let w = split h fs e t ts r.1 in (t ∷ w.
 split h es e s ts r = grind arith
 
 -- runs in a row
-pub join_runs : (h : Hands) (es fs : List Exchange) (s : State) (ts us : List State) → IsRunFrom h s es ts → IsRunFrom h (last_state s ts) fs us → IsRunFrom h s (es ++ fs) (ts ++ us)
+pub join_runs : (h : Hands) (es fs : List Exchange) (s : State) (ts us : List State) → IsRunFrom h s es ts → IsRunFrom h (last_state s ts) fs us
+    → IsRunFrom h s (es ++ fs) (ts ++ us)
 join_runs h [] fs s [] us r more = more
 join_runs h (e ∷ es) fs s (t ∷ ts) us r more = (r.0, join_runs h es fs t ts us r.1 more)
 join_runs h es fs s ts us r more = absurd r

@@ -36,14 +36,18 @@ shifted_again : (x : Entry) → IsEntry x → (moved_entry next_frame (moved_ent
 shifted_again x h = (grind (arith, nat_tests), grind (arith, nat_tests))
 
 -- a shift that led to a state leads to it from the state shifted back
-shift_again : (back move : Entry → Entry) (r : Register) (e : Entry) (on : Bool) (d t : State) → d.panel ≡ on → move (back (move (entry_of r d))) ≡ move (entry_of r d) → e ≡ move (entry_of r d) → t ≡ with_entry r e d
-    → (x : Entry) × (x ≡ move (entry_of r (with_entry r (back (entry_of r (record t { panel = on }))) (record t { panel = on })))) × (t ≡ with_entry r x (with_entry r (back (entry_of r (record t { panel = on }))) (record t { panel = on })))
+shift_again : (back move : Entry → Entry) (r : Register) (e : Entry) (on : Bool) (d t : State) → d.panel ≡ on
+    → move (back (move (entry_of r d))) ≡ move (entry_of r d) → e ≡ move (entry_of r d) → t ≡ with_entry r e d
+    → (x : Entry) × (x ≡ move (entry_of r (with_entry r (back (entry_of r (record t { panel = on }))) (record t { panel = on }))))
+    × (t ≡ with_entry r x (with_entry r (back (entry_of r (record t { panel = on }))) (record t { panel = on })))
 shift_again back move r e on d t p undone moves put = (e, grind arith, grind arith)
 
 does_from : (h : Hands) (f : Effect) (on : Bool) (d t : State) → IsState d → d.panel ≡ on → Does h f d t
     → Does h f (record t { panel = on }) t ⊎ Does h f (before_shift f (record t { panel = on })) t
-does_from h (Effect.Change r Next) on d t valid p (e, b, put) = inr (shift_again (moved_entry prev_frame) (moved_entry next_frame) r e on d t p (shifted_again (entry_of r d) (valid r)).0 b put)
-does_from h (Effect.Change r Prev) on d t valid p (e, b, put) = inr (shift_again (moved_entry next_frame) (moved_entry prev_frame) r e on d t p (shifted_again (entry_of r d) (valid r)).1 b put)
+does_from h (Effect.Change r Next) on d t valid p (e, b, put) = inr (shift_again (moved_entry prev_frame) (moved_entry next_frame) r e on d t p
+    (shifted_again (entry_of r d) (valid r)).0 b put)
+does_from h (Effect.Change r Prev) on d t valid p (e, b, put) = inr (shift_again (moved_entry next_frame) (moved_entry prev_frame) r e on d t p
+    (shifted_again (entry_of r d) (valid r)).1 b put)
 does_from h (Effect.Change r c) on d t valid p (e, b, put) = inl (e, b, put_again r e on d t p put)
 does_from h f on d t valid p does = inl (grind arith)
 
@@ -73,10 +77,12 @@ steps_from h e on d t valid p (done nak shown does) =
 shift_panel : (f : Effect) (s : State) → (before_shift f s).panel ≡ s.panel
 shift_panel f s = grind (arith, put_panel)
 
-pub two_states : (h : Hands) (e : Exchange) (on : Bool) (t : State) (f : Effect) (same back : State) → f ≡ effect_of e.command → same ≡ record t { panel = on } → back ≡ before_shift f same → IsState same → IsState back
+pub two_states : (h : Hands) (e : Exchange) (on : Bool) (t : State) (f : Effect) (same back : State) → f ≡ effect_of e.command → same ≡ record t { panel = on }
+    → back ≡ before_shift f same → IsState same → IsState back
     → (Steps h e same t ⊎ Steps h e back t) ↔ StepsFromSome h e on t
 two_states h e on t f same back is_effect is_same is_back valid valid_back =
-    let shifted : back ≡ before_shift (effect_of e.command) (record t { panel = on }) = is_back ∙ ap (λ (g : Effect). before_shift g same) is_effect ∙ ap (before_shift (effect_of e.command)) is_same in (
+    let shifted : back ≡ before_shift (effect_of e.command) (record t { panel = on }) =
+    is_back ∙ ap (λ (g : Effect). before_shift g same) is_effect ∙ ap (before_shift (effect_of e.command)) is_same in (
       λ w. elim w [
         | inl step ↦ (same, valid, ap (λ (v : State). v.panel) is_same, step)
         | inr step ↦ (back, valid_back, ap (λ (v : State). v.panel) shifted ∙ shift_panel (effect_of e.command) (record t { panel = on }), step)
@@ -87,7 +93,7 @@ two_states h e on t f same back is_effect is_same is_back valid valid_back =
       ],
     )
 
--- ---- whole exchanges
+-- ---- complete exchanges
 
 -- no drift leads out of the first states
 pub first_drifts : (h : Hands) (s d : State) → IsFirst h s → Drift h s d → IsFirst h d
@@ -97,21 +103,28 @@ begins_at : (h : Hands) (e : Exchange) (t : State) → Begins h e t ↔ ((d : St
 begins_at h e t = (λ w. let at = w.2 in (at.0, first_drifts h w.0 at.0 w.1 at.1, at.2), λ w. (w.0, w.1, (w.0, ([], refl), w.2)))
 
 pub begins_alone : (h : Hands) (e : Exchange) (t : State) → h ≡ Hands.None → StepsFromSome h e false t ↔ Begins h e t
-begins_alone Hands.None e t none = let begins = begins_at Hands.None e t in (λ w. begins.1 (w.0, (w.1, w.2), w.3), λ w. let d = begins.0 w in (d.0, d.1.0, d.1.1, d.2))
+begins_alone Hands.None e t none = let begins = begins_at Hands.None e t in
+    (λ w. begins.1 (w.0, (w.1, w.2), w.3), λ w. let d = begins.0 w in (d.0, d.1.0, d.1.1, d.2))
 begins_alone Hands.Allowed e t none = cc
 
 pub begins_touched : (h : Hands) (e : Exchange) (t : State) → h ≡ Hands.Allowed → (StepsFromSome h e false t ⊎ StepsFromSome h e true t) ↔ Begins h e t
 begins_touched Hands.None e t allowed = cc
-begins_touched Hands.Allowed e t allowed = (λ w. elim w [ inl d ↦ begins.1 (d.0, d.1, d.3) | inr d ↦ begins.1 (d.0, d.1, d.3) ], λ w. let d = begins.0 w in from d.0 d.0.panel refl d.1 d.2)
+begins_touched Hands.Allowed e t allowed = (
+  λ w. elim w [ inl d ↦ begins.1 (d.0, d.1, d.3) | inr d ↦ begins.1 (d.0, d.1, d.3) ],
+  λ w. let d = begins.0 w in
+      from d.0 d.0.panel refl d.1 d.2,
+)
   where
     begins : Begins Hands.Allowed e t ↔ ((d : State) × IsFirst Hands.Allowed d × Steps Hands.Allowed e d t)
     begins = begins_at Hands.Allowed e t
 
-    from : (d : State) (b : Bool) → d.panel ≡ b → IsState d → Steps Hands.Allowed e d t → StepsFromSome Hands.Allowed e false t ⊎ StepsFromSome Hands.Allowed e true t
+    from : (d : State) (b : Bool) → d.panel ≡ b → IsState d → Steps Hands.Allowed e d t
+        → StepsFromSome Hands.Allowed e false t ⊎ StepsFromSome Hands.Allowed e true t
     from d false p valid step = inl (d, valid, p, step)
     from d true p valid step = inr (d, valid, p, step)
 
-pub goes_by : (h : Hands) (e : Exchange) (s t : State) → (DriftsAndSteps h e s t ⊎ ((h ≡ Hands.Allowed) × (s.panel ≡ true) × StepsFromSome h e true t)) ↔ Exchanges h e.command e.reply s t
+pub goes_by : (h : Hands) (e : Exchange) (s t : State) → (DriftsAndSteps h e s t ⊎ ((h ≡ Hands.Allowed) × (s.panel ≡ true) × StepsFromSome h e true t))
+    ↔ Exchanges h e.command e.reply s t
 goes_by h e s t = (
   λ w. elim w [
     | inl (d, keeps, pair, step) ↦ (d, drift_from_pairs h s d (inl (keeps, pair)), step)

@@ -10,7 +10,8 @@ pub none_allowed : (p : Mode → Bool) → AreAllowed p [] (modes 0)
 none_allowed p = record { is = refl }
 
 -- with one mode before them
-pub one_more : (p : Mode → Bool) (m : Mode) {ms : List Mode} {old new : ModeSet} → AreAllowed p ms old → new ≡ (if p m then either (modes (bit_of m)) old else old) → AreAllowed p (m ∷ ms) new
+pub one_more : (p : Mode → Bool) (m : Mode) {ms : List Mode} {old new : ModeSet} → AreAllowed p ms old
+    → new ≡ (if p m then either (modes (bit_of m)) old else old) → AreAllowed p (m ∷ ms) new
 one_more p m {ms} {old} {new} before after = record { is = let was = before.is in grind arith }
 
 show_just : (p : Mode → Bool) (datum1 datum2 : ℕ) → datum1 < 256 → datum2 < 256 → ((m : Mode) → may_show (Some datum1) (Some datum2) m ≡ p m) → ShowJust p
@@ -39,5 +40,6 @@ low_bits : (n : ℕ) → bit_and n 0x1F ≡ 0 → (bit_and n 0x20 ≡ 0x20) ⊎ 
 low_bits n h = let five = and_mask n 5 in let six = and_mask n 6 in let sixth = and_pow n 5 in grind arith
 
 -- what fits CUED fits STOP or EJECT
-pub cued_or_other : (datum1 datum2 : ℕ) → may_show (Some datum1) (Some datum2) Cued ≡ true → (may_show (Some datum1) (Some datum2) Stop ≡ true) ⊎ (may_show (Some datum1) (Some datum2) Eject ≡ true)
+pub cued_or_other : (datum1 datum2 : ℕ) → may_show (Some datum1) (Some datum2) Cued ≡ true
+    → (may_show (Some datum1) (Some datum2) Stop ≡ true) ⊎ (may_show (Some datum1) (Some datum2) Eject ≡ true)
 cued_or_other datum1 datum2 h = let low = low_bits datum1 in let free = and_mask datum2 0 in grind (arith, nat_tests)

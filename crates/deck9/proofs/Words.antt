@@ -16,7 +16,7 @@ pub use Rattle.deck9.specs.Run.{Ends, HasRun, IsRun, IsRunFrom, last_state}
 pub use Rattle.deck9.specs.Shows.{Agrees, sense_of, Shows, ShowsStatus, Tells}
 pub use Rattle.deck9.specs.State.{entry_of, IsEntry, IsFirst, IsState, with_entry}
 pub use Rattle.deck9.specs.Status.{datum, may_show, status_of}
-pub use Rattle.deck9.specs.Step.{AreReached, done, Exchanges, ignored, refused, Step}
+pub use Rattle.deck9.specs.Step.{AreReached, done, Exchanges, ignored, refused, DeckStep}
 pub use Rattle.deck9.specs.Working.{before_shift, Begins, DriftsAndSteps, PassesOne, Steps, StepsFromSome}
 pub use Rattle.deck9.specs.declared.effect.Change.{Change}
 pub use Rattle.deck9.specs.declared.effect.Change.TheVariants.{Next, Prev, Recall, Reset, SetAt, SetSomewhere}

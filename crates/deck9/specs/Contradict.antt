@@ -7,7 +7,7 @@ use Rattle.deck9.specs.declared.state.State.{State}
 use Rattle.deck9.specs.Drift.{Drift}
 use Rattle.deck9.specs.Effect.{Does, effect_of}
 use Rattle.deck9.specs.State.{IsFirst}
-use Rattle.deck9.specs.Step.{Step}
+use Rattle.deck9.specs.Step.{DeckStep}
 
 -- what a command may do to a state where its reply is not known: nothing, or its effect
 abbrev pub CanPass : Hands → Command → State → State → Type 0
@@ -19,7 +19,7 @@ Passes h command s t = (d : State) × Drift h s d × CanPass h command d t
 
 -- what an exchange may do after the drift: a step with its reply where that is believed, and else what its command may do
 abbrev pub MayDo : Hands → Bool → Exchange → State → State → Type 0
-MayDo h true e s t = Step h e.command e.reply s t
+MayDo h true e s t = DeckStep h e.command e.reply s t
 MayDo h false e s t = CanPass h e.command s t
 
 -- the places of a list's rest, of which the first is the list's second

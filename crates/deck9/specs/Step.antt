@@ -11,17 +11,17 @@ use Rattle.deck9.specs.Local.{may_ignore}
 use Rattle.deck9.specs.Shows.{Shows}
 
 -- what the deck does with a command that it gives this reply to
-pub data Step (h : Hands) (command : Command) (reply : Block) (s t : State) : Type 0 where
+pub data DeckStep (h : Hands) (command : Command) (reply : Block) (s t : State) : Type 0 where
   -- not acknowledged, whatever the reasons: the state stays
-  refused : is_nak reply ≡ true → t ≡ s → Step h command reply s t
+  refused : is_nak reply ≡ true → t ≡ s → DeckStep h command reply s t
   -- the reply agrees with the state, and the command has its effect
-  done : is_nak reply ≡ false → Shows s command reply → Does h (effect_of command) s t → Step h command reply s t
-  -- a deck in local leaves a listed transport or preset command undone
-  ignored : is_nak reply ≡ false → Shows s command reply → may_ignore command ≡ true → s.local ≡ true → t ≡ s → Step h command reply s t
+  done : is_nak reply ≡ false → Shows s command reply → Does h (effect_of command) s t → DeckStep h command reply s t
+  -- a deck in LOCAL ignores a listed transport or preset command
+  ignored : is_nak reply ≡ false → Shows s command reply → may_ignore command ≡ true → s.local ≡ true → t ≡ s → DeckStep h command reply s t
 
 -- the deck drifts, and then does the step
 abbrev pub Exchanges : Hands → Command → Block → State → State → Type 0
-Exchanges h command reply s t = (d : State) × Drift h s d × Step h command reply d t
+Exchanges h command reply s t = (d : State) × Drift h s d × DeckStep h command reply d t
 
 -- the new states are exactly those that a step leads to from one of the old
 abbrev pub AreReached : (State → Type 0) → (State → State → Type 0) → (State → Type 0) → Type 0

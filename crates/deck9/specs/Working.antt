@@ -11,11 +11,11 @@ use Rattle.deck9.specs.declared.state.State.{State}
 use Rattle.deck9.specs.Drift.{KeepsRest, PairReaches}
 use Rattle.deck9.specs.Effect.{moved_entry}
 use Rattle.deck9.specs.State.{IsFirst, IsState, entry_of, with_entry}
-use Rattle.deck9.specs.Step.{Exchanges, Step}
+use Rattle.deck9.specs.Step.{Exchanges, DeckStep}
 
 -- an exchange's step, without the drift before it
 abbrev pub Steps : Hands → Exchange → State → State → Type 0
-Steps h e d t = Step h e.command e.reply d t
+Steps h e d t = DeckStep h e.command e.reply d t
 
 -- one of these modes becomes the shown one, and then comes the step
 abbrev pub PassesOne : Hands → Exchange → State → State → List Mode → Type 0

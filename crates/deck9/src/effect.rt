@@ -26,15 +26,15 @@ pub enum Change {
 pub enum Effect {
     /// Nothing.
     Nothing,
-    /// The goal becomes this mode; the shown mode follows by drift.
+    /// This becomes the commanded mode; the shown mode follows by drift.
     Go(Mode),
-    /// The goal is kept, or becomes STOP.
+    /// The commanded mode is kept, or becomes STOP.
     KeepOrStop,
     /// A register changes.
     Change(Register, Change),
     /// The panel is switched on or off, where hands are allowed.
     Panel(bool),
-    /// Goal, shown mode and registers become anything.
+    /// Commanded mode, shown mode and registers become anything.
     ForgetTape,
     /// The registers become anything.
     ForgetRegisters,

@@ -27,9 +27,9 @@ pub enum KnownEntry {
 /// What is known of the deck.
 #[derive(Clone, Copy, Debug, PartialEq, Eq)]
 pub struct Knowledge {
-    /// The mode that the mechanics go for.
+    /// The commanded mode.
     pub goal: Known<Mode>,
-    /// The mode that the deck shows.
+    /// The mode that the status shows.
     pub shown: Known<Mode>,
     /// The register IN.
     pub ins: KnownEntry,
@@ -39,7 +39,7 @@ pub struct Knowledge {
     pub ains: KnownEntry,
     /// The register audio OUT.
     pub aouts: KnownEntry,
-    /// Whether the deck is in local.
+    /// Whether the deck is in LOCAL.
     pub local: Known<bool>,
     /// Whether the panel is on.
     pub panel: Known<bool>,

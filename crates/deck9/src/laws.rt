@@ -14,7 +14,7 @@ ghost use Rattle.deck9.specs.Mode.{index_of, is_mode};
 ghost use Rattle.deck9.specs.Run.{Ends, HasRun};
 ghost use Rattle.deck9.specs.State.{IsFirst, IsState};
 ghost use Rattle.deck9.specs.Status.{may_show};
-ghost use Rattle.deck9.specs.Step.{AreReached, Exchanges, Step};
+ghost use Rattle.deck9.specs.Step.{AreReached, Exchanges, DeckStep};
 
 use crate::mode::Mode;
 use crate::state::{Hands, State};
@@ -39,7 +39,7 @@ pub fn drift_is_four_pairs()
 
 /// A NAK, whatever its reasons and whatever was asked, leaves the state as it is, and nothing else does it leave.
 pub fn a_nak_changes_nothing()
-    ensures { (h : Hands) (command : Command) (reply : Block) (s t : State) → is_nak reply ≡ true → (Step h command reply s t ↔ (t ≡ s)) }
+    ensures { (h : Hands) (command : Command) (reply : Block) (s t : State) → is_nak reply ≡ true → (DeckStep h command reply s t ↔ (t ≡ s)) }
 {}
 
 /// A deck in LOCAL may ignore listed commands alone.
@@ -74,13 +74,13 @@ pub fn rest_has_a_run()
 /// A deck is never stuck: in each state each command has a right reply that is no NAK, and a step with it.
 pub fn never_stuck()
     ensures { (h : Hands) (command : Command) (s : State) → IsState s
-        → (reply : Block) × IsRightReply command reply × (is_nak reply ≡ false) × (t : State) × Step h command reply s t }
+        → (reply : Block) × IsRightReply command reply × (is_nak reply ≡ false) × (t : State) × DeckStep h command reply s t }
 {}
 
 /// Where its reply is not known, a command may do what it may do with some right reply: nothing, or its effect.
 pub fn some_reply_passes()
     ensures { (h : Hands) (command : Command) (s t : State)
-        → CanPass h command s t ↔ ((reply : Block) × IsRightReply command reply × Step h command reply s t) }
+        → CanPass h command s t ↔ ((reply : Block) × IsRightReply command reply × DeckStep h command reply s t) }
 {}
 
 /// Replies contradict one another exactly where no deck can have given them, whatever it answered to everything else.

@@ -1,7 +1,7 @@
 //! The modes of a deck's transport.
 ghost use Rattle.std.specs.Prelude.{◌≡◌, ◌<◌};
 
-/// A mode of the transport: one that the deck goes for, or one that it shows.
+/// A mode of the transport: the commanded one, or the one that the status shows.
 ///
 /// The ten modes are this profile's choice.
 #[derive(Clone, Copy, Debug, PartialEq, Eq)]

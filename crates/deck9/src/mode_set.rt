@@ -146,7 +146,7 @@ impl ModeSet {
         self.intersection(other)
     }
 
-    /// The same modes, with no bit above theirs.
+    /// These modes, with no bit above theirs.
     pub fn without_other_bits(self) -> ModeSet
         ensures has { (m : AMode) → has result.0 m ≡ has self.0 m }
         ensures ten { result.0 < 2 ^ 10 }

@@ -37,7 +37,7 @@ pub enum Hands {
 /// A state of the deck.
 #[derive(Clone, Copy, Debug, PartialEq, Eq)]
 pub struct State {
-    /// The mode that the mechanics go for.
+    /// The commanded mode.
     pub goal: Mode,
     /// The mode that the deck shows in its status.
     pub shown: Mode,
@@ -49,7 +49,7 @@ pub struct State {
     pub ains: Entry,
     /// The register audio OUT.
     pub aouts: Entry,
-    /// Whether the deck is in local, where it may leave transport and preset commands undone.
+    /// Whether the deck is in LOCAL, where it may ignore transport and preset commands.
     pub local: bool,
     /// Whether the panel is on, so that a hand may change anything. Never, where hands are not allowed.
     pub panel: bool,
@@ -131,7 +131,7 @@ impl State {
         changed
     }
 
-    /// The state that goes for this mode, and all else as it was.
+    /// The state with this commanded mode, and all else as it was.
     pub(crate) fn with_goal(&self, goal: Mode) -> State
         ensures { result ≡ record self.now { goal = goal } }
     {

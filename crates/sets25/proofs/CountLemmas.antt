@@ -21,7 +21,8 @@ is_list s = same_times (set.from_list (set.items s)) s (λ f. set.contains-from_
 abbrev ComesFrom : (ℕ → ℕ) → Times → Times → Type 0
 ComesFrom h s t = (f : ℕ) → set.contains t f ≡ true → (g : ℕ) × (set.contains s g ≡ true) × (f ≡ h g)
 
-from_more : (h : ℕ → ℕ) (s t : Times) (k : ℕ) → ComesFrom h (set.insert s k) t → ((u : Times) → ComesFrom h s u → set.len u ≤ set.len s) → set.len t ≤ set.len (set.insert s k)
+from_more : (h : ℕ → ℕ) (s t : Times) (k : ℕ) → ComesFrom h (set.insert s k) t → ((u : Times) → ComesFrom h s u → set.len u ≤ set.len s)
+    → set.len t ≤ set.len (set.insert s k)
 from_more h s t k from later =
     let again = λ (is : set.contains s k ≡ true). later t (λ f there. let w = from f there in (w.0, grind (arith, nat_tests, contains-insert_nat), w.2)) in
     let fresh = later (set.remove t (h k)) (λ f there.
@@ -76,7 +77,8 @@ begin_count-prev = begin_count-moved Prev
 pub begin_count-widened_next : (s : Times) → BelowDay s → begin_count (set.union s (image next_frame s)) ≤ begin_count s
 unfolding begin_count
 begin_count-widened_next s below =
-    len_within (begins (set.union s (image next_frame s))) (begins s) (λ f there. grind (arith, nat_tests, contains-retain_nat, set.contains-union nat_cmp_total, contains-moved Next s below))
+    len_within (begins (set.union s (image next_frame s))) (begins s)
+        (λ f there. grind (arith, nat_tests, contains-retain_nat, set.contains-union nat_cmp_total, contains-moved Next s below))
 
 pub begin_count-widened_prev : (s : Times) → BelowDay s → begin_count (set.union s (image prev_frame s)) ≤ begin_count s
 unfolding begin_count
@@ -89,7 +91,8 @@ begin_count-widened_prev s below =
 -- a time that is added raises it by one at most
 pub begin_count-insert : (s : Times) (t : ℕ) → begin_count (set.insert s t) ≤ begin_count s + 1
 unfolding begin_count
-begin_count-insert s t = len_within_insert (begins (set.insert s t)) (begins s) t (λ f there. grind (arith, nat_tests, contains-retain_nat, contains-insert_nat))
+begin_count-insert s t = len_within_insert (begins (set.insert s t)) (begins s) t
+    (λ f there. grind (arith, nat_tests, contains-retain_nat, contains-insert_nat))
 
 -- a set has one span more than beginnings at most
 pub span_count-begin_count : (s : Times) → span_count s ≤ begin_count s + 1

@@ -16,12 +16,15 @@ is_empty_iff-spans [] c = empty_iff (in_spans []) true (λ _ f h. refl) (λ is. 
 is_empty_iff-spans (s ∷ xs) c = empty_iff (in_spans (s ∷ xs)) _ (λ is f h. grind (arith, nat_tests)) (λ _. (s.last, c.1.1, grind (arith, nat_tests)))
 
 -- whether there is one member
-pub only_one-spans : (xs : List Span) (s : Span) (r : Option ℕ) → IsCanonical 0 xs → Some s ≡ only_span xs → s.first ≡ s.last → SomeIff r (s.first < day) s.first
+pub only_one-spans : (xs : List Span) (s : Span) (r : Option ℕ) → IsCanonical 0 xs → Some s ≡ only_span xs → s.first ≡ s.last
+    → SomeIff r (s.first < day) s.first
     → (t : ℕ) → (r ≡ Some t) ↔ (times_where (in_spans xs) ≡ just t)
-only_one-spans (x ∷ []) s r c at same given = let e : s ≡ x = cc in just_iff (in_spans (x ∷ [])) x.first r (rw e at given) (omega arith) (λ f h. let same = rw e at same in grind (arith, nat_tests))
+only_one-spans (x ∷ []) s r c at same given = let e : s ≡ x = cc in just_iff (in_spans (x ∷ [])) x.first r (rw e at given) (omega arith)
+    (λ f h. let same = rw e at same in grind (arith, nat_tests))
 only_one-spans xs s r c at same given = absurd (cc)
 
-pub only_wide : (xs : List Span) (s : Span) → IsCanonical 0 xs → Some s ≡ only_span xs → (s.first ≡ s.last → ⊥) → (t : ℕ) → (None ≡ Some t) ↔ (times_where (in_spans xs) ≡ just t)
+pub only_wide : (xs : List Span) (s : Span) → IsCanonical 0 xs → Some s ≡ only_span xs → (s.first ≡ s.last → ⊥) → (t : ℕ)
+    → (None ≡ Some t) ↔ (times_where (in_spans xs) ≡ just t)
 only_wide (x ∷ []) s c at other =
     let e : s ≡ x = cc in
     two_iff (in_spans (x ∷ [])) x.first x.last (omega arith) c.1.1 (rw e at other) (grind (arith, nat_tests)) (grind (arith, nat_tests))
@@ -39,7 +42,8 @@ pub least_some-spans : (xs : List Span) (s : Span) (r : Option ℕ) → IsCanoni
 least_some-spans [] s r c at given = absurd (cc)
 least_some-spans (x ∷ xs) s r c at given =
     let e : s ≡ x = cc in
-    least_from (in_spans (x ∷ xs)) x.first r (rw e at given) (omega arith) (grind (arith, nat_tests)) (λ f h there. let above = uncovered_below x.first (x ∷ xs) (omega arith, c.1, c.2) f in grind arith)
+    least_from (in_spans (x ∷ xs)) x.first r (rw e at given) (omega arith) (grind (arith, nat_tests))
+        (λ f h there. let above = uncovered_below x.first (x ∷ xs) (omega arith, c.1, c.2) f in grind arith)
 
 -- ---- the number of spans
 
@@ -58,12 +62,14 @@ no_begin_below low (s ∷ xs) c f h = let later = no_begin_below (s.last + 2) xs
 begins_is : (low : ℕ) (xs : List Span) → IsCanonical low xs → (f : ℕ) → (is_covered f xs && (eqb f 0 || not (is_covered (f - 1) xs))) ≡ begins_at f xs
 begins_is low [] c f = refl
 begins_is low (s ∷ xs) c f =
-    grind (arith, nat_tests, uncovered_below (s.last + 2) xs c.2 f, uncovered_below (s.last + 2) xs c.2 (f - 1), no_begin_below (s.last + 2) xs c.2 f, begins_is (s.last + 2) xs c.2 f)
+    grind (arith, nat_tests, uncovered_below (s.last + 2) xs c.2 f, uncovered_below (s.last + 2) xs c.2 (f - 1), no_begin_below (s.last + 2) xs c.2 f, begins_is
+        (s.last + 2) xs c.2 f)
 
 len_firsts : (low : ℕ) (xs : List Span) → IsCanonical low xs → set.len (set.from_list {R = nat_cmp} (firsts xs)) ≡ length xs
 len_firsts low [] c = set.len-empty nat_cmp
 len_firsts low (s ∷ xs) c =
-    grind (arith, set.len-insert nat_cmp_total, set.contains-from_list_nat (firsts xs) s.first, no_begin_below (s.last + 2) xs c.2 s.first, len_firsts (s.last + 2) xs c.2)
+    grind (arith, set.len-insert nat_cmp_total, set.contains-from_list_nat (firsts xs) s.first, no_begin_below (s.last + 2) xs c.2 s.first, len_firsts
+        (s.last + 2) xs c.2)
 
 covered_in_day : (low : ℕ) (xs : List Span) → IsCanonical low xs → (f : ℕ) → is_covered f xs ≡ true → f < day
 covered_in_day low [] c f there = absurd (false≢true there)

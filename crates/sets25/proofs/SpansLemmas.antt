@@ -71,7 +71,8 @@ grown f s = record { first = min s.first f; last = max s.last f }
 pub canonical_with : (low f : ℕ) (xs : List Span) → IsCanonical low xs → low ≤ f → f < day → IsCanonical low (with_frame f xs)
 canonical_with low f [] c le in_day = (le, (omega arith, in_day), tt)
 canonical_with low f (s ∷ xs) c le in_day =
-    let glued = λ (touch : f ≤ s.last + 1). canonical_glue low (grown f s) xs (omega arith) (omega arith) (canonical_from _ (s.last + 2) xs (omega arith) c.2) in
+    let glued = λ (touch : f ≤ s.last + 1). canonical_glue low (grown f s) xs (omega arith) (omega arith) (canonical_from _ (s.last + 2) xs (omega arith) c.2)
+        in
     grind (arith, nat_tests, canonical_with (s.last + 2) f xs c.2)
 
 pub covered_with : (g low f : ℕ) (xs : List Span) → IsCanonical low xs → f < day → is_covered g (with_frame f xs) ≡ (eqb g f || is_covered g xs)
@@ -92,7 +93,8 @@ module _ (f : ℕ) (xs : List Span) (i : ℕ) (p : IsPlace (f - 1) xs i) where
   from_place = ap (with_frame f) (sym (take-append-drop i xs)) ∙ with_frame-past f (take i xs) (drop i xs) p.below
 
   -- a frame that a span touches goes into it
-  pub with_frame-grown : (d : Span) → i < length xs → (get_or xs i d).first ≤ f + 1 → with_frame f xs ≡ take i xs ++ glue (grown f (get_or xs i d)) (drop (i + 1) xs)
+  pub with_frame-grown : (d : Span) → i < length xs → (get_or xs i d).first ≤ f + 1
+      → with_frame f xs ≡ take i xs ++ glue (grown f (get_or xs i d)) (drop (i + 1) xs)
   with_frame-grown d h touch = from_place ∙ grind (arith, nat_tests, length-drop, drop_more xs i d h, p.above d)
 
   module _ (apart : (d : Span) → 0 < length (drop i xs) → f + 1 < (get_or (drop i xs) 0 d).first) where
@@ -100,7 +102,8 @@ module _ (f : ℕ) (xs : List Span) (i : ℕ) (p : IsPlace (f - 1) xs i) where
     pub with_frame-alone : with_frame f xs ≡ insert xs i (point f)
     with_frame-alone = from_place ∙ ap (λ ys. take i xs ++ ys) (alone (drop i xs) p.above apart)
       where
-        alone : (ys : List Span) → ((d : Span) → 0 < length ys → f - 1 ≤ (get_or ys 0 d).last) → ((d : Span) → 0 < length ys → f + 1 < (get_or ys 0 d).first) → with_frame f ys ≡ point f ∷ ys
+        alone : (ys : List Span) → ((d : Span) → 0 < length ys → f - 1 ≤ (get_or ys 0 d).last) → ((d : Span) → 0 < length ys → f + 1 < (get_or ys 0 d).first)
+            → with_frame f ys ≡ point f ∷ ys
         alone [] ends apart = refl
         alone (s ∷ ys) ends apart = let end = ends s (omega arith) in let far = apart s (omega arith) in grind (arith, nat_tests)
 
@@ -119,24 +122,28 @@ module _ (f : ℕ) (xs : List Span) (i : ℕ) (p : IsPlace (f - 1) xs i) where
 pub put_touching : (xs : List Span) (i : ℕ) (s d : Span) → i + 1 < length xs → (get_or xs (i + 1) d).first ≤ s.last + 1
     → set (remove xs (i + 1)) i (record { first = s.first; last = (get_or xs (i + 1) d).last }) ≡ take i xs ++ glue s (drop (i + 1) xs)
 put_touching xs i s d h touch =
-    rw (drop_more xs (i + 1) d h, le-leb _ _ touch, add-one (i + 1), take_more xs i d (omega arith), append_assoc, set_at (take i xs) _ _ _ i (length-take-le i xs (omega arith))) refl
+    rw (drop_more xs (i + 1) d h, le-leb _ _ touch, add-one (i + 1), take_more xs i d (omega arith), append_assoc, set_at (take i xs) _ _ _ i
+        (length-take-le i xs (omega arith))) refl
 
 -- ---- joining, a span at a time
 
-pub glue-glue : (s t : Span) (ys : List Span) → glue s (glue t ys) ≡ cond (leb t.first (s.last + 1)) (glue (record { first = s.first; last = t.last }) ys) (s ∷ glue t ys)
+pub glue-glue : (s t : Span) (ys : List Span) → glue s (glue t ys)
+    ≡ cond (leb t.first (s.last + 1)) (glue (record { first = s.first; last = t.last }) ys) (s ∷ glue t ys)
 glue-glue s t [] = grind (arith, nat_tests)
 glue-glue s t (u ∷ ys) = grind (arith, nat_tests)
 
 -- ---- a shift within the day
 
 -- a list from `high` on is then from where that frame is moved to on
-pub canonical_shift : (d : Direction) (low high : ℕ) (xs : List Span) → low ≤ (shifted_span d (point high)).first → IsCanonical high xs → IsCanonical low (map (shifted_span d) (without_edge d xs))
+pub canonical_shift : (d : Direction) (low high : ℕ) (xs : List Span) → low ≤ (shifted_span d (point high)).first → IsCanonical high xs
+    → IsCanonical low (map (shifted_span d) (without_edge d xs))
 canonical_shift d low high [] le c = tt
 canonical_shift d low high (s ∷ xs) le c =
     let later = λ (kept : stays d s ≡ true). canonical_shift d ((shifted_span d s).last + 2) (s.last + 2) xs (grind arith) c.2 in
     grind (arith, nat_tests, canonical_shift d low (s.last + 2) xs (grind arith) c.2)
 
-pub covered_shift : (d : Direction) (f low : ℕ) (xs : List Span) → f < day → IsCanonical low xs → is_covered f (map (shifted_span d) (without_edge d xs)) ≡ (not (eqb f (far_edge_of d)) && is_covered (moved_from d f) xs)
+pub covered_shift : (d : Direction) (f low : ℕ) (xs : List Span) → f < day → IsCanonical low xs
+    → is_covered f (map (shifted_span d) (without_edge d xs)) ≡ (not (eqb f (far_edge_of d)) && is_covered (moved_from d f) xs)
 covered_shift d f low [] h c = sym (and_right _ _ refl)
 covered_shift d f low (s ∷ xs) h c =
     let one : (stays d s && in_span f (shifted_span d s)) ≡ (not (eqb f (far_edge_of d)) && in_span (moved_from d f) s) = grind (arith, nat_tests) in
@@ -144,11 +151,14 @@ covered_shift d f low (s ∷ xs) h c =
 
 -- ---- a widening within the day
 
-pub canonical_widen : (d : Direction) (low high : ℕ) (xs : List Span) → low ≤ (widened_span d (point high)).first → IsCanonical high xs → IsCanonical low (joined (map (widened_span d) xs))
+pub canonical_widen : (d : Direction) (low high : ℕ) (xs : List Span) → low ≤ (widened_span d (point high)).first → IsCanonical high xs
+    → IsCanonical low (joined (map (widened_span d) xs))
 canonical_widen d low high [] le c = tt
-canonical_widen d low high (s ∷ xs) le c = canonical_glue low (widened_span d s) _ (grind arith) (grind arith) (canonical_widen d ((widened_span d s).last + 1) (s.last + 2) xs (grind arith) c.2)
+canonical_widen d low high (s ∷ xs) le c = canonical_glue low (widened_span d s) _ (grind arith) (grind arith)
+    (canonical_widen d ((widened_span d s).last + 1) (s.last + 2) xs (grind arith) c.2)
 
-in_widened : (d : Direction) (f : ℕ) (s : Span) → f < day → IsSpan s → in_span f (widened_span d s) ≡ (in_span f s || (not (eqb f (far_edge_of d)) && in_span (moved_from d f) s))
+in_widened : (d : Direction) (f : ℕ) (s : Span) → f < day → IsSpan s
+    → in_span f (widened_span d s) ≡ (in_span f s || (not (eqb f (far_edge_of d)) && in_span (moved_from d f) s))
 in_widened d f s h span = grind (arith, nat_tests)
 
 pub covered_widened : (d : Direction) (f low : ℕ) (xs : List Span) → f < day → IsCanonical low xs
@@ -160,12 +170,14 @@ covered_widened d f low (s ∷ xs) h c =
 
 -- ---- the span that would leave the day
 
-pub edge_at_end : (low : ℕ) (xs : List Span) (n : ℕ) (d : Span) → IsCanonical low xs → length xs ≡ suc n → without_edge Next xs ≡ cond (eqb (get_or xs n d).first 2159999) (take n xs) xs
+pub edge_at_end : (low : ℕ) (xs : List Span) (n : ℕ) (d : Span) → IsCanonical low xs → length xs ≡ suc n
+    → without_edge Next xs ≡ cond (eqb (get_or xs n d).first 2159999) (take n xs) xs
 edge_at_end low (x ∷ []) zero d c e = grind arith
 edge_at_end low (x ∷ t ∷ xs) (suc n) d c e = let later = edge_at_end (x.last + 2) (t ∷ xs) n d c.2 (omega arith) in grind (arith, nat_tests)
 edge_at_end low xs n d c e = absurd (omega arith)
 
-pub edge_at_start : (low : ℕ) (xs : List Span) (d : Span) → IsCanonical low xs → 0 < length xs → without_edge Prev xs ≡ cond (eqb (get_or xs 0 d).last 0) (drop 1 xs) xs
+pub edge_at_start : (low : ℕ) (xs : List Span) (d : Span) → IsCanonical low xs → 0 < length xs
+    → without_edge Prev xs ≡ cond (eqb (get_or xs 0 d).last 0) (drop 1 xs) xs
 edge_at_start low [] d c some = absurd (omega arith)
 edge_at_start low (s ∷ []) d c some = grind arith
 edge_at_start low (s ∷ t ∷ xs) d c some = let later = edge_at_start (s.last + 2) (t ∷ xs) d c.2 (omega arith) in grind (arith, nat_tests)

@@ -42,7 +42,8 @@ image_from h s f there =
     let w = Any-from_list_any (λ y. nat_eq y f) (map h xs) (sym (set.contains-from_list_nat (map h xs) f) ∙ there) in
     let fits : w.0 < length xs = omega (arith, w.2, length-map xs h) in
     let g = get_or xs w.0 0 in
-    (g, contains-items_nat s g ∙ list_any_at (λ y. nat_eq y g) xs w.0 0 fits (eq-eqb g g refl), sym (eqb-true w.1 f w.4) ∙ sym w.3 ∙ get_or-map h xs w.0 0 w.1 fits)
+    (g, contains-items_nat s g ∙ list_any_at (λ y. nat_eq y g) xs w.0 0 fits (eq-eqb g g refl), sym (eqb-true w.1 f w.4) ∙ sym w.3
+        ∙ get_or-map h xs w.0 0 w.1 fits)
 
 -- a member goes into the image
 pub image_to : (h : ℕ → ℕ) (s : Times) (g : ℕ) → set.contains s g ≡ true → set.contains (image h s) (h g) ≡ true
@@ -51,10 +52,12 @@ image_to h s g there =
     let xs = set.items s in
     let w = Any-from_list_any (λ y. nat_eq y g) xs (sym (contains-items_nat s g) ∙ there) in
     let at = get_or-map h xs w.0 w.1 (h g) w.2 ∙ ap h (w.3 ∙ eqb-true w.1 g w.4) in
-    set.contains-from_list_nat (map h xs) (h g) ∙ list_any_at (λ y. nat_eq y (h g)) (map h xs) w.0 (h g) (omega (arith, w.2, length-map xs h)) (eq-eqb _ (h g) at)
+    set.contains-from_list_nat (map h xs) (h g) ∙ list_any_at (λ y. nat_eq y (h g)) (map h xs) w.0 (h g) (omega (arith, w.2, length-map xs h))
+        (eq-eqb _ (h g) at)
 
 -- a move there and back, within the day
-pub moved_back : (d : Direction) (f : ℕ) → f < day → (moved d f < day) × (moved_from d f < day) × (f ≡ moved_from d (moved d f)) × (f ≡ moved d (moved_from d f))
+pub moved_back : (d : Direction) (f : ℕ) → f < day → (moved d f < day) × (moved_from d f < day) × (f ≡ moved_from d (moved d f))
+    × (f ≡ moved d (moved_from d f))
 moved_back d f h = grind (arith, nat_tests)
 
 -- the members of a set of times that moved
@@ -75,17 +78,20 @@ module _ (p q : ℕ → Bool) where
   times_where-insert t in_day same = times_where-is q _ (λ f. grind (arith, nat_tests, contains-insert_nat, contains-times_where p, same f))
 
   pub times_where-common : (t : ℕ) → ((f : ℕ) → f < day → q f ≡ (p f && eqb f t)) → times_where q ≡ set.intersection (times_where p) (just t)
-  times_where-common t same = times_where-is q _ (λ f. grind (arith, nat_tests, set.contains-intersection nat_cmp_total, contains-just, contains-times_where p, same f))
+  times_where-common t same = times_where-is q _ (λ f. grind
+      (arith, nat_tests, set.contains-intersection nat_cmp_total, contains-just, contains-times_where p, same f))
 
   pub times_where-moved : (d : Direction) → ((f : ℕ) → f < day → q f ≡ p (moved_from d f)) → times_where q ≡ image (moved d) (times_where p)
   times_where-moved d same =
       times_where-is q _ (λ f.
       grind (arith, nat_tests, contains-moved d (times_where p) (times_where_below p), contains-times_where p, moved_back d f, same f))
 
-  pub times_where-widened : (d : Direction) → ((f : ℕ) → f < day → q f ≡ (p f || p (moved_from d f))) → times_where q ≡ set.union (times_where p) (image (moved d) (times_where p))
+  pub times_where-widened : (d : Direction) → ((f : ℕ) → f < day → q f ≡ (p f || p (moved_from d f)))
+      → times_where q ≡ set.union (times_where p) (image (moved d) (times_where p))
   times_where-widened d same =
       times_where-is q _ (λ f.
-      grind (arith, nat_tests, set.contains-union nat_cmp_total, contains-moved d (times_where p) (times_where_below p), contains-times_where p, moved_back d f, same f))
+      grind (arith, nat_tests, set.contains-union nat_cmp_total, contains-moved d (times_where p) (times_where_below p), contains-times_where p, moved_back d f,
+          same f))
 
 module _ (q : ℕ → Bool) where
   pub times_where-empty : ((f : ℕ) → f < day → q f ≡ false) → times_where q ≡ set.empty
@@ -100,7 +106,8 @@ module _ (q : ℕ → Bool) where
 -- ---- what a set is not
 
 -- a set of one time and no other
-pub just_iff : (q : ℕ → Bool) (x : ℕ) (r : Option ℕ) → SomeIff r (x < day) x → x < day → ((f : ℕ) → f < day → q f ≡ eqb f x) → (t : ℕ) → (r ≡ Some t) ↔ (times_where q ≡ just t)
+pub just_iff : (q : ℕ → Bool) (x : ℕ) (r : Option ℕ) → SomeIff r (x < day) x → x < day → ((f : ℕ) → f < day → q f ≡ eqb f x) → (t : ℕ)
+    → (r ≡ Some t) ↔ (times_where q ≡ just t)
 just_iff q x r given in_day same t = let some : r ≡ Some x = grind arith in rw some (
   λ is. let e : x ≡ t = cc in times_where-just q x in_day same ∙ ap just e,
   λ is. let at = ap (λ s. set.contains s x) is in grind (arith, nat_tests, contains-times_where, contains-just, same x),
@@ -118,10 +125,12 @@ pub none_iff : (q : ℕ → Bool) → ((f : ℕ) → f < day → q f ≡ false) 
 none_iff q empty t = (λ is. absurd (cc), λ is. let at = ap (λ s. set.contains s t) is in grind (arith, nat_tests, contains-times_where, contains-just, empty t))
 
 -- the empty set has no member, and another has one
-pub empty_iff : (q : ℕ → Bool) (r : Bool) → (r ≡ true → (f : ℕ) → f < day → q f ≡ false) → (r ≡ false → (a : ℕ) × (a < day) × (q a ≡ true)) → (r ≡ true) ↔ (times_where q ≡ set.empty)
+pub empty_iff : (q : ℕ → Bool) (r : Bool) → (r ≡ true → (f : ℕ) → f < day → q f ≡ false) → (r ≡ false → (a : ℕ) × (a < day) × (q a ≡ true))
+    → (r ≡ true) ↔ (times_where q ≡ set.empty)
 empty_iff q r none some = (
   λ is. times_where-empty q (none is),
-  λ is. true_from_ne_false r (λ no. let at = ap (λ s. set.contains s (some no).0) is in grind (arith, nat_tests, contains-times_where, set.contains-empty nat_cmp, (some no).1, (some no).2)),
+  λ is. true_from_ne_false r (λ no. let at = ap (λ s. set.contains s (some no).0) is in
+      grind (arith, nat_tests, contains-times_where, set.contains-empty nat_cmp, (some no).1, (some no).2)),
 )
 
 -- the least member of a set, from its test

@@ -10,7 +10,8 @@ pieces3 l a b c x y z p q r = pieces2 l (a ++ b) c y z (pieces2 l a b x y p q) r
 pub pieces4 : (l a b c d w x y z : List ℕ) → w ≡ l ++ a → x ≡ w ++ b → y ≡ x ++ c → z ≡ y ++ d → z ≡ l ++ (a ++ b ++ c ++ d)
 pieces4 l a b c d w x y z p q r s = pieces2 l (a ++ b ++ c) d y z (pieces3 l a b c w x y p q r) s
 
-pub pieces6 : (l a b c d e f u v w x y z : List ℕ) → u ≡ l ++ a → v ≡ u ++ b → w ≡ v ++ c → x ≡ w ++ d → y ≡ x ++ e → z ≡ y ++ f → z ≡ l ++ (a ++ b ++ c ++ d ++ e ++ f)
+pub pieces6 : (l a b c d e f u v w x y z : List ℕ) → u ≡ l ++ a → v ≡ u ++ b → w ≡ v ++ c → x ≡ w ++ d → y ≡ x ++ e → z ≡ y ++ f
+    → z ≡ l ++ (a ++ b ++ c ++ d ++ e ++ f)
 pieces6 l a b c d e f u v w x y z p q r s t o = pieces3 l (a ++ b ++ c ++ d) e f x y z (pieces4 l a b c d u v w x p q r s) t o
 
 -- two pieces, and three, after a label

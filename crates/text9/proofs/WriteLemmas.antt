@@ -16,7 +16,8 @@ part_after old now new text bytes h p =
     (length text + p.0, simp length-append (omega arith), subst (λ t. Appends old new t) (sym e) (Appends-trans old now new text (take p.0 bytes) h p.2))
 
 -- what both clauses of a call say
-pub writes : {A E : Type 0} (r : Result A E) (old new : Option (List ℕ)) (a : List ℕ) → OnOk r (Appends old new a) → OnErr r (AppendsPart old new a) → Writes a r old new
+pub writes : {A E : Type 0} (r : Result A E) (old new : Option (List ℕ)) (a : List ℕ) → OnOk r (Appends old new a) → OnErr r (AppendsPart old new a)
+    → Writes a r old new
 writes (Ok x) old new a whole part = whole
 writes (Err e) old new a whole part = part
 
@@ -32,7 +33,8 @@ first_part old new a b h =
     (h.0, omega (arith, n, bound), subst (λ l. Appends old new l) (sym (take-append-le h.0 a b h.1)) h.2)
 
 -- after the whole first piece a second one
-pub piece_after : {A E : Type 0} (r : Result A E) (old mid new : Option (List ℕ)) (a b : List ℕ) → Appends old mid a → Writes b r mid new → Writes (a ++ b) r old new
+pub piece_after : {A E : Type 0} (r : Result A E) (old mid new : Option (List ℕ)) (a b : List ℕ) → Appends old mid a → Writes b r mid new
+    → Writes (a ++ b) r old new
 piece_after (Ok x) old mid new a b whole rest = Appends-trans old mid new a b whole rest
 piece_after (Err e) old mid new a b whole rest = part_after old mid new a b whole rest
 

@@ -77,7 +77,7 @@ word_of if_so if_not (known.Is true) = if_so
 word_of if_so if_not (known.Is false) = if_not
 word_of if_so if_not known.Unknown = codes "unknown"
 
--- whether the deck is in local
+-- whether the deck is in LOCAL
 unfoldable pub text_of_local : Known Bool → List ℕ
 text_of_local = word_of (codes "yes") (codes "no")
 

@@ -17,14 +17,18 @@ record IsNearest (h : Hands) (es : List Exchange) (before : ℕ → Bool) (ps : 
   needed : (p : ℕ) → is_among ps p ≡ true → HasBelieving h (λ k. nat_lt p k || (before k || (is_among ps k && not (k == p)))) es
 
 -- where one begins before the other, it is needless there
-no_earlier : (h : Hands) (es : List Exchange) (before : ℕ → Bool) (p q : ℕ) (ps qs : List ℕ) → IsNearest h es before (p ∷ ps) → IsNearest h es before (q ∷ qs) → ¬ (p < q)
-no_earlier h es before p q ps qs a b l = b.contradict (believing_fewer h _ _ es (λ k e. let after = behind_first_of q qs b.ascend k in grind (arith, nat_tests)) (a.needed p (grind (arith, nat_tests))))
+no_earlier : (h : Hands) (es : List Exchange) (before : ℕ → Bool) (p q : ℕ) (ps qs : List ℕ) → IsNearest h es before (p ∷ ps) → IsNearest h es before (q ∷ qs)
+    → ¬ (p < q)
+no_earlier h es before p q ps qs a b l = b.contradict (believing_fewer h _ _ es (λ k e. let after = behind_first_of q qs b.ascend k in grind (arith, nat_tests))
+    (a.needed p (grind (arith, nat_tests))))
 
-one_more : (h : Hands) (es : List Exchange) (before : ℕ → Bool) (p : ℕ) (ps : List ℕ) → IsNearest h es before (p ∷ ps) → IsNearest h es (λ k. before k || (p == k)) ps
+one_more : (h : Hands) (es : List Exchange) (before : ℕ → Bool) (p : ℕ) (ps : List ℕ) → IsNearest h es before (p ∷ ps)
+    → IsNearest h es (λ k. before k || (p == k)) ps
 one_more h es before p ps a = record {
   ascend = rest_ascends p ps a.ascend;
   contradict = λ w. a.contradict (believing_fewer h _ _ es (λ k e. grind (arith, nat_tests)) w);
-  needed = λ q is. believing_fewer h _ _ es (λ k e. let after = behind_first_of p ps a.ascend q is in grind (arith, nat_tests)) (a.needed q (grind (arith, nat_tests)));
+  needed = λ q is. believing_fewer h _ _ es (λ k e. let after = behind_first_of p ps a.ascend q is in grind (arith, nat_tests))
+      (a.needed q (grind (arith, nat_tests)));
 }
 
 same : (h : Hands) (es : List Exchange) (before : ℕ → Bool) (ps qs : List ℕ) → IsNearest h es before ps → IsNearest h es before qs → ps ≡ qs

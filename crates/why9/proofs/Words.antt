@@ -19,4 +19,4 @@ pub use Rattle.std.proofs.lemmas.List.Quantifiers.{all_pairs_push}
 pub use Rattle.std.specs.List.{All, AllPairs}
 pub use Rattle.track9.specs.Tracker.{Possible, Tracked}
 pub use Rattle.why9.specs.Contradiction.{BreaksAtLast, is_among, is_among_others, IsContradiction}
-pub use Rattle.why9.specs.Working.{AreFound, is_asked, IsNext, Takes}
+pub use Rattle.why9.specs.Working.{AreFound, is_in_question, IsNext, DriftsAndMayDo}

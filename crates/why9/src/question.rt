@@ -7,7 +7,7 @@ ghost use Rattle.deck9.specs.State.{IsFirst};
 ghost use Rattle.deck9.specs.Step.{AreReached};
 ghost use Rattle.deck9.specs.declared.state.State.{State as AState};
 ghost use Rattle.track9.specs.Tracker.{Possible};
-ghost use Rattle.why9.specs.Working.{Takes, is_asked};
+ghost use Rattle.why9.specs.Working.{DriftsAndMayDo, is_in_question};
 
 use block9::Exchange;
 use deck9::Hands;
@@ -29,7 +29,7 @@ pub(crate) fn leaves_a_run(
     requires from { from < length exchanges.now }
     requires ascend { AllPairs (λ p q. p < q) found.now }
     requires below { All (λ p. p < from) found.now }
-    ensures { IfOk result (λ b. IsTrue b ↔ HasBelieving hands (is_asked from found.now) exchanges.now) }
+    ensures { IfOk result (λ b. IsTrue b ↔ HasBelieving hands (is_in_question from found.now) exchanges.now) }
 {
     let mut tracker = Tracker::new(alloc, hands)?;
     let leaves = takes_all(&mut tracker, hands, exchanges, from, found);
@@ -37,7 +37,7 @@ pub(crate) fn leaves_a_run(
     leaves
 }
 
-/// The same, of a tracker that has taken nothing yet: whether a state remains after each exchange that is asked of.
+/// Whether a state remains after each of these exchanges, by a tracker that has taken nothing yet.
 fn takes_all(
     tracker: &mut Tracker<SpanSet>,
     hands: Hands,
@@ -51,9 +51,9 @@ fn takes_all(
     requires below { All (λ p. p < from) found.now }
     requires states { (s : AState) → Possible tracker.old.states s ↔ IsFirst hands s }
     requires hands { tracker.old.hands ≡ hands }
-    ensures { IfOk result (λ b. IsTrue b ↔ HasBelieving hands (is_asked from found.now) exchanges.now) }
+    ensures { IfOk result (λ b. IsTrue b ↔ HasBelieving hands (is_in_question from found.now) exchanges.now) }
 {
-    for place in first_asked(from, found)..exchanges.len() {
+    for place in first_in_question(from, found)..exchanges.len() {
         let is_believed = is_believed(from, found, place);
         if !takes(tracker, &exchanges[place], is_believed)? {
             return Ok(false);
@@ -63,11 +63,11 @@ fn takes_all(
 }
 
 /// The first place that is asked of.
-fn first_asked(from: usize, found: &[usize]) -> usize
+fn first_in_question(from: usize, found: &[usize]) -> usize
     requires ascend { AllPairs (λ p q. p < q) found.now }
     requires below { All (λ p. p < from) found.now }
     ensures within { result ≤ from }
-    ensures before { (k : ℕ) → k < result → is_asked from found.now k ≡ false }
+    ensures before { (k : ℕ) → k < result → is_in_question from found.now k ≡ false }
 {
     match found.first() {
         Some(place) => *place,
@@ -75,9 +75,9 @@ fn first_asked(from: usize, found: &[usize]) -> usize
     }
 }
 
-/// Whether a place is at one or behind it, or is one of those found.
+/// Whether a place is at one or after it, or is one of those found.
 fn is_believed(from: usize, found: &[usize], place: usize) -> bool
-    ensures { result ≡ is_asked from found.now place }
+    ensures { result ≡ is_in_question from found.now place }
 {
     from <= place || found.contains(&place)
 }
@@ -88,7 +88,7 @@ fn takes(
     exchange: &Exchange,
     is_believed: bool,
 ) -> Result<bool, AllocError>
-    ensures reached { IfOk result (λ b. AreReached (Possible tracker.old.states) (Takes tracker.old.hands is_believed exchange.now) (Possible tracker.new.states)) }
+    ensures reached { IfOk result (λ b. AreReached (Possible tracker.old.states) (DriftsAndMayDo tracker.old.hands is_believed exchange.now) (Possible tracker.new.states)) }
     ensures remains { IfOk result (λ b. IsTrue b ↔ ((s : AState) × Possible tracker.new.states s)) }
     ensures hands { IfOk result (λ b. tracker.new.hands ≡ tracker.old.hands) }
 {

@@ -4,7 +4,7 @@ ghost use Rattle.std.specs.List.{All};
 ghost use Rattle.deck9.specs.Contradict.{Contradict, HasBelieving};
 ghost use Rattle.deck9.specs.Laws.{SetsInDay};
 ghost use Rattle.why9.specs.Contradiction.{BreaksAtLast, IsContradiction};
-ghost use Rattle.why9.specs.Working.{AreFound, IsNext, is_asked};
+ghost use Rattle.why9.specs.Working.{AreFound, IsNext, is_in_question};
 
 use crate::question::leaves_a_run;
 use block9::Exchange;
@@ -53,7 +53,7 @@ fn next_place(
     requires low { low ≤ last }
     requires last { last < length exchanges.now }
     requires found { AreFound hands exchanges.now low found.now }
-    ensures none { IfOk result (λ o. IfNone o (Contradict hands (is_asked last found.now) exchanges.now)) }
+    ensures none { IfOk result (λ o. IfNone o (Contradict hands (is_in_question last found.now) exchanges.now)) }
     ensures some { IfOk result (λ o. IfSome o (IsNext hands exchanges.now low last found.now)) }
 {
     if !leaves_a_run(alloc, hands, exchanges, last, found)? {

@@ -10,7 +10,7 @@ use Rattle.block9.specs.Reason.{IsAnswered}
 use Rattle.block9.specs.Working.Body.{block_of}
 use Rattle.block9.specs.Working.Table.{early_fault, ends_block, open_at, place_of}
 
--- the records are a tail, and what is kept beside them is the whole command with which they begin, if they do
+-- the records are a tail, and what is kept beside them is the complete command with which they begin, if they do
 abbrev pub IsHeld : List LineByte → Option OpenCommand → Type 0
 IsHeld records None = (records ≡ []) ⊎ IsBegun Controller records
 IsHeld records (Some a) = IsCommand records a.block a.command ⊎ ((reply : List LineByte) × (is : IsAnswered records a.command reply) × (is.block ≡ a.block))
@@ -20,7 +20,7 @@ abbrev pub IsNotBefore : Option ℕ → ℕ → Type 0
 IsNotBefore None time = time ≡ 0
 IsNotBefore (Some last) time = time ≤ last
 
--- the most records since the last whole exchange: a command of 18, and all of its reply but the last
+-- the most records since the last complete exchange: a command of 18, and all of its reply but the last
 abbrev pub most_open : ℕ
 most_open = 35
 
@@ -30,7 +30,7 @@ pub record HoldsInPairer (records : List LineByte) (asked : Option OpenCommand) 
   pub short : length records ≤ most_open
   pub in_order : IsNotBefore last (last_time records)
 
--- a record that breaks no rule before its block is whole, and whether it is the last one of its block
+-- a record that breaks no rule before its block is complete, and whether it is the last one of its block
 abbrev pub IsTurn : List LineByte → LineByte → Bool → Type 0
 IsTurn tail r ends = (early_fault (place_of tail) tail r ≡ None) × (ends ≡ ends_block (open_at (place_of tail) tail))
 

@@ -6,7 +6,7 @@ use crate::pieces::{put_text, put_word};
 use deck9::{Hands, Knowledge, Known, KnownEntry, Mode};
 use std::alloc::AllocError;
 
-/// What stands for a field on which two possible states differ.
+/// The word for a field on which two possible states differ.
 const UNKNOWN: &str = "unknown";
 
 /// Puts a label and what is known, field by field; of the panel only where hands are allowed.
@@ -86,7 +86,7 @@ fn mode_word<'a>(mode: &Known<Mode>) -> &'a str
     }
 }
 
-/// Whether the deck is in local, where it is known.
+/// Whether the deck is in LOCAL, where it is known.
 #[tactic(auto, unfolding(crate::specs::Explanation::text_of_local))]
 fn local_word<'a>(local: &Known<bool>) -> &'a str
     ensures { result.now ≡ text_of_local local.now }

@@ -16,7 +16,8 @@ returns-in-Some-clause-ok c =
     let held = subst (IsHeld c.args.tail.now) was c.requires.held in
     let block : block_of (bytes_of (open_at (place_of c.args.tail.now) c.args.tail.now)) ≡ c.of_records-block.result = cc in
     let fits = rw (← block) at (c.in_ok-reply_fits.ensures.ok _ was) in
-    let exchange = ends_exchange c.args.tail.now c.in-Some.command c.args.line_byte c.exchange_of.result held c.requires.later c.requires.ends (cc) c.exchange_of.ensures fits in
+    let exchange = ends_exchange c.args.tail.now c.in-Some.command c.args.line_byte c.exchange_of.result held c.requires.later c.requires.ends (cc)
+    c.exchange_of.ensures fits in
     (exchange, subst (IsHeld []) (sym c.take.ensures.after) (inl refl))
 
 pub returns-in-Some-of-clause-ok : goal.returns-in-Some-of-clause-ok

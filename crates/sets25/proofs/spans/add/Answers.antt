@@ -16,10 +16,12 @@ returns-in_ok-insert-clause-ok c =
     rw (c.in_ok-insert.ensures.items, c.of.ensures) (sym (with_frame-alone c.args.frame _ _ place (λ d h. grind (arith, common_steps, get_or_default))))
 
 pub returns-then-index-frame-clause-canonical : goal.returns-then-index-frame-clause-canonical
-returns-then-index-frame-clause-canonical c = rw (returns-then-index-frame-clause-ok c) (canonical_with 0 c.args.frame _ c.requires.canonical (omega arith) c.requires.in_day)
+returns-then-index-frame-clause-canonical c = rw (returns-then-index-frame-clause-ok c)
+    (canonical_with 0 c.args.frame _ c.requires.canonical (omega arith) c.requires.in_day)
 
 pub returns-in_ok-insert-clause-canonical : goal.returns-in_ok-insert-clause-canonical
-returns-in_ok-insert-clause-canonical c = rw (returns-in_ok-insert-clause-ok c) (canonical_with 0 c.args.frame _ c.requires.canonical (omega arith) c.requires.in_day)
+returns-in_ok-insert-clause-canonical c = rw (returns-in_ok-insert-clause-ok c)
+    (canonical_with 0 c.args.frame _ c.requires.canonical (omega arith) c.requires.in_day)
 
 pub returns-in_err-insert-clause-apart : goal.returns-in_err-insert-clause-apart
 returns-in_err-insert-clause-apart c =

@@ -4,7 +4,8 @@ use Rattle.sets25.proofs.spans.shift.Goals as goal
 use Rattle.sets25.proofs.spans.shift.Goals.{else-not-contains-2, then-not-contains-2+in_ok-reserve}
 
 pub returns-then-not-contains-clause-canonical : goal.returns-then-not-contains-clause-canonical
-returns-then-not-contains-clause-canonical c = rw c.shift_within.ensures.shifted (canonical_shift c.args.direction 0 0 c.args.spans.now.items (omega arith) c.requires)
+returns-then-not-contains-clause-canonical c = rw c.shift_within.ensures.shifted
+    (canonical_shift c.args.direction 0 0 c.args.spans.now.items (omega arith) c.requires)
 
 pub returns-then-not-contains-clause-ok : goal.returns-then-not-contains-clause-ok
 returns-then-not-contains-clause-ok c = λ f h. grind (arith, nat_tests, covered_shift c.args.direction f 0 c.args.spans.now.items h c.requires)
@@ -16,7 +17,8 @@ pub returns-clause-ok : goal.returns-clause-ok
 returns-clause-ok c =
     let d = c.args.direction in
     on_ok_weaker c.add.result (λ told f h.
-    grind (arith, nat_tests, covered_with f 0 (far_edge_of d) _ (canonical_shift d 0 0 c.args.spans.now.items (omega arith) c.requires), covered_shift d f 0 _ h c.requires)) c.add.ensures.ok
+    grind (arith, nat_tests, covered_with f 0 (far_edge_of d) _ (canonical_shift d 0 0 c.args.spans.now.items (omega arith) c.requires), covered_shift d f 0 _ h
+        c.requires)) c.add.ensures.ok
 
 pub returns-clause-err : goal.returns-clause-err
 returns-clause-err c =
@@ -24,5 +26,6 @@ returns-clause-err c =
       | then-not-contains-2+in_ok-reserve w ↦ on_err_weaker c.add.result (λ full. absurd (grind arith)) c.add.ensures.full
       | else-not-contains-2 w ↦
           on_err_weaker c.add.result (λ none.
-          absurd (neighbour_covered _ _ c.requires (grind arith) (rw (c.far_edge-far_edge.ensures, c.shift_within-2.ensures.shifted, w.spans-is) at none))) c.add.ensures.apart
+          absurd (neighbour_covered _ _ c.requires (grind arith) (rw (c.far_edge-far_edge.ensures, c.shift_within-2.ensures.shifted, w.spans-is) at none)))
+              c.add.ensures.apart
     ]

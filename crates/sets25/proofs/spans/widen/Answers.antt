@@ -4,7 +4,8 @@ use Rattle.sets25.proofs.spans.widen.Goals as goal
 use Rattle.sets25.proofs.spans.widen.Goals.{then-not-contains-via-else-not-contains+then-contains, then-not-contains-via-then-not-contains}
 
 pub returns-then-not-contains-clause-canonical : goal.returns-then-not-contains-clause-canonical
-returns-then-not-contains-clause-canonical c = rw c.widen_within.ensures.widened (canonical_widen c.args.direction 0 0 c.args.spans.now.items (omega arith) c.requires)
+returns-then-not-contains-clause-canonical c = rw c.widen_within.ensures.widened
+    (canonical_widen c.args.direction 0 0 c.args.spans.now.items (omega arith) c.requires)
 
 pub returns-then-not-contains-clause-ok : goal.returns-then-not-contains-clause-ok
 returns-then-not-contains-clause-ok c = λ f h. grind (arith, nat_tests, covered_widened c.args.direction f 0 c.args.spans.now.items h c.requires)
@@ -16,4 +17,5 @@ pub returns-clause-ok : goal.returns-clause-ok
 returns-clause-ok c =
     let d = c.args.direction in
     on_ok_weaker c.add.result (λ told f h.
-    grind (arith, nat_tests, covered_with f 0 (far_edge_of d) _ (canonical_widen d 0 0 c.args.spans.now.items (omega arith) c.requires), covered_widened d f 0 _ h c.requires)) c.add.ensures.ok
+    grind (arith, nat_tests, covered_with f 0 (far_edge_of d) _ (canonical_widen d 0 0 c.args.spans.now.items (omega arith) c.requires), covered_widened d f 0 _
+        h c.requires)) c.add.ensures.ok

@@ -7,5 +7,6 @@ invariant-loop-index l = record {
   behind : l.kept < l.index;
   in_day : l.current.last < day;
   to_come : drop l.index l.spans ≡ drop l.index l.fn.spans;
-  whole : take l.kept l.spans ++ glue l.current (joined (map (widened_span l.direction) (drop l.index l.fn.spans))) ≡ joined (map (widened_span l.direction) l.fn.spans);
+  whole : take l.kept l.spans ++ glue l.current (joined (map (widened_span l.direction) (drop l.index l.fn.spans)))
+      ≡ joined (map (widened_span l.direction) l.fn.spans);
 }

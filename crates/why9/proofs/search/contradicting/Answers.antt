@@ -18,4 +18,5 @@ returns c =
     let contradict = rw c.deref.ensures.value at (rw c.in_default.is at c.in_ok-place.ensures.none) in
     let some = some_last _ _ c.requires.breaks in
     rw c.in_ok-push-2.ensures.items
-    (found-all _ _ _ (length c.args.exchanges.now - 1) _ c.requires.breaks c.loop-places.invariant.found c.loop-places.invariant.within (omega arith) contradict)
+    (found-all _ _ _ (length c.args.exchanges.now - 1) _ c.requires.breaks c.loop-places.invariant.found c.loop-places.invariant.within (omega arith)
+        contradict)

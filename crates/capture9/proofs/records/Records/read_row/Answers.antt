@@ -17,7 +17,8 @@ returns-in-Ok-clause-given g c =
     ])
 
 -- what is wrong with the row, or that the fault is not of the text
-wrong : (g : Over) (c : goal.After-refuse g) → IsRowFault c.self.inside.given c.self.inside.last_time (unread_records g.R.Read.remaining c.self.inside.reader) c.in-Err-outcome.kind
+wrong : (g : Over) (c : goal.After-refuse g) → IsRowFault c.self.inside.given c.self.inside.last_time (unread_records g.R.Read.remaining c.self.inside.reader)
+    c.in-Err-outcome.kind
 wrong g c =
     elim c.match-read_record.branch [
       | in-Ok-true w ↦
@@ -29,8 +30,10 @@ wrong g c =
 pub returns-in-Err-outcome-clause-refused : goal.returns-in-Err-outcome-clause-refused
 returns-in-Err-outcome-clause-refused g c =
     let before = rw (← c.self.view_is) at c.requires in
-    rw (← c.self.view_is) (refuses-row _ _ _ _ _ _ _ _ _ _ c.refuse.result before.reading before.headed c.refuse.ensures.error c.refuse.ensures.marked (wrong g c))
+    rw (← c.self.view_is) (refuses-row _ _ _ _ _ _ _ _ _ _ c.refuse.result before.reading before.headed c.refuse.ensures.error c.refuse.ensures.marked
+        (wrong g c))
 
 pub invariant_of-self-in-Err-outcome : goal.invariant_of-self-in-Err-outcome
 invariant_of-self-in-Err-outcome g c =
-    refused-holds _ _ _ _ _ _ c.refuse.result (rw (← c.self.view_is) at c.requires.headed) c.self.invariant.within c.refuse.ensures.error c.refuse.ensures.marked (wrong g c).at_its_row
+    refused-holds _ _ _ _ _ _ c.refuse.result (rw (← c.self.view_is) at c.requires.headed) c.self.invariant.within c.refuse.ensures.error
+        c.refuse.ensures.marked (wrong g c).at_its_row

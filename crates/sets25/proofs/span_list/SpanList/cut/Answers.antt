@@ -10,7 +10,8 @@ invariant_of-self c =
     let upper = c.in_ok-upper.ensures.items ∙ take_rest xs (length xs / 2) in
     record {
       begun = λ h. begun_still _ _ c.args.place l.begun c.requires (omega (arith, ap length c.list-list.ensures));
-      filled = filled_inserted (is_ok c.insert.result) _ _ c.args.place _ c.insert.ensures.items l.filled (rw upper (omega (arith, length-drop (length xs / 2) xs)));
+      filled = filled_inserted (is_ok c.insert.result) _ _ c.args.place _ c.insert.ensures.items l.filled
+          (rw upper (omega (arith, length-drop (length xs / 2) xs)));
     }
 
 pub shorten-requires-clause-some : goal.shorten-requires-clause-some
@@ -23,5 +24,6 @@ returns c =
     let p = c.args.place in
     let half = length c.list-list.result.now / 2 in
     let upper = c.in_ok-upper.ensures.items ∙ take_rest c.list-list.result.now half ∙ ap (drop half) c.list-list.ensures in
-    ap end_to_end c.shorten.ensures ∙ ap (λ ls. end_to_end (set ls p (take half (get_or ls p [])))) (inserted c.args.self.now.first.items _ _ p _ c.in_ok-insert.ensures.items)
+    ap end_to_end c.shorten.ensures ∙ ap (λ ls. end_to_end (set ls p (take half (get_or ls p []))))
+        (inserted c.args.self.now.first.items _ _ p _ c.in_ok-insert.ensures.items)
     ∙ cut_suc (lists_of c.args.self.now) p half _ _ (omega (arith, lists_in-length)) upper refl

@@ -1,4 +1,4 @@
--- There are no spans, or two in the first list, or one there and one behind it.
+-- There are no spans, or two in the first list, or one there and one after it.
 use Rattle.sets25.proofs.Lemmas.{arith, nat_tests, only_span-none}
 use Rattle.sets25.proofs.span_list.SpanList.only.Goals as goal
 use Rattle.sets25.proofs.span_list.SpanList.only.Goals.{else-len-eq1-via-else-len-eq1, else-len-eq1-via-then-len-eq1+else-is_empty}
