@@ -1,12 +1,12 @@
 -- What becomes of the states of a part, and so what leads from all states with one value of the panel to others: each effect, and whole exchanges where nobody touches the panel.
 use Rattle.track9.proofs.Words.{agreeing, Agrees, all_forgotten, all_or_none, all_states, Allows, and_from, and_parts, ap, AreSet, Becomes, Block, Bool}
 use Rattle.track9.proofs.Words.{both, Change, changed_entries, changed_part, Command, cond_both, counted, Does, DoesOrNot, done, Drift, drift_from_pairs, drifted}
-use Rattle.track9.proofs.Words.{drifted_part, drifted_with, Effect, effect_of, either, Entries, entries_of, entry_of, Exchanged, false, false≢true, forgotten_part, goes, gone}
+use Rattle.track9.proofs.Words.{drifted_part, drifted_with, Effect, effect_of, either, Entries, entries_of, entry_of, false, false≢true, forgotten_part, goes, gone}
 use Rattle.track9.proofs.Words.{gone_pairs, gone_part, gone_with, has, has-and, has-or, has_pair, HasEffect, if◌then◌else◌, IfSome, ignored, ignored_by_effect, in_local, inl, InPart}
 use Rattle.track9.proofs.Words.{inr, InTwo, is_as_asked, is_live, is_mode, is_mode-same, is_nak, LeadsOn, List, map_two, masked, masked_part, Mode, mode_self, modes, ModeSet}
 use Rattle.track9.proofs.Words.{no_states, None, nothing_has, Option, or-false, or-true, or_cases, PartStates, Presets, presets_after, put_aside, put_settled}
 use Rattle.track9.proofs.Words.{refl, refused, RegAudioIn, RegAudioOut, RegIn, Register, RegistersSet, RegOut, reported_part, rules, Sense, sense_of, sensed_part, set_where, settled}
-use Rattle.track9.proofs.Words.{shown_with, ShowsStatus, Some, some_entry, some_mode, some_two, State, Status, status_of, status_part, Step, Stop, subst, sym, Tells, time_of, true}
+use Rattle.track9.proofs.Words.{shown_with, ShowsStatus, Some, some_entry, some_mode, some_two, State, Status, status_of, status_part, Step, Stop, subst, sym, Taken, Tells, time_of, true}
 use Rattle.track9.proofs.Words.{two_changed, two_drifted, two_sensed, two_status, TwoBelow, TwoFew, TwoParts, TwoWhole, where_live, Whole, with_command, with_entries, with_entry}
 use Rattle.track9.proofs.Words.{ℕ, ◌&&◌, ◌==◌, ◌||◌, ◌↔◌, ◌∙◌, ◌≡◌, ◌⊎◌}
 use Rattle.deck9.specs.declared.effect.Effect.TheVariants as effect
@@ -377,11 +377,11 @@ presets_of c reply n nak = rw nak (command_counts c n)
 
 -- a drift, and then a step
 exchanged_by : (c : Command) (reply : Block) (Goes : State → State → Type 0) (count : Presets → Presets) (h g : TwoParts) → TwoWhole h → ((s t : State) → Goes s t ↔ Step hands.None c reply s t)
-    → ((n : Presets) → presets_after c reply true n ≡ count n) → LeadsOn Goes count (two_drifted h) g → Exchanged c reply h g
+    → ((n : Presets) → presets_after c reply true n ≡ count n) → LeadsOn Goes count (two_drifted h) g → Taken c (Some reply) h g
 exchanged_by c reply Goes count h g whole steps same leads = leads_then (Drift hands.None) (Step hands.None c reply) (λ n. n) (presets_after c reply true) h (two_drifted h) g (drift_leads h whole)
     (leads_as Goes (Step hands.None c reply) count (presets_after c reply true) (two_drifted h) g (λ s t. (steps s t).0) (λ s t i. (steps s t).1) same leads)
 
-pub exchanged_nak : (c : Command) (reply : Block) (h : TwoParts) → is_nak reply ≡ true → TwoWhole h → Exchanged c reply h (two_drifted h)
+pub exchanged_nak : (c : Command) (reply : Block) (h : TwoParts) → is_nak reply ≡ true → TwoWhole h → Taken c (Some reply) h (two_drifted h)
 exchanged_nak c reply h nak whole = exchanged_by c reply (λ s t. t ≡ s) (λ n. n) h (two_drifted h) whole (λ s t. (λ e. refused nak e, back s t)) (λ n. rw nak refl) (leads_same (two_drifted h) (drift_whole h whole))
   where
     back : (s t : State) → Step hands.None c reply s t → t ≡ s
@@ -411,7 +411,7 @@ drift_sensed r time h = ap two_drifted (two_same _ (map_two (λ l. where_live (s
     by p false = refl
 
 pub exchanged_sense : (c : Command) (reply : Block) (r : Register) (h : TwoParts) → is_nak reply ≡ false → sense_of c ≡ sense.Register r → TwoWhole h
-    → Exchanged c reply h (two_drifted (two_sensed r (time_of reply.bytes.items) h))
+    → Taken c (Some reply) h (two_drifted (two_sensed r (time_of reply.bytes.items) h))
 exchanged_sense c reply r h nak asked whole =
     let bytes = reply.bytes.items in
     let at = time_of bytes in
@@ -422,14 +422,14 @@ exchanged_sense c reply r h nak asked whole =
     (λ l n p few. few_settled n _ (few_put n r (agreeing at (entries_of r p)) p few (few_agreeing _ at (entries_of r p))))))
 
 pub exchanged_status : (c : Command) (reply : Block) (asked : ℕ) (h : TwoParts) → is_nak reply ≡ false → sense_of c ≡ sense.Status asked → TwoWhole h
-    → Exchanged c reply h (two_status (status_of asked reply) (two_drifted h))
+    → Taken c (Some reply) h (two_status (status_of asked reply) (two_drifted h))
 exchanged_status c reply asked h nak asks_for whole =
     let status = status_of asked reply in
     let none : effect_of c ≡ effect.Nothing = elim (asks_or_acts c) [ inl e ↦ cc | inr none ↦ none ] in
     exchanged_by c reply (λ s t. ShowsStatus s status × (t ≡ s)) (λ n. n) h (two_status status (two_drifted h)) whole (asks c reply (sense.Status asked) nak asks_for none)
     (λ n. presets_of c reply n nak ∙ ap (λ e. counted e n) none) (reads_status status (two_drifted h) (drift_whole h whole))
 
-pub exchanged_effect : (c : Command) (reply : Block) (h g : TwoParts) → is_nak reply ≡ false → sense_of c ≡ sense.Nothing → TwoWhole h → HasEffect false (effect_of c) (two_drifted h) g → Exchanged c reply h g
+pub exchanged_effect : (c : Command) (reply : Block) (h g : TwoParts) → is_nak reply ≡ false → sense_of c ≡ sense.Nothing → TwoWhole h → HasEffect false (effect_of c) (two_drifted h) g → Taken c (Some reply) h g
 exchanged_effect c reply h g nak sensed whole =
     exchanged_by c reply (DoesOrNot false (effect_of c)) (counted (effect_of c)) h g whole (λ s t. (there s t, back s t)) (λ n. presets_of c reply n nak)
   where

@@ -257,7 +257,7 @@ dead_few n v whole dead pn l r =
     let w = live_state v l pn whole live in false≢true (sym dead ∙ some_live v w.0 w.1)) in
     rw (no_times (entries_of r (part_of v l pn)) (part_whole v whole l pn r ∙ dead_in)) (omega (arith, begin_count-empty))
 
-pub kept_after : (c : Command) (reply : Block) (v w : StateSet) (h : Hands) (n : Presets) → IsKept n v → Follows h c reply v w → IsKept (presets_after c reply (some_state w) n) w
+pub kept_after : (c : Command) (reply : Block) (v w : StateSet) (h : Hands) (n : Presets) → IsKept n v → Follows h c (Some reply) v w → IsKept (presets_after c reply (some_state w) n) w
 kept_after c reply v w h n kept follows = record { whole = follows.whole; few = by (some_state w) refl }
   where
     by : (b : Bool) → some_state w ≡ b → AreFew (presets_after c reply b n) w

@@ -1,10 +1,10 @@
 -- All states: whole exchanges, and commands whose reply is not known, also where hands are allowed on the panel.
-use Rattle.track9.proofs.Words.{[], acknowledged, after_panel, all_drifted, all_or_none, AllLeadOn, Allows, ap, AreBelow, AreFew, AreReached, AreWhole, BelowDay, Block, Bool}
-use Rattle.track9.proofs.Words.{CanPass, Command, cond_both, counted, Does, DoesOrNot, done, Drift, drift_from_pairs, Effect, effect_of, either_panel, entries_of, Exchanges}
-use Rattle.track9.proofs.Words.{false, false≢true, first_states, Follows, FollowsDrift, FollowsPassed, goes, Hands, hands_by, hands_of, has, HasEffect, if◌then◌else◌}
+use Rattle.track9.proofs.Words.{[], after_panel, all_drifted, all_or_none, AllLeadOn, Allows, ap, AreBelow, AreFew, AreReached, AreWhole, BelowDay, Block, Bool}
+use Rattle.track9.proofs.Words.{CanPass, Command, cond_both, counted, counts_after, Does, DoesOrNot, done, Drift, drift_from_pairs, DriftsAndGoes, Effect, effect_of, effect_taken, either_panel, entries_of}
+use Rattle.track9.proofs.Words.{false, false≢true, first_states, Follows, FollowsDrift, goes, Hands, hands_by, hands_of, has, HasEffect, if◌then◌else◌}
 use Rattle.track9.proofs.Words.{ignored, ignored_by_effect, in_local, inl, InPart, inr, InTwo, is_nak, is_of_goal_or_register, is_panel_live, is_wide, IsIn, IsKept, IsState}
-use Rattle.track9.proofs.Words.{LeadsOn, None, on_two, Option, or-true, panel_passed, Passed, Passes, Possible, Presets, presets_after, read_panel, refl, refused, RegIn}
-use Rattle.track9.proofs.Words.{Register, sense_of, Some, some_state, State, StateSet, Step, subst, switched, sym, true, two_drifted, two_of, TwoBelow, TwoFew, TwoParts}
+use Rattle.track9.proofs.Words.{LeadsOn, None, on_two, Option, or-true, panel_passed, Possible, Presets, presets_after, read_panel, refl, refused, RegIn}
+use Rattle.track9.proofs.Words.{Register, sense_of, Some, some_state, State, StateSet, Step, subst, switched, sym, Taken, Takes, true, two_drifted, two_of, TwoBelow, TwoFew, TwoParts}
 use Rattle.track9.proofs.Words.{TwoWhole, with_command, ◌↔◌, ◌∙◌, ◌≡◌, ◌⊎◌}
 use Rattle.deck9.specs.declared.effect.Effect.TheVariants as effect
 use Rattle.deck9.specs.declared.sense.Sense.TheVariants as sense
@@ -16,16 +16,15 @@ use Rattle.track9.proofs.PartLemmas.{off_drift, possible_state, same_drift, some
 
 -- ---- where hands are not allowed
 
-pub exchange_panel : (c : Command) (reply : Block) (s t : State) → Exchanges hands.None c reply s t → t.panel ≡ s.panel
-exchange_panel c reply s t (d, drift, step) = by step ∙ drift_panel hands.None s d drift
+pub take_panel : (c : Command) (reply : Option Block) (s t : State) → DriftsAndGoes (Takes c reply) hands.None s t → t.panel ≡ s.panel
+take_panel c reply s t (d, drift, takes) = by reply takes ∙ drift_panel hands.None s d drift
   where
-    by : Step hands.None c reply d t → t.panel ≡ d.panel
-    by (refused nak e) = rw e
-    by (ignored was shows may local e) = rw e
-    by (done was shows does) = (does_keep false (effect_of c) d t (inl does)).0
-
-pub pass_panel : (c : Command) (s t : State) → Passes hands.None c s t → t.panel ≡ s.panel
-pass_panel c s t (d, drift, can) = elim can [ inl same ↦ ap (λ (u : State). u.panel) same | inr does ↦ (does_keep true (effect_of c) d t (inl does)).0 ] ∙ drift_panel hands.None s d drift
+    by : (reply : Option Block) → Takes c reply hands.None d t → t.panel ≡ d.panel
+    by None (inl same) = ap (λ (u : State). u.panel) same
+    by None (inr does) = (does_keep true (effect_of c) d t (inl does)).0
+    by (Some reply) (refused nak e) = rw e
+    by (Some reply) (ignored was shows may local e) = rw e
+    by (Some reply) (done was shows does) = (does_keep false (effect_of c) d t (inl does)).0
 
 -- then there is nothing with the panel on
 pub none_on : (o : Option TwoParts) → hands_by o ≡ hands.None → o ≡ None
@@ -55,10 +54,6 @@ below_off h below = record { off = below; on = by }
 
 -- ---- where a hand makes no difference to the step
 
--- a drift, and then a step
-abbrev pub DriftsAndGoes : (Hands → State → State → Type 0) → Hands → State → State → Type 0
-DriftsAndGoes Goes h s t = (d : State) × Drift h s d × Goes h d t
-
 pub record IsNarrow (Goes : Hands → State → State → Type 0) : Type 0 where
   pub same : (h k : Hands) (s t : State) → Goes h s t → Goes k s t
   pub panel : (s t : State) → DriftsAndGoes Goes hands.None s t → t.panel ≡ s.panel
@@ -68,16 +63,15 @@ does_same h k (effect.Panel on) s t narrow d = absurd (false≢true (sym narrow)
 does_same h k effect.ForgetAll s t narrow d = absurd (false≢true (sym narrow))
 does_same h k _ s t narrow d = d
 
-pub narrow_exchange : (c : Command) (reply : Block) → is_wide (acknowledged c reply) ≡ false → IsNarrow (λ h. Step h c reply)
-narrow_exchange c reply narrow = record { same = same; panel = exchange_panel c reply }
+pub narrow_take : (c : Command) (reply : Option Block) → is_wide (effect_taken c reply) ≡ false → IsNarrow (Takes c reply)
+narrow_take c reply narrow = record { same = λ h k s t. same h k s t reply narrow; panel = take_panel c reply }
   where
-    same : (h k : Hands) (s t : State) → Step h c reply s t → Step k c reply s t
-    same h k s t (refused nak e) = refused nak e
-    same h k s t (ignored was shows may local e) = ignored was shows may local e
-    same h k s t (done was shows does) = done was shows (does_same h k (effect_of c) s t (rw was at narrow) does)
-
-pub narrow_pass : (c : Command) → is_wide (effect_of c) ≡ false → IsNarrow (λ h. CanPass h c)
-narrow_pass c narrow = record { same = λ h k s t can. elim can [ inl e ↦ inl e | inr does ↦ inr (does_same h k (effect_of c) s t narrow does) ]; panel = pass_panel c }
+    same : (h k : Hands) (s t : State) (reply : Option Block) → is_wide (effect_taken c reply) ≡ false → Takes c reply h s t → Takes c reply k s t
+    same h k s t None narrow (inl e) = inl e
+    same h k s t None narrow (inr does) = inr (does_same h k (effect_of c) s t narrow does)
+    same h k s t (Some reply) narrow (refused nak e) = refused nak e
+    same h k s t (Some reply) narrow (ignored was shows may local e) = ignored was shows may local e
+    same h k s t (Some reply) narrow (done was shows does) = done was shows (does_same h k (effect_of c) s t (rw was at narrow) does)
 
 -- a hand leads from a state with the panel on to any
 pub leads_both : (Goes : Hands → State → State → Type 0) (count : Presets → Presets) (v : StateSet) (off on : TwoParts) → IsNarrow Goes → AreWhole v → AreBelow v → LeadsOn (DriftsAndGoes Goes hands.None) count v.off off
@@ -114,7 +108,7 @@ leads_both Goes count v off on narrow whole below first second = record {
 -- ---- a step to which a hand makes a difference
 
 -- it is the effect of its command, which is acknowledged, asks for nothing and is no preset
-wide_step : (c : Command) (reply : Block) (e : Effect) → acknowledged c reply ≡ e → is_wide e ≡ true
+wide_step : (c : Command) (reply : Block) (e : Effect) → effect_taken c (Some reply) ≡ e → is_wide e ≡ true
     → ((d t : State) → Step hands.Allowed c reply d t ↔ Does hands.Allowed e d t) × ((n : Presets) → counted e n ≡ n → presets_after c reply true n ≡ n)
 wide_step c reply e was wide = (λ d t. (back d t, λ does. done ok.0 (rw asks_nothing tt) (rw ok.1 does)), λ n same. presets_of c reply n ok.0 ∙ ap (λ e. counted e n) ok.1 ∙ same)
   where
@@ -203,7 +197,7 @@ panel_reached on v whole below = let drifts = (all_drift v whole below).reached 
       (either_to v d d.panel (drift_state hands.Allowed s d (possible_state v s below i) drift) (drifts.1 s d i (d, drift, refl))))),
 )
 
-pub follows_panel : (c : Command) (reply : Block) (on : Bool) (v : StateSet) → acknowledged c reply ≡ effect.Panel on → AreWhole v → AreBelow v → Follows hands.Allowed c reply v (after_panel on v)
+pub follows_panel : (c : Command) (reply : Block) (on : Bool) (v : StateSet) → effect_taken c (Some reply) ≡ effect.Panel on → AreWhole v → AreBelow v → Follows hands.Allowed c (Some reply) v (after_panel on v)
 follows_panel c reply on v was whole below = let w = wide_step c reply (effect.Panel on) was refl in let keeps = switched_keeps on (either_panel v) (either_whole v whole) in record {
   reached = let r = panel_reached on v whole below in (
     λ t i. let a = r.0 t i in (a.0, a.1, (a.2.0, a.2.1, (w.0 a.2.0 t).1 a.2.2)),
@@ -239,11 +233,6 @@ leads_forgotten Goes count v allowed whole there back counts = by (some_state v)
       few = λ n few. subst (λ m. AreFew m v) (sym (counts n)) few;
     }
 
-pub follows_forget : (c : Command) (reply : Block) (v : StateSet) → acknowledged c reply ≡ effect.ForgetAll → hands_of v ≡ hands.Allowed → AreWhole v
-    → Follows hands.Allowed c reply v (if some_state v then first_states hands.Allowed else v)
-follows_forget c reply v was allowed whole = let w = wide_step c reply effect.ForgetAll was refl in leads_forgotten (Exchanges hands.Allowed c reply) (presets_after c reply true) v allowed whole
-    (λ s t valid. (s, ([], refl), (w.0 s t).1 valid)) (λ s t i goes. (w.0 goes.0 t).0 goes.2) (λ n. w.1 n refl)
-
 -- ---- commands whose reply is not known
 
 passes_back : (e : Effect) (s t : State) → IsState s → (t ≡ s) ⊎ Does hands.None e s t → DoesOrNot true e s t
@@ -257,7 +246,7 @@ passes_back effect.ForgetAll s t valid (inl same) = rw same (inl (valid, refl))
 passes_back _ s t valid (inl same) = inr (refl, or-true s.local, same)
 
 -- a drift, and then nothing or the effect
-pub passed_effect : (c : Command) (h g : TwoParts) → TwoWhole h → TwoBelow h → HasEffect true (effect_of c) (two_drifted h) g → Passed c h g
+pub passed_effect : (c : Command) (h g : TwoParts) → TwoWhole h → TwoBelow h → HasEffect true (effect_of c) (two_drifted h) g → Taken c None h g
 passed_effect c h g whole below has = leads_then (Drift hands.None) (CanPass hands.None c) (λ n. n) (with_command c) h (two_drifted h) g (drift_leads h whole)
     (leads_as (DoesOrNot true (effect_of c)) (CanPass hands.None c) (counted (effect_of c)) (with_command c) (two_drifted h) g (λ s t d. elim d [ inl does ↦ inr does | inr (may, stays, e) ↦ inl e ])
     (λ s t i. passes_back (effect_of c) s t (state_is (in_local (two_drifted h) s.local) s (drift_below h below s.local) i)) (command_counts c) has)
@@ -277,7 +266,7 @@ passed_exactly on v t = by on t.panel
     by false false = (λ i. inr i, λ w. elim w [ inl (valid, i) ↦ either_to v t false valid i | inr i ↦ i ])
 
 -- the panel may be switched
-pub passed_panel : (c : Command) (on : Bool) (v : StateSet) → effect_of c ≡ effect.Panel on → AreWhole v → AreBelow v → FollowsPassed hands.Allowed c v (panel_passed on v)
+pub passed_panel : (c : Command) (on : Bool) (v : StateSet) → effect_of c ≡ effect.Panel on → AreWhole v → AreBelow v → Follows hands.Allowed c None v (panel_passed on v)
 passed_panel c on v is whole below = let keeps = by on in record {
   reached = (
     λ t i. elim ((passed_exactly on v t).0 i) [
@@ -298,8 +287,11 @@ passed_panel c on v is whole below = let keeps = by on in record {
     by true = (refl, record { off = drift_whole v.off whole.off; on = either_whole v whole }, λ n few. both_few n (panel_passed true v) (drift_few n v.off (few false)) (either_few v n few))
     by false = (refl, record { off = either_whole v whole; on = whole_two (is_panel_live v) }, λ n few. both_few n (panel_passed false v) (either_few v n few) (few_two n (is_panel_live v)))
 
-pub passed_forget : (c : Command) (v : StateSet) → effect_of c ≡ effect.ForgetAll → hands_of v ≡ hands.Allowed → AreWhole v → AreBelow v
-    → FollowsPassed hands.Allowed c v (if some_state v then first_states hands.Allowed else v)
-passed_forget c v is allowed whole below = leads_forgotten (Passes hands.Allowed c) (with_command c) v allowed whole (λ s t valid. (s, ([], refl), inr (rw is valid)))
+pub follows_forget : (c : Command) (reply : Option Block) (v : StateSet) → effect_taken c reply ≡ effect.ForgetAll → hands_of v ≡ hands.Allowed → AreWhole v → AreBelow v
+    → Follows hands.Allowed c reply v (if some_state v then first_states hands.Allowed else v)
+follows_forget c None v is allowed whole below = leads_forgotten (DriftsAndGoes (Takes c None) hands.Allowed) (counts_after c None) v allowed whole (λ s t valid. (s, ([], refl), inr (rw is valid)))
     (λ s t i (d, drift, can). elim can [ inl e ↦ subst IsState (sym e) (drift_state hands.Allowed s d (possible_state v s below i) drift) | inr does ↦ subst (λ e. Does hands.Allowed e d t) is does ])
     (λ n. command_counts c n ∙ ap (λ e. counted e n) is)
+follows_forget c (Some reply) v was allowed whole below = let w = wide_step c reply effect.ForgetAll was refl in
+    leads_forgotten (DriftsAndGoes (Takes c (Some reply)) hands.Allowed) (counts_after c (Some reply)) v allowed whole
+    (λ s t valid. (s, ([], refl), (w.0 s t).1 valid)) (λ s t i goes. (w.0 goes.0 t).0 goes.2) (λ n. w.1 n refl)

@@ -48,7 +48,7 @@ pub use Rattle.track9.specs.Working.Pairs.{some_pair}
 pub use Rattle.track9.specs.Working.Parts.{all_states, changed_entries, changed_part, drifted_part, forgotten_part, gone_pairs, gone_part, HasState}
 pub use Rattle.track9.specs.Working.Parts.{is_live, masked_part, no_states, put_aside, put_settled, reported_part, sensed_part, set_where, settled, status_part, where_live, Whole, with_entries}
 pub use Rattle.track9.specs.Working.Parts.{with_pairs}
-pub use Rattle.track9.specs.Working.States.{acknowledged, after_panel, all_drifted, all_forgotten, all_or_none, AllLeadOn, AreBelow, AreFew, AreWhole, counted, DoesOrNot}
-pub use Rattle.track9.specs.Working.States.{either_panel, Exchanged, first_states, Follows, FollowsDrift, FollowsPassed, hands_by, hands_of, HasEffect, InTwo, is_panel_live, is_wide, IsKept}
-pub use Rattle.track9.specs.Working.States.{LeadsOn, map_two, on_two, panel_passed, part_of, Passed, some_state, some_two, switched, two_changed, two_drifted}
+pub use Rattle.track9.specs.Working.States.{after_panel, all_drifted, all_forgotten, all_or_none, AllLeadOn, AreBelow, AreFew, AreWhole, counted, counts_after, DoesOrNot, DriftsAndGoes, effect_taken}
+pub use Rattle.track9.specs.Working.States.{either_panel, first_states, Follows, FollowsDrift, hands_by, hands_of, HasEffect, InTwo, is_panel_live, is_wide, IsKept}
+pub use Rattle.track9.specs.Working.States.{LeadsOn, map_two, on_two, panel_passed, part_of, some_state, some_two, switched, Taken, Takes, two_changed, two_drifted}
 pub use Rattle.track9.specs.Working.States.{two_of, two_sensed, two_status, TwoBelow, TwoFew, TwoWhole}

@@ -1,10 +1,11 @@
 -- How a set of states changes.
 use Rattle.std.specs.Prelude.{if◌then◌else◌, ◌+◌, ◌||◌, ◌≡◌, ◌≤◌, ◌⊎◌}
-use Rattle.track9.specs.Working.Deck.{AreReached, begin_count, BelowDay, Block, Bool, Change, Command, count_of, Does, Drift, Effect, effect_of, entries_of, Exchanges, false, Hands}
-use Rattle.track9.specs.Working.Deck.{in_local, InPart, is_nak, is_of_goal_or_register, Mode, None, Option, PartStates, Passes, Possible, Presets}
-use Rattle.track9.specs.Working.Deck.{presets_after, Register, SetAt, Some, State, StateSet, Status, true, TwoParts, with_command, with_one, ℕ}
+use Rattle.track9.specs.Working.Deck.{AreReached, begin_count, BelowDay, Block, Bool, CanPass, Change, Command, count_of, Does, Drift, Effect, effect_of, entries_of, false, Hands}
+use Rattle.track9.specs.Working.Deck.{in_local, InPart, is_nak, is_of_goal_or_register, Mode, None, Option, PartStates, Possible, Presets}
+use Rattle.track9.specs.Working.Deck.{presets_after, Register, SetAt, Some, State, StateSet, Status, Step, true, TwoParts, with_command, with_one, ℕ}
 use Rattle.deck9.specs.declared.effect.Effect.TheVariants as effect
 use Rattle.deck9.specs.declared.state.Hands.TheVariants as hands
+use Rattle.track9.specs.Frugal.{is_frugal, is_frugal_effect}
 use Rattle.track9.specs.Working.Entries.{agreeing}
 use Rattle.track9.specs.Working.Parts.{Whole, all_states, aside, changed_entries, changed_part, drifted_part, forgotten_part, gone_part, is_live, no_states, put_aside, put_settled, status_part, where_live}
 
@@ -91,13 +92,33 @@ pub record LeadsOn (Goes : State → State → Type 0) (count : Presets → Pres
 abbrev pub HasEffect : Bool → Effect → TwoParts → TwoParts → Type 0
 HasEffect may_stay e h g = LeadsOn (DoesOrNot may_stay e) (counted e) h g
 
--- the states after an exchange where nobody touches the panel
-abbrev pub Exchanged : Command → Block → TwoParts → TwoParts → Type 0
-Exchanged command reply h g = LeadsOn (Exchanges hands.None command reply) (presets_after command reply true) h g
+-- a drift, and then a step
+abbrev pub DriftsAndGoes : (Hands → State → State → Type 0) → Hands → State → State → Type 0
+DriftsAndGoes Goes h s t = (d : State) × Drift h s d × Goes h d t
 
--- the states after a command whose reply is not known, where nobody touches the panel
-abbrev pub Passed : Command → TwoParts → TwoParts → Type 0
-Passed command h g = LeadsOn (Passes hands.None command) (with_command command) h g
+-- what a command does after the drift: the step with its reply, or what it may do where that is not known
+abbrev pub Takes : Command → Option Block → Hands → State → State → Type 0
+Takes command None h s t = CanPass h command s t
+Takes command (Some reply) h s t = Step h command reply s t
+
+-- the counts after it
+abbrev pub counts_after : Command → Option Block → Presets → Presets
+counts_after command None n = with_command command n
+counts_after command (Some reply) n = presets_after command reply true n
+
+-- the effect that it may have: none where its reply is a NAK
+abbrev pub effect_taken : Command → Option Block → Effect
+effect_taken command None = effect_of command
+effect_taken command (Some reply) = if is_nak reply then effect.Nothing else effect_of command
+
+-- it takes no memory where hands are not allowed
+abbrev pub is_frugal_taken : Command → Option Block → Bool
+is_frugal_taken command None = is_frugal_effect (effect_of command)
+is_frugal_taken command (Some reply) = is_frugal command reply
+
+-- the states after it where nobody touches the panel
+abbrev pub Taken : Command → Option Block → TwoParts → TwoParts → Type 0
+Taken command reply h g = LeadsOn (DriftsAndGoes (Takes command reply) hands.None) (counts_after command reply) h g
 
 -- ---- all states
 
@@ -147,10 +168,6 @@ abbrev pub first_states : Hands → StateSet
 first_states hands.None = record { off = all_or_none true; on = None }
 first_states hands.Allowed = record { off = all_or_none true; on = Some (all_or_none true) }
 
--- the effect of a command, if its reply is no NAK
-abbrev pub acknowledged : Command → Block → Effect
-acknowledged command reply = if is_nak reply then effect.Nothing else effect_of command
-
 -- an effect to which a hand on the panel makes a difference
 abbrev pub is_wide : Effect → Bool
 is_wide (effect.Panel on) = true
@@ -194,10 +211,6 @@ pub record AllLeadOn (h : Hands) (Goes : State → State → Type 0) (count : Pr
 abbrev pub FollowsDrift : Hands → StateSet → StateSet → Type 0
 FollowsDrift h v w = AllLeadOn h (Drift h) (λ n. n) v w
 
--- the states after an exchange
-abbrev pub Follows : Hands → Command → Block → StateSet → StateSet → Type 0
-Follows h command reply v w = AllLeadOn h (Exchanges h command reply) (presets_after command reply true) v w
-
--- the states after a command whose reply is not known
-abbrev pub FollowsPassed : Hands → Command → StateSet → StateSet → Type 0
-FollowsPassed h command v w = AllLeadOn h (Passes h command) (with_command command) v w
+-- the states after a command
+abbrev pub Follows : Hands → Command → Option Block → StateSet → StateSet → Type 0
+Follows h command reply v w = AllLeadOn h (DriftsAndGoes (Takes command reply) h) (counts_after command reply) v w
