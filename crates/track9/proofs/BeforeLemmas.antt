@@ -1,13 +1,14 @@
--- Some state of a set, and a state that an exchange leads to another one from: patterns of states, exactly those that an effect led from, drifts to them, and whole exchanges.
-use Rattle.track9.proofs.Words.{all_has, Allows, and-false, and_from, and_parts, any_goal, ap, AreBelow, arith, Asked, asked_before, asked_of, At, Becomes, Block, Bool, both}
+-- Some state of a set, and a state that an exchange leads to another one from: patterns of states, exactly those that
+-- an effect led from, drifts to them, and complete exchanges.
+use Rattle.track9.proofs.Words.{all_has, Allows, and-false, and_from, and_parts, any_goal, ap, AreBelow, arith, Pattern, pattern_before, wanted_of, At, Becomes, Block, Bool, both}
 use Rattle.track9.proofs.Words.{Change, Clear, Command, cond_both, day, Does, done, Drift, drift_from_pairs, drifted, drifted_with, Effect, effect_of, Entries, entries_of, Entry}
 use Rattle.track9.proofs.Words.{entry_before, entry_of, eq-eqb, eqb-true, Exchanges, false, false≢true, Fits, goals_of, goes, Hands, hands_by, hands_of, has, has-and, has_pair}
 use Rattle.track9.proofs.Words.{HasState, IfNone, IfSome, if◌then◌else◌, ignored, in_local, inl, InPart, inr, InTwo, Is, is_mode, is_mode-same, is_nak, is_one_of, is_panel_live}
-use Rattle.track9.proofs.Words.{is_some, IsAsked, IsEntry, IsState, IsUndone, just_mode, just_state, LeadsTo, List, masked, Mode, mode_just, mode_self, mode_some, ModeSet}
-use Rattle.track9.proofs.Words.{moved_entry, nat_tests, Next, next_frame, no_entries, no_states, None, on_the_way, on_two, Option, option_map, PairRunsTo, PartStates, Possible}
+use Rattle.track9.proofs.Words.{is_some, IsPattern, IsEntry, IsState, IsUndone, just_mode, just_state, LeadsTo, List, masked, Mode, mode_just, mode_self, mode_some, ModeSet}
+use Rattle.track9.proofs.Words.{moved_entry, nat_tests, Next, next_frame, no_entries, no_states, None, on_the_way, on_two, Option, option_map, PairRunsTo, Part, Possible}
 use Rattle.track9.proofs.Words.{Prev, prev_frame, Recall, refl, refused, RegAudioIn, RegAudioOut, RegIn, Register, RegOut, Reset, rules, RunsTo, same_fact, SetAt, SetSomewhere}
-use Rattle.track9.proofs.Words.{shown_with, Shows, Some, some_entry, some_mode, some_pair, State, StateSet, Step, Stop, subst, sym, true, true_from_ne_false, two_of, way}
-use Rattle.track9.proofs.Words.{with_asked, with_entry, ℕ, ◌&&◌, ◌<◌, ◌==◌, ◌||◌, ◌↔◌, ◌∙◌, ◌≡◌, ◌⊎◌}
+use Rattle.track9.proofs.Words.{shown_with, Shows, Some, some_entry, some_mode, some_pair, State, States, DeckStep, Stop, subst, sym, true, true_from_ne_false, two_of, way}
+use Rattle.track9.proofs.Words.{with_wanted, with_entry, ℕ, ◌&&◌, ◌<◌, ◌==◌, ◌||◌, ◌↔◌, ◌∙◌, ◌≡◌, ◌⊎◌}
 use Rattle.deck9.specs.declared.effect.Effect.TheVariants as effect
 use Rattle.deck9.specs.declared.mode.Mode.TheVariants as mode
 use Rattle.deck9.specs.declared.state.Hands.TheVariants as hands
@@ -19,10 +20,13 @@ use Rattle.track9.proofs.PartLemmas.{drift_panel, drift_state, each_register, me
 
 -- ---- states by their fields
 
-same_state : (s t : State) → t.goal ≡ s.goal → t.shown ≡ s.shown → t.ins ≡ s.ins → t.outs ≡ s.outs → t.ains ≡ s.ains → t.aouts ≡ s.aouts → t.local ≡ s.local → t.panel ≡ s.panel → s ≡ t
-same_state s t goal shown ins outs ains aouts local panel = by (λ g m x y z w l p. record { goal = g; shown = m; ins = x; outs = y; ains = z; aouts = w; local = l; panel = p })
+same_state : (s t : State) → t.goal ≡ s.goal → t.shown ≡ s.shown → t.ins ≡ s.ins → t.outs ≡ s.outs → t.ains ≡ s.ains → t.aouts ≡ s.aouts → t.local ≡ s.local
+    → t.panel ≡ s.panel → s ≡ t
+same_state s t goal shown ins outs ains aouts local panel = by
+    (λ g m x y z w l p. record { goal = g; shown = m; ins = x; outs = y; ains = z; aouts = w; local = l; panel = p })
   where
-    by : (make : Mode → Mode → Entry → Entry → Entry → Entry → Bool → Bool → State) → make s.goal s.shown s.ins s.outs s.ains s.aouts s.local s.panel ≡ make t.goal t.shown t.ins t.outs t.ains t.aouts t.local t.panel
+    by : (make : Mode → Mode → Entry → Entry → Entry → Entry → Bool → Bool → State)
+        → make s.goal s.shown s.ins s.outs s.ains s.aouts s.local s.panel ≡ make t.goal t.shown t.ins t.outs t.ains t.aouts t.local t.panel
     by make = cc
 
 -- the state itself fits, and no other
@@ -39,24 +43,34 @@ shifts : (t : ℕ) → t < day → (next_frame (prev_frame t) ≡ t) × (prev_fr
 shifts t h = (grind (arith, nat_tests), grind (arith, nat_tests), grind (arith, nat_tests), grind (arith, nat_tests))
 
 shifted : (e : Entry) → IsEntry e
-    → (moved_entry next_frame (moved_entry prev_frame e) ≡ e) × (moved_entry prev_frame (moved_entry next_frame e) ≡ e) × IsEntry (moved_entry prev_frame e) × IsEntry (moved_entry next_frame e)
+    → (moved_entry next_frame (moved_entry prev_frame e) ≡ e) × (moved_entry prev_frame (moved_entry next_frame e) ≡ e) × IsEntry (moved_entry prev_frame e)
+    × IsEntry (moved_entry next_frame e)
 shifted Clear h = (refl, refl, tt, tt)
 shifted (At t) h = let s = shifts t h in (ap At s.0, ap At s.1, s.2, s.3)
 
--- an entry is the one that is asked for, or one of any
+-- an entry is the one that is wanted, or one of any
 abbrev IsBefore : Option (Option Entry) → Entry → Type 0
 IsBefore None e = ⊥
 IsBefore (Some o) e = Is o e
 
--- an entry that was is asked for exactly where it can become the new one
+-- an entry that was is wanted exactly where it can become the new one
 becomes_exactly : (c : Change) (old new : Entry) → IsEntry old → IsEntry new → IsBefore (entry_before c new) old ↔ Becomes c old new
 becomes_exactly SetSomewhere old (At t) was is = (λ i. (t, is, refl), λ b. tt)
 becomes_exactly SetSomewhere old Clear was is = (λ i. absurd i, λ b. cc b.2)
-becomes_exactly (SetAt u) old (At t) was is = cond_both (t == u) (Some None) None (λ o. IsBefore o old ↔ (At t ≡ At u)) (λ e. (λ i. ap At (eqb-true t u e), λ b. tt))
+becomes_exactly (SetAt u) old (At t) was is = cond_both (t == u) (Some None) None (λ o. IsBefore o old ↔ (At t ≡ At u))
+    (λ e. (λ i. ap At (eqb-true t u e), λ b. tt))
     (λ e. (λ i. absurd i, λ b. absurd (false≢true (sym e ∙ eq-eqb t u (at_same t u b)))))
 becomes_exactly (SetAt u) old Clear was is = (λ i. absurd i, λ b. cc)
-becomes_exactly Next old new was is = (λ i. sym (ap (moved_entry next_frame) i ∙ (shifted new is).0), λ b. sym (ap (moved_entry prev_frame) b ∙ (shifted old was).1))
-becomes_exactly Prev old new was is = (λ i. sym (ap (moved_entry prev_frame) i ∙ (shifted new is).1), λ b. sym (ap (moved_entry next_frame) b ∙ (shifted old was).0))
+becomes_exactly Next old new was is = (
+  λ i. sym (ap (moved_entry next_frame) i ∙ (shifted new is).0),
+  λ b. sym
+      (ap (moved_entry prev_frame) b ∙ (shifted old was).1),
+)
+becomes_exactly Prev old new was is = (
+  λ i. sym (ap (moved_entry prev_frame) i ∙ (shifted new is).1),
+  λ b. sym
+      (ap (moved_entry next_frame) b ∙ (shifted old was).0),
+)
 becomes_exactly Reset old Clear was is = (λ i. refl, λ b. tt)
 becomes_exactly Reset old (At t) was is = (λ i. absurd i, λ b. cc)
 becomes_exactly Recall old new was is = (λ i. is, λ b. tt)
@@ -64,7 +78,8 @@ becomes_exactly Recall old new was is = (λ i. is, λ b. tt)
 -- there is one that was, where there can be
 entry_was : (c : Change) (new : Entry) → IsEntry new → IfSome (entry_before c new) (λ o. (x : Entry) × IsEntry x × Is o x)
 entry_was SetSomewhere (At t) h = (Clear, tt, tt)
-entry_was (SetAt u) (At t) h = elim (t == u) as (λ b. IfSome (if b then Some None else None) (λ (o : Option Entry). (x : Entry) × IsEntry x × Is o x)) [ true ↦ (Clear, tt, tt) | false ↦ tt ]
+entry_was (SetAt u) (At t) h = elim (t == u) as (λ b. IfSome (if b then Some None else None) (λ (o : Option Entry). (x : Entry) × IsEntry x × Is o x))
+    [ true ↦ (Clear, tt, tt) | false ↦ tt ]
 entry_was Next new h = (moved_entry prev_frame new, (shifted new h).2, refl)
 entry_was Prev new h = (moved_entry next_frame new, (shifted new h).3, refl)
 entry_was Reset Clear h = (Clear, tt, tt)
@@ -73,7 +88,7 @@ entry_was _ _ h = tt
 
 -- ---- what an effect may have led from
 
-abbrev pub FitsSome : Option Asked → State → Type 0
+abbrev pub FitsSome : Option Pattern → State → Type 0
 FitsSome None d = ⊥
 FitsSome (Some a) d = Fits a d
 
@@ -84,7 +99,8 @@ fits_goal : (d : State) (g : Mode) → Fits (any_goal (record d { goal = g })) d
 fits_goal d g = search (rules, mode_just, all_has)
 
 -- a register alone differs
-change_exactly : (r : Register) (o : Option (Option Entry)) (t d : State) → FitsSome (option_map (λ o. with_asked r o (just_state t)) o) d ↔ (IsBefore o (entry_of r d) × (t ≡ with_entry r (entry_of r t) d))
+change_exactly : (r : Register) (o : Option (Option Entry)) (t d : State)
+    → FitsSome (option_map (λ o. with_wanted r o (just_state t)) o) d ↔ (IsBefore o (entry_of r d) × (t ≡ with_entry r (entry_of r t) d))
 change_exactly r None t d = (λ f. absurd f, λ w. absurd w.0)
 change_exactly RegIn (Some o) t d = (λ f. search (rules, same_state, just_mode), λ (i, e). rw e (search (rules, mode_just)))
 change_exactly _ (Some o) t d = (λ f. search (rules, same_state, just_mode), λ (i, e). rw e (search (rules, mode_just)))
@@ -95,44 +111,63 @@ same_facts false false = (λ h. refl, λ e. refl)
 same_facts _ _ = (λ h. absurd (false≢true h), λ e. cc)
 
 -- a state is one of the pattern exactly where the effect leads from it to t
-asked_exactly : (h : Hands) (e : Effect) (t d : State) → IsState t → IsState d → FitsSome (asked_before h e t) d ↔ Does h e d t
-asked_exactly h (effect.Go g) t d after before = cond_both (is_mode t.goal g) (Some (any_goal t)) None (λ o. FitsSome o d ↔ (t ≡ record d { goal = g }))
-    (λ e. (goal_state t d g (is_mode-same t.goal g e), λ goes. rw goes (fits_goal d g))) (λ e. (λ f. absurd f, λ goes. absurd (false≢true (sym e ∙ rw goes (mode_self g)))))
-asked_exactly h effect.KeepOrStop t d after before = cond_both (is_mode t.goal mode.Stop) (any_goal t) (just_state t) (λ a. Fits a d ↔ ((t ≡ d) ⊎ (t ≡ record d { goal = mode.Stop })))
-    (λ e. (λ f. inr (goal_state t d mode.Stop (is_mode-same t.goal mode.Stop e) f), λ w. elim w [ inl keeps ↦ rw keeps (fits_goal d d.goal) | inr stops ↦ rw stops (fits_goal d mode.Stop) ]))
+wanted_exactly : (h : Hands) (e : Effect) (t d : State) → IsState t → IsState d → FitsSome (pattern_before h e t) d ↔ Does h e d t
+wanted_exactly h (effect.Go g) t d after before = cond_both (is_mode t.goal g) (Some (any_goal t)) None (λ o. FitsSome o d ↔ (t ≡ record d { goal = g }))
+    (λ e. (goal_state t d g (is_mode-same t.goal g e), λ goes. rw goes (fits_goal d g)))
+    (λ e. (λ f. absurd f, λ goes. absurd (false≢true (sym e ∙ rw goes (mode_self g)))))
+wanted_exactly h effect.KeepOrStop t d after before = cond_both (is_mode t.goal mode.Stop) (any_goal t) (just_state t)
+    (λ a. Fits a d ↔ ((t ≡ d) ⊎ (t ≡ record d { goal = mode.Stop })))
+    (λ e. (
+      λ f. inr (goal_state t d mode.Stop (is_mode-same t.goal mode.Stop e) f),
+      λ w. elim w
+          [ inl keeps ↦ rw keeps (fits_goal d d.goal) | inr stops ↦ rw stops (fits_goal d mode.Stop) ],
+    ))
     (λ e. (λ f. inl (fits_just t d f), λ w. elim w [ inl keeps ↦ rw keeps (fits_self d) | inr stops ↦ absurd (false≢true (sym e ∙ rw stops refl)) ]))
-asked_exactly h (effect.Change r c) t d after before =
+wanted_exactly h (effect.Change r c) t d after before =
     let change = change_exactly r (entry_before c (entry_of r t)) t d in let becomes = becomes_exactly c (entry_of r d) (entry_of r t) (before r) (after r) in (
       λ f. let w = change.0 f in (entry_of r t, becomes.0 w.0, w.1),
       λ (e, b, same). let at : entry_of r t ≡ e = ap (entry_of r) same ∙ (put r e d).entry in change.1 (becomes.1 (rw at b), rw at same),
     )
-asked_exactly hands.Allowed (effect.Panel on) t d after before = cond_both (same_fact t.panel on) (Some (record (just_state t) { panel = None })) None (λ o. FitsSome o d ↔ (t ≡ record d { panel = on }))
+wanted_exactly hands.Allowed (effect.Panel on) t d after before = cond_both (same_fact t.panel on) (Some (record (just_state t) { panel = None })) None
+    (λ o. FitsSome o d ↔ (t ≡ record d { panel = on }))
     (λ e. (λ f. let same = sym ((same_facts t.panel on).0 e) in search (rules, same_state, just_mode), λ same. rw same (search (rules, mode_just))))
     (λ e. (λ f. absurd f, λ same. absurd (false≢true (sym e ∙ (same_facts t.panel on).1 (rw same refl)))))
-asked_exactly h effect.ForgetTape t d after before = (λ f. (after, sym f.local, sym f.panel), λ (valid, local, panel). rw (local, panel) (search (rules, all_has)))
-asked_exactly h effect.ForgetRegisters t d after before =
-    (λ f. (after, sym (just_mode t.goal d.goal f.goal), sym (just_mode t.shown d.shown f.shown), sym f.local, sym f.panel), λ (valid, goal, shown, local, panel). rw (goal, shown, local, panel) (search (rules, mode_just)))
-asked_exactly hands.None effect.ForgetAll t d after before = (λ f. (after, sym f.panel), λ (valid, panel). rw panel (search (rules, all_has)))
-asked_exactly hands.Allowed effect.ForgetAll t d after before = (λ f. after, λ valid. search (rules, all_has))
-asked_exactly h _ t d after before = (fits_just t d, λ same. rw same (fits_self d))
+wanted_exactly h effect.ForgetTape t d after before = (
+  λ f. (after, sym f.local, sym f.panel),
+  λ (valid, local, panel). rw (local, panel)
+      (search (rules, all_has)),
+)
+wanted_exactly h effect.ForgetRegisters t d after before = (
+  λ f. (after, sym (just_mode t.goal d.goal f.goal), sym (just_mode t.shown d.shown f.shown), sym f.local, sym f.panel),
+  λ (valid, goal, shown, local, panel). rw (goal, shown, local, panel) (search (rules, mode_just)),
+)
+wanted_exactly hands.None effect.ForgetAll t d after before = (λ f. (after, sym f.panel), λ (valid, panel). rw panel (search (rules, all_has)))
+wanted_exactly hands.Allowed effect.ForgetAll t d after before = (λ f. after, λ valid. search (rules, all_has))
+wanted_exactly h _ t d after before = (fits_just t d, λ same. rw same (fits_self d))
 
--- a state of the day that is one of a pattern is asked for
-is_asked : (o : Option Asked) (d : State) → IsState d → FitsSome o d → IfSome o IsAsked
-is_asked None d valid f = tt
-is_asked (Some a) d valid f = (d, valid, f)
+-- a state of the day that is one of a pattern is wanted
+is_wanted : (o : Option Pattern) (d : State) → IsState d → FitsSome o d → IfSome o IsPattern
+is_wanted None d valid f = tt
+is_wanted (Some a) d valid f = (d, valid, f)
 
 -- a state of the day is among them
-pub asked_state : (h : Hands) (e : Effect) (t : State) → IsState t → IfSome (asked_before h e t) IsAsked
-asked_state h (effect.Go g) t valid = cond_both (is_mode t.goal g) (Some (any_goal t)) None (λ o. IfSome o IsAsked) (λ e. (t, valid, fits_goal t t.goal)) (λ e. tt)
-asked_state h (effect.Change r c) t valid = by (entry_before c (entry_of r t)) (entry_was c (entry_of r t) (valid r))
+pub wanted_state : (h : Hands) (e : Effect) (t : State) → IsState t → IfSome (pattern_before h e t) IsPattern
+wanted_state h (effect.Go g) t valid = cond_both (is_mode t.goal g) (Some (any_goal t)) None (λ o. IfSome o IsPattern) (λ e. (t, valid, fits_goal t t.goal))
+    (λ e. tt)
+wanted_state h (effect.Change r c) t valid = by (entry_before c (entry_of r t)) (entry_was c (entry_of r t) (valid r))
   where
-    by : (o : Option (Option Entry)) → IfSome o (λ o. (x : Entry) × IsEntry x × Is o x) → IfSome (option_map (λ o. with_asked r o (just_state t)) o) IsAsked
+    by : (o : Option (Option Entry)) → IfSome o (λ o. (x : Entry) × IsEntry x × Is o x) → IfSome (option_map (λ o. with_wanted r o (just_state t)) o) IsPattern
     by None w = tt
-    by (Some o) w = let at = put r w.0 t in
-        (with_entry r w.0 t, put_each (λ q es. IsEntry) r no_entries no_states w.0 t valid w.1, (change_exactly r (Some o) t (with_entry r w.0 t)).1 (rw at.entry w.2, sym at.again))
-asked_state hands.Allowed (effect.Panel on) t valid =
-    cond_both (same_fact t.panel on) (Some (record (just_state t) { panel = None })) None (λ o. IfSome o IsAsked) (λ e. (t, valid, search (rules, mode_just))) (λ e. tt)
-asked_state h e t valid = is_asked (asked_before h e t) t valid ((asked_exactly h e t t valid valid).1 (search rules))
+    by (Some o) w = let at = put r w.0 t in (
+      with_entry r w.0 t,
+      put_each (λ q es. IsEntry) r no_entries no_states w.0 t valid w.1,
+      (change_exactly r (Some o) t (with_entry r w.0 t)).1
+          (rw at.entry w.2, sym at.again),
+    )
+wanted_state hands.Allowed (effect.Panel on) t valid =
+    cond_both (same_fact t.panel on) (Some (record (just_state t) { panel = None })) None (λ o. IfSome o IsPattern) (λ e. (t, valid, search (rules, mode_just)))
+    (λ e. tt)
+wanted_state h e t valid = is_wanted (pattern_before h e t) t valid ((wanted_exactly h e t t valid valid).1 (search rules))
 
 -- ---- some state of a set
 
@@ -163,14 +198,16 @@ source_halted p g m h other way = let w = and_parts _ _ (by way) in (is_mode-sam
     by (inl none) = rw (drifted_has p g m, other, none) at h
     by (inr none) = simp (drifted_has p g m, other, none, and-false) at h
 
--- the pairs that are asked for among those that are reached
+-- the pairs that are wanted among those that are reached
 
-pub reached_parts : (shown : ModeSet) (p : List ModeSet) (g m : Mode) → has_pair (masked shown (drifted p)) g m ≡ true → (has (drifted_with p g).0 m ≡ true) × (has shown.0 m ≡ true)
+pub reached_parts : (shown : ModeSet) (p : List ModeSet) (g m : Mode) → has_pair (masked shown (drifted p)) g m ≡ true
+    → (has (drifted_with p g).0 m ≡ true) × (has shown.0 m ≡ true)
 reached_parts shown p g m h =
     let w = and_parts (has_pair (drifted p) g m) (has shown.0 m) (sym (masked_has shown (drifted p) g m) ∙ h) in
     (sym (pair_by_goal (drifted_with p) g m) ∙ w.0, w.1)
 
-pub origin_there : (p : List ModeSet) (goals shown : ModeSet) → ((f n : Mode) × (has_pair p f n ≡ true) × PairRunsTo goals shown f n) → is_some (both (goals_of (masked shown (drifted p))) goals) ≡ true
+pub origin_there : (p : List ModeSet) (goals shown : ModeSet) → ((f n : Mode) × (has_pair p f n ≡ true) × PairRunsTo goals shown f n)
+    → is_some (both (goals_of (masked shown (drifted p))) goals) ≡ true
 origin_there p goals shown (f, n, pair, (g, m, goal, mode, reaches)) =
     let there = masked_has shown (drifted p) g m ∙ and_from _ _ (pair_by_goal (drifted_with p) g m ∙ drifted_to p f n g m pair reaches) mode in
     let found = goal_to (masked shown (drifted p)) g m there in
@@ -182,25 +219,33 @@ pub if_none_so : {A P : Type 0} (o : Option A) → P → IfNone o P
 if_none_so None h = h
 if_none_so (Some x) h = tt
 
-pub no_entry_runs : (r : Register) (p : PartStates) (a : Asked) (l pn : Bool) → (((e : Entry) × Allows (entries_of r p) e × Is (asked_of r a) e) → ⊥) → ((s : State) × HasState p l pn s × RunsTo a s) → ⊥
+pub no_entry_runs : (r : Register) (p : Part) (a : Pattern) (l pn : Bool) → (((e : Entry) × Allows (entries_of r p) e × Is (wanted_of r a) e) → ⊥)
+    → ((s : State) × HasState p l pn s × RunsTo a s) → ⊥
 no_entry_runs r p a l pn none (s, there, (d, kept, reaches, fits)) =
     let same = each_register (λ r. entry_of r (record s { goal = d.goal; shown = d.shown }) ≡ entry_of r s) refl refl refl refl r in
-    none (entry_of r s, there.inside.registers r, subst (λ e. Is (asked_of r a) e) (ap (entry_of r) kept ∙ same) (each_register (λ r. Is (asked_of r a) (entry_of r d)) fits.ins fits.outs fits.ains fits.aouts r))
+    none (
+      entry_of r s,
+      there.inside.registers r,
+      subst (λ e. Is (wanted_of r a) e) (ap (entry_of r) kept ∙ same)
+          (each_register (λ r. Is (wanted_of r a) (entry_of r d)) fits.ins fits.outs fits.ains fits.aouts r),
+    )
 
 -- ---- a set of states
 
 -- where there is a state with the panel on hands are allowed
-pub panel_hands : (v : StateSet) (s : State) → InPart (in_local (on_two v.on) s.local) s → hands_of v ≡ hands.Allowed
-panel_hands v s i = (elim v.on as (λ o. InPart (in_local (on_two o) s.local) s → hands_by o ≡ hands.Allowed) [ None ↦ λ i. two_none s i | Some h ↦ λ i. refl ]) i
+pub panel_hands : (v : States) (s : State) → InPart (in_local (on_two v.on) s.local) s → hands_of v ≡ hands.Allowed
+panel_hands v s i = (elim v.on as (λ o. InPart (in_local (on_two o) s.local) s → hands_by o ≡ hands.Allowed) [ None ↦ λ i. two_none s i | Some h ↦ λ i. refl ])
+    i
 
 -- a hand makes any state with the panel on
-pub hand_leads : (h : Hands) (a : Asked) (s : State) → h ≡ hands.Allowed → IsAsked a → Is a.panel true → s.panel ≡ true → LeadsTo h a s
-hand_leads h a s allowed (d, valid, fits) asked on =
+pub hand_leads : (h : Hands) (a : Pattern) (s : State) → h ≡ hands.Allowed → IsPattern a → Is a.panel true → s.panel ≡ true → LeadsTo h a s
+hand_leads h a s allowed (d, valid, fits) wanted on =
     let e : State = record d { panel = true } in
     let there : IsState e = each_register _ (valid RegIn) (valid RegOut) (valid RegAudioIn) (valid RegAudioOut) in
     (e, drift_from_pairs h s e (inr (allowed, on, refl, there)), search)
 
-pub no_origin : (h : Hands) (v : StateSet) (a : Asked) → (Is a.panel true → is_panel_live v ≡ false) → (((s : State) × InTwo false v.off s × RunsTo a s) → ⊥) → ((s : State) × Possible v s × LeadsTo h a s) → ⊥
+pub no_origin : (h : Hands) (v : States) (a : Pattern) → (Is a.panel true → is_panel_live v ≡ false) → (((s : State) × InTwo false v.off s × RunsTo a s) → ⊥)
+    → ((s : State) × Possible v s × LeadsTo h a s) → ⊥
 no_origin h v a dead off (s, there, (d, drift, fits)) = by s.panel refl
   where
     by : (pn : Bool) → s.panel ≡ pn → ⊥
@@ -216,37 +261,45 @@ shows_same h c reply d t does = elim (asks_or_acts c) [
   | inr none ↦ let same : t ≡ d = subst (λ e. Does h e d t) none does in rw same (λ a. a, λ a. a)
 ]
 
--- ---- whole exchanges
+-- ---- complete exchanges
 
-pub nak_exactly : (h : Hands) (c : Command) (reply : Block) (t : State) → is_nak reply ≡ true → (s : State) → LeadsTo h (just_state t) s ↔ Exchanges h c reply s t
+pub nak_exactly : (h : Hands) (c : Command) (reply : Block) (t : State) → is_nak reply ≡ true → (s : State)
+    → LeadsTo h (just_state t) s ↔ Exchanges h c reply s t
 nak_exactly h c reply t nak s = (λ (d, drift, fits). (d, drift, refused nak (fits_just t d fits)), λ (d, drift, step). (d, drift, by d step))
   where
-    by : (d : State) → Step h c reply d t → Fits (just_state t) d
+    by : (d : State) → DeckStep h c reply d t → Fits (just_state t) d
     by d (refused was e) = rw e (fits_self d)
     by d (done was shows does) = absurd (false≢true (sym was ∙ nak))
     by d (ignored was shows may local e) = absurd (false≢true (sym was ∙ nak))
 
 -- a drift leads from the state to one of a pattern, if there is a pattern
-abbrev pub LeadsSome : Hands → Option Asked → State → Type 0
+abbrev pub LeadsSome : Hands → Option Pattern → State → Type 0
 LeadsSome h o s = (d : State) × Drift h s d × FitsSome o d
 
 -- an exchange with no NAK: the reply agrees with the state after, and the command was left undone or had its effect
-pub exchange_exactly : {h : Hands} {e : Effect} {o : Option Asked} (v : StateSet) (c : Command) (reply : Block) (t : State) → is_nak reply ≡ false → AreBelow v → IsState t
-    → h ≡ hands_of v → e ≡ effect_of c → o ≡ asked_before h e t
-    → (s : State) → Possible v s → Exchanges (hands_of v) c reply s t ↔ (Shows t c reply × ((IsUndone c t × LeadsTo (hands_of v) (just_state t) s) ⊎ LeadsSome (hands_of v) o s))
-exchange_exactly {o = o} v c reply t nak below after allowed effect asked s i = (λ (d, drift, step). there d drift step, λ (shows, w). back shows w)
+pub exchange_exactly : {h : Hands} {e : Effect} {o : Option Pattern} (v : States) (c : Command) (reply : Block) (t : State) → is_nak reply ≡ false → AreBelow v
+    → IsState t
+    → h ≡ hands_of v → e ≡ effect_of c → o ≡ pattern_before h e t
+    → (s : State) → Possible v s → Exchanges (hands_of v) c reply s t
+    ↔ (Shows t c reply × ((IsUndone c t × LeadsTo (hands_of v) (just_state t) s) ⊎ LeadsSome (hands_of v) o s))
+exchange_exactly {o = o} v c reply t nak below after allowed effect wanted s i = (λ (d, drift, step). there d drift step, λ (shows, w). back shows w)
   where
-    found : asked_before (hands_of v) (effect_of c) t ≡ o
-    found = rw (← allowed, ← effect) (sym asked)
+    found : pattern_before (hands_of v) (effect_of c) t ≡ o
+    found = rw (← allowed, ← effect) (sym wanted)
 
-    there : (d : State) → Drift (hands_of v) s d → Step (hands_of v) c reply d t → Shows t c reply × ((IsUndone c t × LeadsTo (hands_of v) (just_state t) s) ⊎ LeadsSome (hands_of v) o s)
+    there : (d : State) → Drift (hands_of v) s d → DeckStep (hands_of v) c reply d t
+        → Shows t c reply × ((IsUndone c t × LeadsTo (hands_of v) (just_state t) s) ⊎ LeadsSome (hands_of v) o s)
     there d drift (refused was e) = absurd (false≢true (sym nak ∙ was))
-    there d drift (done was shows does) = let valid = drift_state (hands_of v) s d (possible_state v s below i) drift in
-        ((shows_same (hands_of v) c reply d t does).0 shows, inr (d, drift, subst (λ o. FitsSome o d) found ((asked_exactly (hands_of v) (effect_of c) t d after valid).1 does)))
+    there d drift (done was shows does) = let valid = drift_state (hands_of v) s d (possible_state v s below i) drift in (
+      (shows_same (hands_of v) c reply d t does).0 shows,
+      inr
+          (d, drift, subst (λ o. FitsSome o d) found ((wanted_exactly (hands_of v) (effect_of c) t d after valid).1 does)),
+    )
     there d drift (ignored was shows may local e) = (rw e shows, inl ((may, rw e local), (d, drift, rw e (fits_self d))))
 
     back : Shows t c reply → (IsUndone c t × LeadsTo (hands_of v) (just_state t) s) ⊎ LeadsSome (hands_of v) o s → Exchanges (hands_of v) c reply s t
     back shows (inl ((may, local), (d, drift, fits))) = let e = fits_just t d fits in (d, drift, ignored nak (rw (← e) shows) may (rw (← e) local) e)
     back shows (inr (d, drift, fits)) =
         let valid = drift_state (hands_of v) s d (possible_state v s below i) drift in
-        let does = (asked_exactly (hands_of v) (effect_of c) t d after valid).0 (subst (λ o. FitsSome o d) (sym found) fits) in (d, drift, done nak ((shows_same (hands_of v) c reply d t does).1 shows) does)
+        let does = (wanted_exactly (hands_of v) (effect_of c) t d after valid).0 (subst (λ o. FitsSome o d) (sym found) fits) in
+        (d, drift, done nak ((shows_same (hands_of v) c reply d t does).1 shows) does)

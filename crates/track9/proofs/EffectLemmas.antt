@@ -1,13 +1,14 @@
--- What becomes of the states of a part, and so what leads from all states with one value of the panel to others: each effect, and whole exchanges where nobody touches the panel.
+-- What becomes of the states of a part, and so what leads from all states with one value of the panel to others: each
+-- effect, and complete exchanges where nobody touches the panel.
 use Rattle.track9.proofs.Words.{agreeing, Agrees, all_forgotten, all_or_none, all_states, Allows, and_from, and_parts, ap, AreSet, Becomes, Block, Bool}
 use Rattle.track9.proofs.Words.{both, Change, changed_entries, changed_part, Command, cond_both, counted, Does, DoesOrNot, done, Drift, drift_from_pairs, drifted}
-use Rattle.track9.proofs.Words.{drifted_part, drifted_with, Effect, effect_of, either, Entries, entries_of, entry_of, Exchanged, false, false≢true, forgotten_part, goes, gone}
-use Rattle.track9.proofs.Words.{gone_pairs, gone_part, gone_with, has, has-and, has-or, has_pair, HasEffect, if◌then◌else◌, IfSome, ignored, ignored_by_effect, in_local, inl, InPart}
-use Rattle.track9.proofs.Words.{inr, InTwo, is_as_asked, is_live, is_mode, is_mode-same, is_nak, LeadsOn, List, map_two, masked, masked_part, Mode, mode_self, modes, ModeSet}
-use Rattle.track9.proofs.Words.{no_states, None, nothing_has, Option, or-false, or-true, or_cases, PartStates, Presets, presets_after, put_aside, put_settled}
+use Rattle.track9.proofs.Words.{drifted_part, drifted_with, Effect, effect_of, either, Entries, entries_of, entry_of, false, false≢true, forgotten_part, goes, gone}
+use Rattle.track9.proofs.Words.{gone_pairs, gone_part, gone_with, has, has-and, has-or, has_pair, HasEffect, if◌then◌else◌, IfSome, ignored, in_local, inl, InPart}
+use Rattle.track9.proofs.Words.{inr, InTwo, is_as_wanted, is_live, is_mode, is_mode-same, is_nak, LeadsOn, List, map_two, masked, masked_part, Mode, mode_self, modes, ModeSet}
+use Rattle.track9.proofs.Words.{no_states, None, nothing_has, Option, or-false, or-true, or_cases, Part, Presets, presets_after, put_aside, put_settled}
 use Rattle.track9.proofs.Words.{refl, refused, RegAudioIn, RegAudioOut, RegIn, Register, RegistersSet, RegOut, reported_part, rules, Sense, sense_of, sensed_part, set_where, settled}
-use Rattle.track9.proofs.Words.{shown_with, ShowsStatus, Some, some_entry, some_mode, some_two, State, Status, status_of, status_part, Step, Stop, subst, sym, Tells, time_of, true}
-use Rattle.track9.proofs.Words.{two_changed, two_drifted, two_sensed, two_status, TwoBelow, TwoFew, TwoParts, TwoWhole, where_live, Whole, with_command, with_entries, with_entry}
+use Rattle.track9.proofs.Words.{shown_with, ShowsStatus, Some, some_entry, some_mode, some_two, State, Status, status_of, status_part, DeckStep, Stop, subst, sym, Taken, Tells, time_of, true}
+use Rattle.track9.proofs.Words.{two_changed, two_drifted, two_sensed, two_status, TwoBelow, TwoFew, Halves, TwoWhole, where_live, Whole, with_command, with_entries, with_entry}
 use Rattle.track9.proofs.Words.{ℕ, ◌&&◌, ◌==◌, ◌||◌, ◌↔◌, ◌∙◌, ◌≡◌, ◌⊎◌}
 use Rattle.deck9.specs.declared.effect.Effect.TheVariants as effect
 use Rattle.deck9.specs.declared.state.Hands.TheVariants as hands
@@ -23,7 +24,7 @@ use Rattle.track9.proofs.PartLemmas.{whole_none, whole_pairs, whole_put, whole_s
 -- ---- part by part
 
 -- a step leads from the states of a part exactly to those of another part, which may depend on their local
-pub record PartLeads (Goes : State → State → Type 0) (count : Presets → Presets) (p : PartStates) (q : Bool → PartStates) : Type 0 where
+pub record PartLeads (Goes : State → State → Type 0) (count : Presets → Presets) (p : Part) (q : Bool → Part) : Type 0 where
   pub from : (t : State) → InPart (q t.local) t → (s : State) × InPart p s × (s.local ≡ t.local) × (s.panel ≡ t.panel) × Goes s t
   pub to : (s t : State) → InPart p s → Goes s t → InPart (q s.local) t
   pub whole : (l : Bool) → Whole (q l)
@@ -34,81 +35,116 @@ pub record Keeps (Goes : State → State → Type 0) : Type 0 where
   pub local : (s t : State) → Goes s t → t.local ≡ s.local
   pub panel : (s t : State) → Goes s t → t.panel ≡ s.panel
 
-mapped : (f : Bool → PartStates → PartStates) (h : TwoParts) (l : Bool) → in_local (map_two f h) l ≡ f l (in_local h l)
+mapped : (f : Bool → Part → Part) (h : Halves) (l : Bool) → in_local (map_two f h) l ≡ f l (in_local h l)
 mapped f h false = refl
 mapped f h true = refl
 
-leads_by : (Goes : State → State → Type 0) (count : Presets → Presets) → Keeps Goes → (f : Bool → PartStates → PartStates) (h : TwoParts) → ((l : Bool) → PartLeads Goes count (in_local h l) (λ b. f b (in_local h l)))
+leads_by : (Goes : State → State → Type 0) (count : Presets → Presets) → Keeps Goes → (f : Bool → Part → Part) (h : Halves)
+    → ((l : Bool) → PartLeads Goes count (in_local h l) (λ b. f b (in_local h l)))
     → LeadsOn Goes count h (map_two f h)
 leads_by Goes count keeps f h each = record {
   reached = λ pn. (
-    λ t i. let a = (each t.local).from t (subst (λ q. InPart q t) (mapped f h t.local) i.1) in (a.0, (a.3 ∙ i.0, subst (λ b. InPart (in_local h b) a.0) (sym a.2) a.1), a.4),
-    λ s t i goes. (keeps.panel s t goes ∙ i.0, subst (λ b. InPart (in_local (map_two f h) b) t) (sym (keeps.local s t goes)) (rw (mapped f h s.local) ((each s.local).to s t i.1 goes))),
+    λ t i. let a = (each t.local).from t (subst (λ q. InPart q t) (mapped f h t.local) i.1) in
+        (a.0, (a.3 ∙ i.0, subst (λ b. InPart (in_local h b) a.0) (sym a.2) a.1), a.4),
+    λ s t i goes. (
+      keeps.panel s t goes ∙ i.0,
+      subst (λ b. InPart (in_local (map_two f h) b) t) (sym (keeps.local s t goes))
+          (rw (mapped f h s.local) ((each s.local).to s t i.1 goes)),
+    ),
   );
   whole = record { remote = (each false).whole false; local = (each true).whole true };
   few = λ n few l. subst (FewIn (count n)) (sym (mapped f h l)) ((each l).few l n (few l));
 }
 
 -- a part that has no states stays
-leads : (Goes : State → State → Type 0) (count : Presets → Presets) → Keeps Goes → (f : Bool → PartStates → PartStates) (h : TwoParts) → TwoWhole h
+leads : (Goes : State → State → Type 0) (count : Presets → Presets) → Keeps Goes → (f : Bool → Part → Part) (h : Halves) → TwoWhole h
     → ((l : Bool) (n : Presets) → FewIn n (in_local h l) → FewIn (count n) (in_local h l))
-    → ((l : Bool) → is_live (in_local h l) ≡ true → PartLeads Goes count (in_local h l) (λ b. f b (in_local h l))) → LeadsOn Goes count h (map_two (λ l. where_live (f l)) h)
+    → ((l : Bool) → is_live (in_local h l) ≡ true → PartLeads Goes count (in_local h l) (λ b. f b (in_local h l)))
+    → LeadsOn Goes count h (map_two (λ l. where_live (f l)) h)
 leads Goes count keeps f h whole few each = leads_by Goes count keeps (λ l. where_live (f l)) h (λ l. by l (is_live (in_local h l)) refl)
   where
     by : (l b : Bool) → is_live (in_local h l) ≡ b → PartLeads Goes count (in_local h l) (λ k. if b then f k (in_local h l) else in_local h l)
     by l true live = each l live
-    by l false dead = record { from = λ t i. not_live _ t dead i; to = λ s t i goes. not_live _ s dead i; whole = λ k. whole_in h whole l; few = λ k n. few l n }
+    by l false dead = record {
+      from = λ t i. not_live _ t dead i;
+      to = λ s t i goes. not_live _ s dead i;
+      whole = λ k. whole_in h whole l;
+      few =
+          λ k n. few l n;
+    }
 
 -- what is read leaves the states of which it is true
-reads : (P : State → Type 0) (f : Bool → PartStates → PartStates) (h : TwoParts) → TwoWhole h → ((p : PartStates) (t : State) → InPart (f t.local p) t ↔ (InPart p t × P t))
-    → ((l : Bool) (p : PartStates) → Whole (f l p)) → ((l : Bool) (n : Presets) (p : PartStates) → FewIn n p → FewIn n (f l p)) → LeadsOn (λ s t. P s × (t ≡ s)) (λ n. n) h (map_two (λ l. where_live (f l)) h)
-reads P f h whole exactly wholes few = leads (λ s t. P s × (t ≡ s)) (λ n. n) (record { local = λ s t d. rw d.1; panel = λ s t d. rw d.1 }) f h whole (λ l n h. h) (λ l live. let p = in_local h l in record {
-  from = λ t i. let w = (exactly p t).0 i in (t, w.0, refl, refl, (w.1, refl));
-  to = λ s t i d. subst (InPart (f s.local p)) (sym d.1) ((exactly p s).1 (i, d.0));
-  whole = λ b. wholes b p;
-  few = λ b n h. few b n p h;
-})
+reads : (P : State → Type 0) (f : Bool → Part → Part) (h : Halves) → TwoWhole h → ((p : Part) (t : State) → InPart (f t.local p) t ↔ (InPart p t × P t))
+    → ((l : Bool) (p : Part) → Whole (f l p)) → ((l : Bool) (n : Presets) (p : Part) → FewIn n p → FewIn n (f l p))
+    → LeadsOn (λ s t. P s × (t ≡ s)) (λ n. n) h (map_two (λ l. where_live (f l)) h)
+reads P f h whole exactly wholes few = leads (λ s t. P s × (t ≡ s)) (λ n. n) (record { local = λ s t d. rw d.1; panel = λ s t d. rw d.1 }) f h whole
+    (λ l n h. h) (λ l live. let p = in_local h l in record {
+      from = λ t i. let w = (exactly p t).0 i in (t, w.0, refl, refl, (w.1, refl));
+      to = λ s t i d. subst (InPart (f s.local p)) (sym d.1) ((exactly p s).1 (i, d.0));
+      whole = λ b. wholes b p;
+      few = λ b n h. few b n p h;
+    })
 
 -- ---- a drift
 
-pub drift_leads : (h : TwoParts) → TwoWhole h → LeadsOn (Drift hands.None) (λ n. n) h (two_drifted h)
-drift_leads h whole = leads_by (Drift hands.None) (λ n. n) (record { local = λ s t d. rw (mechanics s t d).0; panel = λ s t d. rw (mechanics s t d).0 }) (λ l. drifted_part) h (λ l. let p = in_local h l in record {
-  from = λ t i.
-      let w = drifted_from p.pairs t.goal t.shown (sym (pair_by_goal (drifted_with p.pairs) t.goal t.shown) ∙ i.pair) in
-      let s : State = record t { goal = w.0; shown = w.1 } in (s, in_pairs p p.pairs t w.0 w.1 (pairs_registers p (drifted p.pairs) t i) w.2, refl, refl, drift_from_pairs hands.None s t (inl (refl, w.3)));
-  to = λ s t i d. let m = mechanics s t d in
-      subst (InPart (drifted_part p)) (sym m.0)
-      (in_pairs p (drifted p.pairs) s t.goal t.shown i.registers (pair_by_goal (drifted_with p.pairs) t.goal t.shown ∙ drifted_to p.pairs s.goal s.shown t.goal t.shown i.pair m.1));
-  whole = λ b. whole_drift p (whole_in h whole l);
-  few = λ b n few. few_pairs n (drifted p.pairs) p few;
-})
+pub drift_leads : (h : Halves) → TwoWhole h → LeadsOn (Drift hands.None) (λ n. n) h (two_drifted h)
+drift_leads h whole = leads_by (Drift hands.None) (λ n. n) (record { local = λ s t d. rw (mechanics s t d).0; panel = λ s t d. rw (mechanics s t d).0 })
+    (λ l. drifted_part) h (λ l. let p = in_local h l in record {
+      from = λ t i.
+          let w = drifted_from p.pairs t.goal t.shown (sym (pair_by_goal (drifted_with p.pairs) t.goal t.shown) ∙ i.pair) in
+          let s : State = record t { goal = w.0; shown = w.1 } in (
+            s,
+            in_pairs p p.pairs t w.0 w.1 (pairs_registers p (drifted p.pairs) t i) w.2,
+            refl,
+            refl,
+            drift_from_pairs hands.None s t (inl (refl, w.3)),
+          );
+      to = λ s t i d. let m = mechanics s t d in
+          subst (InPart (drifted_part p)) (sym m.0)
+          (in_pairs p (drifted p.pairs) s t.goal t.shown i.registers
+          (pair_by_goal (drifted_with p.pairs) t.goal t.shown ∙ drifted_to p.pairs s.goal s.shown t.goal t.shown i.pair m.1));
+      whole = λ b. whole_drift p (whole_in h whole l);
+      few = λ b n few. few_pairs n (drifted p.pairs) p few;
+    })
 
 -- ---- a new goal
 
 gone_has : (goal : Mode) (p : List ModeSet) (g m : Mode) → has_pair (gone goal p) g m ≡ (is_mode g goal && has (goes p).0 m)
-gone_has goal p g m = pair_by_goal (gone_with goal p) g m ∙ (elim (is_mode g goal) as (λ b. has (if b then goes p else modes 0).0 m ≡ (b && has (goes p).0 m)) [ true ↦ refl | false ↦ nothing_has m ])
+gone_has goal p g m = pair_by_goal (gone_with goal p) g m ∙ (elim (is_mode g goal) as (λ b. has (if b then goes p else modes 0).0 m ≡ (b && has (goes p).0 m))
+    [ true ↦ refl | false ↦ nothing_has m ])
 
-goal_has : (may_stay : Bool) (goal : Mode) (p : List ModeSet) (g m : Mode) → has_pair (gone_pairs may_stay goal p) g m ≡ ((may_stay && has_pair p g m) || (is_mode g goal && has (goes p).0 m))
+goal_has : (may_stay : Bool) (goal : Mode) (p : List ModeSet) (g m : Mode)
+    → has_pair (gone_pairs may_stay goal p) g m ≡ ((may_stay && has_pair p g m) || (is_mode g goal && has (goes p).0 m))
 goal_has false goal p g m = gone_has goal p g m
-goal_has true goal p g m = pair_by_goal (λ f. either (shown_with p f) (shown_with (gone goal p) f)) g m ∙ has-or (shown_with p g).0 (shown_with (gone goal p) g).0 m ∙ ap (λ b. has_pair p g m || b) (gone_has goal p g m)
+goal_has true goal p g m = pair_by_goal (λ f. either (shown_with p f) (shown_with (gone goal p) f)) g m
+    ∙ has-or (shown_with p g).0 (shown_with (gone goal p) g).0 m ∙ ap (λ b. has_pair p g m || b) (gone_has goal p g m)
 
 goal_goes : (may_stay : Bool) (goal : Mode) (p : List ModeSet) (m : Mode) → has (goes p).0 m ≡ true → has_pair (gone_pairs may_stay goal p) goal m ≡ true
 goal_goes b goal p m h = goal_has b goal p goal m ∙ rw (mode_self goal, h) (or-true (b && has_pair p goal m))
 
 -- the states with this goal, and those that may stay as they are
-goal_leads : (Goes : State → State → Type 0) (may_stay : Bool → Bool) (goal : Mode) (p : PartStates) → ((s t : State) → Goes s t ↔ ((t ≡ record s { goal = goal }) ⊎ ((may_stay s.local ≡ true) × (t ≡ s))))
+goal_leads : (Goes : State → State → Type 0) (may_stay : Bool → Bool) (goal : Mode) (p : Part)
+    → ((s t : State) → Goes s t ↔ ((t ≡ record s { goal = goal }) ⊎ ((may_stay s.local ≡ true) × (t ≡ s))))
     → Whole p → is_live p ≡ true → PartLeads Goes (λ n. n) p (λ l. gone_part (may_stay l) goal p)
 goal_leads Goes may_stay goal p steps whole live = record {
   from = λ t i.
       let b = may_stay t.local in let old = pairs_registers p (gone_pairs b goal p.pairs) t i in
       elim (or_cases _ _ (sym (goal_has b goal p.pairs t.goal t.shown) ∙ i.pair)) [
         | inl stays ↦ let w = and_parts _ _ stays in (t, in_pairs p p.pairs t t.goal t.shown old w.1, refl, refl, (steps t t).1 (inr (w.0, refl)))
-        | inr new ↦ let w = and_parts _ _ new in let f = goes_from p.pairs t.shown w.1 in let s : State = record t { goal = f.0 } in
-            (s, in_pairs p p.pairs t f.0 t.shown old f.1, refl, refl, (steps s t).1 (inl (ap (λ (g : Mode). record t { goal = g }) (is_mode-same t.goal goal w.0))))
+        | inr new ↦ let w = and_parts _ _ new in let f = goes_from p.pairs t.shown w.1 in let s : State = record t { goal = f.0 } in (
+          s,
+          in_pairs p p.pairs t f.0 t.shown old f.1,
+          refl,
+          refl,
+          (steps s t).1
+              (inl (ap (λ (g : Mode). record t { goal = g }) (is_mode-same t.goal goal w.0))),
+        )
       ];
   to = λ s t i d. let b = may_stay s.local in elim ((steps s t).0 d) [
-    | inl e ↦ rw e (in_pairs p (gone_pairs b goal p.pairs) s goal s.shown i.registers (goal_goes b goal p.pairs s.shown (goes_to p.pairs s.goal s.shown i.pair)))
-    | inr (stays, e) ↦ rw e (in_pairs p (gone_pairs b goal p.pairs) s s.goal s.shown i.registers (goal_has b goal p.pairs s.goal s.shown ∙ rw (stays, i.pair) refl))
+    | inl e ↦ rw e (in_pairs p (gone_pairs b goal p.pairs) s goal s.shown i.registers
+        (goal_goes b goal p.pairs s.shown (goes_to p.pairs s.goal s.shown i.pair)))
+    | inr (stays, e) ↦ rw e (in_pairs p (gone_pairs b goal p.pairs) s s.goal s.shown i.registers
+        (goal_has b goal p.pairs s.goal s.shown ∙ rw (stays, i.pair) refl))
   ];
   whole = λ l. let q = gone_pairs (may_stay l) goal p.pairs in let m = some_mode (goes p.pairs) live in
       whole_pairs q p whole (pairs_some q goal m.0 (goal_goes (may_stay l) goal p.pairs m.0 m.1) ∙ sym live);
@@ -118,7 +154,7 @@ goal_leads Goes may_stay goal p steps whole live = record {
 -- ---- effects
 
 -- what an effect makes of a part with states
-abbrev pub part_effect : Bool → Effect → Bool → PartStates → PartStates
+abbrev pub part_effect : Bool → Effect → Bool → Part → Part
 part_effect may_stay (effect.Go g) l p = gone_part (l || may_stay) g p
 part_effect may_stay effect.KeepOrStop l p = gone_part (l || true) Stop p
 part_effect may_stay (effect.Change r c) l p = changed_part (l || may_stay) r c p
@@ -133,9 +169,11 @@ is_by_part (effect.Panel on) = false
 is_by_part effect.ForgetAll = false
 is_by_part _ = true
 
-part_leads : (may_stay : Bool) (e : Effect) (p : PartStates) → is_by_part e ≡ true → Whole p → is_live p ≡ true → Below e p → PartLeads (DoesOrNot may_stay e) (counted e) p (λ l. part_effect may_stay e l p)
+part_leads : (may_stay : Bool) (e : Effect) (p : Part) → is_by_part e ≡ true → Whole p → is_live p ≡ true → Below e p
+    → PartLeads (DoesOrNot may_stay e) (counted e) p (λ l. part_effect may_stay e l p)
 part_leads m (effect.Go g) p by whole live below = goal_leads (DoesOrNot m (effect.Go g)) (λ l. l || m) g p
-    (λ s t. (λ d. elim d [ inl e ↦ inl e | inr (may, stays, e) ↦ inr (stays, e) ], λ d. elim d [ inl e ↦ inl e | inr (stays, e) ↦ inr (refl, stays, e) ])) whole live
+    (λ s t. (λ d. elim d [ inl e ↦ inl e | inr (may, stays, e) ↦ inr (stays, e) ], λ d. elim d [ inl e ↦ inl e | inr (stays, e) ↦ inr (refl, stays, e) ])) whole
+    live
 part_leads m effect.KeepOrStop p by whole live below = goal_leads (DoesOrNot m effect.KeepOrStop) (λ l. l || true) Stop p (λ s t. (
   λ d. elim d [ inl (inl e) ↦ inr (or-true s.local, e) | inl (inr e) ↦ inl e | inr (may, stays, e) ↦ inr (or-true s.local, e) ],
   λ d. elim d [ inl e ↦ inl (inr e) | inr (stays, e) ↦ inl (inl e) ],
@@ -150,7 +188,8 @@ part_leads m (effect.Change r c) p by whole live below = let es = entries_of r p
       ];
   to = λ s t i d. let e = entry_of r s in elim d [
     | inl (f, becomes, same) ↦ rw same (put_in r _ p f s i (entry_to (s.local || m) c es e f (i.registers r) becomes))
-    | inr (may, stays, same) ↦ subst (InPart (changed_part (s.local || m) r c p)) ((put r e s).own ∙ sym same) (put_in r _ p e s i (entry_stays (s.local || m) c es e stays (below r) (i.registers r)))
+    | inr (may, stays, same) ↦ subst (InPart (changed_part (s.local || m) r c p)) ((put r e s).own ∙ sym same)
+        (put_in r _ p e s i (entry_stays (s.local || m) c es e stays (below r) (i.registers r)))
   ];
   whole = λ l. let new = changed_entries (l || m) c es in let e = becomes_some c some.0 in
       whole_put r new p whole (allowed_some new e.0 (entry_to (l || m) c es some.0 e.0 some.1 e.1) ∙ sym live);
@@ -184,18 +223,21 @@ does_keep m effect.ForgetRegisters s t (inl d) = (d.4, inr d.3)
 does_keep m effect.ForgetAll s t (inl d) = (d.1, inl refl)
 does_keep m _ s t (inl d) = (rw d, inr (rw d))
 
-pub has_effect : (may_stay : Bool) (e : Effect) (h : TwoParts) → is_by_part e ≡ true → TwoWhole h → ((l : Bool) → Below e (in_local h l)) → HasEffect may_stay e h (map_two (λ l. where_live (part_effect may_stay e l)) h)
-has_effect m e h by whole below = leads (DoesOrNot m e) (counted e) (record { local = local; panel = λ s t d. (does_keep m e s t d).0 }) (part_effect m e) h whole
+pub has_effect : (may_stay : Bool) (e : Effect) (h : Halves) → is_by_part e ≡ true → TwoWhole h → ((l : Bool) → Below e (in_local h l))
+    → HasEffect may_stay e h (map_two (λ l. where_live (part_effect may_stay e l)) h)
+has_effect m e h by whole below = leads (DoesOrNot m e) (counted e) (record { local = local; panel = λ s t d. (does_keep m e s t d).0 }) (part_effect m e) h
+    whole
     (λ l n few. few_counted e n (in_local h l) (below l) few) (λ l live. part_leads m e (in_local h l) by (whole_in h whole l) live (below l))
   where
     local : (s t : State) → DoesOrNot m e s t → t.local ≡ s.local
     local s t d = elim (does_keep m e s t d).1 [ inl all ↦ absurd (false≢true (sym (ap is_by_part all) ∙ by)) | inr same ↦ same ]
 
-has_forgotten_all : (may_stay : Bool) (h : TwoParts) → TwoWhole h → HasEffect may_stay effect.ForgetAll h (all_forgotten h)
+has_forgotten_all : (may_stay : Bool) (h : Halves) → TwoWhole h → HasEffect may_stay effect.ForgetAll h (all_forgotten h)
 has_forgotten_all m h whole = record {
   reached = λ pn. (
     λ t i. cond_both (some_two h) (all_or_none true) h (λ g. InTwo pn g t → (s : State) × InTwo pn h s × DoesOrNot m effect.ForgetAll s t)
-        (λ live i. let w = two_state h pn whole live in (w.0, w.1, inl (((all_exactly true t).0 i.1).1, i.0 ∙ sym w.1.0))) (λ dead i. absurd (false≢true (sym dead ∙ two_live h t i.1))) i,
+        (λ live i. let w = two_state h pn whole live in (w.0, w.1, inl (((all_exactly true t).0 i.1).1, i.0 ∙ sym w.1.0)))
+        (λ dead i. absurd (false≢true (sym dead ∙ two_live h t i.1))) i,
     λ s t i does. elim does [ inl d ↦ (d.1 ∙ i.0, rw (two_live h s i.1) ((all_exactly true t).1 (refl, d.0))) | inr w ↦ absurd (false≢true w.0) ],
   );
   whole = cond_both (some_two h) (all_or_none true) h TwoWhole (λ live. whole_two true) (λ dead. whole);
@@ -204,24 +246,27 @@ has_forgotten_all m h whole = record {
 
 -- ---- a drift after what becomes of the registers
 
-pub two_same : (g h : TwoParts) → g.remote ≡ h.remote → g.local ≡ h.local → g ≡ h
-two_same g h p q = ap (λ (r : PartStates). let k : TwoParts = record g { remote = r } in k) p ∙ ap (λ (l : PartStates). let k : TwoParts = record h { local = l } in k) q
+pub two_same : (g h : Halves) → g.remote ≡ h.remote → g.local ≡ h.local → g ≡ h
+two_same g h p q = ap (λ (r : Part). let k : Halves = record g { remote = r } in k) p ∙ ap (λ (l : Part). let k : Halves = record h { local = l } in k) q
 
-drift_live : (f : PartStates → PartStates) (p : PartStates) → drifted_part (f p) ≡ f (drifted_part p) → drifted_part (where_live f p) ≡ where_live f (drifted_part p)
-drift_live f p same = rw (drift_some p.pairs) (elim (is_live p) as (λ b. drifted_part (if b then f p else p) ≡ (if b then f (drifted_part p) else drifted_part p)) [ true ↦ same | false ↦ refl ])
+drift_live : (f : Part → Part) (p : Part) → drifted_part (f p) ≡ f (drifted_part p) → drifted_part (where_live f p) ≡ where_live f (drifted_part p)
+drift_live f p same = rw (drift_some p.pairs) (elim (is_live p) as (λ b. drifted_part (if b then f p else p)
+    ≡ (if b then f (drifted_part p) else drifted_part p)) [ true ↦ same | false ↦ refl ])
 
-pub drift_two : (f : Bool → PartStates → PartStates) (h : TwoParts) → ((l : Bool) (p : PartStates) → drifted_part (f l p) ≡ f l (drifted_part p))
+pub drift_two : (f : Bool → Part → Part) (h : Halves) → ((l : Bool) (p : Part) → drifted_part (f l p) ≡ f l (drifted_part p))
     → two_drifted (map_two (λ l. where_live (f l)) h) ≡ map_two (λ l. where_live (f l)) (two_drifted h)
 drift_two f h same = two_same (two_drifted (map_two (λ l. where_live (f l)) h)) (map_two (λ l. where_live (f l)) (two_drifted h))
     (drift_live (f false) h.remote (same false h.remote)) (drift_live (f true) h.local (same true h.local))
 
 -- what becomes of a register's entries is the same after a drift
-pub drift_put : (r : Register) (f : Entries → Entries) (p : PartStates) → drifted_part (with_entries r (f (entries_of r p)) p) ≡ with_entries r (f (entries_of r (drifted_part p))) (drifted_part p)
+pub drift_put : (r : Register) (f : Entries → Entries) (p : Part) → drifted_part (with_entries r (f (entries_of r p)) p)
+    ≡ with_entries r (f (entries_of r (drifted_part p))) (drifted_part p)
 drift_put RegIn f p = refl
 drift_put _ f p = refl
 
 -- what is made aside where there is a state, and then put in place
-changed_is : (may_stay : Bool) (r : Register) (c : Change) (h : TwoParts) → two_changed may_stay r c h ≡ map_two (λ l. where_live (part_effect may_stay (effect.Change r c) l)) h
+changed_is : (may_stay : Bool) (r : Register) (c : Change) (h : Halves)
+    → two_changed may_stay r c h ≡ map_two (λ l. where_live (part_effect may_stay (effect.Change r c) l)) h
 changed_is m r c h = two_same (two_changed m r c h) (map_two (λ l. where_live (part_effect m (effect.Change r c) l)) h) (by (is_live h.remote)) refl
   where
     es : Entries
@@ -232,16 +277,20 @@ changed_is m r c h = two_same (two_changed m r c h) (map_two (λ l. where_live (
     by false = refl
 
 -- what becomes of the registers, and then a drift
-pub after_effect : (may_stay : Bool) (e : Effect) (h : TwoParts) → is_by_part e ≡ true → ((l : Bool) (p : PartStates) → drifted_part (part_effect may_stay e l p) ≡ part_effect may_stay e l (drifted_part p)) → TwoWhole h
-    → ((l : Bool) → Below e (in_local (two_drifted h) l)) → HasEffect may_stay e (two_drifted h) (two_drifted (map_two (λ l. where_live (part_effect may_stay e l)) h))
+pub after_effect : (may_stay : Bool) (e : Effect) (h : Halves) → is_by_part e ≡ true
+    → ((l : Bool) (p : Part) → drifted_part (part_effect may_stay e l p) ≡ part_effect may_stay e l (drifted_part p)) → TwoWhole h
+    → ((l : Bool) → Below e (in_local (two_drifted h) l)) → HasEffect may_stay e (two_drifted h)
+    (two_drifted (map_two (λ l. where_live (part_effect may_stay e l)) h))
 after_effect m e h by same whole below = rw (drift_two (part_effect m e) h same) (has_effect m e (two_drifted h) by (drift_whole h whole) below)
 
-pub after_change : (may_stay : Bool) (r : Register) (c : Change) (h : TwoParts) → TwoWhole h → TwoBelow h → HasEffect may_stay (effect.Change r c) (two_drifted h) (two_drifted (two_changed may_stay r c h))
+pub after_change : (may_stay : Bool) (r : Register) (c : Change) (h : Halves) → TwoWhole h → TwoBelow h
+    → HasEffect may_stay (effect.Change r c) (two_drifted h) (two_drifted (two_changed may_stay r c h))
 after_change m r c h whole below = subst (λ g. HasEffect m (effect.Change r c) (two_drifted h) (two_drifted g)) (sym (changed_is m r c h))
     (after_effect m (effect.Change r c) h refl (λ l. drift_put r (changed_entries (l || m) c)) whole (drift_below h below))
 
-pub after_all : (may_stay : Bool) (h : TwoParts) → TwoWhole h → HasEffect may_stay effect.ForgetAll (two_drifted h) (two_drifted (all_forgotten h))
-after_all m h whole = subst (HasEffect m effect.ForgetAll (two_drifted h)) (sym (by (some_two h) ∙ ap (λ (b : Bool). if b then all_or_none true else two_drifted h)
+pub after_all : (may_stay : Bool) (h : Halves) → TwoWhole h → HasEffect may_stay effect.ForgetAll (two_drifted h) (two_drifted (all_forgotten h))
+after_all m h whole = subst (HasEffect m effect.ForgetAll (two_drifted h))
+    (sym (by (some_two h) ∙ ap (λ (b : Bool). if b then all_or_none true else two_drifted h)
     (sym same))) (has_forgotten_all m (two_drifted h) (drift_whole h whole))
   where
     same : some_two (two_drifted h) ≡ some_two h
@@ -254,7 +303,7 @@ after_all m h whole = subst (HasEffect m effect.ForgetAll (two_drifted h)) (sym 
 -- ---- one after another
 
 -- what leads on in one step after another
-pub leads_then : (Goes Then : State → State → Type 0) (first second : Presets → Presets) (h g k : TwoParts) → LeadsOn Goes first h g → LeadsOn Then second g k
+pub leads_then : (Goes Then : State → State → Type 0) (first second : Presets → Presets) (h g k : Halves) → LeadsOn Goes first h g → LeadsOn Then second g k
     → LeadsOn (λ s t. (d : State) × Goes s d × Then d t) (λ n. second (first n)) h k
 leads_then Goes Then first second h g k a b = record {
   reached = λ pn. (
@@ -266,7 +315,8 @@ leads_then Goes Then first second h g k a b = record {
 }
 
 -- and in another step to the same states
-pub leads_as : (Goes Other : State → State → Type 0) (count counts : Presets → Presets) (h g : TwoParts) → ((s t : State) → Goes s t → Other s t) → ((s t : State) → InPart (in_local h s.local) s → Other s t → Goes s t)
+pub leads_as : (Goes Other : State → State → Type 0) (count counts : Presets → Presets) (h g : Halves) → ((s t : State) → Goes s t → Other s t)
+    → ((s t : State) → InPart (in_local h s.local) s → Other s t → Goes s t)
     → ((n : Presets) → counts n ≡ count n) → LeadsOn Goes count h g → LeadsOn Other counts h g
 leads_as Goes Other count counts h g there back same leads = record {
   reached = λ pn. (λ t i. let a = (leads.reached pn).0 t i in (a.0, a.1, there a.0 t a.2), λ s t i other. (leads.reached pn).1 s t i (back s t i.1 other));
@@ -274,19 +324,21 @@ leads_as Goes Other count counts h g there back same leads = record {
   few = λ n few. subst (λ m. TwoFew m g) (sym (same n)) (leads.few n few);
 }
 
-pub leads_same : (h : TwoParts) → TwoWhole h → LeadsOn (λ s t. t ≡ s) (λ n. n) h h
+pub leads_same : (h : Halves) → TwoWhole h → LeadsOn (λ s t. t ≡ s) (λ n. n) h h
 leads_same h whole = record { reached = λ pn. (λ t i. (t, i, refl), λ s t i e. subst (InTwo pn h) (sym e) i); whole = whole; few = λ n few. few }
 
 -- nothing but a drift
-pub after_drift : (may_stay : Bool) (e : Effect) (h : TwoParts) → ((s t : State) → (t ≡ s) → Does hands.None e s t) → ((s t : State) → Does hands.None e s t → t ≡ s)
+pub after_drift : (may_stay : Bool) (e : Effect) (h : Halves) → ((s t : State) → (t ≡ s) → Does hands.None e s t)
+    → ((s t : State) → Does hands.None e s t → t ≡ s)
     → ((n : Presets) → counted e n ≡ n) → TwoWhole h → HasEffect may_stay e (two_drifted h) (two_drifted h)
 after_drift m e h there back same whole = leads_as (λ s t. t ≡ s) (DoesOrNot m e) (λ n. n) (counted e) (two_drifted h) (two_drifted h)
-    (λ s t e. inl (there s t e)) (λ s t i d. elim d [ inl does ↦ back s t does | inr (may, stays, e) ↦ e ]) same (leads_same (two_drifted h) (drift_whole h whole))
+    (λ s t e. inl (there s t e)) (λ s t i d. elim d [ inl does ↦ back s t does | inr (may, stays, e) ↦ e ]) same
+    (leads_same (two_drifted h) (drift_whole h whole))
 
 -- ---- a register's time
 
 -- exactly the states whose register tells these bytes
-sense_exactly : (r : Register) (bytes : List ℕ) (p : PartStates) (t : State) → InPart (sensed_part r (time_of bytes) p) t ↔ (InPart p t × Tells (entry_of r t) bytes)
+sense_exactly : (r : Register) (bytes : List ℕ) (p : Part) (t : State) → InPart (sensed_part r (time_of bytes) p) t ↔ (InPart p t × Tells (entry_of r t) bytes)
 sense_exactly r bytes p t =
     let new = agreeing (time_of bytes) (entries_of r p) in
     let e = entry_of r t in (
@@ -294,7 +346,8 @@ sense_exactly r bytes p t =
           let there = (settled_exactly (with_entries r new p) t).0 i in
           let w = (tells_exactly bytes (entries_of r p) e).0 (subst (λ es. Allows es e) (read_put r new p) (there.registers r)) in
           (subst (InPart p) (put r e t).own (take_out r new p e t there w.0), w.1),
-      λ (i, told). (settled_exactly (with_entries r new p) t).1 (subst (InPart (with_entries r new p)) (put r e t).own (put_in r new p e t i ((tells_exactly bytes (entries_of r p) e).1 (i.registers r, told)))),
+      λ (i, told). (settled_exactly (with_entries r new p) t).1 (subst (InPart (with_entries r new p)) (put r e t).own
+          (put_in r new p e t i ((tells_exactly bytes (entries_of r p) e).1 (i.registers r, told)))),
     )
 
 -- ---- status
@@ -302,7 +355,7 @@ sense_exactly r bytes p t =
 pub masked_has : (mask : ModeSet) (p : List ModeSet) (g m : Mode) → has_pair (masked mask p) g m ≡ (has_pair p g m && has mask.0 m)
 masked_has mask p g m = pair_by_goal (λ f. both (shown_with p f) mask) g m ∙ has-and (shown_with p g).0 mask.0 m
 
-local_exactly : (o : Option Bool) (local : Bool) → (is_as_asked o local ≡ true) ↔ IfSome o (λ b. local ≡ b)
+local_exactly : (o : Option Bool) (local : Bool) → (is_as_wanted o local ≡ true) ↔ IfSome o (λ b. local ≡ b)
 local_exactly None local = (λ e. tt, λ e. refl)
 local_exactly (Some true) true = (λ e. refl, λ e. refl)
 local_exactly (Some false) false = (λ e. refl, λ e. refl)
@@ -310,17 +363,18 @@ local_exactly (Some true) false = (λ e. e, λ e. e)
 local_exactly (Some false) true = (λ e. sym e, λ e. sym e)
 
 -- exactly the states that show a reported mode
-masked_exactly : (o : Option ModeSet) (p : PartStates) (t : State) → InPart (masked_part o p) t ↔ (InPart p t × IfSome o (λ modes. has modes.0 t.shown ≡ true))
+masked_exactly : (o : Option ModeSet) (p : Part) (t : State) → InPart (masked_part o p) t ↔ (InPart p t × IfSome o (λ modes. has modes.0 t.shown ≡ true))
 masked_exactly None p t = (λ i. (i, tt), λ w. w.0)
 masked_exactly (Some mask) p t = (
   λ i.
       let pair = and_parts (has_pair p.pairs t.goal t.shown) (has mask.0 t.shown) (sym (masked_has mask p.pairs t.goal t.shown) ∙ i.pair) in
       (in_pairs p p.pairs t t.goal t.shown (pairs_registers p (masked mask p.pairs) t i) pair.0, pair.1),
-  λ (i, h). in_pairs p (masked mask p.pairs) t t.goal t.shown i.registers (masked_has mask p.pairs t.goal t.shown ∙ and_from (has_pair p.pairs t.goal t.shown) (has mask.0 t.shown) i.pair h),
+  λ (i, h). in_pairs p (masked mask p.pairs) t t.goal t.shown i.registers
+      (masked_has mask p.pairs t.goal t.shown ∙ and_from (has_pair p.pairs t.goal t.shown) (has mask.0 t.shown) i.pair h),
 )
 
 -- exactly the states with registers Set as reported
-set_exactly_where : (o : Option RegistersSet) (p : PartStates) (t : State) → InPart (set_where o p) t ↔ (InPart p t × IfSome o (AreSet t))
+set_exactly_where : (o : Option RegistersSet) (p : Part) (t : State) → InPart (set_where o p) t ↔ (InPart p t × IfSome o (AreSet t))
 set_exactly_where None p t = (λ i. (i, tt), λ w. w.0)
 set_exactly_where (Some set) p t = (
   λ i.
@@ -329,37 +383,43 @@ set_exactly_where (Some set) p t = (
       (record { pair = i.pair; registers = each_register _ a.0 b.0 c.0 d.0 }, record { ins = a.1; outs = b.1; ains = c.1; aouts = d.1 }),
   λ (i, h). record {
     pair = i.pair;
-    registers = each_register _ ((set_exactly set.ins p.ins t.ins).1 (i.registers RegIn, h.ins)) ((set_exactly set.outs p.outs t.outs).1 (i.registers RegOut, h.outs))
-        ((set_exactly set.ains p.ains t.ains).1 (i.registers RegAudioIn, h.ains)) ((set_exactly set.aouts p.aouts t.aouts).1 (i.registers RegAudioOut, h.aouts));
+    registers = each_register _ ((set_exactly set.ins p.ins t.ins).1 (i.registers RegIn, h.ins))
+        ((set_exactly set.outs p.outs t.outs).1 (i.registers RegOut, h.outs))
+        ((set_exactly set.ains p.ains t.ains).1 (i.registers RegAudioIn, h.ains))
+        ((set_exactly set.aouts p.aouts t.aouts).1 (i.registers RegAudioOut, h.aouts));
   },
 )
 
 -- exactly the states with which a status agrees
-status_exactly : (status : Status) (p : PartStates) (t : State) → InPart (status_part t.local status p) t ↔ (InPart p t × ShowsStatus t status)
+status_exactly : (status : Status) (p : Part) (t : State) → InPart (status_part t.local status p) t ↔ (InPart p t × ShowsStatus t status)
 status_exactly status p t = let q = masked_part status.shown p in (
-  λ i. cond_both (is_as_asked status.local t.local) (reported_part status p) no_states (λ q. InPart q t → InPart p t × ShowsStatus t status) (λ here i.
-      let a = (set_exactly_where status.registers q t).0 ((settled_exactly (set_where status.registers q) t).0 i) in let b = (masked_exactly status.shown p t).0 a.0 in
+  λ i. cond_both (is_as_wanted status.local t.local) (reported_part status p) no_states (λ q. InPart q t → InPart p t × ShowsStatus t status) (λ here i.
+      let a = (set_exactly_where status.registers q t).0 ((settled_exactly (set_where status.registers q) t).0 i) in let b =
+      (masked_exactly status.shown p t).0 a.0 in
       (b.0, record { local = (local_exactly status.local t.local).0 here; shown = b.1; registers = a.1 })) (λ e i. in_none t i) i,
   λ (i, h). rw ((local_exactly status.local t.local).1 h.local)
-      ((settled_exactly (set_where status.registers q) t).1 ((set_exactly_where status.registers q t).1 ((masked_exactly status.shown p t).1 (i, h.shown), h.registers))),
+      ((settled_exactly (set_where status.registers q) t).1 ((set_exactly_where status.registers q t).1
+      ((masked_exactly status.shown p t).1 (i, h.shown), h.registers))),
 )
 
-few_masked : (n : Presets) (o : Option ModeSet) (p : PartStates) → FewIn n p → FewIn n (masked_part o p)
+few_masked : (n : Presets) (o : Option ModeSet) (p : Part) → FewIn n p → FewIn n (masked_part o p)
 few_masked n None p few = few
 few_masked n (Some mask) p few = few_pairs n _ p few
 
-few_where : (n : Presets) (o : Option RegistersSet) (p : PartStates) → FewIn n p → FewIn n (set_where o p)
+few_where : (n : Presets) (o : Option RegistersSet) (p : Part) → FewIn n p → FewIn n (set_where o p)
 few_where n None p few = few
 few_where n (Some set) p few = each_register _ (few_set n.ins set.ins p.ins (few RegIn)) (few_set n.outs set.outs p.outs (few RegOut))
     (few_set n.ains set.ains p.ains (few RegAudioIn)) (few_set n.aouts set.aouts p.aouts (few RegAudioOut))
 
-reads_status : (status : Status) (h : TwoParts) → TwoWhole h → LeadsOn (λ s t. ShowsStatus s status × (t ≡ s)) (λ n. n) h (two_status status h)
+reads_status : (status : Status) (h : Halves) → TwoWhole h → LeadsOn (λ s t. ShowsStatus s status × (t ≡ s)) (λ n. n) h (two_status status h)
 reads_status status h whole = reads (λ s. ShowsStatus s status) (λ l. status_part l status) h whole (status_exactly status)
-    (λ l p. cond_both (is_as_asked status.local l) (reported_part status p) no_states Whole (λ e. whole_settled (set_where status.registers (masked_part status.shown p))) (λ e. whole_none))
-    (λ l n p few. cond_both (is_as_asked status.local l) (reported_part status p) no_states (FewIn n)
-    (λ e. few_settled n (set_where status.registers (masked_part status.shown p)) (few_where n status.registers (masked_part status.shown p) (few_masked n status.shown p few))) (λ e. few_no_states n))
+    (λ l p. cond_both (is_as_wanted status.local l) (reported_part status p) no_states Whole
+    (λ e. whole_settled (set_where status.registers (masked_part status.shown p))) (λ e. whole_none))
+    (λ l n p few. cond_both (is_as_wanted status.local l) (reported_part status p) no_states (FewIn n)
+    (λ e. few_settled n (set_where status.registers (masked_part status.shown p))
+    (few_where n status.registers (masked_part status.shown p) (few_masked n status.shown p few))) (λ e. few_no_states n))
 
--- ---- whole exchanges
+-- ---- complete exchanges
 
 -- a command that asks for something of the state has no effect
 pub asks_or_acts : (c : Command) → (sense_of c ≡ sense.Nothing) ⊎ (effect_of c ≡ effect.Nothing)
@@ -376,68 +436,80 @@ pub presets_of : (c : Command) (reply : Block) (n : Presets) → is_nak reply �
 presets_of c reply n nak = rw nak (command_counts c n)
 
 -- a drift, and then a step
-exchanged_by : (c : Command) (reply : Block) (Goes : State → State → Type 0) (count : Presets → Presets) (h g : TwoParts) → TwoWhole h → ((s t : State) → Goes s t ↔ Step hands.None c reply s t)
-    → ((n : Presets) → presets_after c reply true n ≡ count n) → LeadsOn Goes count (two_drifted h) g → Exchanged c reply h g
-exchanged_by c reply Goes count h g whole steps same leads = leads_then (Drift hands.None) (Step hands.None c reply) (λ n. n) (presets_after c reply true) h (two_drifted h) g (drift_leads h whole)
-    (leads_as Goes (Step hands.None c reply) count (presets_after c reply true) (two_drifted h) g (λ s t. (steps s t).0) (λ s t i. (steps s t).1) same leads)
+exchanged_by : (c : Command) (reply : Block) (Goes : State → State → Type 0) (count : Presets → Presets) (h g : Halves) → TwoWhole h
+    → ((s t : State) → Goes s t ↔ DeckStep hands.None c reply s t)
+    → ((n : Presets) → presets_after c reply true n ≡ count n) → LeadsOn Goes count (two_drifted h) g → Taken c (Some reply) h g
+exchanged_by c reply Goes count h g whole steps same leads = leads_then (Drift hands.None) (DeckStep hands.None c reply) (λ n. n) (presets_after c reply true) h
+    (two_drifted h) g (drift_leads h whole)
+    (leads_as Goes (DeckStep hands.None c reply) count (presets_after c reply true) (two_drifted h) g (λ s t. (steps s t).0) (λ s t i. (steps s t).1) same
+    leads)
 
-pub exchanged_nak : (c : Command) (reply : Block) (h : TwoParts) → is_nak reply ≡ true → TwoWhole h → Exchanged c reply h (two_drifted h)
-exchanged_nak c reply h nak whole = exchanged_by c reply (λ s t. t ≡ s) (λ n. n) h (two_drifted h) whole (λ s t. (λ e. refused nak e, back s t)) (λ n. rw nak refl) (leads_same (two_drifted h) (drift_whole h whole))
+pub exchanged_nak : (c : Command) (reply : Block) (h : Halves) → is_nak reply ≡ true → TwoWhole h → Taken c (Some reply) h (two_drifted h)
+exchanged_nak c reply h nak whole = exchanged_by c reply (λ s t. t ≡ s) (λ n. n) h (two_drifted h) whole (λ s t. (λ e. refused nak e, back s t))
+    (λ n. rw nak refl) (leads_same (two_drifted h) (drift_whole h whole))
   where
-    back : (s t : State) → Step hands.None c reply s t → t ≡ s
+    back : (s t : State) → DeckStep hands.None c reply s t → t ≡ s
     back s t (refused was e) = e
     back s t (done was shows does) = absurd (false≢true (sym was ∙ nak))
     back s t (ignored was shows may local e) = e
 
 -- a step of a command that asks for something is what its reply shows
-asks : (c : Command) (reply : Block) (q : Sense) → is_nak reply ≡ false → sense_of c ≡ q → effect_of c ≡ effect.Nothing → (s t : State) → (Agrees q s reply × (t ≡ s)) ↔ Step hands.None c reply s t
+asks : (c : Command) (reply : Block) (q : Sense) → is_nak reply ≡ false → sense_of c ≡ q → effect_of c ≡ effect.Nothing → (s t : State)
+    → (Agrees q s reply × (t ≡ s)) ↔ DeckStep hands.None c reply s t
 asks c reply q nak sensed none s t = (λ w. done nak (rw sensed w.0) (rw none w.1), back)
   where
-    back : Step hands.None c reply s t → Agrees q s reply × (t ≡ s)
+    back : DeckStep hands.None c reply s t → Agrees q s reply × (t ≡ s)
     back (refused was e) = absurd (false≢true (sym nak ∙ was))
     back (done was shows does) = (rw sensed at shows, rw none at does)
     back (ignored was shows may local e) = (rw sensed at shows, e)
 
-drift_settled : (p : PartStates) → drifted_part (settled p) ≡ settled (drifted_part p)
+drift_settled : (p : Part) → drifted_part (settled p) ≡ settled (drifted_part p)
 drift_settled p = rw (drift_some p.pairs) (elim (is_live p && some_entry p.ins && some_entry p.outs && some_entry p.ains && some_entry p.aouts)
     as (λ b. drifted_part (if b then p else no_states) ≡ (if b then drifted_part p else no_states)) [ true ↦ refl | false ↦ refl ])
 
-drift_sensed : (r : Register) (time : Option ℕ) (h : TwoParts) → two_drifted (two_sensed r time h) ≡ map_two (λ l. where_live (sensed_part r time)) (two_drifted h)
-drift_sensed r time h = ap two_drifted (two_same _ (map_two (λ l. where_live (sensed_part r time)) h) (by h.remote (is_live h.remote)) (by h.local (is_live h.local)))
-    ∙ drift_two (λ l. sensed_part r time) h (λ l p. drift_settled (with_entries r (agreeing time (entries_of r p)) p) ∙ ap settled (drift_put r (agreeing time) p))
+drift_sensed : (r : Register) (time : Option ℕ) (h : Halves)
+    → two_drifted (two_sensed r time h) ≡ map_two (λ l. where_live (sensed_part r time)) (two_drifted h)
+drift_sensed r time h = ap two_drifted (two_same _ (map_two (λ l. where_live (sensed_part r time)) h) (by h.remote (is_live h.remote))
+    (by h.local (is_live h.local)))
+    ∙ drift_two (λ l. sensed_part r time) h (λ l p. drift_settled (with_entries r (agreeing time (entries_of r p)) p)
+    ∙ ap settled (drift_put r (agreeing time) p))
   where
-    by : (p : PartStates) (b : Bool) → put_settled r (if b then Some (agreeing time (entries_of r p)) else None) p ≡ (if b then sensed_part r time p else p)
+    by : (p : Part) (b : Bool) → put_settled r (if b then Some (agreeing time (entries_of r p)) else None) p ≡ (if b then sensed_part r time p else p)
     by p true = refl
     by p false = refl
 
-pub exchanged_sense : (c : Command) (reply : Block) (r : Register) (h : TwoParts) → is_nak reply ≡ false → sense_of c ≡ sense.Register r → TwoWhole h
-    → Exchanged c reply h (two_drifted (two_sensed r (time_of reply.bytes.items) h))
-exchanged_sense c reply r h nak asked whole =
+pub exchanged_sense : (c : Command) (reply : Block) (r : Register) (h : Halves) → is_nak reply ≡ false → sense_of c ≡ sense.Register r → TwoWhole h
+    → Taken c (Some reply) h (two_drifted (two_sensed r (time_of reply.bytes.items) h))
+exchanged_sense c reply r h nak wanted whole =
     let bytes = reply.bytes.items in
     let at = time_of bytes in
     let none : effect_of c ≡ effect.Nothing = elim (asks_or_acts c) [ inl e ↦ cc | inr none ↦ none ] in
-    rw (drift_sensed r at h) (exchanged_by c reply (λ s t. Tells (entry_of r s) bytes × (t ≡ s)) (λ n. n) h (map_two (λ l. where_live (sensed_part r at)) (two_drifted h)) whole
-    (asks c reply (sense.Register r) nak asked none) (λ n. presets_of c reply n nak ∙ ap (λ e. counted e n) none)
-    (reads (λ s. Tells (entry_of r s) bytes) (λ l. sensed_part r at) (two_drifted h) (drift_whole h whole) (sense_exactly r bytes) (λ l p. whole_settled (with_entries r (agreeing at (entries_of r p)) p))
+    rw (drift_sensed r at h) (exchanged_by c reply (λ s t. Tells (entry_of r s) bytes × (t ≡ s)) (λ n. n) h
+    (map_two (λ l. where_live (sensed_part r at)) (two_drifted h)) whole
+    (asks c reply (sense.Register r) nak wanted none) (λ n. presets_of c reply n nak ∙ ap (λ e. counted e n) none)
+    (reads (λ s. Tells (entry_of r s) bytes) (λ l. sensed_part r at) (two_drifted h) (drift_whole h whole) (sense_exactly r bytes)
+    (λ l p. whole_settled (with_entries r (agreeing at (entries_of r p)) p))
     (λ l n p few. few_settled n _ (few_put n r (agreeing at (entries_of r p)) p few (few_agreeing _ at (entries_of r p))))))
 
-pub exchanged_status : (c : Command) (reply : Block) (asked : ℕ) (h : TwoParts) → is_nak reply ≡ false → sense_of c ≡ sense.Status asked → TwoWhole h
-    → Exchanged c reply h (two_status (status_of asked reply) (two_drifted h))
+pub exchanged_status : (c : Command) (reply : Block) (asked : ℕ) (h : Halves) → is_nak reply ≡ false → sense_of c ≡ sense.Status asked → TwoWhole h
+    → Taken c (Some reply) h (two_status (status_of asked reply) (two_drifted h))
 exchanged_status c reply asked h nak asks_for whole =
     let status = status_of asked reply in
     let none : effect_of c ≡ effect.Nothing = elim (asks_or_acts c) [ inl e ↦ cc | inr none ↦ none ] in
-    exchanged_by c reply (λ s t. ShowsStatus s status × (t ≡ s)) (λ n. n) h (two_status status (two_drifted h)) whole (asks c reply (sense.Status asked) nak asks_for none)
+    exchanged_by c reply (λ s t. ShowsStatus s status × (t ≡ s)) (λ n. n) h (two_status status (two_drifted h)) whole
+    (asks c reply (sense.Status asked) nak asks_for none)
     (λ n. presets_of c reply n nak ∙ ap (λ e. counted e n) none) (reads_status status (two_drifted h) (drift_whole h whole))
 
-pub exchanged_effect : (c : Command) (reply : Block) (h g : TwoParts) → is_nak reply ≡ false → sense_of c ≡ sense.Nothing → TwoWhole h → HasEffect false (effect_of c) (two_drifted h) g → Exchanged c reply h g
+pub exchanged_effect : (c : Command) (reply : Block) (h g : Halves) → is_nak reply ≡ false → sense_of c ≡ sense.Nothing → TwoWhole h
+    → HasEffect false (effect_of c) (two_drifted h) g → Taken c (Some reply) h g
 exchanged_effect c reply h g nak sensed whole =
     exchanged_by c reply (DoesOrNot false (effect_of c)) (counted (effect_of c)) h g whole (λ s t. (there s t, back s t)) (λ n. presets_of c reply n nak)
   where
-    there : (s t : State) → DoesOrNot false (effect_of c) s t → Step hands.None c reply s t
+    there : (s t : State) → DoesOrNot false (effect_of c) s t → DeckStep hands.None c reply s t
     there s t (inl does) = done nak (rw sensed tt) does
-    there s t (inr (may, stays, e)) = ignored nak (rw sensed tt) (ignored_by_effect c ∙ may) (sym (or-false s.local) ∙ stays) e
+    there s t (inr (may, stays, e)) = ignored nak (rw sensed tt) may (sym (or-false s.local) ∙ stays) e
 
-    back : (s t : State) → Step hands.None c reply s t → DoesOrNot false (effect_of c) s t
+    back : (s t : State) → DeckStep hands.None c reply s t → DoesOrNot false (effect_of c) s t
     back s t (refused was e) = absurd (false≢true (sym nak ∙ was))
     back s t (done was shows does) = inl does
-    back s t (ignored was shows may local e) = inr (sym (ignored_by_effect c) ∙ may, or-false s.local ∙ local, e)
+    back s t (ignored was shows may local e) = inr (may, or-false s.local ∙ local, e)

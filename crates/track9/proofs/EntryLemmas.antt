@@ -1,4 +1,5 @@
--- Single things that a tracker keeps: sets of modes, one bit at a time; a drift of pairs of goal and shown mode; and what becomes of a set of entries, one entry at a time.
+-- Single things that a tracker keeps: sets of modes, one bit at a time; a drift of pairs of goal and shown mode; and
+-- what becomes of a set of entries, one entry at a time.
 use Rattle.track9.proofs.Words.{[], agreeing, Allows, and-false, and-true, and_parts, any_mode, ap, arith, At, Becomes, BelowDay, bit_of, Bool}
 use Rattle.track9.proofs.Words.{both_ways, by_goal, Change, changed_entries, Clear, cond_both, contains-every_time, contains-insert_nat, contains-items_nat, contains-just, day}
 use Rattle.track9.proofs.Words.{drifted_with, Entries, Entry, eqb, eqb-true, every_mode, every_time, false, false_from_ne_true, false≢true, find_mode, goal_if_shown, goals_of, goes, halted}
@@ -10,10 +11,10 @@ use Rattle.track9.proofs.Words.{shown_with, Some, some_entry, some_mode, some_pa
 use Rattle.track9.proofs.Words.{◌&&◌, ◌<◌, ◌||◌, ◌↔◌, ◌∙◌, ◌∷◌, ◌≡◌, ◌⊎◌}
 use Rattle.std.specs.FinSet as set
 
--- what is asked of every mode is asked of this one
-pub has_every : (asked : Mode → Bool) (m : Mode) → list_any (λ x. is_mode m x && asked x) every_mode ≡ asked m
-has_every asked Stop = or-false (asked Stop)
-has_every asked m = or-false (asked m)
+-- what is wanted of every mode is wanted of this one
+pub has_every : (wanted : Mode → Bool) (m : Mode) → list_any (λ x. is_mode m x && wanted x) every_mode ≡ wanted m
+has_every wanted Stop = or-false (wanted Stop)
+has_every wanted m = or-false (wanted m)
 
 -- ---- pairs
 
@@ -54,7 +55,8 @@ pub drifted_has : (p : List ModeSet) (g m : Mode) → has (drifted_with p g).0 m
     ≡ ((has_pair p g m || (is_some (shown_with p g) && (is_mode m g || is_one_of (on_the_way g) m))) || (is_mode m Stop && (some_pair p && is_mode g Stop)))
 drifted_has p g m = has-or (kept_goal (is_some (shown_with p g)) (shown_with p g) g).0 (halted (some_pair p) g).0 m
     ∙ ap (λ b. b || has (halted (some_pair p) g).0 m) (kept_has (is_some (shown_with p g)) (shown_with p g) g m)
-    ∙ ap (λ b. (has_pair p g m || (is_some (shown_with p g) && (is_mode m g || is_one_of (on_the_way g) m))) || b) (if_has (some_pair p && is_mode g Stop) Stop m)
+    ∙ ap (λ b. (has_pair p g m || (is_some (shown_with p g) && (is_mode m g || is_one_of (on_the_way g) m))) || b)
+    (if_has (some_pair p && is_mode g Stop) Stop m)
 
 pub drifted_from : (p : List ModeSet) (g m : Mode) → has (drifted_with p g).0 m ≡ true → (f : Mode) × (n : Mode) × (has_pair p f n ≡ true) × PairReaches f n g m
 drifted_from p g m h = elim (or_cases _ _ (sym (drifted_has p g m) ∙ h)) [
@@ -105,9 +107,12 @@ entry_from false (SetAt u) es d (At t) a h = inl (d, a, ap At (just_is u t h))
 entry_from false _ es d Clear a h = inl (Clear, h, refl)
 entry_from false _ es d (At t) a h = let w = image_from _ es.times t h in inl (At w.0, w.1, ap At w.2)
 entry_from true (SetAt u) es d (At t) a h =
-    elim (or_cases (eqb t u) (set.contains es.times t) (sym (contains-insert_nat es.times u t) ∙ h)) [ inl e ↦ inl (d, a, ap At (eqb-true t u e)) | inr e ↦ inr (refl, e) ]
-entry_from true Next es d (At t) a h = elim (in_union es.times _ t h) [ inl e ↦ inr (refl, e) | inr e ↦ let w = image_from next_frame es.times t e in inl (At w.0, w.1, ap At w.2) ]
-entry_from true Prev es d (At t) a h = elim (in_union es.times _ t h) [ inl e ↦ inr (refl, e) | inr e ↦ let w = image_from prev_frame es.times t e in inl (At w.0, w.1, ap At w.2) ]
+    elim (or_cases (eqb t u) (set.contains es.times t) (sym (contains-insert_nat es.times u t) ∙ h))
+    [ inl e ↦ inl (d, a, ap At (eqb-true t u e)) | inr e ↦ inr (refl, e) ]
+entry_from true Next es d (At t) a h = elim (in_union es.times _ t h)
+    [ inl e ↦ inr (refl, e) | inr e ↦ let w = image_from next_frame es.times t e in inl (At w.0, w.1, ap At w.2) ]
+entry_from true Prev es d (At t) a h = elim (in_union es.times _ t h)
+    [ inl e ↦ inr (refl, e) | inr e ↦ let w = image_from prev_frame es.times t e in inl (At w.0, w.1, ap At w.2) ]
 entry_from true _ es d e a h = inr (refl, h)
 
 -- where an entry goes to
@@ -123,7 +128,8 @@ entry_to false _ es (At t) e a w = rw w (image_to _ es.times t a)
 entry_to true _ es (At t) e a w = rw w (set.contains-union nat_cmp_total es.times _ _ ∙ or_right (set.contains es.times _) _ (image_to _ es.times t a))
 
 -- where it may stay it does, since the times are times of the day
-pub entry_stays : (may_stay : Bool) (c : Change) (es : Entries) (e : Entry) → may_stay ≡ true → BelowDay es.times → Allows es e → Allows (changed_entries may_stay c es) e
+pub entry_stays : (may_stay : Bool) (c : Change) (es : Entries) (e : Entry) → may_stay ≡ true → BelowDay es.times → Allows es e
+    → Allows (changed_entries may_stay c es) e
 entry_stays false c es e stays below a = absurd (false≢true stays)
 entry_stays true Reset es Clear stays below a = refl
 entry_stays true Recall es Clear stays below a = refl
@@ -175,7 +181,8 @@ nil_empty s h = elim (some_time s) [ inl w ↦ w.1 | inr w ↦ absurd (false≢t
 -- there is an entry exactly where one is allowed
 pub allowed_some : (es : Entries) (e : Entry) → Allows es e → some_entry es ≡ true
 allowed_some es Clear h = or_left es.may_clear _ h
-allowed_some es (At t) h = or_right es.may_clear _ (ap not (false_from_ne_true _ (λ nil. from_empty t (subst (λ s. set.contains s t ≡ true) (nil_empty es.times nil) h))))
+allowed_some es (At t) h = or_right es.may_clear _ (ap not (false_from_ne_true _
+    (λ nil. from_empty t (subst (λ s. set.contains s t ≡ true) (nil_empty es.times nil) h))))
 
 pub some_allowed : (es : Entries) → some_entry es ≡ true → (e : Entry) × Allows es e
 some_allowed es h = elim (or_cases es.may_clear (not (is_nil (set.items es.times))) h) [

@@ -3,9 +3,9 @@ use Rattle.track9.proofs.Words.{Allows, and_parts, ap, AreFew, AreTimes, AreWhol
 use Rattle.track9.proofs.Words.{contains-remove_nat, count_of, either, Entries, entries_of, Entry, entry_of, eqb, eqb-true, false, false_from_ne_true, false≢true, Follows}
 use Rattle.track9.proofs.Words.{goals_in, goals_of, goes, Hands, has, has-or, has_pair, if◌then◌else◌, in_local, inl, InPart, inr, is_live, is_nak, is_nil, is_panel_live, is_set}
 use Rattle.track9.proofs.Words.{is_some, IsKept, IsKnown, IsKnownEntry, IsSpanCount, IsTrue, join_options, joined, joined_known, just, Known, known_fact, KnownEntry, KnowsModes}
-use Rattle.track9.proofs.Words.{KnowsOf, List, max, max-zero, Mode, mode_some, ModeSet, nat_cmp, nat_tests, no_states, None, not, on_two, Option, part_of, PartKnows, PartStates}
+use Rattle.track9.proofs.Words.{KnowsOf, List, max, max-zero, Mode, mode_some, ModeSet, nat_cmp, nat_tests, no_states, None, not, on_two, Option, part_of, PartKnows, Part}
 use Rattle.track9.proofs.Words.{Possible, Presets, presets_after, refl, RegIn, Register, same_test, same_times, shown_in, shown_with, Some, some_entry, some_mode, some_state}
-use Rattle.track9.proofs.Words.{some_two, span_count, span_count-begin_count, State, StateSet, subst, sym, Times, true, true_from_ne_false, two_of, TwoKnow, TwoParts, TwoWhole}
+use Rattle.track9.proofs.Words.{some_two, span_count, span_count-begin_count, State, States, subst, sym, Times, true, true_from_ne_false, two_of, TwoKnow, Halves, TwoWhole}
 use Rattle.track9.proofs.Words.{Whole, with_command, with_entry, ℕ, ◌&&◌, ◌+◌, ◌==◌, ◌||◌, ◌↔◌, ◌∙◌, ◌≡◌, ◌≢◌, ◌≤◌, ◌⊎◌}
 use Rattle.deck9.specs.declared.knowledge.Known.TheVariants as known
 use Rattle.std.specs.FinSet as set
@@ -20,11 +20,12 @@ pub goal_to : (p : List ModeSet) (g m : Mode) → has_pair p g m ≡ true → ha
 goal_to p g m h = goals_has p g ∙ mode_some (shown_with p g) m h
 
 -- the modes of all parts
-abbrev all_of : (List ModeSet → ModeSet) → StateSet → ModeSet
-all_of f v = either (either (f (part_of v false false).pairs) (f (part_of v true false).pairs)) (either (f (part_of v false true).pairs) (f (part_of v true true).pairs))
+abbrev all_of : (List ModeSet → ModeSet) → States → ModeSet
+all_of f v = either (either (f (part_of v false false).pairs) (f (part_of v true false).pairs))
+    (either (f (part_of v false true).pairs) (f (part_of v true true).pairs))
 
 -- they are those of some part
-some_part : (f : List ModeSet → ModeSet) (v : StateSet) (m : Mode) → has (all_of f v).0 m ≡ true ↔ ((l pn : Bool) × (has (f (part_of v l pn).pairs).0 m ≡ true))
+some_part : (f : List ModeSet → ModeSet) (v : States) (m : Mode) → has (all_of f v).0 m ≡ true ↔ ((l pn : Bool) × (has (f (part_of v l pn).pairs).0 m ≡ true))
 some_part f v m =
     let x : Bool → Bool → Bool = λ l pn. has (f (part_of v l pn).pairs).0 m in
     let same : has (all_of f v).0 m ≡ ((x false false || x true false) || (x false true || x true true)) = simp has-or in (
@@ -33,7 +34,8 @@ some_part f v m =
     )
 
 -- a pair of a part is one of a state
-pair_state : (v : StateSet) (l pn : Bool) (g m : Mode) → AreWhole v → has_pair (part_of v l pn).pairs g m ≡ true → (s : State) × Possible v s × (s.goal ≡ g) × (s.shown ≡ m)
+pair_state : (v : States) (l pn : Bool) (g m : Mode) → AreWhole v → has_pair (part_of v l pn).pairs g m ≡ true
+    → (s : State) × Possible v s × (s.goal ≡ g) × (s.shown ≡ m)
 pair_state v l pn g m whole pair =
     let p = part_of v l pn in
     let w = a_state p l pn (part_whole v whole l pn) (mode_some (goes p.pairs) m (goes_to p.pairs g m pair)) in
@@ -45,23 +47,29 @@ pub record HasModes (X : State → Type 0) (field : State → Mode) (set : ModeS
   pub back : (m : Mode) → has set.0 m ≡ true → (s : State) × X s × (field s ≡ m)
 
 -- goals, or shown modes
-has_modes : (pick : Mode → Mode → Mode) (f : List ModeSet → ModeSet) (v : StateSet) → ((p : List ModeSet) (n : Mode) → has (f p).0 n ≡ true ↔ ((g m : Mode) × (has_pair p g m ≡ true) × (pick g m ≡ n)))
+has_modes : (pick : Mode → Mode → Mode) (f : List ModeSet → ModeSet) (v : States)
+    → ((p : List ModeSet) (n : Mode) → has (f p).0 n ≡ true ↔ ((g m : Mode) × (has_pair p g m ≡ true) × (pick g m ≡ n)))
     → AreWhole v → HasModes (Possible v) (λ (s : State). pick s.goal s.shown) (all_of f v)
 has_modes pick f v exactly whole = record {
-  there = λ s i. (some_part f v _).1 (s.local, s.panel, (exactly (part_of v s.local s.panel).pairs _).1 (s.goal, s.shown, (impossible v s s.local s.panel refl refl i).pair, refl));
+  there = λ s i. (some_part f v _).1 (
+    s.local,
+    s.panel,
+    (exactly (part_of v s.local s.panel).pairs _).1
+        (s.goal, s.shown, (impossible v s s.local s.panel refl refl i).pair, refl),
+  );
   back = λ n h.
       let a = (some_part f v n).0 h in let p = (exactly (part_of v a.0 a.1).pairs n).0 a.2 in
       let w = pair_state v a.0 a.1 p.0 p.1 whole p.2 in (w.0, w.1, rw (w.2, w.3) p.3);
 }
 
-pub has_goals : (v : StateSet) → AreWhole v → HasModes (Possible v) (λ (s : State). s.goal) (goals_in v)
+pub has_goals : (v : States) → AreWhole v → HasModes (Possible v) (λ (s : State). s.goal) (goals_in v)
 has_goals v = has_modes (λ g m. g) goals_of v
     (λ p n. (λ h. let m = some_mode (shown_with p n) (sym (goals_has p n) ∙ h) in (n, m.0, m.1, refl), λ (g, m, pair, e). rw (← e) (goal_to p g m pair)))
 
-pub has_shown : (v : StateSet) → AreWhole v → HasModes (Possible v) (λ (s : State). s.shown) (shown_in v)
+pub has_shown : (v : States) → AreWhole v → HasModes (Possible v) (λ (s : State). s.shown) (shown_in v)
 has_shown v = has_modes (λ g m. m) goes v (λ p n. (λ h. let g = goes_from p n h in (g.0, n, g.1, refl), λ (g, m, pair, e). rw (← e) (goes_to p g m pair)))
 
-pub modes_some : (v : StateSet) (field : State → Mode) (set : ModeSet) → HasModes (Possible v) field set → AreWhole v → some_state v ≡ true → is_some set ≡ true
+pub modes_some : (v : States) (field : State → Mode) (set : ModeSet) → HasModes (Possible v) field set → AreWhole v → some_state v ≡ true → is_some set ≡ true
 modes_some v field set h whole live = let w = live_some v whole live in mode_some set (field w.0) (h.there w.0 w.1)
 
 -- what is known of a mode of all states, by the set of these modes
@@ -82,22 +90,27 @@ fact_known X field is_there there back some = by (is_there false) (is_there true
     by true true p q = let a = back false p in let b = back true q in (a.0, b.0, a.1, b.1, λ e. false≢true (sym a.2 ∙ e ∙ b.2))
     by true false p q = λ t i. false_from_ne_true (field t) (λ e. false≢true (sym q ∙ subst (λ b. is_there b ≡ true) e (there t i)))
     by false true p q = λ t i. true_from_ne_false (field t) (λ e. false≢true (sym p ∙ subst (λ b. is_there b ≡ true) e (there t i)))
-    by false false p q = absurd ((elim (field some.0) as (λ b. is_there b ≡ true → ⊥) [ false ↦ λ h. false≢true (sym p ∙ h) | true ↦ λ h. false≢true (sym q ∙ h) ]) (there some.0 some.1))
+    by false false p q = absurd ((elim (field some.0) as (λ b. is_there b ≡ true → ⊥)
+        [ false ↦ λ h. false≢true (sym p ∙ h) | true ↦ λ h. false≢true (sym q ∙ h) ]) (there some.0 some.1))
 
 -- the part of a state is live
-live_part : (v : StateSet) (s : State) → Possible v s → is_live (part_of v s.local s.panel) ≡ true
+live_part : (v : States) (s : State) → Possible v s → is_live (part_of v s.local s.panel) ≡ true
 live_part v s i = state_live (part_of v s.local s.panel) s (impossible v s s.local s.panel refl refl i)
 
-live_state : (v : StateSet) (l pn : Bool) → AreWhole v → is_live (part_of v l pn) ≡ true → (s : State) × Possible v s × (s.local ≡ l) × (s.panel ≡ pn)
+live_state : (v : States) (l pn : Bool) → AreWhole v → is_live (part_of v l pn) ≡ true → (s : State) × Possible v s × (s.local ≡ l) × (s.panel ≡ pn)
 live_state v l pn whole live = let w = a_state (part_of v l pn) l pn (part_whole v whole l pn) live in (w.0, possible v w.0 l pn w.2 w.3 w.1, w.2, w.3)
 
-pub local_known : (v : StateSet) → AreWhole v → some_state v ≡ true
-    → IsKnown (Possible v) (λ (s : State). s.local) (known_fact (is_live (part_of v false false) || is_live (part_of v false true)) (is_live (part_of v true false) || is_live (part_of v true true)))
-local_known v whole live = fact_known (Possible v) (λ (s : State). s.local) (λ l. is_live (part_of v l false) || is_live (part_of v l true)) (λ s i. any_way (λ pn. is_live (part_of v s.local pn)) s.panel (live_part v s i))
+pub local_known : (v : States) → AreWhole v → some_state v ≡ true
+    → IsKnown (Possible v) (λ (s : State). s.local) (known_fact (is_live (part_of v false false) || is_live (part_of v false true))
+    (is_live (part_of v true false) || is_live (part_of v true true)))
+local_known v whole live = fact_known (Possible v) (λ (s : State). s.local) (λ l. is_live (part_of v l false) || is_live (part_of v l true))
+    (λ s i. any_way (λ pn. is_live (part_of v s.local pn)) s.panel (live_part v s i))
     (λ l h. let pn = some_way (λ pn. is_live (part_of v l pn)) h in let w = live_state v l pn.0 whole pn.1 in (w.0, w.1, w.2)) (live_some v whole live)
 
-pub panel_known : (v : StateSet) → AreWhole v → some_state v ≡ true → IsKnown (Possible v) (λ (s : State). s.panel) (known_fact (some_two v.off) (is_panel_live v))
-panel_known v whole live = fact_known (Possible v) (λ (s : State). s.panel) (λ pn. some_two (two_of v pn)) (λ s i. any_way (λ l. is_live (part_of v l s.panel)) s.local (live_part v s i))
+pub panel_known : (v : States) → AreWhole v → some_state v ≡ true
+    → IsKnown (Possible v) (λ (s : State). s.panel) (known_fact (some_two v.off) (is_panel_live v))
+panel_known v whole live = fact_known (Possible v) (λ (s : State). s.panel) (λ pn. some_two (two_of v pn))
+    (λ s i. any_way (λ l. is_live (part_of v l s.panel)) s.local (live_part v s i))
     (λ pn h. let l = some_way (λ l. is_live (part_of v l pn)) h in let w = live_state v l.0 pn whole l.1 in (w.0, w.1, w.3)) (live_some v whole live)
 
 -- ---- one set of entries
@@ -154,7 +167,8 @@ abbrev Either : (Bool → Entry → Type 0) → Entry → Type 0
 Either E e = (b : Bool) × E b e
 
 -- what is true of the entries of both is true of those of either
-both_ways_hold : (E : Bool → Entry → Type 0) (P : Entry → Type 0) → ((e : Entry) → E false e → P e) → ((e : Entry) → E true e → P e) → (e : Entry) → Either E e → P e
+both_ways_hold : (E : Bool → Entry → Type 0) (P : Entry → Type 0) → ((e : Entry) → E false e → P e) → ((e : Entry) → E true e → P e) → (e : Entry) → Either E e
+    → P e
 both_ways_hold E P h k e (false, a) = h e a
 both_ways_hold E P h k e (true, a) = k e a
 
@@ -167,15 +181,25 @@ knows_same E F there back _ h = λ e f. h e (back e f)
 its : (E : Entry → Type 0) (f : Entry) → ((e : Entry) × E e) → ((e : Entry) → E e → e ≡ f) → E f
 its E f some all = subst E (all some.0 some.1) some.1
 
-knows_two : (E : Bool → Entry → Type 0) (t u : ℕ) → ((e : Entry) × E false e) → ((e : Entry) × E true e) → KnowsOf (E false) (entry.At t) → KnowsOf (E true) (entry.At u)
+knows_two : (E : Bool → Entry → Type 0) (t u : ℕ) → ((e : Entry) × E false e) → ((e : Entry) × E true e) → KnowsOf (E false) (entry.At t)
+    → KnowsOf (E true) (entry.At u)
     → KnowsOf (Either E) (if t == u then entry.At t else entry.SetSomewhere)
-knows_two E t u some other h k = cond_both (t == u) (entry.At t) entry.SetSomewhere (KnowsOf (Either E)) (λ e. both_ways_hold E (λ f. f ≡ At t) h (λ f y. k f y ∙ ap At (sym (eqb-true t u e))))
+knows_two E t u some other h k = cond_both (t == u) (entry.At t) entry.SetSomewhere (KnowsOf (Either E))
+    (λ e. both_ways_hold E (λ f. f ≡ At t) h (λ f y. k f y ∙ ap At (sym (eqb-true t u e))))
     (λ e. (
       both_ways_hold E (λ f. is_set f ≡ true) (λ f x. ap is_set (h f x)) (λ f y. ap is_set (k f y)),
-      (At t, At u, (false, its (E false) (At t) some h), (true, its (E true) (At u) other k), λ same. false≢true (sym e ∙ same_eqb u t (sym (at_same t u same)))),
+      (
+        At t,
+        At u,
+        (false, its (E false) (At t) some h),
+        (true, its (E true) (At u) other k),
+        λ same. false≢true
+            (sym e ∙ same_eqb u t (sym (at_same t u same))),
+      ),
     ))
 
-knows_joined : (E : Bool → Entry → Type 0) (k l : KnownEntry) → ((e : Entry) × E false e) → ((e : Entry) × E true e) → KnowsOf (E false) k → KnowsOf (E true) l → KnowsOf (Either E) (joined_known k l)
+knows_joined : (E : Bool → Entry → Type 0) (k l : KnownEntry) → ((e : Entry) × E false e) → ((e : Entry) × E true e) → KnowsOf (E false) k → KnowsOf (E true) l
+    → KnowsOf (Either E) (joined_known k l)
 knows_joined E entry.Clear entry.Clear some other h k = both_ways_hold E (λ e. e ≡ Clear) h k
 knows_joined E (entry.At t) (entry.At u) some other h k = knows_two E t u some other h k
 knows_joined E entry.Unknown _ some other h k = ((false, h.0), (h.1.0, (false, h.1.1), h.1.2))
@@ -188,7 +212,8 @@ knows_joined E (entry.At t) entry.SetSomewhere some other h k =
     (both_ways_hold E (λ e. is_set e ≡ true) (λ e x. ap is_set (h e x)) k.0, (k.1.0, k.1.1, (true, k.1.2), (true, k.1.3), k.1.4))
 knows_joined E entry.SetSomewhere (entry.At u) some other h k =
     (both_ways_hold E (λ e. is_set e ≡ true) h.0 (λ e y. ap is_set (k e y)), (h.1.0, h.1.1, (false, h.1.2), (false, h.1.3), h.1.4))
-knows_joined E entry.SetSomewhere entry.SetSomewhere some other h k = (both_ways_hold E (λ e. is_set e ≡ true) h.0 k.0, (h.1.0, h.1.1, (false, h.1.2), (false, h.1.3), h.1.4))
+knows_joined E entry.SetSomewhere entry.SetSomewhere some other h k =
+    (both_ways_hold E (λ e. is_set e ≡ true) h.0 k.0, (h.1.0, h.1.1, (false, h.1.2), (false, h.1.3), h.1.4))
 
 -- what is known of entries, of which there may be none
 Knows : (Entry → Type 0) → Option KnownEntry → Type 0
@@ -198,27 +223,37 @@ Knows E (Some k) = ((e : Entry) × E e) × KnowsOf E k
 knows_either : (E : Bool → Entry → Type 0) (a b : Option KnownEntry) → Knows (E false) a → Knows (E true) b → Knows (Either E) (join_options a b)
 unfolding Knows
 knows_either E None None h k = both_ways_hold E (λ e. ⊥) h k
-knows_either E None (Some l) h k = ((k.0.0, (true, k.0.1)), knows_same (E true) (Either E) (λ e y. (true, y)) (both_ways_hold E (E true) (λ e x. absurd (h e x)) (λ e y. y)) l k.1)
-knows_either E (Some l) None h k = ((h.0.0, (false, h.0.1)), knows_same (E false) (Either E) (λ e x. (false, x)) (both_ways_hold E (E false) (λ e x. x) (λ e y. absurd (k e y))) l h.1)
+knows_either E None (Some l) h k = (
+  (k.0.0, (true, k.0.1)),
+  knows_same (E true) (Either E) (λ e y. (true, y))
+      (both_ways_hold E (E true) (λ e x. absurd (h e x)) (λ e y. y)) l k.1,
+)
+knows_either E (Some l) None h k = (
+  (h.0.0, (false, h.0.1)),
+  knows_same (E false) (Either E) (λ e x. (false, x))
+      (both_ways_hold E (E false) (λ e x. x) (λ e y. absurd (k e y))) l h.1,
+)
 knows_either E (Some m) (Some l) h k = ((h.0.0, (false, h.0.1)), knows_joined E m l h.0 k.0 h.1 k.1)
 
 -- ---- all parts
 
-part_knows : (p : PartStates) (r : Register) (o : Option KnownEntry) → Whole p → PartKnows p r o → Knows (Allows (entries_of r p)) o
+part_knows : (p : Part) (r : Register) (o : Option KnownEntry) → Whole p → PartKnows p r o → Knows (Allows (entries_of r p)) o
 unfolding Knows
 part_knows p r None whole dead = nothing_allowed (entries_of r p) (whole r ∙ dead)
 part_knows p r (Some k) whole h = (some_allowed (entries_of r p) (whole r ∙ h.0), h.1)
 
 -- the entries of a register in either part
-abbrev InEither : TwoParts → Register → Entry → Type 0
+abbrev InEither : Halves → Register → Entry → Type 0
 InEither h r = Either (λ l. Allows (entries_of r (in_local h l)))
 
-two_know : (h : TwoParts) (r : Register) (o : Option KnownEntry) → TwoWhole h → TwoKnow h r o → Knows (InEither h r) o
+two_know : (h : Halves) (r : Register) (o : Option KnownEntry) → TwoWhole h → TwoKnow h r o → Knows (InEither h r) o
 two_know h r o whole (a, b, remote, local, e) =
-    subst (Knows (InEither h r)) (sym e) (knows_either (λ l. Allows (entries_of r (in_local h l))) a b (part_knows h.remote r a whole.remote remote) (part_knows h.local r b whole.local local))
+    subst (Knows (InEither h r)) (sym e) (knows_either (λ l. Allows (entries_of r (in_local h l))) a b (part_knows h.remote r a whole.remote remote)
+    (part_knows h.local r b whole.local local))
 
 -- an entry of a part is one of a state
-pub part_of_entry : (v : StateSet) (r : Register) (l pn : Bool) (e : Entry) → AreWhole v → Allows (entries_of r (part_of v l pn)) e → (s : State) × Possible v s × (s.local ≡ l) × (s.panel ≡ pn) × (entry_of r s ≡ e)
+pub part_of_entry : (v : States) (r : Register) (l pn : Bool) (e : Entry) → AreWhole v → Allows (entries_of r (part_of v l pn)) e
+    → (s : State) × Possible v s × (s.local ≡ l) × (s.panel ≡ pn) × (entry_of r s ≡ e)
 part_of_entry v r l pn e all a =
     let p = part_of v l pn in
     let whole = part_whole v all l pn in
@@ -235,7 +270,8 @@ known_of X r E entry.SetSomewhere there back h =
 known_of X r E entry.Unknown there back h = let a = back Clear h.0 in let b = back h.1.0 h.1.1 in (a.0, b.0, a.1, b.1, a.2, ap is_set b.2 ∙ h.1.2)
 known_of X r E _ there back h = λ s i. h (entry_of r s) (there s i)
 
-pub entry_known : (v : StateSet) (r : Register) (off on all : Option KnownEntry) (k : KnownEntry) → AreWhole v → TwoKnow (two_of v false) r off → TwoKnow (two_of v true) r on → all ≡ join_options off on → all ≡ Some k
+pub entry_known : (v : States) (r : Register) (off on all : Option KnownEntry) (k : KnownEntry) → AreWhole v → TwoKnow (two_of v false) r off
+    → TwoKnow (two_of v true) r on → all ≡ join_options off on → all ≡ Some k
     → IsKnownEntry (Possible v) r k
 unfolding Knows
 entry_known v r off on all k whole h i joined found =
@@ -246,34 +282,36 @@ entry_known v r off on all k whole h i joined found =
 
 -- ---- whether a state remains
 
-pub remains_where : (v : StateSet) → AreWhole v → IsTrue (some_state v) ↔ ((s : State) × Possible v s)
+pub remains_where : (v : States) → AreWhole v → IsTrue (some_state v) ↔ ((s : State) × Possible v s)
 remains_where v whole = (λ h. live_some v whole h, λ w. some_live v w.0 w.1)
 
 -- ---- after an exchange
 
-dead_few : (n : Presets) (v : StateSet) → AreWhole v → some_state v ≡ false → AreFew n v
+dead_few : (n : Presets) (v : States) → AreWhole v → some_state v ≡ false → AreFew n v
 dead_few n v whole dead pn l r =
     let dead_in : is_live (part_of v l pn) ≡ false = false_from_ne_true _ (λ live.
     let w = live_state v l pn whole live in false≢true (sym dead ∙ some_live v w.0 w.1)) in
     rw (no_times (entries_of r (part_of v l pn)) (part_whole v whole l pn r ∙ dead_in)) (omega (arith, begin_count-empty))
 
-pub kept_after : (c : Command) (reply : Block) (v w : StateSet) (h : Hands) (n : Presets) → IsKept n v → Follows h c reply v w → IsKept (presets_after c reply (some_state w) n) w
+pub kept_after : (c : Command) (reply : Block) (v w : States) (h : Hands) (n : Presets) → IsKept n v → Follows h c (Some reply) v w
+    → IsKept (presets_after c reply (some_state w) n) w
 kept_after c reply v w h n kept follows = record { whole = follows.whole; few = by (some_state w) refl }
   where
     by : (b : Bool) → some_state w ≡ b → AreFew (presets_after c reply b n) w
     by true live = follows.few n kept.few
-    by false dead = let none : AreFew n w = dead_few n w follows.whole dead in elim (is_nak reply) as (λ nak. AreFew (if not nak && false then with_command c n else n) w) [ true ↦ none | false ↦ none ]
+    by false dead = let none : AreFew n w = dead_few n w follows.whole dead in
+        elim (is_nak reply) as (λ nak. AreFew (if not nak && false then with_command c n else n) w) [ true ↦ none | false ↦ none ]
 
 -- ---- spans
 
-abbrev pub spans_in : StateSet → Register → Bool → Bool → ℕ
+abbrev pub spans_in : States → Register → Bool → Bool → ℕ
 spans_in v r l pn = span_count (entries_of r (part_of v l pn)).times
 
-abbrev pub most_spans : StateSet → Register → ℕ
+abbrev pub most_spans : States → Register → ℕ
 most_spans v r = max (max (spans_in v r false false) (spans_in v r true false)) (max (spans_in v r false true) (spans_in v r true true))
 
 -- the times of a register in a part are those of its states
-are_times : (v : StateSet) (r : Register) (l pn : Bool) → AreWhole v → AreTimes (Possible v) r l pn (entries_of r (part_of v l pn)).times
+are_times : (v : States) (r : Register) (l pn : Bool) → AreWhole v → AreTimes (Possible v) r l pn (entries_of r (part_of v l pn)).times
 are_times v r l pn whole t = (
   λ there. part_of_entry v r l pn (At t) whole there,
   λ w. subst (λ e. Allows (entries_of r (part_of v l pn)) e) w.4 ((impossible v w.0 l pn w.2 w.3 w.1).registers r),
@@ -286,9 +324,10 @@ most_of f n e = let w : (f false ≡ n) ⊎ (f true ≡ n) = grind arith in elim
 is_one : (f : Bool → Bool → ℕ) (n : ℕ) → n ≡ max (max (f false false) (f true false)) (max (f false true) (f true true)) → (l pn : Bool) × (f l pn ≡ n)
 is_one f n e = let pn = most_of (λ pn. max (f false pn) (f true pn)) n e in let l = most_of (λ l. f l pn.0) n (sym pn.1) in (l.0, pn.0, l.1)
 
-pub span_count_is : (v : StateSet) (r : Register) (n : ℕ) → AreWhole v → n ≡ most_spans v r → IsSpanCount (Possible v) r n
+pub span_count_is : (v : States) (r : Register) (n : ℕ) → AreWhole v → n ≡ most_spans v r → IsSpanCount (Possible v) r n
 span_count_is v r n whole e = record {
-  most = λ l pn times h. subst (λ s. span_count s ≤ n) (let here = are_times v r l pn whole in same_times _ times (λ t. same_test _ _ (λ x. (h t).1 ((here t).0 x)) (λ x. (here t).1 ((h t).0 x)))) (each l pn);
+  most = λ l pn times h. subst (λ s. span_count s ≤ n) (let here = are_times v r l pn whole in
+      same_times _ times (λ t. same_test _ _ (λ x. (h t).1 ((here t).0 x)) (λ x. (here t).1 ((h t).0 x)))) (each l pn);
   met = let w = is_one (spans_in v r) n e in (w.0, w.1, (entries_of r (part_of v w.0 w.1)).times, are_times v r w.0 w.1 whole, w.2);
 }
   where
@@ -300,7 +339,8 @@ span_count_is v r n whole e = record {
 none_left : (p : ℕ → Bool) → set.len (set.retain (set.empty {R = nat_cmp}) p) ≡ 0
 none_left p =
     let left : Times = set.retain set.empty p in
-    let same : left ≡ set.empty = same_times left set.empty (λ f. set.contains-retain set.empty p f (λ x tie. ap p (sym (set.nat_cmp-IsAntisymmetric f x tie))) ∙ rw (set.contains-empty nat_cmp f) refl) in
+    let same : left ≡ set.empty = same_times left set.empty (λ f. set.contains-retain set.empty p f (λ x tie. ap p (sym (set.nat_cmp-IsAntisymmetric f x tie)))
+    ∙ rw (set.contains-empty nat_cmp f) refl) in
     ap (λ (s : Times). set.len s) same ∙ set.len-empty nat_cmp
 
 span_none : span_count set.empty ≡ 0
@@ -308,14 +348,16 @@ unfolding span_count
 span_none = none_left _
 
 -- where there is nothing with the panel on
-pub spans_off : (h : TwoParts) (r : Register) → max (span_count (entries_of r h.remote).times) (span_count (entries_of r h.local).times) ≡ most_spans (panel_off h) r
+pub spans_off : (h : Halves) (r : Register) → max (span_count (entries_of r h.remote).times) (span_count (entries_of r h.local).times)
+    ≡ most_spans (panel_off h) r
 spans_off h r = sym (rw (dead r) (max-zero _))
   where
     dead : (r : Register) → span_count (entries_of r no_states).times ≡ 0
     dead RegIn = span_none
     dead _ = span_none
 
-pub spans_few : (v : StateSet) (r : Register) (n : ℕ) (m : Presets) → AreFew m v → n ≡ most_spans v r → n ≤ count_of r m + 2
+pub spans_few : (v : States) (r : Register) (n : ℕ) (m : Presets) → AreFew m v → n ≡ most_spans v r → n ≤ count_of r m + 2
 spans_few v r n m few e =
-    let each : (l pn : Bool) → spans_in v r l pn ≤ count_of r m + 2 = λ l pn. omega (arith, span_count-begin_count (entries_of r (part_of v l pn)).times, few pn l r) in
+    let each : (l pn : Bool) → spans_in v r l pn ≤ count_of r m + 2 =
+    λ l pn. omega (arith, span_count-begin_count (entries_of r (part_of v l pn)).times, few pn l r) in
     omega (arith, each false false, each true false, each false true, each true true)

@@ -1,10 +1,10 @@
--- All states: whole exchanges, and commands whose reply is not known, also where hands are allowed on the panel.
-use Rattle.track9.proofs.Words.{[], acknowledged, after_panel, all_drifted, all_or_none, AllLeadOn, Allows, ap, AreBelow, AreFew, AreReached, AreWhole, BelowDay, Block, Bool}
-use Rattle.track9.proofs.Words.{CanPass, Command, cond_both, counted, Does, DoesOrNot, done, Drift, drift_from_pairs, Effect, effect_of, either_panel, entries_of, Exchanges}
-use Rattle.track9.proofs.Words.{false, false≢true, first_states, Follows, FollowsDrift, FollowsPassed, goes, Hands, hands_by, hands_of, has, HasEffect, if◌then◌else◌}
-use Rattle.track9.proofs.Words.{ignored, ignored_by_effect, in_local, inl, InPart, inr, InTwo, is_nak, is_of_goal_or_register, is_panel_live, is_wide, IsIn, IsKept, IsState}
-use Rattle.track9.proofs.Words.{LeadsOn, None, on_two, Option, or-true, panel_passed, Passed, Passes, Possible, Presets, presets_after, read_panel, refl, refused, RegIn}
-use Rattle.track9.proofs.Words.{Register, sense_of, Some, some_state, State, StateSet, Step, subst, switched, sym, true, two_drifted, two_of, TwoBelow, TwoFew, TwoParts}
+-- All states: complete exchanges, and commands whose reply is not known, also where hands are allowed on the panel.
+use Rattle.track9.proofs.Words.{[], after_panel, all_drifted, all_or_none, AllLeadOn, Allows, ap, AreBelow, AreFew, AreReached, AreWhole, BelowDay, Block, Bool}
+use Rattle.track9.proofs.Words.{CanPass, Command, cond_both, counted, counts_after, Does, DoesOrNot, done, Drift, drift_from_pairs, DriftsAndGoes, Effect, effect_of, effect_taken, either_panel, entries_of}
+use Rattle.track9.proofs.Words.{false, false≢true, first_states, Follows, FollowsDrift, goes, Hands, hands_by, hands_of, has, HasEffect, if◌then◌else◌}
+use Rattle.track9.proofs.Words.{ignored, in_local, inl, InPart, inr, InTwo, is_nak, is_of_goal_or_register, is_panel_live, is_wide, IsIn, IsKept, IsState}
+use Rattle.track9.proofs.Words.{LeadsOn, None, on_two, Option, or-true, panel_passed, Possible, Presets, presets_after, read_panel, refl, refused, RegIn}
+use Rattle.track9.proofs.Words.{Register, sense_of, Some, some_state, State, States, DeckStep, subst, switched, sym, Taken, Takes, true, two_drifted, two_of, TwoBelow, TwoFew, Halves}
 use Rattle.track9.proofs.Words.{TwoWhole, with_command, ◌↔◌, ◌∙◌, ◌≡◌, ◌⊎◌}
 use Rattle.deck9.specs.declared.effect.Effect.TheVariants as effect
 use Rattle.deck9.specs.declared.sense.Sense.TheVariants as sense
@@ -16,26 +16,26 @@ use Rattle.track9.proofs.PartLemmas.{off_drift, possible_state, same_drift, some
 
 -- ---- where hands are not allowed
 
-pub exchange_panel : (c : Command) (reply : Block) (s t : State) → Exchanges hands.None c reply s t → t.panel ≡ s.panel
-exchange_panel c reply s t (d, drift, step) = by step ∙ drift_panel hands.None s d drift
+pub take_panel : (c : Command) (reply : Option Block) (s t : State) → DriftsAndGoes (Takes c reply) hands.None s t → t.panel ≡ s.panel
+take_panel c reply s t (d, drift, takes) = by reply takes ∙ drift_panel hands.None s d drift
   where
-    by : Step hands.None c reply d t → t.panel ≡ d.panel
-    by (refused nak e) = rw e
-    by (ignored was shows may local e) = rw e
-    by (done was shows does) = (does_keep false (effect_of c) d t (inl does)).0
-
-pub pass_panel : (c : Command) (s t : State) → Passes hands.None c s t → t.panel ≡ s.panel
-pass_panel c s t (d, drift, can) = elim can [ inl same ↦ ap (λ (u : State). u.panel) same | inr does ↦ (does_keep true (effect_of c) d t (inl does)).0 ] ∙ drift_panel hands.None s d drift
+    by : (reply : Option Block) → Takes c reply hands.None d t → t.panel ≡ d.panel
+    by None (inl same) = ap (λ (u : State). u.panel) same
+    by None (inr does) = (does_keep true (effect_of c) d t (inl does)).0
+    by (Some reply) (refused nak e) = rw e
+    by (Some reply) (ignored was shows may local e) = rw e
+    by (Some reply) (done was shows does) = (does_keep false (effect_of c) d t (inl does)).0
 
 -- then there is nothing with the panel on
-pub none_on : (o : Option TwoParts) → hands_by o ≡ hands.None → o ≡ None
+pub none_on : (o : Option Halves) → hands_by o ≡ hands.None → o ≡ None
 none_on None e = refl
 none_on (Some h) e = cc
 
-abbrev pub panel_off : TwoParts → StateSet
+abbrev pub panel_off : Halves → States
 panel_off h = record { off = h; on = None }
 
-pub leads_off : (Goes : Hands → State → State → Type 0) (count : Presets → Presets) → ((s t : State) → Goes hands.None s t → t.panel ≡ s.panel) → (h g : TwoParts) → LeadsOn (Goes hands.None) count h g
+pub leads_off : (Goes : Hands → State → State → Type 0) (count : Presets → Presets) → ((s t : State) → Goes hands.None s t → t.panel ≡ s.panel) → (h g : Halves)
+    → LeadsOn (Goes hands.None) count h g
     → AllLeadOn hands.None (Goes hands.None) count (panel_off h) (panel_off g)
 leads_off Goes count keeps h g leads = record {
   reached = by_panel (Goes hands.None) keeps (panel_off h) (panel_off g) (leads.reached false) (λ t i. two_none t i.1, λ s t i goes. two_none s i.1);
@@ -45,7 +45,7 @@ leads_off Goes count keeps h g leads = record {
 }
 
 -- all times of two parts are times of the day
-pub below_off : (h : TwoParts) → TwoBelow h → AreBelow (panel_off h)
+pub below_off : (h : Halves) → TwoBelow h → AreBelow (panel_off h)
 below_off h below = record { off = below; on = by }
   where
     by : (l : Bool) (r : Register) → BelowDay (entries_of r (in_local (all_or_none false) l)).times
@@ -54,10 +54,6 @@ below_off h below = record { off = below; on = by }
     by _ _ = λ t h. from_empty t h
 
 -- ---- where a hand makes no difference to the step
-
--- a drift, and then a step
-abbrev pub DriftsAndGoes : (Hands → State → State → Type 0) → Hands → State → State → Type 0
-DriftsAndGoes Goes h s t = (d : State) × Drift h s d × Goes h d t
 
 pub record IsNarrow (Goes : Hands → State → State → Type 0) : Type 0 where
   pub same : (h k : Hands) (s t : State) → Goes h s t → Goes k s t
@@ -68,20 +64,21 @@ does_same h k (effect.Panel on) s t narrow d = absurd (false≢true (sym narrow)
 does_same h k effect.ForgetAll s t narrow d = absurd (false≢true (sym narrow))
 does_same h k _ s t narrow d = d
 
-pub narrow_exchange : (c : Command) (reply : Block) → is_wide (acknowledged c reply) ≡ false → IsNarrow (λ h. Step h c reply)
-narrow_exchange c reply narrow = record { same = same; panel = exchange_panel c reply }
+pub narrow_take : (c : Command) (reply : Option Block) → is_wide (effect_taken c reply) ≡ false → IsNarrow (Takes c reply)
+narrow_take c reply narrow = record { same = λ h k s t. same h k s t reply narrow; panel = take_panel c reply }
   where
-    same : (h k : Hands) (s t : State) → Step h c reply s t → Step k c reply s t
-    same h k s t (refused nak e) = refused nak e
-    same h k s t (ignored was shows may local e) = ignored was shows may local e
-    same h k s t (done was shows does) = done was shows (does_same h k (effect_of c) s t (rw was at narrow) does)
-
-pub narrow_pass : (c : Command) → is_wide (effect_of c) ≡ false → IsNarrow (λ h. CanPass h c)
-narrow_pass c narrow = record { same = λ h k s t can. elim can [ inl e ↦ inl e | inr does ↦ inr (does_same h k (effect_of c) s t narrow does) ]; panel = pass_panel c }
+    same : (h k : Hands) (s t : State) (reply : Option Block) → is_wide (effect_taken c reply) ≡ false → Takes c reply h s t → Takes c reply k s t
+    same h k s t None narrow (inl e) = inl e
+    same h k s t None narrow (inr does) = inr (does_same h k (effect_of c) s t narrow does)
+    same h k s t (Some reply) narrow (refused nak e) = refused nak e
+    same h k s t (Some reply) narrow (ignored was shows may local e) = ignored was shows may local e
+    same h k s t (Some reply) narrow (done was shows does) = done was shows (does_same h k (effect_of c) s t (rw was at narrow) does)
 
 -- a hand leads from a state with the panel on to any
-pub leads_both : (Goes : Hands → State → State → Type 0) (count : Presets → Presets) (v : StateSet) (off on : TwoParts) → IsNarrow Goes → AreWhole v → AreBelow v → LeadsOn (DriftsAndGoes Goes hands.None) count v.off off
-    → LeadsOn (DriftsAndGoes Goes hands.None) count (all_or_none (is_panel_live v)) on → AllLeadOn hands.Allowed (DriftsAndGoes Goes hands.Allowed) count v (record { off = off; on = Some on })
+pub leads_both : (Goes : Hands → State → State → Type 0) (count : Presets → Presets) (v : States) (off on : Halves) → IsNarrow Goes → AreWhole v → AreBelow v
+    → LeadsOn (DriftsAndGoes Goes hands.None) count v.off off
+    → LeadsOn (DriftsAndGoes Goes hands.None) count (all_or_none (is_panel_live v)) on
+    → AllLeadOn hands.Allowed (DriftsAndGoes Goes hands.Allowed) count v (record { off = off; on = Some on })
 leads_both Goes count v off on narrow whole below first second = record {
   reached = by_panel (DriftsAndGoes Goes hands.Allowed) keeps v (record { off = off; on = Some on }) off_reached on_reached;
   hands = refl;
@@ -94,7 +91,11 @@ leads_both Goes count v off on narrow whole below first second = record {
 
     off_reached : AreReached (InTwo false v.off) (DriftsAndGoes Goes hands.Allowed) (InTwo false off)
     off_reached = (
-      λ t i. let a = (first.reached false).0 t i in (a.0, a.1, (a.2.0, same_drift hands.Allowed a.0 a.2.0 a.2.1, narrow.same hands.None hands.Allowed a.2.0 t a.2.2)),
+      λ t i. let a = (first.reached false).0 t i in (
+        a.0,
+        a.1,
+        (a.2.0, same_drift hands.Allowed a.0 a.2.0 a.2.1, narrow.same hands.None hands.Allowed a.2.0 t a.2.2),
+      ),
       λ s t i w. (first.reached false).1 s t i (w.0, off_drift hands.Allowed s w.0 i.0 w.1, narrow.same hands.Allowed hands.None w.0 t w.2),
     )
 
@@ -104,22 +105,29 @@ leads_both Goes count v off on narrow whole below first second = record {
           let a = (second.reached true).0 t i in
           let all = (all_exactly (is_panel_live v) a.0).0 a.1.1 in
           let s = two_state (two_of v true) true whole.on all.0 in
-          let drift = drift_from_pairs hands.Allowed s.0 a.2.0 (inr (refl, s.1.0, drift_panel hands.None a.0 a.2.0 a.2.1 ∙ a.1.0, drift_state hands.None a.0 a.2.0 all.1 a.2.1)) in
+          let drift = drift_from_pairs hands.Allowed s.0 a.2.0 (inr
+          (refl, s.1.0, drift_panel hands.None a.0 a.2.0 a.2.1 ∙ a.1.0, drift_state hands.None a.0 a.2.0 all.1 a.2.1)) in
           (s.0, s.1, (a.2.0, drift, narrow.same hands.None hands.Allowed a.2.0 t a.2.2)),
       λ s t i (d, drift, step).
           let e = drift_state hands.Allowed s d (state_is (in_local (on_two v.on) s.local) s (below.on s.local) i.1) drift in
-          (second.reached true).1 d t (drift_panel hands.Allowed s d drift ∙ i.0, (all_exactly (is_panel_live v) d).1 (two_live (on_two v.on) s i.1, e)) (d, ([], refl), narrow.same hands.Allowed hands.None d t step),
+          (second.reached true).1 d t (drift_panel hands.Allowed s d drift ∙ i.0, (all_exactly (is_panel_live v) d).1 (two_live (on_two v.on) s i.1, e))
+          (d, ([], refl), narrow.same hands.Allowed hands.None d t step),
     )
 
 -- ---- a step to which a hand makes a difference
 
 -- it is the effect of its command, which is acknowledged, asks for nothing and is no preset
-wide_step : (c : Command) (reply : Block) (e : Effect) → acknowledged c reply ≡ e → is_wide e ≡ true
-    → ((d t : State) → Step hands.Allowed c reply d t ↔ Does hands.Allowed e d t) × ((n : Presets) → counted e n ≡ n → presets_after c reply true n ≡ n)
-wide_step c reply e was wide = (λ d t. (back d t, λ does. done ok.0 (rw asks_nothing tt) (rw ok.1 does)), λ n same. presets_of c reply n ok.0 ∙ ap (λ e. counted e n) ok.1 ∙ same)
+wide_step : (c : Command) (reply : Block) (e : Effect) → effect_taken c (Some reply) ≡ e → is_wide e ≡ true
+    → ((d t : State) → DeckStep hands.Allowed c reply d t ↔ Does hands.Allowed e d t) × ((n : Presets) → counted e n ≡ n → presets_after c reply true n ≡ n)
+wide_step c reply e was wide = (
+  λ d t. (back d t, λ does. done ok.0 (rw asks_nothing tt) (rw ok.1 does)),
+  λ n same. presets_of c reply n ok.0
+      ∙ ap (λ e. counted e n) ok.1 ∙ same,
+)
   where
     ok : (is_nak reply ≡ false) × (effect_of c ≡ e)
-    ok = cond_both (is_nak reply) effect.Nothing (effect_of c) (λ x. x ≡ e → (is_nak reply ≡ false) × (effect_of c ≡ e)) (λ nak was. absurd (false≢true (ap is_wide was ∙ wide))) (λ ok was. (ok, was)) was
+    ok = cond_both (is_nak reply) effect.Nothing (effect_of c) (λ x. x ≡ e → (is_nak reply ≡ false) × (effect_of c ≡ e))
+        (λ nak was. absurd (false≢true (ap is_wide was ∙ wide))) (λ ok was. (ok, was)) was
 
     asks_nothing : sense_of c ≡ sense.Nothing
     asks_nothing = elim (asks_or_acts c) [ inl e ↦ e | inr none ↦ absurd (false≢true (ap is_wide (sym none ∙ ok.1) ∙ wide)) ]
@@ -128,25 +136,27 @@ wide_step c reply e was wide = (λ d t. (back d t, λ does. done ok.0 (rw asks_n
     never_both (effect.Panel on) wide may = cc
     never_both _ wide may = cc
 
-    back : (d t : State) → Step hands.Allowed c reply d t → Does hands.Allowed e d t
+    back : (d t : State) → DeckStep hands.Allowed c reply d t → Does hands.Allowed e d t
     back d t (refused nak same) = absurd (false≢true (sym ok.0 ∙ nak))
     back d t (done nak shows does) = subst (λ e. Does hands.Allowed e d t) ok.1 does
-    back d t (ignored nak shows may local same) = absurd (never_both e wide (ap is_of_goal_or_register (sym ok.1) ∙ sym (ignored_by_effect c) ∙ may))
+    back d t (ignored nak shows may local same) = absurd (never_both e wide (ap is_of_goal_or_register (sym ok.1) ∙ may))
 
 -- a drift alone
-all_drift : (v : StateSet) → AreWhole v → AreBelow v → AllLeadOn hands.Allowed (DriftsAndGoes (λ h s t. t ≡ s) hands.Allowed) (λ n. n) v (all_drifted v)
+all_drift : (v : States) → AreWhole v → AreBelow v → AllLeadOn hands.Allowed (DriftsAndGoes (λ h s t. t ≡ s) hands.Allowed) (λ n. n) v (all_drifted v)
 all_drift v whole below = leads_both (λ h s t. t ≡ s) (λ n. n) v (two_drifted v.off) (all_or_none (is_panel_live v))
     (record { same = λ h k s t e. e; panel = λ s t w. ap (λ (u : State). u.panel) w.2 ∙ drift_panel hands.None s w.0 w.1 }) whole below (stays v.off whole.off)
-    (subst (λ g. LeadsOn (DriftsAndGoes (λ h s t. t ≡ s) hands.None) (λ n. n) (all_or_none (is_panel_live v)) g) (none_or_all (is_panel_live v)) (stays (all_or_none (is_panel_live v)) (whole_two (is_panel_live v))))
+    (subst (λ g. LeadsOn (DriftsAndGoes (λ h s t. t ≡ s) hands.None) (λ n. n) (all_or_none (is_panel_live v)) g) (none_or_all (is_panel_live v))
+    (stays (all_or_none (is_panel_live v)) (whole_two (is_panel_live v))))
   where
     none_or_all : (b : Bool) → two_drifted (all_or_none b) ≡ all_or_none b
     none_or_all true = refl
     none_or_all false = refl
 
-    stays : (h : TwoParts) → TwoWhole h → LeadsOn (DriftsAndGoes (λ h s t. t ≡ s) hands.None) (λ n. n) h (two_drifted h)
-    stays h whole = leads_then (Drift hands.None) (λ s t. t ≡ s) (λ n. n) (λ n. n) h (two_drifted h) (two_drifted h) (drift_leads h whole) (leads_same (two_drifted h) (drift_whole h whole))
+    stays : (h : Halves) → TwoWhole h → LeadsOn (DriftsAndGoes (λ h s t. t ≡ s) hands.None) (λ n. n) h (two_drifted h)
+    stays h whole = leads_then (Drift hands.None) (λ s t. t ≡ s) (λ n. n) (λ n. n) h (two_drifted h) (two_drifted h) (drift_leads h whole)
+        (leads_same (two_drifted h) (drift_whole h whole))
 
-pub follows_drift : (v : StateSet) → AreWhole v → AreBelow v → FollowsDrift hands.Allowed v (all_drifted v)
+pub follows_drift : (v : States) → AreWhole v → AreBelow v → FollowsDrift hands.Allowed v (all_drifted v)
 follows_drift v whole below = let a = all_drift v whole below in record {
   reached = (
     λ t i. let w = a.reached.0 t i in (w.0, w.1, subst (Drift hands.Allowed w.0) (sym w.2.2) w.2.1),
@@ -160,11 +170,18 @@ follows_drift v whole below = let a = all_drift v whole below in record {
 -- ---- the panel is switched
 
 -- a part does not tell the panel
-in_panel : (h : TwoParts) (t : State) (b : Bool) → InPart (in_local h t.local) t → InTwo b h (record t { panel = b })
-in_panel h t b i = (refl, record { pair = i.pair; registers = λ r. subst (λ e. Allows (entries_of r (in_local h t.local)) e) (sym (read_panel r t b)) (i.registers r) })
+in_panel : (h : Halves) (t : State) (b : Bool) → InPart (in_local h t.local) t → InTwo b h (record t { panel = b })
+in_panel h t b i = (
+  refl,
+  record {
+    pair = i.pair;
+    registers =
+        λ r. subst (λ e. Allows (entries_of r (in_local h t.local)) e) (sym (read_panel r t b)) (i.registers r);
+  },
+)
 
 -- with the other value of the panel there is none
-switched_exactly : (on : Bool) (h : TwoParts) (t : State) → Possible (switched on h) t ↔ InTwo on h t
+switched_exactly : (on : Bool) (h : Halves) (t : State) → Possible (switched on h) t ↔ InTwo on h t
 switched_exactly on h t = by on t.panel refl
   where
     by : (on pn : Bool) → t.panel ≡ pn → IsIn (if pn then (switched on h).on else Some (switched on h).off) t ↔ InTwo on h t
@@ -173,28 +190,33 @@ switched_exactly on h t = by on t.panel refl
     by false true e = (two_none t, λ i. absurd (false≢true (sym i.0 ∙ e)))
     by true false e = (two_none t, λ i. absurd (false≢true (sym e ∙ i.0)))
 
-switched_keeps : (on : Bool) (h : TwoParts) → TwoWhole h → (hands_of (switched on h) ≡ hands.Allowed) × AreWhole (switched on h) × ((n : Presets) → TwoFew n h → AreFew n (switched on h))
+switched_keeps : (on : Bool) (h : Halves) → TwoWhole h → (hands_of (switched on h) ≡ hands.Allowed) × AreWhole (switched on h)
+    × ((n : Presets) → TwoFew n h → AreFew n (switched on h))
 switched_keeps false h whole = (refl, record { off = whole; on = whole_two false }, λ n few. both_few n (switched false h) few (few_two n false))
 switched_keeps true h whole = (refl, record { off = whole_two false; on = whole }, λ n few. both_few n (switched true h) (few_two n false) few)
 
-either_whole : (v : StateSet) → AreWhole v → TwoWhole (either_panel v)
+either_whole : (v : States) → AreWhole v → TwoWhole (either_panel v)
 either_whole v whole = cond_both (is_panel_live v) (all_or_none true) (two_drifted v.off) TwoWhole (λ on. whole_two true) (λ off. drift_whole v.off whole.off)
 
-either_few : (v : StateSet) (n : Presets) → AreFew n v → TwoFew n (either_panel v)
+either_few : (v : States) (n : Presets) → AreFew n v → TwoFew n (either_panel v)
 either_few v n few = cond_both (is_panel_live v) (all_or_none true) (two_drifted v.off) (TwoFew n) (λ on. few_two n true) (λ off. drift_few n v.off (few false))
 
 -- a state that a drift leads to is one of those put together whatever the panel, and each of them is one, with some value of the panel
-either_to : (v : StateSet) (t : State) (pn : Bool) → IsState t → IsIn (if pn then (all_drifted v).on else Some (all_drifted v).off) t → InPart (in_local (either_panel v) t.local) t
-either_to v t true valid i = (elim (is_panel_live v) as (λ b. InPart (in_local (all_or_none b) t.local) t → InPart (in_local (if b then all_or_none true else two_drifted v.off) t.local) t)
+either_to : (v : States) (t : State) (pn : Bool) → IsState t → IsIn (if pn then (all_drifted v).on else Some (all_drifted v).off) t
+    → InPart (in_local (either_panel v) t.local) t
+either_to v t true valid i = (elim (is_panel_live v) as (λ b. InPart (in_local (all_or_none b) t.local) t
+    → InPart (in_local (if b then all_or_none true else two_drifted v.off) t.local) t)
     [ true ↦ λ i. i | false ↦ λ i. two_none t i ]) i
-either_to v t false valid i = cond_both (is_panel_live v) (all_or_none true) (two_drifted v.off) (λ h. InPart (in_local h t.local) t) (λ on. (all_exactly true t).1 (refl, valid)) (λ off. i)
+either_to v t false valid i = cond_both (is_panel_live v) (all_or_none true) (two_drifted v.off) (λ h. InPart (in_local h t.local) t)
+    (λ on. (all_exactly true t).1 (refl, valid)) (λ off. i)
 
-either_from : (v : StateSet) (t : State) → InPart (in_local (either_panel v) t.local) t → (pn : Bool) × Possible (all_drifted v) (record t { panel = pn })
+either_from : (v : States) (t : State) → InPart (in_local (either_panel v) t.local) t → (pn : Bool) × Possible (all_drifted v) (record t { panel = pn })
 either_from v t i = (elim (is_panel_live v) as (λ b. InPart (in_local (if b then all_or_none true else two_drifted v.off) t.local) t
     → (pn : Bool) × IsIn (if pn then Some (all_or_none b) else Some (two_drifted v.off)) (record t { panel = pn }))
     [ true ↦ λ i. (true, (in_panel (all_or_none true) t true i).1) | false ↦ λ i. (false, (in_panel (two_drifted v.off) t false i).1) ]) i
 
-panel_reached : (on : Bool) (v : StateSet) → AreWhole v → AreBelow v → AreReached (Possible v) (DriftsAndGoes (λ h. Does h (effect.Panel on)) hands.Allowed) (Possible (after_panel on v))
+panel_reached : (on : Bool) (v : States) → AreWhole v → AreBelow v
+    → AreReached (Possible v) (DriftsAndGoes (λ h. Does h (effect.Panel on)) hands.Allowed) (Possible (after_panel on v))
 panel_reached on v whole below = let drifts = (all_drift v whole below).reached in (
   λ t i.
       let here = (switched_exactly on (either_panel v) t).0 i in let w = either_from v t here.1 in let a = drifts.0 (record t { panel = w.0 }) w.1 in
@@ -203,31 +225,45 @@ panel_reached on v whole below = let drifts = (all_drift v whole below).reached 
       (either_to v d d.panel (drift_state hands.Allowed s d (possible_state v s below i) drift) (drifts.1 s d i (d, drift, refl))))),
 )
 
-pub follows_panel : (c : Command) (reply : Block) (on : Bool) (v : StateSet) → acknowledged c reply ≡ effect.Panel on → AreWhole v → AreBelow v → Follows hands.Allowed c reply v (after_panel on v)
-follows_panel c reply on v was whole below = let w = wide_step c reply (effect.Panel on) was refl in let keeps = switched_keeps on (either_panel v) (either_whole v whole) in record {
-  reached = let r = panel_reached on v whole below in (
-    λ t i. let a = r.0 t i in (a.0, a.1, (a.2.0, a.2.1, (w.0 a.2.0 t).1 a.2.2)),
-    λ s t i goes. r.1 s t i (goes.0, goes.1, (w.0 goes.0 t).0 goes.2),
-  );
-  hands = keeps.0;
-  whole = keeps.1;
-  few = λ n few. subst (λ m. AreFew m (after_panel on v)) (sym (w.1 n refl)) (keeps.2 n (either_few v n few));
-}
+pub follows_panel : (c : Command) (reply : Block) (on : Bool) (v : States) → effect_taken c (Some reply) ≡ effect.Panel on → AreWhole v → AreBelow v
+    → Follows hands.Allowed c (Some reply) v (after_panel on v)
+follows_panel c reply on v was whole below = let w = wide_step c reply (effect.Panel on) was refl in let keeps =
+    switched_keeps on (either_panel v) (either_whole v whole) in record {
+      reached = let r = panel_reached on v whole below in (
+        λ t i. let a = r.0 t i in (a.0, a.1, (a.2.0, a.2.1, (w.0 a.2.0 t).1 a.2.2)),
+        λ s t i goes. r.1 s t i (goes.0, goes.1, (w.0 goes.0 t).0 goes.2),
+      );
+      hands = keeps.0;
+      whole = keeps.1;
+      few = λ n few. subst (λ m. AreFew m (after_panel on v)) (sym (w.1 n refl)) (keeps.2 n (either_few v n few));
+    }
 
 -- ---- everything is forgotten
 
 pub first_kept : (h : Hands) (n : Presets) → IsKept n (first_states h)
-first_kept hands.None n = record { whole = record { off = whole_two true; on = whole_two false }; few = both_few n (first_states hands.None) (few_two n true) (few_two n false) }
-first_kept hands.Allowed n = record { whole = record { off = whole_two true; on = whole_two true }; few = both_few n (first_states hands.Allowed) (few_two n true) (few_two n true) }
+first_kept hands.None n = record {
+  whole = record { off = whole_two true; on = whole_two false };
+  few =
+      both_few n (first_states hands.None) (few_two n true) (few_two n false);
+}
+first_kept hands.Allowed n = record {
+  whole = record { off = whole_two true; on = whole_two true };
+  few =
+      both_few n (first_states hands.Allowed) (few_two n true) (few_two n true);
+}
 
-leads_forgotten : (Goes : State → State → Type 0) (count : Presets → Presets) (v : StateSet) → hands_of v ≡ hands.Allowed → AreWhole v
+leads_forgotten : (Goes : State → State → Type 0) (count : Presets → Presets) (v : States) → hands_of v ≡ hands.Allowed → AreWhole v
     → ((s t : State) → IsState t → Goes s t) → ((s t : State) → Possible v s → Goes s t → IsState t)
     → ((n : Presets) → count n ≡ n) → AllLeadOn hands.Allowed Goes count v (if some_state v then first_states hands.Allowed else v)
 leads_forgotten Goes count v allowed whole there back counts = by (some_state v) refl
   where
     by : (b : Bool) → some_state v ≡ b → AllLeadOn hands.Allowed Goes count v (if b then first_states hands.Allowed else v)
     by true live = record {
-      reached = (λ t i. let s = live_some v whole live in (s.0, s.1, there s.0 t ((first_exactly hands.Allowed t).0 i)), λ s t i goes. (first_exactly hands.Allowed t).1 (back s t i goes));
+      reached = (
+        λ t i. let s = live_some v whole live in (s.0, s.1, there s.0 t ((first_exactly hands.Allowed t).0 i)),
+        λ s t i goes.
+            (first_exactly hands.Allowed t).1 (back s t i goes),
+      );
       hands = refl;
       whole = record { off = whole_two true; on = whole_two true };
       few = λ n few. (first_kept hands.Allowed (count n)).few;
@@ -238,11 +274,6 @@ leads_forgotten Goes count v allowed whole there back counts = by (some_state v)
       whole = whole;
       few = λ n few. subst (λ m. AreFew m v) (sym (counts n)) few;
     }
-
-pub follows_forget : (c : Command) (reply : Block) (v : StateSet) → acknowledged c reply ≡ effect.ForgetAll → hands_of v ≡ hands.Allowed → AreWhole v
-    → Follows hands.Allowed c reply v (if some_state v then first_states hands.Allowed else v)
-follows_forget c reply v was allowed whole = let w = wide_step c reply effect.ForgetAll was refl in leads_forgotten (Exchanges hands.Allowed c reply) (presets_after c reply true) v allowed whole
-    (λ s t valid. (s, ([], refl), (w.0 s t).1 valid)) (λ s t i goes. (w.0 goes.0 t).0 goes.2) (λ n. w.1 n refl)
 
 -- ---- commands whose reply is not known
 
@@ -257,27 +288,30 @@ passes_back effect.ForgetAll s t valid (inl same) = rw same (inl (valid, refl))
 passes_back _ s t valid (inl same) = inr (refl, or-true s.local, same)
 
 -- a drift, and then nothing or the effect
-pub passed_effect : (c : Command) (h g : TwoParts) → TwoWhole h → TwoBelow h → HasEffect true (effect_of c) (two_drifted h) g → Passed c h g
+pub passed_effect : (c : Command) (h g : Halves) → TwoWhole h → TwoBelow h → HasEffect true (effect_of c) (two_drifted h) g → Taken c None h g
 passed_effect c h g whole below has = leads_then (Drift hands.None) (CanPass hands.None c) (λ n. n) (with_command c) h (two_drifted h) g (drift_leads h whole)
-    (leads_as (DoesOrNot true (effect_of c)) (CanPass hands.None c) (counted (effect_of c)) (with_command c) (two_drifted h) g (λ s t d. elim d [ inl does ↦ inr does | inr (may, stays, e) ↦ inl e ])
+    (leads_as (DoesOrNot true (effect_of c)) (CanPass hands.None c) (counted (effect_of c)) (with_command c) (two_drifted h) g
+    (λ s t d. elim d [ inl does ↦ inr does | inr (may, stays, e) ↦ inl e ])
     (λ s t i. passes_back (effect_of c) s t (state_is (in_local (two_drifted h) s.local) s (drift_below h below s.local) i)) (command_counts c) has)
 
 -- a state after a passed switch is one of those that stayed, or one of those that the switch leads to
-passed_exactly : (on : Bool) (v : StateSet) (t : State) → (Possible (panel_passed on v) t → Possible (all_drifted v) t ⊎ Possible (after_panel on v) t)
+passed_exactly : (on : Bool) (v : States) (t : State) → (Possible (panel_passed on v) t → Possible (all_drifted v) t ⊎ Possible (after_panel on v) t)
     × ((IsState t × Possible (all_drifted v) t) ⊎ Possible (after_panel on v) t → Possible (panel_passed on v) t)
 passed_exactly on v t = by on t.panel
   where
-    In : Bool → StateSet → Type 0
+    In : Bool → States → Type 0
     In pn v = IsIn (if pn then v.on else Some v.off) t
 
-    by : (on pn : Bool) → (In pn (panel_passed on v) → In pn (all_drifted v) ⊎ In pn (after_panel on v)) × ((IsState t × In pn (all_drifted v)) ⊎ In pn (after_panel on v) → In pn (panel_passed on v))
+    by : (on pn : Bool) → (In pn (panel_passed on v) → In pn (all_drifted v) ⊎ In pn (after_panel on v))
+        × ((IsState t × In pn (all_drifted v)) ⊎ In pn (after_panel on v) → In pn (panel_passed on v))
     by true false = (λ i. inl i, λ w. elim w [ inl (valid, i) ↦ i | inr i ↦ two_none t i ])
     by false true = (λ i. inl i, λ w. elim w [ inl (valid, i) ↦ i | inr i ↦ two_none t i ])
     by true true = (λ i. inr i, λ w. elim w [ inl (valid, i) ↦ either_to v t true valid i | inr i ↦ i ])
     by false false = (λ i. inr i, λ w. elim w [ inl (valid, i) ↦ either_to v t false valid i | inr i ↦ i ])
 
 -- the panel may be switched
-pub passed_panel : (c : Command) (on : Bool) (v : StateSet) → effect_of c ≡ effect.Panel on → AreWhole v → AreBelow v → FollowsPassed hands.Allowed c v (panel_passed on v)
+pub passed_panel : (c : Command) (on : Bool) (v : States) → effect_of c ≡ effect.Panel on → AreWhole v → AreBelow v
+    → Follows hands.Allowed c None v (panel_passed on v)
 passed_panel c on v is whole below = let keeps = by on in record {
   reached = (
     λ t i. elim ((passed_exactly on v t).0 i) [
@@ -285,7 +319,10 @@ passed_panel c on v is whole below = let keeps = by on in record {
       | inr goes ↦ let a = (panel_reached on v whole below).0 t goes in (a.0, a.1, (a.2.0, a.2.1, inr (rw is a.2.2)))
     ],
     λ s t i (d, drift, can). elim can [
-      | inl e ↦ (passed_exactly on v t).1 (inl (subst IsState (sym e) (drift_state hands.Allowed s d (possible_state v s below i) drift), (all_drift v whole below).reached.1 s t i (d, drift, e)))
+      | inl e ↦ (passed_exactly on v t).1 (inl (
+        subst IsState (sym e) (drift_state hands.Allowed s d (possible_state v s below i) drift),
+        (all_drift v whole below).reached.1 s t i (d, drift, e),
+      ))
       | inr does ↦ (passed_exactly on v t).1 (inr ((panel_reached on v whole below).1 s t i (d, drift, subst (λ e. Does hands.Allowed e d t) is does)))
     ],
   );
@@ -294,12 +331,32 @@ passed_panel c on v is whole below = let keeps = by on in record {
   few = λ n few. subst (λ m. AreFew m (panel_passed on v)) (sym (command_counts c n ∙ ap (λ e. counted e n) is)) (keeps.2 n few);
 }
   where
-    by : (on : Bool) → (hands_of (panel_passed on v) ≡ hands.Allowed) × AreWhole (panel_passed on v) × ((n : Presets) → AreFew n v → AreFew n (panel_passed on v))
-    by true = (refl, record { off = drift_whole v.off whole.off; on = either_whole v whole }, λ n few. both_few n (panel_passed true v) (drift_few n v.off (few false)) (either_few v n few))
-    by false = (refl, record { off = either_whole v whole; on = whole_two (is_panel_live v) }, λ n few. both_few n (panel_passed false v) (either_few v n few) (few_two n (is_panel_live v)))
+    by : (on : Bool) → (hands_of (panel_passed on v) ≡ hands.Allowed) × AreWhole (panel_passed on v)
+        × ((n : Presets) → AreFew n v → AreFew n (panel_passed on v))
+    by true = (
+      refl,
+      record { off = drift_whole v.off whole.off; on = either_whole v whole },
+      λ n few. both_few n (panel_passed true v)
+          (drift_few n v.off (few false)) (either_few v n few),
+    )
+    by false = (
+      refl,
+      record { off = either_whole v whole; on = whole_two (is_panel_live v) },
+      λ n few. both_few n (panel_passed false v) (either_few v n few)
+          (few_two n (is_panel_live v)),
+    )
 
-pub passed_forget : (c : Command) (v : StateSet) → effect_of c ≡ effect.ForgetAll → hands_of v ≡ hands.Allowed → AreWhole v → AreBelow v
-    → FollowsPassed hands.Allowed c v (if some_state v then first_states hands.Allowed else v)
-passed_forget c v is allowed whole below = leads_forgotten (Passes hands.Allowed c) (with_command c) v allowed whole (λ s t valid. (s, ([], refl), inr (rw is valid)))
-    (λ s t i (d, drift, can). elim can [ inl e ↦ subst IsState (sym e) (drift_state hands.Allowed s d (possible_state v s below i) drift) | inr does ↦ subst (λ e. Does hands.Allowed e d t) is does ])
+pub follows_forget : (c : Command) (reply : Option Block) (v : States) → effect_taken c reply ≡ effect.ForgetAll → hands_of v ≡ hands.Allowed → AreWhole v
+    → AreBelow v
+    → Follows hands.Allowed c reply v (if some_state v then first_states hands.Allowed else v)
+follows_forget c None v is allowed whole below = leads_forgotten (DriftsAndGoes (Takes c None) hands.Allowed) (counts_after c None) v allowed whole
+    (λ s t valid. (s, ([], refl), inr (rw is valid)))
+    (λ s t i (d, drift, can). elim can [
+      | inl e ↦ subst IsState (sym e) (drift_state hands.Allowed s d (possible_state v s below i) drift)
+      | inr does ↦
+          subst (λ e. Does hands.Allowed e d t) is does
+    ])
     (λ n. command_counts c n ∙ ap (λ e. counted e n) is)
+follows_forget c (Some reply) v was allowed whole below = let w = wide_step c reply effect.ForgetAll was refl in
+    leads_forgotten (DriftsAndGoes (Takes c (Some reply)) hands.Allowed) (counts_after c (Some reply)) v allowed whole
+    (λ s t valid. (s, ([], refl), (w.0 s t).1 valid)) (λ s t i goes. (w.0 goes.0 t).0 goes.2) (λ n. w.1 n refl)

@@ -1,13 +1,14 @@
--- The states of a part: registers put in place, parts with and without states, what each factor keeps, how often times begin; and the states with one value of the panel, and all.
+-- The states of a part: registers put in place, parts with and without states, what each factor keeps, how often times
+-- begin; and the states with one value of the panel, and all.
 use Rattle.track9.proofs.Words.{agreeing, all_entries, all_has, all_or_none, all_pairs, all_states, Allows, and_parts, ap, AreBelow, AreFew, AreReached, AreWhole, arith, At}
 use Rattle.track9.proofs.Words.{begin_count, begin_count-empty, begin_count-every_time, begin_count-insert, begin_count-just, begin_count-next, begin_count-prev}
 use Rattle.track9.proofs.Words.{begin_count-span_count, begin_count-widened_next, begin_count-widened_prev, BelowDay, Bool, Change, changed_entries, changed_part, Clear}
 use Rattle.track9.proofs.Words.{cond_both, count_of, counted, Drift, drift_from_pairs, drifted, drifted_part, drifted_with, Effect, Entries, entries_of, Entry, entry_of, false}
 use Rattle.track9.proofs.Words.{false≢true, first_states, goes, Hands, has_pair, if◌then◌else◌, in_local, inl, InPart, inr, InTwo, is_live, IsEntry, IsFirst, IsIn, IsState, just}
 use Rattle.track9.proofs.Words.{KeepsRest, List, Mode, modes, ModeSet, Next, no_states, None, nothing_has, on_two, one_more, Option, or_cases, or_left, or_right, PairReaches}
-use Rattle.track9.proofs.Words.{pairs_from_drift, part_of, PartStates, Possible, Presets, Prev, refl, RegAudioIn, RegAudioOut, RegIn, Register, RegOut, Reset, same_entries, set_entries}
-use Rattle.track9.proofs.Words.{same_test, SetAt, settled, Some, some_entry, some_mode, some_pair, some_state, some_two, span_count-in_day, State, StateSet, Stop, subst, sym}
-use Rattle.track9.proofs.Words.{Times, true, two_drifted, two_of, TwoBelow, TwoFew, TwoParts, TwoWhole, Whole, with_entries, with_entry, with_one, with_pairs, ℕ, ◌&&◌, ◌+◌, ◌||◌}
+use Rattle.track9.proofs.Words.{pairs_from_drift, part_of, Part, Possible, Presets, Prev, refl, RegAudioIn, RegAudioOut, RegIn, Register, RegOut, Reset, same_entries, set_entries}
+use Rattle.track9.proofs.Words.{same_test, SetAt, settled, Some, some_entry, some_mode, some_pair, some_state, some_two, span_count-in_day, State, States, Stop, subst, sym}
+use Rattle.track9.proofs.Words.{Times, true, two_drifted, two_of, TwoBelow, TwoFew, Halves, TwoWhole, Whole, with_entries, with_entry, with_one, with_pairs, ℕ, ◌&&◌, ◌+◌, ◌||◌}
 use Rattle.track9.proofs.Words.{◌↔◌, ◌∙◌, ◌≡◌, ◌≤◌}
 use Rattle.std.specs.FinSet as set
 use Rattle.deck9.specs.declared.effect.Effect.TheVariants as effect
@@ -24,7 +25,8 @@ each_register P a b c d RegAudioIn = c
 each_register P a b c d RegAudioOut = d
 
 -- what is true of each register's entries and of its entry, where one's are put in place of which it is true
-pub put_each : (P : Register → Entries → Entry → Type 0) (r : Register) (es : Entries) (p : PartStates) (e : Entry) (s : State) → ((q : Register) → P q (entries_of q p) (entry_of q s)) → P r es e
+pub put_each : (P : Register → Entries → Entry → Type 0) (r : Register) (es : Entries) (p : Part) (e : Entry) (s : State)
+    → ((q : Register) → P q (entries_of q p) (entry_of q s)) → P r es e
     → (q : Register) → P q (entries_of q (with_entries r es p)) (entry_of q (with_entry r e s))
 put_each P RegIn es p e s old new RegIn = new
 put_each P RegOut es p e s old new RegOut = new
@@ -33,24 +35,36 @@ put_each P RegAudioOut es p e s old new RegAudioOut = new
 put_each P _ es p e s old new q = old q
 
 -- the same of entries alone
-pub each_put : (P : Register → Entries → Type 0) (r : Register) (es : Entries) (p : PartStates) → ((q : Register) → P q (entries_of q p)) → P r es → (q : Register) → P q (entries_of q (with_entries r es p))
+pub each_put : (P : Register → Entries → Type 0) (r : Register) (es : Entries) (p : Part) → ((q : Register) → P q (entries_of q p)) → P r es → (q : Register)
+    → P q (entries_of q (with_entries r es p))
 each_put P r es p old new =
-    put_each (λ q es e. P q es) r es p Clear (record { goal = Stop; shown = Stop; ins = Clear; outs = Clear; ains = Clear; aouts = Clear; local = true; panel = true }) old new
+    put_each (λ q es e. P q es) r es p Clear (record {
+      goal = Stop;
+      shown = Stop;
+      ins = Clear;
+      outs = Clear;
+      ains = Clear;
+      aouts = Clear;
+      local = true;
+      panel =
+          true;
+    }) old new
 
 -- a state with another entry of a register, in the part with entries of which it is one, and in the part as it was
-pub put_in : (r : Register) (es : Entries) (p : PartStates) (e : Entry) (s : State) → InPart p s → Allows es e → InPart (with_entries r es p) (with_entry r e s)
+pub put_in : (r : Register) (es : Entries) (p : Part) (e : Entry) (s : State) → InPart p s → Allows es e → InPart (with_entries r es p) (with_entry r e s)
 put_in RegIn es p e s i a = record { pair = i.pair; registers = put_each (λ q. Allows) RegIn es p e s i.registers a }
 put_in r es p e s i a = record { pair = i.pair; registers = put_each (λ q. Allows) r es p e s i.registers a }
 
-pub take_out : (r : Register) (es : Entries) (p : PartStates) (e : Entry) (s : State) → InPart (with_entries r es p) s → Allows (entries_of r p) e → InPart p (with_entry r e s)
+pub take_out : (r : Register) (es : Entries) (p : Part) (e : Entry) (s : State) → InPart (with_entries r es p) s → Allows (entries_of r p) e
+    → InPart p (with_entry r e s)
 take_out RegIn es p e s i a = put_in RegIn p.ins (with_entries RegIn es p) e s i a
 take_out r es p e s i a = put_in r (entries_of r p) (with_entries r es p) e s i a
 
-pub read_put : (r : Register) (es : Entries) (p : PartStates) → entries_of r (with_entries r es p) ≡ es
+pub read_put : (r : Register) (es : Entries) (p : Part) → entries_of r (with_entries r es p) ≡ es
 read_put RegIn es p = refl
 read_put _ es p = refl
 
-pub put_same : (r : Register) (p : PartStates) → with_entries r (entries_of r p) p ≡ p
+pub put_same : (r : Register) (p : Part) → with_entries r (entries_of r p) p ≡ p
 put_same RegIn p = refl
 put_same _ p = refl
 
@@ -67,25 +81,25 @@ put RegIn e s = record { entry = refl; again = refl; own = refl; local = refl; p
 put _ e s = record { entry = refl; again = refl; own = refl; local = refl; panel = refl }
 
 -- the state with another pair, in the part with other pairs
-pub in_pairs : (p : PartStates) (q : List ModeSet) (t : State) (g m : Mode) → ((r : Register) → Allows (entries_of r p) (entry_of r t)) → has_pair q g m ≡ true
+pub in_pairs : (p : Part) (q : List ModeSet) (t : State) (g m : Mode) → ((r : Register) → Allows (entries_of r p) (entry_of r t)) → has_pair q g m ≡ true
     → InPart (with_pairs q p) (record t { goal = g; shown = m })
 in_pairs p q t g m old pair = record { pair = pair; registers = each_register _ (old RegIn) (old RegOut) (old RegAudioIn) (old RegAudioOut) }
 
 -- the registers of a state of a part with other pairs
-pub pairs_registers : (p : PartStates) (q : List ModeSet) (t : State) → InPart (with_pairs q p) t → (r : Register) → Allows (entries_of r p) (entry_of r t)
+pub pairs_registers : (p : Part) (q : List ModeSet) (t : State) → InPart (with_pairs q p) t → (r : Register) → Allows (entries_of r p) (entry_of r t)
 pairs_registers p q t h = let old = h.registers in each_register _ (old RegIn) (old RegOut) (old RegAudioIn) (old RegAudioOut)
 
 -- ---- parts with states
 
 -- a part with a state is live
-pub state_live : (p : PartStates) (s : State) → InPart p s → is_live p ≡ true
+pub state_live : (p : Part) (s : State) → InPart p s → is_live p ≡ true
 state_live p s h = pairs_some p.pairs s.goal s.shown h.pair
 
-pub not_live : {P : Type 0} (p : PartStates) (s : State) → is_live p ≡ false → InPart p s → P
+pub not_live : {P : Type 0} (p : Part) (s : State) → is_live p ≡ false → InPart p s → P
 not_live p s dead h = absurd (false≢true (sym dead ∙ state_live p s h))
 
 -- a live part has a state, whatever its local and panel
-pub a_state : (p : PartStates) (l pn : Bool) → Whole p → is_live p ≡ true → (s : State) × InPart p s × (s.local ≡ l) × (s.panel ≡ pn)
+pub a_state : (p : Part) (l pn : Bool) → Whole p → is_live p ≡ true → (s : State) × InPart p s × (s.local ≡ l) × (s.panel ≡ pn)
 a_state p l pn whole live =
     let m = some_mode (goes p.pairs) live in let g = goes_from p.pairs m.0 m.1 in
     let a = some_allowed p.ins (whole RegIn ∙ live) in let b = some_allowed p.outs (whole RegOut ∙ live) in
@@ -102,32 +116,51 @@ entry_exactly (At t) = (in_day t, day_in t)
 -- those with these pairs, and all of them
 pub any_entries : (q : List ModeSet) (t : State) → InPart (with_pairs q all_states) t ↔ (IsState t × (has_pair q t.goal t.shown ≡ true))
 any_entries q t = (
-  λ i. let r = i.registers in (each_register _ ((entry_exactly t.ins).0 (r RegIn)) ((entry_exactly t.outs).0 (r RegOut)) ((entry_exactly t.ains).0 (r RegAudioIn)) ((entry_exactly t.aouts).0 (r RegAudioOut)), i.pair),
-  λ (h, pair). record { pair = pair; registers = each_register _ ((entry_exactly t.ins).1 (h RegIn)) ((entry_exactly t.outs).1 (h RegOut)) ((entry_exactly t.ains).1 (h RegAudioIn)) ((entry_exactly t.aouts).1 (h RegAudioOut)) },
+  λ i. let r = i.registers in (
+    each_register _ ((entry_exactly t.ins).0 (r RegIn)) ((entry_exactly t.outs).0 (r RegOut))
+        ((entry_exactly t.ains).0 (r RegAudioIn)) ((entry_exactly t.aouts).0 (r RegAudioOut)),
+    i.pair,
+  ),
+  λ (h, pair). record {
+    pair = pair;
+    registers = each_register _ ((entry_exactly t.ins).1 (h RegIn)) ((entry_exactly t.outs).1 (h RegOut))
+        ((entry_exactly t.ains).1 (h RegAudioIn)) ((entry_exactly t.aouts).1 (h RegAudioOut));
+  },
 )
 
 pub every_state : (t : State) → InPart all_states t ↔ IsState t
-every_state t = (λ i. ((any_entries all_pairs t).0 i).0, λ valid. (any_entries all_pairs t).1 (valid, pair_by_goal (λ g. modes 0x3FF) t.goal t.shown ∙ all_has t.shown))
+every_state t = (
+  λ i. ((any_entries all_pairs t).0 i).0,
+  λ valid. (any_entries all_pairs t).1
+      (valid, pair_by_goal (λ g. modes 0x3FF) t.goal t.shown ∙ all_has t.shown),
+)
 
 pub in_none : {P : Type 0} (t : State) → InPart no_states t → P
 in_none t h = absurd (false≢true (sym (pair_by_goal (λ g. modes 0) t.goal t.shown ∙ nothing_has t.shown) ∙ h.pair))
 
 -- ---- a part without states is let go of
 
-pub settled_exactly : (p : PartStates) (t : State) → InPart (settled p) t ↔ InPart p t
+pub settled_exactly : (p : Part) (t : State) → InPart (settled p) t ↔ InPart p t
 settled_exactly p t = (
   λ i. cond_both _ p no_states (λ q. InPart q t → InPart p t) (λ e i. i) (λ e i. in_none t i) i,
   λ i. let a = i.registers in
-      rw (state_live p t i, allowed_some p.ins _ (a RegIn), allowed_some p.outs _ (a RegOut), allowed_some p.ains _ (a RegAudioIn), allowed_some p.aouts _ (a RegAudioOut)) i,
+      rw (
+        state_live p t i,
+        allowed_some p.ins _ (a RegIn),
+        allowed_some p.outs _ (a RegOut),
+        allowed_some p.ains _ (a RegAudioIn),
+        allowed_some p.aouts _
+            (a RegAudioOut),
+      ) i,
 )
 
 -- ---- each factor of a part keeps something, or none does
 
-pub whole_put : (r : Register) (es : Entries) (p : PartStates) → Whole p → some_entry es ≡ is_live p → Whole (with_entries r es p)
+pub whole_put : (r : Register) (es : Entries) (p : Part) → Whole p → some_entry es ≡ is_live p → Whole (with_entries r es p)
 whole_put RegIn es p old new = each_put (λ q es. some_entry es ≡ is_live p) RegIn es p old new
 whole_put r es p old new = each_put (λ q es. some_entry es ≡ is_live p) r es p old new
 
-pub whole_pairs : (q : List ModeSet) (p : PartStates) → Whole p → some_pair q ≡ is_live p → Whole (with_pairs q p)
+pub whole_pairs : (q : List ModeSet) (p : Part) → Whole p → some_pair q ≡ is_live p → Whole (with_pairs q p)
 whole_pairs q p old same = rw same (each_register _ (old RegIn) (old RegOut) (old RegAudioIn) (old RegAudioOut))
 
 pub whole_all : Whole all_states
@@ -138,7 +171,7 @@ pub whole_none : Whole no_states
 whole_none RegIn = no_entry
 whole_none _ = no_entry
 
-pub whole_settled : (p : PartStates) → Whole (settled p)
+pub whole_settled : (p : Part) → Whole (settled p)
 whole_settled p = cond_both _ p no_states Whole (λ e.
     let d = and_parts (is_live p && some_entry p.ins && some_entry p.outs && some_entry p.ains) (some_entry p.aouts) e in
     let c = and_parts (is_live p && some_entry p.ins && some_entry p.outs) (some_entry p.ains) d.0 in
@@ -154,7 +187,7 @@ drift_some p = same_test (some_pair (drifted p)) (some_pair p)
     (λ h. let m = some_mode (goes p) h in let g = goes_from p m.0 m.1 in
     pairs_some (drifted p) g.0 m.0 (pair_by_goal (drifted_with p) g.0 m.0 ∙ drifted_to p g.0 m.0 g.0 m.0 g.1 (inl (refl, inl refl))))
 
-pub whole_drift : (p : PartStates) → Whole p → Whole (drifted_part p)
+pub whole_drift : (p : Part) → Whole p → Whole (drifted_part p)
 whole_drift p whole = whole_pairs (drifted p.pairs) p whole (drift_some p.pairs)
 
 -- ---- two parts
@@ -163,15 +196,15 @@ pub whole_two : (b : Bool) → TwoWhole (all_or_none b)
 whole_two true = record { remote = whole_all; local = whole_all }
 whole_two false = record { remote = whole_none; local = whole_none }
 
-pub whole_in : (h : TwoParts) → TwoWhole h → (l : Bool) → Whole (in_local h l)
+pub whole_in : (h : Halves) → TwoWhole h → (l : Bool) → Whole (in_local h l)
 whole_in h whole false = whole.remote
 whole_in h whole true = whole.local
 
-pub whole_of : (v : StateSet) → AreWhole v → (pn : Bool) → TwoWhole (two_of v pn)
+pub whole_of : (v : States) → AreWhole v → (pn : Bool) → TwoWhole (two_of v pn)
 whole_of v whole false = whole.off
 whole_of v whole true = whole.on
 
-pub part_whole : (v : StateSet) → AreWhole v → (l pn : Bool) → Whole (part_of v l pn)
+pub part_whole : (v : States) → AreWhole v → (l pn : Bool) → Whole (part_of v l pn)
 part_whole v whole l pn = whole_in (two_of v pn) (whole_of v whole pn) l
 
 -- ---- how often the times of a register begin: at most once more than there were presets to it
@@ -181,7 +214,7 @@ abbrev pub FewTimes : ℕ → Entries → Type 0
 FewTimes n es = begin_count es.times ≤ n + 1
 
 -- the same of each register of a part
-abbrev pub FewIn : Presets → PartStates → Type 0
+abbrev pub FewIn : Presets → Part → Type 0
 FewIn n p = (r : Register) → FewTimes (count_of r n) (entries_of r p)
 
 pub few_all_states : (n : Presets) → FewIn n all_states
@@ -194,7 +227,8 @@ few_no_states n _ = omega (arith, begin_count-empty)
 
 pub few_agreeing : (n : ℕ) (o : Option ℕ) (es : Entries) → FewTimes n (agreeing o es)
 few_agreeing n None es = omega (arith, begin_count-empty)
-few_agreeing n (Some t) es = cond_both (set.contains es.times t) (just t) set.empty (λ s. begin_count s ≤ n + 1) (λ e. omega (arith, begin_count-just t)) (λ e. omega (arith, begin_count-empty))
+few_agreeing n (Some t) es = cond_both (set.contains es.times t) (just t) set.empty (λ s. begin_count s ≤ n + 1) (λ e. omega (arith, begin_count-just t))
+    (λ e. omega (arith, begin_count-empty))
 
 pub few_set : (n : ℕ) (b : Bool) (es : Entries) → FewTimes n es → FewTimes n (set_entries b es)
 few_set n true es h = h
@@ -209,7 +243,8 @@ counted_to _ n = n
 few_in_day : (s : Times) → BelowDay s → begin_count s ≤ 1080000
 few_in_day s below = omega (arith, begin_count-span_count s, span_count-in_day s below)
 
-few_changed : (may_stay : Bool) (c : Change) (es : Entries) (n : ℕ) → BelowDay es.times → FewTimes n es → FewTimes (counted_to c n) (changed_entries may_stay c es)
+few_changed : (may_stay : Bool) (c : Change) (es : Entries) (n : ℕ) → BelowDay es.times → FewTimes n es
+    → FewTimes (counted_to c n) (changed_entries may_stay c es)
 few_changed false (SetAt t) es n below h = omega (arith, begin_count-just t)
 few_changed true (SetAt t) es n below h = omega (arith, begin_count-insert es.times t, h, few_in_day es.times below)
 few_changed false Next es n below h = omega (arith, begin_count-next es.times below, h)
@@ -220,10 +255,10 @@ few_changed false Reset es n below h = omega (arith, begin_count-empty)
 few_changed true Reset es n below h = h
 few_changed _ _ es n below h = omega (arith, begin_count-every_time)
 
-pub few_settled : (n : Presets) (p : PartStates) → FewIn n p → FewIn n (settled p)
+pub few_settled : (n : Presets) (p : Part) → FewIn n p → FewIn n (settled p)
 few_settled n p h = cond_both _ p no_states (FewIn n) (λ e. h) (λ e. few_no_states n)
 
-pub few_put : (n : Presets) (r : Register) (es : Entries) (p : PartStates) → FewIn n p → FewTimes (count_of r n) es → FewIn n (with_entries r es p)
+pub few_put : (n : Presets) (r : Register) (es : Entries) (p : Part) → FewIn n p → FewTimes (count_of r n) es → FewIn n (with_entries r es p)
 few_put n r es p old new = each_put (λ q es. FewTimes (count_of q n) es) r es p old new
 
 -- a change counts for its register, and no register loses by it
@@ -233,7 +268,8 @@ count_more (SetAt t) _ n = refl
 count_more _ r n = refl
 
 -- one preset more
-few_one_more : (n : Presets) (r q : Register) (p : PartStates) → ((q : Register) → BelowDay (entries_of q p).times) → FewIn n p → FewTimes (count_of q (with_one r n)) (entries_of q p)
+few_one_more : (n : Presets) (r q : Register) (p : Part) → ((q : Register) → BelowDay (entries_of q p).times) → FewIn n p
+    → FewTimes (count_of q (with_one r n)) (entries_of q p)
 few_one_more n RegIn RegIn p below h = omega (arith, h RegIn, few_in_day p.ins.times (below RegIn))
 few_one_more n RegOut RegOut p below h = omega (arith, h RegOut, few_in_day p.outs.times (below RegOut))
 few_one_more n RegAudioIn RegAudioIn p below h = omega (arith, h RegAudioIn, few_in_day p.ains.times (below RegAudioIn))
@@ -241,19 +277,20 @@ few_one_more n RegAudioOut RegAudioOut p below h = omega (arith, h RegAudioOut, 
 few_one_more n _ q p below h = h q
 
 -- what has to be known of the times of a part before an effect
-abbrev pub Below : Effect → PartStates → Type 0
+abbrev pub Below : Effect → Part → Type 0
 Below (effect.Change r c) p = (q : Register) → BelowDay (entries_of q p).times
 Below _ p = Unit {0}
 
-pub few_counted : (e : Effect) (n : Presets) (p : PartStates) → Below e p → FewIn n p → FewIn (counted e n) p
+pub few_counted : (e : Effect) (n : Presets) (p : Part) → Below e p → FewIn n p → FewIn (counted e n) p
 few_counted (effect.Change r (SetAt t)) n p below h = λ q. few_one_more n r q p below h
 few_counted _ n p below h = h
 
-pub few_changed_part : (may_stay : Bool) (r : Register) (c : Change) (n : Presets) (p : PartStates) → ((q : Register) → BelowDay (entries_of q p).times)
+pub few_changed_part : (may_stay : Bool) (r : Register) (c : Change) (n : Presets) (p : Part) → ((q : Register) → BelowDay (entries_of q p).times)
     → FewIn n p → FewIn (counted (effect.Change r c) n) (changed_part may_stay r c p)
 few_changed_part may_stay r c n p below h =
     few_put (counted (effect.Change r c) n) r (changed_entries may_stay c (entries_of r p)) p (few_counted (effect.Change r c) n p below h)
-    (subst (λ k. FewTimes k (changed_entries may_stay c (entries_of r p))) (sym (count_more c r n)) (few_changed may_stay c (entries_of r p) (count_of r n) (below r) (h r)))
+    (subst (λ k. FewTimes k (changed_entries may_stay c (entries_of r p))) (sym (count_more c r n))
+    (few_changed may_stay c (entries_of r p) (count_of r n) (below r) (h r)))
 
 pub few_two : (n : Presets) (b : Bool) → TwoFew n (all_or_none b)
 few_two n true false = few_all_states n
@@ -261,21 +298,21 @@ few_two n true true = few_all_states n
 few_two n false false = few_no_states n
 few_two n false true = few_no_states n
 
-pub both_few : (n : Presets) (v : StateSet) → TwoFew n v.off → TwoFew n (on_two v.on) → AreFew n v
+pub both_few : (n : Presets) (v : States) → TwoFew n v.off → TwoFew n (on_two v.on) → AreFew n v
 both_few n v off on false = off
 both_few n v off on true = on
 
-pub few_pairs : (n : Presets) (q : List ModeSet) (p : PartStates) → FewIn n p → FewIn n (with_pairs q p)
+pub few_pairs : (n : Presets) (q : List ModeSet) (p : Part) → FewIn n p → FewIn n (with_pairs q p)
 few_pairs n q p h = each_register _ (h RegIn) (h RegOut) (h RegAudioIn) (h RegAudioOut)
 
-pub drift_few : (n : Presets) (h : TwoParts) → TwoFew n h → TwoFew n (two_drifted h)
+pub drift_few : (n : Presets) (h : Halves) → TwoFew n h → TwoFew n (two_drifted h)
 drift_few n h few false = few_pairs n (drifted h.remote.pairs) h.remote (few false)
 drift_few n h few true = few_pairs n (drifted h.local.pairs) h.local (few true)
 
-pub drift_whole : (h : TwoParts) → TwoWhole h → TwoWhole (two_drifted h)
+pub drift_whole : (h : Halves) → TwoWhole h → TwoWhole (two_drifted h)
 drift_whole h whole = record { remote = whole_drift h.remote whole.remote; local = whole_drift h.local whole.local }
 
-pub drift_below : (h : TwoParts) → TwoBelow h → TwoBelow (two_drifted h)
+pub drift_below : (h : Halves) → TwoBelow h → TwoBelow (two_drifted h)
 drift_below h below false = let b = below false in each_register _ (b RegIn) (b RegOut) (b RegAudioIn) (b RegAudioOut)
 drift_below h below true = let b = below true in each_register _ (b RegIn) (b RegOut) (b RegAudioIn) (b RegAudioOut)
 
@@ -293,29 +330,31 @@ pub two_none : {P : Type 0} (t : State) → InPart (in_local (all_or_none false)
 two_none t i = absurd (false≢true ((all_exactly false t).0 i).0)
 
 -- a state is possible exactly where it is in the part of its local and panel
-possible_part : (v : StateSet) (s : State) (pn : Bool) → IsIn (if pn then v.on else Some v.off) s ↔ InPart (part_of v s.local pn) s
+possible_part : (v : States) (s : State) (pn : Bool) → IsIn (if pn then v.on else Some v.off) s ↔ InPart (part_of v s.local pn) s
 possible_part v s false = (λ h. h, λ h. h)
 possible_part v s true = by v.on
   where
-    by : (o : Option TwoParts) → IsIn o s ↔ InPart (in_local (on_two o) s.local) s
+    by : (o : Option Halves) → IsIn o s ↔ InPart (in_local (on_two o) s.local) s
     by None = (λ h. absurd h, two_none s)
     by (Some g) = (λ h. h, λ h. h)
 
-pub possible : (v : StateSet) (s : State) (l pn : Bool) → s.local ≡ l → s.panel ≡ pn → InPart (part_of v l pn) s → Possible v s
-possible v s l pn el ep h = (possible_part v s s.panel).1 (subst (λ b. InPart (part_of v b s.panel) s) (sym el) (subst (λ b. InPart (part_of v l b) s) (sym ep) h))
+pub possible : (v : States) (s : State) (l pn : Bool) → s.local ≡ l → s.panel ≡ pn → InPart (part_of v l pn) s → Possible v s
+possible v s l pn el ep h = (possible_part v s s.panel).1 (subst (λ b. InPart (part_of v b s.panel) s) (sym el)
+    (subst (λ b. InPart (part_of v l b) s) (sym ep) h))
 
-pub impossible : (v : StateSet) (s : State) (l pn : Bool) → s.local ≡ l → s.panel ≡ pn → Possible v s → InPart (part_of v l pn) s
+pub impossible : (v : States) (s : State) (l pn : Bool) → s.local ≡ l → s.panel ≡ pn → Possible v s → InPart (part_of v l pn) s
 impossible v s l pn el ep h = subst (λ b. InPart (part_of v b pn) s) el (subst (λ b. InPart (part_of v s.local b) s) ep ((possible_part v s s.panel).0 h))
 
 -- the same, of those with one value of the panel
-pub to_two : (v : StateSet) (s : State) (pn : Bool) → s.panel ≡ pn → Possible v s → InTwo pn (two_of v pn) s
+pub to_two : (v : States) (s : State) (pn : Bool) → s.panel ≡ pn → Possible v s → InTwo pn (two_of v pn) s
 to_two v s pn e h = (e, impossible v s s.local pn refl e h)
 
-pub of_two : (v : StateSet) (s : State) (pn : Bool) → InTwo pn (two_of v pn) s → Possible v s
+pub of_two : (v : States) (s : State) (pn : Bool) → InTwo pn (two_of v pn) s → Possible v s
 of_two v s pn h = possible v s s.local pn refl h.0 h.1
 
 -- a step that keeps the panel is one of each value of it
-pub by_panel : (Goes : State → State → Type 0) → ((s t : State) → Goes s t → t.panel ≡ s.panel) → (v w : StateSet) → AreReached (InTwo false v.off) Goes (InTwo false w.off)
+pub by_panel : (Goes : State → State → Type 0) → ((s t : State) → Goes s t → t.panel ≡ s.panel) → (v w : States)
+    → AreReached (InTwo false v.off) Goes (InTwo false w.off)
     → AreReached (InTwo true (on_two v.on)) Goes (InTwo true (on_two w.on)) → AreReached (Possible v) Goes (Possible w)
 by_panel Goes keeps v w off on = (
   λ t h. let a = (each t.panel).0 t (to_two w t t.panel refl h) in (a.0, of_two v a.0 t.panel a.1, a.2),
@@ -332,7 +371,7 @@ entry_is : (es : Entries) (e : Entry) → BelowDay es.times → Allows es e → 
 entry_is es Clear below a = tt
 entry_is es (At t) below a = below t a
 
-pub state_is : (p : PartStates) (s : State) → ((r : Register) → BelowDay (entries_of r p).times) → InPart p s → IsState s
+pub state_is : (p : Part) (s : State) → ((r : Register) → BelowDay (entries_of r p).times) → InPart p s → IsState s
 state_is p s below i = λ r. entry_is (entries_of r p) (entry_of r s) (below r) (i.registers r)
 
 -- where nobody touches the panel a drift is one of the mechanics
@@ -345,18 +384,23 @@ same_drift h s t d = drift_from_pairs h s t (inl (mechanics s t d))
 
 pub off_drift : (h : Hands) (s t : State) → s.panel ≡ false → Drift h s t → Drift hands.None s t
 off_drift h s t off d =
-    elim (pairs_from_drift h s t d) [ inl kept ↦ drift_from_pairs hands.None s t (inl kept) | inr (allowed, on, still, valid) ↦ absurd (false≢true (sym off ∙ on)) ]
+    elim (pairs_from_drift h s t d) [
+      | inl kept ↦ drift_from_pairs hands.None s t (inl kept)
+      | inr (allowed, on, still, valid) ↦ absurd
+          (false≢true (sym off ∙ on))
+    ]
 
 -- a drift keeps the panel
 pub drift_panel : (h : Hands) (s d : State) → Drift h s d → d.panel ≡ s.panel
-drift_panel h s d drift = elim (pairs_from_drift h s d drift) [ inl kept ↦ ap (λ (u : State). u.panel) kept.0 | inr (allowed, before, after, valid) ↦ after ∙ sym before ]
+drift_panel h s d drift = elim (pairs_from_drift h s d drift)
+    [ inl kept ↦ ap (λ (u : State). u.panel) kept.0 | inr (allowed, before, after, valid) ↦ after ∙ sym before ]
 
 -- and leads from states of the day to such states
 pub drift_state : (h : Hands) (s d : State) → IsState s → Drift h s d → IsState d
 drift_state h s d valid drift = elim (pairs_from_drift h s d drift) [ inl kept ↦ same_entries s d kept.0 valid | inr (allowed, before, after, there) ↦ there ]
 
 -- a state of a set is one of the day
-pub possible_state : (v : StateSet) (s : State) → AreBelow v → Possible v s → IsState s
+pub possible_state : (v : States) (s : State) → AreBelow v → Possible v s → IsState s
 possible_state v s below i = state_is (part_of v s.local s.panel) s (by s.panel s.local) (impossible v s s.local s.panel refl refl i)
   where
     by : (pn l : Bool) (r : Register) → BelowDay (entries_of r (part_of v l pn)).times
@@ -374,20 +418,20 @@ pub some_way : (f : Bool → Bool) → (f false || f true) ≡ true → (b : Boo
 some_way f h = elim (or_cases _ _ h) [ inl a ↦ (false, a) | inr a ↦ (true, a) ]
 
 -- a state is in a part that is live, and there is one, with any value of the panel, where a part is live
-pub two_live : (h : TwoParts) (s : State) → InPart (in_local h s.local) s → some_two h ≡ true
+pub two_live : (h : Halves) (s : State) → InPart (in_local h s.local) s → some_two h ≡ true
 two_live h s i = any_way (λ l. is_live (in_local h l)) s.local (state_live (in_local h s.local) s i)
 
-pub two_state : (h : TwoParts) (pn : Bool) → TwoWhole h → some_two h ≡ true → (s : State) × InTwo pn h s
+pub two_state : (h : Halves) (pn : Bool) → TwoWhole h → some_two h ≡ true → (s : State) × InTwo pn h s
 two_state h pn whole live =
     let l = some_way (λ l. is_live (in_local h l)) live in
     let w = a_state (in_local h l.0) l.0 pn (whole_in h whole l.0) l.1 in (w.0, (w.3, subst (λ l. InPart (in_local h l) w.0) (sym w.2) w.1))
 
 -- ---- all states
 
-pub some_live : (v : StateSet) (s : State) → Possible v s → some_state v ≡ true
+pub some_live : (v : States) (s : State) → Possible v s → some_state v ≡ true
 some_live v s i = any_way (λ pn. some_two (two_of v pn)) s.panel (two_live (two_of v s.panel) s (impossible v s s.local s.panel refl refl i))
 
-pub live_some : (v : StateSet) → AreWhole v → some_state v ≡ true → (s : State) × Possible v s
+pub live_some : (v : States) → AreWhole v → some_state v ≡ true → (s : State) × Possible v s
 live_some v whole live =
     let pn = some_way (λ pn. some_two (two_of v pn)) live in
     let w = two_state (two_of v pn.0) pn.0 (whole_of v whole pn.0) pn.1 in (w.0, of_two v w.0 pn.0 w.1)

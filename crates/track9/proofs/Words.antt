@@ -1,7 +1,6 @@
 -- The names from elsewhere that the proofs of this crate cite, passed on from one place. Declares nothing.
 pub use Rattle.block9.specs.declared.pairer.Exchange.{Exchange}
 pub use Rattle.deck9.proofs.DriftLemmas.{drift_from_pairs, pairs_from_drift, same_entries}
-pub use Rattle.deck9.proofs.LawLemmas.{ignored_by_effect}
 pub use Rattle.deck9.proofs.ModeLemmas.{is_mode-same}
 pub use Rattle.deck9.proofs.ModeSetLemmas.{all_has, any_mode, find_mode, has-and, has-or, just_has, just_mode, mode_just, mode_self, mode_some, nothing_has}
 pub use Rattle.deck9.proofs.ModeSetLemmas.{of_modes_has, some_mode}
@@ -31,15 +30,15 @@ pub use Rattle.std.specs.Ordering.{nat_cmp}
 pub use Rattle.tc25.proofs.DayLemmas.{ReadsAs-from_time_of, time_of-from_ReadsAs}
 pub use Rattle.track9.specs.Presets.{AreTimes, IsSpanCount, one_more}
 pub use Rattle.track9.specs.Tracker.{IsIn}
-pub use Rattle.track9.specs.Working.Asked.{any_goal, asked_before, asked_of, entry_before, Fits, Is, is_as_asked, IsAsked, IsUndone, just_state, LeadsTo, PairRunsTo, RunsTo, same_fact}
-pub use Rattle.track9.specs.Working.Asked.{with_asked}
-pub use Rattle.track9.specs.Working.Deck.{Agrees, Allows, AreReached, AreSet, Asked, At, Becomes, begin_count, BelowDay, bit_of, Block, both, CanPass, Change, Clear, Command, count_of}
+pub use Rattle.track9.specs.Working.Pattern.{any_goal, pattern_before, wanted_of, entry_before, Fits, Is, is_as_wanted, IsPattern, IsUndone, just_state, LeadsTo, PairRunsTo, RunsTo, same_fact}
+pub use Rattle.track9.specs.Working.Pattern.{with_wanted}
+pub use Rattle.track9.specs.Working.Deck.{Agrees, Allows, AreReached, AreSet, Pattern, At, Becomes, begin_count, BelowDay, bit_of, Block, both, CanPass, Change, Clear, Command, count_of}
 pub use Rattle.track9.specs.Working.Deck.{day, Does, done, Drift, Effect, effect_of, either, Entries, entries_of, Entry, entry_of, every_time, Exchanges, Hands, has}
 pub use Rattle.track9.specs.Working.Deck.{has_pair, ignored, in_local, InPart, is_mode, is_nak, is_of_goal_or_register, is_one_of, is_set, is_some, IsEntry, IsFirst, IsState}
 pub use Rattle.track9.specs.Working.Deck.{just, KeepsRest, Known, KnownEntry, KnowsModes, Mode, modes, ModeSet, moved_entry, Next, next_frame, on_the_way}
-pub use Rattle.track9.specs.Working.Deck.{PairReaches, PartStates, Passes, Possible, Presets, presets_after, Prev, prev_frame, Recall, refused, RegAudioIn, RegAudioOut, RegIn}
-pub use Rattle.track9.specs.Working.Deck.{Register, RegistersSet, RegOut, Reset, Sense, sense_of, SetAt, SetSomewhere, shown_with, Shows, ShowsStatus, State, StateSet, Status, status_of, Step, Stop, Tells}
-pub use Rattle.track9.specs.Working.Deck.{time_of, Times, Tracked, TwoParts, way, with_command, with_entry, with_one}
+pub use Rattle.track9.specs.Working.Deck.{PairReaches, Part, Passes, Possible, Presets, presets_after, Prev, prev_frame, Recall, refused, RegAudioIn, RegAudioOut, RegIn}
+pub use Rattle.track9.specs.Working.Deck.{Register, RegistersSet, RegOut, Reset, Sense, sense_of, SetAt, SetSomewhere, shown_with, Shows, ShowsStatus, State, States, Status, status_of, DeckStep, Stop, Tells}
+pub use Rattle.track9.specs.Working.Deck.{time_of, Times, Tracked, Halves, way, with_command, with_entry, with_one}
 unfoldable pub use Rattle.track9.specs.Working.Deck.{span_count}
 pub use Rattle.track9.specs.Working.Entries.{agreeing, all_entries, is_nil, no_entries, set_entries, some_entry}
 pub use Rattle.track9.specs.Working.Knowing.{goals_in, join_options, joined_known, known_fact, KnowsOf, PartKnows, shown_in, TwoKnow}
@@ -48,7 +47,7 @@ pub use Rattle.track9.specs.Working.Pairs.{some_pair}
 pub use Rattle.track9.specs.Working.Parts.{all_states, changed_entries, changed_part, drifted_part, forgotten_part, gone_pairs, gone_part, HasState}
 pub use Rattle.track9.specs.Working.Parts.{is_live, masked_part, no_states, put_aside, put_settled, reported_part, sensed_part, set_where, settled, status_part, where_live, Whole, with_entries}
 pub use Rattle.track9.specs.Working.Parts.{with_pairs}
-pub use Rattle.track9.specs.Working.States.{acknowledged, after_panel, all_drifted, all_forgotten, all_or_none, AllLeadOn, AreBelow, AreFew, AreWhole, counted, DoesOrNot}
-pub use Rattle.track9.specs.Working.States.{either_panel, Exchanged, first_states, Follows, FollowsDrift, FollowsPassed, hands_by, hands_of, HasEffect, InTwo, is_panel_live, is_wide, IsKept}
-pub use Rattle.track9.specs.Working.States.{LeadsOn, map_two, on_two, panel_passed, part_of, Passed, some_state, some_two, switched, two_changed, two_drifted}
+pub use Rattle.track9.specs.Working.States.{after_panel, all_drifted, all_forgotten, all_or_none, AllLeadOn, AreBelow, AreFew, AreWhole, counted, counts_after, DoesOrNot, DriftsAndGoes, effect_taken}
+pub use Rattle.track9.specs.Working.States.{either_panel, first_states, Follows, FollowsDrift, hands_by, hands_of, HasEffect, InTwo, is_panel_live, is_wide, IsKept}
+pub use Rattle.track9.specs.Working.States.{LeadsOn, map_two, on_two, panel_passed, part_of, some_state, some_two, switched, Taken, Takes, two_changed, two_drifted}
 pub use Rattle.track9.specs.Working.States.{two_of, two_sensed, two_status, TwoBelow, TwoFew, TwoWhole}

@@ -18,7 +18,7 @@ is_frugal_effect effect.KeepOrStop = true
 is_frugal_effect (effect.Panel on) = true
 is_frugal_effect _ = false
 
--- what is asked for is no register's time
+-- what is wanted is no register's time
 abbrev pub is_frugal_sense : Sense → Bool
 is_frugal_sense (sense.Register r) = false
 is_frugal_sense _ = true

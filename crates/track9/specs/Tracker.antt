@@ -35,7 +35,7 @@ abbrev pub has_pair : List ModeSet → Mode → Mode → Bool
 has_pair pairs g m = has (shown_with pairs g).0 m
 
 -- a part: each of these pairs together with any of the entries of each register
-pub record PartStates : Type 0 where
+pub record Part : Type 0 where
   pub pairs : List ModeSet
   pub ins : Entries
   pub outs : Entries
@@ -43,43 +43,43 @@ pub record PartStates : Type 0 where
   pub aouts : Entries
 
 -- the entries of a register in a part
-abbrev pub entries_of : Register → PartStates → Entries
+abbrev pub entries_of : Register → Part → Entries
 entries_of RegIn p = p.ins
 entries_of RegOut p = p.outs
 entries_of RegAudioIn p = p.ains
 entries_of RegAudioOut p = p.aouts
 
 -- a state is in a part, whatever its local and panel
-pub record InPart (p : PartStates) (s : State) : Type 0 where
+pub record InPart (p : Part) (s : State) : Type 0 where
   pub pair : has_pair p.pairs s.goal s.shown ≡ true
   pub registers : (r : Register) → Allows (entries_of r p) (entry_of r s)
 
--- the states with one value of the panel: a part of those in remote, and one of those in local
-pub record TwoParts : Type 0 where
-  pub remote : PartStates
-  pub local : PartStates
+-- the states with one value of the panel: a part of those in REMOTE, and one of those in LOCAL
+pub record Halves : Type 0 where
+  pub remote : Part
+  pub local : Part
 
 -- the part with this value of local
-abbrev pub in_local : TwoParts → Bool → PartStates
+abbrev pub in_local : Halves → Bool → Part
 in_local h false = h.remote
 in_local h true = h.local
 
 -- a set of states: those with the panel off, and those with the panel on, of which there is nothing where hands are not allowed
-pub record StateSet : Type 0 where
-  pub off : TwoParts
-  pub on : Option TwoParts
+pub record States : Type 0 where
+  pub off : Halves
+  pub on : Option Halves
 
 -- one of these states, whatever its panel
-abbrev pub IsIn : Option TwoParts → State → Type 0
+abbrev pub IsIn : Option Halves → State → Type 0
 IsIn None s = ⊥
 IsIn (Some h) s = InPart (in_local h s.local) s
 
 -- a state is possible
-abbrev pub Possible : StateSet → State → Type 0
+abbrev pub Possible : States → State → Type 0
 Possible v s = IsIn (if s.panel then v.on else Some v.off) s
 
 -- a tracker: the states that are possible, whether hands are allowed, and the presets that were counted
 pub record Tracked : Type 0 where
-  pub states : StateSet
+  pub states : States
   pub hands : Hands
   pub presets : Presets

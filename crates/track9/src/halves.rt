@@ -1,8 +1,8 @@
-//! The states with one value of the panel: a part of those in remote, and one of those in local.
+//! The states with one value of the panel: a part of those in REMOTE, and one of those in LOCAL.
 //!
-//! A step that may need memory first makes aside what the part in remote gets; then it changes the part in local, whose sets
+//! A step that may need memory first makes aside what the part in REMOTE gets; then it changes the part in LOCAL, whose sets
 //! may be large, in place, as the last thing that can fail; and then it drifts and puts the rest in place. So a refused
-//! step changes nothing, and no large set is copied but where a deck in remote too may leave a change of a register undone. A
+//! step changes nothing, and no large set is copied but where a deck in REMOTE too may ignore a change of a register. A
 //! drift of the mechanics changes the pairs alone, so it may come after what becomes of the registers. What is let go of is
 //! handed to `drop`, as in `states.rt`.
 ghost use Rattle.std.specs.Prelude.{◌≡◌, IfOk, OnErr, OnOk, false, max};
@@ -28,10 +28,10 @@ pub(crate) struct Halves<S: TimeSet> {
 }
 
 impl<S: TimeSet> Model for Halves<S> {
-    ghost use Rattle.track9.specs.Tracker.{TwoParts};
+    ghost use Rattle.track9.specs.Tracker.{Halves};
     ghost use Rattle.track9.specs.Working.Codes.{two_code};
 
-    ghost Value = { TwoParts };
+    ghost Value = { Halves };
 
     ghost coded = { two_code };
 
@@ -95,7 +95,7 @@ impl<S: TimeSet> Halves<S> {
         self.local.drift();
     }
 
-    /// The deck goes for a goal; a deck in local may leave it, and so may any where `may_stay`.
+    /// The deck is commanded to a mode; a deck in LOCAL may leave it, and so may any where `may_stay`.
     fn go(&mut self, may_stay: bool, goal: Mode)
         ensures { self.new ≡ two_gone may_stay goal self.old }
     {
@@ -103,7 +103,7 @@ impl<S: TimeSet> Halves<S> {
         self.local.go(true, goal);
     }
 
-    /// A register changes; a deck in local may leave it, and so may any where `may_stay`.
+    /// A register changes; a deck in LOCAL may leave it, and so may any where `may_stay`.
     fn change(
         &mut self,
         alloc: Global,

@@ -4,14 +4,13 @@
 //! listed, exactly the states in which some run of the deck that gives these replies could have left it.
 #![tactic(auto)]
 
-mod asked;
+mod entries;
 mod halves;
 pub mod laws;
 mod pairs;
 mod part;
+mod pattern;
 mod presets;
-mod register_set;
-mod reply;
 mod states;
 mod tracker;
 

@@ -3,7 +3,7 @@ ghost use Rattle.std.specs.Prelude.{◌≡◌, IfNone, IfSome, true};
 ghost use Rattle.deck9.specs.Drift.{PairReaches};
 ghost use Rattle.deck9.specs.ModeSet.{has};
 ghost use Rattle.track9.specs.Tracker.{has_pair, shown_with};
-ghost use Rattle.track9.specs.Working.Asked.{IsPairOf, PairRunsTo};
+ghost use Rattle.track9.specs.Working.Pattern.{IsPairOf, PairRunsTo};
 ghost use Rattle.deck9.specs.ModeCalls.{is_some};
 ghost use Rattle.track9.specs.Working.Pairs.{all_pairs, drifted, drifted_with, goes, gone, gone_with, goal_if_shown, goals_of, joined, masked, no_pairs, some_pair};
 ghost use Rattle.deck9.specs.declared.mode.Mode.{Mode as AMode};

@@ -7,9 +7,9 @@ ghost use Rattle.track9.specs.Working.Knowing.{PartKnows};
 ghost use Rattle.track9.specs.Working.Parts.{Whole, all_states, aside, changed_entries, changed_part, drifted_part, forgotten_part, gone_part, is_live, no_states, put_aside, put_settled, reported_part, set_part, settled, status_part, where_live, with_entries, with_pairs};
 ghost use Rattle.deck9.specs.declared.state.Register.{Register as ARegister};
 
-use crate::asked::is_asked;
+use crate::entries::Entries;
 use crate::pairs::Pairs;
-use crate::register_set::RegisterSet;
+use crate::pattern::is_wanted;
 use deck9::{Change, KnownEntry, Mode, Register, RegistersSet, Status};
 use sets25::{SpanSet, TimeSet};
 use std::alloc::{AllocError, Global};
@@ -22,17 +22,17 @@ use tc25::TimeCode;
 #[derive(Drop)]
 pub(crate) struct Part<S: TimeSet> {
     pairs: Pairs,
-    ins: RegisterSet<S>,
-    outs: RegisterSet<S>,
-    ains: RegisterSet<S>,
-    aouts: RegisterSet<S>,
+    ins: Entries<S>,
+    outs: Entries<S>,
+    ains: Entries<S>,
+    aouts: Entries<S>,
 }
 
 impl<S: TimeSet> Model for Part<S> {
-    ghost use Rattle.track9.specs.Tracker.{PartStates};
+    ghost use Rattle.track9.specs.Tracker.{Part};
     ghost use Rattle.track9.specs.Working.Codes.{part_code};
 
-    ghost Value = { PartStates };
+    ghost Value = { Part };
 
     ghost coded = { part_code };
 
@@ -46,10 +46,10 @@ impl<S: TimeSet> Part<S> {
     {
         Part {
             pairs: Pairs::none(),
-            ins: RegisterSet::none(alloc),
-            outs: RegisterSet::none(alloc),
-            ains: RegisterSet::none(alloc),
-            aouts: RegisterSet::none(alloc),
+            ins: Entries::none(alloc),
+            outs: Entries::none(alloc),
+            ains: Entries::none(alloc),
+            aouts: Entries::none(alloc),
         }
     }
 
@@ -66,10 +66,10 @@ impl<S: TimeSet> Part<S> {
     {
         Ok(Part {
             pairs,
-            ins: RegisterSet::all(alloc)?,
-            outs: RegisterSet::all(alloc)?,
-            ains: RegisterSet::all(alloc)?,
-            aouts: RegisterSet::all(alloc)?,
+            ins: Entries::all(alloc)?,
+            outs: Entries::all(alloc)?,
+            ains: Entries::all(alloc)?,
+            aouts: Entries::all(alloc)?,
         })
     }
 
@@ -111,7 +111,7 @@ impl<S: TimeSet> Part<S> {
     }
 
     /// The entries of a register.
-    pub(crate) fn entries(&self, register: Register) -> &RegisterSet<S>
+    pub(crate) fn entries(&self, register: Register) -> &Entries<S>
         ensures { result.now ≡ entries_of register self.entry.now }
     {
         match register {
@@ -135,7 +135,7 @@ impl<S: TimeSet> Part<S> {
     }
 
     /// Puts a register's entries in place.
-    pub(crate) fn put(&mut self, register: Register, entries: RegisterSet<S>)
+    pub(crate) fn put(&mut self, register: Register, entries: Entries<S>)
         ensures { self.new ≡ with_entries register entries self.old }
     {
         match register {
@@ -165,7 +165,7 @@ impl<S: TimeSet> Part<S> {
         self.pairs = self.pairs.drifted();
     }
 
-    /// The deck goes for a goal, or may also leave it.
+    /// The deck is commanded to a mode, or may also leave it.
     pub(crate) fn go(&mut self, may_stay: bool, goal: Mode)
         ensures { self.new ≡ where_live (gone_part may_stay goal) self.old }
     {
@@ -188,7 +188,7 @@ impl<S: TimeSet> Part<S> {
         may_stay: bool,
         register: Register,
         change: &Change,
-    ) -> Result<Option<RegisterSet<S>>, AllocError>
+    ) -> Result<Option<Entries<S>>, AllocError>
         ensures { IfOk result (λ o. o ≡ aside self.now (changed_entries may_stay change.now (entries_of register self.now))) }
     {
         if !self.is_live() {
@@ -210,7 +210,7 @@ impl<S: TimeSet> Part<S> {
         alloc: Global,
         register: Register,
         time: &Option<TimeCode>,
-    ) -> Result<Option<RegisterSet<S>>, AllocError>
+    ) -> Result<Option<Entries<S>>, AllocError>
         ensures { IfOk result (λ o. o ≡ aside self.now (agreeing time.now (entries_of register self.now))) }
     {
         if !self.is_live() {
@@ -240,7 +240,7 @@ impl<S: TimeSet> Part<S> {
     }
 
     /// Puts a register's entries in place that were made aside.
-    pub(crate) fn put_aside(&mut self, register: Register, entries: Option<RegisterSet<S>>)
+    pub(crate) fn put_aside(&mut self, register: Register, entries: Option<Entries<S>>)
         ensures { self.new ≡ put_aside register entries self.old }
     {
         if let Some(entries) = entries {
@@ -253,7 +253,7 @@ impl<S: TimeSet> Part<S> {
         &mut self,
         alloc: Global,
         register: Register,
-        entries: Option<RegisterSet<S>>,
+        entries: Option<Entries<S>>,
     )
         ensures { self.new ≡ put_settled register entries self.old }
     {
@@ -291,7 +291,7 @@ impl<S: TimeSet> Part<S> {
         if !self.is_live() {
             return;
         }
-        if is_asked(status.local, local) {
+        if is_wanted(status.local, local) {
             self.keep_reported(alloc, status);
         } else {
             drop(replace(self, Part::none(alloc)));

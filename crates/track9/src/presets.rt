@@ -3,7 +3,6 @@ ghost use Rattle.std.specs.Prelude.{◌≡◌};
 ghost use Rattle.track9.specs.Presets.{count_of, presets_after, with_command};
 ghost use Rattle.deck9.specs.declared.state.Register.{Register as ARegister};
 
-use crate::reply::is_nak;
 use block9::{Block, Command};
 use deck9::Register;
 use std::marker::Model;
@@ -69,7 +68,7 @@ impl Presets {
     pub(crate) fn count_exchange(&mut self, command: &Command, reply: &Block, remains: bool)
         ensures { self.new ≡ presets_after command.now reply.now remains self.old }
     {
-        if !is_nak(reply) && remains {
+        if !reply.is_nak() && remains {
             self.count_command(command);
         }
     }

@@ -1,20 +1,17 @@
 //! A set of states: those with the panel off, and those with the panel on.
 //!
-//! Where the panel is on a drift leaves every state, or none. So what these states were before plays no part: an exchange makes
-//! them anew from everything, aside, before it changes those with the panel off, in place. A refused exchange then changes
-//! nothing. A command whose reply is not known is taken in the same way.
+//! Where the panel is on a drift leaves every state, or none. So what these states were before plays no part: a command makes
+//! them anew from everything, aside, before it changes those with the panel off, in place. A refused command then changes
+//! nothing.
 //!
 //! What was made aside is handed to `drop` where memory is refused, and so is what it takes the place of. Their end in place,
 //! by `?` or by an assignment, would cost the proof of a function most of its time.
-ghost use Rattle.std.specs.Prelude.{◌≡◌, IfOk, IsOk, IsTrue, OnErr, OnOk, false, if◌then◌else◌, max, true};
+ghost use Rattle.std.specs.Prelude.{◌≡◌, IfOk, IsOk, IsTrue, OnErr, OnOk, false, if◌then◌else◌, max, option_map, true};
 ghost use Rattle.sets25.specs.Times.{span_count};
-ghost use Rattle.deck9.specs.Effect.{effect_of};
-ghost use Rattle.track9.specs.Frugal.{is_frugal, is_frugal_effect};
 ghost use Rattle.track9.specs.Tracker.{entries_of};
-ghost use Rattle.track9.specs.Working.States.{AreBelow, AreWhole, Exchanged, Follows, FollowsDrift, FollowsPassed, Passed, acknowledged, after_panel, all_drifted, all_or_none, either_panel, first_states, hands_of, is_panel_live, is_wide, panel_passed, part_of, some_state};
+ghost use Rattle.track9.specs.Working.States.{AreBelow, AreWhole, Follows, FollowsDrift, Taken, after_panel, all_drifted, all_or_none, effect_taken, either_panel, first_states, hands_of, is_frugal_taken, is_panel_live, is_wide, panel_passed, part_of, some_state};
 
 use crate::halves::Halves;
-use crate::reply::is_nak;
 use block9::{Block, Command};
 use deck9::{Effect, Hands, Register};
 use sets25::{SpanSet, TimeSet};
@@ -34,10 +31,10 @@ pub(crate) struct States<S: TimeSet> {
 }
 
 impl<S: TimeSet> Model for States<S> {
-    ghost use Rattle.track9.specs.Tracker.{StateSet};
+    ghost use Rattle.track9.specs.Tracker.{States};
     ghost use Rattle.track9.specs.Working.Codes.{states_code};
 
-    ghost Value = { StateSet };
+    ghost Value = { States };
 
     ghost coded = { states_code };
 
@@ -119,41 +116,46 @@ impl<S: TimeSet> States<S> {
         }
     }
 
-    /// The states after an exchange: after a drift and a step. Where memory is refused nothing has changed.
-    pub(crate) fn exchange(
+    /// The states after a command: after a drift and a step, or, where its reply is not known, nothing or the command's effect.
+    /// Where memory is refused nothing has changed.
+    #[inline(always)] // so that whether there is a reply is known where this is called
+    pub(crate) fn take(
         &mut self,
         alloc: Global,
         command: &Command,
-        reply: &Block,
+        reply: Option<&Block>,
     ) -> Result<(), AllocError>
         requires { AreWhole self.old }
-        ensures ok { OnOk result (Follows (hands_of self.old) command.now reply.now self.old self.new) }
+        ensures ok { OnOk result (Follows (hands_of self.old) command.now (option_map (λ b. b.now) reply.entry) self.old self.new) }
         ensures err { OnErr result (self.new ≡ self.old) }
-        ensures frugal { hands_of self.old ≡ Hands.None → IsTrue (is_frugal command.now reply.now) → IsOk result }
+        ensures frugal { hands_of self.old ≡ Hands.None → IsTrue (is_frugal_taken command.now (option_map (λ b. b.now) reply.entry)) → IsOk result }
     {
         match self.hands() {
-            Hands::None => self.off.exchange(alloc, command, reply),
-            Hands::Allowed => self.exchange_by_hand(alloc, command, reply),
+            Hands::None => self.off.take(alloc, command, reply),
+            Hands::Allowed => self.take_by_hand(alloc, command, reply),
         }
     }
 
     /// The same where hands are allowed.
-    fn exchange_by_hand(
+    fn take_by_hand(
         &mut self,
         alloc: Global,
         command: &Command,
-        reply: &Block,
+        reply: Option<&Block>,
     ) -> Result<(), AllocError>
         requires whole { AreWhole self.old }
         requires hands { hands_of self.old ≡ Hands.Allowed }
-        ensures ok { OnOk result (Follows Hands.Allowed command.now reply.now self.old self.new) }
+        ensures ok { OnOk result (Follows Hands.Allowed command.now (option_map (λ b. b.now) reply.entry) self.old self.new) }
         ensures err { OnErr result (self.new ≡ self.old) }
     {
         self.below_day();
-        match acknowledged(command, reply) {
-            Effect::Panel(on) => self.switch_panel(alloc, on),
+        match effect_taken(command, reply) {
+            Effect::Panel(on) => match reply {
+                Some(_) => self.switch_panel(alloc, on),
+                None => self.pass_panel(alloc, on),
+            },
             Effect::ForgetAll => self.forget_all(alloc),
-            _ => self.exchange_both(alloc, command, reply),
+            _ => self.take_both(alloc, command, reply),
         }
     }
 
@@ -194,23 +196,23 @@ impl<S: TimeSet> States<S> {
         Halves::all_or_none(alloc, self.is_panel_live())
     }
 
-    /// The states after an exchange that a hand on the panel makes no difference to: those with the panel on are what it makes
-    /// of everything, if there were any.
-    fn exchange_both(
+    /// The states after a command to which a hand on the panel makes no difference: those with the panel on are what it makes of
+    /// everything, if there were any.
+    fn take_both(
         &mut self,
         alloc: Global,
         command: &Command,
-        reply: &Block,
+        reply: Option<&Block>,
     ) -> Result<(), AllocError>
         requires whole { AreWhole self.old }
         requires hands { hands_of self.old ≡ Hands.Allowed }
-        requires narrow { is_wide (acknowledged command.now reply.now) ≡ false }
-        ensures ok { OnOk result (Follows Hands.Allowed command.now reply.now self.old self.new) }
+        requires narrow { is_wide (effect_taken command.now (option_map (λ b. b.now) reply)) ≡ false }
+        ensures ok { OnOk result (Follows Hands.Allowed command.now (option_map (λ b. b.now) reply.entry) self.old self.new) }
         ensures err { OnErr result (self.new ≡ self.old) }
     {
         self.below_day();
-        let on = self.exchanged_on(alloc, command, reply)?;
-        match self.off.exchange(alloc, command, reply) {
+        let on = self.taken_on(alloc, command, reply)?;
+        match self.off.take(alloc, command, reply) {
             Ok(()) => {
                 drop(replace(&mut self.on, Some(on)));
                 Ok(())
@@ -222,17 +224,17 @@ impl<S: TimeSet> States<S> {
         }
     }
 
-    /// What such an exchange makes of everything with the panel on, if there was any, aside.
-    fn exchanged_on(
+    /// What such a command makes of everything with the panel on, if there was any, aside.
+    fn taken_on(
         &self,
         alloc: Global,
         command: &Command,
-        reply: &Block,
+        reply: Option<&Block>,
     ) -> Result<Halves<S>, AllocError>
-        ensures { IfOk result (Exchanged command.now reply.now (all_or_none (is_panel_live self.now))) }
+        ensures { IfOk result (Taken command.now (option_map (λ b. b.now) reply.entry) (all_or_none (is_panel_live self.now))) }
     {
         let mut on = self.drifted_on(alloc)?;
-        match on.exchange(alloc, command, reply) {
+        match on.take(alloc, command, reply) {
             Ok(()) => Ok(on),
             Err(error) => {
                 drop(on);
@@ -276,72 +278,6 @@ impl<S: TimeSet> States<S> {
         drop(replace(self, next));
     }
 
-    /// The states after a command whose reply is not known: after a drift, and nothing or the command's effect. Where
-    /// memory is refused nothing has changed.
-    pub(crate) fn pass(&mut self, alloc: Global, command: &Command) -> Result<(), AllocError>
-        requires { AreWhole self.old }
-        ensures ok { OnOk result (FollowsPassed (hands_of self.old) command.now self.old self.new) }
-        ensures err { OnErr result (self.new ≡ self.old) }
-        ensures frugal { hands_of self.old ≡ Hands.None → IsTrue (is_frugal_effect (effect_of command.now)) → IsOk result }
-    {
-        match self.hands() {
-            Hands::None => self.off.pass(alloc, command),
-            Hands::Allowed => self.pass_by_hand(alloc, command),
-        }
-    }
-
-    /// The same where hands are allowed.
-    fn pass_by_hand(&mut self, alloc: Global, command: &Command) -> Result<(), AllocError>
-        requires whole { AreWhole self.old }
-        requires hands { hands_of self.old ≡ Hands.Allowed }
-        ensures ok { OnOk result (FollowsPassed Hands.Allowed command.now self.old self.new) }
-        ensures err { OnErr result (self.new ≡ self.old) }
-    {
-        self.below_day();
-        match Effect::of(command) {
-            Effect::Panel(on) => self.pass_panel(alloc, on),
-            Effect::ForgetAll => self.forget_all(alloc),
-            _ => self.pass_both(alloc, command),
-        }
-    }
-
-    /// The same for a command to which a hand on the panel makes no difference: those with the panel on are what it makes of
-    /// everything, if there were any.
-    fn pass_both(&mut self, alloc: Global, command: &Command) -> Result<(), AllocError>
-        requires whole { AreWhole self.old }
-        requires hands { hands_of self.old ≡ Hands.Allowed }
-        requires narrow { is_wide (effect_of command.now) ≡ false }
-        ensures ok { OnOk result (FollowsPassed Hands.Allowed command.now self.old self.new) }
-        ensures err { OnErr result (self.new ≡ self.old) }
-    {
-        self.below_day();
-        let on = self.passed_on(alloc, command)?;
-        match self.off.pass(alloc, command) {
-            Ok(()) => {
-                drop(replace(&mut self.on, Some(on)));
-                Ok(())
-            }
-            Err(error) => {
-                drop(on);
-                Err(error)
-            }
-        }
-    }
-
-    /// What such a command makes of everything with the panel on, if there was any, aside.
-    fn passed_on(&self, alloc: Global, command: &Command) -> Result<Halves<S>, AllocError>
-        ensures { IfOk result (Passed command.now (all_or_none (is_panel_live self.now))) }
-    {
-        let mut on = self.drifted_on(alloc)?;
-        match on.pass(alloc, command) {
-            Ok(()) => Ok(on),
-            Err(error) => {
-                drop(on);
-                Err(error)
-            }
-        }
-    }
-
     /// The panel may be switched on or off, after a drift, or stay.
     fn pass_panel(&mut self, alloc: Global, on: bool) -> Result<(), AllocError>
         ensures ok { OnOk result (self.new ≡ panel_passed on self.old) }
@@ -378,14 +314,13 @@ impl<S: TimeSet> States<S> {
     }
 }
 
-/// The effect of a command, if its reply is no NAK.
-fn acknowledged(command: &Command, reply: &Block) -> Effect
-    ensures { result ≡ acknowledged command.now reply.now }
+/// The effect that a command may have: none where its reply is a NAK.
+fn effect_taken(command: &Command, reply: Option<&Block>) -> Effect
+    ensures { result ≡ effect_taken command.now (option_map (λ b. b.now) reply.entry) }
 {
-    if is_nak(reply) {
-        Effect::Nothing
-    } else {
-        Effect::of(command)
+    match reply {
+        Some(reply) if reply.is_nak() => Effect::Nothing,
+        _ => Effect::of(command),
     }
 }
 

@@ -85,7 +85,7 @@ impl<S: TimeSet> Tracker<S> {
         ensures unchanged { IfErr result (λ e. self.new ≡ self.old) }
         ensures frugal { self.old.hands ≡ Hands.None → IsTrue (is_frugal command.now reply.now) → IsOk result }
     {
-        self.states.exchange(self.alloc, command, reply)?;
+        self.states.take(self.alloc, command, Some(reply))?;
         let remains = self.states.is_some();
         self.presets.count_exchange(command, reply, remains);
         Ok(remains)
@@ -108,7 +108,7 @@ impl<S: TimeSet> Tracker<S> {
         ensures unchanged { OnErr result (self.new ≡ self.old) }
         ensures frugal { self.old.hands ≡ Hands.None → IsTrue (is_frugal_effect (effect_of command.now)) → IsOk result }
     {
-        self.states.pass(self.alloc, command)?;
+        self.states.take(self.alloc, command, None)?;
         self.presets.count_command(command);
         Ok(())
     }

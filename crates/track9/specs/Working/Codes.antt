@@ -1,26 +1,29 @@
 -- How the values that models show are stored.
 use Rattle.std.specs.Prelude.{if◌then◌else◌, ◌≡◌}
-use Rattle.track9.specs.Working.Deck.{Bool, code_by, Coded, coded_bool, coded_list, coded_option, coded_ℕ, coded×, Entries, false, Hands, List, ModeSet, Option, PartStates}
-use Rattle.track9.specs.Working.Deck.{Presets, refl, StateSet, Times, Tracked, true, TwoParts, ℕ}
+use Rattle.track9.specs.Working.Deck.{Bool, code_by, Coded, coded_bool, coded_list, coded_option, coded_ℕ, coded×, Entries, false, Hands, List, ModeSet, Option, Part}
+use Rattle.track9.specs.Working.Deck.{Presets, refl, States, Times, Tracked, true, Halves, ℕ}
 use Rattle.std.specs.FinSet as set
 use Rattle.deck9.specs.declared.state.Hands.TheVariants as hands
 
 abbrev pub entries_code : Coded Entries
-entries_code = code_by (Bool × Times) (coded× coded_bool (set.code coded_ℕ)) (λ e. (e.may_clear, e.times)) (λ p. record { may_clear = p.0; times = p.1 }) (λ _. refl)
+entries_code = code_by (Bool × Times) (coded× coded_bool (set.code coded_ℕ)) (λ e. (e.may_clear, e.times)) (λ p. record { may_clear = p.0; times = p.1 })
+    (λ _. refl)
 
 abbrev pub mode_set_code : Coded ModeSet
 mode_set_code = code_by ℕ coded_ℕ (λ s. s.0) (λ n. record { 0 = n }) (λ _. refl)
 
-abbrev pub part_code : Coded PartStates
+abbrev pub part_code : Coded Part
 part_code =
-    code_by (List ModeSet × (Entries × (Entries × (Entries × Entries)))) (coded× (coded_list mode_set_code) (coded× entries_code (coded× entries_code (coded× entries_code entries_code))))
-    (λ p. (p.pairs, (p.ins, (p.outs, (p.ains, p.aouts))))) (λ p. record { pairs = p.0; ins = p.1.0; outs = p.1.1.0; ains = p.1.1.1.0; aouts = p.1.1.1.1 }) (λ _. refl)
+    code_by (List ModeSet × (Entries × (Entries × (Entries × Entries))))
+    (coded× (coded_list mode_set_code) (coded× entries_code (coded× entries_code (coded× entries_code entries_code))))
+    (λ p. (p.pairs, (p.ins, (p.outs, (p.ains, p.aouts))))) (λ p. record { pairs = p.0; ins = p.1.0; outs = p.1.1.0; ains = p.1.1.1.0; aouts = p.1.1.1.1 })
+    (λ _. refl)
 
-abbrev pub two_code : Coded TwoParts
-two_code = code_by (PartStates × PartStates) (coded× part_code part_code) (λ h. (h.remote, h.local)) (λ p. record { remote = p.0; local = p.1 }) (λ _. refl)
+abbrev pub two_code : Coded Halves
+two_code = code_by (Part × Part) (coded× part_code part_code) (λ h. (h.remote, h.local)) (λ p. record { remote = p.0; local = p.1 }) (λ _. refl)
 
-abbrev pub states_code : Coded StateSet
-states_code = code_by (TwoParts × Option TwoParts) (coded× two_code (coded_option two_code)) (λ v. (v.off, v.on)) (λ p. record { off = p.0; on = p.1 }) (λ _. refl)
+abbrev pub states_code : Coded States
+states_code = code_by (Halves × Option Halves) (coded× two_code (coded_option two_code)) (λ v. (v.off, v.on)) (λ p. record { off = p.0; on = p.1 }) (λ _. refl)
 
 abbrev pub is_allowed : Hands → Bool
 is_allowed hands.None = false
@@ -40,5 +43,5 @@ presets_code =
 
 abbrev pub tracked_code : Coded Tracked
 tracked_code =
-    code_by (StateSet × (Hands × Presets)) (coded× states_code (coded× hands_code presets_code))
+    code_by (States × (Hands × Presets)) (coded× states_code (coded× hands_code presets_code))
     (λ t. (t.states, (t.hands, t.presets))) (λ p. record { states = p.0; hands = p.1.0; presets = p.1.1 }) (λ _. refl)

@@ -1,4 +1,5 @@
--- The names from elsewhere that definitions and proofs cite, of the deck, of its blocks, of time and of this crate's contracts, passed on from one place. Declares nothing.
+-- The names from elsewhere that definitions and proofs cite, of the deck, of its blocks, of time and of this crate's
+-- contracts, passed on from one place. Declares nothing.
 pub use Rattle.block9.specs.Command.{is_nak}
 pub use Rattle.block9.specs.declared.block.Block.{Block}
 pub use Rattle.block9.specs.declared.command.Command.{Command}
@@ -12,7 +13,7 @@ pub use Rattle.deck9.specs.ModeSet.{bit_of, either, has, modes}
 pub use Rattle.deck9.specs.Shows.{Agrees, AreSet, sense_of, Shows, ShowsStatus, Tells}
 pub use Rattle.deck9.specs.State.{entry_of, is_set, IsEntry, IsFirst, IsState, with_entry}
 pub use Rattle.deck9.specs.Status.{status_of}
-pub use Rattle.deck9.specs.Step.{AreReached, done, Exchanges, ignored, refused, Step}
+pub use Rattle.deck9.specs.Step.{AreReached, done, Exchanges, ignored, refused, DeckStep}
 pub use Rattle.deck9.specs.declared.effect.Change.{Change}
 pub use Rattle.deck9.specs.declared.effect.Change.TheVariants.{Next, Prev, Recall, Reset, SetAt, SetSomewhere}
 pub use Rattle.deck9.specs.declared.effect.Effect.{Effect}
@@ -35,7 +36,7 @@ pub use Rattle.std.specs.Prelude.{[], bit_and, bit_or, Bool, false, List, None, 
 pub use Rattle.tc25.specs.Day.{day, next_frame, prev_frame, time_of}
 pub use Rattle.sets25.specs.Times.{begin_count, BelowDay, every_time, image, just, Times}
 pub use Rattle.track9.specs.Presets.{count_of, Presets, presets_after, with_command, with_one}
-pub use Rattle.track9.specs.Tracker.{Allows, Entries, entries_of, has_pair, in_local, InPart, PartStates, Possible, shown_with, StateSet, Tracked, TwoParts}
-pub use Rattle.track9.specs.declared.asked.Asked.{Asked}
+pub use Rattle.track9.specs.Tracker.{Allows, Entries, entries_of, has_pair, in_local, InPart, Part, Possible, shown_with, States, Tracked, Halves}
+pub use Rattle.track9.specs.declared.pattern.Pattern.{Pattern}
 pub use Rattle.track9.specs.declared.pairs.Pair.{Pair}
 unfoldable pub use Rattle.sets25.specs.Times.{span_count}

@@ -1,7 +1,7 @@
 -- How what is known of a set of states is put together.
 use Rattle.std.specs.Prelude.{if◌then◌else◌, ◌==◌, ◌≡◌, ◌≢◌}
-use Rattle.track9.specs.Working.Deck.{Allows, At, Bool, Clear, either, entries_of, Entry, false, is_set, Known, KnownEntry, ModeSet, None, Option, PartStates, Register, Some}
-use Rattle.track9.specs.Working.Deck.{StateSet, true, TwoParts}
+use Rattle.track9.specs.Working.Deck.{Allows, At, Bool, Clear, either, entries_of, Entry, false, is_set, Known, KnownEntry, ModeSet, None, Option, Part, Register, Some}
+use Rattle.track9.specs.Working.Deck.{States, true, Halves}
 use Rattle.deck9.specs.declared.knowledge.Known.TheVariants as known
 use Rattle.deck9.specs.declared.knowledge.KnownEntry.TheVariants as entry
 use Rattle.track9.specs.Working.Pairs.{goals_of, goes}
@@ -11,16 +11,16 @@ use Rattle.track9.specs.Working.States.{two_of}
 -- ---- modes
 
 -- all goals, and all shown modes
-abbrev pub two_goals : TwoParts → ModeSet
+abbrev pub two_goals : Halves → ModeSet
 two_goals h = either (goals_of h.remote.pairs) (goals_of h.local.pairs)
 
-abbrev pub two_shown : TwoParts → ModeSet
+abbrev pub two_shown : Halves → ModeSet
 two_shown h = either (goes h.remote.pairs) (goes h.local.pairs)
 
-abbrev pub goals_in : StateSet → ModeSet
+abbrev pub goals_in : States → ModeSet
 goals_in v = either (two_goals (two_of v false)) (two_goals (two_of v true))
 
-abbrev pub shown_in : StateSet → ModeSet
+abbrev pub shown_in : States → ModeSet
 shown_in v = either (two_shown (two_of v false)) (two_shown (two_of v true))
 
 -- ---- facts
@@ -55,10 +55,10 @@ join_options (Some k) None = Some k
 join_options (Some k) (Some l) = Some (joined_known k l)
 
 -- what a part tells of a register: nothing where it has no states
-abbrev pub PartKnows : PartStates → Register → Option KnownEntry → Type 0
+abbrev pub PartKnows : Part → Register → Option KnownEntry → Type 0
 PartKnows p r None = is_live p ≡ false
 PartKnows p r (Some k) = (is_live p ≡ true) × KnowsOf (Allows (entries_of r p)) k
 
 -- what the parts of remote and of local tell together
-abbrev pub TwoKnow : TwoParts → Register → Option KnownEntry → Type 0
+abbrev pub TwoKnow : Halves → Register → Option KnownEntry → Type 0
 TwoKnow h r o = (a b : Option KnownEntry) × PartKnows h.remote r a × PartKnows h.local r b × (o ≡ join_options a b)

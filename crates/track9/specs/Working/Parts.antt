@@ -1,98 +1,98 @@
 -- How the states with one value of local and one of panel change.
 use Rattle.std.specs.Prelude.{if◌then◌else◌, ◌&&◌, ◌≡◌}
-use Rattle.track9.specs.Working.Asked.{is_as_asked}
-use Rattle.track9.specs.Working.Deck.{Bool, Change, Entries, entries_of, InPart, List, Mode, ModeSet, None, Option, PartStates, RegAudioIn}
+use Rattle.track9.specs.Working.Pattern.{is_as_wanted}
+use Rattle.track9.specs.Working.Deck.{Bool, Change, Entries, entries_of, InPart, List, Mode, ModeSet, None, Option, Part, RegAudioIn}
 use Rattle.track9.specs.Working.Deck.{RegAudioOut, RegIn, Register, RegistersSet, RegOut, Some, State, Status, ℕ}
 use Rattle.track9.specs.Working.Entries.{agreeing, all_entries, changed, no_entries, set_entries, some_entry, widened}
 use Rattle.track9.specs.Working.Pairs.{all_pairs, drifted, gone, joined, masked, no_pairs, some_pair}
 
 -- no state, and every state
-abbrev pub no_states : PartStates
+abbrev pub no_states : Part
 no_states = record { pairs = no_pairs; ins = no_entries; outs = no_entries; ains = no_entries; aouts = no_entries }
 
-abbrev pub all_states : PartStates
+abbrev pub all_states : Part
 all_states = record { pairs = all_pairs; ins = all_entries; outs = all_entries; ains = all_entries; aouts = all_entries }
 
 -- there is a state, by the pairs alone
-abbrev pub is_live : PartStates → Bool
+abbrev pub is_live : Part → Bool
 is_live p = some_pair p.pairs
 
 -- each factor has something in it, or none has
-abbrev pub Whole : PartStates → Type 0
+abbrev pub Whole : Part → Type 0
 Whole p = (r : Register) → some_entry (entries_of r p) ≡ is_live p
 
 -- a state of a part, with these values of local and of panel
-pub record HasState (p : PartStates) (l pn : Bool) (s : State) : Type 0 where
+pub record HasState (p : Part) (l pn : Bool) (s : State) : Type 0 where
   pub inside : InPart p s
   pub local : s.local ≡ l
   pub panel : s.panel ≡ pn
 
-abbrev pub with_entries : Register → Entries → PartStates → PartStates
+abbrev pub with_entries : Register → Entries → Part → Part
 with_entries RegIn es p = record p { ins = es }
 with_entries RegOut es p = record p { outs = es }
 with_entries RegAudioIn es p = record p { ains = es }
 with_entries RegAudioOut es p = record p { aouts = es }
 
-abbrev pub with_pairs : List ModeSet → PartStates → PartStates
+abbrev pub with_pairs : List ModeSet → Part → Part
 with_pairs pairs p = record p { pairs = pairs }
 
 -- a part that has states is changed, one that has none stays
-abbrev pub where_live : (PartStates → PartStates) → PartStates → PartStates
+abbrev pub where_live : (Part → Part) → Part → Part
 where_live f p = if is_live p then f p else p
 
 -- no state, where a factor has nothing
-abbrev pub settled : PartStates → PartStates
+abbrev pub settled : Part → Part
 settled p = if is_live p && some_entry p.ins && some_entry p.outs && some_entry p.ains && some_entry p.aouts then p else no_states
 
 -- ---- what exchanges do
 
 -- a drift of the mechanics
-abbrev pub drifted_part : PartStates → PartStates
+abbrev pub drifted_part : Part → Part
 drifted_part p = with_pairs (drifted p.pairs) p
 
--- the deck goes for this goal, or leaves it where it may
+-- the deck is commanded to this mode, or leaves it where it may
 abbrev pub gone_pairs : Bool → Mode → List ModeSet → List ModeSet
 gone_pairs may_stay goal pairs = if may_stay then joined pairs (gone goal pairs) else gone goal pairs
 
-abbrev pub gone_part : Bool → Mode → PartStates → PartStates
+abbrev pub gone_part : Bool → Mode → Part → Part
 gone_part may_stay goal p = with_pairs (gone_pairs may_stay goal p.pairs) p
 
 -- what becomes of a register's entries, or may where the deck may leave it
 abbrev pub changed_entries : Bool → Change → Entries → Entries
 changed_entries may_stay c es = if may_stay then widened c es else changed c es
 
-abbrev pub changed_part : Bool → Register → Change → PartStates → PartStates
+abbrev pub changed_part : Bool → Register → Change → Part → Part
 changed_part may_stay r c p = with_entries r (changed_entries may_stay c (entries_of r p)) p
 
 -- a register's time was read
-abbrev pub sensed_part : Register → Option ℕ → PartStates → PartStates
+abbrev pub sensed_part : Register → Option ℕ → Part → Part
 sensed_part r time p = settled (with_entries r (agreeing time (entries_of r p)) p)
 
 -- ---- the same in two moves: what may need memory is made aside, and then put in place
 
 -- something where the part has states
-abbrev pub aside : {A : Type 0} → PartStates → A → Option A
+abbrev pub aside : {A : Type 0} → Part → A → Option A
 aside p x = if is_live p then Some x else None
 
 -- entries that were made aside, in place
-abbrev pub put_aside : Register → Option Entries → PartStates → PartStates
+abbrev pub put_aside : Register → Option Entries → Part → Part
 put_aside r None p = p
 put_aside r (Some es) p = with_entries r es p
 
 -- the same, and no state where they are none
-abbrev pub put_settled : Register → Option Entries → PartStates → PartStates
+abbrev pub put_settled : Register → Option Entries → Part → Part
 put_settled r None p = p
 put_settled r (Some es) p = settled (with_entries r es p)
 
 -- ---- status
 
 -- the states with one of these modes shown, where they are reported
-abbrev pub masked_part : Option ModeSet → PartStates → PartStates
+abbrev pub masked_part : Option ModeSet → Part → Part
 masked_part None p = p
 masked_part (Some mask) p = with_pairs (masked mask p.pairs) p
 
 -- those with registers Set and Clear as these say
-abbrev pub set_part : RegistersSet → PartStates → PartStates
+abbrev pub set_part : RegistersSet → Part → Part
 set_part set p = record p {
   ins = set_entries set.ins p.ins;
   outs = set_entries set.outs p.outs;
@@ -101,18 +101,18 @@ set_part set p = record p {
 }
 
 -- the same, where they are reported
-abbrev pub set_where : Option RegistersSet → PartStates → PartStates
+abbrev pub set_where : Option RegistersSet → Part → Part
 set_where None p = p
 set_where (Some set) p = set_part set p
 
 -- those with the reported modes and registers
-abbrev pub reported_part : Status → PartStates → PartStates
+abbrev pub reported_part : Status → Part → Part
 reported_part status p = settled (set_where status.registers (masked_part status.shown p))
 
 -- those with the reported LOCAL too, where it is this for each
-abbrev pub status_part : Bool → Status → PartStates → PartStates
-status_part local status p = if is_as_asked status.local local then reported_part status p else no_states
+abbrev pub status_part : Bool → Status → Part → Part
+status_part local status p = if is_as_wanted status.local local then reported_part status p else no_states
 
 -- the registers are forgotten
-abbrev pub forgotten_part : PartStates → PartStates
+abbrev pub forgotten_part : Part → Part
 forgotten_part p = with_pairs p.pairs all_states

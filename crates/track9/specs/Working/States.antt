@@ -1,78 +1,79 @@
 -- How a set of states changes.
 use Rattle.std.specs.Prelude.{if◌then◌else◌, ◌+◌, ◌||◌, ◌≡◌, ◌≤◌, ◌⊎◌}
-use Rattle.track9.specs.Working.Deck.{AreReached, begin_count, BelowDay, Block, Bool, Change, Command, count_of, Does, Drift, Effect, effect_of, entries_of, Exchanges, false, Hands}
-use Rattle.track9.specs.Working.Deck.{in_local, InPart, is_nak, is_of_goal_or_register, Mode, None, Option, PartStates, Passes, Possible, Presets}
-use Rattle.track9.specs.Working.Deck.{presets_after, Register, SetAt, Some, State, StateSet, Status, true, TwoParts, with_command, with_one, ℕ}
+use Rattle.track9.specs.Working.Deck.{AreReached, begin_count, BelowDay, Block, Bool, CanPass, Change, Command, count_of, Does, Drift, Effect, effect_of, entries_of, false, Hands}
+use Rattle.track9.specs.Working.Deck.{in_local, InPart, is_nak, is_of_goal_or_register, Mode, None, Option, Part, Possible, Presets}
+use Rattle.track9.specs.Working.Deck.{presets_after, Register, SetAt, Some, State, States, Status, DeckStep, true, Halves, with_command, with_one, ℕ}
 use Rattle.deck9.specs.declared.effect.Effect.TheVariants as effect
 use Rattle.deck9.specs.declared.state.Hands.TheVariants as hands
+use Rattle.track9.specs.Frugal.{is_frugal, is_frugal_effect}
 use Rattle.track9.specs.Working.Entries.{agreeing}
 use Rattle.track9.specs.Working.Parts.{Whole, all_states, aside, changed_entries, changed_part, drifted_part, forgotten_part, gone_part, is_live, no_states, put_aside, put_settled, status_part, where_live}
 
 -- ---- the states with one value of the panel
 
 -- no state, or every state
-abbrev pub all_or_none : Bool → TwoParts
+abbrev pub all_or_none : Bool → Halves
 all_or_none true = record { remote = all_states; local = all_states }
 all_or_none false = record { remote = no_states; local = no_states }
 
 -- there is a state
-abbrev pub some_two : TwoParts → Bool
+abbrev pub some_two : Halves → Bool
 some_two h = is_live h.remote || is_live h.local
 
 -- a state is one of these, with this value of the panel
-abbrev pub InTwo : Bool → TwoParts → State → Type 0
+abbrev pub InTwo : Bool → Halves → State → Type 0
 InTwo pn h s = (s.panel ≡ pn) × InPart (in_local h s.local) s
 
 -- what is true of both parts
-pub record TwoWhole (h : TwoParts) : Type 0 where
+pub record TwoWhole (h : Halves) : Type 0 where
   pub remote : Whole h.remote
   pub local : Whole h.local
 
-abbrev pub TwoBelow : TwoParts → Type 0
+abbrev pub TwoBelow : Halves → Type 0
 TwoBelow h = (l : Bool) (r : Register) → BelowDay (entries_of r (in_local h l)).times
 
 -- in each part the times of a register begin at most once more than there were presets to it
-abbrev pub TwoFew : Presets → TwoParts → Type 0
+abbrev pub TwoFew : Presets → Halves → Type 0
 TwoFew n h = (l : Bool) (r : Register) → begin_count (entries_of r (in_local h l)).times ≤ count_of r n + 1
 
 -- each part changes by its value of local
-abbrev pub map_two : (Bool → PartStates → PartStates) → TwoParts → TwoParts
+abbrev pub map_two : (Bool → Part → Part) → Halves → Halves
 map_two f h = record { remote = f false h.remote; local = f true h.local }
 
 -- a drift of the mechanics
-abbrev pub two_drifted : TwoParts → TwoParts
+abbrev pub two_drifted : Halves → Halves
 two_drifted h = map_two (λ local. drifted_part) h
 
--- the deck goes for this goal, or leaves it where it may
-abbrev pub two_gone : Bool → Mode → TwoParts → TwoParts
+-- the deck is commanded to this mode, or leaves it where it may
+abbrev pub two_gone : Bool → Mode → Halves → Halves
 two_gone may_stay goal h = map_two (λ local. where_live (gone_part (local || may_stay) goal)) h
 
 -- a register changes: in place in the part whose sets may be large, and aside in the other
-abbrev pub two_changed : Bool → Register → Change → TwoParts → TwoParts
+abbrev pub two_changed : Bool → Register → Change → Halves → Halves
 two_changed may_stay r c h = record {
   remote = put_aside r (aside h.remote (changed_entries may_stay c (entries_of r h.remote))) h.remote;
   local = where_live (changed_part true r c) h.local;
 }
 
 -- a register's time was read
-abbrev pub two_sensed : Register → Option ℕ → TwoParts → TwoParts
+abbrev pub two_sensed : Register → Option ℕ → Halves → Halves
 two_sensed r time h = map_two (λ local p. put_settled r (aside p (agreeing time (entries_of r p))) p) h
 
 -- a status agrees with some states
-abbrev pub two_status : Status → TwoParts → TwoParts
+abbrev pub two_status : Status → Halves → Halves
 two_status status h = map_two (λ local. where_live (status_part local status)) h
 
 -- what is forgotten
-abbrev pub tape_forgotten : TwoParts → TwoParts
+abbrev pub tape_forgotten : Halves → Halves
 tape_forgotten h = map_two (λ local. where_live (λ p. all_states)) h
 
-abbrev pub registers_forgotten : TwoParts → TwoParts
+abbrev pub registers_forgotten : Halves → Halves
 registers_forgotten h = map_two (λ local. where_live forgotten_part) h
 
-abbrev pub all_forgotten : TwoParts → TwoParts
+abbrev pub all_forgotten : Halves → Halves
 all_forgotten h = if some_two h then all_or_none true else h
 
--- an effect where nobody touches the panel, or a deck in local that leaves it undone, or any where it may
+-- an effect where nobody touches the panel, or a deck in LOCAL that ignores it, or any where it may
 abbrev pub DoesOrNot : Bool → Effect → State → State → Type 0
 DoesOrNot may_stay e s t = Does hands.None e s t ⊎ ((is_of_goal_or_register e ≡ true) × ((s.local || may_stay) ≡ true) × (t ≡ s))
 
@@ -82,74 +83,90 @@ counted (effect.Change r (SetAt t)) n = with_one r n
 counted _ n = n
 
 -- the states after what leads from a state to others
-pub record LeadsOn (Goes : State → State → Type 0) (count : Presets → Presets) (h g : TwoParts) : Type 0 where
+pub record LeadsOn (Goes : State → State → Type 0) (count : Presets → Presets) (h g : Halves) : Type 0 where
   pub reached : (pn : Bool) → AreReached (InTwo pn h) Goes (InTwo pn g)
   pub whole : TwoWhole g
   pub few : (n : Presets) → TwoFew n h → TwoFew (count n) g
 
 -- the states after an effect
-abbrev pub HasEffect : Bool → Effect → TwoParts → TwoParts → Type 0
+abbrev pub HasEffect : Bool → Effect → Halves → Halves → Type 0
 HasEffect may_stay e h g = LeadsOn (DoesOrNot may_stay e) (counted e) h g
 
--- the states after an exchange where nobody touches the panel
-abbrev pub Exchanged : Command → Block → TwoParts → TwoParts → Type 0
-Exchanged command reply h g = LeadsOn (Exchanges hands.None command reply) (presets_after command reply true) h g
+-- a drift, and then a step
+abbrev pub DriftsAndGoes : (Hands → State → State → Type 0) → Hands → State → State → Type 0
+DriftsAndGoes Goes h s t = (d : State) × Drift h s d × Goes h d t
 
--- the states after a command whose reply is not known, where nobody touches the panel
-abbrev pub Passed : Command → TwoParts → TwoParts → Type 0
-Passed command h g = LeadsOn (Passes hands.None command) (with_command command) h g
+-- what a command does after the drift: the step with its reply, or what it may do where that is not known
+abbrev pub Takes : Command → Option Block → Hands → State → State → Type 0
+Takes command None h s t = CanPass h command s t
+Takes command (Some reply) h s t = DeckStep h command reply s t
+
+-- the counts after it
+abbrev pub counts_after : Command → Option Block → Presets → Presets
+counts_after command None n = with_command command n
+counts_after command (Some reply) n = presets_after command reply true n
+
+-- the effect that it may have: none where its reply is a NAK
+abbrev pub effect_taken : Command → Option Block → Effect
+effect_taken command None = effect_of command
+effect_taken command (Some reply) = if is_nak reply then effect.Nothing else effect_of command
+
+-- it takes no memory where hands are not allowed
+abbrev pub is_frugal_taken : Command → Option Block → Bool
+is_frugal_taken command None = is_frugal_effect (effect_of command)
+is_frugal_taken command (Some reply) = is_frugal command reply
+
+-- the states after it where nobody touches the panel
+abbrev pub Taken : Command → Option Block → Halves → Halves → Type 0
+Taken command reply h g = LeadsOn (DriftsAndGoes (Takes command reply) hands.None) (counts_after command reply) h g
 
 -- ---- all states
 
 -- whether hands are allowed
-abbrev pub hands_by : Option TwoParts → Hands
+abbrev pub hands_by : Option Halves → Hands
 hands_by None = hands.None
 hands_by (Some h) = hands.Allowed
 
-abbrev pub hands_of : StateSet → Hands
+abbrev pub hands_of : States → Hands
 hands_of v = hands_by v.on
 
 -- those with this value of the panel
-abbrev pub on_two : Option TwoParts → TwoParts
+abbrev pub on_two : Option Halves → Halves
 on_two None = all_or_none false
 on_two (Some h) = h
 
-abbrev pub two_of : StateSet → Bool → TwoParts
+abbrev pub two_of : States → Bool → Halves
 two_of v false = v.off
 two_of v true = on_two v.on
 
 -- the part of the states with these values of local and of panel
-abbrev pub part_of : StateSet → Bool → Bool → PartStates
+abbrev pub part_of : States → Bool → Bool → Part
 part_of v l pn = in_local (two_of v pn) l
 
 -- what is true of each part
-pub record AreWhole (v : StateSet) : Type 0 where
+pub record AreWhole (v : States) : Type 0 where
   pub off : TwoWhole v.off
   pub on : TwoWhole (on_two v.on)
 
-pub record AreBelow (v : StateSet) : Type 0 where
+pub record AreBelow (v : States) : Type 0 where
   pub off : TwoBelow v.off
   pub on : TwoBelow (on_two v.on)
 
-abbrev pub AreFew : Presets → StateSet → Type 0
+abbrev pub AreFew : Presets → States → Type 0
 AreFew n v = (pn : Bool) → TwoFew n (two_of v pn)
 
 -- there is a state with the panel on
-abbrev pub is_panel_live : StateSet → Bool
+abbrev pub is_panel_live : States → Bool
 is_panel_live v = some_two (on_two v.on)
 
 -- there is a state
-abbrev pub some_state : StateSet → Bool
+abbrev pub some_state : States → Bool
 some_state v = some_two v.off || is_panel_live v
 
 -- the states before the capture
-abbrev pub first_states : Hands → StateSet
+abbrev pub first_states : Hands → States
 first_states hands.None = record { off = all_or_none true; on = None }
 first_states hands.Allowed = record { off = all_or_none true; on = Some (all_or_none true) }
-
--- the effect of a command, if its reply is no NAK
-abbrev pub acknowledged : Command → Block → Effect
-acknowledged command reply = if is_nak reply then effect.Nothing else effect_of command
 
 -- an effect to which a hand on the panel makes a difference
 abbrev pub is_wide : Effect → Bool
@@ -158,46 +175,42 @@ is_wide effect.ForgetAll = true
 is_wide _ = false
 
 -- the states after a drift, put together whatever the panel: where it may have been on, a hand may have done anything
-abbrev pub either_panel : StateSet → TwoParts
+abbrev pub either_panel : States → Halves
 either_panel v = if is_panel_live v then all_or_none true else two_drifted v.off
 
 -- the panel is switched on or off, after a drift
-abbrev pub switched : Bool → TwoParts → StateSet
+abbrev pub switched : Bool → Halves → States
 switched true h = record { off = all_or_none false; on = Some h }
 switched false h = record { off = h; on = Some (all_or_none false) }
 
-abbrev pub after_panel : Bool → StateSet → StateSet
+abbrev pub after_panel : Bool → States → States
 after_panel on v = switched on (either_panel v)
 
 -- the states after a drift
-abbrev pub all_drifted : StateSet → StateSet
+abbrev pub all_drifted : States → States
 all_drifted v = record { off = two_drifted v.off; on = Some (all_or_none (is_panel_live v)) }
 
 -- the panel is switched on or off, after a drift, or stays: what it may be switched to has all states, and the rest is as it was
-abbrev pub panel_passed : Bool → StateSet → StateSet
+abbrev pub panel_passed : Bool → States → States
 panel_passed true v = record (all_drifted v) { on = Some (either_panel v) }
 panel_passed false v = record (all_drifted v) { off = either_panel v }
 
 -- what holds inside a tracker
-pub record IsKept (n : Presets) (v : StateSet) : Type 0 where
+pub record IsKept (n : Presets) (v : States) : Type 0 where
   pub whole : AreWhole v
   pub few : AreFew n v
 
 -- the states after what leads from a state to others
-pub record AllLeadOn (h : Hands) (Goes : State → State → Type 0) (count : Presets → Presets) (v w : StateSet) : Type 0 where
+pub record AllLeadOn (h : Hands) (Goes : State → State → Type 0) (count : Presets → Presets) (v w : States) : Type 0 where
   pub reached : AreReached (Possible v) Goes (Possible w)
   pub hands : hands_of w ≡ h
   pub whole : AreWhole w
   pub few : (n : Presets) → AreFew n v → AreFew (count n) w
 
 -- the states after a drift
-abbrev pub FollowsDrift : Hands → StateSet → StateSet → Type 0
+abbrev pub FollowsDrift : Hands → States → States → Type 0
 FollowsDrift h v w = AllLeadOn h (Drift h) (λ n. n) v w
 
--- the states after an exchange
-abbrev pub Follows : Hands → Command → Block → StateSet → StateSet → Type 0
-Follows h command reply v w = AllLeadOn h (Exchanges h command reply) (presets_after command reply true) v w
-
--- the states after a command whose reply is not known
-abbrev pub FollowsPassed : Hands → Command → StateSet → StateSet → Type 0
-FollowsPassed h command v w = AllLeadOn h (Passes h command) (with_command command) v w
+-- the states after a command
+abbrev pub Follows : Hands → Command → Option Block → States → States → Type 0
+Follows h command reply v w = AllLeadOn h (DriftsAndGoes (Takes command reply) h) (counts_after command reply) v w

@@ -1,32 +1,50 @@
 //! What an exchange does to the states with one value of the panel, where nobody touches it: by what its reply shows, and by
 //! its command's effect; or by the effect alone, where the reply is not known.
-ghost use Rattle.std.specs.Prelude.{◌≡◌, IsOk, IsTrue, OnErr, OnOk};
+ghost use Rattle.std.specs.Prelude.{◌≡◌, IsOk, IsTrue, None, OnErr, OnOk, Some, option_map};
 ghost use Rattle.deck9.specs.Effect.{effect_of};
 ghost use Rattle.track9.specs.Frugal.{is_frugal, is_frugal_effect};
-ghost use Rattle.track9.specs.Working.States.{Exchanged, HasEffect, Passed, TwoWhole, two_drifted};
+ghost use Rattle.track9.specs.Working.States.{HasEffect, Taken, TwoWhole, is_frugal_taken, two_drifted};
 
 use crate::halves::Halves;
-use crate::reply::is_nak;
 use block9::{Block, Command};
 use deck9::{Effect, Mode, Sense, Status};
 use sets25::TimeSet;
 use std::alloc::{AllocError, Global};
 
 impl<S: TimeSet> Halves<S> {
-    /// The states after an exchange: after a drift of the mechanics and a step. Where memory is refused nothing has
-    /// changed.
-    pub(crate) fn exchange(
+    /// The states after a command: after a drift of the mechanics and a step, or, where its reply is not known, nothing or the
+    /// command's effect. Where memory is refused nothing has changed.
+    #[inline(always)] // so that whether there is a reply is known where this is called
+    pub(crate) fn take(
+        &mut self,
+        alloc: Global,
+        command: &Command,
+        reply: Option<&Block>,
+    ) -> Result<(), AllocError>
+        requires { TwoWhole self.old }
+        ensures ok { OnOk result (Taken command.now (option_map (λ b. b.now) reply.entry) self.old self.new) }
+        ensures err { OnErr result (self.new ≡ self.old) }
+        ensures frugal { IsTrue (is_frugal_taken command.now (option_map (λ b. b.now) reply.entry)) → IsOk result }
+    {
+        match reply {
+            Some(reply) => self.exchange(alloc, command, reply),
+            None => self.pass(alloc, command),
+        }
+    }
+
+    /// The same where the reply is known.
+    fn exchange(
         &mut self,
         alloc: Global,
         command: &Command,
         reply: &Block,
     ) -> Result<(), AllocError>
-        requires whole { TwoWhole self.old }
-        ensures ok { OnOk result (Exchanged command.now reply.now self.old self.new) }
+        requires { TwoWhole self.old }
+        ensures ok { OnOk result (Taken command.now (Some reply.now) self.old self.new) }
         ensures err { OnErr result (self.new ≡ self.old) }
         ensures frugal { IsTrue (is_frugal command.now reply.now) → IsOk result }
     {
-        if is_nak(reply) {
+        if reply.is_nak() {
             self.drift();
             return Ok(());
         }
@@ -48,11 +66,10 @@ impl<S: TimeSet> Halves<S> {
         Ok(())
     }
 
-    /// The states after a command whose reply is not known: after a drift of the mechanics, and nothing or the command's
-    /// effect. Where memory is refused nothing has changed.
-    pub(crate) fn pass(&mut self, alloc: Global, command: &Command) -> Result<(), AllocError>
-        requires whole { TwoWhole self.old }
-        ensures ok { OnOk result (Passed command.now self.old self.new) }
+    /// The same where it is not known.
+    fn pass(&mut self, alloc: Global, command: &Command) -> Result<(), AllocError>
+        requires { TwoWhole self.old }
+        ensures ok { OnOk result (Taken command.now None self.old self.new) }
         ensures err { OnErr result (self.new ≡ self.old) }
         ensures frugal { IsTrue (is_frugal_effect (effect_of command.now)) → IsOk result }
     {
@@ -61,7 +78,7 @@ impl<S: TimeSet> Halves<S> {
         self.apply(alloc, true, &effect)
     }
 
-    /// The states after a drift and an effect, which a deck in local may leave undone, and any where `may_stay`.
+    /// The states after a drift and an effect, which a deck in LOCAL may ignore, and any where `may_stay`.
     #[inline(always)] // else the effect is handed on through memory
     fn apply(&mut self, alloc: Global, may_stay: bool, effect: &Effect) -> Result<(), AllocError>
         requires { TwoWhole self.old }

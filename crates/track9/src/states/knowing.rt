@@ -46,7 +46,7 @@ impl<S: TimeSet> States<S> {
         }
     }
 
-    /// Whether the deck is in local, as far as all states agree. There is a state.
+    /// Whether the deck is in LOCAL, as far as all states agree. There is a state.
     pub(crate) fn known_local(&self) -> Known<bool>
         requires whole { AreWhole self.now }
         requires some { some_state self.now ≡ true }
@@ -75,7 +75,7 @@ impl<S: TimeSet> States<S> {
         }
     }
 
-    /// Whether there is a state in remote.
+    /// Whether there is a state in REMOTE.
     fn is_remote_live(&self) -> bool
         ensures { result ≡ (is_live (part_of self.now false false) || is_live (part_of self.now false true)) }
     {
@@ -85,7 +85,7 @@ impl<S: TimeSet> States<S> {
         }
     }
 
-    /// Whether there is a state in local.
+    /// Whether there is a state in LOCAL.
     fn is_local_live(&self) -> bool
         ensures { result ≡ (is_live (part_of self.now true false) || is_live (part_of self.now true true)) }
     {

@@ -5,7 +5,8 @@ use Rattle.track9.proofs.EffectLemmas.{after_all, after_change, after_drift, aft
 use Rattle.track9.proofs.PartLemmas.{drift_whole}
 
 pub returns-in-Nothing-clause-ok : goal.returns-in-Nothing-clause-ok
-returns-in-Nothing-clause-ok g c = rw (c.in-Nothing.is, c.drift.ensures) (after_drift c.args.may_stay effect.Nothing c.args.self.now (λ s t e. e) (λ s t e. e) (λ n. refl) c.requires)
+returns-in-Nothing-clause-ok g c = rw (c.in-Nothing.is, c.drift.ensures)
+    (after_drift c.args.may_stay effect.Nothing c.args.self.now (λ s t e. e) (λ s t e. e) (λ n. refl) c.requires)
 
 pub returns-in-Panel-clause-ok : goal.returns-in-Panel-clause-ok
 returns-in-Panel-clause-ok g c = rw (c.in-Panel.is, c.drift-in-Panel.ensures)
@@ -28,7 +29,11 @@ returns-in_ok-forget_tape-in-ForgetTape-clause-ok g c = rw (c.in-ForgetTape.is, 
     (after_effect c.args.may_stay effect.ForgetTape c.args.self.now refl (λ l p. refl) c.requires (λ l. tt))
 
 pub returns-in_ok-forget_registers-in-ForgetRegisters-clause-ok : goal.returns-in_ok-forget_registers-in-ForgetRegisters-clause-ok
-returns-in_ok-forget_registers-in-ForgetRegisters-clause-ok g c = rw (c.in-ForgetRegisters.is, c.drift-in-ForgetRegisters.ensures, (c.in_ok-forget_registers-in-ForgetRegisters).ensures.ok)
+returns-in_ok-forget_registers-in-ForgetRegisters-clause-ok g c = rw (
+  c.in-ForgetRegisters.is,
+  c.drift-in-ForgetRegisters.ensures,
+  (c.in_ok-forget_registers-in-ForgetRegisters).ensures.ok,
+)
     (after_effect c.args.may_stay effect.ForgetRegisters c.args.self.now refl (λ l p. refl) c.requires (λ l. tt))
 
 pub returns-in_ok-forget_all-in-ForgetAll-clause-ok : goal.returns-in_ok-forget_all-in-ForgetAll-clause-ok

@@ -1,4 +1,4 @@
-use Rattle.track9.proofs.Words.{ap, Drift, hands_of, on_ok_weaker, StateSet, subst, sym, TwoWhole, ◌∙◌}
+use Rattle.track9.proofs.Words.{ap, Drift, hands_of, on_ok_weaker, States, subst, sym, TwoWhole, ◌∙◌}
 use Rattle.track9.proofs.states.States.drift.Goals as goal
 use Rattle.deck9.specs.declared.state.Hands.TheVariants as hands
 use Rattle.track9.proofs.EffectLemmas.{drift_leads}
@@ -6,8 +6,13 @@ use Rattle.track9.proofs.PanelLemmas.{follows_drift, leads_off, none_on}
 use Rattle.track9.proofs.PartLemmas.{drift_panel}
 
 pub returns-in-None-clause-ok : goal.returns-in-None-clause-ok
-returns-in-None-clause-ok g c = rw (← c.self.view_is, none_on c.self.inside.on (ap hands_of c.self.view_is ∙ sym c.hands.ensures ∙ c.in-None.is), c.drift.ensures)
-    (leads_off Drift (λ n. n) (drift_panel hands.None) c.self.inside.off _ (drift_leads c.self.inside.off (subst (λ (v : StateSet). TwoWhole v.off) (sym c.self.view_is) c.requires.off)))
+returns-in-None-clause-ok g c = rw (
+  ← c.self.view_is,
+  none_on c.self.inside.on (ap hands_of c.self.view_is ∙ sym c.hands.ensures ∙ c.in-None.is),
+  c.drift.ensures,
+)
+    (leads_off Drift (λ n. n) (drift_panel hands.None) c.self.inside.off _
+    (drift_leads c.self.inside.off (subst (λ (v : States). TwoWhole v.off) (sym c.self.view_is) c.requires.off)))
 
 pub returns-in-Allowed-clause-ok : goal.returns-in-Allowed-clause-ok
 returns-in-Allowed-clause-ok g c = rw (sym c.hands.ensures ∙ c.in-Allowed.is)

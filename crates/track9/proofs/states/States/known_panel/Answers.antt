@@ -3,4 +3,5 @@ use Rattle.track9.proofs.KnownLemmas.{panel_known}
 
 pub returns : goal.returns
 returns g c = rw (c.known_fact.ensures, c.is_some.ensures, c.is_panel_live.ensures, ← c.self.view_is)
-    (panel_known (record { off = c.self.inside.off; on = c.self.inside.on }) (rw (← c.self.view_is) at c.requires.whole) (rw (← c.self.view_is) at c.requires.some))
+    (panel_known (record { off = c.self.inside.off; on = c.self.inside.on }) (rw (← c.self.view_is) at c.requires.whole)
+    (rw (← c.self.view_is) at c.requires.some))

@@ -5,4 +5,5 @@ pub returns-clause-exact : goal.returns-clause-exact
 returns-clause-exact c = rw (← c.self.view_is) (span_count_is c.self.inside.states c.args.register c.spans.result c.self.invariant.whole c.spans.ensures)
 
 pub returns-clause-few : goal.returns-clause-few
-returns-clause-few c = rw (← c.self.view_is) (spans_few c.self.inside.states c.args.register c.spans.result c.self.inside.presets c.self.invariant.few c.spans.ensures)
+returns-clause-few c = rw (← c.self.view_is) (spans_few c.self.inside.states c.args.register c.spans.result c.self.inside.presets c.self.invariant.few
+    c.spans.ensures)

@@ -5,4 +5,5 @@ use Rattle.track9.proofs.KnownLemmas.{has_shown}
 pub returns-clause-modes : goal.returns-clause-modes
 returns-clause-modes g c = λ m.
     let h = has_shown c.self.inside.states c.self.invariant.whole in
-    rw (← c.self.view_is, c.without_other_bits.ensures.has m, c.shown.ensures) (h.back m, λ w. subst (λ x. has (shown_in c.self.inside.states).0 x ≡ true) w.2 (h.there w.0 w.1))
+    rw (← c.self.view_is, c.without_other_bits.ensures.has m, c.shown.ensures)
+    (h.back m, λ w. subst (λ x. has (shown_in c.self.inside.states).0 x ≡ true) w.2 (h.there w.0 w.1))

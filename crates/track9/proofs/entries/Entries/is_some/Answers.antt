@@ -1,4 +1,4 @@
-use Rattle.track9.proofs.register_set.RegisterSet.is_some.Goals as goal
+use Rattle.track9.proofs.entries.Entries.is_some.Goals as goal
 use Rattle.track9.proofs.EntryLemmas.{some_by}
 
 pub returns-else-self : goal.returns-else-self

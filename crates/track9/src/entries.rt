@@ -2,7 +2,7 @@
 ghost use Rattle.std.specs.Prelude.{◌≡◌, ◌↔◌, IfNone, IfOk, IfSome, IsTrue, OnErr, OnOk, true};
 ghost use Rattle.sets25.specs.Times.{BelowDay, span_count};
 ghost use Rattle.track9.specs.Tracker.{Allows};
-ghost use Rattle.track9.specs.Working.Asked.{Is};
+ghost use Rattle.track9.specs.Working.Pattern.{Is};
 ghost use Rattle.track9.specs.Working.Knowing.{KnowsOf};
 ghost use Rattle.track9.specs.Working.Entries.{agreeing, all_entries, changed, no_entries, set_entries, some_entry, widened};
 ghost use Rattle.deck9.specs.declared.state.Entry.{Entry as AEntry};
@@ -15,12 +15,12 @@ use tc25::TimeCode;
 
 /// The entries that a register may have.
 #[derive(Drop)]
-pub(crate) struct RegisterSet<S: TimeSet> {
+pub(crate) struct Entries<S: TimeSet> {
     may_clear: bool,
     times: S,
 }
 
-impl<S: TimeSet> Model for RegisterSet<S> {
+impl<S: TimeSet> Model for Entries<S> {
     ghost use Rattle.track9.specs.Tracker.{Entries};
     ghost use Rattle.track9.specs.Working.Codes.{entries_code};
 
@@ -35,32 +35,32 @@ impl<S: TimeSet> Model for RegisterSet<S> {
     ghost invariant = { λ r. BelowDay (S.members r.times) };
 }
 
-impl<S: TimeSet> RegisterSet<S> {
+impl<S: TimeSet> Entries<S> {
     /// No entry. Takes no memory.
-    pub(crate) fn none(alloc: Global) -> RegisterSet<S>
+    pub(crate) fn none(alloc: Global) -> Entries<S>
         ensures { result ≡ no_entries }
     {
-        RegisterSet {
+        Entries {
             may_clear: false,
             times: S::none(alloc),
         }
     }
 
     /// Every entry.
-    pub(crate) fn all(alloc: Global) -> Result<RegisterSet<S>, AllocError>
+    pub(crate) fn all(alloc: Global) -> Result<Entries<S>, AllocError>
         ensures { IfOk result (λ r. r ≡ all_entries) }
     {
-        Ok(RegisterSet {
+        Ok(Entries {
             may_clear: true,
             times: S::all(alloc)?,
         })
     }
 
     /// An equal set.
-    pub(crate) fn copy(&self) -> Result<RegisterSet<S>, AllocError>
+    pub(crate) fn copy(&self) -> Result<Entries<S>, AllocError>
         ensures { IfOk result (λ r. r ≡ self.now) }
     {
-        Ok(RegisterSet {
+        Ok(Entries {
             may_clear: self.may_clear,
             times: self.times.copy()?,
         })
@@ -91,12 +91,12 @@ impl<S: TimeSet> RegisterSet<S> {
         }
     }
 
-    /// An entry that is asked for, or some entry where none is: None exactly where there is none.
-    pub(crate) fn pick(&self, asked: &Option<Entry>) -> Option<Entry>
-        ensures some { IfSome result (λ e. Allows self.now e × Is asked.now e) }
-        ensures none { IfNone result (¬ ((e : AEntry) × Allows self.now e × Is asked.now e)) }
+    /// An entry that is wanted, or some entry where none is: None exactly where there is none.
+    pub(crate) fn pick(&self, wanted: &Option<Entry>) -> Option<Entry>
+        ensures some { IfSome result (λ e. Allows self.now e × Is wanted.now e) }
+        ensures none { IfNone result (¬ ((e : AEntry) × Allows self.now e × Is wanted.now e)) }
     {
-        match asked {
+        match wanted {
             Some(entry) => { if self.has(entry) { Some(*entry) } else { None } }
             None => {
                 if self.is_some() {
@@ -136,26 +136,22 @@ impl<S: TimeSet> RegisterSet<S> {
     }
 
     /// What becomes of the entries, in a set of its own.
-    pub(crate) fn changed(
-        &self,
-        alloc: Global,
-        change: &Change,
-    ) -> Result<RegisterSet<S>, AllocError>
+    pub(crate) fn changed(&self, alloc: Global, change: &Change) -> Result<Entries<S>, AllocError>
         ensures { IfOk result (λ r. r ≡ changed change.now self.now) }
     {
         match change {
-            Change::SetSomewhere => Ok(RegisterSet {
+            Change::SetSomewhere => Ok(Entries {
                 may_clear: false,
                 times: S::all(alloc)?,
             }),
-            Change::SetAt(time) => Ok(RegisterSet {
+            Change::SetAt(time) => Ok(Entries {
                 may_clear: false,
                 times: S::one(alloc, *time)?,
             }),
             Change::Next => {
                 let mut times = self.times.copy()?;
                 times.shift_next()?;
-                Ok(RegisterSet {
+                Ok(Entries {
                     may_clear: self.may_clear,
                     times,
                 })
@@ -163,16 +159,16 @@ impl<S: TimeSet> RegisterSet<S> {
             Change::Prev => {
                 let mut times = self.times.copy()?;
                 times.shift_prev()?;
-                Ok(RegisterSet {
+                Ok(Entries {
                     may_clear: self.may_clear,
                     times,
                 })
             }
-            Change::Reset => Ok(RegisterSet {
+            Change::Reset => Ok(Entries {
                 may_clear: true,
                 times: S::none(alloc),
             }),
-            Change::Recall => RegisterSet::all(alloc),
+            Change::Recall => Entries::all(alloc),
         }
     }
 
@@ -196,11 +192,7 @@ impl<S: TimeSet> RegisterSet<S> {
     }
 
     /// The same in a set of its own.
-    pub(crate) fn widened(
-        &self,
-        alloc: Global,
-        change: &Change,
-    ) -> Result<RegisterSet<S>, AllocError>
+    pub(crate) fn widened(&self, alloc: Global, change: &Change) -> Result<Entries<S>, AllocError>
         ensures { IfOk result (λ r. r ≡ widened change.now self.now) }
     {
         let mut copy = self.copy()?;
@@ -214,14 +206,14 @@ impl<S: TimeSet> RegisterSet<S> {
         &self,
         alloc: Global,
         time: &Option<TimeCode>,
-    ) -> Result<RegisterSet<S>, AllocError>
+    ) -> Result<Entries<S>, AllocError>
         ensures { IfOk result (λ r. r ≡ agreeing time.now self.now) }
     {
         let times = match time {
             Some(time) if self.times.contains(*time) => S::one(alloc, *time)?,
             _ => S::none(alloc),
         };
-        Ok(RegisterSet {
+        Ok(Entries {
             may_clear: self.may_clear,
             times,
         })
@@ -239,7 +231,7 @@ impl<S: TimeSet> RegisterSet<S> {
     }
 }
 
-impl RegisterSet<SpanSet> {
+impl Entries<SpanSet> {
     /// The number of spans of its times.
     pub(crate) fn spans(&self) -> usize
         ensures { result ≡ span_count self.now.times }

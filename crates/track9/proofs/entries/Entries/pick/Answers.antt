@@ -1,5 +1,5 @@
 use Rattle.track9.proofs.Words.{sym, ◌∙◌}
-use Rattle.track9.proofs.register_set.RegisterSet.pick.Goals as goal
+use Rattle.track9.proofs.entries.Entries.pick.Goals as goal
 use Rattle.track9.proofs.EntryLemmas.{nothing_allowed}
 
 pub returns-else-is_some-clause-none : goal.returns-else-is_some-clause-none

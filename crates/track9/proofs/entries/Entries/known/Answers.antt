@@ -1,5 +1,5 @@
 use Rattle.track9.proofs.Words.{false≢true, sym, ◌∙◌}
-use Rattle.track9.proofs.register_set.RegisterSet.known.Goals as goal
+use Rattle.track9.proofs.entries.Entries.known.Goals as goal
 use Rattle.track9.proofs.KnownLemmas.{knows_at, knows_clear, knows_nothing, knows_set}
 
 pub returns-then-is_empty : goal.returns-then-is_empty

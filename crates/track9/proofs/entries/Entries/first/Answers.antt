@@ -1,4 +1,4 @@
-use Rattle.track9.proofs.register_set.RegisterSet.first.Goals as goal
+use Rattle.track9.proofs.entries.Entries.first.Goals as goal
 use Rattle.track9.proofs.BeforeLemmas.{clear_alone}
 
 pub returns-in-None : goal.returns-in-None

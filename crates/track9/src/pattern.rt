@@ -1,13 +1,13 @@
-//! Which states are asked for: a pattern of fields, each fixed or free.
+//! Which states are wanted: a pattern of fields, each fixed or free.
 ghost use Rattle.std.specs.Prelude.{◌≡◌, ◌↔◌, IsTrue};
-ghost use Rattle.track9.specs.Working.Asked.{Is, any_registers, any_tape, asked_before, entry_before, is_as_asked, just_state, with_asked};
+ghost use Rattle.track9.specs.Working.Pattern.{Is, any_registers, any_tape, pattern_before, entry_before, is_as_wanted, just_state, with_wanted};
 
 use deck9::{Change, Effect, Entry, Hands, Mode, ModeSet, Register, State};
 
-/// The states with one of these goals, one of these modes shown, and in each other field the value that is asked for, or
+/// The states with one of these goals, one of these modes shown, and in each other field the value that is wanted, or
 /// any where none is.
 #[derive(Drop)]
-pub(crate) struct Asked {
+pub(crate) struct Pattern {
     pub(crate) goals: ModeSet,
     pub(crate) shown: ModeSet,
     pub(crate) ins: Option<Entry>,
@@ -18,12 +18,12 @@ pub(crate) struct Asked {
     pub(crate) panel: Option<bool>,
 }
 
-impl Asked {
+impl Pattern {
     /// One state alone.
-    pub(crate) fn just(state: &State) -> Asked
+    pub(crate) fn just(state: &State) -> Pattern
         ensures { result ≡ just_state state.now }
     {
-        Asked {
+        Pattern {
             goals: ModeSet::just(state.goal),
             shown: ModeSet::just(state.shown),
             ins: Some(state.ins),
@@ -36,51 +36,51 @@ impl Asked {
     }
 
     /// The states from which an effect, where the deck does it, leads to the target: None where there is none.
-    pub(crate) fn before(hands: Hands, effect: &Effect, target: &State) -> Option<Asked>
-        ensures { result ≡ asked_before hands effect.now target.now }
+    pub(crate) fn before(hands: Hands, effect: &Effect, target: &State) -> Option<Pattern>
+        ensures { result ≡ pattern_before hands effect.now target.now }
     {
-        let mut asked = Asked::just(target);
+        let mut wanted = Pattern::just(target);
         match effect {
             Effect::Nothing => {}
             Effect::Go(goal) => {
                 if target.goal != *goal {
                     return None;
                 }
-                asked.goals = ModeSet::ALL;
+                wanted.goals = ModeSet::ALL;
             }
             Effect::KeepOrStop => {
                 if target.goal == Mode::Stop {
-                    asked.goals = ModeSet::ALL;
+                    wanted.goals = ModeSet::ALL;
                 }
             }
             Effect::Change(register, change) => {
                 let entry = entry_before(change, target.entry(*register))?;
-                asked.put(*register, entry);
+                wanted.put(*register, entry);
             }
             Effect::Panel(on) => {
                 if hands == Hands::Allowed {
                     if target.panel != *on {
                         return None;
                     }
-                    asked.panel = None;
+                    wanted.panel = None;
                 }
             }
-            Effect::ForgetTape => asked.free_tape(),
-            Effect::ForgetRegisters => asked.free_registers(),
+            Effect::ForgetTape => wanted.free_tape(),
+            Effect::ForgetRegisters => wanted.free_registers(),
             Effect::ForgetAll => {
-                asked.free_tape();
-                asked.local = None;
+                wanted.free_tape();
+                wanted.local = None;
                 if hands == Hands::Allowed {
-                    asked.panel = None;
+                    wanted.panel = None;
                 }
             }
         }
-        Some(asked)
+        Some(wanted)
     }
 
     /// Asks for an entry of a register, or for any.
     fn put(&mut self, register: Register, entry: Option<Entry>)
-        ensures { self.new ≡ with_asked register entry self.old }
+        ensures { self.new ≡ with_wanted register entry self.old }
     {
         match register {
             Register::RegIn => self.ins = entry,
@@ -127,12 +127,12 @@ fn entry_before(change: &Change, entry: &Entry) -> Option<Option<Entry>>
     }
 }
 
-/// Whether a fact is as it is asked for.
-pub(crate) fn is_asked(asked: Option<bool>, fact: bool) -> bool
-    ensures is { IsTrue result ↔ Is asked fact }
-    ensures test { result ≡ is_as_asked asked fact }
+/// Whether a fact is as it is wanted.
+pub(crate) fn is_wanted(wanted: Option<bool>, fact: bool) -> bool
+    ensures is { IsTrue result ↔ Is wanted fact }
+    ensures test { result ≡ is_as_wanted wanted fact }
 {
-    match asked {
+    match wanted {
         Some(wanted) => fact == wanted,
         None => true,
     }

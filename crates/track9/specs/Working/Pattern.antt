@@ -1,13 +1,13 @@
 -- Which states an effect may have led from: a pattern of fields, each fixed or free.
 use Rattle.std.specs.Prelude.{if◌then◌else◌, ◌==◌, ◌≡◌}
-use Rattle.track9.specs.Working.Deck.{Asked, At, bit_of, Bool, Change, Clear, Command, Drift, Effect, Entry, entry_of, false, Hands, has, has_pair, is_mode, IsState, KeepsRest}
+use Rattle.track9.specs.Working.Deck.{Pattern, At, bit_of, Bool, Change, Clear, Command, Drift, Effect, Entry, entry_of, false, Hands, has, has_pair, is_mode, IsState, KeepsRest}
 use Rattle.track9.specs.Working.Deck.{List, may_ignore, Mode, modes, ModeSet, moved_entry, Next, next_frame, None, Option, option_map, Pair, PairReaches, Prev, prev_frame}
 use Rattle.track9.specs.Working.Deck.{Recall, RegAudioIn, RegAudioOut, RegIn, Register, RegOut, Reset, SetAt, SetSomewhere, Some, State, true, ⊤}
 use Rattle.deck9.specs.declared.effect.Effect.TheVariants as effect
 use Rattle.deck9.specs.declared.mode.Mode.TheVariants as mode
 use Rattle.deck9.specs.declared.state.Hands.TheVariants as hands
 
--- nothing is asked for, or this
+-- nothing is wanted, or this
 abbrev pub Is : {A : Type 0} → Option A → A → Type 0
 Is None x = ⊤
 Is (Some y) x = x ≡ y
@@ -18,26 +18,26 @@ same_fact true b = b
 same_fact false true = false
 same_fact false false = true
 
--- a fact is as it is asked for, if it is
-abbrev pub is_as_asked : Option Bool → Bool → Bool
-is_as_asked None fact = true
-is_as_asked (Some wanted) fact = same_fact fact wanted
+-- a fact is as it is wanted, if it is
+abbrev pub is_as_wanted : Option Bool → Bool → Bool
+is_as_wanted None fact = true
+is_as_wanted (Some wanted) fact = same_fact fact wanted
 
--- the entry of a register that is asked for
-abbrev pub asked_of : Register → Asked → Option Entry
-asked_of RegIn a = a.ins
-asked_of RegOut a = a.outs
-asked_of RegAudioIn a = a.ains
-asked_of RegAudioOut a = a.aouts
+-- the entry of a register that is wanted
+abbrev pub wanted_of : Register → Pattern → Option Entry
+wanted_of RegIn a = a.ins
+wanted_of RegOut a = a.outs
+wanted_of RegAudioIn a = a.ains
+wanted_of RegAudioOut a = a.aouts
 
-abbrev pub with_asked : Register → Option Entry → Asked → Asked
-with_asked RegIn o a = record a { ins = o }
-with_asked RegOut o a = record a { outs = o }
-with_asked RegAudioIn o a = record a { ains = o }
-with_asked RegAudioOut o a = record a { aouts = o }
+abbrev pub with_wanted : Register → Option Entry → Pattern → Pattern
+with_wanted RegIn o a = record a { ins = o }
+with_wanted RegOut o a = record a { outs = o }
+with_wanted RegAudioIn o a = record a { ains = o }
+with_wanted RegAudioOut o a = record a { aouts = o }
 
--- a state is one of those that are asked for
-pub record Fits (a : Asked) (d : State) : Type 0 where
+-- a state is one of those that are wanted
+pub record Fits (a : Pattern) (d : State) : Type 0 where
   pub goal : has a.goals.0 d.goal ≡ true
   pub shown : has a.shown.0 d.shown ≡ true
   pub ins : Is a.ins d.ins
@@ -48,7 +48,7 @@ pub record Fits (a : Asked) (d : State) : Type 0 where
   pub panel : Is a.panel d.panel
 
 -- the state alone
-abbrev pub just_state : State → Asked
+abbrev pub just_state : State → Pattern
 just_state t = record {
   goals = modes (bit_of t.goal);
   shown = modes (bit_of t.shown);
@@ -75,47 +75,47 @@ entry_before Reset (At t) = None
 entry_before Recall e = Some None
 
 -- the same, with any goal
-abbrev pub any_goal : State → Asked
+abbrev pub any_goal : State → Pattern
 any_goal t = record (just_state t) { goals = modes 0x3FF }
 
 -- any registers
-abbrev pub any_registers : Asked → Asked
+abbrev pub any_registers : Pattern → Pattern
 any_registers a = record a { ins = None; outs = None; ains = None; aouts = None }
 
 -- any tape: goal, shown mode and registers
-abbrev pub any_tape : Asked → Asked
+abbrev pub any_tape : Pattern → Pattern
 any_tape a = record (any_registers a) { goals = modes 0x3FF; shown = modes 0x3FF }
 
 -- the states that the effect leads to this one from
-abbrev pub asked_before : Hands → Effect → State → Option Asked
-asked_before h effect.Nothing t = Some (just_state t)
-asked_before h (effect.Go g) t = if is_mode t.goal g then Some (any_goal t) else None
-asked_before h effect.KeepOrStop t = Some (if is_mode t.goal mode.Stop then any_goal t else just_state t)
-asked_before h (effect.Change r c) t = option_map (λ o. with_asked r o (just_state t)) (entry_before c (entry_of r t))
-asked_before hands.None (effect.Panel on) t = Some (just_state t)
-asked_before hands.Allowed (effect.Panel on) t = if same_fact t.panel on then Some (record (just_state t) { panel = None }) else None
-asked_before h effect.ForgetTape t = Some (any_tape (just_state t))
-asked_before h effect.ForgetRegisters t = Some (any_registers (just_state t))
-asked_before hands.None effect.ForgetAll t = Some (record (any_tape (just_state t)) { local = None })
-asked_before hands.Allowed effect.ForgetAll t = Some (record (any_tape (just_state t)) { local = None; panel = None })
+abbrev pub pattern_before : Hands → Effect → State → Option Pattern
+pattern_before h effect.Nothing t = Some (just_state t)
+pattern_before h (effect.Go g) t = if is_mode t.goal g then Some (any_goal t) else None
+pattern_before h effect.KeepOrStop t = Some (if is_mode t.goal mode.Stop then any_goal t else just_state t)
+pattern_before h (effect.Change r c) t = option_map (λ o. with_wanted r o (just_state t)) (entry_before c (entry_of r t))
+pattern_before hands.None (effect.Panel on) t = Some (just_state t)
+pattern_before hands.Allowed (effect.Panel on) t = if same_fact t.panel on then Some (record (just_state t) { panel = None }) else None
+pattern_before h effect.ForgetTape t = Some (any_tape (just_state t))
+pattern_before h effect.ForgetRegisters t = Some (any_registers (just_state t))
+pattern_before hands.None effect.ForgetAll t = Some (record (any_tape (just_state t)) { local = None })
+pattern_before hands.Allowed effect.ForgetAll t = Some (record (any_tape (just_state t)) { local = None; panel = None })
 
--- a deck in this state may have left the command undone
+-- a deck in this state may have ignored the command
 abbrev pub IsUndone : Command → State → Type 0
 IsUndone c t = (may_ignore c ≡ true) × (t.local ≡ true)
 
 -- ---- a drift before
 
--- a drift leads from the state to one of those that are asked for
-abbrev pub LeadsTo : Hands → Asked → State → Type 0
+-- a drift leads from the state to one of those that are wanted
+abbrev pub LeadsTo : Hands → Pattern → State → Type 0
 LeadsTo h a s = (d : State) × Drift h s d × Fits a d
 
 -- a drift of the mechanics does
-abbrev pub RunsTo : Asked → State → Type 0
+abbrev pub RunsTo : Pattern → State → Type 0
 RunsTo a s = (d : State) × KeepsRest s d × PairReaches s.goal s.shown d.goal d.shown × Fits a d
 
--- a state of the day is asked for
-abbrev pub IsAsked : Asked → Type 0
-IsAsked a = (d : State) × IsState d × Fits a d
+-- a state of the day is wanted
+abbrev pub IsPattern : Pattern → Type 0
+IsPattern a = (d : State) × IsState d × Fits a d
 
 -- a pair from which a drift of the mechanics reaches one of these goals with one of these modes shown
 abbrev pub PairRunsTo : ModeSet → ModeSet → Mode → Mode → Type 0
