@@ -34,7 +34,7 @@ put_each P RegAudioIn es p e s old new RegAudioIn = new
 put_each P RegAudioOut es p e s old new RegAudioOut = new
 put_each P _ es p e s old new q = old q
 
--- the same of entries alone
+-- entries alone, taken in this way
 pub each_put : (P : Register → Entries → Type 0) (r : Register) (es : Entries) (p : Part) → ((q : Register) → P q (entries_of q p)) → P r es → (q : Register)
     → P q (entries_of q (with_entries r es p))
 each_put P r es p old new =
@@ -213,7 +213,7 @@ part_whole v whole l pn = whole_in (two_of v pn) (whole_of v whole pn) l
 abbrev pub FewTimes : ℕ → Entries → Type 0
 FewTimes n es = begin_count es.times ≤ n + 1
 
--- the same of each register of a part
+-- each register of a part, taken in this way
 abbrev pub FewIn : Presets → Part → Type 0
 FewIn n p = (r : Register) → FewTimes (count_of r n) (entries_of r p)
 

@@ -191,7 +191,7 @@ impl<S: TimeSet> Entries<S> {
         Ok(())
     }
 
-    /// The same in a set of its own.
+    /// The entries after a change, with those before it, in a set of its own.
     pub(crate) fn widened(&self, alloc: Global, change: &Change) -> Result<Entries<S>, AllocError>
         ensures { IfOk result (λ r. r ≡ widened change.now self.now) }
     {

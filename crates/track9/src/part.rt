@@ -248,7 +248,7 @@ impl<S: TimeSet> Part<S> {
         }
     }
 
-    /// The same, and lets go of everything where they are none.
+    /// Puts a register's entries in place that were made aside, and lets go of everything where they are none.
     pub(crate) fn put_settled(
         &mut self,
         alloc: Global,

@@ -136,7 +136,7 @@ impl<S: TimeSet> States<S> {
         }
     }
 
-    /// The same where hands are allowed.
+    /// The states after a command, where hands are allowed.
     fn take_by_hand(
         &mut self,
         alloc: Global,
@@ -178,7 +178,7 @@ impl<S: TimeSet> States<S> {
         }
     }
 
-    /// The same where hands are allowed.
+    /// The states after a drift, where hands are allowed.
     fn drift_by_hand(&mut self, alloc: Global) -> Result<(), AllocError>
         ensures ok { OnOk result (self.new ≡ all_drifted self.old) }
         ensures err { OnErr result (self.new ≡ self.old) }

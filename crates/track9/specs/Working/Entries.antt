@@ -23,7 +23,7 @@ changed Prev es = entries es.may_clear (image prev_frame es.times)
 changed Reset es = entries true set.empty
 changed Recall es = entries true every_time
 
--- the same, where the deck may also leave the register as it is
+-- the entries after a change that the deck may also ignore
 abbrev pub widened : Change → Entries → Entries
 widened SetSomewhere es = entries es.may_clear every_time
 widened (SetAt t) es = entries es.may_clear (set.insert es.times t)

@@ -68,7 +68,7 @@ changed_part may_stay r c p = with_entries r (changed_entries may_stay c (entrie
 abbrev pub sensed_part : Register → Option ℕ → Part → Part
 sensed_part r time p = settled (with_entries r (agreeing time (entries_of r p)) p)
 
--- ---- the same in two moves: what may need memory is made aside, and then put in place
+-- ---- changes in two moves: what may need memory is made aside, and then put in place
 
 -- something where the part has states
 abbrev pub aside : {A : Type 0} → Part → A → Option A
@@ -79,7 +79,7 @@ abbrev pub put_aside : Register → Option Entries → Part → Part
 put_aside r None p = p
 put_aside r (Some es) p = with_entries r es p
 
--- the same, and no state where they are none
+-- entries that were made aside, in place, and no state where they are none
 abbrev pub put_settled : Register → Option Entries → Part → Part
 put_settled r None p = p
 put_settled r (Some es) p = settled (with_entries r es p)
@@ -100,7 +100,7 @@ set_part set p = record p {
   aouts = set_entries set.aouts p.aouts;
 }
 
--- the same, where they are reported
+-- the registers as they are reported, where they are
 abbrev pub set_where : Option RegistersSet → Part → Part
 set_where None p = p
 set_where (Some set) p = set_part set p

@@ -74,7 +74,7 @@ entry_before Reset Clear = Some None
 entry_before Reset (At t) = None
 entry_before Recall e = Some None
 
--- the same, with any goal
+-- the state with any goal
 abbrev pub any_goal : State → Pattern
 any_goal t = record (just_state t) { goals = modes 0x3FF }
 

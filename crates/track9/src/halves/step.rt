@@ -32,7 +32,7 @@ impl<S: TimeSet> Halves<S> {
         }
     }
 
-    /// The same where the reply is known.
+    /// The states after a command whose reply is known.
     fn exchange(
         &mut self,
         alloc: Global,
@@ -66,7 +66,7 @@ impl<S: TimeSet> Halves<S> {
         Ok(())
     }
 
-    /// The same where it is not known.
+    /// The states after a command whose reply is not known.
     fn pass(&mut self, alloc: Global, command: &Command) -> Result<(), AllocError>
         requires { TwoWhole self.old }
         ensures ok { OnOk result (Taken command.now None self.old self.new) }
