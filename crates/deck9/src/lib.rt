@@ -2,9 +2,9 @@
 //!
 //! A [`State`] is the mode that the deck's mechanics go for, the mode that it shows, four registers, and whether it is in
 //! local and its panel is on. It drifts between two exchanges; a command has an [`Effect`] on it, and a reply shows some of
-//! it ([`Sense`], [`Status`]); and a run is a list of states that drifts and steps lead through. [`is_run`] says whether given states are
-//! those of a run: a second opinion on the sets of states of the crate `track9`, of which nothing is known here. The module
-//! [`laws`] shows that the definitions of all this mean what was meant.
+//! it ([`Sense`], [`Status`]); and a run is a list of states that drifts and steps lead through. [`is_run`] says whether
+//! given states are those of a run: a second opinion on the sets of states of the crate `track9`, of which nothing is known
+//! here. The module [`laws`] shows that the definitions of all this mean what was meant.
 //!
 //! What is known of a deck that could be in any of many states is told by a [`Knowledge`], and which modes it may show by a
 //! [`ModeSet`].
