@@ -105,7 +105,7 @@ change_exactly r None t d = (λ f. absurd f, λ w. absurd w.0)
 change_exactly RegIn (Some o) t d = (λ f. search (rules, same_state, just_mode), λ (i, e). rw e (search (rules, mode_just)))
 change_exactly _ (Some o) t d = (λ f. search (rules, same_state, just_mode), λ (i, e). rw e (search (rules, mode_just)))
 
-same_facts : (a b : Bool) → (same_fact a b ≡ true) ↔ (a ≡ b)
+pub same_facts : (a b : Bool) → (same_fact a b ≡ true) ↔ (a ≡ b)
 same_facts true true = (λ h. refl, λ e. refl)
 same_facts false false = (λ h. refl, λ e. refl)
 same_facts _ _ = (λ h. absurd (false≢true h), λ e. cc)

@@ -5,4 +5,5 @@ pub mod KnownLemmas
 pub mod OneKnowledge
 pub mod PanelLemmas
 pub mod PartLemmas
+pub mod StartLemmas
 pub mod Words

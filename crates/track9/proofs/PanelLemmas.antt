@@ -4,7 +4,7 @@ use Rattle.track9.proofs.Words.{CanPass, Command, cond_both, counted, counts_aft
 use Rattle.track9.proofs.Words.{false, false≢true, first_states, Follows, FollowsDrift, goes, Hands, hands_by, hands_of, has, HasEffect, if◌then◌else◌}
 use Rattle.track9.proofs.Words.{ignored, in_local, inl, InPart, inr, InTwo, is_nak, is_of_goal_or_register, is_panel_live, is_wide, IsIn, IsKept, IsState}
 use Rattle.track9.proofs.Words.{LeadsOn, None, on_two, Option, or-true, panel_passed, Possible, Presets, presets_after, read_panel, refl, refused, RegIn}
-use Rattle.track9.proofs.Words.{Register, sense_of, Some, some_state, State, States, DeckStep, subst, switched, sym, Taken, Takes, true, two_drifted, two_of, TwoBelow, TwoFew, Halves}
+use Rattle.track9.proofs.Words.{Register, sense_of, Some, some_state, State, States, DeckStep, subst, switched, sym, Taken, StepOrPass, true, two_drifted, two_of, TwoBelow, TwoFew, Halves}
 use Rattle.track9.proofs.Words.{TwoWhole, with_command, ◌↔◌, ◌∙◌, ◌≡◌, ◌⊎◌}
 use Rattle.deck9.specs.declared.effect.Effect.TheVariants as effect
 use Rattle.deck9.specs.declared.sense.Sense.TheVariants as sense
@@ -16,10 +16,10 @@ use Rattle.track9.proofs.PartLemmas.{off_drift, possible_state, same_drift, some
 
 -- ---- where hands are not allowed
 
-pub take_panel : (c : Command) (reply : Option Block) (s t : State) → DriftsAndGoes (Takes c reply) hands.None s t → t.panel ≡ s.panel
+pub take_panel : (c : Command) (reply : Option Block) (s t : State) → DriftsAndGoes (StepOrPass c reply) hands.None s t → t.panel ≡ s.panel
 take_panel c reply s t (d, drift, takes) = by reply takes ∙ drift_panel hands.None s d drift
   where
-    by : (reply : Option Block) → Takes c reply hands.None d t → t.panel ≡ d.panel
+    by : (reply : Option Block) → StepOrPass c reply hands.None d t → t.panel ≡ d.panel
     by None (inl same) = ap (λ (u : State). u.panel) same
     by None (inr does) = (does_keep true (effect_of c) d t (inl does)).0
     by (Some reply) (refused nak e) = rw e
@@ -64,10 +64,10 @@ does_same h k (effect.Panel on) s t narrow d = absurd (false≢true (sym narrow)
 does_same h k effect.ForgetAll s t narrow d = absurd (false≢true (sym narrow))
 does_same h k _ s t narrow d = d
 
-pub narrow_take : (c : Command) (reply : Option Block) → is_wide (effect_taken c reply) ≡ false → IsNarrow (Takes c reply)
+pub narrow_take : (c : Command) (reply : Option Block) → is_wide (effect_taken c reply) ≡ false → IsNarrow (StepOrPass c reply)
 narrow_take c reply narrow = record { same = λ h k s t. same h k s t reply narrow; panel = take_panel c reply }
   where
-    same : (h k : Hands) (s t : State) (reply : Option Block) → is_wide (effect_taken c reply) ≡ false → Takes c reply h s t → Takes c reply k s t
+    same : (h k : Hands) (s t : State) (reply : Option Block) → is_wide (effect_taken c reply) ≡ false → StepOrPass c reply h s t → StepOrPass c reply k s t
     same h k s t None narrow (inl e) = inl e
     same h k s t None narrow (inr does) = inr (does_same h k (effect_of c) s t narrow does)
     same h k s t (Some reply) narrow (refused nak e) = refused nak e
@@ -349,7 +349,7 @@ passed_panel c on v is whole below = let keeps = by on in record {
 pub follows_forget : (c : Command) (reply : Option Block) (v : States) → effect_taken c reply ≡ effect.ForgetAll → hands_of v ≡ hands.Allowed → AreWhole v
     → AreBelow v
     → Follows hands.Allowed c reply v (if some_state v then first_states hands.Allowed else v)
-follows_forget c None v is allowed whole below = leads_forgotten (DriftsAndGoes (Takes c None) hands.Allowed) (counts_after c None) v allowed whole
+follows_forget c None v is allowed whole below = leads_forgotten (DriftsAndGoes (StepOrPass c None) hands.Allowed) (counts_after c None) v allowed whole
     (λ s t valid. (s, ([], refl), inr (rw is valid)))
     (λ s t i (d, drift, can). elim can [
       | inl e ↦ subst IsState (sym e) (drift_state hands.Allowed s d (possible_state v s below i) drift)
@@ -358,5 +358,5 @@ follows_forget c None v is allowed whole below = leads_forgotten (DriftsAndGoes 
     ])
     (λ n. command_counts c n ∙ ap (λ e. counted e n) is)
 follows_forget c (Some reply) v was allowed whole below = let w = wide_step c reply effect.ForgetAll was refl in
-    leads_forgotten (DriftsAndGoes (Takes c (Some reply)) hands.Allowed) (counts_after c (Some reply)) v allowed whole
+    leads_forgotten (DriftsAndGoes (StepOrPass c (Some reply)) hands.Allowed) (counts_after c (Some reply)) v allowed whole
     (λ s t valid. (s, ([], refl), (w.0 s t).1 valid)) (λ s t i goes. (w.0 goes.0 t).0 goes.2) (λ n. w.1 n refl)

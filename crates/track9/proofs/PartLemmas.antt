@@ -109,7 +109,7 @@ a_state p l pn whole live =
 
 -- ---- every state, and none
 
-entry_exactly : (e : Entry) → Allows all_entries e ↔ IsEntry e
+pub entry_exactly : (e : Entry) → Allows all_entries e ↔ IsEntry e
 entry_exactly Clear = (λ h. tt, λ h. refl)
 entry_exactly (At t) = (in_day t, day_in t)
 

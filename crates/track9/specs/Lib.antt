@@ -1,4 +1,5 @@
 pub mod Frugal
 pub mod Presets
+pub mod Start
 pub mod Tracker
 pub mod Working

@@ -7,4 +7,5 @@ pub mod Entries
 pub mod Knowing
 pub mod Pairs
 pub mod Parts
+pub mod Starts
 pub mod States

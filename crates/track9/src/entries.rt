@@ -4,6 +4,7 @@ ghost use Rattle.sets25.specs.Times.{BelowDay, span_count};
 ghost use Rattle.track9.specs.Tracker.{Allows};
 ghost use Rattle.track9.specs.Working.Pattern.{Is};
 ghost use Rattle.track9.specs.Working.Knowing.{KnowsOf};
+ghost use Rattle.track9.specs.Working.Starts.{entries_known};
 ghost use Rattle.track9.specs.Working.Entries.{agreeing, all_entries, changed, no_entries, set_entries, some_entry, widened};
 ghost use Rattle.deck9.specs.declared.state.Entry.{Entry as AEntry};
 
@@ -54,6 +55,26 @@ impl<S: TimeSet> Entries<S> {
             may_clear: true,
             times: S::all(alloc)?,
         })
+    }
+
+    /// The entry that is known, or every one where none is.
+    pub(crate) fn known_to_be(
+        alloc: Global,
+        known: &Option<Entry>,
+    ) -> Result<Entries<S>, AllocError>
+        ensures { IfOk result (λ r. r ≡ entries_known known.now) }
+    {
+        match known {
+            Some(Entry::Clear) => Ok(Entries {
+                may_clear: true,
+                times: S::none(alloc),
+            }),
+            Some(Entry::At(time)) => Ok(Entries {
+                may_clear: false,
+                times: S::one(alloc, *time)?,
+            }),
+            None => Entries::all(alloc),
+        }
     }
 
     /// An equal set.

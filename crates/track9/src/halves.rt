@@ -8,9 +8,12 @@
 ghost use Rattle.std.specs.Prelude.{◌≡◌, IfOk, OnErr, OnOk, false, max};
 ghost use Rattle.sets25.specs.Times.{BelowDay, span_count};
 ghost use Rattle.track9.specs.Tracker.{entries_of, in_local};
+ghost use Rattle.track9.specs.Working.Starts.{part_from, two_from};
 ghost use Rattle.track9.specs.Working.States.{TwoBelow, all_forgotten, all_or_none, registers_forgotten, some_two, tape_forgotten, two_changed, two_drifted, two_gone, two_sensed, two_status};
 
 use crate::part::Part;
+use crate::pattern::is_wanted;
+use crate::start::Start;
 use deck9::{Change, Mode, Register, Status};
 use sets25::{SpanSet, TimeSet};
 use std::alloc::{AllocError, Global};
@@ -59,6 +62,16 @@ impl<S: TimeSet> Halves<S> {
         Ok(Halves {
             remote: Part::all(alloc)?,
             local: Part::all(alloc)?,
+        })
+    }
+
+    /// The states with what is known.
+    pub(crate) fn known_to_be(alloc: Global, start: &Start) -> Result<Halves<S>, AllocError>
+        ensures { IfOk result (λ h. h ≡ two_from start.now) }
+    {
+        Ok(Halves {
+            remote: part_from(alloc, start, false)?,
+            local: part_from(alloc, start, true)?,
         })
     }
 
@@ -199,6 +212,17 @@ impl<S: TimeSet> Halves<S> {
             drop(replace(self, all));
         }
         Ok(())
+    }
+}
+
+/// The states with what is known and with this value of local: none where another is known.
+fn part_from<S: TimeSet>(alloc: Global, start: &Start, local: bool) -> Result<Part<S>, AllocError>
+    ensures { IfOk result (λ p. p ≡ part_from start.now local) }
+{
+    if is_wanted(start.local, local) {
+        Part::known_to_be(alloc, start)
+    } else {
+        Ok(Part::none(alloc))
     }
 }
 

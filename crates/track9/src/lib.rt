@@ -11,7 +11,9 @@ mod pairs;
 mod part;
 mod pattern;
 mod presets;
+mod start;
 mod states;
 mod tracker;
 
+pub use start::Start;
 pub use tracker::Tracker;

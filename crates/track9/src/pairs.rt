@@ -5,6 +5,7 @@ ghost use Rattle.deck9.specs.ModeSet.{has};
 ghost use Rattle.track9.specs.Tracker.{has_pair, shown_with};
 ghost use Rattle.track9.specs.Working.Pattern.{IsPairOf, PairRunsTo};
 ghost use Rattle.deck9.specs.ModeCalls.{is_some};
+ghost use Rattle.track9.specs.Working.Starts.{pairs_of, shown_if};
 ghost use Rattle.track9.specs.Working.Pairs.{all_pairs, drifted, drifted_with, goes, gone, gone_with, goal_if_shown, goals_of, joined, masked, no_pairs, some_pair};
 ghost use Rattle.deck9.specs.declared.mode.Mode.{Mode as AMode};
 
@@ -34,6 +35,24 @@ impl Pairs {
         ensures { result.0 ≡ all_pairs }
     {
         Pairs([ModeSet::ALL; 10])
+    }
+
+    /// Each of these goals with each of these modes shown.
+    pub(crate) fn of(goals: ModeSet, shown: ModeSet) -> Pairs
+        ensures { result.0 ≡ pairs_of goals shown }
+    {
+        Pairs([
+            shown_if(goals, shown, Mode::Stop),
+            shown_if(goals, shown, Mode::Play),
+            shown_if(goals, shown, Mode::Rec),
+            shown_if(goals, shown, Mode::FastForward),
+            shown_if(goals, shown, Mode::Rewind),
+            shown_if(goals, shown, Mode::Shuttle),
+            shown_if(goals, shown, Mode::Jog),
+            shown_if(goals, shown, Mode::Var),
+            shown_if(goals, shown, Mode::Cued),
+            shown_if(goals, shown, Mode::Eject),
+        ])
     }
 
     /// The modes that may be shown with a goal.
@@ -212,5 +231,16 @@ impl Pairs {
             only(i),
             only(j),
         ])
+    }
+}
+
+/// These modes, where the goal is one of those.
+fn shown_if(goals: ModeSet, shown: ModeSet, goal: Mode) -> ModeSet
+    ensures { result ≡ shown_if goals shown goal }
+{
+    if goals.has(goal) {
+        shown
+    } else {
+        ModeSet::NONE
     }
 }

@@ -4,13 +4,15 @@ ghost use Rattle.sets25.specs.Times.{BelowDay, span_count};
 ghost use Rattle.track9.specs.Tracker.{entries_of};
 ghost use Rattle.track9.specs.Working.Entries.{agreeing};
 ghost use Rattle.track9.specs.Working.Knowing.{PartKnows};
+ghost use Rattle.track9.specs.Working.Starts.{modes_known, part_known};
 ghost use Rattle.track9.specs.Working.Parts.{Whole, all_states, aside, changed_entries, changed_part, drifted_part, forgotten_part, gone_part, is_live, no_states, put_aside, put_settled, reported_part, set_part, settled, status_part, where_live, with_entries, with_pairs};
 ghost use Rattle.deck9.specs.declared.state.Register.{Register as ARegister};
 
 use crate::entries::Entries;
 use crate::pairs::Pairs;
 use crate::pattern::is_wanted;
-use deck9::{Change, KnownEntry, Mode, Register, RegistersSet, Status};
+use crate::start::Start;
+use deck9::{Change, KnownEntry, Mode, ModeSet, Register, RegistersSet, Status};
 use sets25::{SpanSet, TimeSet};
 use std::alloc::{AllocError, Global};
 use std::marker::Model;
@@ -70,6 +72,19 @@ impl<S: TimeSet> Part<S> {
             outs: Entries::all(alloc)?,
             ains: Entries::all(alloc)?,
             aouts: Entries::all(alloc)?,
+        })
+    }
+
+    /// The states with what is known, whatever their local.
+    pub(crate) fn known_to_be(alloc: Global, start: &Start) -> Result<Part<S>, AllocError>
+        ensures { IfOk result (λ p. p ≡ part_known start.now) }
+    {
+        Ok(Part {
+            pairs: Pairs::of(known_modes(start.goal), known_modes(start.shown)),
+            ins: Entries::known_to_be(alloc, &start.ins)?,
+            outs: Entries::known_to_be(alloc, &start.outs)?,
+            ains: Entries::known_to_be(alloc, &start.ains)?,
+            aouts: Entries::known_to_be(alloc, &start.aouts)?,
         })
     }
 
@@ -319,6 +334,16 @@ impl<S: TimeSet> Part<S> {
         self.outs.keep_set(alloc, set.outs);
         self.ains.keep_set(alloc, set.ains);
         self.aouts.keep_set(alloc, set.aouts);
+    }
+}
+
+/// The mode that is known, or every one where none is.
+fn known_modes(known: Option<Mode>) -> ModeSet
+    ensures { result ≡ modes_known known }
+{
+    match known {
+        Some(mode) => ModeSet::just(mode),
+        None => ModeSet::ALL,
     }
 }
 

@@ -9,9 +9,11 @@
 ghost use Rattle.std.specs.Prelude.{◌≡◌, IfOk, IsOk, IsTrue, OnErr, OnOk, false, if◌then◌else◌, max, option_map, true};
 ghost use Rattle.sets25.specs.Times.{span_count};
 ghost use Rattle.track9.specs.Tracker.{entries_of};
+ghost use Rattle.track9.specs.Working.Starts.{states_from};
 ghost use Rattle.track9.specs.Working.States.{AreBelow, AreWhole, Follows, FollowsDrift, Taken, after_panel, all_drifted, all_or_none, effect_taken, either_panel, first_states, hands_of, is_frugal_taken, is_panel_live, is_wide, panel_passed, part_of, some_state};
 
 use crate::halves::Halves;
+use crate::start::Start;
 use block9::{Block, Command};
 use deck9::{Effect, Hands, Register};
 use sets25::{SpanSet, TimeSet};
@@ -57,6 +59,16 @@ impl<S: TimeSet> States<S> {
                 }
             },
         }
+    }
+
+    /// The states with what is known before a capture in which nobody touches the panel.
+    pub(crate) fn known_to_be(alloc: Global, start: &Start) -> Result<States<S>, AllocError>
+        ensures { IfOk result (λ v. v ≡ states_from start.now) }
+    {
+        Ok(States {
+            off: Halves::known_to_be(alloc, start)?,
+            on: None,
+        })
     }
 
     /// An equal set.

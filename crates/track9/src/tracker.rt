@@ -9,12 +9,14 @@ ghost use Rattle.deck9.specs.Drift.{Drift};
 ghost use Rattle.deck9.specs.Effect.{effect_of};
 ghost use Rattle.deck9.specs.State.{IsFirst};
 ghost use Rattle.deck9.specs.Step.{AreReached, Exchanges};
+ghost use Rattle.track9.specs.Start.{StartsFrom};
 ghost use Rattle.track9.specs.Tracker.{Possible};
 ghost use Rattle.deck9.specs.declared.mode.Mode.{Mode as AMode};
 ghost use Rattle.deck9.specs.declared.state.Register.{Register as ARegister};
 ghost use Rattle.deck9.specs.declared.state.State.{State as AState};
 
 use crate::presets::Presets;
+use crate::start::Start;
 use crate::states::States;
 use block9::{Block, Command};
 use deck9::{Hands, Knowledge, ModeSet, Register, State};
@@ -61,6 +63,24 @@ impl<S: TimeSet> Tracker<S> {
     {
         Ok(Tracker {
             states: States::first(alloc, hands)?,
+            presets: Presets::none(),
+            alloc,
+        })
+    }
+
+    /// A tracker before the first exchange of a deck that nobody touches and of which some fields are known: every state
+    /// that has these is possible, with the panel off.
+    ///
+    /// An error comes where memory is refused.
+    pub fn starting(alloc: Global, start: &Start) -> Result<Self, AllocError>
+        ensures states { IfOk result (λ t. (s : AState) → Possible t.states s ↔ (IsFirst Hands.None s × StartsFrom start.now s)) }
+        ensures hands { IfOk result (λ t. t.hands ≡ Hands.None) }
+        ensures presets { IfOk result (λ t. (r : ARegister) → count_of r t.presets ≡ 0) }
+    {
+        let states = States::known_to_be(alloc, start)?;
+        states.below_day();
+        Ok(Tracker {
+            states,
             presets: Presets::none(),
             alloc,
         })

@@ -18,6 +18,7 @@ mod refused;
 mod rows;
 mod sent;
 mod side_by_side;
+mod starting;
 mod status;
 mod told;
 mod worked;

@@ -2,15 +2,11 @@
 use Rattle.std.specs.Prelude.{if◌then◌else◌, ◌==◌, ◌≡◌}
 use Rattle.track9.specs.Working.Deck.{Pattern, At, bit_of, Bool, Change, Clear, Command, Drift, Effect, Entry, entry_of, false, Hands, has, has_pair, is_mode, IsState, KeepsRest}
 use Rattle.track9.specs.Working.Deck.{List, may_ignore, Mode, modes, ModeSet, moved_entry, Next, next_frame, None, Option, option_map, Pair, PairReaches, Prev, prev_frame}
-use Rattle.track9.specs.Working.Deck.{Recall, RegAudioIn, RegAudioOut, RegIn, Register, RegOut, Reset, SetAt, SetSomewhere, Some, State, true, ⊤}
+use Rattle.track9.specs.Working.Deck.{Recall, RegAudioIn, RegAudioOut, RegIn, Register, RegOut, Reset, SetAt, SetSomewhere, Some, State, true}
 use Rattle.deck9.specs.declared.effect.Effect.TheVariants as effect
 use Rattle.deck9.specs.declared.mode.Mode.TheVariants as mode
 use Rattle.deck9.specs.declared.state.Hands.TheVariants as hands
-
--- nothing is wanted, or this
-abbrev pub Is : {A : Type 0} → Option A → A → Type 0
-Is None x = ⊤
-Is (Some y) x = x ≡ y
+pub use Rattle.track9.specs.Start.{Is}
 
 -- two facts are one
 abbrev pub same_fact : Bool → Bool → Bool

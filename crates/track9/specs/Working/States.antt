@@ -97,9 +97,9 @@ abbrev pub DriftsAndGoes : (Hands → State → State → Type 0) → Hands → 
 DriftsAndGoes Goes h s t = (d : State) × Drift h s d × Goes h d t
 
 -- what a command does after the drift: the step with its reply, or what it may do where that is not known
-abbrev pub Takes : Command → Option Block → Hands → State → State → Type 0
-Takes command None h s t = CanPass h command s t
-Takes command (Some reply) h s t = DeckStep h command reply s t
+abbrev pub StepOrPass : Command → Option Block → Hands → State → State → Type 0
+StepOrPass command None h s t = CanPass h command s t
+StepOrPass command (Some reply) h s t = DeckStep h command reply s t
 
 -- the counts after it
 abbrev pub counts_after : Command → Option Block → Presets → Presets
@@ -118,7 +118,7 @@ is_frugal_taken command (Some reply) = is_frugal command reply
 
 -- the states after it where nobody touches the panel
 abbrev pub Taken : Command → Option Block → Halves → Halves → Type 0
-Taken command reply h g = LeadsOn (DriftsAndGoes (Takes command reply) hands.None) (counts_after command reply) h g
+Taken command reply h g = LeadsOn (DriftsAndGoes (StepOrPass command reply) hands.None) (counts_after command reply) h g
 
 -- ---- all states
 
@@ -213,4 +213,4 @@ FollowsDrift h v w = AllLeadOn h (Drift h) (λ n. n) v w
 
 -- the states after a command
 abbrev pub Follows : Hands → Command → Option Block → States → States → Type 0
-Follows h command reply v w = AllLeadOn h (DriftsAndGoes (Takes command reply) h) (counts_after command reply) v w
+Follows h command reply v w = AllLeadOn h (DriftsAndGoes (StepOrPass command reply) h) (counts_after command reply) v w

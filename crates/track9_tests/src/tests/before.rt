@@ -29,7 +29,7 @@ const ROWS: &[Row] = &[
         in_frames: 900_001,
         is_reached: true,
     },
-    // A deck in remote does what it acknowledges.
+    // A deck in REMOTE does what it acknowledges.
     Row {
         sent: IN_SHIFTED_ON,
         goal: Mode::Play,

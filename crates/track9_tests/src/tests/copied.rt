@@ -47,7 +47,7 @@ const ROWS: &[Row] = &[
         asked: SHOWS_RECORD,
         remains: false,
     },
-    // The snapshot of a deck in local may turn out to be in local, whatever the tracker was told.
+    // The snapshot of a deck in LOCAL may turn out to be in LOCAL, whatever the tracker was told.
     Row {
         hands: Hands::None,
         before: &[],

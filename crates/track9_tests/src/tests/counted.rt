@@ -44,7 +44,7 @@ pub(super) const ROWS: &[Row] = &[
     // A preset that got a NAK does not count, nor one that leaves no state.
     (&[REMOTE, PRESET_10, (IN_PRESET_12, NAK)], (1, 1), (1, 0)),
     (&[REMOTE, PRESET_10, PRESET_10], (1, 2), (1, 0)),
-    // A deck in local keeps each time that it may have left; what turns out to be in remote keeps one.
+    // A deck in LOCAL keeps each time that it may have left; what turns out to be in REMOTE keeps one.
     (&[SENSED_10, PRESET_12], (2, 1), (1, 0)),
     (&[SENSED_10, PRESET_12, LOCAL], (2, 1), (1, 0)),
     (&[SENSED_10, PRESET_12, REMOTE], (1, 1), (1, 0)),

@@ -12,7 +12,7 @@ const OUT_RESET: Sent = (&[0x40, 0x21, 0x61], ACK);
 
 const AUDIO_OUT_RESET: Sent = (&[0x40, 0x23, 0x63], ACK);
 
-/// Exchanges that leave one state alone: a deck in remote that plays, with IN and audio IN at 10:00:00:00.
+/// Exchanges that leave one state alone: a deck in REMOTE that plays, with IN and audio IN at 10:00:00:00.
 pub(super) const ONE_STATE: &[Sent] = &[
     REMOTE,
     PRESET_10,
@@ -62,7 +62,7 @@ const ROWS: &[Row] = &[
         hands: Hands::Allowed,
         exchanges: &[
             PANEL_ON,
-            // The deck says that it is in remote and winds back, and that no register is Set.
+            // The deck says that it is in REMOTE and winds back, and that no register is Set.
             (
                 &[0x61, 0x20, 0x04, 0x85],
                 &[0x74, 0x20, 0x00, 0x08, 0x00, 0x00, 0x9C],

@@ -1,4 +1,4 @@
-//! Trackers that no state is left to. With memory at hand they answer false to every exchange, and no want of memory.
+//! Trackers that no state is left to. With memory at hand they answer false to every exchange, and never out of memory.
 
 use super::sent::*;
 use super::*;

@@ -24,7 +24,7 @@ type Learnt = (Taken, &'static str);
 /// IN DATA PRESET 11:00:00:00.
 const PRESET_11: Sent = (IN_PRESET_11, ACK);
 
-/// A deck in remote too may have left a passed preset undone.
+/// A deck in REMOTE too may have left a passed preset undone.
 const PRESET: &[Learnt] = &[
     (Exchange(REMOTE), "local no, panel off"),
     (Exchange(PRESET_10), "in 10:00:00:00, local no, panel off"),

@@ -8,9 +8,9 @@ pub(super) type Row = (&'static [Sent], bool);
 /// An IN DATA reply of 10:00:00:00 with flag bits.
 const SENSED_10_FLAGGED: Sent = (IN_SENSE, &[0x74, 0x10, 0xC0, 0x80, 0x80, 0xD0, 0x14]);
 
-/// Registers: what a deck in remote holds, and what a deck in local may have left undone.
+/// Registers: what a deck in REMOTE holds, and what a deck in LOCAL may have left undone.
 pub(super) const REGISTERS: &[Row] = &[
-    // A deck in remote enters one time, which nobody knows; one in local may have left it.
+    // A deck in REMOTE enters one time, which nobody knows; one in LOCAL may have left it.
     (&[IN_ENTERED, SENSED_5, SENSED_5], true),
     (
         &[
@@ -54,7 +54,7 @@ pub(super) const REGISTERS: &[Row] = &[
     (&[REMOTE, PRESET_10, IN_RECALLED, NONE_SET], true),
     (&[REMOTE, PRESET_10, NONE_SET], false),
     (&[REMOTE, PRESET_10, SENSED_10_FLAGGED], true),
-    // A preset that was left undone tells that the deck is in local.
+    // A preset that was left undone tells that the deck is in LOCAL.
     (
         &[
             PRESET_10,
@@ -76,7 +76,7 @@ pub(super) const REGISTERS: &[Row] = &[
     (&[REMOTE, PRESET_10, (IN_PRESET_11, NAK), SENSED_11], false),
 ];
 
-/// Shifts, round midnight and in local.
+/// Shifts, round midnight and in LOCAL.
 pub(super) const SHIFTS: &[Row] = &[
     (
         &[
@@ -89,7 +89,7 @@ pub(super) const SHIFTS: &[Row] = &[
     ),
     (&[REMOTE, PRESET_LAST, IN_SHIFTED_ON, SENSED_LAST], false),
     (&[REMOTE, PRESET_0, IN_SHIFTED_BACK, SENSED_LAST], true),
-    // Of three shifts a deck in local may do any number.
+    // Of three shifts a deck in LOCAL may do any number.
     (
         &[
             LOCAL_WITH_IN,
@@ -152,7 +152,7 @@ pub(super) const TRANSPORT: &[Row] = &[
     // A deck without a cassette may clear every bit of motion.
     (&[REMOTE, EJECTED, SHOWS_NOTHING], true),
     (&[REMOTE, PLAYED, SHOWS_STOP, SHOWS_PLAY, SHOWS_STOP], true),
-    // PLAY is no step to EJECT; a deck in local that was playing may go on.
+    // PLAY is no step to EJECT; a deck in LOCAL that was playing may go on.
     (
         &[REMOTE, SHOWS_PLAY, EJECTED, SHOWS_STOP, SHOWS_PLAY],
         false,
@@ -202,7 +202,7 @@ pub(super) const FORGOTTEN: &[Row] = &[
     ),
     (&[REMOTE, PRESET_10, UNLISTED_2, SENSED_11], true),
     (&[REMOTE, UNLISTED_2, LOCAL], false),
-    // Group 4: the registers alone, also in local, whatever the reply.
+    // Group 4: the registers alone, also in LOCAL, whatever the reply.
     (
         &[
             LOCAL,

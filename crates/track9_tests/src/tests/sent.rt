@@ -82,11 +82,11 @@ pub(super) const STATUS_0: &[u8] = &[0x61, 0x20, 0x01, 0x82];
 pub(super) const STATUS_1_2: &[u8] = &[0x61, 0x20, 0x12, 0x93];
 /// STATUS SENSE of datum 3.
 pub(super) const STATUS_3: &[u8] = &[0x61, 0x20, 0x31, 0xB2];
-/// The deck says that it is not in local.
+/// The deck says that it is not in LOCAL.
 pub(super) const REMOTE: Sent = (STATUS_0, &[0x71, 0x20, 0x00, 0x91]);
-/// The deck says that it is in local.
+/// The deck says that it is in LOCAL.
 pub(super) const LOCAL: Sent = (STATUS_0, &[0x71, 0x20, 0x01, 0x92]);
-/// The deck says that it is in local and shows STOP, and that IN alone is Set.
+/// The deck says that it is in LOCAL and shows STOP, and that IN alone is Set.
 pub(super) const LOCAL_WITH_IN: Sent = (
     &[0x61, 0x20, 0x04, 0x85],
     &[0x74, 0x20, 0x01, 0x20, 0x00, 0x01, 0xB6],

@@ -96,7 +96,7 @@ impl Run {
         }
     }
 
-    /// Whether the command is left undone: it was not acknowledged, or the deck is in local.
+    /// Whether the command is left undone: it was not acknowledged, or the deck is in LOCAL.
     fn leaves(&mut self, command: &Command, reply: &Block) -> bool {
         let is_left = self.draw.one_in(2);
         NakBits::of(reply).is_some() || (is_left && self.state.local && is_free_in_local(command))

@@ -12,7 +12,7 @@ use std::test::Fail;
 use track9::Tracker;
 
 const RUNS: &[(Hands, &[Sent])] = &[
-    // A deck that may be in local.
+    // A deck that may be in LOCAL.
     (
         Hands::None,
         &[
@@ -26,7 +26,7 @@ const RUNS: &[(Hands, &[Sent])] = &[
             REMOTE,
         ],
     ),
-    // IN of a deck in remote.
+    // IN of a deck in REMOTE.
     (
         Hands::None,
         &[
@@ -49,7 +49,7 @@ const RUNS: &[(Hands, &[Sent])] = &[
             UNLISTED_0,
         ],
     ),
-    // Shifts in local.
+    // Shifts in LOCAL.
     (
         Hands::None,
         &[

@@ -61,7 +61,7 @@ impl Edges {
         }
     }
 
-    /// The places after a change, which a deck in local may have left.
+    /// The places after a change, which a deck in LOCAL may have left.
     fn changed(&self, register: Register, change: &Change) -> Places {
         let old = self.places(register);
         match change {

@@ -275,7 +275,7 @@ impl ListedDeck {
         Ok(())
     }
 
-    /// Does a small step in each of its ways; a deck in local may leave it.
+    /// Does a small step in each of its ways; a deck in LOCAL may leave it.
     fn step(&mut self, small: &Small, is_free: bool) -> Result<(), AllocError> {
         let mut after = vec![in self.alloc; false; self.states.len()]?;
         let mut reached = Vec::new(self.alloc);

@@ -107,7 +107,7 @@ pub(in crate::tests) fn forgets(command: &Command, hands: Hands, forgotten: &Sma
     }
 }
 
-/// Whether a deck in local may leave a command undone: a transport command, or one that changes a register.
+/// Whether a deck in LOCAL may ignore a command: a transport command, or one that changes a register.
 pub(in crate::tests) fn is_free_in_local(command: &Command) -> bool {
     goal_of(command).is_some()
         || change_of(command).is_some()

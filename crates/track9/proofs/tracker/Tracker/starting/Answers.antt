@@ -1,0 +1,8 @@
+use Rattle.track9.proofs.tracker.Tracker.starting.Goals as goal
+use Rattle.track9.proofs.StartLemmas.{start_exactly, start_kept}
+
+pub invariant_of-result : goal.invariant_of-result
+invariant_of-result g c = rw c.in_ok-states.ensures (start_kept c.args.start.now c.none.result)
+
+pub returns-clause-states : goal.returns-clause-states
+returns-clause-states g c = rw c.in_ok-states.ensures (λ s. start_exactly c.args.start.now s (rw (← c.in_ok-states.ensures) c.below_day.ensures))
