@@ -18,6 +18,7 @@ mod rules;
 
 pub use block::Block;
 pub use command::Command;
+pub use line::byte_sum;
 pub use nak::NakBits;
 pub use pairer::{Exchange, Pairer, Step};
 pub use reason::Reason;

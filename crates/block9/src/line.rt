@@ -46,7 +46,7 @@ pub(crate) fn last_time(records: &[LineByte]) -> u64
 }
 
 /// The sum of the records' bytes, modulo 256. They are added where they stand, since a block's end comes every few records.
-pub(crate) fn byte_sum(records: &[LineByte]) -> u8
+pub fn byte_sum(records: &[LineByte]) -> u8
     ensures { result ≡ sum (bytes_of records.now) % 256 }
 {
     let mut total = 0u8;

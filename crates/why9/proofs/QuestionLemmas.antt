@@ -11,9 +11,13 @@ GoesOn h X b es = (s : State) × X s × (ts : List State) × IsBelievingFrom h b
 pub same_places : (h : Hands) (b c : ℕ → Bool) (es : List Exchange) (s : State) (ts : List State) → ((k : ℕ) → k < length es → b k ≡ c k)
     → IsBelievingFrom h b s es ts → IsBelievingFrom h c s es ts
 same_places h b c [] s [] same run = tt
-same_places h b c (e ∷ es) s (t ∷ ts) same (d, drift, does, run) =
-    (d, drift, subst (λ (x : Bool). MayDo h x e d t) (same 0 (omega arith)) does, same_places h (behind_first b) (behind_first c) es t ts
-        (λ k below. same (k + 1) (omega arith)) run)
+same_places h b c (e ∷ es) s (t ∷ ts) same (d, drift, does, run) = (
+  d,
+  drift,
+  subst (λ (x : Bool). MayDo h x e d t) (same 0 (omega arith)) does,
+  same_places h (behind_first b) (behind_first c) es t ts
+      (λ k below. same (k + 1) (omega arith)) run,
+)
 same_places h b c es s ts same run = absurd run
 
 -- before the first exchange
@@ -53,8 +57,13 @@ goes-through h b es k e old new believed low is same asked taken = rw split (λ 
     to : (s : State) → Possible old.states s → (ts : List State) → IsBelievingFrom h (λ j. b (k + j)) s (e ∷ drop (k + 1) es) ts
         → GoesOn h (Possible new.states) (λ j. b (k + 1 + j)) (drop (k + 1) es)
     to s x [] run = absurd run
-    to s x (t ∷ ts) (d, drift, does, run) = (t, reached.1 s t x (d, drift, does), ts, same_places h _ _ (drop (k + 1) es) t ts (λ j below. ap b (omega arith))
-        run)
+    to s x (t ∷ ts) (d, drift, does, run) = (
+      t,
+      reached.1 s t x (d, drift, does),
+      ts,
+      same_places h _ _ (drop (k + 1) es) t ts (λ j below. ap b (omega arith))
+          run,
+    )
 
     from : (t : State) → Possible new.states t → (ts : List State) → IsBelievingFrom h (λ j. b (k + 1 + j)) t (drop (k + 1) es) ts
         → GoesOn h (Possible old.states) (λ j. b (k + j)) (e ∷ drop (k + 1) es)

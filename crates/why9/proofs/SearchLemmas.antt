@@ -96,8 +96,13 @@ pub found-all : (h : Hands) (es : List Exchange) (low last : ℕ) (found : List 
     → last + 1 ≡ length es
     → Contradict h (is_in_question last found) es → IsContradiction h es (found ++ last ∷ [])
 found-all h es low last found breaks old le is contradict = record {
-  contradict = λ w. contradict (record { first = w.first; is_first = w.is_first; after = w.after; is_run =
-      same_places h _ _ es w.first w.after same w.is_run });
+  contradict = λ w. contradict (record {
+    first = w.first;
+    is_first = w.is_first;
+    after = w.after;
+    is_run =
+        same_places h _ _ es w.first w.after same w.is_run;
+  });
   needed = λ p e. needed p (among_push found last p e);
   ascend = pushed_ascend low last found old.ascend old.below le;
   earlier = found;

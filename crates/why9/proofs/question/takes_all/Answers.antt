@@ -30,5 +30,5 @@ loop-place-preserved c =
 pub returns : goal.returns
 returns c =
     let past = goes-past c.args.hands (λ j. is_in_question c.args.from c.args.found.now (c.loop-place.place + j)) c.args.exchanges.now c.loop-place.place
-        (Possible c.loop-place.tracker.states) (omega arith) in
+    (Possible c.loop-place.tracker.states) (omega arith) in
     (λ t. c.loop-place.invariant.goes.1 (past.1 (c.remains.ensures.0 t)), λ w. c.remains.ensures.1 (past.0 (c.loop-place.invariant.goes.0 w)))

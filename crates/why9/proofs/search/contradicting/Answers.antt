@@ -19,4 +19,4 @@ returns c =
     let some = some_last _ _ c.requires.breaks in
     rw c.in_ok-push-2.ensures.items
     (found-all _ _ _ (length c.args.exchanges.now - 1) _ c.requires.breaks c.loop-places.invariant.found c.loop-places.invariant.within (omega arith)
-        contradict)
+    contradict)
