@@ -37,7 +37,7 @@ enough_turns : (cfg : Config) (n m : ℕ) (s : State) (bytes : List ℕ) → len
 unfolding records_from
 enough_turns cfg (suc n) (suc m) s bytes h k =
     same_next (records_from cfg n) (records_from cfg m) _
-        (λ p e. after_read cfg n m s bytes p e (λ lt. enough_turns cfg n m p.1 p.2 (omega arith) (omega arith)))
+    (λ p e. after_read cfg n m s bytes p e (λ lt. enough_turns cfg n m p.1 p.2 (omega arith) (omega arith)))
 enough_turns cfg n m s bytes h k = absurd (omega arith)
 
 pub records_at-some : (s : State) (bytes : List ℕ) (p : Read) → next_record default_config s [] [] bytes ≡ Some p

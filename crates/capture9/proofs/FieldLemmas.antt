@@ -74,7 +74,7 @@ module _ (field front rest : List ℕ) (whole : field ≡ front ++ rest) (some :
 -- they are digits where each of them is, two by two
 pub all-eight : (xs : List ℕ) → length xs ≡ 8
     → all_ascii_digits xs ≡ ((is_ascii_digit (get_or xs 0 0) && is_ascii_digit (get_or xs 1 0)) &&
-        ((is_ascii_digit (get_or xs 2 0) && is_ascii_digit (get_or xs 3 0))
+    ((is_ascii_digit (get_or xs 2 0) && is_ascii_digit (get_or xs 3 0))
     && ((is_ascii_digit (get_or xs 4 0) && is_ascii_digit (get_or xs 5 0)) && ((is_ascii_digit (get_or xs 6 0) && is_ascii_digit (get_or xs 7 0)) && true))))
 all-eight (a ∷ b ∷ c ∷ d ∷ e ∷ f ∷ g ∷ h ∷ []) size = simp and_assoc
 all-eight xs size = absurd (omega arith)
@@ -83,7 +83,7 @@ all-eight xs size = absurd (omega arith)
 pub value-eight : (xs : List ℕ) → length xs ≡ 8 → all_ascii_digits xs ≡ true
     → decimal_value xs + 533333328
     ≡ ((get_or xs 0 0 * 10 + get_or xs 1 0) * 100 + (get_or xs 2 0 * 10 + get_or xs 3 0)) * 10000 +
-        ((get_or xs 4 0 * 10 + get_or xs 5 0) * 100 + (get_or xs 6 0 * 10 + get_or xs 7 0))
+    ((get_or xs 4 0 * 10 + get_or xs 5 0) * 100 + (get_or xs 6 0 * 10 + get_or xs 7 0))
 value-eight (a ∷ b ∷ c ∷ d ∷ e ∷ f ∷ g ∷ h ∷ []) size all = grind (arith, nat_tests, digit_value-digit, and_parts)
 value-eight xs size all = absurd (omega arith)
 

@@ -62,7 +62,7 @@ refused-holds left new headed given last_time k e past within is marked at_its_r
 -- a refusal is told again, and nothing changes
 pub refuses-again : {R : Type 0} (source : R) (s : Standing) (headed : Bool) (given last_time : ℕ) (unread : Option (List (List (List ℕ)))) (e : CaptureError)
     → s ≡ Standing.Refused e → IsPlaced headed given e → GivesRefusal (progress_of s headed given last_time unread source) e
-        (progress_of s headed given last_time unread source)
+    (progress_of s headed given last_time unread source)
 refuses-again source s headed given last_time unread e refused placed = rw refused (grind arith)
 
 -- where a refusal stands that came after these records

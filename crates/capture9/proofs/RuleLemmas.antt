@@ -13,8 +13,14 @@ IsRead number before fields (Err k) = IsFirstOf (λ j. RowBreaks j number before
 -- the first of the rules that a row breaks, by those before it that it keeps
 first-of : (P : CaptureKind → Type 0) (before after : List CaptureKind) (k : CaptureKind) → AllByRecursion (λ j. ¬ (P j)) before → P k
     → IsFirstOf P (before ++ k ∷ after) k
-first-of P before after k none holds = record { before = before; after = after; split = refl; holds = holds; none_before =
-    All-from_recursion (λ j. ¬ (P j)) before none }
+first-of P before after k none holds = record {
+  before = before;
+  after = after;
+  split = refl;
+  holds = holds;
+  none_before =
+      All-from_recursion (λ j. ¬ (P j)) before none;
+}
 
 record-read : (number before : ℕ) (a b c : List ℕ) (time : Option ℕ) (wire : Option Wire) (byte : Option ℕ) → ¬ (most_rows < number)
     → time_in a ≡ time → wire_in b ≡ wire → byte_in c ≡ byte → IsRead number before (a ∷ b ∷ c ∷ []) (record_of before time wire byte)
@@ -27,7 +33,7 @@ record-read number before a b c (Some time) (Some wire) None few t w y =
 record-read number before a b c (Some time) (Some wire) (Some byte) few t w y =
     cond_both (nat_lt time before) _ _ (IsRead number before (a ∷ b ∷ c ∷ [])) (λ low.
     first-of _ (CaptureKind.TooMany ∷ CaptureKind.Fields ∷ CaptureKind.Time ∷ CaptureKind.Wire ∷ CaptureKind.Byte ∷ []) _ CaptureKind.Backwards (grind arith)
-        (time, t, grind (arith, nat_tests)))
+    (time, t, grind (arith, nat_tests)))
     (λ high. ((t, w, y), λ k h. grind (arith, nat_tests)))
 
 fields-read : (number before : ℕ) (fields : List (List ℕ)) → ¬ (most_rows < number) → IsRead number before fields (fields_record before fields)
@@ -60,8 +66,14 @@ part-from number before (fields ∷ rest) =
     row_then-by (HasPartFrom number before (fields ∷ rest)) number before fields (λ time. rows_from (number + 1) time rest) (λ r e.
     let m = part-from (number + 1) r.time_us rest in
     let read = rw e at (row-read number before fields) in
-    record { good = fields ∷ m.good; left = m.left; split = ap (λ (l : List (List (List ℕ))). fields ∷ l) m.split; are_good =
-        (read.0, read.1, m.are_good); are_left = λ n e. m.are_left n (omega arith) }) (λ k e.
+    record {
+      good = fields ∷ m.good;
+      left = m.left;
+      split = ap (λ (l : List (List (List ℕ))). fields ∷ l) m.split;
+      are_good =
+          (read.0, read.1, m.are_good);
+      are_left = λ n e. m.are_left n (omega arith);
+    }) (λ k e.
     let read = rw e at (row-read number before fields) in
     record { good = []; left = fields ∷ rest; split = refl; are_good = refl; are_left = λ n e. let same : n ≡ number = omega arith in rw same (k, read, refl) })
 

@@ -12,8 +12,12 @@ use Rattle.capture9.proofs.CsvLemmas.{none_at_start, records_at-some}
 time-read : (time : ℕ) → time < 10 ^ 15 → time_in (decimal time) ≡ Some time
 time-read time h =
     let small : time < 2 ^ 64 = omega arith in
-    rw (le-leb 1 _ (decimal_nonempty time small), le-leb _ 15 (length-decimal-le 15 time (lit< tt) h small), digits_decimal numerals time small,
-        digits_value-decimal numerals time small) refl
+    rw (
+      le-leb 1 _ (decimal_nonempty time small),
+      le-leb _ 15 (length-decimal-le 15 time (lit< tt) h small),
+      digits_decimal numerals time small,
+      digits_value-decimal numerals time small,
+    ) refl
 
 -- ---- two hexadecimal digits
 
@@ -59,18 +63,23 @@ AreInRange number before (r ∷ rest) = (number ≤ most_rows) × (before ≤ r.
 in-range : (number before : ℕ) (items : List LineByte) → number + length items ≤ most_rows + 1
     → ((d : LineByte) → 0 < length items → before ≤ (get_or items 0 d).time_us)
     → IsNonDecreasingBy (λ (r : LineByte). r.time_us) items → All (λ r. r.time_us < 10 ^ 15) items → All (λ r. r.byte < 256) items
-        → AreInRange number before items
+    → AreInRange number before items
 in-range number before [] limit first order range byte = tt
 in-range number before (r ∷ rest) limit first order range byte =
     let rise = λ (i j : ℕ) (d : LineByte) (le : i ≤ j) (lt : j < length rest). order (suc i) (suc j) d (omega arith) (omega arith) in
-    let later = in-range (number + 1) r.time_us rest (omega arith) (λ d lt. order 0 1 d (omega arith) (omega arith)) rise in
-    (omega arith, first r (omega arith), range 0 r (omega arith), byte 0 r (omega arith), later (λ k d h. range (suc k) d (omega arith))
-        (λ k d h. byte (suc k) d (omega arith)))
+    let later = in-range (number + 1) r.time_us rest (omega arith) (λ d lt. order 0 1 d (omega arith) (omega arith)) rise in (
+      omega arith,
+      first r (omega arith),
+      range 0 r (omega arith),
+      byte 0 r (omega arith),
+      later (λ k d h. range (suc k) d (omega arith))
+          (λ k d h. byte (suc k) d (omega arith)),
+    )
 
 -- their rows are read as those records, and then the others
 read-then : (number before : ℕ) (items : List LineByte) (rest : List (List (List ℕ))) (tail : Rows) → AreInRange number before items
     → rows_from (number + length items) (last_time before items) (map read_back rest) ≡ tail
-        → rows_from number before (map read_back (map spelled items ++ rest)) ≡ record { records = items ++ tail.records; fault = tail.fault }
+    → rows_from number before (map read_back (map spelled items ++ rest)) ≡ record { records = items ++ tail.records; fault = tail.fault }
 read-then number before [] rest tail good left = rw add-zero at left
 read-then number before (r ∷ items) rest tail good left =
     let next : number + length (r ∷ items) ≡ number + 1 + length items = omega arith in
@@ -84,7 +93,7 @@ unfolding rows_text
 records-rows [] = none_at_start default_config 1
 records-rows (row ∷ rows) =
     records_at-some State.StartRecord (row_text default_writer row ++ rows_text rows) (read_back row, State.StartRecord, rows_text rows)
-        (read-write row (rows_text rows))
+    (read-write row (rows_text rows))
     ∙ ap (λ (t : List (List (List ℕ))). read_back row ∷ t) (records-rows rows)
 
 abbrev header : List (List ℕ)
@@ -106,7 +115,7 @@ bad-read k items row follows other = grind (arith, nat_tests)
 text-then : (items : List LineByte) (rest : List (List (List ℕ))) (tail : Rows) (fault : Option CaptureError)
     → CanBeRows (record { records = items; fault = fault })
     → rows_from (1 + length items) (last_time 0 items) (map read_back rest) ≡ tail
-        → (text : List ℕ) × (rows_of text ≡ record { records = items ++ tail.records; fault = tail.fault })
+    → (text : List ℕ) × (rows_of text ≡ record { records = items ++ tail.records; fault = tail.fault })
 text-then items rest tail fault h left =
     let good = in-range 1 0 items (omega (arith, h.limit)) (λ d lt. omega arith) h.in_order h.in_range h.bytes in
     (rows_text (header ∷ (map spelled items ++ rest)), headed-text (map spelled items ++ rest) ∙ read-then 1 0 items rest tail good left)

@@ -1,13 +1,15 @@
 -- A cut that gets one record more.
-use Rattle.judge9.proofs.Words.{[], append-nil, arith, Cut, cut_joined, Does, Exchange, inl, inr, IsExchange, IsKept, IsTail, last_apart, LineByte, List, refl, Step}
+use Rattle.judge9.proofs.Words.{[], append-nil, arith, Cut, cut_joined, IsStep, Exchange, inl, inr, IsExchange, IsKept, IsTail, last_apart, LineByte, List, refl, Step}
 use Rattle.judge9.proofs.Words.{still_tail, subst, sym, tail_after, tail_no_exchange, ◌++◌, ◌∙◌, ◌∷◌, ◌⊎◌}
 
 -- a tail that grows
-pub cut-tail : (p : List LineByte) (es : List Exchange) (t : List LineByte) (r : LineByte) → Cut p es t → IsTail (t ++ r ∷ []) → Cut (p ++ r ∷ []) es (t ++ r ∷ [])
+pub cut-tail : (p : List LineByte) (es : List Exchange) (t : List LineByte) (r : LineByte) → Cut p es t → IsTail (t ++ r ∷ [])
+    → Cut (p ++ r ∷ []) es (t ++ r ∷ [])
 cut-tail p es t r h more = rw append-nil at (cut_joined p es [] t (r ∷ []) (t ++ r ∷ []) h (refl, more))
 
 -- a tail that becomes an exchange
-pub cut-exchange : (p : List LineByte) (es : List Exchange) (t : List LineByte) (r : LineByte) (e : Exchange) → Cut p es t → IsExchange (t ++ r ∷ []) e → Cut (p ++ r ∷ []) (es ++ e ∷ []) []
+pub cut-exchange : (p : List LineByte) (es : List Exchange) (t : List LineByte) (r : LineByte) (e : Exchange) → Cut p es t → IsExchange (t ++ r ∷ []) e
+    → Cut (p ++ r ∷ []) (es ++ e ∷ []) []
 cut-exchange p es t r e h more = cut_joined p es (e ∷ []) t (r ∷ []) [] h (t ++ r ∷ [], [], sym (append-nil (t ++ r ∷ [])), more, (refl, IsTail.nothing refl))
 
 -- the exchanges after a step
@@ -16,7 +18,8 @@ exchanges_after es Step.Waiting = es
 exchanges_after es Step.Command = es
 exchanges_after es (Step.Exchange e) = es ++ e ∷ []
 
-pub cut-step : (p : List LineByte) (es : List Exchange) (t : List LineByte) (r : LineByte) (s : Step) → Cut p es t → Does t r s → Cut (p ++ r ∷ []) (exchanges_after es s) (tail_after t r s)
+pub cut-step : (p : List LineByte) (es : List Exchange) (t : List LineByte) (r : LineByte) (s : Step) → Cut p es t → IsStep t r s
+    → Cut (p ++ r ∷ []) (exchanges_after es s) (tail_after t r s)
 cut-step p es t r (Step.Exchange e) h done = cut-exchange p es t r e h done
 cut-step p es t r s h done = cut-tail p es t r h (still_tail t r s done)
 

@@ -18,7 +18,8 @@ either P true a b first second = first
 either P false a b first second = second
 
 -- the same of the tables, of the meanings in them, and of the effects
-either_table : (x : Bool) (rows others : List Row) (head : ℕ) (b : Block) → InDay (meaning_in rows head b) → InDay (meaning_in others head b) → InDay (meaning_in (if x then rows else others) head b)
+either_table : (x : Bool) (rows others : List Row) (head : ℕ) (b : Block) → InDay (meaning_in rows head b) → InDay (meaning_in others head b)
+    → InDay (meaning_in (if x then rows else others) head b)
 either_table x rows others head b = either (λ rows. InDay (meaning_in rows head b)) x rows others
 
 either_meaning : (x : Bool) (p q : Option Command) → InDay p → InDay q → InDay (if x then p else q)
@@ -48,4 +49,5 @@ command_in_day b = search (either_table, either_meaning, either_effect, timed_in
 pub cut_in_day : (records : List LineByte) (es : List Exchange) (tail : List LineByte) → Cut records es tail → All SetsInDay es
 cut_in_day records [] tail h = All-nil SetsInDay
 cut_in_day records (e ∷ es) tail h =
-    All-cons SetsInDay e es (λ r t sets. subst (λ f. time_set f < day) sets (subst InDay h.3.command.meaning (command_in_day e.block))) (cut_in_day h.1 es tail h.4)
+    All-cons SetsInDay e es (λ r t sets. subst (λ f. time_set f < day) sets (subst InDay h.3.command.meaning (command_in_day e.block)))
+    (cut_in_day h.1 es tail h.4)

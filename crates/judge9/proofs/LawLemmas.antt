@@ -45,9 +45,11 @@ breaks_once h p r x y b c =
 pub is_ok : {h : Hands} {items : List LineByte} {at : ℕ} {z : Reason} → (b : IsFirstBreak h items at z) → IsOk h b.before
 is_ok b = record { exchanges = b.breaks.exchanges; tail = b.breaks.tail; cut = b.breaks.cut; run = b.breaks.run }
 
-pub no_longer : {h : Hands} {items : List LineByte} {at : ℕ} {z : Reason} → (b : IsFirstBreak h items at z) (p rest : List LineByte) → IsOk h p → items ≡ p ++ rest → length p ≤ length b.before
+pub no_longer : {h : Hands} {items : List LineByte} {at : ℕ} {z : Reason} → (b : IsFirstBreak h items at z) (p rest : List LineByte) → IsOk h p
+    → items ≡ p ++ rest → length p ≤ length b.before
 no_longer {h = h} b p rest ok split = elim (cases_lt (length b.before) (length p)) [
-  | inl more ↦ let longer = shorter (b.before ++ b.next ∷ []) b.after p rest (append_assoc b.before (b.next ∷ []) b.after ∙ sym b.split ∙ split) (omega (arith, length_push b.before b.next)) in
+  | inl more ↦ let longer = shorter (b.before ++ b.next ∷ []) b.after p rest (append_assoc b.before (b.next ∷ []) b.after ∙ sym b.split ∙ split)
+      (omega (arith, length_push b.before b.next)) in
       absurd (b.breaks.not_ok (first_of (IsOk h) (ok_less h) longer.0 (b.before ++ b.next ∷ []) (subst (IsOk h) longer.1 ok)))
   | inr few ↦ few
 ]
@@ -63,7 +65,8 @@ break_once h items m n x y b c =
     let next : b.next ≡ c.next = let e = parts.1 in cc in
     (omega (arith, ap length parts.0), breaks_once h c.before c.next x y (rw (parts.0, next) at b.breaks) c.breaks)
 
-pub taken : (h : Hands) (rows : Rows) (at : ℕ) (reason : Reason) → (b : IsFirstBreak h rows.records at reason) → explained_of rows (Answer.judged (Verdict.No at reason)) ≡ b.before
+pub taken : (h : Hands) (rows : Rows) (at : ℕ) (reason : Reason) → (b : IsFirstBreak h rows.records at reason)
+    → explained_of rows (Answer.judged (Verdict.No at reason)) ≡ b.before
 taken h rows at reason b =
     let n : at - 1 ≡ length b.before = let e = b.number in omega arith in
     ap (λ k. take k rows.records) n ∙ ap (λ l. take (length b.before) l) b.split ∙ take-append_seam b.before (b.next ∷ b.after)
@@ -76,7 +79,8 @@ answer_ok h rows (Answer.unreadable e) is = is.1
 
 -- one answer at most is right for a text
 pub answer_once : (h : Hands) (rows : Rows) (a b : Answer) → IsAnswer h rows a → IsAnswer h rows b → a ≡ b
-answer_once h rows (Answer.judged (Verdict.No at x)) (Answer.judged (Verdict.No n y)) i j = let same = break_once h rows.records at n x y i j in cc (same.0, same.1)
+answer_once h rows (Answer.judged (Verdict.No at x)) (Answer.judged (Verdict.No n y)) i j = let same = break_once h rows.records at n x y i j in
+    cc (same.0, same.1)
 answer_once h rows (Answer.judged (Verdict.No at x)) b i j = absurd (no_break h rows.records at x (answer_ok h rows b j) i)
 answer_once h rows a (Answer.judged (Verdict.No at x)) i j = absurd (no_break h rows.records at x (answer_ok h rows a i) j)
 answer_once h rows (Answer.judged (Verdict.Yes r e t)) (Answer.judged (Verdict.Yes s f u)) i j =
@@ -93,8 +97,19 @@ ok_with_hands p ok = record { exchanges = ok.exchanges; tail = ok.tail; cut = ok
 
 pub yes_with_hands : (rows : Rows) (records exchanges tail : ℕ) → IsAnswer Hands.None rows (Answer.judged (Verdict.Yes records exchanges tail))
     → IsAnswer Hands.Allowed rows (Answer.judged (Verdict.Yes records exchanges tail))
-yes_with_hands rows records exchanges tail (whole, c) =
-    (whole, record { cut_exchanges = c.cut_exchanges; cut_tail = c.cut_tail; cut = c.cut; run = run_with_hands c.cut_exchanges c.run; number = c.number; exchange_number = c.exchange_number; tail_number = c.tail_number })
+yes_with_hands rows records exchanges tail (whole, c) = (
+  whole,
+  record {
+    cut_exchanges = c.cut_exchanges;
+    cut_tail = c.cut_tail;
+    cut = c.cut;
+    run = run_with_hands c.cut_exchanges c.run;
+    number =
+        c.number;
+    exchange_number = c.exchange_number;
+    tail_number = c.tail_number;
+  },
+)
 
 pub no_with_hands : (rows : Rows) (at other : ℕ) (reason another : Reason) → IsAnswer Hands.None rows (Answer.judged (Verdict.No at reason))
     → IsAnswer Hands.Allowed rows (Answer.judged (Verdict.No other another)) → at ≤ other
@@ -104,7 +119,8 @@ no_with_hands rows at other reason another w v = omega (arith, no_longer v w.bef
 
 -- the reasons before the last one are those of pairing
 
-same_before_last : (h : Hands) (es : List Exchange) (t : List LineByte) (r : LineByte) (y : Reason) → rank y < 12 → (Holds y t r → Applies h es t r y) × (Applies h es t r y → Holds y t r)
+same_before_last : (h : Hands) (es : List Exchange) (t : List LineByte) (r : LineByte) (y : Reason) → rank y < 12
+    → (Holds y t r → Applies h es t r y) × (Applies h es t r y → Holds y t r)
 same_before_last h es t r Reason.NoRun low = absurd (omega arith)
 same_before_last h es t r y low = (λ k. k, λ k. k)
 
@@ -121,23 +137,29 @@ pairing_first h es t r x is =
     first_before_last (λ y. Holds y t r) (Applies h es t r) x (same_before_last h es t r) (not_last x (pairing_reason is)) is
 
 -- where the records are not kept, the reason is one of pairing
-pub first_pairing : (h : Hands) (es : List Exchange) (t : List LineByte) (r : LineByte) (x : Reason) → ¬ IsKept (t ++ r ∷ []) → IsFirst (Applies h es t r) order x → IsReason t r x
+pub first_pairing : (h : Hands) (es : List Exchange) (t : List LineByte) (r : LineByte) (x : Reason) → ¬ IsKept (t ++ r ∷ [])
+    → IsFirst (Applies h es t r) order x → IsReason t r x
 first_pairing h es t r x broken is =
-    let low = not_last x (λ e. let k = subst (Applies h es t r) e (first_holds (Applies h es t r) order x is) in broken (exchange_kept (t ++ r ∷ []) k.0 k.1)) in
+    let low = not_last x (λ e. let k = subst (Applies h es t r) e (first_holds (Applies h es t r) order x is) in broken (exchange_kept (t ++ r ∷ []) k.0 k.1))
+    in
     first_before_last (Applies h es t r) (λ y. Holds y t r) x (λ y l. ((same_before_last h es t r y l).1, (same_before_last h es t r y l).0)) low is
 
 -- an exchange without a run has the last reason
-pub no_run_first : (h : Hands) (es : List Exchange) (t : List LineByte) (r : LineByte) (e : Exchange) → pairing t r ≡ None → IsExchange (t ++ r ∷ []) e → ¬ HasRun h (es ++ e ∷ []) → IsFirst (Applies h es t r) order Reason.NoRun
-no_run_first h es t r e quiet is none = last_is_first (Applies h es t r) (λ y low k. block.none_holds t r quiet y ((same_before_last h es t r y low).1 k)) (e, is, none)
+pub no_run_first : (h : Hands) (es : List Exchange) (t : List LineByte) (r : LineByte) (e : Exchange) → pairing t r ≡ None → IsExchange (t ++ r ∷ []) e
+    → ¬ HasRun h (es ++ e ∷ []) → IsFirst (Applies h es t r) order Reason.NoRun
+no_run_first h es t r e quiet is none = last_is_first (Applies h es t r) (λ y low k. block.none_holds t r quiet y ((same_before_last h es t r y low).1 k))
+    (e, is, none)
 
 -- the reason depends on the tail alone, where the records are not kept
-pub breaks_tail : (h : Hands) (p : List LineByte) (es : List Exchange) (t : List LineByte) (r : LineByte) (x : Reason) → Cut p es t → ¬ IsKept (p ++ r ∷ []) → Breaks h p r x → IsReason t r x
+pub breaks_tail : (h : Hands) (p : List LineByte) (es : List Exchange) (t : List LineByte) (r : LineByte) (x : Reason) → Cut p es t → ¬ IsKept (p ++ r ∷ [])
+    → Breaks h p r x → IsReason t r x
 breaks_tail h p es t r x cut broken b =
     let same = (cut_once p b.exchanges es b.tail t b.cut cut).1 in
     subst (λ (l : List LineByte). IsReason l r x) same
     (first_pairing h b.exchanges b.tail r x (λ kept. broken (kept_by_tail p b.exchanges b.tail (r ∷ []) b.cut kept)) b.is_reason)
 
-pub tail_breaks : (h : Hands) (p : List LineByte) (es : List Exchange) (t : List LineByte) (r : LineByte) (x : Reason) → Cut p es t → HasRun h es → ¬ IsKept (p ++ r ∷ []) → IsReason t r x → Breaks h p r x
+pub tail_breaks : (h : Hands) (p : List LineByte) (es : List Exchange) (t : List LineByte) (r : LineByte) (x : Reason) → Cut p es t → HasRun h es
+    → ¬ IsKept (p ++ r ∷ []) → IsReason t r x → Breaks h p r x
 tail_breaks h p es t r x cut run broken is =
     record { exchanges = es; tail = t; cut = cut; run = run; not_ok = λ ok. broken (kept_of h (p ++ r ∷ []) ok); is_reason = pairing_first h es t r x is }
 
@@ -167,9 +189,16 @@ some_reason h p r ok later broken = by (pairing ok.tail r) refl
 
     by : (o : Option Reason) → pairing ok.tail r ≡ o → (x : Reason) × Breaks h p r x
     by None quiet = elim (kept_grows ok.tail r tail (quiet_kept ok.tail r tail tail_later quiet)) [
-      | inl longer ↦ absurd (broken (record { exchanges = ok.exchanges; tail = ok.tail ++ r ∷ []; cut = cut-tail p ok.exchanges ok.tail r ok.cut longer; run = ok.run }))
+      | inl longer ↦ absurd (broken (record {
+        exchanges = ok.exchanges;
+        tail = ok.tail ++ r ∷ [];
+        cut = cut-tail p ok.exchanges ok.tail r ok.cut longer;
+        run =
+            ok.run;
+      }))
       | inr whole ↦
           let cut = cut-exchange p ok.exchanges ok.tail r whole.0 ok.cut whole.1 in
-          reason Reason.NoRun (no_run_first h ok.exchanges ok.tail r whole.0 quiet whole.1 (λ run. broken (record { exchanges = ok.exchanges ++ whole.0 ∷ []; tail = []; cut = cut; run = run })))
+          reason Reason.NoRun (no_run_first h ok.exchanges ok.tail r whole.0 quiet whole.1
+          (λ run. broken (record { exchanges = ok.exchanges ++ whole.0 ∷ []; tail = []; cut = cut; run = run })))
     ]
     by (Some x) e = reason x (pairing_first h ok.exchanges ok.tail r x (block.table_reason ok.tail r x tail tail_later e))

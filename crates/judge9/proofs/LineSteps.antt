@@ -1,5 +1,5 @@
 -- The lines of one exchange more.
-use Rattle.judge9.proofs.Words.{[], ap, append-nil, append_assoc, append_known, Appends, Appends-trans, AreLines, arith, Cut, Ends, Exchange, Follows, Hands, IsExchange}
+use Rattle.judge9.proofs.Words.{[], ap, append-nil, append_assoc, append_known, Appends, Appends-trans, AreLines, arith, Cut, Ends, Exchange, KeepsEnds, Hands, IsExchange}
 use Rattle.judge9.proofs.Words.{IsExplained, IsKnowledge, IsKnown, IsKnownEntry, IsLineOf, Knowledge, Known, KnownEntry, length, length-append, length-map, line_of_exchange}
 use Rattle.judge9.proofs.Words.{LineByte, List, None, Option, Possible, records_of, refl, Register, Some, State, subst, sym, Tracked, View, ℕ, ◌++◌, ◌+◌, ◌↔◌, ◌∙◌, ◌∷◌, ◌≡◌}
 
@@ -7,7 +7,14 @@ use Rattle.judge9.proofs.Words.{LineByte, List, None, Option, Possible, records_
 
 pub exchange_len : (front : List LineByte) (e : Exchange) → IsExchange front e → length front ≡ records_of e
 exchange_len front e h =
-    omega (arith, ap length h.split, length-append h.asked h.answered, simp length-map at (ap length h.command.whole.spelled.spelled), simp length-map at (ap length h.reply.spelled.spelled))
+    omega (
+      arith,
+      ap length h.split,
+      length-append h.asked h.answered,
+      simp length-map at (ap length h.command.whole.spelled.spelled),
+      simp length-map at
+          (ap length h.reply.spelled.spelled),
+    )
 
 -- the records of these exchanges
 abbrev pub total : List Exchange → ℕ
@@ -34,7 +41,8 @@ knowledge_same X Y k same h = search (known_same, entry_same)
 
 -- ---- a line more
 
-lines_more : (h : Hands) (before : List Exchange) (at : ℕ) (es : List Exchange) (e : Exchange) (k : Knowledge) (n : ℕ) (text : List ℕ) → AreLines h before at es text → IsKnowledge (Ends h ((before ++ es) ++ e ∷ [])) k → n ≡ at + total (es ++ e ∷ [])
+lines_more : (h : Hands) (before : List Exchange) (at : ℕ) (es : List Exchange) (e : Exchange) (k : Knowledge) (n : ℕ) (text : List ℕ)
+    → AreLines h before at es text → IsKnowledge (Ends h ((before ++ es) ++ e ∷ [])) k → n ≡ at + total (es ++ e ∷ [])
     → AreLines h before at (es ++ e ∷ []) (text ++ line_of_exchange h n e k)
 lines_more h before at [] e k n text lines knows number =
     let last : n ≡ at + records_of e = omega arith in
@@ -45,7 +53,8 @@ lines_more h before at (f ∷ es) e k n text lines knows number =
     let line = line_of_exchange h n e k in
     (lines.0, lines.1 ++ line, lines.2, rest, ap (λ t. t ++ line) lines.4 ∙ append_assoc _ lines.1 line)
 
-pub explained_more : (which : View) (h : Hands) (es : List Exchange) (e : Exchange) (n : ℕ) (text line : List ℕ) (t : Tracked) → Follows h (es ++ e ∷ []) t → IsExplained which h es text → IsLineOf which h n e (Possible t.states) line → n ≡ total (es ++ e ∷ []) → IsExplained which h (es ++ e ∷ []) (text ++ line)
+pub explained_more : (which : View) (h : Hands) (es : List Exchange) (e : Exchange) (n : ℕ) (text line : List ℕ) (t : Tracked) → KeepsEnds h (es ++ e ∷ []) t
+    → IsExplained which h es text → IsLineOf which h n e (Possible t.states) line → n ≡ total (es ++ e ∷ []) → IsExplained which h (es ++ e ∷ []) (text ++ line)
 explained_more View.Verdict h es e n text line t follows is more number = ap (λ t. t ++ line) is ∙ more
 explained_more View.Explain h es e n text line t follows is more number =
     rw more.2 (lines_more h [] 0 es e more.0 n text is (knowledge_same (Possible t.states) (Ends h (es ++ e ∷ [])) more.0 follows.states more.1) (omega arith))

@@ -1,5 +1,5 @@
 -- What the deck could show when it gave the last of some replies.
-use Rattle.judge9.proofs.Words.{[], ap, AreReached, arith, BreaksAtLast, CouldBe, CouldShow, Drift, Ends, Exchange, Follows, Hands, has, IsKnowledge}
+use Rattle.judge9.proofs.Words.{[], ap, AreReached, arith, BreaksAtLast, CouldBe, CouldShow, Drift, Ends, Exchange, KeepsEnds, Hands, has, IsKnowledge}
 use Rattle.judge9.proofs.Words.{Knowledge, length, length-append, List, Mode, ModeSet, Possible, some_end, State, subst, sym, take, take-append_seam, Tracked, true}
 use Rattle.judge9.proofs.Words.{◌-◌, ◌<◌, ◌↔◌, ◌^◌, ◌∙◌, ◌∷◌, ◌≡◌}
 use Rattle.judge9.proofs.LineSteps.{knowledge_same}
@@ -11,14 +11,17 @@ but_last h es b =
     ap (λ n. take n es) number ∙ ap (take (length b.before)) b.is_split ∙ take-append_seam b.before (b.last ∷ [])
 
 -- there is a state before the last of them
-pub before_last : (h : Hands) (es : List Exchange) (t : Tracked) → BreaksAtLast h es → Follows h (take (length es - 1) es) t → (s : State) × Possible t.states s
+pub before_last : (h : Hands) (es : List Exchange) (t : Tracked) → BreaksAtLast h es → KeepsEnds h (take (length es - 1) es) t
+    → (s : State) × Possible t.states s
 before_last h es t b f =
     let end = (some_end h b.before).1 b.has_run in
     (end.0, (f.states end.0).1 (subst (λ l. Ends h l end.0) (sym (but_last h es b)) end.1))
 
 -- what is then known, and which modes are shown
-pub could_show : (h : Hands) (es : List Exchange) (old new : Tracked) (k : Knowledge) (set : ModeSet) (b : BreaksAtLast h es) → Follows h (take (length es - 1) es) old → AreReached (Possible old.states) (Drift old.hands) (Possible new.states)
-    → IsKnowledge (Possible new.states) k → set.0 < 2 ^ 10 → ((m : Mode) → (has set.0 m ≡ true) ↔ ((s : State) × Possible new.states s × (s.shown ≡ m))) → CouldShow h es k set
+pub could_show : (h : Hands) (es : List Exchange) (old new : Tracked) (k : Knowledge) (set : ModeSet) (b : BreaksAtLast h es)
+    → KeepsEnds h (take (length es - 1) es) old → AreReached (Possible old.states) (Drift old.hands) (Possible new.states)
+    → IsKnowledge (Possible new.states) k → set.0 < 2 ^ 10 → ((m : Mode) → (has set.0 m ≡ true) ↔ ((s : State) × Possible new.states s × (s.shown ≡ m)))
+    → CouldShow h es k set
 could_show h es old new k set b f reached knows ten shows = record {
   ten = ten;
   before = b.before;

@@ -1,6 +1,7 @@
 -- Where the judging of a text stands: the invariant of its loop, the rows that it speaks of, and what a row more does.
+use Rattle.judge9.proofs.Words.{IsEnd, last_time, last_time-append}
 use Rattle.judge9.proofs.Words.{[], ap, append-nil, append_assoc, Appends, Appends-nil, Appends-trans, AreGiven, arith, Bool, CanBeRows, CaptureError, Cut, Exchange, Feeds}
-use Rattle.judge9.proofs.Words.{Follows, ForSome, given-more, given-none, GivesRecord, Hands, HasRun, IfNone, IfSome, IsExplained, IsFresh, IsLineOf, IsOfSomeText, IsOk, IsOpen}
+use Rattle.judge9.proofs.Words.{KeepsEnds, ForSome, given-more, given-none, GivesRecord, Hands, HasRun, IfNone, IfSome, IsExplained, IsFresh, IsLineOf, IsOfSomeText, IsOk, IsOpen}
 use Rattle.judge9.proofs.Words.{IsStartOf, IsTail, Judging, length, length_push, LineByte, List, None, Observes, Option, Paired, Possible, Progress, refl, Rows, run_start, Some}
 use Rattle.judge9.proofs.Words.{some-text, some_end, Standing, Step, subst, sym, Takes, TakesRecord, Tracked, true, View, Waits, ℕ, ⊤, ◌++◌, ◌+◌, ◌∙◌, ◌∷◌, ◌≡◌, ◌≤◌}
 use Rattle.judge9.proofs.RunSteps.{follows-more, follows-start}
@@ -32,7 +33,7 @@ keeps-none which hands e = record { items = []; cut = (sym e, IsTail.nothing e);
 pub record SoFar {R : Type 0} (view : View) (hands : Hands) (rows : Option Rows) (j : Judging R) (old now : Option (List ℕ)) (es : List Exchange) : Type 0 where
   pub keeps : Keeps view hands es j.pairer.tail
   pub open keeps use {items, cut, run, text, explained}
-  pub follows : Follows hands es j.tracker
+  pub follows : KeepsEnds hands es j.tracker
   pub wrote : Appends old now text
   pub few : length es ≤ j.rows.given
   pub is_reading : j.rows.standing ≡ Standing.Reading
@@ -43,7 +44,7 @@ pub record SoFar {R : Type 0} (view : View) (hands : Hands) (rows : Option Rows)
 
 -- ---- the rows that a judging speaks of
 
--- behind these records: the rows of the text where they are known, and else the records alone with this fault or none
+-- after these records: the rows of the text where they are known, and else the records alone with this fault or none
 pub record Seen (rows left : Option Rows) (items : List LineByte) (fault : Option CaptureError) : Type 0 where
   pub all : Rows
   pub is_known : IfSome rows (λ a. all ≡ a)
@@ -51,10 +52,19 @@ pub record Seen (rows left : Option Rows) (items : List LineByte) (fault : Optio
   pub start : IsStartOf items all.records
   pub whole : IfSome left (λ rest. rest ≡ record { records = []; fault = fault }) → all ≡ record { records = items; fault = fault }
 
-pub seen : (rows left : Option Rows) (items : List LineByte) (fault : Option CaptureError) → WereRead rows items left → CanBeRows (record { records = items; fault = fault }) → Seen rows left items fault
-seen None left items fault read can = record { all = record { records = items; fault = fault }; is_known = tt; of_a_text = some-text _ can; start = ([], sym (append-nil items)); whole = λ _. refl }
+pub seen : (rows left : Option Rows) (items : List LineByte) (fault : Option CaptureError) → WereRead rows items left
+    → CanBeRows (record { records = items; fault = fault }) → Seen rows left items fault
+seen None left items fault read can = record {
+  all = record { records = items; fault = fault };
+  is_known = tt;
+  of_a_text = some-text _ can;
+  start =
+      ([], sym (append-nil items));
+  whole = λ _. refl;
+}
 seen (Some a) left items fault read can =
-    let whole : IfSome left (λ rest. rest ≡ record { records = []; fault = fault }) → a ≡ record { records = items; fault = fault } = λ none. let last = rw read.1 at none in rw (last, append-nil) at read.2 in
+    let whole : IfSome left (λ rest. rest ≡ record { records = []; fault = fault }) → a ≡ record { records = items; fault = fault } = λ none. let last =
+    rw read.1 at none in rw (last, append-nil) at read.2 in
     record { all = a; is_known = refl; of_a_text = tt; start = (read.0.records, ap (λ (x : Rows). x.records) read.2); whole = whole }
 
 -- what holds of these rows holds of those that are known
@@ -68,7 +78,8 @@ unread None = tt
 unread (Some rows) = (rows, refl, refl)
 
 -- a row more was read
-pub read-more : (rows before after : Option Rows) (items : List LineByte) (r : LineByte) → WereRead rows items before → TakesRecord before r after → WereRead rows (items ++ r ∷ []) after
+pub read-more : (rows before after : Option Rows) (items : List LineByte) (r : LineByte) → WereRead rows items before → TakesRecord before r after
+    → WereRead rows (items ++ r ∷ []) after
 read-more None before after items r h k = tt
 read-more (Some rows) None after items r h k = cc
 read-more (Some rows) (Some left) after items r h k =
@@ -77,13 +88,15 @@ read-more (Some rows) (Some left) after items r h k =
 
 -- ---- a row that is judged and keeps the rules: the records so far with one more
 
-pub later : {R : Type 0} {progress after : Progress R} {paired next : Paired} {r : LineByte} {s : Step} → GivesRecord progress r after → Takes paired r s next → (x : ℕ) → next.last_time ≡ Some x → x ≤ after.last_time
+pub later : {R : Type 0} {progress after : Progress R} {paired next : Paired} {r : LineByte} {s : Step} → GivesRecord progress r after → Takes paired r s next
+    → (x : ℕ) → next.last_time ≡ Some x → x ≤ after.last_time
 later {r = r} given takes x e =
     let same : Some x ≡ Some r.time_us = sym e ∙ takes.last_time in
     let t : x ≡ r.time_us = cc in omega arith
 
 -- before the first row
-pub so_far-start : {R : Type 0} {which : View} {hands : Hands} {j : Judging R} {now : Option (List ℕ)} → IsFresh hands j → SoFar which hands j.rows.rows j now now []
+pub so_far-start : {R : Type 0} {which : View} {hands : Hands} {j : Judging R} {now : Option (List ℕ)} → IsFresh hands j
+    → SoFar which hands j.rows.rows j now now []
 so_far-start {which = which} {hands = hands} {j = j} {now = now} fresh = record {
   keeps = keeps-none which hands (ap (λ (p : Paired). p.tail) fresh.fed_nothing);
   follows = follows-start hands j.tracker fresh.states fresh.hands;
@@ -96,7 +109,14 @@ so_far-start {which = which} {hands = hands} {j = j} {now = now} fresh = record 
   are_given = given-none j.rows fresh.none_given fresh.no_time;
 }
 
-module _ {R : Type 0} {which : View} {hands : Hands} {rows : Option Rows} {j : Judging R} {old now : Option (List ℕ)} {es : List Exchange} (h : SoFar which hands rows j old now es) where
+-- the time at which exchanges end, one of them last
+ends-more : (records : List LineByte) (es : List Exchange) (e : Exchange) (end_us : Option ℕ) → end_us ≡ Some (last_time records)
+    → IsEnd records (es ++ e ∷ []) end_us
+ends-more records [] e end_us is = is
+ends-more records (x ∷ es) e end_us is = is
+
+module _ {R : Type 0} {which : View} {hands : Hands} {rows : Option Rows} {j : Judging R} {old now : Option (List ℕ)} {es : List Exchange}
+    (h : SoFar which hands rows j old now es) where
   -- the rows that it speaks of, where it ends here with no fault
   pub seen_now : Seen rows j.rows.rows h.items None
   seen_now = seen rows j.rows.rows h.items None h.read h.are_given.can_be
@@ -104,11 +124,20 @@ module _ {R : Type 0} {which : View} {hands : Hands} {rows : Option Rows} {j : J
   pub so_far-ok : IsOk hands h.items
   so_far-ok = record { exchanges = es; tail = j.pairer.tail; cut = h.cut; run = h.run }
 
-  -- after a row, behind which the exchanges have a run and this line was written
-  unfoldable pub so_far-more : {k : Judging R} {new : Option (List ℕ)} {s : Step} (line : List ℕ) → Feeds j k s → HasRun hands (exchanges_after es s) → Follows hands (exchanges_after es s) k.tracker
-      → IsExplained which hands (exchanges_after es s) (h.text ++ line) → Appends now new line → length (exchanges_after es s) ≤ length es + 1 → SoFar which hands rows k old new (exchanges_after es s)
+  -- after a row, after which the exchanges have a run and this line was written
+  unfoldable pub so_far-more : {k : Judging R} {new : Option (List ℕ)} {s : Step} (line : List ℕ) → Feeds j k s → HasRun hands (exchanges_after es s)
+      → KeepsEnds hands (exchanges_after es s) k.tracker
+      → IsExplained which hands (exchanges_after es s) (h.text ++ line) → Appends now new line → length (exchanges_after es s) ≤ length es + 1
+      → SoFar which hands rows k old new (exchanges_after es s)
   so_far-more {k = k} {new = new} {s = s} line feeds run follows explained wrote few = record {
-    keeps = record { items = h.items ++ feeds.line_byte ∷ []; cut = rw feeds.takes.tail (cut-step h.items es j.pairer.tail feeds.line_byte s h.cut feeds.takes.does); run = run; text = h.text ++ line; explained = explained };
+    keeps = record {
+      items = h.items ++ feeds.line_byte ∷ [];
+      cut = rw feeds.takes.tail
+          (cut-step h.items es j.pairer.tail feeds.line_byte s h.cut feeds.takes.does);
+      run = run;
+      text = h.text ++ line;
+      explained = explained;
+    };
     follows = follows;
     wrote = Appends-trans old now new h.text line h.wrote wrote;
     few = omega arith;
@@ -128,16 +157,36 @@ module _ {R : Type 0} {which : View} {hands : Hands} {rows : Option Rows} {j : J
       by s feeds is_open = so_far-more [] feeds h.run (rw w.same_tracker h.follows) (rw append-nil h.explained) (Appends-nil now) (omega arith)
 
   -- the tracker has observed one exchange more
-  pub observed_more : {k : Tracked} {e : Exchange} {b : Bool} → Observes j.tracker k e b → Follows hands (es ++ e ∷ []) k
+  pub observed_more : {k : Tracked} {e : Exchange} {b : Bool} → Observes j.tracker k e b → KeepsEnds hands (es ++ e ∷ []) k
   observed_more {k = k} {e = e} o = follows-more hands es e j.tracker k h.follows o.reached o.hands
 
   -- one that ends an exchange, which the tracker has seen and whose line was written
-  unfoldable pub so_far-exchange : {k : Judging R} {new : Option (List ℕ)} {e : Exchange} (line : List ℕ) → Feeds j k (Step.Exchange e) → Observes j.tracker k.tracker e true
+  unfoldable pub so_far-exchange : {k : Judging R} {new : Option (List ℕ)} {e : Exchange} (line : List ℕ) → Feeds j k (Step.Exchange e)
+      → Observes j.tracker k.tracker e true
       → IsLineOf which hands k.rows.given e (Possible k.tracker.states) line → Appends now new line → SoFar which hands rows k old new (es ++ e ∷ [])
   so_far-exchange {k = k} {e = e} line feeds observes is wrote =
       let follows = observed_more observes in
       let cut = cut-step h.items es j.pairer.tail feeds.line_byte (Step.Exchange e) h.cut feeds.takes.does in
-      let number : k.rows.given ≡ total (es ++ e ∷ []) = omega (arith, length_push h.items feeds.line_byte, cut_len (h.items ++ feeds.line_byte ∷ []) (es ++ e ∷ []) [] cut) in
+      let number : k.rows.given ≡ total (es ++ e ∷ []) = omega
+      (arith, length_push h.items feeds.line_byte, cut_len (h.items ++ feeds.line_byte ∷ []) (es ++ e ∷ []) [] cut) in
       let end = observes.remains.0 refl in
-      so_far-more line feeds ((some_end hands (es ++ e ∷ [])).0 (end.0, (follows.states end.0).0 end.1)) follows (explained_more which hands es e k.rows.given h.text line k.tracker follows h.explained is number) wrote
+      so_far-more line feeds ((some_end hands (es ++ e ∷ [])).0 (end.0, (follows.states end.0).0 end.1)) follows
+      (explained_more which hands es e k.rows.given h.text line k.tracker follows h.explained is number) wrote
       (omega (arith, length_push es e))
+
+  so_far-exchange_items : {k : Judging R} (new : Option (List ℕ)) {e : Exchange} (line : List ℕ) (feeds : Feeds j k (Step.Exchange e))
+      (observes : Observes j.tracker k.tracker e true)
+      (is : IsLineOf which hands k.rows.given e (Possible k.tracker.states) line) (wrote : Appends now new line)
+      → (so_far-exchange {new = new} line feeds observes is wrote).items ≡ h.items ++ feeds.line_byte ∷ []
+  unfolding so_far-exchange so_far-more
+  so_far-exchange_items new line feeds observes is wrote = refl
+
+  -- so its last record's time is that at which the exchanges end
+  pub exchange_ended : {k : Judging R} (new : Option (List ℕ)) {e : Exchange} (line : List ℕ) (feeds : Feeds j k (Step.Exchange e))
+      (observes : Observes j.tracker k.tracker e true)
+      (is : IsLineOf which hands k.rows.given e (Possible k.tracker.states) line) (wrote : Appends now new line)
+      → IsEnd (so_far-exchange {new = new} line feeds observes is wrote).items (es ++ e ∷ []) k.pairer.last_time
+  exchange_ended {k = k} new {e = e} line feeds observes is wrote =
+      ends-more (so_far-exchange {new = new} line feeds observes is wrote).items es e k.pairer.last_time
+      (feeds.takes.last_time ∙ ap Some (sym (ap last_time (so_far-exchange_items new line feeds observes is wrote)
+      ∙ last_time-append h.items (feeds.line_byte ∷ []) (omega arith))))

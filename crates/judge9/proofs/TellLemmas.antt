@@ -24,22 +24,29 @@ of_text (Some t) P k = k
 pub answer_of_text : {which : View} {hands : Hands} {result : Result Verdict JudgeError} {old new : Option (List ℕ)} (text : Option (List ℕ))
     → Judges which hands (option_map rows_of text) result old new → IfSome text (λ t. IfSome (answer_of result) (IsTheAnswer hands (rows_of t)))
 answer_of_text {hands = hands} {result = result} text j =
-    let Answered : Rows → Type 0 = λ rows. IfSome (answer_of result) (IsTheAnswer hands rows) in of_text text Answered (of_known (option_map rows_of text) j.told.rows Answered j.told.is_known j.told.answer)
+    let Answered : Rows → Type 0 = λ rows. IfSome (answer_of result) (IsTheAnswer hands rows) in
+    of_text text Answered (of_known (option_map rows_of text) j.told.rows Answered j.told.is_known j.told.answer)
 
-pub stopped_of_text : {A : Type 0} {which : View} {hands : Hands} {old new : Option (List ℕ)} (verdict_of : A → Verdict) (result : Result A JudgeError) (text : Option (List ℕ))
-    → Judges which hands (option_map rows_of text) (result_map_both verdict_of (λ e. e) result) old new → IfSome text (λ t. IfErr result (StoppedBefore hands (rows_of t)))
+pub stopped_of_text : {A : Type 0} {which : View} {hands : Hands} {old new : Option (List ℕ)} (verdict_of : A → Verdict) (result : Result A JudgeError)
+    (text : Option (List ℕ))
+    → Judges which hands (option_map rows_of text) (result_map_both verdict_of (λ e. e) result) old new
+    → IfSome text (λ t. IfErr result (StoppedBefore hands (rows_of t)))
 stopped_of_text verdict_of result None j = tt
 stopped_of_text verdict_of (Ok v) (Some t) j = tt
 stopped_of_text verdict_of (Err e) (Some t) j = j.stopped
 
--- a refusal of the capture stays whole, or is want of memory
-pub refusal_cases : (P : JudgeError → Type 0) (k : CaptureKind) (e : CaptureError) → (k ≢ CaptureKind.OutOfMemory → P (JudgeError.Capture e)) → P JudgeError.OutOfMemory → P (refusal_by k e)
+-- a refusal of the capture stays whole, or is that memory ran out
+pub refusal_cases : (P : JudgeError → Type 0) (k : CaptureKind) (e : CaptureError) → (k ≢ CaptureKind.OutOfMemory → P (JudgeError.Capture e))
+    → P JudgeError.OutOfMemory → P (refusal_by k e)
 refusal_cases P CaptureKind.OutOfMemory e whole memory = memory
 refusal_cases P k e whole memory = whole (λ same. cc)
 
 -- what is told after these records, of these rows
-unfoldable pub told_after : {which : View} {hands : Hands} {es : List Exchange} {tail items : List LineByte} {rows left : Option Rows} {fault : Option CaptureError} {old new : Option (List ℕ)} (keeps : Keeps which hands es tail) (s : Seen rows left items fault) (r : Result Verdict JudgeError)
-    → IsStartOf keeps.items s.all.records → IfSome (answer_of r) (IsTheAnswer hands s.all) → Written hands s.all keeps.items keeps.text r old new → Told which hands rows r old new
+unfoldable pub told_after : {which : View} {hands : Hands} {es : List Exchange} {tail items : List LineByte} {rows left : Option Rows}
+    {fault : Option CaptureError} {old new : Option (List ℕ)} (keeps : Keeps which hands es tail) (s : Seen rows left items fault)
+    (r : Result Verdict JudgeError)
+    → IsStartOf keeps.items s.all.records → IfSome (answer_of r) (IsTheAnswer hands s.all) → Written hands s.all keeps.items keeps.text r old new
+    → Told which hands rows r old new
 told_after {es = es} {tail = tail} keeps s r start answer written = record {
   rows = s.all;
   is_known = s.is_known;
@@ -59,12 +66,14 @@ told_after {es = es} {tail = tail} keeps s r start answer written = record {
 -- where there was no memory for the tracker, and nothing was read
 pub told-nothing : (which : View) (hands : Hands) (rows : Option Rows) (old : Option (List ℕ)) → Told which hands rows (Err JudgeError.OutOfMemory) old old
 told-nothing which hands rows old =
-    let s = seen rows rows [] None (unread rows) no_rows-can_be in told_after (keeps-none which hands refl) s (Err JudgeError.OutOfMemory) s.start tt (Appends-nil old)
+    let s = seen rows rows [] None (unread rows) no_rows-can_be in
+    told_after (keeps-none which hands refl) s (Err JudgeError.OutOfMemory) s.start tt (Appends-nil old)
 
 -- ---- what a judging can bring, whatever the reader tells of its bytes
 
 -- the records of a cut, of which each exchange has 6 to 36
-cut_counts : (p : List LineByte) (es : List Exchange) (t : List LineByte) → Cut p es t → (length es * 6 + length t ≤ length p) × (length p ≤ length es * 36 + length t)
+cut_counts : (p : List LineByte) (es : List Exchange) (t : List LineByte) → Cut p es t
+    → (length es * 6 + length t ≤ length p) × (length p ≤ length es * 36 + length t)
 cut_counts p [] t h = (omega (arith, ap length h.0), omega (arith, ap length h.0))
 cut_counts p (e ∷ es) t h =
     let more = cut_counts h.1 es t h.4 in
@@ -77,57 +86,100 @@ cut_counts p (e ∷ es) t h =
 -- ---- all that the result tells, at each end
 
 -- a result that is no refusal of the capture, by what was written with it
-pub judges-told : {which : View} {hands : Hands} {rows : Option Rows} {old new : Option (List ℕ)} (now : Option (List ℕ)) (line : List ℕ) (r : Result Verdict JudgeError) → Told which hands rows r old new → CanBeResult r → Puts line r now new → Judges which hands rows r old new
+pub judges-told : {which : View} {hands : Hands} {rows : Option Rows} {old new : Option (List ℕ)} (now : Option (List ℕ)) (line : List ℕ)
+    (r : Result Verdict JudgeError) → Told which hands rows r old new → CanBeResult r → Puts line r now new → Judges which hands rows r old new
 judges-told now line (Err (JudgeError.Capture e)) told can puts = absurd puts
-judges-told {rows = rows} now line r told can puts = record { told = told; stopped = of_known rows told.rows (λ all. ⊤) told.is_known tt; is_kind = λ e q. cc; can_be = can }
+judges-told {rows = rows} now line r told can puts = record {
+  told = told;
+  stopped = of_known rows told.rows (λ all. ⊤) told.is_known tt;
+  is_kind =
+      λ e q. cc;
+  can_be = can;
+}
 
-module _ {R : Type 0} {which : View} {hands : Hands} {rows : Option Rows} {j : Judging R} {old now : Option (List ℕ)} {es : List Exchange} (h : SoFar which hands rows j old now es) where
+module _ {R : Type 0} {which : View} {hands : Hands} {rows : Option Rows} {j : Judging R} {old now : Option (List ℕ)} {es : List Exchange}
+    (h : SoFar which hands rows j old now es) where
   -- memory was refused
   pub judges-memory : {new : Option (List ℕ)} → Appends now new [] → Judges which hands rows (Err JudgeError.OutOfMemory) old new
   judges-memory {new = new} none =
-      let s = seen_now h in judges-told now [] (Err JudgeError.OutOfMemory) (told_after h.keeps s (Err JudgeError.OutOfMemory) s.start tt (none_after old now new h.text h.wrote none)) tt none
+      let s = seen_now h in judges-told now [] (Err JudgeError.OutOfMemory)
+      (told_after h.keeps s (Err JudgeError.OutOfMemory) s.start tt (none_after old now new h.text h.wrote none)) tt none
 
   -- a verdict is told, or its line was not written whole
-  judges-verdict : {new : Option (List ℕ)} {items : List LineByte} {left : Option Rows} {fault : Option CaptureError} (s : Seen rows left items fault) (v : Verdict) (r : Result Verdict JudgeError) → IsStartOf h.items s.all.records → IsAnswer hands s.all (Answer.judged v) → IsVerdictAfter h.items v → CanBeVerdict v
+  judges-verdict : {new : Option (List ℕ)} {items : List LineByte} {left : Option Rows} {fault : Option CaptureError} (s : Seen rows left items fault)
+      (v : Verdict) (r : Result Verdict JudgeError) → IsStartOf h.items s.all.records → IsAnswer hands s.all (Answer.judged v) → IsVerdictAfter h.items v
+      → CanBeVerdict v
       → IsSame v r → Puts (line_of v) r now new → (judges : Judges which hands rows r old new) × (judges.told.rows ≡ s.all)
   unfolding told_after judges-told
   judges-verdict {new = new} s v (Ok w) start is after can same puts =
-      rw same (judges-told now (line_of v) (Ok v) (told_after h.keeps s (Ok v) start (the_answer hands s.all (Answer.judged v) is) (after, Appends-trans old now new h.text (line_of v) h.wrote puts)) can puts, refl)
+      rw same (
+        judges-told now (line_of v) (Ok v) (told_after h.keeps s (Ok v) start (the_answer hands s.all (Answer.judged v) is)
+            (after, Appends-trans old now new h.text (line_of v) h.wrote puts)) can puts,
+        refl,
+      )
   judges-verdict s v (Err (JudgeError.Capture e)) start is after can same puts = absurd puts
-  judges-verdict {new = new} s v (Err JudgeError.Write) start is after can same puts =
-      (judges-told now (line_of v) (Err JudgeError.Write) (told_after h.keeps s (Err JudgeError.Write) start tt (inr (v, is, after, part_after old now new h.text (line_of v) h.wrote puts))) tt puts, refl)
-  judges-verdict {new = new} s v (Err JudgeError.OutOfMemory) start is after can same puts =
-      (judges-told now [] (Err JudgeError.OutOfMemory) (told_after h.keeps s (Err JudgeError.OutOfMemory) start tt (none_after old now new h.text h.wrote puts)) tt puts, refl)
+  judges-verdict {new = new} s v (Err JudgeError.Write) start is after can same puts = (
+    judges-told now (line_of v) (Err JudgeError.Write) (told_after h.keeps s (Err JudgeError.Write) start tt
+        (inr (v, is, after, part_after old now new h.text (line_of v) h.wrote puts))) tt puts,
+    refl,
+  )
+  judges-verdict {new = new} s v (Err JudgeError.OutOfMemory) start is after can same puts = (
+    judges-told now [] (Err JudgeError.OutOfMemory) (told_after h.keeps s (Err JudgeError.OutOfMemory) start tt (none_after old now new h.text h.wrote puts))
+        tt puts,
+    refl,
+  )
 
   -- there is no row left
-  pub judges-end : {k : Judging R} {new : Option (List ℕ)} {n : ℕ} (r : Result Verdict JudgeError) → EndsRows j k → n ≡ length es → IsSame (Verdict.Yes k.rows.given n (length k.pairer.tail)) r → Puts (line_of (Verdict.Yes k.rows.given n (length k.pairer.tail))) r now new
+  pub judges-end : {k : Judging R} {new : Option (List ℕ)} {n : ℕ} (r : Result Verdict JudgeError) → EndsRows j k → n ≡ length es
+      → IsSame (Verdict.Yes k.rows.given n (length k.pairer.tail)) r → Puts (line_of (Verdict.Yes k.rows.given n (length k.pairer.tail))) r now new
       → (judges : Judges which hands rows r old new) × (judges.told.rows.records ≡ h.items)
   judges-end {k = k} {n = n} r t count same puts =
       let s = seen_now h in
       let whole : s.all ≡ record { records = h.items; fault = None } = s.whole t.ends.none_left in
       let some = cut_counts h.items es j.pairer.tail h.cut in
       let counts : AreCounts hands h.items k.rows.given n (length k.pairer.tail) =
-      record { cut_exchanges = es; cut_tail = j.pairer.tail; cut = h.cut; run = h.run; number = omega arith; exchange_number = count; tail_number = rw t.same_pairer } in
+      record {
+        cut_exchanges = es;
+        cut_tail = j.pairer.tail;
+        cut = h.cut;
+        run = h.run;
+        number = omega arith;
+        exchange_number = count;
+        tail_number =
+            rw t.same_pairer;
+      } in
       let can : CanBeVerdict (Verdict.Yes k.rows.given n (length k.pairer.tail)) =
-      rw t.same_pairer (record { few = omega arith; short = tail_short j.pairer.tail (cut_tail h.items es j.pairer.tail h.cut); enough = omega arith; no_more = omega arith }) in
-      let both = judges-verdict s (Verdict.Yes k.rows.given n (length k.pairer.tail)) r s.start (ap (λ (x : Rows). x.fault) whole, rw whole counts) (omega arith) can same puts in
+      rw t.same_pairer (record {
+        few = omega arith;
+        short = tail_short j.pairer.tail (cut_tail h.items es j.pairer.tail h.cut);
+        enough = omega arith;
+        no_more =
+            omega arith;
+      }) in
+      let both = judges-verdict s (Verdict.Yes k.rows.given n (length k.pairer.tail)) r s.start (ap (λ (x : Rows). x.fault) whole, rw whole counts)
+      (omega arith) can same puts in
       (both.0, rw (both.1, whole))
 
   -- a record breaks a rule
-  pub judges-no : {new : Option (List ℕ)} {given : Progress R} {next : LineByte} {reason : Reason} (r : Result Verdict JudgeError) → GivesRecord j.rows next given → Breaks hands h.items next reason → IsSame (Verdict.No given.given reason) r → Puts (line_of (Verdict.No given.given reason)) r now new
+  pub judges-no : {new : Option (List ℕ)} {given : Progress R} {next : LineByte} {reason : Reason} (r : Result Verdict JudgeError)
+      → GivesRecord j.rows next given → Breaks hands h.items next reason → IsSame (Verdict.No given.given reason) r
+      → Puts (line_of (Verdict.No given.given reason)) r now new
       → (judges : Judges which hands rows r old new) × IsStartOf (h.items ++ next ∷ []) judges.told.rows.records
   judges-no {given = given} {next = next} {reason = reason} r gives breaks same puts =
       let after = given-more h.items j.rows given next h.are_given gives in
       let s = seen rows given.rows (h.items ++ next ∷ []) None (read-more rows j.rows.rows given.rows h.items next h.read gives.rows) after.can_be in
       let split : s.all.records ≡ h.items ++ next ∷ s.start.0 = rw append_assoc at s.start.1 in
-      let is : IsFirstBreak hands s.all.records given.given reason = record { before = h.items; next = next; after = s.start.0; split = split; number = omega arith; breaks = breaks } in
-      let both = judges-verdict s (Verdict.No given.given reason) r (next ∷ s.start.0, split) is (omega arith) (record { counted = omega arith; few = gives.within }) same puts in
+      let is : IsFirstBreak hands s.all.records given.given reason =
+      record { before = h.items; next = next; after = s.start.0; split = split; number = omega arith; breaks = breaks } in
+      let both = judges-verdict s (Verdict.No given.given reason) r (next ∷ s.start.0, split) is (omega arith)
+      (record { counted = omega arith; few = gives.within }) same puts in
       (both.0, rw both.1 s.start)
 
   -- of pairing
   pub breaks-pairing : {k : Judging R} {next : LineByte} {reason : Reason} → Spoils j k reason next → Breaks hands h.items next reason
   breaks-pairing {next = next} {reason = reason} spoils =
-      tail_breaks hands h.items es j.pairer.tail next reason h.cut h.run (λ kept. spoils.refuses.not_kept (tail_by_kept h.items es j.pairer.tail (next ∷ []) h.cut kept)) spoils.refuses.is_reason
+      tail_breaks hands h.items es j.pairer.tail next reason h.cut h.run
+      (λ kept. spoils.refuses.not_kept (tail_by_kept h.items es j.pairer.tail (next ∷ []) h.cut kept)) spoils.refuses.is_reason
 
   -- or it ends an exchange with which no run remains
   pub none_observed : {k : Tracked} {e : Exchange} → Observes j.tracker k e false → ¬ HasRun hands (es ++ e ∷ [])
@@ -135,16 +187,20 @@ module _ {R : Type 0} {which : View} {hands : Hands} {rows : Option Rows} {j : J
       let end = (some_end hands (es ++ e ∷ [])).1 run in
       false≢true (o.remains.1 (end.0, ((observed_more h o).states end.0).1 end.1))
 
-  pub breaks-run : {k : Judging R} {e : Exchange} (feeds : Feeds j k (Step.Exchange e)) → Observes j.tracker k.tracker e false → Breaks hands h.items feeds.line_byte Reason.NoRun
+  pub breaks-run : {k : Judging R} {e : Exchange} (feeds : Feeds j k (Step.Exchange e)) → Observes j.tracker k.tracker e false
+      → Breaks hands h.items feeds.line_byte Reason.NoRun
   breaks-run {e = e} feeds observes =
       let cut = cut-exchange h.items es j.pairer.tail feeds.line_byte e h.cut feeds.takes.does in
-      let first = no_run_first hands es j.pairer.tail feeds.line_byte e (exchange_less j.pairer.tail feeds.line_byte e feeds.takes.does).1 feeds.takes.does (none_observed observes) in
+      let first = no_run_first hands es j.pairer.tail feeds.line_byte e (exchange_less j.pairer.tail feeds.line_byte e feeds.takes.does).1 feeds.takes.does
+      (none_observed observes) in
       let not_ok : ¬ IsOk hands (h.items ++ feeds.line_byte ∷ []) =
-      λ ok. none_observed observes (subst (HasRun hands) (cut_once (h.items ++ feeds.line_byte ∷ []) ok.exchanges (es ++ e ∷ []) ok.tail [] ok.cut cut).0 ok.run) in
+      λ ok. none_observed observes (subst (HasRun hands) (cut_once (h.items ++ feeds.line_byte ∷ []) ok.exchanges (es ++ e ∷ []) ok.tail [] ok.cut cut).0
+      ok.run) in
       record { exchanges = es; tail = j.pairer.tail; cut = h.cut; run = h.run; not_ok = not_ok; is_reason = first }
 
   -- the capture is refused
-  pub judges-refusal : {given : Progress R} {e : CaptureError} {x : JudgeError} → GivesRefusal j.rows e given → x ≡ refusal_of e → Judges which hands rows (Err x) old now
+  pub judges-refusal : {given : Progress R} {e : CaptureError} {x : JudgeError} → GivesRefusal j.rows e given → x ≡ refusal_of e
+      → Judges which hands rows (Err x) old now
   judges-refusal {given = given} {e = e} {x = x} refusal same =
       rw same (refusal_cases (λ y. Judges which hands rows (Err y) old now) e.kind e whole (judges-memory (Appends-nil now)))
     where
@@ -152,7 +208,8 @@ module _ {R : Type 0} {which : View} {hands : Hands} {rows : Option Rows} {j : J
       place = refused-after j.rows given e h.items refusal h.are_given.given
 
       -- where nothing is known of the rows, a refusal leaves the bad row, where it is a fault of the text
-      told_rows : (b : Bool) → is_of_text e.kind ≡ b → (s : Seen rows j.rows.rows h.items (if b then Some e else None)) × IfSome (if b then Some (Answer.unreadable e) else None) (IsTheAnswer hands s.all)
+      told_rows : (b : Bool) → is_of_text e.kind ≡ b → (s : Seen rows j.rows.rows h.items (if b then Some e else None))
+          × IfSome (if b then Some (Answer.unreadable e) else None) (IsTheAnswer hands s.all)
       told_rows true t =
           let s = seen rows j.rows.rows h.items (Some e) h.read (given-refused h.items j.rows given e h.are_given h.is_reading refusal t) in
           let all = s.whole (refusal.fault t) in
@@ -167,7 +224,14 @@ module _ {R : Type 0} {which : View} {hands : Hands} {rows : Option Rows} {j : J
       before None read = tt
       before (Some all) read = λ _.
           let has : e.row ≢ 0 → HasHeader read.0 = λ low. rw read.1 at (refusal.has_header (headed given.is_headed refusal.place low)) in
-          record { items = h.items; start = (read.0.records, ap (λ (x : Rows). x.records) read.2); place = place; has_header = λ low. rw read.2 (has low); is_ok = so_far-ok h }
+          record {
+            items = h.items;
+            start = (read.0.records, ap (λ (x : Rows). x.records) read.2);
+            place = place;
+            has_header =
+                λ low. rw read.2 (has low);
+            is_ok = so_far-ok h;
+          }
 
       whole : e.kind ≢ CaptureKind.OutOfMemory → Judges which hands rows (Err (JudgeError.Capture e)) old now
       whole other =
@@ -179,13 +243,15 @@ module _ {R : Type 0} {which : View} {hands : Hands} {rows : Option Rows} {j : J
           }
 
   -- an exchange, whose line was not written whole
-  pub judges-explained : {k : Judging R} {new : Option (List ℕ)} {e : Exchange} (x : JudgeError) → Turned j (Ok (Turn.Exchange e)) k → Explains which hands k.rows.given e (Possible k.tracker.states) (Err x) now new → Judges which hands rows (Err x) old new
+  pub judges-explained : {k : Judging R} {new : Option (List ℕ)} {e : Exchange} (x : JudgeError) → Turned j (Ok (Turn.Exchange e)) k
+      → Explains which hands k.rows.given e (Possible k.tracker.states) (Err x) now new → Judges which hands rows (Err x) old new
   unfolding so_far-exchange so_far-more
   judges-explained (JudgeError.Capture c) t line = absurd line.puts
   judges-explained {new = new} JudgeError.Write t line =
       let far = so_far-exchange h line.line t.0 t.1 line.is_line (appended now line.line) in
       let s = seen_now far in
-      judges-told now line.line (Err JudgeError.Write) (told_after far.keeps s (Err JudgeError.Write) s.start tt (inl (part_after old now new h.text line.line h.wrote line.puts))) tt line.puts
+      judges-told now line.line (Err JudgeError.Write) (told_after far.keeps s (Err JudgeError.Write) s.start tt
+      (inl (part_after old now new h.text line.line h.wrote line.puts))) tt line.puts
   judges-explained JudgeError.OutOfMemory t line = judges-memory line.puts
 
   -- the rows were refused, or memory was

@@ -1,54 +1,114 @@
 -- What is kept at each end of a judging that keeps its trail.
+use Rattle.judge9.proofs.Words.{EndedExchange, IsBefore, IsBeforeAll, IsEnd, IsFresh, subst, sym, ℕ}
 use Rattle.judge9.proofs.Words.{[], ap, append_assoc, arith, BreaksAtLast, Cut, Ending, Err, Exchange, Hands, inl, inr, IsBreakAfter, IsErrAnd, IsTrail}
 use Rattle.judge9.proofs.Words.{JudgeError, Judging, KeepsTrail, length, length_push, LineByte, List, None, Ok, Option, Reason, refl, Result, Rows, some_end}
 use Rattle.judge9.proofs.Words.{take, take-append_seam, Tracked, Turn, Turned, Verdict, View, ◌++◌, ◌∙◌, ◌∷◌, ◌≡◌, ◌≢◌}
 use Rattle.judge9.proofs.CutSteps.{cut-exchange}
+use Rattle.judge9.proofs.RunSteps.{follows-from}
 use Rattle.judge9.proofs.SoFar.{SoFar}
 use Rattle.judge9.proofs.TellLemmas.{breaks-pairing, breaks-run, judges-end, judges-memory, judges-no, judges-refusal, none_observed, refusal_cases}
 use Rattle.judge9.proofs.LawLemmas.{pairing_reason}
 use Rattle.judge9.proofs.TurnSteps.{handed}
 use Rattle.judge9.proofs.DayLemmas.{cut_in_day}
 
+-- before the first exchange the tracker keeps the states before a capture
+pub before_all : {R : Type 0} {hands : Hands} {j : Judging R} → IsFresh hands j → IsBeforeAll hands j.tracker
+before_all fresh = record { states = fresh.states; hands = fresh.hands }
+
+-- with what is told of the exchange before a break
+pub broken_with : (records : List LineByte) (at : ℕ) (left items : List LineByte) (r : LineByte) (es : List Exchange) (end_us : Option ℕ)
+    (told : Option EndedExchange) → items ≡ left
+    → ((broken : IsBreakAfter records at left r) × (broken.exchanges ≡ es) × (left ≡ [] → IsEnd broken.before es end_us))
+    → ((before : List LineByte) → (items ≡ [] → IsEnd before es end_us) → IsBefore before es items told)
+    → (broken : IsBreakAfter records at items r) × IsBefore broken.before broken.exchanges items told
+broken_with records at left items r es end_us told same ended tells =
+    let was = ended.0 in
+    let cut = subst (λ (t : List LineByte). Cut was.before was.exchanges t) (sym same) was.cut in
+    let broken : IsBreakAfter records at items r =
+    record {
+      before = was.before;
+      after = was.after;
+      split = was.split;
+      number = was.number;
+      exchanges = es;
+      cut =
+          subst (λ (l : List Exchange). Cut was.before l items) ended.1 cut;
+    } in
+    (broken, tells was.before (λ nil. ended.2 (sym same ∙ nil)))
+
 -- ---- what is kept at each end
 
 module _ {R : Type 0} {hands : Hands} {rows : Option Rows} {j : Judging R} {es : List Exchange} (h : SoFar View.Verdict hands rows j None None es) where
   -- memory was refused
-  pub keep-memory : {left : List LineByte} {fs : List Exchange} {us : List Tracked} {u : Tracked} (r : Result Ending JudgeError) → IsErrAnd r (λ x. x ≡ JudgeError.OutOfMemory) → KeepsTrail hands rows r left fs us u
+  pub keep-memory : {left : List LineByte} {fs : List Exchange} {us : List Tracked} {u : Tracked} (r : Result Ending JudgeError)
+      → IsErrAnd r (λ x. x ≡ JudgeError.OutOfMemory) → KeepsTrail hands rows r left fs us u
   keep-memory r is = rw (handed r is) (record { judges = judges-memory h tt; ends = tt; no_write = λ q. cc })
 
   -- the rows were refused, or memory was
-  pub keep-stopped : (k : Judging R) (x : JudgeError) {left : List LineByte} {fs : List Exchange} {us : List Tracked} {u : Tracked} → Turned j (Err x) k → KeepsTrail hands rows (Err x) left fs us u
+  pub keep-stopped : (k : Judging R) (x : JudgeError) {left : List LineByte} {fs : List Exchange} {us : List Tracked} {u : Tracked} → Turned j (Err x) k
+      → KeepsTrail hands rows (Err x) left fs us u
   keep-stopped k x (inl memory) = keep-memory (Err x) memory
   keep-stopped k x (inr refusal) =
-      let no_write = refusal_cases (λ y. (let r : Result Ending JudgeError = Err y in r) ≢ Err JudgeError.Write) refusal.0.kind refusal.0 (λ _ q. cc) (λ q. cc) in
+      let no_write = refusal_cases (λ y. (let r : Result Ending JudgeError = Err y in r) ≢ Err JudgeError.Write) refusal.0.kind refusal.0 (λ _ q. cc) (λ q. cc)
+      in
       record { judges = judges-refusal h refusal.1 refusal.2; ends = tt; no_write = rw refusal.2 no_write }
 
   -- a rule of pairing is broken
-  pub keep-break : {k : Judging R} {fs : List Exchange} {us : List Tracked} {u : Tracked} {reason : Reason} {next : LineByte} → Turned j (Ok (Turn.Break reason next)) k → KeepsTrail hands rows (Ok (Ending.Break k.rows.given reason next)) k.pairer.tail fs us u
-  keep-break {k = k} {reason = reason} {next = next} spoils =
+  pub keep-break : {k : Judging R} {us : List Tracked} {u : Tracked} {reason : Reason} {next : LineByte} {end_us : Option ℕ}
+      → (j.pairer.tail ≡ [] → IsEnd h.items es end_us) → Turned j (Ok (Turn.Break reason next)) k
+      → KeepsTrail hands rows (Ok (Ending.Break k.rows.given reason next end_us)) k.pairer.tail es us u
+  keep-break {k = k} {reason = reason} {next = next} ended spoils =
       let both = judges-no h {new = None} (Ok (Verdict.No k.rows.given reason)) spoils.gives (breaks-pairing h spoils) refl tt in
       let is_break : IsBreakAfter both.0.told.rows.records k.rows.given k.pairer.tail next =
-      record { before = h.items; after = both.1.0; split = rw append_assoc at both.1.1; number = omega (arith, spoils.gives); exchanges = es; cut = rw spoils.refuses.tail h.cut } in
-      record { judges = both.0; ends = (pairing_reason spoils.refuses.is_reason, is_break); no_write = λ q. cc }
+      record {
+        before = h.items;
+        after = both.1.0;
+        split = rw append_assoc at both.1.1;
+        number = omega (arith, spoils.gives);
+        exchanges = es;
+        cut =
+            rw spoils.refuses.tail h.cut;
+      } in
+      record {
+        judges = both.0;
+        ends = (pairing_reason spoils.refuses.is_reason, is_break, refl, λ nil. ended (sym spoils.refuses.tail ∙ nil));
+        no_write =
+            λ q. cc;
+      }
 
   -- no run remains
-  pub keep-no_run : {k : Judging R} {us : List Tracked} {u : Tracked} {e : Exchange} → Turned j (Ok (Turn.NoRun e)) k → KeepsTrail hands rows (Ok (Ending.NoRun k.rows.given)) k.pairer.tail (es ++ e ∷ []) us u
+  pub keep-no_run : {k : Judging R} {us : List Tracked} {u : Tracked} {e : Exchange} → Turned j (Ok (Turn.NoRun e)) k
+      → KeepsTrail hands rows (Ok (Ending.NoRun k.rows.given)) k.pairer.tail (es ++ e ∷ []) us u
   keep-no_run {k = k} {e = e} (feeds, observes) =
       let read : List LineByte = h.items ++ feeds.line_byte ∷ [] in
       let both = judges-no h {new = None} (Ok (Verdict.No k.rows.given Reason.NoRun)) feeds.gives (breaks-run h feeds observes) refl tt in
       let cut : Cut read (es ++ e ∷ []) [] = cut-exchange h.items es j.pairer.tail feeds.line_byte e h.cut feeds.takes.does in
       let number : k.rows.given ≡ length read = omega (arith, length_push h.items feeds.line_byte) in
-      let up_to : take k.rows.given both.0.told.rows.records ≡ read = rw both.1.1 (ap (λ n. take n (read ++ both.1.0)) number ∙ take-append_seam read both.1.0) in
-      let breaks : BreaksAtLast hands (es ++ e ∷ []) = record { before = es; last = e; is_split = refl; has_run = h.run; has_none = none_observed h observes } in
+      let up_to : take k.rows.given both.0.told.rows.records ≡ read =
+      rw both.1.1 (ap (λ n. take n (read ++ both.1.0)) number ∙ take-append_seam read both.1.0) in
+      let breaks : BreaksAtLast hands (es ++ e ∷ []) = record { before = es; last = e; is_split = refl; has_run = h.run; has_none = none_observed h observes }
+      in
       record { judges = both.0; ends = record { cut = rw up_to cut; breaks = breaks; presets = cut_in_day read (es ++ e ∷ []) [] cut }; no_write = λ q. cc }
 
   -- no row is left
-  pub keep-end : {k : Judging R} {trackers : List Tracked} → IsTrail hands es trackers → Turned j (Ok Turn.End) k → KeepsTrail hands rows (Ok (Ending.End k.rows.given (length k.pairer.tail))) k.pairer.tail es trackers k.tracker
-  keep-end {k = k} trail t =
+  pub keep-end : {k : Judging R} {first : Tracked} {trackers : List Tracked} → IsBeforeAll hands first → IsTrail first es trackers → Turned j (Ok Turn.End) k
+      → KeepsTrail hands rows (Ok (Ending.End k.rows.given (length k.pairer.tail))) k.pairer.tail es trackers k.tracker
+  keep-end {k = k} {first = first} before trail t =
       let both = judges-end h (Ok (Verdict.Yes k.rows.given (length es) (length k.pairer.tail))) t refl refl tt in
       let last = (some_end hands es).1 h.run in
       record {
         judges = both.0;
-        ends = record { left = j.pairer.tail; cut = rw both.1 h.cut; trail = trail; follows = rw t.same_tracker h.follows; some = (last.0, rw t.same_tracker ((h.follows.states last.0).1 last.1)) };
+        ends = record {
+          left = j.pairer.tail;
+          cut = rw both.1 h.cut;
+          arrived = record {
+            first = first;
+            is_first = before;
+            trail = trail;
+            follows =
+                rw t.same_tracker (follows-from hands first es j.tracker before h.follows);
+          };
+          some = (last.0, rw t.same_tracker ((h.follows.states last.0).1 last.1));
+        };
         no_write = λ q. cc;
       }

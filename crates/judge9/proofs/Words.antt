@@ -5,9 +5,11 @@ pub use Rattle.block9.proofs.LineLemmas.{same_parts}
 pub use Rattle.block9.proofs.OrderLemmas.{first_before_last, first_holds, first_once, last_is_first, rank, rank_low, rank_once}
 pub use Rattle.block9.proofs.StepLemmas.{still_tail, tail_short}
 pub use Rattle.block9.proofs.TailLemmas.{last_time-append}
+pub use Rattle.verdict9.specs.OpenRecords.{IsBefore}
+pub use Rattle.verdict9.specs.declared.why_verdict.EndedExchange.{EndedExchange}
 pub use Rattle.block9.specs.Command.{meaning_in, Row}
 unfoldable pub use Rattle.block9.specs.Command.{command_of}
-pub use Rattle.block9.specs.Exchange.{Does, IsExchange, IsKept, IsTail, tail_after}
+pub use Rattle.block9.specs.Exchange.{IsStep, IsExchange, IsKept, IsTail, tail_after}
 pub use Rattle.block9.specs.Line.{bytes_of, last_time}
 pub use Rattle.block9.specs.Pairer.{Paired}
 pub use Rattle.block9.specs.Reason.{Holds, IsFirst, IsReason, order}
@@ -28,7 +30,7 @@ pub use Rattle.deck9.proofs.RunSearch.{run_start}
 pub use Rattle.deck9.specs.Contradict.{Passes}
 pub use Rattle.deck9.specs.Drift.{Drift}
 pub use Rattle.deck9.specs.Effect.{effect_of}
-pub use Rattle.deck9.specs.Run.{HasRun}
+pub use Rattle.deck9.specs.Run.{HasRun, IsRun}
 pub use Rattle.deck9.specs.declared.effect.Change.TheVariants.{SetAt}
 pub use Rattle.deck9.specs.declared.effect.Effect.TheVariants.{the_data as Effect}
 pub use Rattle.deck9.specs.declared.mode.Mode.{Mode}
@@ -42,15 +44,17 @@ pub use Rattle.judge9.specs.Working.{Exchanges, Explains, false, GivesRecord, Gi
 pub use Rattle.judge9.specs.Working.{JudgeError, Judges, Judging, Knowledge, last_state, length, line_of_exchange, LineByte, List, None, Ok, Option, Possible, Puts, Reason}
 pub use Rattle.judge9.specs.Working.{refusal_of, Result, reverse, Rows, SetsInDay, slice_get, Some, Standing, State, Step, StoppedBefore, suc, take, Takes, Told, Tracked, true}
 pub use Rattle.judge9.specs.Working.{Verdict, View, zero, ℕ, ⊤}
-pub use Rattle.judge9.specs.Working.Trail.{Follows, GoesBack, IsTrail, KeepsTrail, Leads, stretch_length}
+pub use Rattle.block9.proofs.TailLemmas.{last_time-append}
+pub use Rattle.block9.specs.Line.{last_time}
+pub use Rattle.judge9.specs.Working.Trail.{Arrived, KeepsEnds, FollowsFrom, GoesBack, IsBeforeAll, IsEnd, IsTrail, KeepsTrail, Leads, LeadsFrom, stretch_length}
 pub use Rattle.judge9.specs.Working.Turn.{AreOpen, ComesTo, EndsRows, Feeds, IsFresh, IsObserved, IsOpen, Observes, Spoils, Turned, Waits}
-pub use Rattle.judge9.specs.declared.turn.Turn.TheVariants.{the_data as Turn}
+pub use Rattle.judge9.specs.declared.judging.Turn.TheVariants.{the_data as Turn}
 pub use Rattle.std.proofs.Common.{ap, arith, drop, get_or, if◌then◌else◌, inl, inr, length-append, OnOk, option_map, refl, slice_range, subst, sym, take-add}
 pub use Rattle.std.proofs.Common.{◌*◌, ◌+◌, ◌++◌, ◌-◌, ◌/◌, ◌<◌, ◌^◌, ◌↔◌, ◌∙◌, ◌∷◌, ◌≡◌, ◌≢◌, ◌≤◌, ◌⊎◌}
 pub use Rattle.std.proofs.KnownBytes.{Appends-nil, Appends-trans}
 pub use Rattle.std.proofs.Math.Seq.{take-append_seam, take-length}
 pub use Rattle.std.proofs.lemmas.Bool.{cases_lt, false≢true}
-pub use Rattle.std.proofs.lemmas.List.{append-nil, append_assoc, length-map, length_push, nil_from_length, reverse-append, take-append-drop, take-append-le, take_all, take_more}
+pub use Rattle.std.proofs.lemmas.List.{append-nil, append_assoc, length-map, length_push, nil_from_length, reverse-append, reverse-reverse, take-append-drop, take-append-le, take_all, take_more}
 pub use Rattle.std.proofs.lemmas.List.Elements.{All-cons, All-nil}
 pub use Rattle.std.proofs.lemmas.Option.{slice_get_read}
 pub use Rattle.std.specs.Io.KnownBytes.{append_known}

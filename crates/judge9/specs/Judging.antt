@@ -41,7 +41,7 @@ answer_of (Err error.Write) = None
 answer_of (Err error.OutOfMemory) = None
 
 -- all the records before the row of this refusal keep the rules; before row 0, the header, there are none, and
--- behind it the text has its header
+-- after it the text has its header
 pub record IsOkBefore (hands : Hands) (rows : Rows) (e : CaptureError) : Type 0 where
   pub items : List LineByte
   pub start : IsStartOf items rows.records

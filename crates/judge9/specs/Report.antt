@@ -68,7 +68,7 @@ IsVerdictAfter items (No at reason) = at ≡ length items + 1
 -- what was written, by the result, where these records were found to keep the rules and `text` is what the view shows
 -- of their exchanges: with a verdict the text and the verdict's line; at a refusal of the capture the text, and these
 -- records are all those before its row; where the writer failed a first part of the text, or of the text and the right
--- verdict's line; at want of memory the text
+-- verdict's line; where memory ran out the text
 abbrev pub Written : Hands → Rows → List LineByte → List ℕ → Result Verdict JudgeError → Option (List ℕ) → Option (List ℕ) → Type 0
 Written hands rows items text (Ok v) old new = IsVerdictAfter items v × Appends old new (text ++ line_of v)
 Written hands rows items text (Err (error.Capture e)) old new = IsAfter items e × Appends old new text

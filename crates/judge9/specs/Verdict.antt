@@ -36,7 +36,7 @@ pub record Breaks (hands : Hands) (records : List LineByte) (next : LineByte) (r
   pub not_ok : ¬ IsOk hands (records ++ next ∷ [])
   pub is_reason : IsFirst (Applies hands exchanges tail next) order reason
 
--- all the records keep the rules, and these are how many records there are, how many whole exchanges, and
+-- all the records keep the rules, and these are how many records there are, how many complete exchanges, and
 -- how many records are open at the end
 pub record AreCounts (hands : Hands) (items : List LineByte) (records exchanges tail : ℕ) : Type 0 where
   pub cut_exchanges : List Exchange

@@ -1,5 +1,5 @@
 -- What a result of a judging tells that says why no run remains: a verdict, and which replies contradict one another.
-use Rattle.std.specs.Prelude.{◌≡◌, ◌≢◌, ◌<◌, ◌^◌, ◌↔◌, ⊤, true, List, [], ◌∷◌, ◌++◌, take, Option, Result, Ok, Err}
+use Rattle.std.specs.Prelude.{◌≡◌, ◌≢◌, ◌<◌, ◌^◌, ◌↔◌, ⊤, true, Some, List, [], ◌∷◌, ◌++◌, take, Option, Result, Ok, Err}
 use Rattle.std.specs.Option.{IfNone, IfSome}
 use Rattle.std.specs.Result.{IfOk}
 use Rattle.capture9.specs.Rows.{Rows}
@@ -25,12 +25,12 @@ use Rattle.verdict9.specs.declared.verdict.Verdict.TheVariants as verdict
 use Rattle.verdict9.specs.declared.why_verdict.WhyVerdict.{WhyVerdict}
 use Rattle.verdict9.specs.declared.why_verdict.WhyVerdict.TheVariants as why
 use Rattle.judge9.specs.Judging.{IsTheAnswer, answer_of}
-use Rattle.verdict9.specs.OpenRecords.{IsBreakAfter}
+use Rattle.verdict9.specs.OpenRecords.{IsBefore, IsBreakAfter}
 
 -- the verdict alone
 abbrev pub verdict_of : WhyVerdict → Verdict
 verdict_of (why.Yes records exchanges tail) = verdict.Yes records exchanges tail
-verdict_of (why.Break at reason tail command r) = verdict.No at reason
+verdict_of (why.Break at reason tail command before r) = verdict.No at reason
 verdict_of (why.Contradiction at exchanges places known shown) = verdict.No at NoRun
 
 -- the result of a judging with the verdict alone
@@ -51,14 +51,16 @@ pub record CouldShow (hands : Hands) (exchanges : List Exchange) (known : Knowle
   pub ten : shown.0 < 2 ^ 10
   pub shows : (m : Mode) → (has shown.0 m ≡ true) ↔ ((s : State) × CouldBe hands before s × (s.shown ≡ m))
 
--- where a rule of pairing is broken, the record is the one that breaks it, with the records that are open before it, and
--- the command that these begin with, if it is whole; where no run remains, the exchanges are those that the records up to
+-- where a rule of pairing is broken, the record is the one that breaks it, with the records that are open before it, the
+-- command that these begin with, if it is complete, and the exchange before it, where none is open; where no run
+-- remains, the exchanges are those that the records up to
 -- the break are cut into, the replies at these places contradict one another, and this is what the deck could show before
 -- the last of them
 abbrev pub HasItsWhy : Hands → Rows → WhyVerdict → Type 0
 HasItsWhy hands rows (why.Yes records exchanges tail) = ⊤
-HasItsWhy hands rows (why.Break at reason tail command r) =
-    (reason ≢ NoRun) × IsBreakAfter rows.records at tail.items r × ((c : Command) → (command ≡ Some c) ↔ BeginsWith tail.items c)
+HasItsWhy hands rows (why.Break at reason tail command before r) =
+    (reason ≢ NoRun) × ((c : Command) → (command ≡ Some c) ↔ BeginsWith tail.items c)
+    × (broken : IsBreakAfter rows.records at tail.items r) × IsBefore broken.before broken.exchanges tail.items before
 HasItsWhy hands rows (why.Contradiction at exchanges places known shown) =
     Cut (take at rows.records) exchanges.items [] × IsContradiction hands exchanges.items places.items × CouldShow hands exchanges.items known shown
 

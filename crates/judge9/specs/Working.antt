@@ -24,7 +24,7 @@ pub use Rattle.judge9.specs.Report.{Told}
 pub use Rattle.judge9.specs.RunVerdict.{HasItsRun, judged_of}
 pub use Rattle.judge9.specs.WhyVerdict.{HasItsWhy}
 pub use Rattle.judge9.specs.declared.ending.Ending.TheVariants.{the_data as Ending}
-pub use Rattle.judge9.specs.declared.turn.Judging.{Judging}
+pub use Rattle.judge9.specs.declared.judging.Judging.{Judging}
 pub use Rattle.std.specs.Io.KnownBytes.{Appends}
 pub use Rattle.std.specs.List.{All}
 pub use Rattle.std.specs.Option.{IfSome}
@@ -64,7 +64,8 @@ IsLineOf View.Verdict hands at e states line = line ≡ []
 IsLineOf View.Explain hands at e states line = (known : Knowledge) × IsKnowledge states known × (line ≡ line_of_exchange hands at e known)
 
 -- the result of writing what a view shows of one exchange
-pub record Explains (which : View) (hands : Hands) (at : ℕ) (e : Exchange) (states : State → Type 0) (result : Result Unit JudgeError) (old new : Option (List ℕ)) : Type 0 where
+pub record Explains (which : View) (hands : Hands) (at : ℕ) (e : Exchange) (states : State → Type 0) (result : Result Unit JudgeError)
+    (old new : Option (List ℕ)) : Type 0 where
   pub line : List ℕ
   pub is_line : IsLineOf which hands at e states line
   pub puts : Puts line result old new

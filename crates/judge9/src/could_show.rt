@@ -4,7 +4,7 @@ ghost use Rattle.deck9.specs.State.{IsFirst};
 ghost use Rattle.deck9.specs.declared.state.State.{State as AState};
 ghost use Rattle.track9.specs.Tracker.{Possible};
 ghost use Rattle.why9.specs.Contradiction.{BreaksAtLast};
-ghost use Rattle.judge9.specs.Working.Trail.{Follows};
+ghost use Rattle.judge9.specs.Working.Trail.{KeepsEnds};
 ghost use Rattle.judge9.specs.WhyVerdict.{CouldShow};
 
 use block9::Exchange;
@@ -29,7 +29,7 @@ pub(crate) fn could_show(
     told
 }
 
-/// The same, of a tracker that has taken nothing yet.
+/// What was known of the deck, and which modes it could show, by a tracker that has taken nothing yet.
 fn shown_after(
     tracker: &mut Tracker<SpanSet>,
     hands: Hands,
@@ -53,7 +53,7 @@ fn follow(
 ) -> Result<(), AllocError>
     requires states { (s : AState) → Possible tracker.old.states s ↔ IsFirst hands s }
     requires hands { tracker.old.hands ≡ hands }
-    ensures { OnOk result (Follows hands exchanges.now tracker.new) }
+    ensures { OnOk result (KeepsEnds hands exchanges.now tracker.new) }
 {
     for exchange in exchanges {
         tracker.observe(&exchange.command, &exchange.reply)?;

@@ -10,7 +10,7 @@ pub(crate) enum Ending {
     End {
         /// How many records there are.
         records: u32,
-        /// How many records come after the last whole exchange.
+        /// How many records come after the last complete exchange.
         tail: u32,
     },
     /// A record breaks a rule of blocks, pairing or timing. The records that are open before it are the pairer's tail.
@@ -21,6 +21,8 @@ pub(crate) enum Ending {
         reason: Reason,
         /// The record.
         breaking: LineByte,
+        /// The time of the last record of the last complete exchange, in microseconds, or `None` where there is none.
+        end_us: Option<u64>,
     },
     /// A record ends an exchange after which no state of the deck remains. That exchange is the trail's last.
     NoRun {

@@ -1,29 +1,30 @@
-//! A run of the deck in which a hand moves the panel as seldom as it can.
+//! A run of the deck in which a hand moves the panel as seldom as it can, and changes no more than it has to.
 //!
 //! A hand that moves can leave the deck in any state, and without a hand's move a deck whose panel may be on goes on as one
 //! that nobody touches. So such a run is a row of stretches, each of a deck that nobody touches, and a hand moves between
 //! two of them. Each stretch is as long as it can be: a hand moves at the last moment before the exchange that has no run
-//! any more at which the panel may be on.
+//! any more at which the panel may be on. The states of a stretch are found before those of the next, which begins with
+//! what a hand keeps of the last of them.
 //!
 //! The search is not proved to find such a run. What it finds is asked of `is_run`, and is handed out where that says that
 //! it is a run.
-ghost use Rattle.std.specs.Prelude.{◌≡◌, ◌↔◌, ◌≤◌, [], IfOk, IfSome, OnOk, length};
-ghost use Rattle.deck9.specs.State.{IsFirst};
+ghost use Rattle.std.specs.Prelude.{◌≡◌, ◌≤◌, [], IfOk, IfSome, OnOk, length};
 ghost use Rattle.deck9.specs.Run.{IsRun};
 ghost use Rattle.deck9.specs.declared.state.State.{State as AState};
-ghost use Rattle.judge9.specs.Working.Trail.{Follows, IsTrail};
+ghost use Rattle.judge9.specs.Working.Trail.{Arrived, FollowsFrom, IsTrail};
 ghost use Rattle.track9.specs.Tracker.{Possible};
 
+use crate::kept_by_hand::{NOTHING, keep_modes, kept_by_hand};
 use crate::panel::{may_be_on_after, switch_on_for_hand, switch_panels};
 use crate::trail::{Trail, go_back_from, mark};
 use block9::Exchange;
 use deck9::{Hands, State, is_run};
 use sets25::SpanSet;
 use std::alloc::{AllocError, Global};
-use track9::Tracker;
+use track9::{Start, Tracker};
 
 /// The states after each exchange of a trail in a run that ends in a state of this tracker, or, where hands are allowed,
-/// in one with the fewest moves of a hand.
+/// in one with the fewest moves of a hand, which keeps what it can.
 pub(crate) fn states_of_run(
     alloc: Global,
     hands: Hands,
@@ -31,8 +32,7 @@ pub(crate) fn states_of_run(
     end: &Tracker<SpanSet>,
 ) -> Result<Vec<State>, AllocError>
     requires hands { end.now.hands ≡ hands }
-    requires trail { IsTrail end.now.hands trail.now.exchanges.items trail.now.trackers.items }
-    requires follows { Follows end.now.hands trail.now.exchanges.items end.now }
+    requires arrived { Arrived end.now.hands trail.now.exchanges.items trail.now.trackers.items end.now }
     requires some { (s : AState) × Possible end.now.states s }
     ensures { IfOk result (λ states. IsRun end.now.hands trail.now.exchanges.items states.items) }
 {
@@ -139,8 +139,7 @@ fn put_states(
     starts: &[usize],
     states: &mut Vec<State>,
 ) -> Result<(), AllocError> {
-    go_back_by_stretches(alloc, exchanges, starts, states)?;
-    states.reverse();
+    go_through_stretches(alloc, exchanges, starts, states)?;
     for start in starts {
         switch_on_for_hand(between(exchanges, 0, *start), states);
     }
@@ -148,20 +147,19 @@ fn put_states(
     Ok(())
 }
 
-/// Goes back through each stretch without a hand, and puts the states after each exchange behind `states`, the last one
-/// first.
-fn go_back_by_stretches(
+/// Puts the states after each exchange after `states`, one stretch after the other.
+fn go_through_stretches(
     alloc: Global,
     exchanges: &[Exchange],
     starts: &[usize],
     states: &mut Vec<State>,
 ) -> Result<(), AllocError> {
-    let mut end = exchanges.len();
-    for start in starts.iter().rev() {
-        go_back_untouched(alloc, between(exchanges, *start, end), states)?;
-        end = *start;
+    let mut start = 0;
+    for next in starts {
+        put_stretch(alloc, between(exchanges, start, *next), states)?;
+        start = *next;
     }
-    Ok(())
+    put_stretch(alloc, between(exchanges, start, exchanges.len()), states)
 }
 
 /// The exchanges from the one at `start` to the one before `end`, or none where there are no such places.
@@ -172,31 +170,51 @@ fn between(exchanges: &[Exchange], start: usize, end: usize) -> &[Exchange] {
     }
 }
 
-/// Goes back through the exchanges of a stretch without a hand, and puts the states after each of them behind `states`,
-/// the last one first. It puts none where they have no such run.
-fn go_back_untouched(
+/// Puts the states after each exchange of a stretch after `states`. A hand moves before the first of them, where there is a
+/// state before it.
+fn put_stretch(
     alloc: Global,
     exchanges: &[Exchange],
     states: &mut Vec<State>,
 ) -> Result<(), AllocError> {
+    let found = states.last().copied();
+    let kept = match &found {
+        Some(found) => kept_by_hand(alloc, found, exchanges)?,
+        None => NOTHING,
+    };
+    let mut stretch = Vec::new(alloc);
+    go_back_untouched(alloc, &kept, exchanges, &mut stretch)?;
+    stretch.reverse();
+    if let Some(found) = &found {
+        keep_modes(found, exchanges, stretch.as_mut_slice());
+    }
+    states.extend_from_slice(stretch.as_slice())
+}
+
+/// Goes back through the exchanges of a stretch without a hand, to a state of which this is known, and puts the states after
+/// each of them into `states`, the last one first. It puts none where they have no such run.
+fn go_back_untouched(
+    alloc: Global,
+    kept: &Start,
+    exchanges: &[Exchange],
+    states: &mut Vec<State>,
+) -> Result<(), AllocError> {
     let mut trackers = Vec::new(alloc);
-    let mut tracker = Tracker::new(alloc, Hands::None)?;
+    let mut tracker = Tracker::starting(alloc, kept)?;
     let result = go_back_along(&mut tracker, &mut trackers, exchanges, states);
     drop(tracker);
     drop(trackers);
     result
 }
 
-/// The same, by a tracker that has taken nothing yet and a trail of none.
+/// Goes back along these exchanges, by a tracker that has taken nothing yet and a trail of none.
 fn go_back_along(
     tracker: &mut Tracker<SpanSet>,
     trackers: &mut Vec<Tracker<SpanSet>>,
     exchanges: &[Exchange],
     states: &mut Vec<State>,
 ) -> Result<(), AllocError>
-    requires states { (s : AState) → Possible tracker.old.states s ↔ IsFirst Hands.None s }
-    requires hands { tracker.old.hands ≡ Hands.None }
-    requires trail { trackers.old.items ≡ [] }
+    requires { trackers.old.items ≡ [] }
 {
     follow_untouched(tracker, trackers, exchanges)?;
     if !tracker.remains() {
@@ -214,11 +232,9 @@ fn follow_untouched(
     trackers: &mut Vec<Tracker<SpanSet>>,
     exchanges: &[Exchange],
 ) -> Result<(), AllocError>
-    requires states { (s : AState) → Possible tracker.old.states s ↔ IsFirst Hands.None s }
-    requires hands { tracker.old.hands ≡ Hands.None }
-    requires trail { trackers.old.items ≡ [] }
-    ensures follows { OnOk result (Follows Hands.None exchanges.now tracker.new) }
-    ensures trail { OnOk result (IsTrail Hands.None exchanges.now trackers.new.items) }
+    requires { trackers.old.items ≡ [] }
+    ensures follows { OnOk result (FollowsFrom tracker.old exchanges.now tracker.new) }
+    ensures trail { OnOk result (IsTrail tracker.old exchanges.now trackers.new.items) }
 {
     for (at, exchange) in exchanges.iter().enumerate() {
         mark(trackers, &exchanges[..at], tracker)?;

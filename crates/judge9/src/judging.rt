@@ -1,197 +1,93 @@
-//! Judges a capture as it is read, turn by turn, and tells the line of each exchange.
-ghost use Rattle.std.specs.Prelude.{◌≡◌, ◌≢◌, IfSome, IfErr, option_map};
+//! How far the judging of a capture has come, and what it comes to next: rows are read and their records fed to the pairer up to
+//! the one that makes an exchange complete, which the tracker then observes. Whoever judges a capture asks for what is next, and
+//! does its own with what that is.
+ghost use Rattle.std.specs.Prelude.{◌≡◌, ◌≤◌, IfErr, IfOk, None, option_map};
+ghost use Rattle.std.specs.Option.{ForSome};
 ghost use Rattle.capture9.specs.Rows.{rows_of};
-ghost use Rattle.judge9.specs.Judging.{CanBeResult, IsTheAnswer, StoppedBefore, answer_of};
-ghost use Rattle.verdict9.specs.Lines.{line_of};
-ghost use Rattle.judge9.specs.Report.{Told};
-ghost use Rattle.judge9.specs.Verdict.{CanBeVerdict};
-ghost use Rattle.judge9.specs.Working.{Explains, IsSame, Judges, Puts};
-ghost use Rattle.judge9.specs.Working.Turn.{IsFresh};
-ghost use Rattle.deck9.specs.declared.state.State.{State as AState};
-ghost use Rattle.track9.specs.Tracker.{Possible};
+ghost use Rattle.judge9.specs.Working.Turn.{ComesTo, IsFresh, IsObserved};
 
-use crate::turn::{Judging, Turn};
-use block9::{Exchange, Reason};
-use capture9::{CaptureError, CaptureKind};
+use block9::{Exchange, Pairer, Reason, Step};
+use capture9::{LineByte, Records};
 use deck9::Hands;
 use sets25::SpanSet;
-use std::alloc::Global;
-use std::io::{Read, Write};
-use text9::{put_all, put_exchange_line};
+use std::alloc::{AllocError, Global};
+use std::io::Read;
 use track9::Tracker;
-use verdict9::{JudgeError, Verdict, View, put_verdict_line};
+use verdict9::JudgeError;
 
-/// Judges the capture that the reader gives, and writes the report that the view asks for.
-///
-/// It reads row by row, up to the end, the first bad row or the first record that breaks a rule, and keeps no
-/// list of records. With `View::Explain` each exchange has a line, written in one piece once the exchange is whole; the
-/// line of the verdict is written last. The writer is not flushed.
-///
-/// `hands` says whether somebody may have touched the deck's panel: with `Hands::Allowed` the deck has more runs.
-///
-/// Where the reader tells its bytes, they are the text, and the result is the one that is right for it:
-///
-/// * `Ok(Yes)` exactly where no row of the text is bad, all its records keep the rules of blocks, pairing and timing,
-///   and some run of the deck gives exactly the replies of its exchanges. It counts the records, the whole exchanges
-///   that they are cut into, and the open records after the last of these.
-/// * `Ok(No)` at record n with reason r exactly where the first n - 1 records do so, the first n do not, and r is the
-///   first rule, in the order in which they count, that record n breaks. Rows after it have no part in this, not even
-///   bad ones.
-/// * `Err(Capture(e))` with a fault of the text exactly where e is the fault of its first bad row, or of the
-///   header, and all records before that row do so.
-///
-/// The other results come where something outside the text fails:
-///
-/// * `Err(Capture(e))` of the kind `Read` where the reader fails or is interrupted, while it reads data row
-///   `e.row`, or the header at 0. All records before that row keep the rules, and behind row 0 the text has
-///   its header.
-/// * `Err(Write)` where the writer fails, is interrupted or takes no byte. No call is tried again.
-/// * `Err(OutOfMemory)` where a growth of memory is refused, for a row, for the deck's states or for a line. That is
-///   never told as a `Capture`.
-///
-/// No contract can say that reader, writer and memory do not fail: that these three come only then is tested.
-///
-/// What was written is, with a verdict, the lines of all exchanges before the end or the break, where the view asks for
-/// them, and the line of the verdict. On `Err(Capture)` it is the lines of all exchanges before the row. On
-/// `Err(OutOfMemory)` it is the lines of the first exchanges, and on `Err(Write)` a first part of these, or of a whole
-/// report.
-///
-/// Where the reader does not tell its bytes, as standard input and files do not, all this still holds of the rows of some
-/// text, and:
-///
-/// * A yes has counts that a capture can have: at most 4,000,000 records, of which a whole exchange has 6 to 36
-///   and the open tail at most 35.
-/// * A no is at record 1 to 4,000,000.
-/// * A fault of the text is at row 0 exactly where it is the header's, at row 4,000,001 exactly where that is a
-///   row too many, and else between; a read fault is at row 4,000,001 at most. No `Capture` has the kind
-///   `OutOfMemory`.
-pub fn judge<R: Read + Drop, W: Write>(
-    alloc: Global,
-    reader: R,
-    writer: &mut W,
-    view: View,
-    hands: Hands,
-) -> Result<Verdict, JudgeError>
-    ensures answer { IfSome (R.remaining reader)
-        (λ text. IfSome (answer_of result) (IsTheAnswer hands (rows_of text))) }
-    ensures told { Told view hands (option_map rows_of (R.remaining reader)) result
-        (W.contents writer.old) (W.contents writer.new) }
-    ensures stopped { IfSome (R.remaining reader)
-        (λ text. IfErr result (StoppedBefore hands (rows_of text))) }
-    ensures kind { (e : CaptureError) → result ≡ Err (JudgeError.Capture e)
-        → e.kind ≢ CaptureKind.OutOfMemory }
-    ensures can_be { CanBeResult result }
-{
-    let Ok(mut judging) = Judging::new(alloc, reader, hands) else {
-        return Err(JudgeError::OutOfMemory);
-    };
-    let mut line = Vec::new(alloc);
-    let verdict = judge_rows(&mut judging, &mut line, writer, view, hands);
-    drop(judging);
-    verdict
+/// What a judging comes to next.
+#[derive(Drop)]
+pub(crate) enum Turn {
+    /// An exchange, whose reply some run of the deck gives after those before it.
+    Exchange(Exchange),
+    /// An exchange, whose reply no run of the deck gives after those before it.
+    NoRun(Exchange),
+    /// A record that breaks this rule of blocks, pairing or timing.
+    Break(Reason, LineByte),
+    /// The end of the rows.
+    End,
 }
 
-/// Judges all the rows that are to come and tells of them. `line` is room for a line, whose content is not kept.
-fn judge_rows<R: Read + Drop, W: Write>(
-    judging: &mut Judging<R>,
-    line: &mut Vec<u8>,
-    writer: &mut W,
-    view: View,
-    hands: Hands,
-) -> Result<Verdict, JudgeError>
-    requires { IsFresh hands judging.old }
-    ensures { Judges view hands judging.old.rows.rows result (W.contents writer.old) (W.contents writer.new) }
-{
-    let mut exchanges = 0u32;
-    'rows: loop {
-        match judging.next()? {
-            Turn::Exchange(exchange) => {
-                exchanges += 1;
-                explain(
-                    line,
-                    writer,
-                    view,
-                    hands,
-                    judging.rows.given(),
-                    &exchange,
-                    &judging.tracker,
-                )?;
+/// How far the judging of a capture has come.
+#[derive(Drop)]
+pub(crate) struct Judging<R: Read + Drop> {
+    /// The rows that are still to come.
+    pub(crate) rows: Records<R>,
+    /// The records that are open.
+    pub(crate) pairer: Pairer,
+    /// The states that the deck could be in.
+    pub(crate) tracker: Tracker<SpanSet>,
+}
+
+impl<R: Read + Drop> Judging<R> {
+    /// The judging of what the reader gives. It reads nothing yet; an error comes where memory is refused.
+    pub(crate) fn new(alloc: Global, reader: R, hands: Hands) -> Result<Judging<R>, AllocError>
+        ensures fresh { IfOk result (IsFresh hands) }
+        ensures rows { IfOk result (λ j. j.rows.rows ≡ option_map rows_of (R.remaining reader)) }
+    {
+        let tracker = Tracker::new(alloc, hands)?;
+        Ok(Judging {
+            rows: Records::new(alloc, reader),
+            pairer: Pairer::new(),
+            tracker,
+        })
+    }
+
+    /// Reads on to the next exchange, the first record that breaks a rule, or the end of the rows. Errors are those of the
+    /// rows, and `OutOfMemory` where the tracker finds no room; nothing is asked for after one, nor after a break or the end.
+    #[inline(always)] // two loops ask, and else each exchange would be handed on through memory
+    pub(crate) fn next(&mut self) -> Result<Turn, JudgeError>
+        requires no_reason { self.old.pairer.reason ≡ None }
+        requires in_order { ForSome self.old.pairer.last_time (λ time. time ≤ self.old.rows.last_time) }
+        ensures { ComesTo self.old result self.new }
+    {
+        'open: loop {
+            // by arms, since `?` would put each record aside
+            let line_byte = match self.rows.next() {
+                Ok(Some(line_byte)) => line_byte,
+                Ok(None) => return Ok(Turn::End),
+                Err(error) => return Err(JudgeError::from(error)),
+            };
+            match self.pairer.feed(line_byte) {
+                Ok(Step::Waiting) => {}
+                Ok(Step::Command) => {}
+                Ok(Step::Exchange(exchange)) => return self.observe(exchange),
+                Err(reason) => return Ok(Turn::Break(reason, line_byte)),
             }
-            Turn::NoRun(_) => return tell_no(line, writer, judging.rows.given(), Reason::NoRun),
-            Turn::Break(reason, _) => return tell_no(line, writer, judging.rows.given(), reason),
-            Turn::End => break 'rows,
         }
     }
-    let tail = judging.pairer.tail_len() as u32;
-    tell(
-        line,
-        writer,
-        Verdict::Yes {
-            records: judging.rows.given(),
-            exchanges,
-            tail,
-        },
-    )
-}
 
-/// Writes the line of the verdict and answers the verdict, or why the line was not written whole.
-fn tell<W: Write>(
-    line: &mut Vec<u8>,
-    writer: &mut W,
-    verdict: Verdict,
-) -> Result<Verdict, JudgeError>
-    ensures same { IsSame verdict result }
-    ensures puts { Puts (line_of verdict) result (W.contents writer.old) (W.contents writer.new) }
-{
-    line.clear();
-    let Ok(()) = put_verdict_line(line, verdict) else {
-        return Err(JudgeError::OutOfMemory);
-    };
-    let Ok(()) = put_all(writer, line.as_slice()) else {
-        return Err(JudgeError::Write);
-    };
-    Ok(verdict)
-}
-
-/// Writes the line of a no at the record of this number and answers it, as `tell` does.
-fn tell_no<W: Write>(
-    line: &mut Vec<u8>,
-    writer: &mut W,
-    at: u32,
-    reason: Reason,
-) -> Result<Verdict, JudgeError>
-    ensures same { IsSame (Verdict.No at reason) result }
-    ensures puts { Puts (line_of (Verdict.No at reason)) result (W.contents writer.old) (W.contents writer.new) }
-{
-    tell(line, writer, Verdict::No { at, reason })
-}
-
-/// Writes what the view shows of an exchange, whose reply ends with the record of this number, after the tracker
-/// observed it: for a verdict alone nothing, else its line.
-fn explain<W: Write>(
-    line: &mut Vec<u8>,
-    writer: &mut W,
-    view: View,
-    hands: Hands,
-    number: u32,
-    exchange: &Exchange,
-    tracker: &Tracker<SpanSet>,
-) -> Result<(), JudgeError>
-    requires { (s : AState) × Possible tracker.now.states s }
-    ensures { Explains view hands number exchange.now (Possible tracker.now.states) result (W.contents writer.old) (W.contents writer.new) }
-{
-    match view {
-        View::Verdict => Ok(()),
-        View::Explain => {
-            let knowledge = tracker.knowledge();
-            line.clear();
-            let Ok(()) = put_exchange_line(line, hands, number, exchange, &knowledge) else {
-                return Err(JudgeError::OutOfMemory);
-            };
-            let Ok(()) = put_all(writer, line.as_slice()) else {
-                return Err(JudgeError::Write);
-            };
-            Ok(())
+    /// Whether a state of the deck remains with this exchange.
+    #[inline(always)] // as above
+    fn observe(&mut self, exchange: Exchange) -> Result<Turn, JudgeError>
+        ensures rows { self.new.rows ≡ self.old.rows }
+        ensures pairer { self.new.pairer ≡ self.old.pairer }
+        ensures observed { IsObserved self.old.tracker exchange result self.new.tracker }
+    {
+        match self.tracker.observe(&exchange.command, &exchange.reply) {
+            Ok(true) => Ok(Turn::Exchange(exchange)),
+            Ok(false) => Ok(Turn::NoRun(exchange)),
+            Err(_) => Err(JudgeError::OutOfMemory),
         }
     }
 }

@@ -1,6 +1,6 @@
 //! What exchanges do to the panel where hands are allowed, and states with the panel filled in.
 
-use block9::{Exchange, NakBits};
+use block9::Exchange;
 use deck9::{Effect, State};
 
 /// What a command that is acknowledged makes of the panel.
@@ -16,7 +16,7 @@ enum Switch {
 
 /// What an exchange makes of the panel, or `None` where it leaves it as it is.
 fn switch_of(exchange: &Exchange) -> Option<Switch> {
-    if NakBits::of(&exchange.reply).is_some() {
+    if exchange.reply.is_nak() {
         return None;
     }
     match Effect::of(&exchange.command) {
@@ -36,7 +36,7 @@ pub(crate) fn may_be_on_after(exchange: &Exchange, may_be_on: bool) -> bool {
     }
 }
 
-/// Switches the panel on in the states after these exchanges, for a hand that moves behind the last of them: in that
+/// Switches the panel on in the states after these exchanges, for a hand that moves after the last of them: in that
 /// state and in those before it, back to the exchange that left the panel free.
 pub(crate) fn switch_on_for_hand(exchanges: &[Exchange], states: &mut [State]) {
     for at in (0..exchanges.len()).rev() {
@@ -71,7 +71,7 @@ pub(crate) fn switch_panels(exchanges: &[Exchange], states: &mut [State]) {
     }
 }
 
-/// Whether the panel is on after an exchange, where it is told whether it is on before it, and whether it is on behind it
+/// Whether the panel is on after an exchange, where it is told whether it is on before it, and whether it is on after it
 /// where the command leaves it free.
 fn is_on_after(exchange: &Exchange, is_on: bool, where_free: bool) -> bool {
     match switch_of(exchange) {

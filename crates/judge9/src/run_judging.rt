@@ -1,4 +1,4 @@
-//! Judges a capture and keeps its trail, so that a yes is handed out with a run of the deck.
+//! Judges a capture and keeps its trail, so that a yes comes with a run of the deck.
 ghost use Rattle.std.specs.Prelude.{◌≡◌, ◌≢◌, IfSome, IfErr, option_map};
 ghost use Rattle.capture9.specs.Rows.{rows_of};
 ghost use Rattle.judge9.specs.Judging.{CanBeResult, IsTheAnswer, StoppedBefore, answer_of};
@@ -8,9 +8,9 @@ ghost use Rattle.judge9.specs.Working.Turn.{IsFresh};
 
 use crate::ending::Ending;
 use crate::fewest_hands::states_of_run;
+use crate::judging::Judging;
 use crate::trail::Trail;
 use crate::trail_judging::keep_trail;
-use crate::turn::Judging;
 use block9::Reason;
 use capture9::{CaptureError, CaptureKind};
 use deck9::Hands;
@@ -18,13 +18,14 @@ use std::alloc::Global;
 use std::io::Read;
 use verdict9::{JudgeError, RunVerdict};
 
-/// Judges the capture that the reader gives, as [`judge`](crate::judge) does, and hands out a yes with a run of the
+/// Judges the capture that the reader gives, as [`judge`](crate::judge) does, and gives a yes with a run of the
 /// deck: the exchanges, and a state of the deck after each of them, such that some first state, drifts and steps of
 /// the deck lead through all of them and give exactly the replies. With hands it is one with the fewest moves of a hand,
-/// which is tested and not proved; beyond that, which of several runs it is, is not said.
+/// at each of which the hand keeps what it can, which is tested and not proved; beyond that, which of several runs it is,
+/// is not said.
 ///
 /// It writes nothing, and keeps all exchanges, their states and for each 256th exchange what was possible before it: with
-/// hands twice, as each exchange is then observed once more, or twice.
+/// hands twice, as each exchange is then observed once more, or twice, and after a move of a hand seven times more.
 ///
 /// Where the reader tells its bytes, the verdict, its counts and the refusals of the text are those that
 /// [`judge`](crate::judge) gives, and the exchanges are those that the records are cut into. Errors come as there, but

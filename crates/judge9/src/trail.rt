@@ -5,12 +5,10 @@
 //! alone; those between are made again, stretch by stretch, while going back.
 ghost use Rattle.std.specs.Prelude.{◌≡◌, ◌<◌, ◌≤◌, ◌*◌, ◌++◌, [], ◌∷◌, IfOk, OnOk, length, take};
 ghost use Rattle.deck9.specs.Run.{IsRun};
-ghost use Rattle.judge9.specs.Working.Trail.{Follows, GoesBack, IsTrail, Leads, stretch_length};
-ghost use Rattle.deck9.specs.Run.{Ends};
-ghost use Rattle.deck9.specs.State.{IsFirst};
+ghost use Rattle.judge9.specs.Working.Trail.{Arrived, FollowsFrom, GoesBack, IsTrail, Leads, LeadsFrom, stretch_length};
 ghost use Rattle.deck9.specs.Step.{AreReached, Exchanges};
 ghost use Rattle.track9.specs.Tracker.{Possible};
-ghost use Rattle.deck9.specs.declared.state.Hands.{Hands as AHands};
+ghost use Rattle.track9.specs.Tracker.{Tracked as ATracked};
 ghost use Rattle.deck9.specs.declared.state.State.{State as AState};
 
 use block9::Exchange;
@@ -43,10 +41,11 @@ impl Trail {
 
     /// Keeps the tracker before the next exchange, where that begins a stretch.
     pub(crate) fn mark(&mut self, tracker: &Tracker<SpanSet>) -> Result<(), AllocError>
-        requires trail { IsTrail tracker.now.hands self.old.exchanges.items self.old.trackers.items }
-        requires keeps { Follows tracker.now.hands self.old.exchanges.items tracker.now }
-        ensures same { OnOk result (self.new.exchanges ≡ self.old.exchanges) }
-        ensures trail { OnOk result (IsTrail tracker.now.hands self.new.exchanges.items self.new.trackers.items) }
+        requires { (first : ATracked) × IsTrail first self.old.exchanges.items self.old.trackers.items
+            × FollowsFrom first self.old.exchanges.items tracker.now }
+        ensures same { OnOk result (self.new.exchanges.items ≡ self.old.exchanges.items) }
+        ensures trail { OnOk result ((first : ATracked) → IsTrail first self.old.exchanges.items self.old.trackers.items
+            → FollowsFrom first self.old.exchanges.items tracker.now → IsTrail first self.new.exchanges.items self.new.trackers.items) }
         ensures room { OnOk result (length self.new.exchanges.items < length self.new.trackers.items * 256) }
     {
         mark(&mut self.trackers, &self.exchanges, tracker)
@@ -57,8 +56,8 @@ impl Trail {
         requires room { length self.old.exchanges.items < length self.old.trackers.items * stretch_length }
         ensures exchanges { OnOk result (self.new.exchanges.items ≡ self.old.exchanges.items ++ exchange ∷ []) }
         ensures trackers { OnOk result (self.new.trackers ≡ self.old.trackers) }
-        ensures trail { OnOk result ((h : AHands) → IsTrail h self.old.exchanges.items self.old.trackers.items
-            → IsTrail h self.new.exchanges.items self.new.trackers.items) }
+        ensures trail { OnOk result ((first : ATracked) → IsTrail first self.old.exchanges.items self.old.trackers.items
+            → IsTrail first self.new.exchanges.items self.new.trackers.items) }
     {
         self.exchanges.push(exchange)?;
         Ok(())
@@ -70,8 +69,7 @@ impl Trail {
         alloc: Global,
         end: &Tracker<SpanSet>,
     ) -> Result<Vec<State>, AllocError>
-        requires trail { IsTrail end.now.hands self.now.exchanges.items self.now.trackers.items }
-        requires follows { Follows end.now.hands self.now.exchanges.items end.now }
+        requires arrived { Arrived end.now.hands self.now.exchanges.items self.now.trackers.items end.now }
         requires some { (s : AState) × Possible end.now.states s }
         ensures { IfOk result (λ states. IsRun end.now.hands self.now.exchanges.items states.items) }
     {
@@ -105,9 +103,9 @@ pub(crate) fn mark(
     exchanges: &[Exchange],
     tracker: &Tracker<SpanSet>,
 ) -> Result<(), AllocError>
-    requires trail { IsTrail tracker.now.hands exchanges.now trackers.old.items }
-    requires keeps { Follows tracker.now.hands exchanges.now tracker.now }
-    ensures trail { OnOk result (IsTrail tracker.now.hands exchanges.now trackers.new.items) }
+    requires { (first : ATracked) × IsTrail first exchanges.now trackers.old.items × FollowsFrom first exchanges.now tracker.now }
+    ensures trail { OnOk result ((first : ATracked) → IsTrail first exchanges.now trackers.old.items
+        → FollowsFrom first exchanges.now tracker.now → IsTrail first exchanges.now trackers.new.items) }
     ensures room { OnOk result (length exchanges.now < length trackers.new.items * 256) }
 {
     if exchanges.len() / STRETCH_LENGTH == trackers.len() {
@@ -118,17 +116,17 @@ pub(crate) fn mark(
 }
 
 /// Goes back from some state of the tracker `end` through all exchanges to a state before the first of them. The states
-/// after each exchange are put behind `states`, the last one first.
+/// after each exchange are put after `states`, the last one first.
 pub(crate) fn go_back_from(
     end: &Tracker<SpanSet>,
     trackers: &[Tracker<SpanSet>],
     exchanges: &[Exchange],
     states: &mut Vec<State>,
 ) -> Result<State, AllocError>
-    requires trail { IsTrail end.now.hands exchanges.now trackers.now }
-    requires follows { Follows end.now.hands exchanges.now end.now }
+    requires trail { (first : ATracked) × IsTrail first exchanges.now trackers.now × FollowsFrom first exchanges.now end.now }
     requires some { (s : AState) × Possible end.now.states s }
-    ensures { IfOk result (λ s. (t : AState) × GoesBack end.now.hands (IsFirst end.now.hands) exchanges.now t states.old.items states.new.items s) }
+    ensures { IfOk result (λ s. (first : ATracked) → IsTrail first exchanges.now trackers.now → FollowsFrom first exchanges.now end.now
+        → (t : AState) × GoesBack first.hands (Possible first.states) exchanges.now t states.old.items states.new.items s) }
 {
     let Some(state) = end.member() else {
         unreachable!();
@@ -137,7 +135,7 @@ pub(crate) fn go_back_from(
 }
 
 /// Goes back from `end` through the first exchanges, as many as `at` says, to a state before the first of them. The
-/// states after each exchange are put behind `states`, the last one first.
+/// states after each exchange are put after `states`, the last one first.
 fn go_back(
     trackers: &[Tracker<SpanSet>],
     exchanges: &[Exchange],
@@ -146,9 +144,9 @@ fn go_back(
     states: &mut Vec<State>,
 ) -> Result<State, AllocError>
     requires place { at ≤ length exchanges.now }
-    requires trail { (h : AHands) × IsTrail h exchanges.now trackers.now × Ends h (take at exchanges.now) end }
-    ensures { IfOk result (λ s. (h : AHands) → IsTrail h exchanges.now trackers.now → Ends h (take at exchanges.now) end
-        → GoesBack h (IsFirst h) (take at exchanges.now) end states.old.items states.new.items s) }
+    requires trail { (first : ATracked) × IsTrail first exchanges.now trackers.now × LeadsFrom first (take at exchanges.now) end }
+    ensures { IfOk result (λ s. (first : ATracked) → IsTrail first exchanges.now trackers.now → LeadsFrom first (take at exchanges.now) end
+        → GoesBack first.hands (Possible first.states) (take at exchanges.now) end states.old.items states.new.items s) }
 {
     let Some(last) = at.checked_sub(1) else {
         return Ok(end);
@@ -159,7 +157,7 @@ fn go_back(
     go_back(trackers, exchanges, first, state, states)
 }
 
-/// The same through the exchanges of a stretch, to one of the states that the tracker before it keeps. It calls itself
+/// Goes back through the exchanges of a stretch, to one of the states that the tracker before it keeps. It calls itself
 /// once for each exchange, so a stretch is short.
 fn go_back_through(
     before: &Tracker<SpanSet>,
@@ -195,7 +193,7 @@ fn observed(before: &Tracker<SpanSet>, exchange: &Exchange) -> Result<Tracker<Sp
     }
 }
 
-/// Puts the state after an exchange behind the others, and answers one that it may come from.
+/// Puts the state after an exchange after the others, and answers one that it may come from.
 fn step_back(
     before: &Tracker<SpanSet>,
     exchange: &Exchange,

@@ -4,8 +4,8 @@ ghost use Rattle.judge9.specs.Working.Trail.{KeepsTrail};
 ghost use Rattle.judge9.specs.Working.Turn.{IsFresh};
 
 use crate::ending::Ending;
+use crate::judging::{Judging, Turn};
 use crate::trail::Trail;
-use crate::turn::{Judging, Turn};
 use deck9::Hands;
 use std::io::Read;
 use verdict9::JudgeError;
@@ -23,11 +23,13 @@ pub(crate) fn keep_trail<R: Read + Drop>(
     ensures { KeepsTrail hands judging.old.rows.rows result judging.new.pairer.tail trail.new.exchanges.items trail.new.trackers.items judging.new.tracker }
 {
     trail.mark(&judging.tracker)?;
+    let mut end_us = None;
     'rows: loop {
         match judging.next()? {
             Turn::Exchange(exchange) => {
                 trail.push(exchange)?;
                 trail.mark(&judging.tracker)?;
+                end_us = judging.pairer.last_time();
             }
             Turn::NoRun(exchange) => {
                 trail.push(exchange)?;
@@ -41,6 +43,7 @@ pub(crate) fn keep_trail<R: Read + Drop>(
                     at,
                     reason,
                     breaking,
+                    end_us,
                 });
             }
             Turn::End => break 'rows,

@@ -1,29 +1,32 @@
 //! Judges a capture and says why a no is one: what is open where a rule of pairing is broken, and which replies contradict
 //! one another where no run of the deck remains.
-ghost use Rattle.std.specs.Prelude.{◌≡◌, ◌≢◌, IfSome, IfOk, IfErr, option_map};
+ghost use Rattle.std.specs.Prelude.{◌≡◌, ◌≢◌, [], IfSome, IfOk, IfErr, List, option_map};
 ghost use Rattle.capture9.specs.Rows.{rows_of};
 ghost use Rattle.judge9.specs.Judging.{CanBeResult, IsTheAnswer, StoppedBefore, answer_of};
+ghost use Rattle.verdict9.specs.OpenRecords.{IsBefore};
 ghost use Rattle.judge9.specs.WhyVerdict.{IsJudgedWhy, judged_of};
-ghost use Rattle.judge9.specs.Working.Trail.{JudgesWhy};
+ghost use Rattle.judge9.specs.Working.Trail.{IsEnd, JudgesWhy};
+ghost use Rattle.capture9.specs.declared.line_byte.LineByte.{LineByte as ALineByte};
 ghost use Rattle.judge9.specs.Working.Turn.{IsFresh};
 
 use crate::could_show::could_show;
 use crate::ending::Ending;
+use crate::judging::Judging;
 use crate::trail::Trail;
 use crate::trail_judging::keep_trail;
-use crate::turn::Judging;
-use block9::Pairer;
+use block9::{Exchange, Pairer};
 use capture9::{CaptureError, CaptureKind, LineByte};
 use deck9::Hands;
 use std::alloc::{AllocError, Global};
 use std::io::Read;
-use verdict9::{JudgeError, WhyVerdict};
+use verdict9::{EndedExchange, JudgeError, WhyVerdict};
 use why9::contradicting;
 
 /// Judges the capture that the reader gives, as [`judge`](crate::judge) does, and says why a no is one.
 ///
-/// Where a record breaks a rule of blocks, pairing or timing, it is handed out with the records that are open before it
-/// and with what the command means that these begin with, if it is whole.
+/// Where a record breaks a rule of blocks, pairing or timing, it comes with the records that are open before it
+/// and with what the command means that these begin with, if it is complete; or, where none is open, with the exchange before
+/// it, if there is one.
 ///
 /// Where no run of the deck remains it says which replies contradict one another: no deck can have given them together,
 /// whatever it answered to everything else. The exchanges are those up to the record that breaks, and the replies are told
@@ -87,17 +90,20 @@ fn judge_rows<R: Read + Drop>(
                 at,
                 reason,
                 breaking,
+                end_us,
             },
         ) => {
             let Ok(tail) = open_records(alloc, &judging.pairer) else {
                 return Err(JudgeError::OutOfMemory);
             };
             let command = judging.pairer.open_command();
+            let before = ended_before(trail.into_exchanges(), tail.as_slice(), end_us);
             Ok(WhyVerdict::Break {
                 at,
                 reason,
                 tail,
                 command,
+                before,
                 breaking,
             })
         }
@@ -128,4 +134,24 @@ fn open_records(alloc: Global, pairer: &Pairer) -> Result<Vec<LineByte>, AllocEr
     let mut tail = Vec::new(alloc);
     tail.extend_from_slice(pairer.tail())?;
     Ok(tail)
+}
+
+/// The last of these exchanges, with the time at which it ended, where no record is open after it.
+fn ended_before(
+    exchanges: Vec<Exchange>,
+    tail: &[LineByte],
+    end_us: Option<u64>,
+) -> Option<EndedExchange>
+    ensures { (records : List ALineByte) → (tail.now ≡ [] → IsEnd records exchanges.items end_us) → IsBefore records exchanges.items tail.now result }
+{
+    let mut exchanges = exchanges;
+    let last = exchanges.pop();
+    drop(exchanges);
+    match (last, end_us) {
+        (Some(exchange), Some(end_us)) if tail.is_empty() => Some(EndedExchange {
+            exchange,
+            end_us,
+        }),
+        _ => None,
+    }
 }

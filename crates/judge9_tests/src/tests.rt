@@ -3,6 +3,7 @@ mod changed;
 mod drawn;
 mod fewest_hands;
 mod hostile;
+mod kept_by_hand;
 mod long;
 mod open_records;
 mod parts;

@@ -12,8 +12,9 @@ use Rattle.judge9.specs.Judging.{IsTheAnswer, StoppedBefore, answer_of}
 use Rattle.judge9.specs.WhyVerdict.{judged_of}
 use Rattle.program9.specs.Judging.{WritesWhy}
 
--- what holds of the answer, of a write fault and of want of memory holds of what is told
-handed : (P : Result Verdict JudgeError → Type 0) (hands : Hands) (found : Result WhyVerdict JudgeError) (judged : Result Verdict JudgeError) (old all : Option (List ℕ))
+-- what holds of the answer, of a write fault and of out of memory holds of what is told
+handed : (P : Result Verdict JudgeError → Type 0) (hands : Hands) (found : Result WhyVerdict JudgeError) (judged : Result Verdict JudgeError)
+    (old all : Option (List ℕ))
     → P (judged_of found) → P (Err error.Write) → P (Err error.OutOfMemory) → WritesWhy hands found judged old all → P judged
 handed P hands (Err e) judged old all is write memory written = subst P (sym written.0) is
 handed P hands (Ok why) judged old all is write memory (inl told) = subst P (sym told.0) is
@@ -21,7 +22,8 @@ handed P hands (Ok why) judged old all is write memory (inr (inl fault)) = subst
 handed P hands (Ok why) judged old all is write memory (inr (inr want)) = subst P (sym want.0) memory
 
 -- the one answer of the text
-pub answer_handed : (hands : Hands) (text : Option (List ℕ)) (found : Result WhyVerdict JudgeError) (judged : Result Verdict JudgeError) (old all : Option (List ℕ))
+pub answer_handed : (hands : Hands) (text : Option (List ℕ)) (found : Result WhyVerdict JudgeError) (judged : Result Verdict JudgeError)
+    (old all : Option (List ℕ))
     → IfSome text (λ t. IfSome (answer_of (judged_of found)) (IsTheAnswer hands (rows_of t))) → WritesWhy hands found judged old all
     → IfSome text (λ t. IfSome (answer_of judged) (IsTheAnswer hands (rows_of t)))
 answer_handed hands None found judged old all is written = tt
@@ -29,7 +31,8 @@ answer_handed hands (Some t) found judged old all is written =
     handed (λ r. IfSome (answer_of r) (IsTheAnswer hands (rows_of t))) hands found judged old all is tt tt written
 
 -- what a refusal says of the rows before it
-pub stopped_handed : (hands : Hands) (text : Option (List ℕ)) (found : Result WhyVerdict JudgeError) (judged : Result Verdict JudgeError) (old all : Option (List ℕ))
+pub stopped_handed : (hands : Hands) (text : Option (List ℕ)) (found : Result WhyVerdict JudgeError) (judged : Result Verdict JudgeError)
+    (old all : Option (List ℕ))
     → IfSome text (λ t. IfErr found (StoppedBefore hands (rows_of t))) → WritesWhy hands found judged old all
     → IfSome text (λ t. IfErr judged (StoppedBefore hands (rows_of t)))
 stopped_handed hands None found judged old all is written = tt

@@ -32,7 +32,7 @@ abbrev pub TellsRun : Hands → Option Rows → Option (List ℕ) → Result Ver
 TellsRun hands known old judged all = (found : Result RunVerdict JudgeError) × IsJudgedRun hands known found × WritesRun hands found judged old all
 
 -- what writing the text of why a capture is a no answers: where there is none the refusal, and nothing was written; else
--- the verdict, and the text was written, or a write fault, and a first part of it was, or want of memory, and nothing was
+-- the verdict, and the text was written, or a write fault, and a first part of it was, or memory ran out, and nothing was
 abbrev pub WritesWhy : Hands → Result WhyVerdict JudgeError → Result Verdict JudgeError → Option (List ℕ) → Option (List ℕ) → Type 0
 WritesWhy hands (Err e) result old new = (result ≡ Err e) × Keeps old new
 WritesWhy hands (Ok why) result old new =

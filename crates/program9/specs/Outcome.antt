@@ -10,7 +10,7 @@ use Rattle.verdict9.specs.declared.verdict.Verdict.TheVariants as verdict
 use Rattle.program9.specs.declared.ending.Message.TheVariants as message
 use Rattle.program9.specs.declared.ending.Outcome.{Outcome}
 
--- the end after a refusal of the capture, by its kind: a bad row, a reader that failed, or want of memory
+-- the end after a refusal of the capture, by its kind: a bad row, a reader that failed, or memory ran out
 abbrev pub capture_outcome : CaptureKind → CaptureError → Outcome
 capture_outcome kind.Header e = record { status = 3; message = message.Unreadable e }
 capture_outcome kind.Fields e = record { status = 3; message = message.Unreadable e }
@@ -22,7 +22,7 @@ capture_outcome kind.TooMany e = record { status = 3; message = message.Unreadab
 capture_outcome kind.Read e = record { status = 4; message = message.ReadFault e.row }
 capture_outcome kind.OutOfMemory e = record { status = 5; message = message.NoMemory }
 
--- the status is 0 for yes, 1 for no, 3 for a bad row, 4 for a reader or a writer that failed, 5 for want of
+-- the status is 0 for yes, 1 for no, 3 for a bad row, 4 for a reader or a writer that failed, 5 where memory
 -- memory; only a verdict has no message
 abbrev pub outcome_of : Result Verdict JudgeError → Outcome
 outcome_of (Ok (verdict.Yes records exchanges tail)) = record { status = 0; message = message.Nothing }

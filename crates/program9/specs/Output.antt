@@ -7,7 +7,7 @@ use Rattle.program9.specs.declared.buffered.Buffered.{Buffered}
 abbrev pub contents_behind : {W : Type 0} → (W → Option (List ℕ)) → Buffered W → Option (List ℕ)
 contents_behind contents b = contents b.to
 
--- the same, and then what the buffer holds
+-- what the writer holds, and then what the buffer holds
 abbrev pub held_contents : {W : Type 0} → (W → Option (List ℕ)) → Buffered W → Option (List ℕ)
 held_contents contents b = append_known (contents b.to) b.held.items
 

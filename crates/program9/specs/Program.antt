@@ -33,7 +33,7 @@ use Rattle.program9.specs.Judging.{EndsAs, TellsRun, TellsWhy}
 use Rattle.program9.specs.Outcome.{outcome_of}
 use Rattle.program9.specs.Version.{TellsVersion}
 
--- the end for want of memory
+-- the end where memory runs out
 abbrev pub no_memory : Outcome
 no_memory = record { status = 5; message = message.NoMemory }
 
@@ -46,7 +46,7 @@ why_of NotADirectory = why.NotADirectory
 why_of FilesystemLoop = why.FilesystemLoop
 why_of _ = why.Other
 
--- the end after a capture that was not opened: want of memory, or that this file can't be opened, and why
+-- the end after a capture that was not opened: out of memory, or that this file can't be opened, and why
 abbrev pub outcome_of_kind : Option (String Global) → ErrorKind → Outcome
 outcome_of_kind file OutOfMemory = no_memory
 outcome_of_kind file k = record { status = 4; message = message.CannotOpen (record { file = file; why = why_of k }) }
@@ -64,7 +64,8 @@ TellsFor verb.Why hands known old judged all = TellsWhy hands known old judged a
 
 -- a capture, whose text is given where it is known, was judged with this verb and these hands: the result, and what the
 -- writer holds before and after
-pub record IsJudgedFor (verb : Verb) (hands : Hands) (capture : Option (List ℕ)) (old : Option (List ℕ)) (result : Result Verdict JudgeError) (now : Option (List ℕ)) : Type 0 where
+pub record IsJudgedFor (verb : Verb) (hands : Hands) (capture : Option (List ℕ)) (old : Option (List ℕ)) (result : Result Verdict JudgeError)
+    (now : Option (List ℕ)) : Type 0 where
   pub answer : IfSome capture (λ text. IfSome (answer_of result) (IsTheAnswer hands (rows_of text)))
   pub told : EndsAs (TellsFor verb hands (option_map rows_of capture) old) result now
   pub stopped : IfSome capture (λ text. IfErr result (StoppedBefore hands (rows_of text)))
@@ -80,7 +81,8 @@ EndsOpened coming task (Ok reader) old end now =
     ⊎ ((result : Result Verdict JudgeError) × IsJudgedFor task.verb task.hands (coming reader) old result now × (end ≡ outcome_of result))
 
 -- the task was carried out: its file was opened, or standard input where it names none, and this is the end
-pub record EndsTask {R : Type 0} (opens : Option (String Global) → Result R Error → Type 0) (coming : R → Option (List ℕ)) (task : Task) (old : Option (List ℕ)) (end : Outcome) (now : Option (List ℕ)) : Type 0 where
+pub record EndsTask {R : Type 0} (opens : Option (String Global) → Result R Error → Type 0) (coming : R → Option (List ℕ)) (task : Task) (old : Option (List ℕ))
+    (end : Outcome) (now : Option (List ℕ)) : Type 0 where
   pub opened : Result R Error
   pub is_opened : opens task.file opened
   pub ends : EndsOpened coming task opened old end now
@@ -94,7 +96,8 @@ EndsWithout words.NoMemory old told now = (told ≡ end.Told no_memory) × Keeps
 -- the end of the program on these words: they are no command, and nothing is written; or memory was refused before a
 -- task stood, and nothing is written; or they ask for the version, and that is told; or the task that they give was
 -- carried out
-abbrev pub EndsWords : {R : Type 0} → (Option (String Global) → Result R Error → Type 0) → (R → Option (List ℕ)) → List (List ℕ) → Option (List ℕ) → End → Option (List ℕ) → Type 0
+abbrev pub EndsWords : {R : Type 0} → (Option (String Global) → Result R Error → Type 0) → (R → Option (List ℕ)) → List (List ℕ) → Option (List ℕ) → End
+    → Option (List ℕ) → Type 0
 EndsWords opens coming words old (end.Usage text) now = IsNoTask words × ¬ (AsksVersion words) × Keeps old now
 EndsWords opens coming words old (end.Told outcome) now =
     ((outcome ≡ no_memory) × Keeps old now)
@@ -102,6 +105,7 @@ EndsWords opens coming words old (end.Told outcome) now =
     ⊎ ((task : Task) × IsTaskOf words task × EndsTask opens coming task old outcome now))
 
 -- the end of the program, by its words or by why there are none
-abbrev pub EndsProgram : {R : Type 0} → (Option (String Global) → Result R Error → Type 0) → (R → Option (List ℕ)) → Result (Vec (String Global) Global) WordsFault → Option (List ℕ) → End → Option (List ℕ) → Type 0
+abbrev pub EndsProgram : {R : Type 0} → (Option (String Global) → Result R Error → Type 0) → (R → Option (List ℕ))
+    → Result (Vec (String Global) Global) WordsFault → Option (List ℕ) → End → Option (List ℕ) → Type 0
 EndsProgram opens coming (Err fault) old end now = EndsWithout fault old end now
 EndsProgram opens coming (Ok words) old end now = EndsWords opens coming (map (λ s. string_bytes s) words.items) old end now

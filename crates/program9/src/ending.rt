@@ -7,11 +7,11 @@ use clap::Error;
 /// first line says what happened; the second what was expected, or what to look at.
 #[derive(Debug, Drop, PartialEq, Eq)]
 pub enum Message {
-    /// There is a verdict, or the version was told, and nothing is to be said beside it.
+    /// There is a verdict, or the version was told, and there is nothing more to say.
     Nothing,
     /// A row of the capture is bad, or its header. The kind is neither `Read` nor `OutOfMemory`.
     Unreadable(CaptureError),
-    /// The reader failed or was interrupted at this data row, counted from 1; 0 stands for the header.
+    /// The reader failed or was interrupted at this data row, counted from 1; 0 is the header.
     ReadFault(u32),
     /// The capture was not opened. No result of `judge` ends so.
     CannotOpen(Unopened),
@@ -51,7 +51,7 @@ pub enum WhyUnopened {
 #[derive(Debug, Drop, PartialEq, Eq)]
 pub struct Outcome {
     /// The exit status: 0 yes, or the version; 1 no, 3 a capture that can't be read, 4 a reader or a writer that failed
-    /// or a file that can't be opened, 5 want of memory. (Words that are no command end with 2, and have no outcome.)
+    /// or a file that can't be opened, 5 out of memory. (Words that are no command end with 2, and have no outcome.)
     pub status: u8,
     /// What is said on standard error.
     pub message: Message,

@@ -22,7 +22,7 @@ use std::alloc::Global;
 use std::io::{Read, Write};
 use words9::Verb;
 
-/// Judges the capture that the reader gives as the verb says, and hands the whole report on to the writer behind the buffer.
+/// Judges the capture that the reader gives as the verb says, and passes the whole report on to the writer behind the buffer.
 ///
 /// The report is that of `judge`, the text of the run that `judge_with_run` answered, or the text of the verdict that
 /// `judge_with_contradiction` answered; of the last two there is none where there is no verdict. The result is the
@@ -161,7 +161,7 @@ fn verdict_of_why(why: &WhyVerdict) -> Verdict
     }
 }
 
-/// The end of a judging that answered this: all is handed on, unless a write failed already.
+/// The end of a judging that answered this: all is passed on, unless a write failed already.
 fn ended<W: Write + Drop>(
     out: &mut Buffered<W>,
     judged: Result<Verdict, JudgeError>,

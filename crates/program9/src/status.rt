@@ -15,7 +15,7 @@ use judge9::{JudgeError, Verdict};
 /// | a bad row, or a bad header | 3 | what is wrong, and the row |
 /// | that the reader failed | 4 | the row |
 /// | that the writer failed | 4 | a write fault |
-/// | want of memory, in either form | 5 | want of memory |
+/// | out of memory, in either form | 5 | out of memory |
 pub fn outcome(judged: &Result<Verdict, JudgeError>) -> Outcome
     ensures { result ≡ outcome_of judged.now }
 {

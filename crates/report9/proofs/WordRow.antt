@@ -6,32 +6,39 @@ use Rattle.report9.proofs.Words.{◌≡◌}
 next_is : (between : List ℕ) (words : List (List ℕ)) → next_before between between words ≡ between
 next_is between words = grind arith
 
-next_more : (before between : List ℕ) (words more : List (List ℕ)) → next_before before between (words ++ more) ≡ next_before (next_before before between words) between more
+next_more : (before between : List ℕ) (words more : List (List ℕ))
+    → next_before before between (words ++ more) ≡ next_before (next_before before between words) between more
 next_more before between [] more = refl
 next_more before between (word ∷ words) more = sym (next_is between more)
 
-row_more : (before between : List ℕ) (words more : List (List ℕ)) → in_a_row before between (words ++ more) ≡ in_a_row before between words ++ in_a_row (next_before before between words) between more
+row_more : (before between : List ℕ) (words more : List (List ℕ)) → in_a_row before between (words ++ more)
+    ≡ in_a_row before between words ++ in_a_row (next_before before between words) between more
 row_more before between [] more = refl
 row_more before between (word ∷ words) more = rw (row_more between between words more, next_is between words) (simp append_assoc)
 
 -- three times some words
-pub row_pieces : (l before between second third : List ℕ) (us vs ws : List (List ℕ)) (x y z : List ℕ) → x ≡ l ++ in_a_row before between us → second ≡ next_before before between us
-    → y ≡ x ++ in_a_row second between vs → third ≡ next_before second between vs → z ≡ y ++ in_a_row third between ws → z ≡ l ++ in_a_row before between (us ++ vs ++ ws)
+pub row_pieces : (l before between second third : List ℕ) (us vs ws : List (List ℕ)) (x y z : List ℕ) → x ≡ l ++ in_a_row before between us
+    → second ≡ next_before before between us
+    → y ≡ x ++ in_a_row second between vs → third ≡ next_before second between vs → z ≡ y ++ in_a_row third between ws
+    → z ≡ l ++ in_a_row before between (us ++ vs ++ ws)
 row_pieces l before between second third us vs ws x y z p is_second q is_third r =
     rw (r, is_third, q, is_second, p, row_more before between (us ++ vs) ws, row_more before between us vs, next_more before between us vs) (simp append_assoc)
 
 -- ---- the chosen ones of some modes, and their names
 
-pub every_more : (p : Mode → Bool) (ms : List Mode) (i : ℕ) (d : Mode) → i < length ms → list_all p (take i ms) ≡ true → p (get_or ms i d) ≡ true → list_all p (take (i + 1) ms) ≡ true
+pub every_more : (p : Mode → Bool) (ms : List Mode) (i : ℕ) (d : Mode) → i < length ms → list_all p (take i ms) ≡ true → p (get_or ms i d) ≡ true
+    → list_all p (take (i + 1) ms) ≡ true
 every_more p ms i d h all is = list_all_more p ms i d h ∙ rw (all, is) refl
 
 -- the names that are left: that of the first mode, where it is chosen, and those of the others
 names_next : (p : Mode → Bool) (m : Mode) (ms : List Mode) (before between : List ℕ)
-    → in_a_row before between (names_of p (m ∷ ms)) ≡ (if p m then before ++ name_of m else []) ++ in_a_row (if p m then between else before) between (names_of p ms)
+    → in_a_row before between (names_of p (m ∷ ms)) ≡ (if p m then before ++ name_of m else []) ++ in_a_row (if p m then between else before) between
+    (names_of p ms)
 names_next p m ms before between = grind arith
 
 -- one mode more
-pub names_more : (p : Mode → Bool) (ms : List Mode) (i : ℕ) (d : Mode) (before next between line new whole : List ℕ) → i < length ms → line ++ in_a_row before between (names_of p (drop i ms)) ≡ whole
+pub names_more : (p : Mode → Bool) (ms : List Mode) (i : ℕ) (d : Mode) (before next between line new whole : List ℕ) → i < length ms
+    → line ++ in_a_row before between (names_of p (drop i ms)) ≡ whole
     → new ≡ line ++ (if p (get_or ms i d) then before ++ name_of (get_or ms i d) else []) → next ≡ (if p (get_or ms i d) then between else before)
     → new ++ in_a_row next between (names_of p (drop (i + 1) ms)) ≡ whole
 names_more p ms i d before next between line new whole h so_far text is_next =
@@ -47,6 +54,7 @@ hex_more [] more = refl
 hex_more (byte ∷ bytes) more = ap (λ t. codes " " ++ hex_byte byte ++ t) (hex_more bytes more)
 
 -- the first byte, the code, the data and the sum
-pub block_pieces : (l : List ℕ) (first code last : ℕ) (items w x y z : List ℕ) → w ≡ l ++ hex_byte first → x ≡ w ++ (codes " " ++ hex_byte code) → y ≡ x ++ hex_bytes (codes " ") items → z ≡ y ++ (codes " " ++ hex_byte last)
+pub block_pieces : (l : List ℕ) (first code last : ℕ) (items w x y z : List ℕ) → w ≡ l ++ hex_byte first → x ≡ w ++ (codes " " ++ hex_byte code)
+    → y ≡ x ++ hex_bytes (codes " ") items → z ≡ y ++ (codes " " ++ hex_byte last)
     → z ≡ l ++ hex_bytes [] ((first ∷ code ∷ items) ++ last ∷ [])
 block_pieces l first code last items w x y z p q r s = rw (s, r, q, p, hex_more items (last ∷ [])) (simp (append_assoc, append-nil))

@@ -13,9 +13,13 @@ pub use Rattle.deck9.specs.declared.state.Hands.{Hands}
 pub use Rattle.deck9.specs.declared.state.State.{State}
 pub use Rattle.report9.specs.RunText.{known_entry, known_state, lines_of_run}
 unfoldable pub use Rattle.report9.specs.RunText.{line_of_state}
-pub use Rattle.report9.specs.WhyText.{hex_bytes, in_a_row, lines_at, local_said, names_of, since_told, words_if_whole}
-unfoldable pub use Rattle.report9.specs.WhyText.{line_of_breaking, line_of_contradicting, line_of_could_show, line_of_open, lines_of_break, text_of_answered, text_of_asked, text_of_modes}
-unfoldable pub use Rattle.report9.specs.WhyText.{text_of_block, text_of_records, words_of}
+pub use Rattle.report9.specs.WhyText.{block_of, end_before, hex_bytes, in_a_row, line_if_ended, lines_at, local_said, names_of, own, progress_told, since_told, sum_told, words_if_whole}
+unfoldable pub use Rattle.report9.specs.WhyText.{line_of_breaking, line_of_contradicting, line_of_could_show, line_of_open, lines_of_break, text_of_reply_given, text_of_command_sent, text_of_modes}
+unfoldable pub use Rattle.report9.specs.WhyText.{line_of_before, text_of_block, text_of_records, text_of_reply, words_of}
+pub use Rattle.capture9.specs.declared.line_byte.Wire.{Wire}
+pub use Rattle.capture9.specs.declared.line_byte.Wire.TheVariants.{Controller, Deck}
+pub use Rattle.block9.specs.Line.{block_len}
+pub use Rattle.verdict9.specs.declared.why_verdict.EndedExchange.{EndedExchange}
 pub use Rattle.report9.specs.Working.WhyText.{next_before}
 pub use Rattle.std.proofs.Common.{[], ap, append_assoc, arith, Bool, codes, drop, drop-cons, false, get_or, if◌then◌else◌, inl, inr, length, length-append, List, Option, refl}
 pub use Rattle.std.proofs.Common.{Result, rules, slice_get, Some, suc, sym, take, true, ℕ, ◌%◌, ◌*◌, ◌++◌, ◌+◌, ◌-◌, ◌<◌, ◌∙◌, ◌∷◌, ◌≡◌, ◌≤◌, ◌⊎◌}
@@ -37,7 +41,7 @@ pub use Rattle.text9.specs.Writing.{AppendsPart, Writes}
 pub use Rattle.deck9.specs.declared.knowledge.Known.TheVariants.{the_data as Known}
 pub use Rattle.block9.specs.Exchange.{records_of}
 pub use Rattle.verdict9.specs.Lines.{line_of}
-pub use Rattle.verdict9.specs.OpenRecords.{answered_of, asked_of}
+pub use Rattle.verdict9.specs.OpenRecords.{reply_records, command_records}
 pub use Rattle.verdict9.specs.declared.verdict.Verdict.TheVariants.{the_data as Verdict}
 pub use denote.Shadow.{shadow}
 pub use denote.Text.{Utf8}

@@ -1,9 +1,10 @@
 -- The text of why a capture is a no: where no run remains a line for each of the replies that contradict one another, and
 -- what the deck could show before the last of them; where a rule of pairing is broken a line for the records of the open
--- command, one for those of its reply, and one for the record that breaks; and the line of the verdict.
-use Rattle.std.specs.Prelude.{ℕ, ◌+◌, ◌-◌, Bool, if◌then◌else◌, Option, Some, None, List, [], ◌∷◌, ◌++◌, length, codes}
+-- command and one for those of its reply, or one for the exchange before where none is open, and one for the record that
+-- breaks; and the line of the verdict.
+use Rattle.std.specs.Prelude.{ℕ, ◌+◌, ◌-◌, ◌%◌, nat_lt, Bool, if◌then◌else◌, Option, Some, None, List, [], ◌∷◌, ◌++◌, length, codes}
 use Rattle.std.specs.Fmt.{decimal}
-use Rattle.std.specs.List.{list_all, list_any}
+use Rattle.std.specs.List.{list_all, list_any, sum}
 use Rattle.tc25.specs.Day.{text_of, time_of}
 use Rattle.capture9.specs.declared.line_byte.LineByte.{LineByte}
 use Rattle.capture9.specs.declared.line_byte.Wire.{Wire}
@@ -12,10 +13,10 @@ use Rattle.block9.specs.declared.block.Block.{Block}
 use Rattle.block9.specs.declared.command.Command.{Command}
 use Rattle.block9.specs.declared.pairer.Exchange.{Exchange}
 use Rattle.block9.specs.declared.reason.Reason.{Reason}
-use Rattle.block9.specs.declared.reason.Reason.TheVariants.{NoRun}
+use Rattle.block9.specs.declared.reason.Reason.TheVariants.{NoRun, WrongSum}
 use Rattle.block9.specs.Block.{spelling}
 use Rattle.block9.specs.Command.{is_nak, name_of, time_in}
-use Rattle.block9.specs.Line.{bytes_of, last_time}
+use Rattle.block9.specs.Line.{block_len, bytes_of, last_time}
 use Rattle.block9.specs.Reason.{limit_of}
 use Rattle.deck9.specs.declared.knowledge.Knowledge.{Knowledge}
 use Rattle.deck9.specs.declared.mode_set.ModeSet.{ModeSet}
@@ -31,10 +32,11 @@ use Rattle.deck9.specs.Shows.{sense_of}
 use Rattle.deck9.specs.Status.{status_of}
 use Rattle.why9.specs.Contradiction.{is_among}
 use Rattle.verdict9.specs.declared.verdict.Verdict.TheVariants as verdict
+use Rattle.verdict9.specs.declared.why_verdict.EndedExchange.{EndedExchange}
 use Rattle.verdict9.specs.declared.why_verdict.WhyVerdict.{WhyVerdict}
 use Rattle.verdict9.specs.declared.why_verdict.WhyVerdict.TheVariants as why
 use Rattle.text9.specs.Explanation.{hex_byte, text_of_fields}
-use Rattle.verdict9.specs.OpenRecords.{answered_of, asked_of}
+use Rattle.verdict9.specs.OpenRecords.{reply_records, command_records}
 use Rattle.block9.specs.Exchange.{records_of}
 use Rattle.verdict9.specs.Lines.{line_of}
 
@@ -79,8 +81,8 @@ unfoldable pub words_of : Command → List ℕ
 words_of c = with_space (name_of c) ++ time_with_space (time_in c)
 
 -- these, and the bytes of its block
-unfoldable pub text_of_asked : Exchange → List ℕ
-text_of_asked e = words_of e.command ++ text_of_block e.block
+unfoldable pub text_of_command_sent : Exchange → List ℕ
+text_of_command_sent e = words_of e.command ++ text_of_block e.block
 
 -- what a status says by itself, each part where it is reported: LOCAL; the modes that may be shown; the registers
 abbrev pub local_said : Option Bool → List (List ℕ)
@@ -115,10 +117,13 @@ said (sense.Register r) reply = []
 said (sense.Status asked) reply = if is_nak reply then [] else said_by_status (status_of asked reply)
 said sense.Nothing reply = []
 
-unfoldable pub text_of_answered : Exchange → List ℕ
-text_of_answered e =
-    time_with_space (time_told (sense_of e.command) e.reply) ++ text_of_block e.reply
-    ++ in_a_row (codes ", says ") (codes ", ") (said (sense_of e.command) e.reply)
+-- the time of a register, and the bytes of the reply's block
+unfoldable pub text_of_reply : Exchange → List ℕ
+text_of_reply e = time_with_space (time_told (sense_of e.command) e.reply) ++ text_of_block e.reply
+
+-- these, and what status data say
+unfoldable pub text_of_reply_given : Exchange → List ℕ
+text_of_reply_given e = text_of_reply e ++ in_a_row (codes ", says ") (codes ", ") (said (sense_of e.command) e.reply)
 
 -- ---- lines
 
@@ -131,11 +136,11 @@ text_of_records at n time = (codes "records " ++ decimal (at + 1)) ++ (codes " t
 unfoldable pub line_of_contradicting : ℕ → Exchange → List ℕ
 line_of_contradicting at e =
     text_of_records at (records_of e) e.time_us
-    ++ (codes ": " ++ text_of_asked e)
-    ++ (codes " -> " ++ text_of_answered e)
+    ++ (codes ": " ++ text_of_command_sent e)
+    ++ (codes " -> " ++ text_of_reply_given e)
     ++ codes "\n"
 
--- the lines of those exchanges that stand at one of the places; the first of these exchanges stands at `place`
+-- the lines of those exchanges that are at one of the places; the first of these exchanges is at `place`
 abbrev pub lines_at : List ℕ → ℕ → ℕ → List Exchange → List ℕ
 lines_at places place at [] = []
 lines_at places place at (e ∷ es) =
@@ -151,13 +156,41 @@ line_of_could_show hands known shown = codes "could show: shown " ++ text_of_sho
 
 -- ---- the lines of a record that breaks a rule of pairing
 
--- the line of a block that is not whole, or whose reply is not: these words, and the bytes of its records
-unfoldable pub line_of_open : ℕ → List ℕ → List LineByte → List ℕ
-line_of_open at words [] = []
-line_of_open at words (r ∷ records) =
-    text_of_records at (length (r ∷ records)) r.time_us ++ (codes ": " ++ words) ++ hex_bytes [] (bytes_of (r ∷ records)) ++ codes "\n"
+-- the line of the exchange before, where no record is open: as that of one that contradicts, without what status data say;
+-- the record of this number is its last
+unfoldable pub line_of_before : ℕ → Exchange → List ℕ
+line_of_before at e =
+    text_of_records (at - records_of e) (records_of e) e.time_us
+    ++ (codes ": " ++ text_of_command_sent e)
+    ++ (codes " -> " ++ text_of_reply e)
+    ++ codes "\n"
 
--- what stands before the bytes of a command: its words, where it is whole
+abbrev pub line_if_ended : ℕ → Option EndedExchange → List ℕ
+line_if_ended at None = []
+line_if_ended at (Some ended) = line_of_before at ended.exchange
+
+-- a record is on a wire, as a number of records
+abbrev pub own : Wire → Wire → ℕ
+own Controller Controller = 1
+own Deck Deck = 1
+own _ _ = 0
+
+-- how many of a block's bytes came on this wire, and how many its first byte tells, where the block would not be whole even
+-- with a record on the wire that breaks
+abbrev pub progress_told : Wire → List LineByte → Wire → List ℕ
+progress_told wire records breaking =
+    if nat_lt (length records + own wire breaking) (block_len records)
+    then (codes ", " ++ decimal (length records)) ++ (codes " of " ++ decimal (block_len records)) ++ codes " bytes" else []
+
+-- the line of a block that is unfinished, or whose reply is not: these words, and the bytes of its records, which are on this
+-- wire; the record that breaks is on the other one given
+unfoldable pub line_of_open : ℕ → List ℕ → Wire → Wire → List LineByte → List ℕ
+line_of_open at words wire breaking [] = []
+line_of_open at words wire breaking (r ∷ records) =
+    text_of_records at (length (r ∷ records)) r.time_us ++ (codes ": " ++ words) ++ hex_bytes [] (bytes_of (r ∷ records))
+    ++ progress_told wire (r ∷ records) breaking ++ codes "\n"
+
+-- what comes before the bytes of a command: its words, where it is complete
 abbrev pub words_if_whole : Option Command → List ℕ
 words_if_whole None = []
 words_if_whole (Some c) = words_of c
@@ -166,34 +199,50 @@ abbrev pub letter_of : Wire → List ℕ
 letter_of Controller = codes "C "
 letter_of Deck = codes "D "
 
--- how long a record comes after the last of those that are open, where there is one, and the limit of a reason of time
-abbrev pub since_told : List LineByte → LineByte → List ℕ
-since_told [] r = []
-since_told (first ∷ records) r = (codes ", " ++ decimal (r.time_us - last_time (first ∷ records))) ++ codes " after the record before"
+-- how long a record comes after the one before: the last of those that are open, or of the exchange before, where there is
+-- one; and the limit of a reason of time
+abbrev pub end_before : List LineByte → Option EndedExchange → Option ℕ
+end_before (first ∷ records) before = Some (last_time (first ∷ records))
+end_before [] None = None
+end_before [] (Some ended) = Some ended.end_us
+
+abbrev pub since_told : Option ℕ → LineByte → List ℕ
+since_told None r = []
+since_told (Some end_us) r = (codes ", " ++ decimal (r.time_us - end_us)) ++ codes " after the record before"
 
 abbrev pub limit_told : Option ℕ → List ℕ
 limit_told None = []
 limit_told (Some limit) = codes ", limit " ++ decimal limit
 
--- the line of the record that breaks: its wire and byte, how long after the record before it comes, and the limit
-unfoldable pub line_of_breaking : ℕ → Reason → List LineByte → LineByte → List ℕ
-line_of_breaking at reason tail r =
+-- the right checksum of the block whose last record breaks, where its byte is a wrong one
+abbrev pub block_of : Wire → List LineByte → List LineByte
+block_of Controller tail = command_records tail
+block_of Deck tail = reply_records tail
+
+abbrev pub sum_told : Reason → List LineByte → Wire → List ℕ
+sum_told WrongSum tail wire = codes ", sum " ++ hex_byte (sum (bytes_of (block_of wire tail)) % 256)
+sum_told _ tail wire = []
+
+-- the line of the record that breaks: its wire and byte, how long after the record before it comes, the limit, and the sum
+unfoldable pub line_of_breaking : ℕ → Reason → List LineByte → Option EndedExchange → LineByte → List ℕ
+line_of_breaking at reason tail before r =
     (codes "record " ++ decimal at) ++ (codes " at " ++ decimal r.time_us)
     ++ (codes ": " ++ letter_of r.wire) ++ hex_byte r.byte
-    ++ since_told tail r ++ limit_told (limit_of reason) ++ codes "\n"
+    ++ since_told (end_before tail before) r ++ limit_told (limit_of reason) ++ sum_told reason tail r.wire ++ codes "\n"
 
 -- these lines; so many records come before the open ones
-unfoldable pub lines_of_break : ℕ → ℕ → Reason → List LineByte → Option Command → LineByte → List ℕ
-lines_of_break before at reason tail command r =
-    line_of_open before (words_if_whole command) (asked_of tail)
-    ++ line_of_open (before + length (asked_of tail)) (codes "-> ") (answered_of tail)
-    ++ line_of_breaking at reason tail r
+unfoldable pub lines_of_break : ℕ → ℕ → Reason → List LineByte → Option Command → Option EndedExchange → LineByte → List ℕ
+lines_of_break count at reason tail command before r =
+    line_if_ended count before
+    ++ line_of_open count (words_if_whole command) Controller r.wire (command_records tail)
+    ++ line_of_open (count + length (command_records tail)) (codes "-> ") Deck r.wire (reply_records tail)
+    ++ line_of_breaking at reason tail before r
 
 -- ---- the whole text
 
 abbrev pub text_of_why : Hands → WhyVerdict → List ℕ
 text_of_why hands (why.Yes records exchanges tail) = line_of (verdict.Yes records exchanges tail)
-text_of_why hands (why.Break at reason tail command r) =
-    lines_of_break (at - (length tail.items + 1)) at reason tail.items command r ++ line_of (verdict.No at reason)
+text_of_why hands (why.Break at reason tail command before r) =
+    lines_of_break (at - (length tail.items + 1)) at reason tail.items command before r ++ line_of (verdict.No at reason)
 text_of_why hands (why.Contradiction at exchanges places known shown) =
     lines_at places.items 0 0 exchanges.items ++ line_of_could_show hands known shown ++ line_of (verdict.No at NoRun)

@@ -25,12 +25,13 @@ use verdict9::{JudgeError, Verdict, WhyVerdict, put_verdict_line};
 
 /// Writes why a capture is a no: where no run of the deck remains a line for each of the replies that contradict one
 /// another, then what the deck could show when it gave the last of them; where a rule of blocks, pairing or timing is
-/// broken a line for the records of the open command, one for those of its reply, and one for the record that breaks; and
-/// in each case the line of the verdict.
+/// broken a line for the records of the open command and one for those of its reply, or one for the exchange before where
+/// none is open, and one for the record that breaks; and in each case the line of the verdict.
 ///
 /// A line of open records tells their numbers, the time of the first of them in microseconds, the command's name and time
-/// where it is whole, and their bytes. The line of the record that breaks tells its number, time, wire and byte, how many
-/// microseconds it comes after the last open one, and the limit where the rule is one of time. A line of a reply tells the
+/// where it is complete, their bytes, and how many of the block's bytes came where more are missing than the one that breaks.
+/// The line of the record that breaks tells its number, time, wire and byte, how many microseconds it comes after the record
+/// before it, the limit where the rule is one of time, and the right checksum where it is a wrong one. A line of a reply tells the
 /// numbers of its exchange's records, the time of the first of them in microseconds, what was asked and what was answered,
 /// with the bytes of both blocks, and what the reply says of the deck. With `Hands::Allowed` it is told whether the panel is
 /// on.
@@ -85,9 +86,18 @@ fn put_why(text: &mut Vec<u8>, hands: Hands, verdict: &WhyVerdict) -> Result<(),
             reason,
             tail,
             command,
+            before,
             breaking,
         } => {
-            put_break(text, *at, *reason, tail.as_slice(), command, *breaking)?;
+            put_break(
+                text,
+                *at,
+                *reason,
+                tail.as_slice(),
+                command,
+                before,
+                *breaking,
+            )?;
             put_no(text, *at, *reason)
         }
         WhyVerdict::Contradiction {
@@ -111,7 +121,7 @@ fn put_no(text: &mut Vec<u8>, at: u32, reason: Reason) -> Result<(), AllocError>
     put_verdict_line(text, Verdict::No { at, reason })
 }
 
-/// Puts the lines of the exchanges that stand at these places.
+/// Puts the lines of the exchanges at these places.
 fn put_lines(text: &mut Vec<u8>, places: &[usize], exchanges: &[Exchange]) -> Result<(), AllocError>
     ensures { OnOk result (text.new.items ≡ text.old.items ++ lines_at places.now 0 0 exchanges.now) }
 {

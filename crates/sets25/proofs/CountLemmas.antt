@@ -78,7 +78,7 @@ pub begin_count-widened_next : (s : Times) → BelowDay s → begin_count (set.u
 unfolding begin_count
 begin_count-widened_next s below =
     len_within (begins (set.union s (image next_frame s))) (begins s)
-        (λ f there. grind (arith, nat_tests, contains-retain_nat, set.contains-union nat_cmp_total, contains-moved Next s below))
+    (λ f there. grind (arith, nat_tests, contains-retain_nat, set.contains-union nat_cmp_total, contains-moved Next s below))
 
 pub begin_count-widened_prev : (s : Times) → BelowDay s → begin_count (set.union s (image prev_frame s)) ≤ begin_count s
 unfolding begin_count

@@ -160,7 +160,7 @@ with_frame-at f ls p c place =
 -- the last span of the one list and the first of the other touch, or they do not
 pub meets : (ps ns spans : List Span) (n : ℕ) (d : Span) → length ps ≡ suc n → 0 < length ns
     → meet ps (ns ++ spans) ≡ cond (leb (get_or ns 0 d).first ((get_or ps n d).last + 1)) (ended_at (get_or ns 0 d).last ps ++ drop 1 (ns ++ spans))
-        (ps ++ (ns ++ spans))
+    (ps ++ (ns ++ spans))
 meets (s ∷ []) (q ∷ ns) spans zero d some more = refl
 meets (s ∷ t ∷ ps) ns spans (suc n) d some more = let later = meets (t ∷ ps) ns spans n d (omega arith) more in grind arith
 meets ps ns spans n d some more = absurd (omega arith)
@@ -202,7 +202,7 @@ pub dropped : (first : List Span) (vs ws : List (Vec Span Global)) (i : ℕ) (v 
     → first ++ end_to_end (lists_in ws) ≡ end_to_end (take (i + 1) (first ∷ lists_in vs)) ++ drop 1 (end_to_end (drop (i + 1) (first ∷ lists_in vs)))
 dropped first vs ws i v left h at some is gone =
     rw (is, add-one i, behind_more vs i v h at, drop-append-le 1 v.items _ some, ← gone, end_to_end-append, end_to_end-append, add-one i)
-        (sym (append_assoc first _ _))
+    (sym (append_assoc first _ _))
 
 -- ---- a frame added, and the list met by the next
 

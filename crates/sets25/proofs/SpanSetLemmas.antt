@@ -43,7 +43,7 @@ least_some-spans [] s r c at given = absurd (cc)
 least_some-spans (x ∷ xs) s r c at given =
     let e : s ≡ x = cc in
     least_from (in_spans (x ∷ xs)) x.first r (rw e at given) (omega arith) (grind (arith, nat_tests))
-        (λ f h there. let above = uncovered_below x.first (x ∷ xs) (omega arith, c.1, c.2) f in grind arith)
+    (λ f h there. let above = uncovered_below x.first (x ∷ xs) (omega arith, c.1, c.2) f in grind arith)
 
 -- ---- the number of spans
 
@@ -62,14 +62,27 @@ no_begin_below low (s ∷ xs) c f h = let later = no_begin_below (s.last + 2) xs
 begins_is : (low : ℕ) (xs : List Span) → IsCanonical low xs → (f : ℕ) → (is_covered f xs && (eqb f 0 || not (is_covered (f - 1) xs))) ≡ begins_at f xs
 begins_is low [] c f = refl
 begins_is low (s ∷ xs) c f =
-    grind (arith, nat_tests, uncovered_below (s.last + 2) xs c.2 f, uncovered_below (s.last + 2) xs c.2 (f - 1), no_begin_below (s.last + 2) xs c.2 f, begins_is
-        (s.last + 2) xs c.2 f)
+    grind (
+      arith,
+      nat_tests,
+      uncovered_below (s.last + 2) xs c.2 f,
+      uncovered_below (s.last + 2) xs c.2 (f - 1),
+      no_begin_below (s.last + 2) xs c.2 f,
+      begins_is
+          (s.last + 2) xs c.2 f,
+    )
 
 len_firsts : (low : ℕ) (xs : List Span) → IsCanonical low xs → set.len (set.from_list {R = nat_cmp} (firsts xs)) ≡ length xs
 len_firsts low [] c = set.len-empty nat_cmp
 len_firsts low (s ∷ xs) c =
-    grind (arith, set.len-insert nat_cmp_total, set.contains-from_list_nat (firsts xs) s.first, no_begin_below (s.last + 2) xs c.2 s.first, len_firsts
-        (s.last + 2) xs c.2)
+    grind (
+      arith,
+      set.len-insert nat_cmp_total,
+      set.contains-from_list_nat (firsts xs) s.first,
+      no_begin_below (s.last + 2) xs c.2 s.first,
+      len_firsts
+          (s.last + 2) xs c.2,
+    )
 
 covered_in_day : (low : ℕ) (xs : List Span) → IsCanonical low xs → (f : ℕ) → is_covered f xs ≡ true → f < day
 covered_in_day low [] c f there = absurd (false≢true there)

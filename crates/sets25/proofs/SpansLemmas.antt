@@ -72,7 +72,7 @@ pub canonical_with : (low f : ℕ) (xs : List Span) → IsCanonical low xs → l
 canonical_with low f [] c le in_day = (le, (omega arith, in_day), tt)
 canonical_with low f (s ∷ xs) c le in_day =
     let glued = λ (touch : f ≤ s.last + 1). canonical_glue low (grown f s) xs (omega arith) (omega arith) (canonical_from _ (s.last + 2) xs (omega arith) c.2)
-        in
+    in
     grind (arith, nat_tests, canonical_with (s.last + 2) f xs c.2)
 
 pub covered_with : (g low f : ℕ) (xs : List Span) → IsCanonical low xs → f < day → is_covered g (with_frame f xs) ≡ (eqb g f || is_covered g xs)
@@ -122,8 +122,15 @@ module _ (f : ℕ) (xs : List Span) (i : ℕ) (p : IsPlace (f - 1) xs i) where
 pub put_touching : (xs : List Span) (i : ℕ) (s d : Span) → i + 1 < length xs → (get_or xs (i + 1) d).first ≤ s.last + 1
     → set (remove xs (i + 1)) i (record { first = s.first; last = (get_or xs (i + 1) d).last }) ≡ take i xs ++ glue s (drop (i + 1) xs)
 put_touching xs i s d h touch =
-    rw (drop_more xs (i + 1) d h, le-leb _ _ touch, add-one (i + 1), take_more xs i d (omega arith), append_assoc, set_at (take i xs) _ _ _ i
-        (length-take-le i xs (omega arith))) refl
+    rw (
+      drop_more xs (i + 1) d h,
+      le-leb _ _ touch,
+      add-one (i + 1),
+      take_more xs i d (omega arith),
+      append_assoc,
+      set_at (take i xs) _ _ _ i
+          (length-take-le i xs (omega arith)),
+    ) refl
 
 -- ---- joining, a span at a time
 

@@ -41,9 +41,12 @@ image_from h s f there =
     let xs = set.items s in
     let w = Any-from_list_any (λ y. nat_eq y f) (map h xs) (sym (set.contains-from_list_nat (map h xs) f) ∙ there) in
     let fits : w.0 < length xs = omega (arith, w.2, length-map xs h) in
-    let g = get_or xs w.0 0 in
-    (g, contains-items_nat s g ∙ list_any_at (λ y. nat_eq y g) xs w.0 0 fits (eq-eqb g g refl), sym (eqb-true w.1 f w.4) ∙ sym w.3
-        ∙ get_or-map h xs w.0 0 w.1 fits)
+    let g = get_or xs w.0 0 in (
+      g,
+      contains-items_nat s g ∙ list_any_at (λ y. nat_eq y g) xs w.0 0 fits (eq-eqb g g refl),
+      sym (eqb-true w.1 f w.4) ∙ sym w.3
+          ∙ get_or-map h xs w.0 0 w.1 fits,
+    )
 
 -- a member goes into the image
 pub image_to : (h : ℕ → ℕ) (s : Times) (g : ℕ) → set.contains s g ≡ true → set.contains (image h s) (h g) ≡ true
@@ -53,7 +56,7 @@ image_to h s g there =
     let w = Any-from_list_any (λ y. nat_eq y g) xs (sym (contains-items_nat s g) ∙ there) in
     let at = get_or-map h xs w.0 w.1 (h g) w.2 ∙ ap h (w.3 ∙ eqb-true w.1 g w.4) in
     set.contains-from_list_nat (map h xs) (h g) ∙ list_any_at (λ y. nat_eq y (h g)) (map h xs) w.0 (h g) (omega (arith, w.2, length-map xs h))
-        (eq-eqb _ (h g) at)
+    (eq-eqb _ (h g) at)
 
 -- a move there and back, within the day
 pub moved_back : (d : Direction) (f : ℕ) → f < day → (moved d f < day) × (moved_from d f < day) × (f ≡ moved_from d (moved d f))
@@ -90,8 +93,15 @@ module _ (p q : ℕ → Bool) where
       → times_where q ≡ set.union (times_where p) (image (moved d) (times_where p))
   times_where-widened d same =
       times_where-is q _ (λ f.
-      grind (arith, nat_tests, set.contains-union nat_cmp_total, contains-moved d (times_where p) (times_where_below p), contains-times_where p, moved_back d f,
-          same f))
+      grind (
+        arith,
+        nat_tests,
+        set.contains-union nat_cmp_total,
+        contains-moved d (times_where p) (times_where_below p),
+        contains-times_where p,
+        moved_back d f,
+        same f,
+      ))
 
 module _ (q : ℕ → Bool) where
   pub times_where-empty : ((f : ℕ) → f < day → q f ≡ false) → times_where q ≡ set.empty

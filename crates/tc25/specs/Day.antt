@@ -62,8 +62,8 @@ digits_of greatest byte = if nat_lt (byte % 16) 10 && nat_le (byte / 16 * 10 + b
 abbrev pub time_spelled : List ℕ → Option ℕ
 time_spelled (f ∷ s ∷ m ∷ h ∷ []) =
     option_and_then (λ frames. option_and_then (λ seconds. option_and_then (λ minutes.
-        option_and_then (λ hours. Some (((hours * 60 + minutes) * 60 + seconds) * 25 + frames)) (digits_of 23 h)) (digits_of 59 m)) (digits_of 59 s))
-            (digits_of 24 f)
+    option_and_then (λ hours. Some (((hours * 60 + minutes) * 60 + seconds) * 25 + frames)) (digits_of 23 h)) (digits_of 59 m)) (digits_of 59 s))
+    (digits_of 24 f)
 time_spelled _ = None
 
 -- the time that four bytes read as, if they read as any

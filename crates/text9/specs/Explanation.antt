@@ -41,7 +41,7 @@ text_of_command e = unwrap_or (name_of e.command) (text_of_head e.block)
 abbrev pub has_bit : ℕ → ℕ → Bool
 has_bit byte bit = bit_and byte bit == bit
 
--- the names of the bits that are set, in the order of the table: `before` stands before the first, and a plus sign before each other
+-- the names of the bits that are set, in the order of the table: `before` comes before the first, and a plus sign before each other
 abbrev pub names_after : List ℕ → ℕ → List (List ℕ × ℕ) → List ℕ
 names_after before byte [] = []
 names_after before byte (row ∷ rows) =

@@ -1,10 +1,12 @@
--- The records that are open where a record breaks a rule: those after the last whole exchange before it.
-use Rattle.std.specs.Prelude.{◌≡◌, ℕ, ◌+◌, Bool, if◌then◌else◌, true, false, List, [], ◌∷◌, ◌++◌, length}
+-- The records that are open where a record breaks a rule: those after the last complete exchange before it.
+use Rattle.std.specs.Prelude.{◌≡◌, ℕ, ◌+◌, Bool, if◌then◌else◌, true, false, Option, Some, None, List, [], ◌∷◌, ◌++◌, length}
 use Rattle.capture9.specs.declared.line_byte.LineByte.{LineByte}
 use Rattle.capture9.specs.declared.line_byte.Wire.{Wire}
 use Rattle.capture9.specs.declared.line_byte.Wire.TheVariants.{Controller, Deck}
 use Rattle.block9.specs.declared.pairer.Exchange.{Exchange}
 use Rattle.block9.specs.Exchange.{Cut}
+use Rattle.block9.specs.Line.{last_time}
+use Rattle.verdict9.specs.declared.why_verdict.EndedExchange.{EndedExchange}
 
 -- of these records the one with this number, counted from 1, and the open ones before it
 pub record IsBreakAfter (records : List LineByte) (at : ℕ) (tail : List LineByte) (r : LineByte) : Type 0 where
@@ -15,16 +17,24 @@ pub record IsBreakAfter (records : List LineByte) (at : ℕ) (tail : List LineBy
   pub exchanges : List Exchange
   pub cut : Cut before exchanges tail
 
+-- what is told of these records before a break, which are cut into these exchanges and open ones: where one is open nothing,
+-- and else the last exchange, if there is one, with the time of its last record
+abbrev pub IsBefore : List LineByte → List Exchange → List LineByte → Option EndedExchange → Type 0
+IsBefore records exchanges (r ∷ tail) told = told ≡ None
+IsBefore records exchanges [] None = exchanges ≡ []
+IsBefore records exchanges [] (Some last) =
+    (first : List Exchange) × (exchanges ≡ first ++ last.exchange ∷ []) × (last.end_us ≡ last_time records)
+
 -- a command comes on the controller's wire
-abbrev pub is_asked : Wire → Bool
-is_asked Controller = true
-is_asked Deck = false
+abbrev pub is_commands_wire : Wire → Bool
+is_commands_wire Controller = true
+is_commands_wire Deck = false
 
--- the records of the command come first, and behind them are those of its reply
-abbrev pub asked_of : List LineByte → List LineByte
-asked_of [] = []
-asked_of (r ∷ records) = if is_asked r.wire then r ∷ asked_of records else []
+-- the records of the command come first, and after them are those of its reply
+abbrev pub command_records : List LineByte → List LineByte
+command_records [] = []
+command_records (r ∷ records) = if is_commands_wire r.wire then r ∷ command_records records else []
 
-abbrev pub answered_of : List LineByte → List LineByte
-answered_of [] = []
-answered_of (r ∷ records) = if is_asked r.wire then answered_of records else r ∷ records
+abbrev pub reply_records : List LineByte → List LineByte
+reply_records [] = []
+reply_records (r ∷ records) = if is_commands_wire r.wire then reply_records records else r ∷ records

@@ -16,7 +16,7 @@ pub enum JudgeError {
     /// The writer failed, was interrupted, or took no byte. What it took until then is a first part of the report.
     #[error("the report can't be written")]
     Write,
-    /// A growth of memory was refused. What was written is whole lines of the first exchanges, where an explanation
+    /// A growth of memory was refused. What was written is complete lines of the first exchanges, where an explanation
     /// was asked for, and no verdict.
     #[error("out of memory")]
     OutOfMemory,

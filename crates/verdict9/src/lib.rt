@@ -12,8 +12,8 @@ mod verdict_line;
 mod why_verdict;
 
 pub use error::JudgeError;
-pub use open_records::asked_len;
+pub use open_records::command_len;
 pub use run_verdict::RunVerdict;
 pub use verdict::{Verdict, View};
 pub use verdict_line::put_verdict_line;
-pub use why_verdict::WhyVerdict;
+pub use why_verdict::{EndedExchange, WhyVerdict};

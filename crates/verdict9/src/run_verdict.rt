@@ -10,9 +10,9 @@ pub enum RunVerdict {
     Yes {
         /// How many records there are.
         records: u32,
-        /// How many records come after the last whole exchange, at most 35.
+        /// How many records come after the last complete exchange, at most 35.
         tail: u32,
-        /// The whole exchanges that the records hold.
+        /// The complete exchanges that the records hold.
         exchanges: Vec<Exchange>,
         /// A run of the deck: one state after each exchange, in their order.
         states: Vec<State>,

@@ -10,10 +10,10 @@ pub enum Verdict {
     Yes {
         /// How many records there are.
         records: u32,
-        /// How many whole exchanges they hold: a command and its reply each.
+        /// How many complete exchanges they hold: a command and its reply each.
         exchanges: u32,
-        /// How many records come after the last whole exchange, at most 35: those of a command whose reply
-        /// is not whole yet, with what there is of the reply, or of a command that is not whole itself.
+        /// How many records come after the last complete exchange, at most 35: those of a command whose reply
+        /// is unfinished yet, with what there is of the reply, or of a command that is unfinished itself.
         tail: u32,
     },
     /// A record breaks a rule. Later rows were not judged, and may be bad.

@@ -4,17 +4,27 @@ use block9::{Command, Exchange, Reason};
 use capture9::LineByte;
 use deck9::{Knowledge, ModeSet};
 
+/// An exchange, and the time at which it ended.
+#[derive(Debug, Drop, PartialEq, Eq)]
+pub struct EndedExchange {
+    /// The exchange.
+    pub exchange: Exchange,
+    /// The time of its last record, in microseconds.
+    pub end_us: u64,
+}
+
 /// The verdict on the records of a capture, and why it is a no: where a rule of blocks, pairing or timing is broken the
-/// records that are open, and where no run remains the replies that contradict one another.
+/// records that are open, or the exchange before where none is, and where no run remains the replies that contradict one
+/// another.
 #[derive(Debug, Drop, PartialEq, Eq)]
 pub enum WhyVerdict {
     /// No row is bad, all records keep the rules, and some run of the deck gives exactly their replies.
     Yes {
         /// How many records there are.
         records: u32,
-        /// How many whole exchanges they hold.
+        /// How many complete exchanges they hold.
         exchanges: u32,
-        /// How many records come after the last whole exchange, at most 35.
+        /// How many records come after the last complete exchange, at most 35.
         tail: u32,
     },
     /// A record breaks a rule of blocks, pairing or timing. Later rows were not judged, and may be bad.
@@ -23,11 +33,14 @@ pub enum WhyVerdict {
         at: u32,
         /// The rule that it breaks, and the first of them where it breaks several; never `Reason::NoRun`.
         reason: Reason,
-        /// The records after the last whole exchange, without this one: those of a command, at most 18, and behind them
+        /// The records after the last complete exchange, without this one: those of a command, at most 18, and after them
         /// those of its reply, at most 17.
         tail: Vec<LineByte>,
-        /// What the open command means, where it is whole.
+        /// What the open command means, where it is complete.
         command: Option<Command>,
+        /// The last complete exchange, where no record is open: then it ends with the record before this one. None where one
+        /// is open, and where there is no exchange.
+        before: Option<EndedExchange>,
         /// The record that breaks the rule.
         breaking: LineByte,
     },

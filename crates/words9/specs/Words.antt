@@ -31,7 +31,10 @@ app_for verb = with_rule (with_rule (new_app (name_of verb)) file_rule) hands_ru
 
 -- the program, which wants a subcommand, and has a version; its own name is not among the words
 abbrev pub top : App
-top = record (new_app (codes "ninecheck")) { top = record (new_app (codes "ninecheck")).top { no_binary_name = true; subcommand_required = true; has_version = true } }
+top = record (new_app (codes "ninecheck")) {
+  top = record (new_app (codes "ninecheck")).top
+      { no_binary_name = true; subcommand_required = true; has_version = true };
+}
 
 -- the program with its subcommands
 abbrev pub program : App
@@ -39,7 +42,7 @@ program =
     with_subcommand (with_subcommand (with_subcommand (with_subcommand top (app_for verb.Check).top) (app_for verb.Explain).top) (app_for verb.Run).top)
     (app_for verb.Why).top
 
--- the program takes the words: they name this verb, and what stands beside it are these rows
+-- the program takes the words: they name this verb, and these rows come with it
 abbrev pub Names : List Text → Verb → List Row → Type 0
 Names words verb rows = (fault_of program words ≡ []) × (subcommand_of program words ≡ Some (name_of verb, rows))
 

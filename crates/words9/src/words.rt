@@ -15,7 +15,7 @@ use std::alloc::{AllocError, Global};
 /// The task that these words give: those of the command line after the program's own name.
 ///
 /// The words are `check`, `explain`, `run` or `why`, and with it at most one file and, before or after the file, at most once
-/// `--hands`; or they are `--version` or `-V`. What they may look like beside this is `clap`'s own definition.
+/// `--hands`; or they are `--version` or `-V`. What else they may look like is `clap`'s own definition.
 ///
 /// * `Ok(task)` only where the definition takes the words. The task has the subcommand, the file and the option
 ///   that it gives for them.

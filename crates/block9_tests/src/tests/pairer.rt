@@ -56,7 +56,11 @@ fn a_command_and_its_reply_are_an_exchange(rt: HostRuntime) {
         (record(1_200, Controller, 0x21), (Step::Command, 3), true),
         (record(1_600, Deck, 0x10), (Step::Waiting, 4), true),
         (record(2_000, Deck, 0x01), (Step::Waiting, 5), true),
-        (record(2_400, Deck, 0x11), (Step::Exchange(exchange), 0), false),
+        (
+            record(2_400, Deck, 0x11),
+            (Step::Exchange(exchange), 0),
+            false,
+        ),
     ] {
         same(&rt, &take(&rt, &mut pairer, *line_byte), taken, *line_byte);
         let open = is_open.then_some(Command::Play);
@@ -107,8 +111,18 @@ fn a_wrong_reply_leaves_the_command_open(rt: HostRuntime) {
         (2_000, 0x12, Err(Reason::WrongReply)),
         (2_400, 0x11, Err(Reason::WrongReply)),
     ] {
-        same(&rt, feed(&rt, &mut pairer, record(at, Deck, byte)), answer, byte);
+        same(
+            &rt,
+            feed(&rt, &mut pairer, record(at, Deck, byte)),
+            answer,
+            byte,
+        );
         same(&rt, pairer.open_command(), Some(Command::Play), byte);
     }
-    same(&rt, pairer.tail_len(), 5, "the command and two bytes of the reply");
+    same(
+        &rt,
+        pairer.tail_len(),
+        5,
+        "the command and two bytes of the reply",
+    );
 }

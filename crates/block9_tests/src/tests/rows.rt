@@ -216,7 +216,7 @@ fn tell(rt: &HostRuntime, refused: Option<CaptureError>) {
     };
 }
 
-/// A want of memory, if it is one.
+/// A out of memory, if it is one.
 fn refused(fault: Option<CaptureError>) -> Option<CaptureError> {
     fault.filter(|fault| fault.kind == CaptureKind::OutOfMemory)
 }

@@ -2,7 +2,7 @@
 use Rattle.std.specs.Prelude.{◌↔◌, ◌≡◌, ◌⊎◌}
 use Rattle.judge9.specs.Working.{[], AreReached, Bool, CaptureError, Err, Exchange, Exchanges, false, GivesEnd, GivesRecord, GivesRefusal, Hands, IsFirst, IsTrue, JudgeError}
 use Rattle.judge9.specs.Working.{Judging, LineByte, None, Ok, Possible, Reason, refusal_of, Refuses, Result, Standing, State, Step, suc, Takes, Tracked, true, zero, ℕ, ⊤}
-use Rattle.judge9.specs.declared.turn.Turn.TheVariants.{the_data as Turn}
+use Rattle.judge9.specs.declared.judging.Turn.TheVariants.{the_data as Turn}
 
 -- nothing was judged yet
 pub record IsFresh {R : Type 0} (h : Hands) (j : Judging R) : Type 0 where

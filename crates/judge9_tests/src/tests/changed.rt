@@ -5,9 +5,9 @@
 //!
 //! | Field | Changed |
 //! |---|---|
-//! | goal | to another one, after a transport command that a deck in remote acknowledged; to one that is neither that of the state before, nor STOP, nor the command's; to another one than the state after still has |
+//! | goal | to another one, after a transport command that a deck in REMOTE acknowledged; to one that is neither that of the state before, nor STOP, nor the command's; to another one than the state after still has |
 //! | shown | to a mode without the bits that status data 1 or 2 told; to one that is neither that of the state before nor on the way to its goal; to another one than the state after still shows |
-//! | each register | to another time than its sense told; Set or Clear against status datum 3; to another time or Clear after a preset, Clear after an entry, and Set after a reset, of a deck in remote; to a time that is neither that of the state before, nor next to it, nor the command's; Set or Clear where the state before or after is not; to another time than the state after still has |
+//! | each register | to another time than its sense told; Set or Clear against status datum 3; to another time or Clear after a preset, Clear after an entry, and Set after a reset, of a deck in REMOTE; to a time that is neither that of the state before, nor next to it, nor the command's; Set or Clear where the state before or after is not; to another time than the state after still has |
 //! | local | after status datum 0; to another value than the state before or after has |
 //! | panel | to on where nobody touches it; after LOCAL ENABLE and LOCAL DISABLE; to another value than the state before or after has |
 //!

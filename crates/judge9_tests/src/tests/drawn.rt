@@ -63,7 +63,7 @@ impl Draw {
     }
 }
 
-/// A capture of at most sixteen exchanges. In about half of them two come before these that leave a deck in remote which
+/// A capture of at most sixteen exchanges. In about half of them two come before these that leave a deck in REMOTE which
 /// nobody touches: such a deck does all that it acknowledges.
 pub(super) fn drawn(alloc: Global, draw: &mut Draw) -> Result<String, AllocError> {
     let mut tap = Tap::new(alloc)?;

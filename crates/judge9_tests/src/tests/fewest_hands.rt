@@ -98,8 +98,15 @@ fn run_of(
     Ok((exchanges, states))
 }
 
+/// A run of a capture with hands.
+#[derive(Drop)]
+pub(super) struct Run {
+    pub(super) exchanges: Vec<Exchange>,
+    pub(super) states: Vec<State>,
+}
+
 /// The states with the panel off.
-fn without_panel(alloc: Global, states: &[State]) -> Result<Vec<State>, AllocError> {
+pub(super) fn without_panel(alloc: Global, states: &[State]) -> Result<Vec<State>, AllocError> {
     let mut off = Vec::new(alloc);
     for state in states {
         off.push(State {
@@ -115,17 +122,20 @@ fn moves(alloc: Global, exchanges: &[Exchange], states: &[State]) -> Result<usiz
     let states = without_panel(alloc, states)?;
     let mut moves = 0usize;
     for at in 1..exchanges.len() {
-        let before = at.saturating_sub(1);
-        if let (Some(exchanges), Some(states)) = (
-            exchanges.get(before..=at),
-            states.get(before..=at),
-        ) {
-            if !is_run(exchanges, states, Hands::None) {
-                moves = moves.saturating_add(1);
-            }
+        if !goes_on_untouched(exchanges, states.as_slice(), at) {
+            moves = moves.saturating_add(1);
         }
     }
     Ok(moves)
+}
+
+/// Whether an untouched deck goes on so at a place.
+pub(super) fn goes_on_untouched(exchanges: &[Exchange], states: &[State], at: usize) -> bool {
+    let before = at.saturating_sub(1);
+    match (exchanges.get(before..=at), states.get(before..=at)) {
+        (Some(exchanges), Some(states)) => is_run(exchanges, states, Hands::None),
+        _ => true,
+    }
 }
 
 /// A letter for the panel in each state.
@@ -182,7 +192,7 @@ fn frame_at(place: usize, touched: usize) -> Entry {
     Entry::At(TimeCode::from_frames(frames).unwrap_or_default())
 }
 
-/// A deck in remote whose IN was preset to 10:00:00:00 and answers so answers 11:00:00:00: a hand has set it between.
+/// A deck in REMOTE whose IN was preset to 10:00:00:00 and answers so answers 11:00:00:00: a hand has set it between.
 #[test]
 fn a_register_that_a_hand_has_set(rt: HostRuntime) -> Result<(), Fail> {
     let parts = &[REMOTE, PRESET_10, IN_10, IN_11, IN_SET];
@@ -317,21 +327,27 @@ fn fewest_moves(alloc: Global, exchanges: &[Exchange]) -> Result<Option<usize>, 
     Ok(stretches.map(|stretches| stretches.saturating_sub(1)))
 }
 
+/// The run of a capture, where that is a yes.
+pub(super) fn run_if_yes(alloc: Global, text: &str) -> Option<Run> {
+    match judge_with_run(alloc, text.as_bytes(), Hands::Allowed) {
+        Ok(
+            RunVerdict::Yes {
+                exchanges,
+                states,
+                ..
+            },
+        ) => Some(Run { exchanges, states }),
+        _ => None,
+    }
+}
+
 /// How often a hand moves in the run of a capture, where that is a yes. No other run of it has fewer moves.
 fn tell_moves(rt: &impl Abort, alloc: Global, text: &str) -> Result<Option<usize>, AllocError> {
-    let run = judge_with_run(alloc, text.as_bytes(), Hands::Allowed);
-    let Ok(
-        RunVerdict::Yes {
-            exchanges,
-            states,
-            ..
-        },
-    ) = run
-    else {
+    let Some(run) = run_if_yes(alloc, text) else {
         return Ok(None);
     };
-    let moves = Some(moves(alloc, exchanges.as_slice(), states.as_slice())?);
-    let fewest = fewest_moves(alloc, exchanges.as_slice())?;
+    let moves = Some(moves(alloc, run.exchanges.as_slice(), run.states.as_slice())?);
+    let fewest = fewest_moves(alloc, run.exchanges.as_slice())?;
     same(rt, moves, fewest, text);
     Ok(moves)
 }

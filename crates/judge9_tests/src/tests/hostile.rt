@@ -122,7 +122,7 @@ fn writers_that_stop(rt: HostRuntime) {
     tell_room(&rt, rt.alloc(), report, roomy, Ok(WHOLE));
 }
 
-/// Explains a capture whose reader fails after so many bytes, at this row, behind the exchanges of these lines.
+/// Explains a capture whose reader fails after so many bytes, at this row, after the exchanges of these lines.
 fn tell_lines_before(
     rt: &impl Abort,
     alloc: Global,

@@ -7,7 +7,7 @@ use std::alloc::{AllocError, Global};
 use std::process::Abort;
 use std::test::Fail;
 
-/// A deck in remote does what it acknowledges.
+/// A deck in REMOTE does what it acknowledges.
 const TURN: [&str; 8] = [
     REMOTE,
     PRESET_10,
@@ -22,7 +22,7 @@ const TURN: [&str; 8] = [
 /// IN DATA SENSE, answered with 10:00:06:00: 150 frames after 10:00:00:00.
 const IN_150_ON: &str = "C 60 10 70 D 74 10 00 06 00 10 9A";
 
-/// A capture of that many exchanges of a deck in remote.
+/// A capture of that many exchanges of a deck in REMOTE.
 fn turns(alloc: Global, exchanges: usize) -> Result<String, AllocError> {
     let mut tap = Tap::new(alloc)?;
     for part in TURN.iter().cycle().take(exchanges) {
@@ -31,7 +31,7 @@ fn turns(alloc: Global, exchanges: usize) -> Result<String, AllocError> {
     Ok(tap.text)
 }
 
-/// A capture of a deck in local whose IN point is at 10:00:00:00, is shifted 597 times, and is then told to be 150 frames on.
+/// A capture of a deck in LOCAL whose IN point is at 10:00:00:00, is shifted 597 times, and is then told to be 150 frames on.
 fn shifts(alloc: Global) -> Result<String, AllocError> {
     let mut tap = Tap::new(alloc)?;
     tap.put(IN_SET_LOCAL)?;

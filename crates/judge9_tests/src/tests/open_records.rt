@@ -4,7 +4,7 @@ use super::same;
 use capture9::{LineByte, Wire};
 use std::alloc::{AllocError, Global};
 use std::test::Fail;
-use verdict9::asked_len;
+use verdict9::command_len;
 
 /// Bytes of the controller and of the deck after them, and how many are the command's.
 type Row<'a> = (&'a [u8], &'a [u8], usize);
@@ -31,7 +31,7 @@ fn records(alloc: Global, asked: &[u8], answered: &[u8]) -> Result<Vec<LineByte>
 fn of_a_command(rt: HostRuntime) -> Result<(), Fail> {
     for (asked, answered, len) in &ROWS {
         let tail = records(rt.alloc(), asked, answered)?;
-        same(&rt, asked_len(tail.as_slice()), *len, asked);
+        same(&rt, command_len(tail.as_slice()), *len, asked);
     }
     Ok(())
 }

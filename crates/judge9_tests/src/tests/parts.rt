@@ -1,8 +1,8 @@
 //! Exchanges as they stand on the line: wire letters, each before the bytes that it brings.
 
-/// STATUS SENSE, and the answer that the deck is not in local.
+/// STATUS SENSE, and the answer that the deck is not in LOCAL.
 pub(super) const REMOTE: &str = "C 61 20 01 82 D 71 20 00 91";
-/// STATUS SENSE, and the answer that the deck is in local.
+/// STATUS SENSE, and the answer that the deck is in LOCAL.
 pub(super) const LOCAL: &str = "C 61 20 01 82 D 71 20 01 92";
 /// LOCAL DISABLE and LOCAL ENABLE, acknowledged: the panel is off, and on; and LOCAL DISABLE, not acknowledged.
 pub(super) const DISABLE: &str = "C 00 0C 0C D 10 01 11";
@@ -95,5 +95,5 @@ pub(super) const SHOWS_CUED: &str = "C 61 20 12 93 D 72 20 00 01 93";
 pub(super) const SHOWS_NOTHING: &str = "C 61 20 12 93 D 72 20 00 00 92";
 
 pub(super) const SHOWS_NO_MODE: &str = "C 61 20 12 93 D 72 20 02 20 B4";
-/// In a deck in remote FAST FORWARD and PLAY, each with the mode that is shown after it.
+/// In a deck in REMOTE FAST FORWARD and PLAY, each with the mode that is shown after it.
 pub(super) const WOUND_AND_PLAYED: [&str; 5] = [REMOTE, FAST_FORWARD, SHOWS_FF, PLAY, SHOWS_STOP];

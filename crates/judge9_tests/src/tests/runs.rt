@@ -29,7 +29,7 @@ const SHIFT_LESS: Sent<'static> = (&[0x40, 0x19, 0x59], &[0x10, 0x01, 0x11]);
 const SHOWS_STOP: Sent<'static> = (&[0x61, 0x20, 0x12, 0x93], &[0x72, 0x20, 0x20, 0x00, 0xB2]);
 
 const SHOWS_PLAY: Sent<'static> = (&[0x61, 0x20, 0x12, 0x93], &[0x72, 0x20, 0x01, 0x00, 0x93]);
-/// STATUS SENSE of datum 0, answered that the deck is not in local.
+/// STATUS SENSE of datum 0, answered that the deck is not in LOCAL.
 const REMOTE: Sent<'static> = (&[0x61, 0x20, 0x01, 0x82], &[0x71, 0x20, 0x00, 0x91]);
 
 /// Exchanges, states, and whether these are a run.
@@ -46,7 +46,7 @@ struct Stood {
     panel: bool,
 }
 
-/// A stopped deck in remote with nothing set and the panel off.
+/// A stopped deck in REMOTE with nothing set and the panel off.
 const STOPPED: Stood = Stood {
     goal: Mode::Stop,
     shown: Mode::Stop,
@@ -60,7 +60,7 @@ const STOPPED_IN_LOCAL: Stood = Stood {
     ..STOPPED
 };
 
-/// A deck in remote that goes for PLAY and shows STOP.
+/// A deck in REMOTE that goes for PLAY and shows STOP.
 const PLAYING: Stood = Stood {
     goal: Mode::Play,
     ..STOPPED

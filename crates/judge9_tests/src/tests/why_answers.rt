@@ -110,7 +110,7 @@ fn a_reader_that_fails(rt: HostRuntime) -> Result<(), Fail> {
         let fault = JudgeError::Capture(CaptureError { kind, row });
         same(&rt, answer, Err(fault), given);
     }
-    // One that fails behind the break is not asked for more.
+    // One that fails after the break is not asked for more.
     let text = capture(rt.alloc(), &[REMOTE, PRESET_10, IN_11])?;
     let reader = Cut::new(text.as_str(), text.len());
     let answer = judge_with_contradiction(rt.alloc(), reader, Hands::None);

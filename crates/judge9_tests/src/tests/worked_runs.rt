@@ -11,7 +11,7 @@ use std::test::Fail;
 /// Exchanges.
 type Parts<'a> = &'a [&'a str];
 
-/// STATUS SENSE of data 0 to 2, answered as not in local and PLAY, and as not in local and VAR.
+/// STATUS SENSE of data 0 to 2, answered as not in LOCAL and PLAY, and as not in LOCAL and VAR.
 const REMOTE_PLAY: &str = "C 61 20 03 84 D 73 20 00 01 00 94";
 
 const REMOTE_VAR: &str = "C 61 20 03 84 D 73 20 00 08 00 9B";

@@ -79,7 +79,7 @@ fn mode_word<'a>(mode: Mode) -> &'a str
     mode.name()
 }
 
-/// Whether the deck is in local.
+/// Whether the deck is in LOCAL.
 #[tactic(auto, unfolding(text9::specs::Explanation::text_of_local))]
 fn local_word<'a>(local: bool) -> &'a str
     ensures { result.now ≡ text_of_local (known.Is local) }

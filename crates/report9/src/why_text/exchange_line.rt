@@ -1,8 +1,8 @@
-//! The line of an exchange whose reply is one of those that contradict one another.
+//! The line of an exchange whose reply is one of those that contradict one another, and that of an exchange before a break.
 ghost use Rattle.std.specs.Prelude.{◌≡◌, ◌≤◌, ◌^◌, ◌++◌, OnOk};
 ghost use Rattle.block9.specs.Command.{name_of};
 ghost use Rattle.deck9.specs.Shows.{sense_of};
-ghost use Rattle.report9.specs.WhyText.{line_of_contradicting, text_of_answered, text_of_asked, text_of_records, time_told, time_with_space, with_space, words_of};
+ghost use Rattle.report9.specs.WhyText.{line_of_before, line_of_contradicting, text_of_reply_given, text_of_command_sent, text_of_records, text_of_reply, time_told, time_with_space, with_space, words_of};
 
 use crate::why_text::block_bytes::put_block;
 use crate::why_text::said::put_said;
@@ -23,8 +23,30 @@ pub(super) fn put_contradicting(
     ensures { OnOk result (line.new.items ≡ line.old.items ++ line_of_contradicting at exchange.now) }
 {
     put_records(line, at, exchange.records(), exchange.time_us)?;
-    put_asked(line, ": ", exchange)?;
-    put_answered(line, " -> ", exchange)?;
+    put_command_sent(line, ": ", exchange)?;
+    put_reply_given(line, " -> ", exchange)?;
+    put_text(line, "\n")
+}
+
+/// Puts the line of the exchange before a record that breaks a rule, without what status data say. `at` is the number of its
+/// last record.
+pub(super) fn put_before(
+    line: &mut Vec<u8>,
+    at: u128,
+    exchange: &Exchange,
+) -> Result<(), AllocError>
+    requires { at ≤ 2 ^ 100 }
+    ensures { OnOk result (line.new.items ≡ line.old.items ++ line_of_before at exchange.now) }
+{
+    let count = exchange.records();
+    put_records(
+        line,
+        at.saturating_sub(count as u128),
+        count,
+        exchange.time_us,
+    )?;
+    put_command_sent(line, ": ", exchange)?;
+    put_reply(line, " -> ", exchange)?;
     put_text(line, "\n")
 }
 
@@ -45,8 +67,8 @@ pub(super) fn put_records(
 }
 
 /// Puts a label and what was asked: the name of a command that is listed, its time, and the bytes of its block.
-fn put_asked(line: &mut Vec<u8>, label: &str, exchange: &Exchange) -> Result<(), AllocError>
-    ensures { OnOk result (line.new.items ≡ line.old.items ++ (label.now ++ text_of_asked exchange.now)) }
+fn put_command_sent(line: &mut Vec<u8>, label: &str, exchange: &Exchange) -> Result<(), AllocError>
+    ensures { OnOk result (line.new.items ≡ line.old.items ++ (label.now ++ text_of_command_sent exchange.now)) }
 {
     put_text(line, label)?;
     put_words(line, &exchange.command)?;
@@ -62,13 +84,20 @@ pub(super) fn put_words(line: &mut Vec<u8>, command: &Command) -> Result<(), All
 }
 
 /// Puts a label and what was answered: the time of a register, the bytes of the block, and what status data say.
-fn put_answered(line: &mut Vec<u8>, label: &str, exchange: &Exchange) -> Result<(), AllocError>
-    ensures { OnOk result (line.new.items ≡ line.old.items ++ (label.now ++ text_of_answered exchange.now)) }
+fn put_reply_given(line: &mut Vec<u8>, label: &str, exchange: &Exchange) -> Result<(), AllocError>
+    ensures { OnOk result (line.new.items ≡ line.old.items ++ (label.now ++ text_of_reply_given exchange.now)) }
+{
+    put_reply(line, label, exchange)?;
+    put_said(line, exchange)
+}
+
+/// Puts a label, the time of a register and the bytes of the reply's block.
+fn put_reply(line: &mut Vec<u8>, label: &str, exchange: &Exchange) -> Result<(), AllocError>
+    ensures { OnOk result (line.new.items ≡ line.old.items ++ (label.now ++ text_of_reply exchange.now)) }
 {
     put_text(line, label)?;
     put_time(line, time_told(exchange))?;
-    put_block(line, &exchange.reply)?;
-    put_said(line, exchange)
+    put_block(line, &exchange.reply)
 }
 
 /// Puts the name of a command and a space, where it is listed.

@@ -44,7 +44,7 @@ fn put_names(line: &mut Vec<u8>, modes: ModeSet) -> Result<(), AllocError>
     Ok(())
 }
 
-/// Puts the name of a mode that is in the set, after what stands before it, and answers what stands before the next name.
+/// Puts the name of a mode that is in the set, after what comes before it, and answers what comes before the next name.
 fn put_name<'a>(
     line: &mut Vec<u8>,
     modes: ModeSet,

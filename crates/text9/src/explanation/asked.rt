@@ -59,7 +59,7 @@ fn put_nak_names(line: &mut Vec<u8>, nak: NakBits) -> Result<(), AllocError>
     Ok(())
 }
 
-/// Puts the name of a bit where it is set, after what stands before it, and answers what stands before the next
+/// Puts the name of a bit where it is set, after what comes before it, and answers what comes before the next
 /// name.
 fn put_nak_name<'a>(
     line: &mut Vec<u8>,

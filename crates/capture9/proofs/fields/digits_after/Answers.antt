@@ -9,8 +9,12 @@ overflow_mul-time c =
 
 pub overflow_add-time : goal.overflow_add-time
 overflow_add-time c =
-    grind (arith, nat_tests, room-low c.loop-byte.time _ (rw (drop_more c.args.digits.now c.loop-byte.byte-index 0 c.loop-byte-test.true) at
-        c.loop-byte.invariant.room))
+    grind (
+      arith,
+      nat_tests,
+      room-low c.loop-byte.time _ (rw (drop_more c.args.digits.now c.loop-byte.byte-index 0 c.loop-byte-test.true) at
+          c.loop-byte.invariant.room),
+    )
 
 pub loop-byte-preserved : goal.loop-byte-preserved
 loop-byte-preserved c =

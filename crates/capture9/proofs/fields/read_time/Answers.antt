@@ -6,7 +6,7 @@ use Rattle.capture9.proofs.fields.read_time.Goals as goal
 pub returns-in_err-first-in-Some : goal.returns-in_err-first-in-Some
 returns-in_err-first-in-Some c =
     let whole : c.args.field.now ≡ c.in-Some.front.now ++ c.in-Some.rest.now =
-        sym (take-append-drop 8 c.args.field.now) ∙ rw (← c.in-Some.ensures.cases.0, ← c.in-Some.ensures.cases.1) refl in
+    sym (take-append-drop 8 c.args.field.now) ∙ rw (← c.in-Some.ensures.cases.0, ← c.in-Some.ensures.cases.1) refl in
     grind (arith, time_in-none c.args.field.now c.in-Some.front.now c.in-Some.rest.now whole)
 
 pub digits_after-requires : goal.digits_after-requires
@@ -18,5 +18,5 @@ digits_after-requires c =
 pub returns-in_ok-first-in-Some : goal.returns-in_ok-first-in-Some
 returns-in_ok-first-in-Some c =
     let whole : c.args.field.now ≡ c.in-Some.front.now ++ c.in-Some.rest.now =
-        sym (take-append-drop 8 c.args.field.now) ∙ rw (← c.in-Some.ensures.cases.0, ← c.in-Some.ensures.cases.1) refl in
+    sym (take-append-drop 8 c.args.field.now) ∙ rw (← c.in-Some.ensures.cases.0, ← c.in-Some.ensures.cases.1) refl in
     grind (arith, time_in-some c.args.field.now c.in-Some.front.now c.in-Some.rest.now whole)

@@ -9,7 +9,8 @@ go_back_through-found-requires t c =
     let e = c.in-Some.exchange.now in
     let after = c.in_ok-after.ensures in (
       omega (arith, ap length split),
-      rw after.hands (leads_on before.hands c.in-Some.rest.now (λ u. (s : State) × Possible before.states s × Exchanges before.hands e.command e.reply s u) (Possible c.in_ok-after.after.states) c.args.end
+      rw after.hands (leads_on before.hands c.in-Some.rest.now (λ u. (s : State) × Possible before.states s × Exchanges before.hands e.command e.reply s u)
+          (Possible c.in_ok-after.after.states) c.args.end
           (λ u w. after.reached.1 w.0 u w.1 w.2) (rw split at c.requires)),
     )
 
@@ -21,4 +22,5 @@ returns t c =
     let before = c.args.before.now in
     let split : c.args.exchanges.now ≡ c.in-Some.exchange.now ∷ c.in-Some.rest.now = c.in-Some.ensures.cases.0 in
     let back = rw c.in_ok-after.ensures.hands at c.in_ok-state.ensures in
-    rw split (back_put before.hands (Possible before.states) (Possible c.in_ok-after.after.states) c.in-Some.exchange.now c.in-Some.rest.now c.args.end c.in_ok-state.state _ _ _ c.step_back.result back c.step_back.ensures.from c.step_back.ensures.put)
+    rw split (back_put before.hands (Possible before.states) (Possible c.in_ok-after.after.states) c.in-Some.exchange.now c.in-Some.rest.now c.args.end
+    c.in_ok-state.state _ _ _ c.step_back.result back c.step_back.ensures.from c.step_back.ensures.put)

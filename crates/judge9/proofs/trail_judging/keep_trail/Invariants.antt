@@ -1,4 +1,4 @@
-use Rattle.judge9.proofs.Words.{IsTrail, length, None, View, ◌*◌, ◌-◌, ◌<◌}
+use Rattle.judge9.proofs.Words.{IsEnd, IsTrail, length, None, View, ◌*◌, ◌-◌, ◌<◌}
 use Rattle.judge9.proofs.trail_judging.keep_trail.Given as goal
 use Rattle.judge9.proofs.SoFar.{SoFar}
 
@@ -6,7 +6,8 @@ use Rattle.judge9.proofs.SoFar.{SoFar}
 abbrev pub invariant-rows : goal.invariant-rows
 invariant-rows g l = record {
   so_far : SoFar View.Verdict l.fn.hands l.fn.judging.rows.rows l.judging None None l.trail.exchanges.items;
-  trail : IsTrail l.fn.hands l.trail.exchanges.items l.trail.trackers.items;
+  trail : IsTrail l.fn.judging.tracker l.trail.exchanges.items l.trail.trackers.items;
+  ended : IsEnd so_far.items l.trail.exchanges.items l.end_us;
   room : length l.trail.exchanges.items < length l.trail.trackers.items * 256;
 }
 

@@ -1,4 +1,5 @@
 use Rattle.judge9.proofs.why_judging.judge_rows.Goals as goal
+use Rattle.judge9.proofs.TrailJudging.{broken_with}
 
 pub contradicting-requires-clause-presets : goal.contradicting-requires-clause-presets
 contradicting-requires-clause-presets g c =
@@ -15,4 +16,6 @@ returns-in-Ok-could_show g c =
 pub returns-in-Ok : goal.returns-in-Ok
 returns-in-Ok g c =
     let ended = rw c.in-Ok-Break.field-0-is at c.in-Ok-Break.ensures in
-    record { judges = ended.judges; why = (ended.ends.0, rw c.in-Ok.ensures ended.ends.1, rw c.in-Ok.ensures c.open_command-command.ensures); no_write = λ q. cc }
+    let tells = rw (c.as_slice.ensures.value, c.into_exchanges-in-Ok-Break.ensures) at c.ended_before-before.ensures in
+    let broken = broken_with _ _ _ _ _ _ _ _ c.in-Ok.ensures (ended.ends.1, ended.ends.2, ended.ends.3) tells in
+    record { judges = ended.judges; why = (ended.ends.0, rw c.in-Ok.ensures c.open_command-command.ensures, broken.0, broken.1); no_write = λ q. cc }

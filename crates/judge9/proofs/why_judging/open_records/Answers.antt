@@ -2,4 +2,4 @@ use Rattle.judge9.proofs.Words.{ap, ◌++◌, ◌∙◌}
 use Rattle.judge9.proofs.why_judging.open_records.Goals as goal
 
 pub returns : goal.returns
-returns c = c.extend_from_slice.ensures.items ∙ ap (λ l. l ++ c.tail.result.now) c.new-tail.ensures.items ∙ c.tail.ensures
+returns c = c.in_ok-extend_from_slice.ensures.items ∙ ap (λ l. l ++ c.tail.result.now) c.new-tail.ensures.items ∙ c.tail.ensures

@@ -18,7 +18,7 @@ pub(super) fn touched(place: &Place) -> Option<State> {
     })
 }
 
-/// After LOCAL ENABLE and LOCAL DISABLE where hands are allowed: the panel is what it was not switched to, in local or not.
+/// After LOCAL ENABLE and LOCAL DISABLE where hands are allowed: the panel is what it was not switched to, in LOCAL or not.
 pub(super) fn switched(place: &Place) -> Option<State> {
     if place.hands == Hands::None || !switches_panel(place.exchange) {
         return None;
@@ -26,7 +26,7 @@ pub(super) fn switched(place: &Place) -> Option<State> {
     Some(with_other_panel(place.state))
 }
 
-/// After a transport command that a deck in remote acknowledged: it goes for another mode.
+/// After a transport command that a deck in REMOTE acknowledged: it goes for another mode.
 pub(super) fn redirected(place: &Place) -> Option<State> {
     if place.state.local || is_refused(place.exchange) {
         return None;
@@ -39,7 +39,7 @@ pub(super) fn redirected(place: &Place) -> Option<State> {
     Some(with_goal(place.state, goal))
 }
 
-/// What a deck in remote did to a register.
+/// What a deck in REMOTE did to a register.
 fn deed_in_remote(place: &Place, register: Register) -> Option<Deed> {
     if place.state.local {
         return None;
@@ -47,7 +47,7 @@ fn deed_in_remote(place: &Place, register: Register) -> Option<Deed> {
     deed_to(place.exchange, register)
 }
 
-/// After a preset that a deck in remote acknowledged: the register holds another time.
+/// After a preset that a deck in REMOTE acknowledged: the register holds another time.
 pub(super) fn replaced(place: &Place, register: Register) -> Option<State> {
     if deed_in_remote(place, register)? != Deed::Presets {
         return None;
@@ -56,7 +56,7 @@ pub(super) fn replaced(place: &Place, register: Register) -> Option<State> {
     Some(with_entry(place.state, register, &other))
 }
 
-/// After a preset or an entry that a deck in remote acknowledged: the register is Clear.
+/// After a preset or an entry that a deck in REMOTE acknowledged: the register is Clear.
 pub(super) fn cleared(place: &Place, register: Register) -> Option<State> {
     match deed_in_remote(place, register)? {
         Deed::Presets | Deed::Enters => { Some(with_entry(place.state, register, &Entry::Clear)) }
@@ -64,7 +64,7 @@ pub(super) fn cleared(place: &Place, register: Register) -> Option<State> {
     }
 }
 
-/// After a reset that a deck in remote acknowledged: the register is Set.
+/// After a reset that a deck in REMOTE acknowledged: the register is Set.
 pub(super) fn set_again(place: &Place, register: Register) -> Option<State> {
     if deed_in_remote(place, register)? != Deed::Resets {
         return None;

@@ -16,7 +16,7 @@ pub(super) fn with_shown(state: &State, shown: Mode) -> State {
     changed
 }
 
-/// The state in local where it was not, and the other way about.
+/// The state in LOCAL where it was not, and the other way about.
 pub(super) fn with_other_local(state: &State) -> State {
     let mut changed = *state;
     changed.local = !state.local;

@@ -4,8 +4,11 @@ use Rattle.sets25.proofs.span_list.meeting.Goals as goal
 
 pub overflow_add-last : goal.overflow_add-last
 overflow_add-last c =
-    omega (arith, (canonical_at 0 c.args.list.now c.requires.canonical (length c.args.list.now - 1) (record { first = 0; last = 0 })
-        (omega (arith, c.requires.some.0))).1.1)
+    omega (
+      arith,
+      (canonical_at 0 c.args.list.now c.requires.canonical (length c.args.list.now - 1) (record { first = 0; last = 0 })
+          (omega (arith, c.requires.some.0))).1.1,
+    )
 
 pub returns-then-first-last : goal.returns-then-first-last
 returns-then-first-last c = λ spans.

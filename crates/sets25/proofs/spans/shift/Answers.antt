@@ -17,8 +17,13 @@ pub returns-clause-ok : goal.returns-clause-ok
 returns-clause-ok c =
     let d = c.args.direction in
     on_ok_weaker c.add.result (λ told f h.
-    grind (arith, nat_tests, covered_with f 0 (far_edge_of d) _ (canonical_shift d 0 0 c.args.spans.now.items (omega arith) c.requires), covered_shift d f 0 _ h
-        c.requires)) c.add.ensures.ok
+    grind (
+      arith,
+      nat_tests,
+      covered_with f 0 (far_edge_of d) _ (canonical_shift d 0 0 c.args.spans.now.items (omega arith) c.requires),
+      covered_shift d f 0 _ h
+          c.requires,
+    )) c.add.ensures.ok
 
 pub returns-clause-err : goal.returns-clause-err
 returns-clause-err c =
@@ -27,5 +32,5 @@ returns-clause-err c =
       | else-not-contains-2 w ↦
           on_err_weaker c.add.result (λ none.
           absurd (neighbour_covered _ _ c.requires (grind arith) (rw (c.far_edge-far_edge.ensures, c.shift_within-2.ensures.shifted, w.spans-is) at none)))
-              c.add.ensures.apart
+          c.add.ensures.apart
     ]

@@ -17,5 +17,10 @@ pub returns-clause-ok : goal.returns-clause-ok
 returns-clause-ok c =
     let d = c.args.direction in
     on_ok_weaker c.add.result (λ told f h.
-    grind (arith, nat_tests, covered_with f 0 (far_edge_of d) _ (canonical_widen d 0 0 c.args.spans.now.items (omega arith) c.requires), covered_widened d f 0 _
-        h c.requires)) c.add.ensures.ok
+    grind (
+      arith,
+      nat_tests,
+      covered_with f 0 (far_edge_of d) _ (canonical_widen d 0 0 c.args.spans.now.items (omega arith) c.requires),
+      covered_widened d f 0 _
+          h c.requires,
+    )) c.add.ensures.ok

@@ -8,8 +8,11 @@ pub returns-clause-given : goal.returns-clause-given
 returns-clause-given c = λ bytes t. (ReadsAs-from_time_of bytes t, time_of-from_ReadsAs bytes t)
 
 pub returns-clause-valid : goal.returns-clause-valid
-returns-clause-valid c = λ bytes. (λ valid. (unwrap_or (time_of bytes) 0, ReadsAs-from_time_of bytes _ (grind arith)), λ read. ap is_some
-    (time_of-from_ReadsAs bytes read.0 read.1))
+returns-clause-valid c = λ bytes. (
+  λ valid. (unwrap_or (time_of bytes) 0, ReadsAs-from_time_of bytes _ (grind arith)),
+  λ read. ap is_some
+      (time_of-from_ReadsAs bytes read.0 read.1),
+)
 
 pub returns-clause-absent : goal.returns-clause-absent
 returns-clause-absent c = λ bytes. (

@@ -7,6 +7,8 @@ use Rattle.text9.proofs.writing.put_some.Goals as goal
 pub loop-at-preserved : goal.loop-at-preserved
 loop-at-preserved g c =
     let rest = take_rest c.args.bytes.now c.loop-at.at in
-    let bound = rw rest at c.in-Ok.ensures.bound in
-    (omega (arith, length-drop c.loop-at.at c.args.bytes.now, c.loop-at.invariant.0), rw (take-add c.loop-at.at c.in-Ok.n c.args.bytes.now)
-        (Appends-trans _ _ _ _ _ c.loop-at.invariant.1 (rw rest at c.in-Ok.ensures.bytes)))
+    let bound = rw rest at c.in-Ok.ensures.bound in (
+      omega (arith, length-drop c.loop-at.at c.args.bytes.now, c.loop-at.invariant.0),
+      rw (take-add c.loop-at.at c.in-Ok.n c.args.bytes.now)
+          (Appends-trans _ _ _ _ _ c.loop-at.invariant.1 (rw rest at c.in-Ok.ensures.bytes)),
+    )

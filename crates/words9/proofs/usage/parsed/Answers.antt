@@ -10,5 +10,6 @@ is_free = refl
 
 pub returns-clause-kinds : goal.returns-clause-kinds
 returns-clause-kinds c =
-    subst (λ app. is_simple_and_free app ≡ true → FailsBy (fault_of app (map (λ s. string_bytes s) c.args.words.now)) c.try_get_matches_from.result) c.in_ok-command.ensures
+    subst (λ app. is_simple_and_free app ≡ true → FailsBy (fault_of app (map (λ s. string_bytes s) c.args.words.now)) c.try_get_matches_from.result)
+    c.in_ok-command.ensures
     c.try_get_matches_from.ensures.kinds is_free

@@ -31,9 +31,9 @@ pub returns-in-Err-outcome-clause-refused : goal.returns-in-Err-outcome-clause-r
 returns-in-Err-outcome-clause-refused g c =
     let before = rw (← c.self.view_is) at c.requires in
     rw (← c.self.view_is) (refuses-row _ _ _ _ _ _ _ _ _ _ c.refuse.result before.reading before.headed c.refuse.ensures.error c.refuse.ensures.marked
-        (wrong g c))
+    (wrong g c))
 
 pub invariant_of-self-in-Err-outcome : goal.invariant_of-self-in-Err-outcome
 invariant_of-self-in-Err-outcome g c =
     refused-holds _ _ _ _ _ _ c.refuse.result (rw (← c.self.view_is) at c.requires.headed) c.self.invariant.within c.refuse.ensures.error
-        c.refuse.ensures.marked (wrong g c).at_its_row
+    c.refuse.ensures.marked (wrong g c).at_its_row

@@ -9,7 +9,7 @@ add_at-requires-clause-canonical c = canonical_list (lists_of c.cut.new.self) c.
 pub join-requires-clause-canonical : goal.join-requires-clause-canonical
 join-requires-clause-canonical c =
     canonical_changed _ _ (lists_of c.add_at.new.self) _ (rw c.cut.ensures c.requires.canonical) c.place_of-place.ensures c.in_ok-add_at.ensures.ok
-        c.requires.in_day
+    c.requires.in_day
 
 pub join-requires-clause-some : goal.join-requires-clause-some
 join-requires-clause-some c =

@@ -12,10 +12,10 @@ invariant_of-self-in-None-clause-begun c = λ h. grind (arith, some_with_frame)
 pub returns-in-Some-clause-ok : goal.returns-in-Some-clause-ok
 returns-in-Some-clause-ok c =
     on_ok_weaker c.add.result (lists_set _ _ c.args.place c.in-Some.index _ _ (with_frame c.args.frame) (omega arith) (omega arith) c.index_mut.ensures.value)
-        c.add.ensures.ok
+    c.add.ensures.ok
 
 pub returns-in-Some-clause-err : goal.returns-in-Some-clause-err
 returns-in-Some-clause-err c =
     on_err_weaker c.add.result (λ told.
     lists_set _ _ c.args.place c.in-Some.index _ _ (λ xs. xs) (omega arith) (omega arith) c.index_mut.ensures.value told
-        ∙ set-get_or (lists_of c.args.self.now) c.args.place []) c.add.ensures.err
+    ∙ set-get_or (lists_of c.args.self.now) c.args.place []) c.add.ensures.err

@@ -25,5 +25,5 @@ returns c =
     let half = length c.list-list.result.now / 2 in
     let upper = c.in_ok-upper.ensures.items ∙ take_rest c.list-list.result.now half ∙ ap (drop half) c.list-list.ensures in
     ap end_to_end c.shorten.ensures ∙ ap (λ ls. end_to_end (set ls p (take half (get_or ls p []))))
-        (inserted c.args.self.now.first.items _ _ p _ c.in_ok-insert.ensures.items)
+    (inserted c.args.self.now.first.items _ _ p _ c.in_ok-insert.ensures.items)
     ∙ cut_suc (lists_of c.args.self.now) p half _ _ (omega (arith, lists_in-length)) upper refl

@@ -16,7 +16,7 @@ invariant_of-self-else-len-eq1-clause-filled c =
 pub returns-then-len-eq1 : goal.returns-then-len-eq1
 returns-then-len-eq1 c =
     rw c.remove.ensures.items (dropped _ c.args.self.now.rest.items (remove c.args.self.now.rest.items c.args.index) c.args.index _ [] c.requires
-        c.index.ensures (omega arith)
+    c.index.ensures (omega arith)
     (rw (add-one c.args.index) (simp (map-append, take-map, drop-map))) (sym (drop_all 1 c.index.result.now.items (omega arith))))
 
 pub returns-else-len-eq1 : goal.returns-else-len-eq1
@@ -25,6 +25,6 @@ returns-else-len-eq1 c =
     let i = c.args.index in
     let new = c.remove-else-len-eq1.new.self in
     dropped _ vs (set vs i new) i _ (new.items ∷ []) c.requires c.index_mut.ensures.value
-        (filled_vector vs i _ c.args.self.now.filled c.requires c.index_mut.ensures.value)
+    (filled_vector vs i _ c.args.self.now.filled c.requires c.index_mut.ensures.value)
     (rw add-one (lists_in-set vs i new ∙ set_split (lists_in vs) i new.items (omega (arith, lists_in-length vs))))
-        (append-nil new.items ∙ c.remove-else-len-eq1.ensures.items)
+    (append-nil new.items ∙ c.remove-else-len-eq1.ensures.items)

@@ -6,9 +6,11 @@ use Rattle.sets25.proofs.span_list.SpanList.join.Goals as goal
 pub meeting-requires-clause-some : goal.meeting-requires-clause-some
 meeting-requires-clause-some c =
     let l = c.args.self.now in
-    let next = all_filled l.rest.items l.filled c.args.place l.first (omega arith) in
-    (rw c.list.ensures c.requires.some, rw (c.list-then-place-len.ensures, add-one c.args.place, lists_in-get l.rest.items c.args.place l.first (omega arith))
-        next)
+    let next = all_filled l.rest.items l.filled c.args.place l.first (omega arith) in (
+      rw c.list.ensures c.requires.some,
+      rw (c.list-then-place-len.ensures, add-one c.args.place, lists_in-get l.rest.items c.args.place l.first (omega arith))
+          next,
+    )
 
 pub returns-in-Some : goal.returns-in-Some
 returns-in-Some c =
@@ -16,8 +18,17 @@ returns-in-Some c =
     let p = c.args.place in
     let h : p + 1 < length ls = omega (arith, lists_in-length) in
     let e = ended_at c.in-Some.last (get_or ls p []) in
-    grind (arith, take_more_set ls p e, end_to_end-append, append-nil, drop-set-lt (p + 1) ls p e, drop_more ls (p + 1) [] h, append_assoc, c.in-Some.ensures
-        (end_to_end (drop (p + 1 + 1) ls)))
+    grind (
+      arith,
+      take_more_set ls p e,
+      end_to_end-append,
+      append-nil,
+      drop-set-lt (p + 1) ls p e,
+      drop_more ls (p + 1) [] h,
+      append_assoc,
+      c.in-Some.ensures
+          (end_to_end (drop (p + 1 + 1) ls)),
+    )
 
 pub returns-in_default : goal.returns-in_default
 returns-in_default c =

@@ -17,4 +17,4 @@ returns c =
     let point = IsPartitionPoint-from_clause (λ (v : Vec Span Global). leb (begin_of v.items) f) vs n partitioned parted (λ a r q k. search rules) in
     place_is f l.first.items (lists_in vs) n l.filled c.requires (omega (arith, lists_in-length vs))
     (λ k h. grind (arith, nat_tests, lists_in-get vs k l.first, point.0 k l.first))
-        (λ h. grind (arith, nat_tests, lists_in-length vs, lists_in-get vs n l.first, point.1 n l.first))
+    (λ h. grind (arith, nat_tests, lists_in-length vs, lists_in-get vs n l.first, point.1 n l.first))

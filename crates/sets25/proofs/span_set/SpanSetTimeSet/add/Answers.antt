@@ -6,4 +6,4 @@ pub returns-clause-ok : goal.returns-clause-ok
 returns-clause-ok c =
     on_ok_weaker c.add.result (λ told.
     times_where-insert _ _ c.args.time (omega arith) (λ f h. rw (told, c.frames.ensures.value)
-        (covered_with f 0 c.args.time _ c.args.self.now.canonical (omega arith)))) c.add.ensures.ok
+    (covered_with f 0 c.args.time _ c.args.self.now.canonical (omega arith)))) c.add.ensures.ok

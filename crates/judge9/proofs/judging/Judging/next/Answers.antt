@@ -1,0 +1,44 @@
+use Rattle.judge9.proofs.Words.{inr, refl, Step}
+use Rattle.judge9.proofs.judging.Judging.next.Goals as goal
+use Rattle.judge9.proofs.TurnSteps.{turned-observed, waits_more}
+
+pub returns-in-Ok-None : goal.returns-in-Ok-None
+returns-in-Ok-None g c =
+    let ends = rw c.in-Ok-None.field-0-is at c.in-Ok-None.ensures.ended in
+    record { front = c.open.self; are_open = c.open.invariant.are_open; turned = record { ends = ends; same_pairer = refl; same_tracker = refl } }
+
+pub returns-in-Err : goal.returns-in-Err
+returns-in-Err g c =
+    record { front = c.open.self; are_open = c.open.invariant.are_open; turned = inr (c.in-Err.error, c.in-Err.ensures.refused, c.from.ensures) }
+
+pub open-preserved-in-Ok-Waiting : goal.open-preserved-in-Ok-Waiting
+open-preserved-in-Ok-Waiting g c =
+    let takes = rw c.in-Ok-Waiting.field-0-is at (c.in-Ok-Waiting.ensures.takes c.open.invariant.no_reason) in
+    waits_more c.open.invariant.are_open Step.Waiting (rw c.in-Ok-Some.field-0-is at c.in-Ok-Some.ensures.given) takes tt refl
+
+pub open-preserved : goal.open-preserved
+open-preserved g c =
+    let takes = rw c.in-Ok-Command.field-0-is at (c.in-Ok-Command.ensures.takes c.open.invariant.no_reason) in
+    waits_more c.open.invariant.are_open Step.Command (rw c.in-Ok-Some.field-0-is at c.in-Ok-Some.ensures.given) takes tt refl
+
+pub returns-in-Ok-Exchange : goal.returns-in-Ok-Exchange
+returns-in-Ok-Exchange g c =
+    let given = rw c.in-Ok-Some.field-0-is at c.in-Ok-Some.ensures.given in
+    let takes = rw c.in-Ok-Exchange.field-0-is at (c.in-Ok-Exchange.ensures.takes c.open.invariant.no_reason) in
+    let observed = rw c.in-Ok-Exchange.exchange-is at c.observe.ensures.observed in
+    record {
+      front = c.open.self;
+      are_open = c.open.invariant.are_open;
+      turned =
+          turned-observed c.open.self c.observe.new.self _ given takes c.observe.ensures.rows c.observe.ensures.pairer observed;
+    }
+
+pub returns-in-Err-feed : goal.returns-in-Err-feed
+returns-in-Err-feed g c =
+    let given = rw c.in-Ok-Some.field-0-is at c.in-Ok-Some.ensures.given in
+    record {
+      front = c.open.self;
+      are_open = c.open.invariant.are_open;
+      turned =
+          record { gives = given; refuses = c.in-Err-feed.ensures.refuses c.open.invariant.no_reason; same_tracker = refl };
+    }

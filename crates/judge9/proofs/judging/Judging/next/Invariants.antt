@@ -1,0 +1,13 @@
+use Rattle.judge9.proofs.Words.{AreOpen, ForSome, None, ℕ, ◌-◌, ◌≡◌, ◌≤◌}
+use Rattle.judge9.proofs.judging.Judging.next.Given as goal
+
+-- the rows so far end no exchange
+abbrev pub invariant-open : goal.invariant-open
+invariant-open g l = record {
+  are_open : (n : ℕ) × AreOpen n l.fn.self l.self;
+  no_reason : l.self.pairer.reason ≡ None;
+  in_order : ForSome l.self.pairer.last_time (λ time. time ≤ l.self.rows.last_time);
+}
+
+abbrev pub decreases-open : goal.decreases-open
+decreases-open g l = 4000000 - l.self.rows.given

@@ -1,0 +1,132 @@
+//! What a hand keeps of the state in which it finds the deck: as much as the exchanges after its move allow.
+//!
+//! The search is not proved: what is found with it is asked of `is_run`.
+
+use block9::Exchange;
+use deck9::{Hands, State, is_run};
+use sets25::SpanSet;
+use std::alloc::{AllocError, Global};
+use track9::{Start, Tracker};
+
+/// A field of a state that a hand may keep or change.
+#[derive(Clone, Copy)]
+enum Field {
+    Local,
+    In,
+    Out,
+    AudioIn,
+    AudioOut,
+    Goal,
+    Shown,
+}
+
+/// In the order in which they are kept. Local comes first, since what a deck in LOCAL may ignore lets the others be.
+const FIELDS: [Field; 7] = [
+    Field::Local,
+    Field::In,
+    Field::Out,
+    Field::AudioIn,
+    Field::AudioOut,
+    Field::Goal,
+    Field::Shown,
+];
+
+/// Nothing is known of the deck.
+pub(crate) const NOTHING: Start = Start {
+    goal: None,
+    shown: None,
+    ins: None,
+    outs: None,
+    ains: None,
+    aouts: None,
+    local: None,
+};
+
+/// What a hand keeps of the state in which it finds the deck: in turn each field with which the exchanges after its move have
+/// a run of a deck that nobody touches, together with the fields kept before it.
+pub(crate) fn kept_by_hand(
+    alloc: Global,
+    found: &State,
+    exchanges: &[Exchange],
+) -> Result<Start, AllocError> {
+    let mut kept = NOTHING;
+    for field in FIELDS {
+        let tried = with_field(&kept, field, found);
+        if has_run(alloc, &tried, exchanges)? {
+            kept = tried;
+        }
+    }
+    Ok(kept)
+}
+
+/// What is known so far, and this field of the state.
+fn with_field(kept: &Start, field: Field, found: &State) -> Start {
+    let mut tried = *kept;
+    match field {
+        Field::Local => tried.local = Some(found.local),
+        Field::In => tried.ins = Some(found.ins),
+        Field::Out => tried.outs = Some(found.outs),
+        Field::AudioIn => tried.ains = Some(found.ains),
+        Field::AudioOut => tried.aouts = Some(found.aouts),
+        Field::Goal => tried.goal = Some(found.goal),
+        Field::Shown => tried.shown = Some(found.shown),
+    }
+    tried
+}
+
+/// Whether the exchanges have a run of a deck that nobody touches and of which this is known before them.
+fn has_run(alloc: Global, start: &Start, exchanges: &[Exchange]) -> Result<bool, AllocError> {
+    let mut tracker = Tracker::<SpanSet>::starting(alloc, start)?;
+    let has_run = goes_on(&mut tracker, exchanges);
+    drop(tracker);
+    has_run
+}
+
+/// Whether a state remains of the tracker's after these exchanges.
+fn goes_on(tracker: &mut Tracker<SpanSet>, exchanges: &[Exchange]) -> Result<bool, AllocError> {
+    for exchange in exchanges {
+        if !tracker.observe(&exchange.command, &exchange.reply)? {
+            return Ok(false);
+        }
+    }
+    Ok(true)
+}
+
+/// Lets the deck go on from the hand's move as late as it can: the first of the states after it keeps the goal and the shown
+/// mode that the hand found, or one of them, where the next state may come from it as well.
+pub(crate) fn keep_modes(found: &State, exchanges: &[Exchange], states: &mut [State]) {
+    let Some(first) = states.first().copied() else {
+        return;
+    };
+    let modes = [
+        (found.goal, found.shown),
+        (found.goal, first.shown),
+        (first.goal, found.shown),
+    ];
+    for (goal, shown) in modes {
+        let kept = State {
+            goal,
+            shown,
+            ..first
+        };
+        if may_come_first(&kept, exchanges, states) {
+            put_first(states, kept);
+            return;
+        }
+    }
+}
+
+/// Whether the first exchange can leave an untouched deck in this state, and the next one then in the second of the states.
+fn may_come_first(first: &State, exchanges: &[Exchange], states: &[State]) -> bool {
+    match (exchanges.get(..2), states.get(1)) {
+        (Some(two), Some(second)) => is_run(two, &[*first, *second], Hands::None),
+        _ => is_run(exchanges, &[*first], Hands::None),
+    }
+}
+
+/// Puts a state in the place of the first.
+fn put_first(states: &mut [State], state: State) {
+    if let Some(first) = states.first_mut() {
+        *first = state;
+    }
+}
