@@ -64,7 +64,7 @@ prove() {
         mv "$copy/$out" "$out"
     fi
     rm -rf "$copy"
-    mkdir "$copy" && cp -rl crates crates.txt HANDLES "$copy" || return
+    mkdir "$copy" && cp -l crates.txt HANDLES "$copy" && copy_for "$1" "$copy" || return
     rm -f "$copy/$out/made-from"
     [ "$1" != ninecheck ] || ask='rt run -- check'
     # The program is run once it is built, on the capture beside it.
@@ -73,6 +73,15 @@ prove() {
     rm -rf "$out"
     mv "$copy/$out" "$out"
     rm -rf "$copy"
+}
+# copy_for CRATE COPY: all but what comes of crates that are not proved yet, which may be renamed at any time.
+copy_for() {
+    local entry crate
+    for entry in crates/*/*; do
+        crate=${entry#crates/} crate=${crate%%/*}
+        [ "${entry##*/}" != out ] || [ "$crate" = "$1" ] || [ "${state[$crate]-}" = proved ] || continue
+        mkdir -p "$2/crates/$crate" && cp -rl "$entry" "$2/crates/$crate" || return
+    done
 }
 capture_for() { [ "$1" = ninecheck ] && echo crates/ninecheck/stdin || echo /dev/null; }
 
