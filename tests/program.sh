@@ -207,7 +207,8 @@ expect 'why with the option behind the file' 0 "$yes" ''
 run why < examples/play.csv
 expect 'why on standard input' 0 "$yes" ''
 run why < examples/second-reply.csv
-expect 'why of a capture that breaks a rule' 1 'record 7 at 2800: D 10
+expect 'why of a capture that breaks a rule' 1 'records 1 to 6 at 400: PLAY 20 01 21 -> 10 01 11
+record 7 at 2800: D 10, 400 after the record before
 no at record 7: P1 reply without a command' ''
 run why examples/disputed-in-point.csv < /dev/null
 explained 'why with a file of which no run remains' 1 'no at record 28: M1 no run remains' ''

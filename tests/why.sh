@@ -284,24 +284,25 @@ is_break 'a wrong group' 'record 1 at 400: C 71
 no at record 1: B1 wrong group for this wire'
 capture_of "C 20 01 21 $ack C 20 01 22"
 is_break 'a wrong sum after an exchange' 'records 7 to 8 at 2800: 20 01
-record 9 at 3600: C 22, 400 after the record before
+record 9 at 3600: C 22, 400 after the record before, sum 21
 no at record 9: B2 wrong sum'
 capture_of 'C 61'
 echo '10688,C,20' >> "$work/capture.csv"
-is_break 'a gap' 'records 1 to 1 at 400: 61
+is_break 'a gap' 'records 1 to 1 at 400: 61, 1 of 4 bytes
 record 2 at 10688: C 20, 10288 after the record before, limit 10287
 no at record 2: B3 gap inside a block'
 capture_of 'C 61 20 03 84 D 73'
 echo '12288,D,20' >> "$work/capture.csv"
 is_break 'a gap inside a reply' 'records 1 to 4 at 400: STATUS SENSE 61 20 03 84
-records 5 to 5 at 2000: -> 73
+records 5 to 5 at 2000: -> 73, 1 of 6 bytes
 record 6 at 12288: D 20, 10288 after the record before, limit 10287
 no at record 6: B3 gap inside a block'
 capture_of "C 20 01 21 $ack $ack"
-is_break 'a reply without a command' 'record 7 at 2800: D 10
+is_break 'a reply without a command' 'records 1 to 6 at 400: PLAY 20 01 21 -> 10 01 11
+record 7 at 2800: D 10, 400 after the record before
 no at record 7: P1 reply without a command'
 capture_of 'C 61 20 D 73'
-is_break 'a reply inside a command' 'records 1 to 2 at 400: 61 20
+is_break 'a reply inside a command' 'records 1 to 2 at 400: 61 20, 2 of 4 bytes
 record 3 at 1200: D 73, 400 after the record before
 no at record 3: P2 reply before the end of the command'
 capture_of 'C 44 14 00 00 00 10 68 20'
@@ -310,7 +311,7 @@ record 8 at 3200: C 20, 400 after the record before, limit 9287
 no at record 8: P3 command before the reply'
 capture_of 'C 61 20 03 84 D 73 20 C 61'
 is_break 'a command inside a reply' 'records 1 to 4 at 400: STATUS SENSE 61 20 03 84
-records 5 to 6 at 2000: -> 73 20
+records 5 to 6 at 2000: -> 73 20, 2 of 6 bytes
 record 7 at 2800: C 61, 400 after the record before
 no at record 7: P4 command inside a reply'
 capture_of 'C 60 10 70 D 10 01 11'

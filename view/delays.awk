@@ -182,13 +182,14 @@ function name_forms(    number, stamp_form, mode_form, k) {
     records_form = "^records " number " to " number " at " stamp_form ": "
     could_show_form = "^could show: "
     breaking_form = "^record " number " at " stamp_form ": [CD] [0-9A-F][0-9A-F]" \
-        "(, " stamp_form " after the record before)?(, limit " number ")?$"
+        "(, " stamp_form " after the record before)?(, limit " number ")?(, sum [0-9A-F][0-9A-F])?$"
+    progress_form = ", " number " of " number " bytes$"
     may_follow["exchange"] = may_follow["state"] = " nothing exchange state "
     may_follow["contradicting_exchange"] = " nothing contradicting_exchange "
     may_follow["could_show"] = " contradicting_exchange "
     may_follow["open_command"] = " nothing "
     may_follow["open_reply"] = " open_command "
-    may_follow["breaking_record"] = " nothing open_command open_reply "
+    may_follow["breaking_record"] = " nothing contradicting_exchange open_command open_reply "
     may_follow["yes"] = " nothing exchange state "
     may_follow["no"] = " nothing exchange state could_show breaking_record "
 }
@@ -196,8 +197,9 @@ function name_forms(    number, stamp_form, mode_form, k) {
 # Takes the line apart. `kind` is then what it is, and these are what it says: of an "exchange" `record`, `command`, `reply`,
 # `delay` and `known`, of a "state" `record` and `known`, of a "yes" `records`, `exchanges` and `open`, of a "no" `record`
 # and `reason`. `known` has the first `told` of the fields. The lines of `why` are "contradicting_exchange", "could_show",
-# "open_command", "open_reply" and "breaking_record": `given` has what stands in them, by name, `said` counts what a reply
-# says of the deck, and of "could_show" `known` has the fields from the second to the one numbered `told`.
+# "open_command", "open_reply" and "breaking_record"; an exchange right before the last of these contradicts nothing. `given`
+# has what stands in them, by name, `said` counts what a reply says of the deck, and of "could_show" `known` has the fields
+# from the second to the one numbered `told`.
 function read_line(    before) {
     sub(/\r$/, "")
     before = kind == "" ? "nothing" : kind
@@ -208,7 +210,12 @@ function read_line(    before) {
     else if ($0 ~ could_show_form) read_could_show()
     else if (/^yes: /) read_yes()
     else read_no()
-    if (index(may_follow[kind], " " before " ") == 0) refuse("a line that can't stand here: " $0)
+    if (index(may_follow[kind], " " before " ") == 0 || !is_alone(before)) refuse("a line that can't stand here: " $0)
+}
+
+# Whether an exchange before a record that breaks is the only one, and says nothing of the deck.
+function is_alone(before) {
+    return kind != "breaking_record" || before != "contradicting_exchange" || (exchanges_told == 1 && said == 0)
 }
 
 function read_record(    part, parts, at, before, k) {
@@ -264,7 +271,7 @@ function is_value(name, value) {
 }
 
 # Takes apart a line of blocks: of an exchange, or of what is open of a command or a reply.
-function read_records(    part, text, at) {
+function read_records(    part, part_of, text, at) {
     match($0, records_form)
     text = substr($0, RLENGTH + 1)
     split(substr($0, 1, RLENGTH - 2), part, " ")
@@ -274,6 +281,12 @@ function read_records(    part, text, at) {
     given["record"] = part[4]
     given["time_us"] = part[6]
     last_record = part[4] + 0
+    if (match(text, progress_form)) {
+        split(substr(text, RSTART + 2), part_of, " ")
+        given["came"] = part_of[1]
+        given["block_length"] = part_of[3]
+        text = substr(text, 1, RSTART - 1)
+    }
     at = index(text, " " arrow)
     if (index(text, arrow) == 1) {
         kind = "open_reply"
@@ -281,6 +294,8 @@ function read_records(    part, text, at) {
         if (text != "" || !("reply_bytes" in given)) refuse_line()
     } else if (at > 0) {
         kind = "contradicting_exchange"
+        exchanges_told++
+        if ("came" in given) refuse_line()
         read_command(substr(text, 1, at - 1))
         read_reply(substr(text, at + 1 + length(arrow)))
     } else {
@@ -290,6 +305,7 @@ function read_records(    part, text, at) {
     if (bytes_in("command_bytes") + bytes_in("reply_bytes") != part[4] - part[2] + 1) {
         refuse("other records than there are bytes: " $0)
     }
+    if ("came" in given && (given["came"] != part[4] - part[2] + 1 || given["came"] + 0 >= given["block_length"] + 0)) refuse_line()
 }
 
 # The name of a command that is listed, its time, and its bytes.
@@ -350,7 +366,7 @@ function read_could_show(    part, k) {
     for (k = 2; k <= told; k++) read_field(field[k], part[k - 1])
 }
 
-# The record that breaks a rule: its wire and byte, the time since the record before it, and the limit.
+# The record that breaks a rule: its wire and byte, the time since the record before it, the limit, and the right checksum.
 function read_breaking(    text, part, k) {
     text = $0
     gsub(/[:,]/, "", text)
@@ -364,6 +380,7 @@ function read_breaking(    text, part, k) {
     for (k = 7; k in part; k++) {
         if (part[k] == "after") given["elapsed_us"] = part[k - 1]
         if (part[k] == "limit") given["limit_us"] = part[k + 1]
+        if (part[k] == "sum") given["sum"] = part[k + 1]
     }
 }
 

@@ -10,7 +10,9 @@
 #      "command_time":"10:00:00:00","command_bytes":"44 14 00 00 00 10 68","reply_bytes":"10 01 11","says":{}}
 #     {"line":"could_show","modes":["STOP","PLAY"],"in":"10:00:00:00","out":"unknown","local":"no","ain":"unknown",
 #      "aout":"unknown"}
-#     {"line":"open_command","first_record":7,"record":8,"time_us":2800,"command_bytes":"61 20"}
+#     {"line":"exchange_before","first_record":1,"record":6,"time_us":400,"command":"PLAY","command_bytes":"20 01 21",
+#      "reply_bytes":"10 01 11"}
+#     {"line":"open_command","first_record":7,"record":8,"time_us":2800,"command_bytes":"61 20","block_length":4}
 #     {"line":"open_reply","first_record":4,"record":5,"time_us":1600,"reply_bytes":"10 01"}
 #     {"line":"breaking_record","record":9,"time_us":15000,"wire":"C","byte":"01","elapsed_us":11800,"limit_us":10287}
 #     {"line":"verdict","verdict":"yes","records":18,"exchanges":2,"open":0}
@@ -28,6 +30,13 @@
 BEGIN { view = "json.awk" }
 
 { read_line() }
+
+# Only the line after an exchange tells whether it contradicts others or comes before a record that breaks a rule.
+waiting != "" {
+    if (kind == "breaking_record") put("{\"line\":\"exchange_before\"" waiting "}")
+    else put("{\"line\":\"contradicting_exchange\"" waiting ",\"says\":{" waiting_says "}}")
+    waiting = ""
+}
 
 kind == "exchange" {
     put("{\"line\":\"exchange\",\"record\":" record ",\"command\":" string(command) "," reply_members() \
@@ -47,29 +56,33 @@ kind == "no" {
 }
 
 kind == "contradicting_exchange" {
-    put_given("first_record record time_us command command_time command_bytes reply_time reply_bytes", \
-        ",\"says\":{" said_members() "}")
+    waiting = given_members("first_record record time_us command command_time command_bytes reply_time reply_bytes")
+    waiting_says = said_members()
 }
 
 kind == "could_show" {
     put("{\"line\":\"could_show\"," modes_member(known["shown"]) field_members(3) "}")
 }
 
-kind == "open_command" { put_given("first_record record time_us command command_time command_bytes", "") }
+kind == "open_command" { put_given("first_record record time_us command command_time command_bytes block_length") }
 
-kind == "open_reply" { put_given("first_record record time_us reply_bytes", "") }
+kind == "open_reply" { put_given("first_record record time_us reply_bytes block_length") }
 
-kind == "breaking_record" { put_given("record time_us wire byte elapsed_us limit_us", "") }
+kind == "breaking_record" { put_given("record time_us wire byte elapsed_us limit_us sum") }
 
-# Puts the object of a line of `why`: the members of these names that the line has, and what stands behind them.
-function put_given(names, behind,    members, name, count, k) {
+# Puts the object of a line of `why`: the members of these names that the line has.
+function put_given(names) {
+    put("{\"line\":\"" kind "\"" given_members(names) "}")
+}
+
+function given_members(names,    members, name, count, k) {
     members = ""
     count = split(names, name, " ")
     for (k = 1; k <= count; k++) {
         if (!(name[k] in given)) continue
-        members = members ",\"" name[k] "\":" (name[k] ~ /(record|_us)$/ ? given[name[k]] : string(given[name[k]]))
+        members = members ",\"" name[k] "\":" (name[k] ~ /(record|_us|_length)$/ ? given[name[k]] : string(given[name[k]]))
     }
-    put("{\"line\":\"" kind "\"" members behind "}")
+    return members
 }
 
 function said_members(    members, k) {
@@ -155,13 +168,14 @@ function name_forms(    number, stamp_form, mode_form, k) {
     records_form = "^records " number " to " number " at " stamp_form ": "
     could_show_form = "^could show: "
     breaking_form = "^record " number " at " stamp_form ": [CD] [0-9A-F][0-9A-F]" \
-        "(, " stamp_form " after the record before)?(, limit " number ")?$"
+        "(, " stamp_form " after the record before)?(, limit " number ")?(, sum [0-9A-F][0-9A-F])?$"
+    progress_form = ", " number " of " number " bytes$"
     may_follow["exchange"] = may_follow["state"] = " nothing exchange state "
     may_follow["contradicting_exchange"] = " nothing contradicting_exchange "
     may_follow["could_show"] = " contradicting_exchange "
     may_follow["open_command"] = " nothing "
     may_follow["open_reply"] = " open_command "
-    may_follow["breaking_record"] = " nothing open_command open_reply "
+    may_follow["breaking_record"] = " nothing contradicting_exchange open_command open_reply "
     may_follow["yes"] = " nothing exchange state "
     may_follow["no"] = " nothing exchange state could_show breaking_record "
 }
@@ -169,8 +183,9 @@ function name_forms(    number, stamp_form, mode_form, k) {
 # Takes the line apart. `kind` is then what it is, and these are what it says: of an "exchange" `record`, `command`, `reply`,
 # `delay` and `known`, of a "state" `record` and `known`, of a "yes" `records`, `exchanges` and `open`, of a "no" `record`
 # and `reason`. `known` has the first `told` of the fields. The lines of `why` are "contradicting_exchange", "could_show",
-# "open_command", "open_reply" and "breaking_record": `given` has what stands in them, by name, `said` counts what a reply
-# says of the deck, and of "could_show" `known` has the fields from the second to the one numbered `told`.
+# "open_command", "open_reply" and "breaking_record"; an exchange right before the last of these contradicts nothing. `given`
+# has what stands in them, by name, `said` counts what a reply says of the deck, and of "could_show" `known` has the fields
+# from the second to the one numbered `told`.
 function read_line(    before) {
     sub(/\r$/, "")
     before = kind == "" ? "nothing" : kind
@@ -181,7 +196,12 @@ function read_line(    before) {
     else if ($0 ~ could_show_form) read_could_show()
     else if (/^yes: /) read_yes()
     else read_no()
-    if (index(may_follow[kind], " " before " ") == 0) refuse("a line that can't stand here: " $0)
+    if (index(may_follow[kind], " " before " ") == 0 || !is_alone(before)) refuse("a line that can't stand here: " $0)
+}
+
+# Whether an exchange before a record that breaks is the only one, and says nothing of the deck.
+function is_alone(before) {
+    return kind != "breaking_record" || before != "contradicting_exchange" || (exchanges_told == 1 && said == 0)
 }
 
 function read_record(    part, parts, at, before, k) {
@@ -237,7 +257,7 @@ function is_value(name, value) {
 }
 
 # Takes apart a line of blocks: of an exchange, or of what is open of a command or a reply.
-function read_records(    part, text, at) {
+function read_records(    part, part_of, text, at) {
     match($0, records_form)
     text = substr($0, RLENGTH + 1)
     split(substr($0, 1, RLENGTH - 2), part, " ")
@@ -247,6 +267,12 @@ function read_records(    part, text, at) {
     given["record"] = part[4]
     given["time_us"] = part[6]
     last_record = part[4] + 0
+    if (match(text, progress_form)) {
+        split(substr(text, RSTART + 2), part_of, " ")
+        given["came"] = part_of[1]
+        given["block_length"] = part_of[3]
+        text = substr(text, 1, RSTART - 1)
+    }
     at = index(text, " " arrow)
     if (index(text, arrow) == 1) {
         kind = "open_reply"
@@ -254,6 +280,8 @@ function read_records(    part, text, at) {
         if (text != "" || !("reply_bytes" in given)) refuse_line()
     } else if (at > 0) {
         kind = "contradicting_exchange"
+        exchanges_told++
+        if ("came" in given) refuse_line()
         read_command(substr(text, 1, at - 1))
         read_reply(substr(text, at + 1 + length(arrow)))
     } else {
@@ -263,6 +291,7 @@ function read_records(    part, text, at) {
     if (bytes_in("command_bytes") + bytes_in("reply_bytes") != part[4] - part[2] + 1) {
         refuse("other records than there are bytes: " $0)
     }
+    if ("came" in given && (given["came"] != part[4] - part[2] + 1 || given["came"] + 0 >= given["block_length"] + 0)) refuse_line()
 }
 
 # The name of a command that is listed, its time, and its bytes.
@@ -323,7 +352,7 @@ function read_could_show(    part, k) {
     for (k = 2; k <= told; k++) read_field(field[k], part[k - 1])
 }
 
-# The record that breaks a rule: its wire and byte, the time since the record before it, and the limit.
+# The record that breaks a rule: its wire and byte, the time since the record before it, the limit, and the right checksum.
 function read_breaking(    text, part, k) {
     text = $0
     gsub(/[:,]/, "", text)
@@ -337,6 +366,7 @@ function read_breaking(    text, part, k) {
     for (k = 7; k in part; k++) {
         if (part[k] == "after") given["elapsed_us"] = part[k - 1]
         if (part[k] == "limit") given["limit_us"] = part[k + 1]
+        if (part[k] == "sum") given["sum"] = part[k + 1]
     }
 }
 
