@@ -1,5 +1,0 @@
-use Rattle.judge9.proofs.Words.{Appends-nil, refl}
-use Rattle.judge9.proofs.judging.explain.Goals as goal
-
-pub returns-in_default : goal.returns-in_default
-returns-in_default g c = rw c.in-Explain.is (record { line = _; is_line = (c.knowledge-knowledge.result, c.knowledge-knowledge.ensures, refl); puts = Appends-nil _ })
