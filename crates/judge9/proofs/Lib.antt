@@ -2,6 +2,12 @@ pub mod CutSteps
 pub mod DayLemmas
 pub mod LawLemmas
 pub mod LineSteps
+pub mod PartBreaks
+pub mod PartEnds
+pub mod PartLemmas
+pub mod PartMeasure
+pub mod PartSteps
+pub mod PartTurns
 pub mod RunSteps
 pub mod ShowLemmas
 pub mod SoFar

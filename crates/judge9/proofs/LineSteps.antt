@@ -1,5 +1,5 @@
 -- The lines of one exchange more.
-use Rattle.judge9.proofs.Words.{[], ap, append-nil, append_assoc, append_known, Appends, Appends-trans, AreLines, arith, Cut, Ends, Exchange, KeepsEnds, Hands, IsExchange}
+use Rattle.judge9.proofs.Words.{records_in, [], ap, append-nil, append_assoc, append_known, Appends, Appends-trans, AreLines, arith, Cut, Ends, Exchange, KeepsEnds, Hands, IsExchange}
 use Rattle.judge9.proofs.Words.{IsExplained, IsKnowledge, IsKnown, IsKnownEntry, IsLineOf, Knowledge, Known, KnownEntry, length, length-append, length-map, line_of_exchange}
 use Rattle.judge9.proofs.Words.{LineByte, List, None, Option, Possible, records_of, refl, Register, Some, State, subst, sym, Tracked, View, ℕ, ◌++◌, ◌+◌, ◌↔◌, ◌∙◌, ◌∷◌, ◌≡◌}
 
@@ -16,12 +16,7 @@ exchange_len front e h =
           (ap length h.reply.spelled.spelled),
     )
 
--- the records of these exchanges
-abbrev pub total : List Exchange → ℕ
-total [] = 0
-total (e ∷ es) = records_of e + total es
-
-pub cut_len : (p : List LineByte) (es : List Exchange) (t : List LineByte) → Cut p es t → length p ≡ total es + length t
+pub cut_len : (p : List LineByte) (es : List Exchange) (t : List LineByte) → Cut p es t → length p ≡ records_in es + length t
 cut_len p [] t h = omega (arith, ap length h.0)
 cut_len p (e ∷ es) t h = omega (arith, ap length h.2, length-append h.0 h.1, exchange_len h.0 e h.3, cut_len h.1 es t h.4)
 
@@ -42,7 +37,7 @@ knowledge_same X Y k same h = search (known_same, entry_same)
 -- ---- a line more
 
 lines_more : (h : Hands) (before : List Exchange) (at : ℕ) (es : List Exchange) (e : Exchange) (k : Knowledge) (n : ℕ) (text : List ℕ)
-    → AreLines h before at es text → IsKnowledge (Ends h ((before ++ es) ++ e ∷ [])) k → n ≡ at + total (es ++ e ∷ [])
+    → AreLines h before at es text → IsKnowledge (Ends h ((before ++ es) ++ e ∷ [])) k → n ≡ at + records_in (es ++ e ∷ [])
     → AreLines h before at (es ++ e ∷ []) (text ++ line_of_exchange h n e k)
 lines_more h before at [] e k n text lines knows number =
     let last : n ≡ at + records_of e = omega arith in
@@ -53,11 +48,12 @@ lines_more h before at (f ∷ es) e k n text lines knows number =
     let line = line_of_exchange h n e k in
     (lines.0, lines.1 ++ line, lines.2, rest, ap (λ t. t ++ line) lines.4 ∙ append_assoc _ lines.1 line)
 
-pub explained_more : (which : View) (h : Hands) (es : List Exchange) (e : Exchange) (n : ℕ) (text line : List ℕ) (t : Tracked) → KeepsEnds h (es ++ e ∷ []) t
-    → IsExplained which h es text → IsLineOf which h n e (Possible t.states) line → n ≡ total (es ++ e ∷ []) → IsExplained which h (es ++ e ∷ []) (text ++ line)
-explained_more View.Verdict h es e n text line t follows is more number = ap (λ t. t ++ line) is ∙ more
-explained_more View.Explain h es e n text line t follows is more number =
-    rw more.2 (lines_more h [] 0 es e more.0 n text is (knowledge_same (Possible t.states) (Ends h (es ++ e ∷ [])) more.0 follows.states more.1) (omega arith))
+pub explained_more : (which : View) (h : Hands) (past : ℕ) (es : List Exchange) (e : Exchange) (n : ℕ) (text line : List ℕ) (t : Tracked)
+    → KeepsEnds h (es ++ e ∷ []) t → IsExplained which h past es text → IsLineOf which h n e (Possible t.states) line → n ≡ past + records_in (es ++ e ∷ [])
+    → IsExplained which h past (es ++ e ∷ []) (text ++ line)
+explained_more View.Verdict h past es e n text line t follows is more number = ap (λ t. t ++ line) is ∙ more
+explained_more View.Explain h past es e n text line t follows is more number =
+    rw more.2 (lines_more h [] past es e more.0 n text is (knowledge_same (Possible t.states) (Ends h (es ++ e ∷ [])) more.0 follows.states more.1) number)
 
 -- ---- what is written after other bytes
 

@@ -1,12 +1,12 @@
 -- Where the judging of a text stands: the invariant of its loop, the rows that it speaks of, and what a row more does.
-use Rattle.judge9.proofs.Words.{IsEnd, last_time, last_time-append}
+use Rattle.judge9.proofs.Words.{length-append, records_in, Begins, IsEnd, last_time, last_time-append}
 use Rattle.judge9.proofs.Words.{[], ap, append-nil, append_assoc, Appends, Appends-nil, Appends-trans, AreGiven, arith, Bool, CanBeRows, CaptureError, Cut, Exchange, Feeds}
 use Rattle.judge9.proofs.Words.{KeepsEnds, ForSome, given-more, given-none, GivesRecord, Hands, HasRun, IfNone, IfSome, IsExplained, IsFresh, IsLineOf, IsOfSomeText, IsOk, IsOpen}
 use Rattle.judge9.proofs.Words.{IsStartOf, IsTail, Judging, length, length_push, LineByte, List, None, Observes, Option, Paired, Possible, Progress, refl, Rows, run_start, Some}
 use Rattle.judge9.proofs.Words.{some-text, some_end, Standing, Step, subst, sym, Takes, TakesRecord, Tracked, true, View, Waits, ℕ, ⊤, ◌++◌, ◌+◌, ◌∙◌, ◌∷◌, ◌≡◌, ◌≤◌}
 use Rattle.judge9.proofs.RunSteps.{follows-more, follows-start}
 use Rattle.judge9.proofs.CutSteps.{cut-step, exchanges_after}
-use Rattle.judge9.proofs.LineSteps.{cut_len, explained_more, total}
+use Rattle.judge9.proofs.LineSteps.{cut_len, explained_more}
 
 -- these records were read, and the rest of the rows is still to come
 abbrev pub WereRead : Option Rows → List LineByte → Option Rows → Type 0
@@ -14,24 +14,31 @@ WereRead None items left = ⊤
 WereRead (Some rows) items left = (rest : Rows) × (left ≡ Some rest) × (rows ≡ record { records = items ++ rest.records; fault = rest.fault })
 
 -- these records keep the rules and are cut into the exchanges and the tail, and the text is what the view shows of them
-pub record Keeps (view : View) (hands : Hands) (es : List Exchange) (tail : List LineByte) : Type 0 where
+pub record Keeps (view : View) (hands : Hands) (past : List LineByte) (es : List Exchange) (tail : List LineByte) : Type 0 where
   pub items : List LineByte
   pub cut : Cut items es tail
   pub run : HasRun hands es
   pub text : List ℕ
-  pub explained : IsExplained view hands es text
+  pub explained : IsExplained view hands (length past) es text
 
 -- before the first record
-pub explained-start : (which : View) (hands : Hands) → IsExplained which hands [] []
-explained-start which hands = grind arith
+pub explained-start : (which : View) (hands : Hands) (n : ℕ) → IsExplained which hands n [] []
+explained-start which hands n = grind arith
 
-abbrev pub keeps-none : {tail : List LineByte} (which : View) (hands : Hands) → tail ≡ [] → Keeps which hands [] tail
-keeps-none which hands e = record { items = []; cut = (sym e, IsTail.nothing e); run = run_start hands; text = []; explained = explained-start which hands }
+abbrev pub keeps-none : {tail : List LineByte} (which : View) (hands : Hands) (past : List LineByte) → tail ≡ [] → Keeps which hands past [] tail
+keeps-none which hands past e = record {
+  items = [];
+  cut = (sym e, IsTail.nothing e);
+  run = run_start hands;
+  text = [];
+  explained = explained-start which hands (length past);
+}
 
--- the records so far keep the rules and have these exchanges; the pairer has their tail, the tracker keeps the states that the
--- runs of their exchanges end in, and what the view shows of these was written
-pub record SoFar {R : Type 0} (view : View) (hands : Hands) (rows : Option Rows) (j : Judging R) (old now : Option (List ℕ)) (es : List Exchange) : Type 0 where
-  pub keeps : Keeps view hands es j.pairer.tail
+-- the records so far of a part, before which the capture has those of `past`, keep the rules and have these exchanges; the pairer
+-- has their tail, the tracker keeps the states that the runs of their exchanges end in, and what the view shows of these was written
+pub record SoFar {R : Type 0} (view : View) (hands : Hands) (rows : Option Rows) (past : List LineByte) (j : Judging R) (old now : Option (List ℕ))
+    (es : List Exchange) : Type 0 where
+  pub keeps : Keeps view hands past es j.pairer.tail
   pub open keeps use {items, cut, run, text, explained}
   pub follows : KeepsEnds hands es j.tracker
   pub wrote : Appends old now text
@@ -39,8 +46,8 @@ pub record SoFar {R : Type 0} (view : View) (hands : Hands) (rows : Option Rows)
   pub is_reading : j.rows.standing ≡ Standing.Reading
   pub no_reason : j.pairer.reason ≡ None
   pub in_order : ForSome j.pairer.last_time (λ time. time ≤ j.rows.last_time)
-  pub read : WereRead rows items j.rows.rows
-  pub are_given : AreGiven items j.rows
+  pub read : WereRead rows (past ++ items) j.rows.rows
+  pub are_given : AreGiven (past ++ items) j.rows
 
 -- ---- the rows that a judging speaks of
 
@@ -94,20 +101,25 @@ later {r = r} given takes x e =
     let same : Some x ≡ Some r.time_us = sym e ∙ takes.last_time in
     let t : x ≡ r.time_us = cc in omega arith
 
--- before the first row
-pub so_far-start : {R : Type 0} {which : View} {hands : Hands} {j : Judging R} {now : Option (List ℕ)} → IsFresh hands j
-    → SoFar which hands j.rows.rows j now now []
-so_far-start {which = which} {hands = hands} {j = j} {now = now} fresh = record {
-  keeps = keeps-none which hands (ap (λ (p : Paired). p.tail) fresh.fed_nothing);
-  follows = follows-start hands j.tracker fresh.states fresh.hands;
+-- before the first row of a part
+abbrev pub so_far-begin : {R : Type 0} {which : View} {hands : Hands} {rows : Option Rows} {past : List LineByte} {j : Judging R} {now : Option (List ℕ)}
+    → Begins hands j → j.rows.standing ≡ Standing.Reading → WereRead rows past j.rows.rows → AreGiven past j.rows → SoFar which hands rows past j now now []
+so_far-begin {which = which} {hands = hands} {past = past} {j = j} {now = now} begins is_reading read are_given = record {
+  keeps = keeps-none which hands past (ap (λ (p : Paired). p.tail) begins.fed_nothing);
+  follows = follows-start hands j.tracker begins.states begins.hands;
   wrote = Appends-nil now;
   few = omega arith;
-  is_reading = fresh.is_reading;
-  no_reason = rw fresh.fed_nothing;
-  in_order = rw fresh.fed_nothing (λ x e. cc);
-  read = unread j.rows.rows;
-  are_given = given-none j.rows fresh.none_given fresh.no_time;
+  is_reading = is_reading;
+  no_reason = rw begins.fed_nothing;
+  in_order = rw begins.fed_nothing (λ x e. cc);
+  read = rw append-nil read;
+  are_given = rw append-nil are_given;
 }
+
+-- before the first row
+abbrev pub so_far-start : {R : Type 0} {which : View} {hands : Hands} {j : Judging R} {now : Option (List ℕ)} → IsFresh hands j
+    → SoFar which hands j.rows.rows [] j now now []
+so_far-start {j = j} fresh = so_far-begin fresh.begins fresh.is_reading (unread j.rows.rows) (given-none j.rows fresh.none_given fresh.no_time)
 
 -- the time at which exchanges end, one of them last
 ends-more : (records : List LineByte) (es : List Exchange) (e : Exchange) (end_us : Option ℕ) → end_us ≡ Some (last_time records)
@@ -115,25 +127,37 @@ ends-more : (records : List LineByte) (es : List Exchange) (e : Exchange) (end_u
 ends-more records [] e end_us is = is
 ends-more records (x ∷ es) e end_us is = is
 
-module _ {R : Type 0} {which : View} {hands : Hands} {rows : Option Rows} {j : Judging R} {old now : Option (List ℕ)} {es : List Exchange}
-    (h : SoFar which hands rows j old now es) where
+module _ {R : Type 0} {which : View} {hands : Hands} {rows : Option Rows} {past : List LineByte} {j : Judging R} {old now : Option (List ℕ)}
+    {es : List Exchange} (h : SoFar which hands rows past j old now es) where
   -- the rows that it speaks of, where it ends here with no fault
-  pub seen_now : Seen rows j.rows.rows h.items None
-  seen_now = seen rows j.rows.rows h.items None h.read h.are_given.can_be
+  pub seen_now : Seen rows j.rows.rows (past ++ h.items) None
+  seen_now = seen rows j.rows.rows (past ++ h.items) None h.read h.are_given.can_be
 
   pub so_far-ok : IsOk hands h.items
   so_far-ok = record { exchanges = es; tail = j.pairer.tail; cut = h.cut; run = h.run }
 
+  -- a record more was read
+  pub read_on : {after : Progress R} {r : LineByte} → GivesRecord j.rows r after → WereRead rows (past ++ (h.items ++ r ∷ [])) after.rows
+  read_on {after = after} {r = r} gives =
+      subst (λ l. WereRead rows l after.rows) (append_assoc past h.items (r ∷ [])) (read-more rows j.rows.rows after.rows (past ++ h.items) r h.read gives.rows)
+
+  pub given_on : {after : Progress R} {r : LineByte} → GivesRecord j.rows r after → AreGiven (past ++ (h.items ++ r ∷ [])) after
+  given_on {after = after} {r = r} gives =
+      subst (λ l. AreGiven l after) (append_assoc past h.items (r ∷ [])) (given-more (past ++ h.items) j.rows after r h.are_given gives)
+
+  -- the rows that it speaks of, where it ends after that one
+  pub seen_on : {after : Progress R} {r : LineByte} → GivesRecord j.rows r after → Seen rows after.rows (past ++ (h.items ++ r ∷ [])) None
+  seen_on {after = after} {r = r} gives = seen rows after.rows (past ++ (h.items ++ r ∷ [])) None (read_on gives) (given_on gives).can_be
+
   -- after a row, after which the exchanges have a run and this line was written
-  unfoldable pub so_far-more : {k : Judging R} {new : Option (List ℕ)} {s : Step} (line : List ℕ) → Feeds j k s → HasRun hands (exchanges_after es s)
-      → KeepsEnds hands (exchanges_after es s) k.tracker
-      → IsExplained which hands (exchanges_after es s) (h.text ++ line) → Appends now new line → length (exchanges_after es s) ≤ length es + 1
-      → SoFar which hands rows k old new (exchanges_after es s)
-  so_far-more {k = k} {new = new} {s = s} line feeds run follows explained wrote few = record {
+  unfoldable pub so_far-more : {k : Judging R} {new : Option (List ℕ)} {r : LineByte} {s : Step} (line : List ℕ) → Feeds j k r s
+      → HasRun hands (exchanges_after es s) → KeepsEnds hands (exchanges_after es s) k.tracker
+      → IsExplained which hands (length past) (exchanges_after es s) (h.text ++ line) → Appends now new line
+      → length (exchanges_after es s) ≤ length es + 1 → SoFar which hands rows past k old new (exchanges_after es s)
+  so_far-more {k = k} {new = new} {r = r} {s = s} line feeds run follows explained wrote few = record {
     keeps = record {
-      items = h.items ++ feeds.line_byte ∷ [];
-      cut = rw feeds.takes.tail
-          (cut-step h.items es j.pairer.tail feeds.line_byte s h.cut feeds.takes.does);
+      items = h.items ++ r ∷ [];
+      cut = rw feeds.takes.tail (cut-step h.items es j.pairer.tail r s h.cut feeds.takes.does);
       run = run;
       text = h.text ++ line;
       explained = explained;
@@ -144,49 +168,56 @@ module _ {R : Type 0} {which : View} {hands : Hands} {rows : Option Rows} {j : J
     is_reading = feeds.gives.is_reading;
     no_reason = feeds.takes.reason;
     in_order = λ x e. later feeds.gives feeds.takes x e;
-    read = read-more rows j.rows.rows k.rows.rows h.items feeds.line_byte h.read feeds.gives.rows;
-    are_given = given-more h.items j.rows k.rows feeds.line_byte h.are_given feeds.gives;
+    read = read_on feeds.gives;
+    are_given = given_on feeds.gives;
   }
 
   -- one that ends no exchange
-  pub so_far-open : {k : Judging R} → Waits j k → SoFar which hands rows k old now es
-  so_far-open {k = k} w = by w.step w.feeds w.is_open
-    where
-      by : (s : Step) → Feeds j k s → IsOpen s → SoFar which hands rows k old now es
-      by (Step.Exchange e) feeds is_open = absurd is_open
-      by s feeds is_open = so_far-more [] feeds h.run (rw w.same_tracker h.follows) (rw append-nil h.explained) (Appends-nil now) (omega arith)
+  so_far-by : {k : Judging R} {r : LineByte} (s : Step) → Feeds j k r s → IsOpen s → k.tracker ≡ j.tracker → (f : SoFar which hands rows past k old now es)
+      × (f.items ≡ h.items ++ r ∷ [])
+  unfolding so_far-more
+  so_far-by (Step.Exchange e) feeds is_open same = absurd is_open
+  so_far-by s feeds is_open same =
+      (so_far-more [] feeds h.run (rw same h.follows) (rw append-nil h.explained) (Appends-nil now) (omega arith), refl)
+
+  pub so_far-open : {k : Judging R} {r : LineByte} → Waits j k r → SoFar which hands rows past k old now es
+  so_far-open w = (so_far-by w.step w.feeds w.is_open w.same_tracker).0
+
+  pub so_far-open_items : {k : Judging R} {r : LineByte} (w : Waits j k r) → (so_far-open w).items ≡ h.items ++ r ∷ []
+  unfolding so_far-open
+  so_far-open_items w = (so_far-by w.step w.feeds w.is_open w.same_tracker).1
 
   -- the tracker has observed one exchange more
   pub observed_more : {k : Tracked} {e : Exchange} {b : Bool} → Observes j.tracker k e b → KeepsEnds hands (es ++ e ∷ []) k
   observed_more {k = k} {e = e} o = follows-more hands es e j.tracker k h.follows o.reached o.hands
 
   -- one that ends an exchange, which the tracker has seen and whose line was written
-  unfoldable pub so_far-exchange : {k : Judging R} {new : Option (List ℕ)} {e : Exchange} (line : List ℕ) → Feeds j k (Step.Exchange e)
+  unfoldable pub so_far-exchange : {k : Judging R} {new : Option (List ℕ)} {r : LineByte} {e : Exchange} (line : List ℕ) → Feeds j k r (Step.Exchange e)
       → Observes j.tracker k.tracker e true
-      → IsLineOf which hands k.rows.given e (Possible k.tracker.states) line → Appends now new line → SoFar which hands rows k old new (es ++ e ∷ [])
-  so_far-exchange {k = k} {e = e} line feeds observes is wrote =
+      → IsLineOf which hands k.rows.given e (Possible k.tracker.states) line → Appends now new line → SoFar which hands rows past k old new (es ++ e ∷ [])
+  so_far-exchange {k = k} {r = r} {e = e} line feeds observes is wrote =
       let follows = observed_more observes in
-      let cut = cut-step h.items es j.pairer.tail feeds.line_byte (Step.Exchange e) h.cut feeds.takes.does in
-      let number : k.rows.given ≡ total (es ++ e ∷ []) = omega
-      (arith, length_push h.items feeds.line_byte, cut_len (h.items ++ feeds.line_byte ∷ []) (es ++ e ∷ []) [] cut) in
+      let cut = cut-step h.items es j.pairer.tail r (Step.Exchange e) h.cut feeds.takes.does in
+      let number : k.rows.given ≡ length past + records_in (es ++ e ∷ []) = omega
+      (arith, length-append past (h.items ++ r ∷ []), cut_len (h.items ++ r ∷ []) (es ++ e ∷ []) [] cut, given_on feeds.gives) in
       let end = observes.remains.0 refl in
       so_far-more line feeds ((some_end hands (es ++ e ∷ [])).0 (end.0, (follows.states end.0).0 end.1)) follows
-      (explained_more which hands es e k.rows.given h.text line k.tracker follows h.explained is number) wrote
+      (explained_more which hands (length past) es e k.rows.given h.text line k.tracker follows h.explained is number) wrote
       (omega (arith, length_push es e))
 
-  so_far-exchange_items : {k : Judging R} (new : Option (List ℕ)) {e : Exchange} (line : List ℕ) (feeds : Feeds j k (Step.Exchange e))
+  pub so_far-exchange_items : {k : Judging R} (new : Option (List ℕ)) {r : LineByte} {e : Exchange} (line : List ℕ) (feeds : Feeds j k r (Step.Exchange e))
       (observes : Observes j.tracker k.tracker e true)
       (is : IsLineOf which hands k.rows.given e (Possible k.tracker.states) line) (wrote : Appends now new line)
-      → (so_far-exchange {new = new} line feeds observes is wrote).items ≡ h.items ++ feeds.line_byte ∷ []
+      → (so_far-exchange {new = new} line feeds observes is wrote).items ≡ h.items ++ r ∷ []
   unfolding so_far-exchange so_far-more
   so_far-exchange_items new line feeds observes is wrote = refl
 
   -- so its last record's time is that at which the exchanges end
-  pub exchange_ended : {k : Judging R} (new : Option (List ℕ)) {e : Exchange} (line : List ℕ) (feeds : Feeds j k (Step.Exchange e))
+  pub exchange_ended : {k : Judging R} (new : Option (List ℕ)) {r : LineByte} {e : Exchange} (line : List ℕ) (feeds : Feeds j k r (Step.Exchange e))
       (observes : Observes j.tracker k.tracker e true)
       (is : IsLineOf which hands k.rows.given e (Possible k.tracker.states) line) (wrote : Appends now new line)
       → IsEnd (so_far-exchange {new = new} line feeds observes is wrote).items (es ++ e ∷ []) k.pairer.last_time
-  exchange_ended {k = k} new {e = e} line feeds observes is wrote =
+  exchange_ended {k = k} new {r = r} {e = e} line feeds observes is wrote =
       ends-more (so_far-exchange {new = new} line feeds observes is wrote).items es e k.pairer.last_time
       (feeds.takes.last_time ∙ ap Some (sym (ap last_time (so_far-exchange_items new line feeds observes is wrote)
-      ∙ last_time-append h.items (feeds.line_byte ∷ []) (omega arith))))
+      ∙ last_time-append h.items (r ∷ []) (omega arith))))

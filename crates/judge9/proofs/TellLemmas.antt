@@ -43,7 +43,7 @@ refusal_cases P k e whole memory = whole (λ same. cc)
 
 -- what is told after these records, of these rows
 unfoldable pub told_after : {which : View} {hands : Hands} {es : List Exchange} {tail items : List LineByte} {rows left : Option Rows}
-    {fault : Option CaptureError} {old new : Option (List ℕ)} (keeps : Keeps which hands es tail) (s : Seen rows left items fault)
+    {fault : Option CaptureError} {old new : Option (List ℕ)} (keeps : Keeps which hands [] es tail) (s : Seen rows left items fault)
     (r : Result Verdict JudgeError)
     → IsStartOf keeps.items s.all.records → IfSome (answer_of r) (IsTheAnswer hands s.all) → Written hands s.all keeps.items keeps.text r old new
     → Told which hands rows r old new
@@ -67,12 +67,12 @@ told_after {es = es} {tail = tail} keeps s r start answer written = record {
 pub told-nothing : (which : View) (hands : Hands) (rows : Option Rows) (old : Option (List ℕ)) → Told which hands rows (Err JudgeError.OutOfMemory) old old
 told-nothing which hands rows old =
     let s = seen rows rows [] None (unread rows) no_rows-can_be in
-    told_after (keeps-none which hands refl) s (Err JudgeError.OutOfMemory) s.start tt (Appends-nil old)
+    told_after (keeps-none which hands [] refl) s (Err JudgeError.OutOfMemory) s.start tt (Appends-nil old)
 
 -- ---- what a judging can bring, whatever the reader tells of its bytes
 
 -- the records of a cut, of which each exchange has 6 to 36
-cut_counts : (p : List LineByte) (es : List Exchange) (t : List LineByte) → Cut p es t
+pub cut_counts : (p : List LineByte) (es : List Exchange) (t : List LineByte) → Cut p es t
     → (length es * 6 + length t ≤ length p) × (length p ≤ length es * 36 + length t)
 cut_counts p [] t h = (omega (arith, ap length h.0), omega (arith, ap length h.0))
 cut_counts p (e ∷ es) t h =
@@ -97,8 +97,35 @@ judges-told {rows = rows} now line r told can puts = record {
   can_be = can;
 }
 
+-- ---- what a record breaks
+
+module _ {R : Type 0} {which : View} {hands : Hands} {rows : Option Rows} {past : List LineByte} {j : Judging R} {old now : Option (List ℕ)}
+    {es : List Exchange} (h : SoFar which hands rows past j old now es) where
+  -- of pairing
+  pub breaks-pairing : {k : Judging R} {next : LineByte} {reason : Reason} → Spoils j k reason next → Breaks hands h.items next reason
+  breaks-pairing {next = next} {reason = reason} spoils =
+      tail_breaks hands h.items es j.pairer.tail next reason h.cut h.run
+      (λ kept. spoils.refuses.not_kept (tail_by_kept h.items es j.pairer.tail (next ∷ []) h.cut kept)) spoils.refuses.is_reason
+
+  -- or it ends an exchange with which no run remains
+  pub none_observed : {k : Tracked} {e : Exchange} → Observes j.tracker k e false → ¬ HasRun hands (es ++ e ∷ [])
+  none_observed {e = e} o run =
+      let end = (some_end hands (es ++ e ∷ [])).1 run in
+      false≢true (o.remains.1 (end.0, ((observed_more h o).states end.0).1 end.1))
+
+  pub breaks-run : {k : Judging R} {r : LineByte} {e : Exchange} (feeds : Feeds j k r (Step.Exchange e)) → Observes j.tracker k.tracker e false
+      → Breaks hands h.items r Reason.NoRun
+  breaks-run {r = r} {e = e} feeds observes =
+      let cut = cut-exchange h.items es j.pairer.tail r e h.cut feeds.takes.does in
+      let first = no_run_first hands es j.pairer.tail r e (exchange_less j.pairer.tail r e feeds.takes.does).1 feeds.takes.does
+      (none_observed observes) in
+      let not_ok : ¬ IsOk hands (h.items ++ r ∷ []) =
+      λ ok. none_observed observes (subst (HasRun hands) (cut_once (h.items ++ r ∷ []) ok.exchanges (es ++ e ∷ []) ok.tail [] ok.cut cut).0
+      ok.run) in
+      record { exchanges = es; tail = j.pairer.tail; cut = h.cut; run = h.run; not_ok = not_ok; is_reason = first }
+
 module _ {R : Type 0} {which : View} {hands : Hands} {rows : Option Rows} {j : Judging R} {old now : Option (List ℕ)} {es : List Exchange}
-    (h : SoFar which hands rows j old now es) where
+    (h : SoFar which hands rows [] j old now es) where
   -- memory was refused
   pub judges-memory : {new : Option (List ℕ)} → Appends now new [] → Judges which hands rows (Err JudgeError.OutOfMemory) old new
   judges-memory {new = new} none =
@@ -175,29 +202,6 @@ module _ {R : Type 0} {which : View} {hands : Hands} {rows : Option Rows} {j : J
       (record { counted = omega arith; few = gives.within }) same puts in
       (both.0, rw both.1 s.start)
 
-  -- of pairing
-  pub breaks-pairing : {k : Judging R} {next : LineByte} {reason : Reason} → Spoils j k reason next → Breaks hands h.items next reason
-  breaks-pairing {next = next} {reason = reason} spoils =
-      tail_breaks hands h.items es j.pairer.tail next reason h.cut h.run
-      (λ kept. spoils.refuses.not_kept (tail_by_kept h.items es j.pairer.tail (next ∷ []) h.cut kept)) spoils.refuses.is_reason
-
-  -- or it ends an exchange with which no run remains
-  pub none_observed : {k : Tracked} {e : Exchange} → Observes j.tracker k e false → ¬ HasRun hands (es ++ e ∷ [])
-  none_observed {e = e} o run =
-      let end = (some_end hands (es ++ e ∷ [])).1 run in
-      false≢true (o.remains.1 (end.0, ((observed_more h o).states end.0).1 end.1))
-
-  pub breaks-run : {k : Judging R} {e : Exchange} (feeds : Feeds j k (Step.Exchange e)) → Observes j.tracker k.tracker e false
-      → Breaks hands h.items feeds.line_byte Reason.NoRun
-  breaks-run {e = e} feeds observes =
-      let cut = cut-exchange h.items es j.pairer.tail feeds.line_byte e h.cut feeds.takes.does in
-      let first = no_run_first hands es j.pairer.tail feeds.line_byte e (exchange_less j.pairer.tail feeds.line_byte e feeds.takes.does).1 feeds.takes.does
-      (none_observed observes) in
-      let not_ok : ¬ IsOk hands (h.items ++ feeds.line_byte ∷ []) =
-      λ ok. none_observed observes (subst (HasRun hands) (cut_once (h.items ++ feeds.line_byte ∷ []) ok.exchanges (es ++ e ∷ []) ok.tail [] ok.cut cut).0
-      ok.run) in
-      record { exchanges = es; tail = j.pairer.tail; cut = h.cut; run = h.run; not_ok = not_ok; is_reason = first }
-
   -- the capture is refused
   pub judges-refusal : {given : Progress R} {e : CaptureError} {x : JudgeError} → GivesRefusal j.rows e given → x ≡ refusal_of e
       → Judges which hands rows (Err x) old now
@@ -248,7 +252,7 @@ module _ {R : Type 0} {which : View} {hands : Hands} {rows : Option Rows} {j : J
   unfolding so_far-exchange so_far-more
   judges-explained (JudgeError.Capture c) t line = absurd line.puts
   judges-explained {new = new} JudgeError.Write t line =
-      let far = so_far-exchange h line.line t.0 t.1 line.is_line (appended now line.line) in
+      let far = so_far-exchange h line.line t.1.0 t.1.1 line.is_line (appended now line.line) in
       let s = seen_now far in
       judges-told now line.line (Err JudgeError.Write) (told_after far.keeps s (Err JudgeError.Write) s.start tt
       (inl (part_after old now new h.text line.line h.wrote line.puts))) tt line.puts

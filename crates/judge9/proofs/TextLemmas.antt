@@ -26,8 +26,8 @@ lines_start h before at (e ∷ es) more text whole run a b =
       next.2,
     )
 
-explained_start : (which : View) (h : Hands) (es more : List Exchange) (text whole : List ℕ) → HasRun h (es ++ more) → IsExplained which h es text
-    → IsExplained which h (es ++ more) whole → (rest : List ℕ) × (whole ≡ text ++ rest) × (more ≡ [] → rest ≡ [])
+explained_start : (which : View) (h : Hands) (es more : List Exchange) (text whole : List ℕ) → HasRun h (es ++ more) → IsExplained which h 0 es text
+    → IsExplained which h 0 (es ++ more) whole → (rest : List ℕ) × (whole ≡ text ++ rest) × (more ≡ [] → rest ≡ [])
 explained_start View.Verdict h es more text whole run a b = ([], b ∙ sym a ∙ sym (append-nil text), λ _. refl)
 explained_start View.Explain h es more text whole run a b = lines_start h [] 0 es more text whole run a b
 

@@ -1,5 +1,5 @@
 -- What is kept at each end of a judging that keeps its trail.
-use Rattle.judge9.proofs.Words.{EndedExchange, IsBefore, IsBeforeAll, IsEnd, IsFresh, subst, sym, ℕ}
+use Rattle.judge9.proofs.Words.{Spoils, EndedExchange, IsBefore, IsBeforeAll, IsEnd, IsFresh, subst, sym, ℕ}
 use Rattle.judge9.proofs.Words.{[], ap, append_assoc, arith, BreaksAtLast, Cut, Ending, Err, Exchange, Hands, inl, inr, IsBreakAfter, IsErrAnd, IsTrail}
 use Rattle.judge9.proofs.Words.{JudgeError, Judging, KeepsTrail, length, length_push, LineByte, List, None, Ok, Option, Reason, refl, Result, Rows, some_end}
 use Rattle.judge9.proofs.Words.{take, take-append_seam, Tracked, Turn, Turned, Verdict, View, ◌++◌, ◌∙◌, ◌∷◌, ◌≡◌, ◌≢◌}
@@ -13,7 +13,7 @@ use Rattle.judge9.proofs.DayLemmas.{cut_in_day}
 
 -- before the first exchange the tracker keeps the states before a capture
 pub before_all : {R : Type 0} {hands : Hands} {j : Judging R} → IsFresh hands j → IsBeforeAll hands j.tracker
-before_all fresh = record { states = fresh.states; hands = fresh.hands }
+before_all fresh = record { states = fresh.begins.states; hands = fresh.begins.hands }
 
 -- with what is told of the exchange before a break
 pub broken_with : (records : List LineByte) (at : ℕ) (left items : List LineByte) (r : LineByte) (es : List Exchange) (end_us : Option ℕ)
@@ -38,7 +38,7 @@ broken_with records at left items r es end_us told same ended tells =
 
 -- ---- what is kept at each end
 
-module _ {R : Type 0} {hands : Hands} {rows : Option Rows} {j : Judging R} {es : List Exchange} (h : SoFar View.Verdict hands rows j None None es) where
+module _ {R : Type 0} {hands : Hands} {rows : Option Rows} {j : Judging R} {es : List Exchange} (h : SoFar View.Verdict hands rows [] j None None es) where
   -- memory was refused
   pub keep-memory : {left : List LineByte} {fs : List Exchange} {us : List Tracked} {u : Tracked} (r : Result Ending JudgeError)
       → IsErrAnd r (λ x. x ≡ JudgeError.OutOfMemory) → KeepsTrail hands rows r left fs us u
@@ -57,7 +57,8 @@ module _ {R : Type 0} {hands : Hands} {rows : Option Rows} {j : Judging R} {es :
   pub keep-break : {k : Judging R} {us : List Tracked} {u : Tracked} {reason : Reason} {next : LineByte} {end_us : Option ℕ}
       → (j.pairer.tail ≡ [] → IsEnd h.items es end_us) → Turned j (Ok (Turn.Break reason next)) k
       → KeepsTrail hands rows (Ok (Ending.Break k.rows.given reason next end_us)) k.pairer.tail es us u
-  keep-break {k = k} {reason = reason} {next = next} ended spoils =
+  keep-break {k = k} {reason = reason} {next = next} ended (given, (same, broken)) =
+      let spoils : Spoils j k reason next = rw same broken in
       let both = judges-no h {new = None} (Ok (Verdict.No k.rows.given reason)) spoils.gives (breaks-pairing h spoils) refl tt in
       let is_break : IsBreakAfter both.0.told.rows.records k.rows.given k.pairer.tail next =
       record {
@@ -77,13 +78,13 @@ module _ {R : Type 0} {hands : Hands} {rows : Option Rows} {j : Judging R} {es :
       }
 
   -- no run remains
-  pub keep-no_run : {k : Judging R} {us : List Tracked} {u : Tracked} {e : Exchange} → Turned j (Ok (Turn.NoRun e)) k
+  pub keep-no_run : {k : Judging R} {us : List Tracked} {u : Tracked} {e : Exchange} {last : LineByte} → Turned j (Ok (Turn.NoRun e last)) k
       → KeepsTrail hands rows (Ok (Ending.NoRun k.rows.given)) k.pairer.tail (es ++ e ∷ []) us u
-  keep-no_run {k = k} {e = e} (feeds, observes) =
-      let read : List LineByte = h.items ++ feeds.line_byte ∷ [] in
+  keep-no_run {k = k} {e = e} (r, (same, feeds, observes)) =
+      let read : List LineByte = h.items ++ r ∷ [] in
       let both = judges-no h {new = None} (Ok (Verdict.No k.rows.given Reason.NoRun)) feeds.gives (breaks-run h feeds observes) refl tt in
-      let cut : Cut read (es ++ e ∷ []) [] = cut-exchange h.items es j.pairer.tail feeds.line_byte e h.cut feeds.takes.does in
-      let number : k.rows.given ≡ length read = omega (arith, length_push h.items feeds.line_byte) in
+      let cut : Cut read (es ++ e ∷ []) [] = cut-exchange h.items es j.pairer.tail r e h.cut feeds.takes.does in
+      let number : k.rows.given ≡ length read = omega (arith, length_push h.items r) in
       let up_to : take k.rows.given both.0.told.rows.records ≡ read =
       rw both.1.1 (ap (λ n. take n (read ++ both.1.0)) number ∙ take-append_seam read both.1.0) in
       let breaks : BreaksAtLast hands (es ++ e ∷ []) = record { before = es; last = e; is_split = refl; has_run = h.run; has_none = none_observed h observes }

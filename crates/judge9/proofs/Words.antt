@@ -40,14 +40,18 @@ pub use Rattle.judge9.specs.Report.{AreLines, explained_of, IsExplained, IsText,
 pub use Rattle.judge9.specs.Verdict.{Applies, AreCounts, Breaks, CanBeVerdict, IsFirstBreak, IsOk}
 pub use Rattle.judge9.specs.WhyVerdict.{CouldBe, CouldShow}
 pub use Rattle.judge9.specs.Working.{[], All, Appends, AppendsPart, AreReached, Bool, BreaksAtLast, CanBeResult, CaptureError, CaptureKind, Cut, Ending, Ends, Err, Exchange}
-pub use Rattle.judge9.specs.Working.{Exchanges, Explains, false, GivesRecord, GivesRefusal, Hands, IfErr, IfOk, IfSome, IsBreakAfter, IsKnowledge, IsLineOf, IsSame}
+pub use Rattle.judge9.specs.Working.{Exchanges, Explains, false, GivesEnd, GivesRecord, GivesRefusal, Hands, IfErr, IfOk, IfSome, IsBreakAfter, IsKnowledge, IsLineOf, IsSame}
 pub use Rattle.judge9.specs.Working.{JudgeError, Judges, Judging, Knowledge, last_state, length, line_of_exchange, LineByte, List, None, Ok, Option, Possible, Puts, Reason}
 pub use Rattle.judge9.specs.Working.{refusal_of, Result, reverse, Rows, SetsInDay, slice_get, Some, Standing, State, Step, StoppedBefore, suc, take, Takes, Told, Tracked, true}
-pub use Rattle.judge9.specs.Working.{Verdict, View, zero, ℕ, ⊤}
+pub use Rattle.judge9.specs.Working.{IsTrue, Verdict, View, zero, ℕ, ⊤}
 pub use Rattle.block9.proofs.TailLemmas.{last_time-append}
 pub use Rattle.block9.specs.Line.{last_time}
 pub use Rattle.judge9.specs.Working.Trail.{Arrived, KeepsEnds, FollowsFrom, GoesBack, IsBeforeAll, IsEnd, IsTrail, KeepsTrail, Leads, LeadsFrom, stretch_length}
-pub use Rattle.judge9.specs.Working.Turn.{AreOpen, ComesTo, EndsRows, Feeds, IsFresh, IsObserved, IsOpen, Observes, Spoils, Turned, Waits}
+pub use Rattle.judge9.specs.Parts.{AreParts, AreTotals, BrokenPart, exchanges_of, from_command, IsPart, may_begin, number_of, Part, records_in, Rest, rest_after, takes_up_at}
+pub use Rattle.judge9.specs.Parts.{begins_next_part}
+pub use Rattle.judge9.specs.PartsReport.{AreTextsOf, InParts, IsRefusedAfter, IsTextOf, IsToTheEnd, ToldInParts, WrittenInParts}
+pub use Rattle.judge9.specs.Working.Parts.{BeginsWith, EndsPart, GivesAll, JudgesParts, last_of, GoesOn, NoneBegins, Resumes, PassesOver, ResumesAfter, TakesUp}
+pub use Rattle.judge9.specs.Working.Turn.{AreOpen, Begins, ComesTo, EndsRows, Feeds, IsFresh, IsObserved, IsOpen, IsTaken, Observes, Spoils, Turned, Waits}
 pub use Rattle.judge9.specs.declared.judging.Turn.TheVariants.{the_data as Turn}
 pub use Rattle.std.proofs.Common.{ap, arith, drop, get_or, if◌then◌else◌, inl, inr, length-append, OnOk, option_map, refl, slice_range, subst, sym, take-add}
 pub use Rattle.std.proofs.Common.{◌*◌, ◌+◌, ◌++◌, ◌-◌, ◌/◌, ◌<◌, ◌^◌, ◌↔◌, ◌∙◌, ◌∷◌, ◌≡◌, ◌≢◌, ◌≤◌, ◌⊎◌}

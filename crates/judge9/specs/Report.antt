@@ -35,10 +35,10 @@ AreLines hands before at (e ∷ es) text =
     × AreLines hands (before ++ e ∷ []) (at + records_of e) es rest
     × (text ≡ line_of_exchange hands (at + records_of e) e known ++ rest)
 
--- what a view shows of the exchanges of a capture, before the verdict
-abbrev pub IsExplained : View → Hands → List Exchange → List ℕ → Type 0
-IsExplained view.Verdict hands exchanges text = text ≡ []
-IsExplained view.Explain hands exchanges text = AreLines hands [] 0 exchanges text
+-- what a view shows of exchanges, before the verdict; so many records of the capture come before them
+abbrev pub IsExplained : View → Hands → ℕ → List Exchange → List ℕ → Type 0
+IsExplained view.Verdict hands past exchanges text = text ≡ []
+IsExplained view.Explain hands past exchanges text = AreLines hands [] past exchanges text
 
 -- the records whose exchanges a report explains: those before the break, and all where there is none
 abbrev pub explained_of : Rows → Answer → List LineByte
@@ -57,7 +57,7 @@ pub record IsText (which : View) (hands : Hands) (rows : Rows) (answer : Answer)
   pub tail : List LineByte
   pub cut : Cut (explained_of rows answer) exchanges tail
   pub text : List ℕ
-  pub explained : IsExplained which hands exchanges text
+  pub explained : IsExplained which hands 0 exchanges text
   pub is_whole : whole ≡ text ++ last_line answer
 
 -- a verdict for which these records are the ones that keep the rules: all of them, or those before the break
@@ -91,5 +91,5 @@ pub record Told (which : View) (hands : Hands) (known : Option Rows) (result : R
   pub cut : Cut items exchanges tail
   pub run : HasRun hands exchanges
   pub text : List ℕ
-  pub explained : IsExplained which hands exchanges text
+  pub explained : IsExplained which hands 0 exchanges text
   pub written : Written hands rows items text result old new

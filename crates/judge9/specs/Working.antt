@@ -1,5 +1,6 @@
 -- What the clauses of private functions cite, and the names from elsewhere that its parts need, passed on from here. No public
 -- contract reaches it, so no reader has to believe it.
+pub mod Parts
 pub mod Trail
 pub mod Turn
 pub use Rattle.block9.specs.Exchange.{Cut}
@@ -7,7 +8,7 @@ pub use Rattle.block9.specs.Pairer.{Refuses, Takes}
 pub use Rattle.block9.specs.declared.pairer.Exchange.{Exchange}
 pub use Rattle.block9.specs.declared.pairer.Step.TheVariants.{the_data as Step}
 pub use Rattle.block9.specs.declared.reason.Reason.TheVariants.{the_data as Reason}
-pub use Rattle.capture9.specs.Records.{GivesEnd, GivesRecord, GivesRefusal}
+pub use Rattle.capture9.specs.Records.{GivesEnd, GivesRecord, GivesRefusal, Progress}
 pub use Rattle.capture9.specs.Rows.{Rows}
 pub use Rattle.capture9.specs.declared.error.CaptureError.{CaptureError}
 pub use Rattle.capture9.specs.declared.error.CaptureKind.TheVariants.{the_data as CaptureKind}

@@ -1,17 +1,22 @@
 //! How far the judging of a capture has come, and what it comes to next: rows are read and their records fed to the pairer up to
 //! the one that makes an exchange complete, which the tracker then observes. Whoever judges a capture asks for what is next, and
-//! does its own with what that is.
-ghost use Rattle.std.specs.Prelude.{◌≡◌, ◌≤◌, IfErr, IfOk, None, option_map};
+//! does its own with what that is; after a break it may take up again, where the next part of the capture begins.
+ghost use Rattle.std.specs.Prelude.{◌≡◌, ◌≤◌, IfErr, IfOk, None, OnOk, option_map};
 ghost use Rattle.std.specs.Option.{ForSome};
+ghost use Rattle.capture9.specs.Records.{GivesRecord, Progress};
 ghost use Rattle.capture9.specs.Rows.{rows_of};
-ghost use Rattle.judge9.specs.Working.Turn.{ComesTo, IsFresh, IsObserved};
+ghost use Rattle.deck9.specs.declared.state.Hands.{Hands as AHands};
+ghost use Rattle.judge9.specs.Working.Parts.{BeginsWith, TakesUp};
+ghost use Rattle.judge9.specs.Working.Turn.{Begins, ComesTo, IsFresh, IsObserved, IsTaken};
 
+use crate::parts::{begins_next_part, pass_over};
 use block9::{Exchange, Pairer, Reason, Step};
 use capture9::{LineByte, Records};
 use deck9::Hands;
 use sets25::SpanSet;
 use std::alloc::{AllocError, Global};
 use std::io::Read;
+use std::mem::replace;
 use track9::Tracker;
 use verdict9::JudgeError;
 
@@ -20,8 +25,8 @@ use verdict9::JudgeError;
 pub(crate) enum Turn {
     /// An exchange, whose reply some run of the deck gives after those before it.
     Exchange(Exchange),
-    /// An exchange, whose reply no run of the deck gives after those before it.
-    NoRun(Exchange),
+    /// An exchange, whose reply no run of the deck gives after those before it, and its last record.
+    NoRun(Exchange, LineByte),
     /// A record that breaks this rule of blocks, pairing or timing.
     Break(Reason, LineByte),
     /// The end of the rows.
@@ -68,26 +73,89 @@ impl<R: Read + Drop> Judging<R> {
                 Ok(None) => return Ok(Turn::End),
                 Err(error) => return Err(JudgeError::from(error)),
             };
-            match self.pairer.feed(line_byte) {
-                Ok(Step::Waiting) => {}
-                Ok(Step::Command) => {}
-                Ok(Step::Exchange(exchange)) => return self.observe(exchange),
-                Err(reason) => return Ok(Turn::Break(reason, line_byte)),
+            match self.take(line_byte) {
+                Ok(None) => {}
+                Ok(Some(turn)) => return Ok(turn),
+                Err(error) => return Err(error),
             }
         }
     }
 
-    /// Whether a state of the deck remains with this exchange.
+    /// What the record that was read last comes to: nothing yet where it leaves its block or its exchange open.
     #[inline(always)] // as above
-    fn observe(&mut self, exchange: Exchange) -> Result<Turn, JudgeError>
+    fn take(&mut self, line_byte: LineByte) -> Result<Option<Turn>, JudgeError>
+        requires no_reason { self.old.pairer.reason ≡ None }
+        requires in_order { ForSome self.old.pairer.last_time (λ time. time ≤ line_byte.time_us) }
+        ensures { (before : Progress R) → GivesRecord before line_byte self.old.rows
+            → IsTaken (record { rows = before; pairer = self.old.pairer; tracker = self.old.tracker }) line_byte result self.new }
+    {
+        match self.pairer.feed(line_byte) {
+            Ok(Step::Waiting) => Ok(None),
+            Ok(Step::Command) => Ok(None),
+            Ok(Step::Exchange(exchange)) => self.observe(exchange, line_byte),
+            Err(reason) => Ok(Some(Turn::Break(reason, line_byte))),
+        }
+    }
+
+    /// Whether a state of the deck remains with this exchange, which ends with this record.
+    #[inline(always)] // as above
+    fn observe(&mut self, exchange: Exchange, last: LineByte) -> Result<Option<Turn>, JudgeError>
         ensures rows { self.new.rows ≡ self.old.rows }
         ensures pairer { self.new.pairer ≡ self.old.pairer }
-        ensures observed { IsObserved self.old.tracker exchange result self.new.tracker }
+        ensures observed { IsObserved self.old.tracker exchange last result self.new.tracker }
     {
         match self.tracker.observe(&exchange.command, &exchange.reply) {
-            Ok(true) => Ok(Turn::Exchange(exchange)),
-            Ok(false) => Ok(Turn::NoRun(exchange)),
+            Ok(true) => Ok(Some(Turn::Exchange(exchange))),
+            Ok(false) => Ok(Some(Turn::NoRun(exchange, last))),
             Err(_) => Err(JudgeError::OutOfMemory),
+        }
+    }
+
+    /// Takes up where the next part of the capture begins, after `last`, the record that was read last, broke a rule for this
+    /// reason. What it comes to there is as for `next`, and so are the errors.
+    pub(crate) fn take_up(
+        &mut self,
+        alloc: Global,
+        hands: Hands,
+        reason: Reason,
+        last: LineByte,
+    ) -> Result<Turn, JudgeError>
+        requires { (before : Progress R) × GivesRecord before last self.old.rows }
+        ensures { TakesUp hands reason last self.old result self.new }
+    {
+        let Ok(()) = self.forget(alloc, hands) else {
+            return Err(JudgeError::OutOfMemory);
+        };
+        if begins_next_part(reason, last) {
+            return self.begin(last);
+        }
+        match pass_over(&mut self.rows, last)? {
+            Some(first) => self.begin(first),
+            None => Ok(Turn::End),
+        }
+    }
+
+    /// Nothing is open from here on, and nothing is known of the deck. An error comes where memory is refused.
+    fn forget(&mut self, alloc: Global, hands: Hands) -> Result<(), AllocError>
+        ensures rows { self.new.rows ≡ self.old.rows }
+        ensures begins { OnOk result (Begins hands self.new) }
+    {
+        let tracker = Tracker::new(alloc, hands)?;
+        drop(replace(&mut self.tracker, tracker));
+        self.pairer = Pairer::new();
+        Ok(())
+    }
+
+    /// What the first record of a part comes to, the one that was read last, with those after it.
+    fn begin(&mut self, first: LineByte) -> Result<Turn, JudgeError>
+        requires begins { (hands : AHands) × Begins hands self.old }
+        requires read { (before : Progress R) × GivesRecord before first self.old.rows }
+        ensures { (before : Progress R) → GivesRecord before first self.old.rows
+            → BeginsWith (record { rows = before; pairer = self.old.pairer; tracker = self.old.tracker }) first result self.new }
+    {
+        match self.take(first)? {
+            Some(turn) => Ok(turn),
+            None => self.next(),
         }
     }
 }

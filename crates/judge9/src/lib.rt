@@ -15,6 +15,8 @@ mod judging;
 mod kept_by_hand;
 pub mod laws;
 mod panel;
+mod parts;
+mod parts_judging;
 mod run_judging;
 mod trail;
 mod trail_judging;
@@ -22,7 +24,8 @@ mod verdict_judging;
 mod why_judging;
 
 pub use deck9::is_run;
+pub use parts_judging::judge_parts;
 pub use run_judging::judge_with_run;
 pub use verdict_judging::judge;
-pub use verdict9::{JudgeError, RunVerdict, Verdict, View, WhyVerdict};
+pub use verdict9::{JudgeError, RunVerdict, Totals, Verdict, View, WhyVerdict};
 pub use why_judging::judge_with_contradiction;

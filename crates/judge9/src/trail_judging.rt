@@ -31,7 +31,7 @@ pub(crate) fn keep_trail<R: Read + Drop>(
                 trail.mark(&judging.tracker)?;
                 end_us = judging.pairer.last_time();
             }
-            Turn::NoRun(exchange) => {
+            Turn::NoRun(exchange, _) => {
                 trail.push(exchange)?;
                 return Ok(Ending::NoRun {
                     at: judging.rows.given(),

@@ -117,7 +117,7 @@ fn judge_rows<R: Read + Drop, W: Write>(
                     &judging.tracker,
                 )?;
             }
-            Turn::NoRun(_) => return tell_no(line, writer, judging.rows.given(), Reason::NoRun),
+            Turn::NoRun(..) => return tell_no(line, writer, judging.rows.given(), Reason::NoRun),
             Turn::Break(reason, _) => return tell_no(line, writer, judging.rows.given(), reason),
             Turn::End => break 'rows,
         }
@@ -154,7 +154,7 @@ fn tell<W: Write>(
 }
 
 /// Writes the line of a no at the record of this number and answers it, as `tell` does.
-fn tell_no<W: Write>(
+pub(crate) fn tell_no<W: Write>(
     line: &mut Vec<u8>,
     writer: &mut W,
     at: u32,
@@ -168,7 +168,7 @@ fn tell_no<W: Write>(
 
 /// Writes what the view shows of an exchange, whose reply ends with the record of this number, after the tracker
 /// observed it: for a verdict alone nothing, else its line.
-fn explain<W: Write>(
+pub(crate) fn explain<W: Write>(
     line: &mut Vec<u8>,
     writer: &mut W,
     view: View,

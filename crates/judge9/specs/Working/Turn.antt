@@ -1,21 +1,24 @@
 -- What a judging comes to next: what rows do to those that are still to come, to the pairer and to the tracker.
 use Rattle.std.specs.Prelude.{◌↔◌, ◌≡◌, ◌⊎◌}
 use Rattle.judge9.specs.Working.{[], AreReached, Bool, CaptureError, Err, Exchange, Exchanges, false, GivesEnd, GivesRecord, GivesRefusal, Hands, IsFirst, IsTrue, JudgeError}
-use Rattle.judge9.specs.Working.{Judging, LineByte, None, Ok, Possible, Reason, refusal_of, Refuses, Result, Standing, State, Step, suc, Takes, Tracked, true, zero, ℕ, ⊤}
+use Rattle.judge9.specs.Working.{Judging, LineByte, None, Ok, Option, Possible, Reason, refusal_of, Refuses, Result, Some, Standing, State, Step, suc, Takes, Tracked, true, zero, ℕ, ⊤}
 use Rattle.judge9.specs.declared.judging.Turn.TheVariants.{the_data as Turn}
+
+-- a part begins: nothing is open, and nothing is known of the deck
+pub record Begins {R : Type 0} (h : Hands) (j : Judging R) : Type 0 where
+  pub fed_nothing : j.pairer ≡ record { tail = []; last_time = None; reason = None }
+  pub states : (s : State) → Possible j.tracker.states s ↔ IsFirst h s
+  pub hands : j.tracker.hands ≡ h
 
 -- nothing was judged yet
 pub record IsFresh {R : Type 0} (h : Hands) (j : Judging R) : Type 0 where
   pub none_given : j.rows.given ≡ 0
   pub no_time : j.rows.last_time ≡ 0
   pub is_reading : j.rows.standing ≡ Standing.Reading
-  pub fed_nothing : j.pairer ≡ record { tail = []; last_time = None; reason = None }
-  pub states : (s : State) → Possible j.tracker.states s ↔ IsFirst h s
-  pub hands : j.tracker.hands ≡ h
+  pub begins : Begins h j
 
--- a record was given, and the pairer took this step with it
-pub record Feeds {R : Type 0} (j k : Judging R) (s : Step) : Type 0 where
-  pub line_byte : LineByte
+-- this record was given, and the pairer took this step with it
+pub record Feeds {R : Type 0} (j k : Judging R) (line_byte : LineByte) (s : Step) : Type 0 where
   pub gives : GivesRecord j.rows line_byte k.rows
   pub takes : Takes j.pairer line_byte s k.pairer
 
@@ -37,13 +40,14 @@ pub record Observes (old new : Tracked) (e : Exchange) (b : Bool) : Type 0 where
   pub hands : new.hands ≡ old.hands
   pub remains : IsTrue b ↔ ((s : State) × Possible new.states s)
 
--- what the tracker makes of an exchange
-abbrev pub IsObserved : Tracked → Exchange → Result Turn JudgeError → Tracked → Type 0
-IsObserved old e (Ok (Turn.Exchange f)) new = (f ≡ e) × Observes old new e true
-IsObserved old e (Ok (Turn.NoRun f)) new = (f ≡ e) × Observes old new e false
-IsObserved old e (Ok (Turn.Break reason r)) new = ⊥
-IsObserved old e (Ok Turn.End) new = ⊥
-IsObserved old e (Err x) new = x ≡ JudgeError.OutOfMemory
+-- what the tracker makes of an exchange that ends with this record
+abbrev pub IsObserved : Tracked → Exchange → LineByte → Result (Option Turn) JudgeError → Tracked → Type 0
+IsObserved old e last (Ok (Some (Turn.Exchange f))) new = (f ≡ e) × Observes old new e true
+IsObserved old e last (Ok (Some (Turn.NoRun f r))) new = (f ≡ e) × (r ≡ last) × Observes old new e false
+IsObserved old e last (Ok (Some (Turn.Break reason r))) new = ⊥
+IsObserved old e last (Ok (Some Turn.End)) new = ⊥
+IsObserved old e last (Ok None) new = ⊥
+IsObserved old e last (Err x) new = x ≡ JudgeError.OutOfMemory
 
 -- there was no row
 pub record EndsRows {R : Type 0} (j k : Judging R) : Type 0 where
@@ -51,24 +55,31 @@ pub record EndsRows {R : Type 0} (j k : Judging R) : Type 0 where
   pub same_pairer : k.pairer ≡ j.pairer
   pub same_tracker : k.tracker ≡ j.tracker
 
--- a row was read whose record ends no exchange
-pub record Waits {R : Type 0} (j k : Judging R) : Type 0 where
+-- this record ends no exchange
+pub record Waits {R : Type 0} (j k : Judging R) (line_byte : LineByte) : Type 0 where
   pub step : Step
-  pub feeds : Feeds j k step
+  pub feeds : Feeds j k line_byte step
   pub is_open : IsOpen step
   pub same_tracker : k.tracker ≡ j.tracker
 
 -- this many rows were read, whose records end no exchange
 abbrev pub AreOpen : {R : Type 0} → ℕ → Judging R → Judging R → Type 0
 AreOpen zero j k = k ≡ j
-AreOpen {R} (suc n) j k = (mid : Judging R) × AreOpen n j mid × Waits mid k
+AreOpen {R} (suc n) j k = (mid : Judging R) × AreOpen n j mid × (r : LineByte) × Waits mid k r
+
+-- what a record that was given comes to
+abbrev pub IsTaken : {R : Type 0} → Judging R → LineByte → Result (Option Turn) JudgeError → Judging R → Type 0
+IsTaken j r (Ok None) k = Waits j k r
+IsTaken j r (Ok (Some (Turn.Exchange e))) k = Feeds j k r (Step.Exchange e) × Observes j.tracker k.tracker e true
+IsTaken j r (Ok (Some (Turn.NoRun e last))) k = (last ≡ r) × Feeds j k r (Step.Exchange e) × Observes j.tracker k.tracker e false
+IsTaken j r (Ok (Some (Turn.Break reason breaking))) k = (breaking ≡ r) × Spoils j k reason r
+IsTaken j r (Ok (Some Turn.End)) k = ⊥
+IsTaken j r (Err x) k = (x ≡ JudgeError.OutOfMemory) × GivesRecord j.rows r k.rows
 
 -- what the next row does
 abbrev pub Turned : {R : Type 0} → Judging R → Result Turn JudgeError → Judging R → Type 0
-Turned j (Ok (Turn.Exchange e)) k = Feeds j k (Step.Exchange e) × Observes j.tracker k.tracker e true
-Turned j (Ok (Turn.NoRun e)) k = Feeds j k (Step.Exchange e) × Observes j.tracker k.tracker e false
-Turned j (Ok (Turn.Break reason r)) k = Spoils j k reason r
 Turned j (Ok Turn.End) k = EndsRows j k
+Turned j (Ok turn) k = (r : LineByte) × IsTaken j r (Ok (Some turn)) k
 Turned j (Err x) k = (x ≡ JudgeError.OutOfMemory) ⊎ ((e : CaptureError) × GivesRefusal j.rows e k.rows × (x ≡ refusal_of e))
 
 -- rows were read whose records end no exchange, and then came this

@@ -36,7 +36,7 @@ mark-requires-in-Exchange g c =
     let pushed = c.in_ok-push-in-Exchange.ensures in
     comes c.rows.invariant.so_far (rw c.in-Exchange.is at c.in_ok-exchange.ensures) (λ front h t.
     let first = c.args.judging.now.tracker in
-    (first, pushed.trail first c.rows.invariant.trail, rw pushed.exchanges (follows-from _ first _ _ (before_all c.requires.fresh) (observed_more h t.1))))
+    (first, pushed.trail first c.rows.invariant.trail, rw pushed.exchanges (follows-from _ first _ _ (before_all c.requires.fresh) (observed_more h t.1.1))))
 
 pub rows-preserved : goal.rows-preserved
 rows-preserved g c =
@@ -45,13 +45,13 @@ rows-preserved g c =
     let first = c.args.judging.now.tracker in
     let same = marked.same ∙ pushed.exchanges in
     comes c.rows.invariant.so_far (rw c.in-Exchange.is at c.in_ok-exchange.ensures) (λ front h t.
-    let follows = follows-from _ _ _ _ (before_all c.requires.fresh) (observed_more h t.1) in
+    let follows = follows-from _ _ _ _ (before_all c.requires.fresh) (observed_more h t.1.1) in
     let trail = marked.trail first (pushed.trail _ c.rows.invariant.trail) (rw pushed.exchanges follows) in
     rw (same, c.last_time-end_us.ensures) (record {
-      so_far = so_far-exchange h [] t.0 t.1 refl tt;
+      so_far = so_far-exchange h [] t.1.0 t.1.1 refl tt;
       trail = trail_at same trail;
       room = room_at same marked.room;
-      ended = exchange_ended h _ [] t.0 t.1 refl tt;
+      ended = exchange_ended h _ [] t.1.0 t.1.1 refl tt;
     }))
 
 pub rows-smaller : goal.rows-smaller

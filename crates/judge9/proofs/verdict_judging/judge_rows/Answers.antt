@@ -16,7 +16,7 @@ pub rows-preserved : goal.rows-preserved
 rows-preserved g c =
     let puts = rw c.in_ok-explain-in-Exchange.was at c.explain.ensures.puts in
     let is_line = rw c.given.ensures at c.explain.ensures.is_line in
-    let more = comes c.rows.invariant.2 (rw c.in-Exchange.is at c.in_ok-exchange.ensures) (λ front h t. so_far-exchange h _ t.0 t.1 is_line puts) in
+    let more = comes c.rows.invariant.2 (rw c.in-Exchange.is at c.in_ok-exchange.ensures) (λ front h t. so_far-exchange h _ t.1.0 t.1.1 is_line puts) in
     (c.rows.invariant.0 ++ c.in-Exchange.exchange ∷ [], omega (arith, c.rows.invariant.1, length_push c.rows.invariant.0 c.in-Exchange.exchange), more)
 
 pub rows-smaller : goal.rows-smaller
@@ -33,13 +33,13 @@ pub returns-in-NoRun : goal.returns-in-NoRun
 returns-in-NoRun g c =
     let told = rw c.given-in-NoRun.ensures at c.tell_no.ensures in
     comes c.rows.invariant.2 (rw c.in-NoRun.is at c.in_ok-exchange.ensures)
-    (λ front h t. (judges-no h {new = g.W.Write.contents c.tell_no.new.writer} _ t.0.gives (breaks-run h t.0 t.1) told.same told.puts).0)
+    (λ front h t. (judges-no h {new = g.W.Write.contents c.tell_no.new.writer} _ t.1.1.gives (breaks-run h t.1.1 t.1.2) told.same told.puts).0)
 
 pub returns-in-Break : goal.returns-in-Break
 returns-in-Break g c =
     let told = rw c.given-in-Break.ensures at c.tell_no-in-Break.ensures in
     comes c.rows.invariant.2 (rw c.in-Break.is at c.in_ok-exchange.ensures)
-    (λ front h t. (judges-no h {new = g.W.Write.contents c.tell_no-in-Break.new.writer} _ t.gives (breaks-pairing h t) told.same told.puts).0)
+    (λ front h t. (judges-no h {new = g.W.Write.contents c.tell_no-in-Break.new.writer} _ t.1.1.gives (breaks-pairing h t.1.1) told.same told.puts).0)
 
 pub returns : goal.returns
 returns g c =

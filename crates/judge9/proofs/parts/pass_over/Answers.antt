@@ -1,0 +1,48 @@
+use Rattle.judge9.proofs.Words.{[], refl, sym, ◌++◌, ◌∙◌, ◌∷◌}
+use Rattle.judge9.proofs.parts.pass_over.Goals as goal
+use Rattle.judge9.proofs.PartSteps.{gives-more, last-more, none-more}
+use Rattle.judge9.proofs.TurnSteps.{handed}
+
+pub returns-in_err-next : goal.returns-in_err-next
+returns-in_err-next g c =
+    let so_far = c.passed.invariant in record {
+      passed = so_far.passed;
+      none_begins = so_far.none_begins;
+      mid = c.passed.rows;
+      gives = so_far.gives;
+      goes_on =
+          rw (handed c.from_residual.result c.from_residual.ensures.1) (c.in_err-next.field-0.0, c.in_err-next.ensures.refused, refl);
+    }
+
+pub returns-in_default : goal.returns-in_default
+returns-in_default g c =
+    let so_far = c.passed.invariant in record {
+      passed = so_far.passed;
+      none_begins = so_far.none_begins;
+      mid = c.passed.rows;
+      gives = so_far.gives;
+      goes_on =
+          rw c.in_default.is at c.in_ok-next.ensures.ended;
+    }
+
+pub returns-then-may_begin : goal.returns-then-may_begin
+returns-then-may_begin g c =
+    let so_far = c.passed.invariant in record {
+      passed = so_far.passed;
+      none_begins = so_far.none_begins;
+      mid = c.passed.rows;
+      gives = so_far.gives;
+      goes_on =
+          (rw so_far.is_last at (sym c.may_begin.ensures ∙ c.if-may_begin.true), rw c.in-Some.is at c.in_ok-next.ensures.given);
+    }
+
+pub passed-preserved : goal.passed-preserved
+passed-preserved g c =
+    let so_far = c.passed.invariant in
+    let none = rw so_far.is_last at (sym c.may_begin.ensures ∙ c.if-may_begin.false) in
+    record {
+      passed = so_far.passed ++ c.in-Some.next ∷ [];
+      none_begins = none-more _ so_far.passed _ so_far.none_begins none;
+      gives = gives-more _ _ _ so_far.passed so_far.gives (rw c.in-Some.is at c.in_ok-next.ensures.given);
+      is_last = sym (last-more _ so_far.passed _);
+    }

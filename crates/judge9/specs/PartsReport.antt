@@ -1,0 +1,87 @@
+-- The text of a report on all parts of a capture, and how much of it was written.
+use Rattle.std.specs.Prelude.{◌≡◌, ◌⊎◌, ℕ, List, [], ◌∷◌, ◌++◌, length, IsTrue, Option, Some, None, Result, Ok, Err}
+use Rattle.std.specs.Option.{IfNone, IfSome}
+use Rattle.std.specs.Io.KnownBytes.{Appends}
+use Rattle.capture9.specs.declared.error.CaptureError.{CaptureError}
+use Rattle.capture9.specs.declared.line_byte.LineByte.{LineByte}
+use Rattle.capture9.specs.Capture.{IsStartOf}
+use Rattle.capture9.specs.Error.{IsAfter, is_of_text}
+use Rattle.capture9.specs.Rows.{Rows}
+use Rattle.capture9.specs.SomeText.{IsOfSomeText}
+use Rattle.deck9.specs.declared.state.Hands.{Hands}
+use Rattle.verdict9.specs.Lines.{line_of, line_of_totals}
+use Rattle.verdict9.specs.declared.error.JudgeError.{JudgeError}
+use Rattle.verdict9.specs.declared.error.JudgeError.TheVariants as error
+use Rattle.verdict9.specs.declared.totals.Totals.{Totals}
+use Rattle.verdict9.specs.declared.verdict.Verdict.TheVariants.{No}
+use Rattle.verdict9.specs.declared.verdict.View.{View}
+use Rattle.text9.specs.Writing.{AppendsPart}
+use Rattle.judge9.specs.Parts.{AreParts, AreTotals, BrokenPart, IsPart, Part, Rest, number_of}
+use Rattle.judge9.specs.Report.{IsExplained}
+
+-- what a view shows of a part that breaks: the lines of its exchanges, and the line of its break
+abbrev pub IsTextOf : View → Hands → BrokenPart → List ℕ → Type 0
+IsTextOf view hands b text =
+    (lines : List ℕ) × IsExplained view hands b.part.past b.part.exchanges lines × (text ≡ lines ++ line_of (No (number_of b) b.reason))
+
+-- of all these parts, one after another
+abbrev pub AreTextsOf : View → Hands → List BrokenPart → List ℕ → Type 0
+AreTextsOf view hands [] text = text ≡ []
+AreTextsOf view hands (b ∷ broken) text =
+    (first : List ℕ) × (others : List ℕ) × IsTextOf view hands b first × AreTextsOf view hands broken others × (text ≡ first ++ others)
+
+-- what came of these rows is told of the first of their records, `items`: they have these parts that break, and what is left
+-- of them begins with the last part, which keeps the rules; `text` is what the view shows of all these parts
+pub record InParts (view : View) (hands : Hands) (rows : Rows) (items : List LineByte) (broken : List BrokenPart) (left : Rest) (last : Part)
+    (text : List ℕ) : Type 0 where
+  pub start : IsStartOf items rows.records
+  pub parts : AreParts hands (record { past = 0; records = items }) broken left
+  pub is_part : IsPart hands last
+  pub past : last.past ≡ left.past
+  pub begins : IsStartOf last.records left.records
+  pub texts : List ℕ
+  pub are_texts : AreTextsOf view hands broken texts
+  pub lines : List ℕ
+  pub explained : IsExplained view hands last.past last.exchanges lines
+  pub whole : text ≡ texts ++ lines
+
+-- the last part has all the records that are left
+abbrev pub HasAll : Part → Rest → Type 0
+HasAll last left = last.records ≡ left.records
+
+-- the records are all those of the rows, none of which is bad, and these are the totals
+pub record IsToTheEnd (rows : Rows) (items : List LineByte) (broken : List BrokenPart) (left : Rest) (last : Part) (t : Totals) : Type 0 where
+  pub all : rows ≡ record { records = items; fault = None }
+  pub has_all : HasAll last left
+  pub totals : AreTotals (length items) broken last t
+
+-- the records are all those before the row of this refusal, and where it is a fault of the text, that is the fault of the rows
+pub record IsRefusedAfter (rows : Rows) (items : List LineByte) (left : Rest) (last : Part) (e : CaptureError) : Type 0 where
+  pub place : IsAfter items e
+  pub has_all : HasAll last left
+  pub fault : IsTrue (is_of_text e.kind) → rows ≡ record { records = items; fault = Some e }
+
+-- what was written, by the result: the text and the line of the totals; at a refusal of the capture the text; where the writer
+-- failed a first part of these; where memory ran out the text
+abbrev pub WrittenInParts : Rows → List LineByte → List BrokenPart → Rest → Part → List ℕ → Result Totals JudgeError → Option (List ℕ) → Option (List ℕ) → Type 0
+WrittenInParts rows items broken left last text (Ok t) old new =
+    IsToTheEnd rows items broken left last t × Appends old new (text ++ line_of_totals t)
+WrittenInParts rows items broken left last text (Err (error.Capture e)) old new = IsRefusedAfter rows items left last e × Appends old new text
+WrittenInParts rows items broken left last text (Err error.Write) old new =
+    AppendsPart old new text
+    ⊎ ((t : Totals) × IsToTheEnd rows items broken left last t × AppendsPart old new (text ++ line_of_totals t))
+WrittenInParts rows items broken left last text (Err error.OutOfMemory) old new = Appends old new text
+
+-- the rows that a judging of all parts speaks of, their parts, and what was written. The rows are those of the text, where the
+-- reader tells its bytes; else they are what it gave, and are those of some text
+pub record ToldInParts (view : View) (hands : Hands) (known : Option Rows) (result : Result Totals JudgeError) (old new : Option (List ℕ)) : Type 0 where
+  pub rows : Rows
+  pub is_known : IfSome known (λ all. rows ≡ all)
+  pub of_a_text : IfNone known (IsOfSomeText rows)
+  pub items : List LineByte
+  pub broken : List BrokenPart
+  pub left : Rest
+  pub last : Part
+  pub text : List ℕ
+  pub in_parts : InParts view hands rows items broken left last text
+  pub written : WrittenInParts rows items broken left last text result old new

@@ -1,0 +1,84 @@
+-- Where a judging takes up again after a break: the records that are passed over, and the first one of the next part.
+use Rattle.std.specs.Prelude.{◌≡◌, ◌≢◌, ◌+◌, ◌++◌, ◌∷◌, ◌⊎◌}
+use Rattle.std.specs.Bool.{MatchBool}
+use Rattle.judge9.specs.Working.{[], CaptureError, CaptureKind, Err, false, GivesEnd, GivesRecord, GivesRefusal, Hands, IfSome, JudgeError, Judging, LineByte, List, None, Ok, Option, Progress}
+use Rattle.judge9.specs.Working.{Appends, Puts, Reason, refusal_of, Result, Rows, Some, true, Verdict, View, ℕ, ⊤}
+use Rattle.verdict9.specs.Lines.{line_of}
+use Rattle.verdict9.specs.declared.totals.Totals.{Totals}
+use Rattle.judge9.specs.PartsReport.{ToldInParts}
+use Rattle.capture9.specs.Rows.{HasHeader}
+use Rattle.judge9.specs.Parts.{begins_next_part, may_begin}
+use Rattle.judge9.specs.Working.Turn.{Begins, ComesTo, IsTaken, Waits}
+use Rattle.judge9.specs.declared.judging.Turn.TheVariants.{the_data as Turn}
+
+-- these records were given, one after another
+abbrev pub GivesAll : {R : Type 0} → Progress R → List LineByte → Progress R → Type 0
+GivesAll old [] new = new ≡ old
+GivesAll {R} old (r ∷ records) new = (mid : Progress R) × GivesRecord old r mid × GivesAll mid records new
+
+-- none of these records may begin a command, each after the one before it, the first after `last`
+abbrev pub NoneBegins : LineByte → List LineByte → Type 0
+NoneBegins last [] = ⊤
+NoneBegins last (r ∷ records) = (may_begin last r ≡ false) × NoneBegins r records
+
+-- the last of these records, or the one before them
+abbrev pub last_of : LineByte → List LineByte → LineByte
+last_of last [] = last
+last_of last (r ∷ records) = last_of r records
+
+-- records were passed over, and this is what came then: one that may begin a command, the end of the rows, or a refusal
+abbrev pub GoesOn : {R : Type 0} → LineByte → Progress R → Result (Option LineByte) JudgeError → Progress R → Type 0
+GoesOn last old (Ok (Some r)) new = (may_begin last r ≡ true) × GivesRecord old r new
+GoesOn last old (Ok None) new = GivesEnd old new
+GoesOn last old (Err x) new = (e : CaptureError) × GivesRefusal old e new × (x ≡ refusal_of e)
+
+pub record PassesOver {R : Type 0} (old : Progress R) (last : LineByte) (result : Result (Option LineByte) JudgeError) (new : Progress R) : Type 0 where
+  pub passed : List LineByte
+  pub none_begins : NoneBegins last passed
+  pub mid : Progress R
+  pub gives : GivesAll old passed mid
+  pub goes_on : GoesOn (last_of last passed) mid result new
+
+-- what the first record of a part comes to, of which the rows before it were read up to here: at once, or with those after it
+abbrev pub BeginsWith : {R : Type 0} → Judging R → LineByte → Result Turn JudgeError → Judging R → Type 0
+BeginsWith {R} j first result k =
+    ((x : JudgeError) × (result ≡ Err x) × IsTaken j first (Err x) k)
+    ⊎ ((turn : Turn) × (result ≡ Ok turn) × IsTaken j first (Ok (Some turn)) k)
+    ⊎ ((mid : Judging R) × Waits j mid first × ComesTo mid result k)
+
+-- the first record of the next part is this one, and was read after these rows
+pub record Resumes {R : Type 0} (hands : Hands) (before : Progress R) (first : LineByte) (result : Result Turn JudgeError) (k : Judging R) : Type 0 where
+  pub new : Judging R
+  pub rows : new.rows ≡ before
+  pub begins : Begins hands new
+  pub with_first : BeginsWith new first result k
+
+-- records were passed over after `last`, and then came the first one of the next part, the end of the rows, or a refusal
+pub record ResumesAfter {R : Type 0} (hands : Hands) (last : LineByte) (old : Progress R) (result : Result Turn JudgeError) (k : Judging R) : Type 0 where
+  pub passed : List LineByte
+  pub none_begins : NoneBegins last passed
+  pub mid : Progress R
+  pub gives : GivesAll old passed mid
+  pub goes_on :
+      ((first : LineByte) × (may_begin (last_of last passed) first ≡ true) × Resumes hands mid first result k)
+      ⊎ ((result ≡ Ok Turn.End) × GivesEnd mid k.rows × Begins hands k)
+      ⊎ ((e : CaptureError) × GivesRefusal mid e k.rows × (result ≡ Err (refusal_of e)))
+
+-- the judging takes up again after `last`, the record that was read last, or memory is refused
+abbrev pub TakesUp : {R : Type 0} → Hands → Reason → LineByte → Judging R → Result Turn JudgeError → Judging R → Type 0
+TakesUp {R} hands reason last j result k =
+    ((result ≡ Err JudgeError.OutOfMemory) × (k.rows ≡ j.rows))
+    ⊎ MatchBool (begins_next_part reason last) ((before : Progress R) → GivesRecord before last j.rows → Resumes hands before last result k)
+    (ResumesAfter hands last j.rows result k)
+
+-- the line of a break was not written whole, or it was and the judging took up again
+abbrev pub EndsPart : {R : Type 0} → Hands → Reason → LineByte → Judging R → Result Turn JudgeError → Judging R → Option (List ℕ) → Option (List ℕ) → Type 0
+EndsPart hands reason last j result k old new =
+    ((x : JudgeError) × (result ≡ Err x) × Puts {A = Turn} (line_of (Verdict.No j.rows.given reason)) (Err x) old new)
+    ⊎ (Appends old new (line_of (Verdict.No j.rows.given reason)) × TakesUp hands reason last j result k)
+
+-- all that the result of a judging in parts tells
+pub record JudgesParts (view : View) (hands : Hands) (rows : Option Rows) (result : Result Totals JudgeError) (old new : Option (List ℕ)) : Type 0 where
+  pub told : ToldInParts view hands rows result old new
+  pub is_kind : (e : CaptureError) → result ≡ Err (JudgeError.Capture e) → e.kind ≢ CaptureKind.OutOfMemory
+  pub headed : IfSome rows (λ all. (e : CaptureError) → result ≡ Err (JudgeError.Capture e) → e.row ≢ 0 → HasHeader all)

@@ -1,0 +1,64 @@
+//! Where the next part of a capture begins after a break.
+ghost use Rattle.std.specs.Prelude.{◌≡◌};
+ghost use Rattle.judge9.specs.Parts.{begins_next_part, may_begin, takes_up_at};
+ghost use Rattle.judge9.specs.Working.Parts.{PassesOver};
+
+use block9::{BYTE_GAP_US, Reason};
+use capture9::{LineByte, Records, Wire};
+use std::io::Read;
+use verdict9::JudgeError;
+
+/// Passes over the records after `last` that can't begin a command, up to the first that may, and gives that, or none where there
+/// is none. Errors are those of the rows.
+pub(crate) fn pass_over<R: Read + Drop>(
+    rows: &mut Records<R>,
+    last: LineByte,
+) -> Result<Option<LineByte>, JudgeError>
+    ensures { PassesOver rows.old last result rows.new }
+{
+    let mut last = last;
+    'passed: loop {
+        let Some(next) = rows.next()? else {
+            return Ok(None);
+        };
+        if may_begin(last, next) {
+            return Ok(Some(next));
+        }
+        last = next;
+    }
+}
+
+/// Whether a record that comes after `last` may be the first of a command: it comes on the controller's wire, and after a record
+/// of the deck or after the byte gap. The rule is this profile's choice.
+fn may_begin(last: LineByte, next: LineByte) -> bool
+    ensures { result ≡ may_begin last next }
+{
+    match (next.wire, last.wire) {
+        (Wire::Deck, _) => false,
+        (Wire::Controller, Wire::Deck) => true,
+        (Wire::Controller, Wire::Controller) => {
+            next.time_us.saturating_sub(last.time_us) > BYTE_GAP_US
+        }
+    }
+}
+
+/// Whether the record that breaks a rule for this reason is itself the first of the next part.
+pub(crate) fn begins_next_part(reason: Reason, breaking: LineByte) -> bool
+    ensures { result ≡ begins_next_part reason breaking }
+{
+    match breaking.wire {
+        Wire::Deck => false,
+        Wire::Controller => takes_up_at(reason),
+    }
+}
+
+/// Whether a part begins at a record that breaks a rule for this reason on the controller's wire: the controller sends a
+/// command though a reply is still to come or to end, or though its last block did not end.
+fn takes_up_at(reason: Reason) -> bool
+    ensures { result ≡ takes_up_at reason }
+{
+    matches!(
+        reason,
+        Reason::CommandBeforeReply | Reason::NoReply | Reason::CommandInsideReply | Reason::ByteGap
+    )
+}
