@@ -19,7 +19,9 @@
 #     {"line":"verdict","verdict":"no","record":28,"reason":"M1","text":"no run remains"}
 #     {"line":"breaks","breaks":5,"records":1349,"exchanges":119,"passed_over":43,"open":0}
 #
-# With --all there is a verdict for each part that breaks, and the totals, "breaks", are the last line. A field of the deck is the very word of the line, always a string: a mode, "unknown", "clear", "set", a time such as
+# With --all each part that breaks has its verdict, and the totals, "breaks", are the last line.
+#
+# A field of the deck is the very word of the line, always a string: a mode, "unknown", "clear", "set", a time such as
 # "10:00:00:00", "yes", "no", "on" or "off". So what is not known is the word "unknown". No value is ever null, since
 # that is what many readers give for a name that is not there: `panel` is there only where the line has it, with
 # --hands. Records, counts and times in microseconds are numbers. A NAK is "reply":"NAK","nak":"14",
