@@ -358,17 +358,18 @@ program_texts() {
     while IFS='|' read -r file want_status rest; do
         case "$file" in '#'* | '') continue ;; esac
         for hands in '' --hands; do
-            for verb in check explain run why; do
+            for verb in check explain run why 'check --all' 'explain --all' 'why --all'; do
+                # shellcheck disable=SC2086
                 "$program" $verb $hands "examples/$file" > "$work/in" 2> /dev/null
                 view json.awk '' < "$work/in"
                 judge "$awk: json of $verb $hands $file" is_json
-                [ "$verb" = explain ] || continue
+                case $verb in explain*) ;; *) continue ;; esac
                 view digest.awk "-v capture=examples/$file" < "$work/in"
-                judge "$awk: digest of $file $hands" ends_with_verdict
+                judge "$awk: digest of $verb $file $hands" ends_with_verdict
                 view delays.awk "-v capture=examples/$file" < "$work/in"
-                judge "$awk: delays of $file $hands" ends_with_verdict
+                judge "$awk: delays of $verb $file $hands" ends_with_verdict
                 view motion.awk "-v capture=examples/$file" < "$work/in"
-                judge "$awk: motion of $file $hands" ends_with_verdict
+                judge "$awk: motion of $verb $file $hands" ends_with_verdict
             done
         done
     done < examples/ANSWERS
@@ -448,6 +449,10 @@ judge 'the stored explanation of session.csv' cmp "$work/out" examples/views/ses
 judge 'the stored explanation of hands.csv' cmp "$work/out" examples/views/hands.txt
 "$program" explain examples/views/keeps-playing.csv > "$work/out" 2> "$work/err"
 judge 'the stored explanation of keeps-playing.csv' cmp "$work/out" examples/views/keeps-playing.txt
+"$program" explain --all examples/views/several-breaks.csv > "$work/out" 2> "$work/err"
+judge 'the stored explanation of several-breaks.csv' cmp "$work/out" examples/views/several-breaks.txt
+"$program" why --all examples/views/several-breaks.csv > "$work/out" 2> "$work/err"
+judge 'the stored lines of why of several-breaks.csv' cmp "$work/out" examples/views/several-breaks-why.txt
 
 # What a reader of the JSON can tell apart.
 awk=mawk
