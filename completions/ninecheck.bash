@@ -1,14 +1,15 @@
 # Completes the words of ninecheck in bash.
 _ninecheck() {
-    local word=${COMP_WORDS[COMP_CWORD]}
+    local word=${COMP_WORDS[COMP_CWORD]} options='--hands --all --help'
     if [ "$COMP_CWORD" = 1 ]; then
         mapfile -t COMPREPLY < <(compgen -W 'check explain run why help --help --version' -- "$word")
         return
     fi
     case ${COMP_WORDS[1]} in
         check | explain | run | why)
+            [ "${COMP_WORDS[1]}" != run ] || options='--hands --help'
             case $word in
-                -*) mapfile -t COMPREPLY < <(compgen -W '--hands --help' -- "$word") ;;
+                -*) mapfile -t COMPREPLY < <(compgen -W "$options" -- "$word") ;;
                 *) mapfile -t COMPREPLY < <(compgen -f -- "$word") ;;
             esac
             ;;

@@ -6,5 +6,6 @@ complete -c ninecheck -n __fish_use_subcommand -f -a why -d 'Why a no is one, an
 complete -c ninecheck -n __fish_use_subcommand -f -a help -d 'What can be asked for'
 complete -c ninecheck -n '__fish_seen_subcommand_from help' -f -a 'check explain run why help'
 complete -c ninecheck -n '__fish_seen_subcommand_from check explain run why; and not __fish_seen_subcommand_from help' -l hands -d "Somebody may have touched the deck's panel"
+complete -c ninecheck -n '__fish_seen_subcommand_from check explain why; and not __fish_seen_subcommand_from help run' -l all -d 'Go on after each break'
 complete -c ninecheck -s h -l help -d 'What can be asked for'
 complete -c ninecheck -n __fish_use_subcommand -s V -l version -d 'The version'

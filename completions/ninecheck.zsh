@@ -1,6 +1,6 @@
 #compdef ninecheck
 # Completes the words of ninecheck in zsh.
-local -a verbs
+local -a verbs options
 verbs=(
     'check:the verdict'
     'explain:a line for each exchange, and the verdict'
@@ -18,10 +18,12 @@ if (( CURRENT == 2 )); then
 fi
 case $words[2] in
     check | explain | run | why)
+        options=('--hands[somebody may have touched the panel of the deck]')
+        [[ $words[2] == run ]] || options+=('--all[go on after each break, and judge the whole capture]')
         shift words
         (( CURRENT-- ))
         _arguments \
-            '--hands[somebody may have touched the panel of the deck]' \
+            $options \
             '(- *)'{-h,--help}'[what can be asked for]' \
             '1:capture:_files'
         ;;

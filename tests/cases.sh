@@ -24,8 +24,9 @@
 # `@MARK` between records keeps the number of the record before it, which `@MARK` is in a line of what is written.
 #
 # Beside that check, explain, run and why, each with hands where they are asked for, must end with the same status as what is
-# asked, with the same last line where there is a verdict, and with the same standard error. This is not tried where the words are
-# at fault or a file is not opened.
+# asked, with the same last line where there is a verdict, and with the same standard error. With --all check, explain and why must
+# write the same first, and of a yes the totals in its place. Where --all is asked for itself, all three must have the same breaks,
+# totals, status and standard error. This is not tried where the words are at fault or a file is not opened.
 #
 # What another script asks of a capture, and holds to the whole of its answer, is not asked here again.
 set -u
@@ -57,14 +58,48 @@ is_end() {
     esac
 }
 
-# ends_so WORDS...: whatever is asked of this capture, with hands or without as these words say, the end is the same.
+# goes_on: what the last run wrote is what the run without --all wrote, in $work/alone, and after a break what comes behind it.
+goes_on() {
+    case $(cat "$folder/status") in
+        0)
+            sed -E '$ s/^yes: (.*), (open .*)/breaks 0: \1, passed over 0, \2/' "$work/alone" > "$work/want"
+            [ "$status" = 0 ] && cmp -s "$work/out" "$work/want" && [ ! -s "$work/err" ]
+            ;;
+        1)
+            head -c "$(wc -c < "$work/alone")" "$work/out" | cmp -s - "$work/alone" &&
+                case $status in 1) tail -n 1 "$work/out" | grep -q '^breaks [1-9]' ;; 3) [ -s "$work/err" ] ;; *) false ;; esac
+            ;;
+        *) [ "$status" = "$(cat "$folder/status")" ] && cmp -s "$work/out" "$work/alone" && cmp -s "$work/err" "$folder/err" ;;
+    esac
+}
+
+# has_same_breaks: the last run ended with the status of this case and its standard error, and wrote the same breaks and totals.
+has_same_breaks() {
+    [ "$status" = "$(cat "$folder/status")" ] && cmp -s "$work/err" "$folder/err" &&
+        [ "$(breaks_of "$work/out")" = "$(breaks_of "$folder/out")" ]
+}
+breaks_of() { grep -E '^(no at record|breaks) ' "$1"; }
+
+# ends_so WORDS...: whatever is asked of this capture, with hands and to its end or not as these words say, the end is the same.
 ends_so() {
     local verb hands=
     case " $* " in *' --hands '*) hands=--hands ;; esac
     for verb in check explain run why; do
+        case " $* " in
+            *' --all '*)
+                [ $verb != run ] || continue
+                run $verb --all $hands
+                has_same_breaks || return 1
+                continue
+                ;;
+        esac
         # shellcheck disable=SC2086
         run $verb $hands
         is_end $verb || return 1
+        [ $verb != run ] || continue
+        mv "$work/out" "$work/alone"
+        run $verb --all $hands
+        goes_on || return 1
     done
 }
 

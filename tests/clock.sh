@@ -50,6 +50,7 @@ zeros in front|record 1 at 0000060000000: D 10\n|record 1 at 00:01:00.000000: D 
 the end of the line, CRLF|it broke at 400\r\nit broke at 400:\r\nit broke at 400\n|it broke at 00:00:00.000400\r\nit broke at 00:00:00.000400:\r\nit broke at 00:00:00.000400\n|it broke at 0.000400\r\nit broke at 0.000400:\r\nit broke at 0.000400\n
 a line of a digest|record 8, 1.002422 s: STATUS SENSE -> 71 20, local: unknown => no\n|record 8, 00:00:01.002422: STATUS SENSE -> 71 20, local: unknown => no\n|same
 a line of a motion|    record 9, 90000.003600 s: time stands still at 10:00:00:00 for 1.000000 s, while PLAY is shown\n|    record 9, 25:00:00.003600: time stands still at 10:00:00:00 for 1.000000 s, while PLAY is shown\n|same
+the totals of --all|no at record 22: L1 late reply\nbreaks 4: records 78, exchanges 7, passed over 18, open 2\n|same|same
 a verdict|no at record 1071: L1 late reply\nyes: records 6, exchanges 1, open 0\n|same|same
 an explanation|record 6: PLAY -> ACK, delay 400, goal PLAY, shown unknown\n|same|same
 a capture, and an empty line|time_us,wire,byte\n400,C,20\n\n|same|same

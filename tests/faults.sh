@@ -20,12 +20,20 @@ cc -shared -fPIC -O2 -o "$work/fail_call.so" tests/fail_call.c -ldl || exit 1
         for (k = 1; k <= 6000; k++) print 400 * k "," row[(k - 1) % 6 + 1] }'
 } > "$work/long.csv"
 
-# run VERB FILE CALL N HOW: the program with call N failing. Leaves its status and its streams, and in $reads and
+# The same with two acknowledgements: a break each, and a part behind it. `three.csv` has two breaks, and a part behind them.
+{
+    echo 'time_us,wire,byte'
+    awk 'BEGIN { split("C,20 C,01 C,21 D,10 D,01 D,11 D,10 D,01 D,11", row, " ")
+        for (k = 1; k <= 6300; k++) print 400 * k "," row[(k - 1) % 9 + 1] }'
+} > "$work/parts.csv"
+head -n 25 "$work/parts.csv" > "$work/three.csv"
+
+# run WORDS FILE CALL N HOW: the program with call N failing. Leaves its status and its streams, and in $reads and
 # $writes how often it called.
 run() {
     rm -f "$work/calls"
     CALLS="$work/calls" CALL=$3 FAIL_AT=$4 FAIL_HOW=$5 LD_PRELOAD="$work/fail_call.so" \
-        "$program" "$1" "$2" > "$work/out" 2> "$work/err"
+        "$program" $1 "$2" > "$work/out" 2> "$work/err"
     status=$?
     read -r reads writes < "$work/calls"
 }
@@ -64,7 +72,17 @@ is_read_fault() {
         has_begun && ! grep -q '^yes\|^no' "$work/out" && { [[ $verb != run && $verb != why ]] || [ ! -s "$work/out" ]; }
 }
 
-# try VERB FILE CALL HOW CONDITION: each such call failing in turn, with what has to hold then.
+# is_read_fault_of_parts: the same with --all. Each break before this row was written, as `whole` has it, and there are no totals.
+is_read_fault_of_parts() {
+    local row breaks
+    [ "$status" = 4 ] && [[ $(head -n 1 "$work/err") =~ ^'read fault at row '([0-9]+)$ ]] || return 1
+    row=${BASH_REMATCH[1]}
+    breaks=$(awk -v row="$row" '/^no at record / && $4 + 0 < row' "$work/whole")
+    is_said_of_first && [ "$reads" = "$at" ] && has_begun && [ "$(grep '^no ' "$work/out")" = "$breaks" ] &&
+        ! grep -q '^breaks ' "$work/out"
+}
+
+# try WORDS FILE CALL HOW CONDITION: each such call failing in turn, with what has to hold then.
 try() {
     local verb=$1 file=$2 call=$3 how=$4 condition=$5 count
     run "$verb" "$file" none 0 none
@@ -86,15 +104,15 @@ try() {
     echo "$verb $(basename "$file"): right with each of $count calls of $call: $how"
 }
 
-# try_all VERB FILE: each call failing in each way.
+# try_all WORDS FILE [CONDITION]: each call failing in each way; this has to hold where a read fails.
 try_all() {
-    local how
+    local how condition=${3-is_read_fault}
     for how in EIO EINTR ENOSPC zero; do
         try "$1" "$2" write "$how" is_write_fault
     done
     try "$1" "$2" write short is_right
     for how in EIO EINTR; do
-        try "$1" "$2" read "$how" is_read_fault
+        try "$1" "$2" read "$how" "$condition"
     done
     try "$1" "$2" read short is_right
 }
@@ -110,6 +128,19 @@ answer=1
 for file in examples/late-reply.csv examples/disputed-in-point.csv; do
     try_all why "$file"
 done
+
+# With --all, in each part: the last read of three.csv, which finds the end, comes in the third.
+for verb in check explain why; do
+    for file in "$work/three.csv" "$work/parts.csv"; do
+        try_all "$verb --all" "$file" is_read_fault_of_parts
+    done
+done
+run 'why --all' "$work/three.csv" none 0 none
+at=$reads
+cp "$work/out" "$work/whole"
+run 'why --all' "$work/three.csv" read "$at" EIO
+judge 'a read that fails in the third part' is_read_fault_of_parts
+judge 'what was written of two parts' [ "$(wc -l < "$work/out")" = 6 ]
 answer=0
 
 # expect_row N WANT: the row that is named where read N of PLAY fails.

@@ -153,7 +153,9 @@ done <<'END'
 ninecheck |check explain help run why|check explain help run why
 ninecheck e|explain|explain
 ninecheck -|--help --version -V -h|--help --version -V -h
-ninecheck why -|--hands --help -h|--hands --help -h
+ninecheck why -|--all --hands --help -h|--all --hands --help -h
+ninecheck check --a|--all|--all
+ninecheck run -|--hands --help -h|--hands --help -h
 ninecheck help |check explain help run why|check explain help run why
 ninecheck run examples/play|play.csv|examples/play.csv
 END
@@ -209,6 +211,8 @@ complete_words ninecheck ''
 expect 'verbs are offered' 0 'check explain run why help --help --version' ''
 complete_words ninecheck run --
 expect 'options are offered' 0 '--hands --help' ''
+complete_words ninecheck explain --
+expect 'options are offered where the judging can go on' 0 '--hands --all --help' ''
 complete_words ninecheck check examples/play
 expect 'a file is completed' 0 'examples/play.csv' ''
 
@@ -219,9 +223,9 @@ expect 'the man page' 0 '' ''
 
 # Each subcommand and option that the program's help names stands in the man page and in each completion.
 program=${NINECHECK:-$PWD/crates/ninecheck/out/ninecheck}
-for word in $("$program" --help | awk '/^Commands:/ { on = 1; next } /^$/ { on = 0 } on { print $1 }') hands version; do
+for word in $("$program" --help | awk '/^Commands:/ { on = 1; next } /^$/ { on = 0 } on { print $1 }') hands all version; do
     for file in man/ninecheck.1 completions/ninecheck.bash completions/ninecheck.zsh completions/ninecheck.fish; do
-        holds "$word in $file" grep -q -- "$word" "$file"
+        holds "$word in $file" grep -qw -- "$word" "$file"
     done
 done
 

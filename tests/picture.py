@@ -1,6 +1,6 @@
 """Checks the pictures of view/picture.awk: that each awk draws the same, that the drawn bytes are those of the capture, that
 the record in question and the measured time stand out, and that no text lies on another or on a byte; that the rows of a
-contradiction are those of `why`; and of the picture of each reason that rsvg-convert renders it, with the record in question on
+contradiction are those of `why`; that of several breaks the right one is drawn; and of the picture of each reason that rsvg-convert renders it, with the record in question on
 it."""
 import math
 import os
@@ -383,9 +383,49 @@ def check_rendered():
         judge(f'{name}: its digits are white: {white} of {len(seen)}', white * 50 > len(seen))
 
 
+def check_parts(work):
+    """Of a report of --all the break that was asked for is drawn as that of a capture which begins where its part does, but for
+    the numbers of the records. One part begins at a record that comes after a pause, and not after one of the deck."""
+    pause = f'{work}/pause.csv'
+    sent = [(400, 'C'), (400, 'C'), (10287, 'C'), (400, 'C'), (10288, 'C'), (400, 'C'), (400, 'C'), (9288, 'D')]
+    digits, now = '10 01 11 20 20 01 21 10'.split(), 0
+    with open(pause, 'w') as file:
+        file.write('time_us,wire,byte\n')
+        for (gap, wire), byte in zip(sent, digits):
+            now += gap
+            file.write(f'{now},{wire},{byte}\n')
+    of_pause = ('no at record 1: B1 wrong group for this wire\nno at record 8: L1 late reply\n'
+                'breaks 2: records 8, exchanges 0, passed over 8, open 0\n')
+    several = 'examples/views/several-breaks'
+    cases = [(f'{several}.csv', open(f'{several}{report}.txt').read(), {22: 1, 39: 25, 45: 42, 54: 45}) for report in ('', '-why')]
+    cases.append((pause, of_pause, {1: 1, 8: 5}))
+    for capture, report, begins in cases:
+        rows = open(capture).read().splitlines()
+        for number, begin in begins.items():
+            verdict = re.search(f'^no at record {number}: (.*)$', report, re.M)[1]
+            part = f'{work}/part.csv'
+            open(part, 'w').write('\n'.join([rows[0], *rows[begin:]]) + '\n')
+            for awk in AWKS:
+                _, alone, _ = picture(awk, f'no at record {number - begin + 1}: {verdict}\n', f'capture={part}')
+                want = re.sub(r'\brecord (\d+)', lambda found: f'record {int(found[1]) + begin - 1}', alone)
+                status, svg, err = picture(awk, report, f'capture={capture}', f'at={number}')
+                judge(f'{awk}: the break at record {number} of {capture}: {err}', (status, svg, err) == (0, want, '') and want != '')
+                if begin == 1:
+                    judge(f'{awk}: the first break of {capture}', picture(awk, report, f'capture={capture}') == (0, svg, ''))
+    for awk in AWKS:
+        rows = open(f'{several}.csv').read().splitlines()
+        silent = f'{work}/silent.csv'
+        open(silent, 'w').write('\n'.join([*rows[:23], *(row.replace('C', 'D') for row in rows[23:])]) + '\n')
+        refused = picture(awk, cases[0][1], f'capture={silent}', 'at=39')
+        judge(f'{awk}: a capture of another report: {refused}', refused == (
+            1, '', f'picture.awk: line 12: no command can begin between the breaks at records 22 and 39: {silent}\n'))
+
+
 def check_refusals(work):
     capture = 'examples/late-reply.csv'
     verdict = 'no at record 4: L1 late reply\n'
+    several_capture = 'examples/views/several-breaks.csv'
+    several = open('examples/views/several-breaks.txt').read()
     short = f'{work}/short.csv'
     open(short, 'w').write('time_us,wire,byte\n400,C,20\n')
     rows = [
@@ -397,6 +437,13 @@ def check_refusals(work):
         ('a bad row', 'no at record 9: L1 late reply\n', ['capture=examples/bad-byte.csv'], 'line 1: row 7 of the capture is no record: 2800,C,G1'),
         ('a narrow picture', verdict, [f'capture={capture}', 'width=699'], 'line 0: width has to be a number from 700 on: 699'),
         ('no number', verdict, [f'capture={capture}', 'width=wide'], 'line 0: width has to be a number from 700 on: wide'),
+        ('another record', verdict, [f'capture={capture}', 'at=5'], 'line 1: there is no break at record 5'),
+        ('a record of no break', several, [f'capture={several_capture}', 'at=23'], 'line 12: there is no break at record 23'),
+        ('no record', several, [f'capture={several_capture}', 'at=last'], 'line 0: at has to be the number of a record: last'),
+        ('no break', 'breaks 0: records 6, exchanges 1, passed over 0, open 0\n', [f'capture={capture}'],
+         'line 1: no part breaks: there is nothing to draw'),
+        ('totals that are missing', several[:several.index('breaks')], [f'capture={several_capture}', 'at=39'],
+         "line 11: no totals: the capture can't be read, or the text was cut short"),
         ('no verdict', '', [f'capture={capture}'], "line 0: no verdict: the capture can't be read, or the text was cut short"),
         ('another text', 'hello\n', [f'capture={capture}'], 'line 1: unknown line: hello'),
     ]
@@ -421,6 +468,7 @@ def main():
             check_capture(f'drawn {k}', path, k % 10 == 0)
         check_wires(work)
         check_contradictions(work)
+        check_parts(work)
         check_refusals(work)
         check_stored()
         check_rendered()

@@ -240,6 +240,11 @@ err|why a b|error: unexpected argument 'b' found
 err|why --hands --hands|error: the argument '--hands' cannot be used multiple times
 err|--hands why|error: unexpected argument '--hands' found
 err|why -V|error: unexpected argument '-V' found
+err|run --all|error: unexpected argument '--all' found
+err|check --all --all|error: the argument '--all' cannot be used multiple times
+err|explain --all=yes|error: unexpected value 'yes' for '--all' found; no more were expected
+err|--all check|error: unexpected argument '--all' found
+err|why --al|  tip: a similar argument exists: '--all'
 err|run --hand|  tip: a similar argument exists: '--hands'
 err|--hands run|error: unexpected argument '--hands' found
 err|check --hands --hands|error: the argument '--hands' cannot be used multiple times

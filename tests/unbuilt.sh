@@ -75,6 +75,9 @@ printf 'a row\nand another' | ask why --hands
 judge 'standard input' is_text 0 'yes: records 6, exchanges 1, open 0' "$first"
 judge 'standard input is handed on' was_told '[why][--hands]a row
 and another'
+printf 'a row\nand another' | ask check --all
+judge 'standard input is handed on to the end' was_told '[check][--all]a row
+and another'
 for words in 'check absent' 'check --help' 'help check' '--version' ''; do
     # shellcheck disable=SC2086
     echo 'a row' | ask $words

@@ -67,6 +67,13 @@ a late reply to a preset|json|records 1 to 7 at 400: IN DATA PRESET 10:00:00:00 
 one open record|json|records 5 to 5 at 400: 61, 1 of 4 bytes\nrecord 6 at 400: D 10, 0 after the record before\nno at record 6: P2 reply before the end of the command\n|{"line":"open_command","first_record":5,"record":5,"time_us":400,"command_bytes":"61","block_length":4}\n{"line":"breaking_record","record":6,"time_us":400,"wire":"D","byte":"10","elapsed_us":0}\n{"line":"verdict","verdict":"no","record":6,"reason":"P2","text":"reply before the end of the command"}\n
 a wrong checksum|json|records 1 to 2 at 400: 20 E8\nrecord 3 at 1200: C 07, 400 after the record before, sum 08\nno at record 3: B2 wrong sum\n|{"line":"open_command","first_record":1,"record":2,"time_us":400,"command_bytes":"20 E8"}\n{"line":"breaking_record","record":3,"time_us":1200,"wire":"C","byte":"07","elapsed_us":400,"sum":"08"}\n{"line":"verdict","verdict":"no","record":3,"reason":"B2","text":"wrong sum"}\n
 the exchange before, and a reply without a command|json|records 7 to 16 at 2800: IN DATA SENSE 60 10 70 -> 10:00:00:00 74 10 00 00 00 10 94\nrecord 17 at 6800: D 74, 400 after the record before\nno at record 17: P1 reply without a command\n|{"line":"exchange_before","first_record":7,"record":16,"time_us":2800,"command":"IN DATA SENSE","command_bytes":"60 10 70","reply_time":"10:00:00:00","reply_bytes":"74 10 00 00 00 10 94"}\n{"line":"breaking_record","record":17,"time_us":6800,"wire":"D","byte":"74","elapsed_us":400}\n{"line":"verdict","verdict":"no","record":17,"reason":"P1","text":"reply without a command"}\n
+no break|json|breaks 0: records 6, exchanges 1, passed over 0, open 0\n|{"line":"breaks","breaks":0,"records":6,"exchanges":1,"passed_over":0,"open":0}\n
+two breaks at one record|json|no at record 4: L2 no reply\nno at record 4: B1 wrong group for this wire\nbreaks 2: records 5, exchanges 0, passed over 5, open 0\n|{"line":"verdict","verdict":"no","record":4,"reason":"L2","text":"no reply"}\n{"line":"verdict","verdict":"no","record":4,"reason":"B1","text":"wrong group for this wire"}\n{"line":"breaks","breaks":2,"records":5,"exchanges":0,"passed_over":5,"open":0}\n
+a part that begins at the record that breaks|json|records 1 to 3 at 400: PLAY 20 01 21\nrecord 4 at 1600: C 20, 400 after the record before, limit 9287\nno at record 4: P3 command before the reply\nrecords 4 to 5 at 1600: 20 01\nrecord 6 at 2400: D 10, 400 after the record before\nno at record 6: P2 reply before the end of the command\nbreaks 2: records 6, exchanges 0, passed over 6, open 0\n|{"line":"open_command","first_record":1,"record":3,"time_us":400,"command":"PLAY","command_bytes":"20 01 21"}\n{"line":"breaking_record","record":4,"time_us":1600,"wire":"C","byte":"20","elapsed_us":400,"limit_us":9287}\n{"line":"verdict","verdict":"no","record":4,"reason":"P3","text":"command before the reply"}\n{"line":"open_command","first_record":4,"record":5,"time_us":1600,"command_bytes":"20 01"}\n{"line":"breaking_record","record":6,"time_us":2400,"wire":"D","byte":"10","elapsed_us":400}\n{"line":"verdict","verdict":"no","record":6,"reason":"P2","text":"reply before the end of the command"}\n{"line":"breaks","breaks":2,"records":6,"exchanges":0,"passed_over":6,"open":0}\n
+an exchange before in each of two parts|json|records 1 to 6 at 400: PLAY 20 01 21 -> 10 01 11\nrecord 7 at 2800: D 10, 400 after the record before\nno at record 7: P1 reply without a command\nrecords 8 to 13 at 3200: PLAY 20 01 21 -> 10 01 11\nrecord 14 at 5600: D 10, 400 after the record before\nno at record 14: P1 reply without a command\nbreaks 2: records 14, exchanges 2, passed over 2, open 0\n|{"line":"exchange_before","first_record":1,"record":6,"time_us":400,"command":"PLAY","command_bytes":"20 01 21","reply_bytes":"10 01 11"}\n{"line":"breaking_record","record":7,"time_us":2800,"wire":"D","byte":"10","elapsed_us":400}\n{"line":"verdict","verdict":"no","record":7,"reason":"P1","text":"reply without a command"}\n{"line":"exchange_before","first_record":8,"record":13,"time_us":3200,"command":"PLAY","command_bytes":"20 01 21","reply_bytes":"10 01 11"}\n{"line":"breaking_record","record":14,"time_us":5600,"wire":"D","byte":"10","elapsed_us":400}\n{"line":"verdict","verdict":"no","record":14,"reason":"P1","text":"reply without a command"}\n{"line":"breaks","breaks":2,"records":14,"exchanges":2,"passed_over":2,"open":0}\n
+contradicting replies in a part behind another|json|record 1 at 0: D 10\nno at record 1: P1 reply without a command\n@preset\n@could\nno at record 18: M1 no run remains\nbreaks 2: records 18, exchanges 0, passed over 18, open 0\n|{"line":"breaking_record","record":1,"time_us":0,"wire":"D","byte":"10"}\n{"line":"verdict","verdict":"no","record":1,"reason":"P1","text":"reply without a command"}\n{"line":"contradicting_exchange","first_record":9,"record":18,"time_us":3600,"command":"IN DATA PRESET","command_time":"10:00:00:00","command_bytes":"44 14 00 00 00 10 68","reply_bytes":"10 01 11","says":{}}\n{"line":"could_show","modes":["STOP","PLAY","REC","FF","REW","SHUTTLE","JOG","VAR","CUED","EJECT"],"in":"unknown","out":"unknown","local":"unknown","ain":"unknown","aout":"unknown"}\n{"line":"verdict","verdict":"no","record":18,"reason":"M1","text":"no run remains"}\n{"line":"breaks","breaks":2,"records":18,"exchanges":0,"passed_over":18,"open":0}\n
+breaks alone|digest|no at record 3: B2 wrong sum\nno at record 9: B2 wrong sum\nbreaks 2: records 9, exchanges 0, passed over 9, open 0\n|no at record 3: B2 wrong sum\nno at record 9: B2 wrong sum\nbreaks 2: records 9, exchanges 0, passed over 9, open 0\n
+what was known in the part before|digest|record 8: STATUS SENSE -> 71 20, @in set\nno at record 9: P1 reply without a command\nrecord 17: STATUS SENSE -> 71 20, @unknown\nrecord 25: STATUS SENSE -> 71 20, @in set\nbreaks 1: records 25, exchanges 3, passed over 1, open 0\n|record 8: STATUS SENSE -> 71 20, in: unknown => set\nno at record 9: P1 reply without a command\n... 1 STATUS SENSE\nrecord 25: STATUS SENSE -> 71 20, in: unknown => set\nbreaks 1: records 25, exchanges 3, passed over 1, open 0\n
 nothing open, and no record before|json|record 1 at 0: D 10\nno at record 1: P1 reply without a command\n|{"line":"breaking_record","record":1,"time_us":0,"wire":"D","byte":"10"}\n{"line":"verdict","verdict":"no","record":1,"reason":"P1","text":"reply without a command"}\n
 a yes alone|digest|yes: records 0, exchanges 0, open 0\n|yes: records 0, exchanges 0, open 0\n
 a command that changes nothing|digest|record 6: PLAY -> ACK, @unknown\nyes: records 7, exchanges 1, open 1\n|record 6: PLAY -> ACK\nyes: records 7, exchanges 1, open 1\n
@@ -98,6 +105,17 @@ an empty line|2|unknown line: |record 6: PLAY -> ACK, @unknown\n\nyes: records 6
 another text|1|unknown line: time_us,wire,byte|time_us,wire,byte\n400,C,20\n
 a line that was cut short|1|unknown line: record 6: PLAY -> ACK, delay 400, goal un|record 6: PLAY -> ACK, delay 400, goal un
 a line after the verdict|2|a line after the verdict: yes: records 0, exchanges 0, open 0|yes: records 0, exchanges 0, open 0\nyes: records 0, exchanges 0, open 0\n
+a line after the totals|2|a line after the totals: no at record 7: B2 wrong sum|breaks 0: records 0, exchanges 0, passed over 0, open 0\nno at record 7: B2 wrong sum\n
+totals that were cut short|1|unknown line: breaks 0: records 0, exchanges 0, passed over 0, open|breaks 0: records 0, exchanges 0, passed over 0, open
+totals with a word|1|unknown line: breaks no: records 0, exchanges 0, passed over 0, open 0|breaks no: records 0, exchanges 0, passed over 0, open 0\n
+totals of a break that is not there|1|the totals count 1 breaks, and 0 stand before them|breaks 1: records 6, exchanges 0, passed over 6, open 0\n
+totals of fewer breaks|3|the totals count 1 breaks, and 2 stand before them|no at record 3: B2 wrong sum\nno at record 9: B2 wrong sum\nbreaks 1: records 9, exchanges 0, passed over 9, open 0\n
+several breaks without totals|2|no totals: the capture can't be read, or the text was cut short|no at record 3: B2 wrong sum\nno at record 9: B2 wrong sum\n
+a part without its end|2|no totals: the capture can't be read, or the text was cut short|no at record 3: B2 wrong sum\nrecord 12: PLAY -> ACK, @unknown\n
+a break at the record of the one before|2|a record that does not come after the one before: no at record 3: B1 wrong group for this wire|no at record 3: B2 wrong sum\nno at record 3: B1 wrong group for this wire\n
+a break before the one before|2|a record that does not come after the one before: no at record 3: B1 wrong group for this wire|no at record 4: L2 no reply\nno at record 3: B1 wrong group for this wire\n
+a yes after a break|2|a line that can't stand here: yes: records 6, exchanges 1, open 0|no at record 3: B2 wrong sum\nyes: records 6, exchanges 1, open 0\n
+a state after a break|2|a line that can't stand here: record 6: @state|no at record 3: B2 wrong sum\nrecord 6: @state\n
 a verdict that was cut short|1|unknown line: yes: records 6, exchanges 1, open|yes: records 6, exchanges 1, open
 a yes with a word|1|unknown line: yes: records 6, exchanges one, open 0|yes: records 6, exchanges one, open 0\n
 a no without a reason|1|unknown line: no at record 6|no at record 6\n
@@ -127,7 +145,7 @@ a state with a mode that is not known|1|unknown line: record 6: goal STOP, shown
 END
 }
 
-# Texts of why that the views refuse which take one.
+# Texts of why, and of a run, that the views refuse which take one.
 bad_whys() {
     refused_by 'json picture' <<'END'
 why without a verdict|2|no verdict: the capture can't be read, or the text was cut short|@preset\n@could\n
@@ -164,6 +182,11 @@ a record that breaks with a checksum of three digits|1|unknown line: record 3 at
 a record that breaks with no run|2|a verdict that is not that of the lines before it: no at record 1: M1 no run remains|record 1 at 0: D 10\nno at record 1: M1 no run remains\n
 a record that breaks at another record|2|a verdict that is not that of the lines before it: no at record 2: P1 reply without a command|record 1 at 0: D 10\nno at record 2: P1 reply without a command\n
 a record that breaks among open ones|2|a record that does not come after the one before: record 1 at 0: D 10|records 1 to 1 at 0: 61\nrecord 1 at 0: D 10\n
+why in the first part alone|3|a line that can't stand here: no at record 9: B2 wrong sum|record 1 at 0: D 10\nno at record 1: P1 reply without a command\nno at record 9: B2 wrong sum\n
+why in the second part alone|3|a line that can't stand here: no at record 9: P1 reply without a command|no at record 3: B2 wrong sum\nrecord 9 at 3600: D 10, 400 after the record before\nno at record 9: P1 reply without a command\n
+an explanation after a part of why|3|a line that can't stand here: record 12: PLAY -> ACK, @unknown|record 1 at 0: D 10\nno at record 1: P1 reply without a command\nrecord 12: PLAY -> ACK, @unknown\n
+totals after a state|2|a line that can't stand here: breaks 0: records 6, exchanges 1, passed over 0, open 0|record 6: @state\nbreaks 0: records 6, exchanges 1, passed over 0, open 0\n
+totals after what is open|2|a line that can't stand here: breaks 0: records 1, exchanges 0, passed over 0, open 1|records 1 to 1 at 400: 61\nbreaks 0: records 1, exchanges 0, passed over 0, open 1\n
 a record that breaks on another wire|1|unknown line: record 1 at 0: E 10|record 1 at 0: E 10\n
 END
 }
@@ -190,6 +213,10 @@ replies that contradict|1|a line of why, and not of an explanation: @preset|-|@p
 a record that breaks|1|a line of why, and not of an explanation: record 1 at 0: D 10|-|record 1 at 0: D 10\nno at record 1: P1 reply without a command\n
 a verdict of lines that are not there|1|the verdict counts 1 exchanges, and 0 lines stand before it|-|yes: records 6, exchanges 1, open 0\n
 a line that was left out|2|the verdict counts 2 exchanges, and 1 lines stand before it|-|record 6: PLAY -> ACK, @unknown\nyes: records 12, exchanges 2, open 0\n
+totals of lines that are not there|1|the totals count 1 exchanges, and 0 lines stand before them|-|breaks 0: records 6, exchanges 1, passed over 0, open 0\n
+a part that was left out|2|the totals count 2 exchanges, and 1 lines stand before them|-|record 6: PLAY -> ACK, @unknown\nbreaks 0: records 12, exchanges 2, passed over 0, open 0\n
+a capture with more records than the totals|1|the capture has not 1 records, as the totals have: @capture|time_us,wire,byte\n1,C,20\n2,C,01\n|breaks 0: records 1, exchanges 0, passed over 0, open 1\n
+a capture with fewer records than the totals|2|the capture has not 9 records, as the totals have: @capture|time_us,wire,byte\n1,D,20\n2,C,01\n|no at record 1: P1 reply without a command\nbreaks 1: records 9, exchanges 0, passed over 1, open 8\n
 no file of this name|0|the capture can't be opened: @capture|none|yes: records 0, exchanges 0, open 0\n
 an empty file|0|no header of a capture: @capture||yes: records 0, exchanges 0, open 0\n
 another file|0|no header of a capture: @capture|time,wire\n|yes: records 0, exchanges 0, open 0\n
@@ -250,6 +277,29 @@ more_delays() {
     judge "$awk: delays: a late reply alone" is_view "$work/want"
 }
 
+# Late replies in 103 parts: PLAY, and its reply after 9,288 microseconds.
+many_late_replies() {
+    awk -v capture="$work/late.csv" -v report="$work/in" 'BEGIN {
+        split("C,20 C,01 C,21 D,10 D,01 D,11", row, " ")
+        print "time_us,wire,byte" > capture
+        for (k = 0; k < 103 * 6; k++) {
+            now += k % 6 == 3 ? 9288 : 400
+            print now "," row[k % 6 + 1] > capture
+            if (k % 6 == 3) print "no at record " k + 1 ": L1 late reply" > report
+        }
+        print "breaks 103: records 618, exchanges 0, passed over 618, open 0" > report
+    }'
+    {
+        echo 'no whole exchange'
+        echo '  limit 9287 |--------------------------------------------------'
+        for ((k = 0; k < 100; k++)); do echo "        9288 |late reply at record $((6 * k + 4)), 1 above the limit"; done
+        echo '         ... |and 3 late replies more'
+        echo 'breaks 103: records 618, exchanges 0, passed over 618, open 0'
+    } > "$work/want"
+    view delays.awk "-v capture=$work/late.csv" < "$work/in"
+    judge "$awk: delays: many late replies" is_view "$work/want"
+}
+
 # Two thousand questions with three events among them, the first question one of them, are seven lines.
 polling() {
     awk 'function send(wire, bytes, n, k, byte) {
@@ -308,17 +358,18 @@ program_texts() {
     while IFS='|' read -r file want_status rest; do
         case "$file" in '#'* | '') continue ;; esac
         for hands in '' --hands; do
-            for verb in check explain run why; do
+            for verb in check explain run why 'check --all' 'explain --all' 'why --all'; do
+                # shellcheck disable=SC2086
                 "$program" $verb $hands "examples/$file" > "$work/in" 2> /dev/null
                 view json.awk '' < "$work/in"
                 judge "$awk: json of $verb $hands $file" is_json
-                [ "$verb" = explain ] || continue
+                case $verb in explain*) ;; *) continue ;; esac
                 view digest.awk "-v capture=examples/$file" < "$work/in"
-                judge "$awk: digest of $file $hands" ends_with_verdict
+                judge "$awk: digest of $verb $file $hands" ends_with_verdict
                 view delays.awk "-v capture=examples/$file" < "$work/in"
-                judge "$awk: delays of $file $hands" ends_with_verdict
+                judge "$awk: delays of $verb $file $hands" ends_with_verdict
                 view motion.awk "-v capture=examples/$file" < "$work/in"
-                judge "$awk: motion of $file $hands" ends_with_verdict
+                judge "$awk: motion of $verb $file $hands" ends_with_verdict
             done
         done
     done < examples/ANSWERS
@@ -328,7 +379,7 @@ program_texts() {
 is_json() {
     [ "$want_status" -le 1 ] || { is_without_verdict; return; }
     [ "$status" = 0 ] && [ ! -s "$work/err" ] && [ -s "$work/in" ] &&
-        jq -R -r 'fromjson | if type == "object" then .first_record // .record // .records // .line else error end' \
+        jq -R -r 'fromjson | if type == "object" then .first_record // .record // .breaks // .records // .line else error end' \
             "$work/out" > "$work/read" &&
         sed -E '/^could show/s/.*/could_show/; t; s/^[^0-9]*([0-9]+).*/\1/' "$work/in" | cmp - "$work/read"
 }
@@ -382,6 +433,7 @@ for awk in mawk 'gawk --posix' 'busybox awk'; do
     bad_explanations
     bad_captures
     more_delays
+    many_late_replies
     polling
     odd_captures
     program_texts
@@ -397,6 +449,10 @@ judge 'the stored explanation of session.csv' cmp "$work/out" examples/views/ses
 judge 'the stored explanation of hands.csv' cmp "$work/out" examples/views/hands.txt
 "$program" explain examples/views/keeps-playing.csv > "$work/out" 2> "$work/err"
 judge 'the stored explanation of keeps-playing.csv' cmp "$work/out" examples/views/keeps-playing.txt
+"$program" explain --all examples/views/several-breaks.csv > "$work/out" 2> "$work/err"
+judge 'the stored explanation of several-breaks.csv' cmp "$work/out" examples/views/several-breaks.txt
+"$program" why --all examples/views/several-breaks.csv > "$work/out" 2> "$work/err"
+judge 'the stored lines of why of several-breaks.csv' cmp "$work/out" examples/views/several-breaks-why.txt
 
 # What a reader of the JSON can tell apart.
 awk=mawk

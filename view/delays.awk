@@ -9,11 +9,15 @@
 # longest bar has fifty marks, each other as many in proportion, rounded up. Where the verdict is L1, with
 # -v capture=FILE the late reply stands below the limit: its delay, its record, and by how much it is late. The verdict
 # is the last line.
+#
+# Of `explain --all` the replies of all parts are counted, and the late reply of each part stands below the limit: a hundred of
+# them, and the number of the others. The totals are the last line.
 
 BEGIN {
     view = "delays.awk"
     limit = 9287
     width = 500
+    most_late = 100     # so many late replies are listed, and the rest is counted
 }
 
 { read_explanation() }
@@ -27,14 +31,26 @@ kind == "exchange" {
     next
 }
 
-{
+late > 0 && ++lates <= most_late {
+    late_line[lates] = sprintf("%12.0f |late reply at record %s, %.0f above the limit", late, record, late - limit)
+}
+
+{ last_line = $0 }
+
+END {
+    if (refused) exit 1
     if (lines > 0) {
         put_table()
         put_histogram()
     } else put("no whole exchange")
     put(sprintf("%12s |%s", "limit " limit, marks("-", 50)))
-    if (late > 0) put(sprintf("%12.0f |late reply at record %s, %.0f above the limit", late, record, late - limit))
-    put($0)
+    put_late()
+    put(last_line)
+}
+
+function put_late(    k) {
+    for (k = 1; k <= lates && k <= most_late; k++) put(late_line[k])
+    if (lates > most_late) put(sprintf("%12s |and %d late replies more", "...", lates - most_late))
 }
 
 # Counts a delay of a command, and of all together under no name. Each delay has a counter: there are few of them,
@@ -95,20 +111,28 @@ BEGIN {
 function read_explanation() {
     read_line()
     if (kind == "state") refuse("a line of a run, and not of an explanation: " $0)
-    if (kind != "exchange" && kind != "yes" && kind != "no") refuse("a line of why, and not of an explanation: " $0)
+    if (kind != "exchange" && kind != "yes" && kind != "no" && kind != "breaks") {
+        refuse("a line of why, and not of an explanation: " $0)
+    }
     if (kind == "yes" && exchanges + 0 != lines + 0) {
         refuse("the verdict counts " exchanges " exchanges, and " lines + 0 " lines stand before it")
     }
+    if (kind == "breaks" && exchanges + 0 != lines + 0) {
+        refuse("the totals count " exchanges " exchanges, and " lines + 0 " lines stand before them")
+    }
+    late = 0
     if (capture == "") return
     if (kind == "no" && reason == "L1") late = late_delay()
     else if (kind == "no") time_of(record, "CD")
-    if (kind == "yes") {
+    if (kind == "yes" || kind == "breaks") {
         while (rows <= records + 0 && next_row()) continue
-        if (rows != records + 0) refuse("the capture has not " records " records, as the verdict has: " capture)
+        if (rows != records + 0) {
+            refuse("the capture has not " records " records, as the " (kind == "yes" ? "verdict has: " : "totals have: ") capture)
+        }
     }
 }
 
-# The delay of the late reply that the verdict is about. It has no line, so it stands in the capture alone.
+# The delay of the late reply at which a part breaks. It has no line, so it stands in the capture alone.
 function late_delay(    asked_at, answer) {
     asked_at = time_of(record - 1, "C")
     answer = time_of(record, "D") - asked_at
@@ -184,14 +208,16 @@ function name_forms(    number, stamp_form, mode_form, k) {
     breaking_form = "^record " number " at " stamp_form ": [CD] [0-9A-F][0-9A-F]" \
         "(, " stamp_form " after the record before)?(, limit " number ")?(, sum [0-9A-F][0-9A-F])?$"
     progress_form = ", " number " of " number " bytes$"
-    may_follow["exchange"] = may_follow["state"] = " nothing exchange state "
-    may_follow["contradicting_exchange"] = " nothing contradicting_exchange "
+    may_follow["exchange"] = " nothing exchange state no "
+    may_follow["state"] = " nothing exchange state "
+    may_follow["contradicting_exchange"] = " nothing contradicting_exchange no "
     may_follow["could_show"] = " contradicting_exchange "
-    may_follow["open_command"] = " nothing "
+    may_follow["open_command"] = " nothing no "
     may_follow["open_reply"] = " open_command "
-    may_follow["breaking_record"] = " nothing contradicting_exchange open_command open_reply "
+    may_follow["breaking_record"] = " nothing contradicting_exchange open_command open_reply no "
     may_follow["yes"] = " nothing exchange state "
-    may_follow["no"] = " nothing exchange state could_show breaking_record "
+    may_follow["no"] = " nothing exchange state could_show breaking_record no "
+    may_follow["breaks"] = " nothing exchange no "
 }
 
 # Takes the line apart. `kind` is then what it is, and these are what it says: of an "exchange" `record`, `command`, `reply`,
@@ -199,21 +225,35 @@ function name_forms(    number, stamp_form, mode_form, k) {
 # and `reason`. `known` has the first `told` of the fields. The lines of `why` are "contradicting_exchange", "could_show",
 # "open_command", "open_reply" and "breaking_record"; an exchange right before the last of these contradicts nothing. `given`
 # has what stands in them, by name, `said` counts what a reply says of the deck, and of "could_show" `known` has the fields
-# from the second to the one numbered `told`.
+# from the second to the one numbered `told`. With --all a "no" ends each part that breaks, and the text ends with its "breaks",
+# the totals: `breaks`, `records`, `exchanges`, `passed_over` and `open`.
 function read_line(    before) {
     sub(/\r$/, "")
     before = kind == "" ? "nothing" : kind
-    if (before == "yes" || before == "no") refuse("a line after the verdict: " $0)
+    if (before == "yes") refuse("a line after the verdict: " $0)
+    if (before == "breaks") refuse("a line after the totals: " $0)
     if ($0 ~ breaking_form) read_breaking()
     else if (/^record /) read_record()
     else if ($0 ~ records_form) read_records()
     else if ($0 ~ could_show_form) read_could_show()
     else if (/^yes: /) read_yes()
+    else if (/^breaks /) read_breaks()
     else read_no()
-    if (index(may_follow[kind], " " before " ") == 0 || !is_alone(before)) refuse("a line that can't stand here: " $0)
+    if (index(may_follow[kind], " " before " ") == 0 || !is_alone(before) || !is_of_one_report(before)) {
+        refuse("a line that can't stand here: " $0)
+    }
 }
 
-# Whether an exchange before a record that breaks is the only one, and says nothing of the deck.
+# Whether the line is of the same report as those before it: only `why` has lines of its own before each "no".
+function is_of_one_report(before,    tells_why) {
+    if (kind == "exchange") return !is_why
+    if (kind != "no") return 1
+    tells_why = before == "could_show" || before == "breaking_record"
+    if (breaks_told == 1) is_why = tells_why
+    return tells_why == is_why
+}
+
+# Whether an exchange before a record that breaks is the only one in its part, and says nothing of the deck.
 function is_alone(before) {
     return kind != "breaking_record" || before != "contradicting_exchange" || (exchanges_told == 1 && said == 0)
 }
@@ -403,6 +443,28 @@ function read_no(    at) {
         refuse("a verdict that is not that of the lines before it: " $0)
     }
     kind = "no"
+    breaks_told++
+    exchanges_told = 0
+    # The record that breaks so may be the first of the next part.
+    if (reason ~ /^(L2|P3|P4|B3)$/) last_record--
+}
+
+function read_breaks() {
+    if (!/^breaks (0|[1-9][0-9]*): records (0|[1-9][0-9]*), exchanges (0|[1-9][0-9]*), passed over (0|[1-9][0-9]*), open (0|[1-9][0-9]*)$/) {
+        refuse_line()
+    }
+    kind = "breaks"
+    breaks = substr($2, 1, length($2) - 1)
+    records = substr($4, 1, length($4) - 1)
+    exchanges = substr($6, 1, length($6) - 1)
+    passed_over = substr($9, 1, length($9) - 1)
+    open = $11
+    if (breaks + 0 != breaks_told + 0) refuse("the totals count " breaks " breaks, and " breaks_told + 0 " stand before them")
+}
+
+# Whether the text came to its end: a verdict that is the only one, or the totals.
+function is_whole() {
+    return kind == "yes" || kind == "breaks" || (kind == "no" && breaks_told == 1)
 }
 
 # Puts a line to the view, which is written when the whole input was read: so an input that is refused leaves no part of
@@ -426,7 +488,7 @@ function refuse(what) {
 # then nothing is said, and the status is the same. One awk answers 256 times the status.
 END {
     if (refused) exit 1
-    if (kind != "yes" && kind != "no") refuse("no verdict: the capture can't be read, or the text was cut short")
+    if (!is_whole()) refuse("no " (breaks_told ? "totals" : "verdict") ": the capture can't be read, or the text was cut short")
     put("whole")
     ended = close(hold)
     if (ended == 141 || ended == 141 * 256) exit 141

@@ -17,6 +17,9 @@
 #     {"line":"breaking_record","record":9,"time_us":15000,"wire":"C","byte":"01","elapsed_us":11800,"limit_us":10287}
 #     {"line":"verdict","verdict":"yes","records":18,"exchanges":2,"open":0}
 #     {"line":"verdict","verdict":"no","record":28,"reason":"M1","text":"no run remains"}
+#     {"line":"breaks","breaks":5,"records":1349,"exchanges":119,"passed_over":43,"open":0}
+#
+# With --all each part that breaks has its verdict, and the totals, "breaks", are the last line.
 #
 # A field of the deck is the very word of the line, always a string: a mode, "unknown", "clear", "set", a time such as
 # "10:00:00:00", "yes", "no", "on" or "off". So what is not known is the word "unknown". No value is ever null, since
@@ -53,6 +56,11 @@ kind == "yes" {
 kind == "no" {
     put("{\"line\":\"verdict\",\"verdict\":\"no\",\"record\":" record ",\"reason\":" string(reason) \
         ",\"text\":" string(text_of[reason]) "}")
+}
+
+kind == "breaks" {
+    put("{\"line\":\"breaks\",\"breaks\":" breaks ",\"records\":" records ",\"exchanges\":" exchanges \
+        ",\"passed_over\":" passed_over ",\"open\":" open "}")
 }
 
 kind == "contradicting_exchange" {
@@ -170,14 +178,16 @@ function name_forms(    number, stamp_form, mode_form, k) {
     breaking_form = "^record " number " at " stamp_form ": [CD] [0-9A-F][0-9A-F]" \
         "(, " stamp_form " after the record before)?(, limit " number ")?(, sum [0-9A-F][0-9A-F])?$"
     progress_form = ", " number " of " number " bytes$"
-    may_follow["exchange"] = may_follow["state"] = " nothing exchange state "
-    may_follow["contradicting_exchange"] = " nothing contradicting_exchange "
+    may_follow["exchange"] = " nothing exchange state no "
+    may_follow["state"] = " nothing exchange state "
+    may_follow["contradicting_exchange"] = " nothing contradicting_exchange no "
     may_follow["could_show"] = " contradicting_exchange "
-    may_follow["open_command"] = " nothing "
+    may_follow["open_command"] = " nothing no "
     may_follow["open_reply"] = " open_command "
-    may_follow["breaking_record"] = " nothing contradicting_exchange open_command open_reply "
+    may_follow["breaking_record"] = " nothing contradicting_exchange open_command open_reply no "
     may_follow["yes"] = " nothing exchange state "
-    may_follow["no"] = " nothing exchange state could_show breaking_record "
+    may_follow["no"] = " nothing exchange state could_show breaking_record no "
+    may_follow["breaks"] = " nothing exchange no "
 }
 
 # Takes the line apart. `kind` is then what it is, and these are what it says: of an "exchange" `record`, `command`, `reply`,
@@ -185,21 +195,35 @@ function name_forms(    number, stamp_form, mode_form, k) {
 # and `reason`. `known` has the first `told` of the fields. The lines of `why` are "contradicting_exchange", "could_show",
 # "open_command", "open_reply" and "breaking_record"; an exchange right before the last of these contradicts nothing. `given`
 # has what stands in them, by name, `said` counts what a reply says of the deck, and of "could_show" `known` has the fields
-# from the second to the one numbered `told`.
+# from the second to the one numbered `told`. With --all a "no" ends each part that breaks, and the text ends with its "breaks",
+# the totals: `breaks`, `records`, `exchanges`, `passed_over` and `open`.
 function read_line(    before) {
     sub(/\r$/, "")
     before = kind == "" ? "nothing" : kind
-    if (before == "yes" || before == "no") refuse("a line after the verdict: " $0)
+    if (before == "yes") refuse("a line after the verdict: " $0)
+    if (before == "breaks") refuse("a line after the totals: " $0)
     if ($0 ~ breaking_form) read_breaking()
     else if (/^record /) read_record()
     else if ($0 ~ records_form) read_records()
     else if ($0 ~ could_show_form) read_could_show()
     else if (/^yes: /) read_yes()
+    else if (/^breaks /) read_breaks()
     else read_no()
-    if (index(may_follow[kind], " " before " ") == 0 || !is_alone(before)) refuse("a line that can't stand here: " $0)
+    if (index(may_follow[kind], " " before " ") == 0 || !is_alone(before) || !is_of_one_report(before)) {
+        refuse("a line that can't stand here: " $0)
+    }
 }
 
-# Whether an exchange before a record that breaks is the only one, and says nothing of the deck.
+# Whether the line is of the same report as those before it: only `why` has lines of its own before each "no".
+function is_of_one_report(before,    tells_why) {
+    if (kind == "exchange") return !is_why
+    if (kind != "no") return 1
+    tells_why = before == "could_show" || before == "breaking_record"
+    if (breaks_told == 1) is_why = tells_why
+    return tells_why == is_why
+}
+
+# Whether an exchange before a record that breaks is the only one in its part, and says nothing of the deck.
 function is_alone(before) {
     return kind != "breaking_record" || before != "contradicting_exchange" || (exchanges_told == 1 && said == 0)
 }
@@ -389,6 +413,28 @@ function read_no(    at) {
         refuse("a verdict that is not that of the lines before it: " $0)
     }
     kind = "no"
+    breaks_told++
+    exchanges_told = 0
+    # The record that breaks so may be the first of the next part.
+    if (reason ~ /^(L2|P3|P4|B3)$/) last_record--
+}
+
+function read_breaks() {
+    if (!/^breaks (0|[1-9][0-9]*): records (0|[1-9][0-9]*), exchanges (0|[1-9][0-9]*), passed over (0|[1-9][0-9]*), open (0|[1-9][0-9]*)$/) {
+        refuse_line()
+    }
+    kind = "breaks"
+    breaks = substr($2, 1, length($2) - 1)
+    records = substr($4, 1, length($4) - 1)
+    exchanges = substr($6, 1, length($6) - 1)
+    passed_over = substr($9, 1, length($9) - 1)
+    open = $11
+    if (breaks + 0 != breaks_told + 0) refuse("the totals count " breaks " breaks, and " breaks_told + 0 " stand before them")
+}
+
+# Whether the text came to its end: a verdict that is the only one, or the totals.
+function is_whole() {
+    return kind == "yes" || kind == "breaks" || (kind == "no" && breaks_told == 1)
 }
 
 # Puts a line to the view, which is written when the whole input was read: so an input that is refused leaves no part of
@@ -412,7 +458,7 @@ function refuse(what) {
 # then nothing is said, and the status is the same. One awk answers 256 times the status.
 END {
     if (refused) exit 1
-    if (kind != "yes" && kind != "no") refuse("no verdict: the capture can't be read, or the text was cut short")
+    if (!is_whole()) refuse("no " (breaks_told ? "totals" : "verdict") ": the capture can't be read, or the text was cut short")
     put("whole")
     ended = close(hold)
     if (ended == 141 || ended == 141 * 256) exit 141

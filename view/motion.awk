@@ -7,7 +7,8 @@
 #
 # It judges nothing: in the rules a deck may take any time to do what it acknowledged. So a capture of a deck that never
 # does it is a yes, and this view is where that is seen. What comes after a command is what comes before the next transport
-# command that is acknowledged, or before the end.
+# command that is acknowledged, or before the end. Of `explain --all` a part's end is one too, since a command may be lost where it
+# breaks, and the totals are the last line.
 #
 # Times of records are those of the reply's last record, and a response is the time from the acknowledgement to the first
 # status that shows the mode. A status shows the mode that the explanation knows after it. Where that is unknown it is the mode
@@ -44,11 +45,17 @@ kind == "exchange" {
 }
 
 {
-    end_stretch()
-    end_command()
+    end_part()
+    last_line = $0
+    broke_at = record
+    broke_by = reason
+}
+
+END {
+    if (refused) exit 1
     put_table()
     put_worth()
-    put($0)
+    put(last_line)
 }
 
 # Each command's mode, and 1 or -1 where the tape runs forward or back by it. STANDBY has no mode of its own.
@@ -77,9 +84,9 @@ function read_bytes(    number, digits, wire, is_answer, n) {
     n = 0
     split("", asked)
     split("", answered)
-    for (number = rows + 1; number <= record + 0; number++) {
+    for (number = first_record(); number <= record + 0; number++) {
         now = time_of(number, number == record + 0 ? "D" : n == 0 ? "C" : "CD") + 0
-        wire = substr(row, length(row) - 3, 1)
+        wire = wire_of_row()
         digits = toupper(substr(row, length(row) - 1))
         if (wire == "D" && !is_answer) {
             is_answer = 1
@@ -94,6 +101,29 @@ function read_bytes(    number, digits, wire, is_answer, n) {
     if (digits == "10 01") digits = "ACK"
     if (digits == "11 12") digits = "NAK"
     if (digits != substr(reply, 1, digits == "NAK" ? 3 : 5)) refuse("record " record " of the capture ends another reply: " capture)
+}
+
+# The record at which the exchange begins: the one behind the exchange before, or after a break the first of the part, which is the
+# first record that may begin a command.
+function first_record(    number, wire, stamp, wire_before, stamp_before, may_begin) {
+    if (broke_at == "") return rows + 1
+    number = broke_at + 0
+    broke_at = ""
+    stamp = time_of(number, "CD")
+    wire = wire_of_row()
+    may_begin = wire == "C" && broke_by ~ /^(L2|P3|P4|B3)$/
+    while (!may_begin) {
+        wire_before = wire
+        stamp_before = stamp
+        stamp = time_of(++number, "CD")
+        wire = wire_of_row()
+        may_begin = wire == "C" && (wire_before == "D" || stamp - stamp_before > 10287)
+    }
+    return number
+}
+
+function wire_of_row() {
+    return substr(row, length(row) - 3, 1)
 }
 
 function value_of(digits) {
@@ -192,6 +222,14 @@ function end_command(    text) {
         never_of[name]++
         worth(text)
     }
+}
+
+# What comes after a part that broke is told of no command before it.
+function end_part() {
+    end_stretch()
+    end_command()
+    name = mode = ""
+    way = 0
 }
 
 function modes_told(    text, k) {
@@ -374,20 +412,28 @@ BEGIN {
 function read_explanation() {
     read_line()
     if (kind == "state") refuse("a line of a run, and not of an explanation: " $0)
-    if (kind != "exchange" && kind != "yes" && kind != "no") refuse("a line of why, and not of an explanation: " $0)
+    if (kind != "exchange" && kind != "yes" && kind != "no" && kind != "breaks") {
+        refuse("a line of why, and not of an explanation: " $0)
+    }
     if (kind == "yes" && exchanges + 0 != lines + 0) {
         refuse("the verdict counts " exchanges " exchanges, and " lines + 0 " lines stand before it")
     }
+    if (kind == "breaks" && exchanges + 0 != lines + 0) {
+        refuse("the totals count " exchanges " exchanges, and " lines + 0 " lines stand before them")
+    }
+    late = 0
     if (capture == "") return
     if (kind == "no" && reason == "L1") late = late_delay()
     else if (kind == "no") time_of(record, "CD")
-    if (kind == "yes") {
+    if (kind == "yes" || kind == "breaks") {
         while (rows <= records + 0 && next_row()) continue
-        if (rows != records + 0) refuse("the capture has not " records " records, as the verdict has: " capture)
+        if (rows != records + 0) {
+            refuse("the capture has not " records " records, as the " (kind == "yes" ? "verdict has: " : "totals have: ") capture)
+        }
     }
 }
 
-# The delay of the late reply that the verdict is about. It has no line, so it stands in the capture alone.
+# The delay of the late reply at which a part breaks. It has no line, so it stands in the capture alone.
 function late_delay(    asked_at, answer) {
     asked_at = time_of(record - 1, "C")
     answer = time_of(record, "D") - asked_at
@@ -463,14 +509,16 @@ function name_forms(    number, stamp_form, mode_form, k) {
     breaking_form = "^record " number " at " stamp_form ": [CD] [0-9A-F][0-9A-F]" \
         "(, " stamp_form " after the record before)?(, limit " number ")?(, sum [0-9A-F][0-9A-F])?$"
     progress_form = ", " number " of " number " bytes$"
-    may_follow["exchange"] = may_follow["state"] = " nothing exchange state "
-    may_follow["contradicting_exchange"] = " nothing contradicting_exchange "
+    may_follow["exchange"] = " nothing exchange state no "
+    may_follow["state"] = " nothing exchange state "
+    may_follow["contradicting_exchange"] = " nothing contradicting_exchange no "
     may_follow["could_show"] = " contradicting_exchange "
-    may_follow["open_command"] = " nothing "
+    may_follow["open_command"] = " nothing no "
     may_follow["open_reply"] = " open_command "
-    may_follow["breaking_record"] = " nothing contradicting_exchange open_command open_reply "
+    may_follow["breaking_record"] = " nothing contradicting_exchange open_command open_reply no "
     may_follow["yes"] = " nothing exchange state "
-    may_follow["no"] = " nothing exchange state could_show breaking_record "
+    may_follow["no"] = " nothing exchange state could_show breaking_record no "
+    may_follow["breaks"] = " nothing exchange no "
 }
 
 # Takes the line apart. `kind` is then what it is, and these are what it says: of an "exchange" `record`, `command`, `reply`,
@@ -478,21 +526,35 @@ function name_forms(    number, stamp_form, mode_form, k) {
 # and `reason`. `known` has the first `told` of the fields. The lines of `why` are "contradicting_exchange", "could_show",
 # "open_command", "open_reply" and "breaking_record"; an exchange right before the last of these contradicts nothing. `given`
 # has what stands in them, by name, `said` counts what a reply says of the deck, and of "could_show" `known` has the fields
-# from the second to the one numbered `told`.
+# from the second to the one numbered `told`. With --all a "no" ends each part that breaks, and the text ends with its "breaks",
+# the totals: `breaks`, `records`, `exchanges`, `passed_over` and `open`.
 function read_line(    before) {
     sub(/\r$/, "")
     before = kind == "" ? "nothing" : kind
-    if (before == "yes" || before == "no") refuse("a line after the verdict: " $0)
+    if (before == "yes") refuse("a line after the verdict: " $0)
+    if (before == "breaks") refuse("a line after the totals: " $0)
     if ($0 ~ breaking_form) read_breaking()
     else if (/^record /) read_record()
     else if ($0 ~ records_form) read_records()
     else if ($0 ~ could_show_form) read_could_show()
     else if (/^yes: /) read_yes()
+    else if (/^breaks /) read_breaks()
     else read_no()
-    if (index(may_follow[kind], " " before " ") == 0 || !is_alone(before)) refuse("a line that can't stand here: " $0)
+    if (index(may_follow[kind], " " before " ") == 0 || !is_alone(before) || !is_of_one_report(before)) {
+        refuse("a line that can't stand here: " $0)
+    }
 }
 
-# Whether an exchange before a record that breaks is the only one, and says nothing of the deck.
+# Whether the line is of the same report as those before it: only `why` has lines of its own before each "no".
+function is_of_one_report(before,    tells_why) {
+    if (kind == "exchange") return !is_why
+    if (kind != "no") return 1
+    tells_why = before == "could_show" || before == "breaking_record"
+    if (breaks_told == 1) is_why = tells_why
+    return tells_why == is_why
+}
+
+# Whether an exchange before a record that breaks is the only one in its part, and says nothing of the deck.
 function is_alone(before) {
     return kind != "breaking_record" || before != "contradicting_exchange" || (exchanges_told == 1 && said == 0)
 }
@@ -682,6 +744,28 @@ function read_no(    at) {
         refuse("a verdict that is not that of the lines before it: " $0)
     }
     kind = "no"
+    breaks_told++
+    exchanges_told = 0
+    # The record that breaks so may be the first of the next part.
+    if (reason ~ /^(L2|P3|P4|B3)$/) last_record--
+}
+
+function read_breaks() {
+    if (!/^breaks (0|[1-9][0-9]*): records (0|[1-9][0-9]*), exchanges (0|[1-9][0-9]*), passed over (0|[1-9][0-9]*), open (0|[1-9][0-9]*)$/) {
+        refuse_line()
+    }
+    kind = "breaks"
+    breaks = substr($2, 1, length($2) - 1)
+    records = substr($4, 1, length($4) - 1)
+    exchanges = substr($6, 1, length($6) - 1)
+    passed_over = substr($9, 1, length($9) - 1)
+    open = $11
+    if (breaks + 0 != breaks_told + 0) refuse("the totals count " breaks " breaks, and " breaks_told + 0 " stand before them")
+}
+
+# Whether the text came to its end: a verdict that is the only one, or the totals.
+function is_whole() {
+    return kind == "yes" || kind == "breaks" || (kind == "no" && breaks_told == 1)
 }
 
 # Puts a line to the view, which is written when the whole input was read: so an input that is refused leaves no part of
@@ -705,7 +789,7 @@ function refuse(what) {
 # then nothing is said, and the status is the same. One awk answers 256 times the status.
 END {
     if (refused) exit 1
-    if (kind != "yes" && kind != "no") refuse("no verdict: the capture can't be read, or the text was cut short")
+    if (!is_whole()) refuse("no " (breaks_told ? "totals" : "verdict") ": the capture can't be read, or the text was cut short")
     put("whole")
     ended = close(hold)
     if (ended == 141 || ended == 141 * 256) exit 141

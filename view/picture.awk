@@ -8,6 +8,9 @@
 # time that passed stands over the limit, in the same measure. A longer silence is cut, with its length beside the cut.
 # -v width=N says how wide the picture may be, in pixels (1200); it is wider where what breaks the rule would not fit.
 #
+# Of a report of --all one break is drawn: the first, or with -v at=RECORD the one at this record. What stands before the part that
+# it breaks is not drawn.
+#
 # Of a no by M1 `why` names the replies that contradict one another. Then each of them has a row, with the command that it answers,
 # and between the rows stands how long after the one the other begins.
 
@@ -15,6 +18,7 @@ BEGIN {
     view = "picture.awk"
     if (width == "") width = 1200
     if (width !~ /^[1-9][0-9]*$/ || width < 700) refuse("width has to be a number from 700 on: " width)
+    if (at != "" && at !~ /^[1-9][0-9]*$/) refuse("at has to be the number of a record: " at)
     byte_us = 287      # how long a byte lasts
     scale = 0.08       # pixels a microsecond
     box = byte_us * scale
@@ -36,6 +40,9 @@ BEGIN {
 
 { read_line() }
 
+# What comes after the break that is drawn.
+verdict != "" { next }
+
 kind == "contradicting_exchange" { keep_exchange() }
 
 # The capture itself has the exchange before a record that breaks.
@@ -43,23 +50,40 @@ kind == "breaking_record" { exchanges_kept = 0 }
 
 kind == "could_show" { could_show = "known of the deck before the last reply: " known_of_deck() }
 
-{ verdict = $0 }
+kind == "no" {
+    if (at == "" || at + 0 == record + 0) {
+        verdict = $0
+        breaking = record + 0
+        breaking_reason = reason
+    } else {
+        exchanges_kept = 0
+        broke_at = record + 0
+        broke_by = reason
+    }
+}
 
 END {
     if (refused) exit 1
-    if (kind == "yes") refuse("the verdict is a yes: there is nothing to draw")
-    if (kind == "no") {
+    if (is_whole()) {
+        if (kind == "yes") refuse("the verdict is a yes: there is nothing to draw")
+        if (breaks_told == 0) refuse("no part breaks: there is nothing to draw")
+        if (verdict == "") refuse("there is no break at record " at)
         if (capture == "") refuse("-v capture=FILE is missing")
-        if (exchanges_kept > 0) {
-            read_exchanges()
-            draw_exchanges()
-        } else {
-            read_capture(record + 0)
-            place_records()
-            choose_records()
-            draw()
-        }
+        reason = breaking_reason
+        draw_break()
     }
+}
+
+function draw_break() {
+    if (exchanges_kept > 0) {
+        read_exchanges()
+        draw_exchanges()
+        return
+    }
+    read_capture(breaking)
+    place_records()
+    choose_records()
+    draw()
 }
 
 # ---- the capture
@@ -68,10 +92,11 @@ END {
 function read_capture(number,    k) {
     rows = -1
     if (!next_row() || row !~ /time_us"?,"?wire"?,"?byte"?\r?$/) refuse("no header of a capture: " capture)
-    breaking = number
+    part_begins = broke_at == "" ? 1 : 0
     while (rows < number + behind && next_row()) take_record()
     if (rows < number) refuse("the capture ends before record " number ": " capture)
-    oldest = number > keep ? number - keep : 1
+    if (part_begins == 0) refuse("no command can begin between the breaks at records " broke_at " and " number ": " capture)
+    oldest = number > part_begins + keep ? number - keep : part_begins
     newest = readable
     for (k = number + 1; k <= newest; k++) begin_or_go_on(k)
     # what is open at the record in question: the command with what there is of the reply
@@ -105,8 +130,18 @@ function take_record(    part, number) {
     stamp[number] = part[1] + 0
     wire[number] = part[2]
     byte[number] = value_of(part[3])
-    if (number <= breaking) begin_or_go_on(number)
+    if (number <= breaking) {
+        if (part_begins == 0 && begins_part(number)) part_begins = number
+        if (part_begins > 0) begin_or_go_on(number)
+    }
     forget(number - keep - 40)
+}
+
+# Whether a record may begin a command after the break before: the first that may is the first of the part.
+function begins_part(number) {
+    if (wire[number] != "C" || number < broke_at) return 0
+    if (number == broke_at) return broke_by ~ /^(L2|P3|P4|B3)$/
+    return wire[number - 1] == "D" || stamp[number] - stamp[number - 1] > limit_of["B3"]
 }
 
 # Lets go of a record, so that memory does not grow with the capture.
@@ -625,14 +660,16 @@ function name_forms(    number, stamp_form, mode_form, k) {
     breaking_form = "^record " number " at " stamp_form ": [CD] [0-9A-F][0-9A-F]" \
         "(, " stamp_form " after the record before)?(, limit " number ")?(, sum [0-9A-F][0-9A-F])?$"
     progress_form = ", " number " of " number " bytes$"
-    may_follow["exchange"] = may_follow["state"] = " nothing exchange state "
-    may_follow["contradicting_exchange"] = " nothing contradicting_exchange "
+    may_follow["exchange"] = " nothing exchange state no "
+    may_follow["state"] = " nothing exchange state "
+    may_follow["contradicting_exchange"] = " nothing contradicting_exchange no "
     may_follow["could_show"] = " contradicting_exchange "
-    may_follow["open_command"] = " nothing "
+    may_follow["open_command"] = " nothing no "
     may_follow["open_reply"] = " open_command "
-    may_follow["breaking_record"] = " nothing contradicting_exchange open_command open_reply "
+    may_follow["breaking_record"] = " nothing contradicting_exchange open_command open_reply no "
     may_follow["yes"] = " nothing exchange state "
-    may_follow["no"] = " nothing exchange state could_show breaking_record "
+    may_follow["no"] = " nothing exchange state could_show breaking_record no "
+    may_follow["breaks"] = " nothing exchange no "
 }
 
 # Takes the line apart. `kind` is then what it is, and these are what it says: of an "exchange" `record`, `command`, `reply`,
@@ -640,21 +677,35 @@ function name_forms(    number, stamp_form, mode_form, k) {
 # and `reason`. `known` has the first `told` of the fields. The lines of `why` are "contradicting_exchange", "could_show",
 # "open_command", "open_reply" and "breaking_record"; an exchange right before the last of these contradicts nothing. `given`
 # has what stands in them, by name, `said` counts what a reply says of the deck, and of "could_show" `known` has the fields
-# from the second to the one numbered `told`.
+# from the second to the one numbered `told`. With --all a "no" ends each part that breaks, and the text ends with its "breaks",
+# the totals: `breaks`, `records`, `exchanges`, `passed_over` and `open`.
 function read_line(    before) {
     sub(/\r$/, "")
     before = kind == "" ? "nothing" : kind
-    if (before == "yes" || before == "no") refuse("a line after the verdict: " $0)
+    if (before == "yes") refuse("a line after the verdict: " $0)
+    if (before == "breaks") refuse("a line after the totals: " $0)
     if ($0 ~ breaking_form) read_breaking()
     else if (/^record /) read_record()
     else if ($0 ~ records_form) read_records()
     else if ($0 ~ could_show_form) read_could_show()
     else if (/^yes: /) read_yes()
+    else if (/^breaks /) read_breaks()
     else read_no()
-    if (index(may_follow[kind], " " before " ") == 0 || !is_alone(before)) refuse("a line that can't stand here: " $0)
+    if (index(may_follow[kind], " " before " ") == 0 || !is_alone(before) || !is_of_one_report(before)) {
+        refuse("a line that can't stand here: " $0)
+    }
 }
 
-# Whether an exchange before a record that breaks is the only one, and says nothing of the deck.
+# Whether the line is of the same report as those before it: only `why` has lines of its own before each "no".
+function is_of_one_report(before,    tells_why) {
+    if (kind == "exchange") return !is_why
+    if (kind != "no") return 1
+    tells_why = before == "could_show" || before == "breaking_record"
+    if (breaks_told == 1) is_why = tells_why
+    return tells_why == is_why
+}
+
+# Whether an exchange before a record that breaks is the only one in its part, and says nothing of the deck.
 function is_alone(before) {
     return kind != "breaking_record" || before != "contradicting_exchange" || (exchanges_told == 1 && said == 0)
 }
@@ -844,6 +895,28 @@ function read_no(    at) {
         refuse("a verdict that is not that of the lines before it: " $0)
     }
     kind = "no"
+    breaks_told++
+    exchanges_told = 0
+    # The record that breaks so may be the first of the next part.
+    if (reason ~ /^(L2|P3|P4|B3)$/) last_record--
+}
+
+function read_breaks() {
+    if (!/^breaks (0|[1-9][0-9]*): records (0|[1-9][0-9]*), exchanges (0|[1-9][0-9]*), passed over (0|[1-9][0-9]*), open (0|[1-9][0-9]*)$/) {
+        refuse_line()
+    }
+    kind = "breaks"
+    breaks = substr($2, 1, length($2) - 1)
+    records = substr($4, 1, length($4) - 1)
+    exchanges = substr($6, 1, length($6) - 1)
+    passed_over = substr($9, 1, length($9) - 1)
+    open = $11
+    if (breaks + 0 != breaks_told + 0) refuse("the totals count " breaks " breaks, and " breaks_told + 0 " stand before them")
+}
+
+# Whether the text came to its end: a verdict that is the only one, or the totals.
+function is_whole() {
+    return kind == "yes" || kind == "breaks" || (kind == "no" && breaks_told == 1)
 }
 
 # Puts a line to the view, which is written when the whole input was read: so an input that is refused leaves no part of
@@ -867,7 +940,7 @@ function refuse(what) {
 # then nothing is said, and the status is the same. One awk answers 256 times the status.
 END {
     if (refused) exit 1
-    if (kind != "yes" && kind != "no") refuse("no verdict: the capture can't be read, or the text was cut short")
+    if (!is_whole()) refuse("no " (breaks_told ? "totals" : "verdict") ": the capture can't be read, or the text was cut short")
     put("whole")
     ended = close(hold)
     if (ended == 141 || ended == 141 * 256) exit 141

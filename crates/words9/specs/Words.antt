@@ -18,6 +18,10 @@ file_rule = new_rule (codes "FILE")
 abbrev pub hands_rule : Rule
 hands_rule = record (new_rule (codes "hands")) { long = Some (codes "hands"); action = Some SetTrue }
 
+-- so is this one, which `run` has not
+abbrev pub all_rule : Rule
+all_rule = record (new_rule (codes "all")) { long = Some (codes "all"); action = Some SetTrue }
+
 -- the word of a verb
 abbrev pub name_of : Verb → Text
 name_of verb.Check = codes "check"
@@ -25,9 +29,16 @@ name_of verb.Explain = codes "explain"
 name_of verb.Run = codes "run"
 name_of verb.Why = codes "why"
 
--- the subcommand of a verb: its word, and then the file and the option
+-- what each subcommand has: the word of its verb, and then the file and the option of the panel
+abbrev pub plain_app_for : Verb → App
+plain_app_for verb = with_rule (with_rule (new_app (name_of verb)) file_rule) hands_rule
+
+-- the subcommand of a verb
 abbrev pub app_for : Verb → App
-app_for verb = with_rule (with_rule (new_app (name_of verb)) file_rule) hands_rule
+app_for verb.Check = with_rule (plain_app_for verb.Check) all_rule
+app_for verb.Explain = with_rule (plain_app_for verb.Explain) all_rule
+app_for verb.Run = plain_app_for verb.Run
+app_for verb.Why = with_rule (plain_app_for verb.Why) all_rule
 
 -- the program, which wants a subcommand, and has a version; its own name is not among the words
 abbrev pub top : App
@@ -46,7 +57,7 @@ program =
 abbrev pub Names : List Text → Verb → List Row → Type 0
 Names words verb rows = (fault_of program words ≡ []) × (subcommand_of program words ≡ Some (name_of verb, rows))
 
--- the row of the option says `true`: it is among the words
+-- the row of an option says `true`: it is among the words
 abbrev pub is_on : Option Text → Bool
 is_on (Some text) = bytes_eq text (codes "true")
 is_on None = false
@@ -57,6 +68,7 @@ pub record IsTaskOf (words : List Text) (task : Task) : Type 0 where
   pub names : Names words task.verb rows
   pub file : option_map string_bytes task.file ≡ first_of (codes "FILE") rows
   pub hands : task.hands ≡ (if is_on (first_of (codes "hands") rows) then hands.Allowed else hands.None)
+  pub all : task.all ≡ is_on (first_of (codes "all") rows)
 
 -- the program does not take the words
 abbrev pub IsNoTask : List Text → Type 0

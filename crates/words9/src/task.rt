@@ -28,6 +28,8 @@ pub struct Task {
     pub file: Option<String>,
     /// Whether somebody may have touched the deck's panel during the capture.
     pub hands: Hands,
+    /// Whether the judging goes on after a break, and judges the whole capture.
+    pub all: bool,
 }
 
 /// Why the words give no task.

@@ -3,7 +3,7 @@ ghost use Rattle.std.specs.Prelude.{◌≡◌, IfOk, false, map};
 ghost use Rattle.std.specs.String.{string_bytes};
 ghost use Rattle.clap.specs.Words.{FailsBy, app_of, fault_of, subcommand_of, subcommand_rows_of, with_subcommand};
 ghost use Rattle.clap.specs.declared.builder.command.Command.TheViews.{out-Command as fields_of};
-ghost use Rattle.words9.specs.Words.{app_for, name_of, program, top};
+ghost use Rattle.words9.specs.Words.{app_for, name_of, plain_app_for, program, top};
 
 use crate::task::{VERSION_LINE, Verb};
 use clap::{Arg, ArgAction, ArgMatches, Command, Error};
@@ -52,9 +52,27 @@ fn above<'a>(alloc: Global) -> Result<Command<'a>, AllocError>
     command.bin_name(NAME)
 }
 
-/// A subcommand with its file and its option.
+/// A subcommand with its file and its options.
 fn subcommand<'a>(alloc: Global, verb: Verb) -> Result<Command<'a>, AllocError>
     ensures app { IfOk result (λ c. app_of c ≡ app_for verb) }
+    ensures local { IfOk result (λ c. (fields_of c).has_globals ≡ false) }
+{
+    let command = plain_subcommand(alloc, verb)?;
+    match verb {
+        Verb::Run => Ok(command),
+        Verb::Check | Verb::Explain | Verb::Why => {
+            let all = Arg::new(alloc, "all")
+                .long("all")
+                .action(ArgAction::SetTrue)
+                .help("Go on after each break, and judge the whole capture");
+            command.arg(all)
+        }
+    }
+}
+
+/// A subcommand with what each has: its file, and the option of the panel.
+fn plain_subcommand<'a>(alloc: Global, verb: Verb) -> Result<Command<'a>, AllocError>
+    ensures app { IfOk result (λ c. app_of c ≡ plain_app_for verb) }
     ensures local { IfOk result (λ c. (fields_of c).has_globals ≡ false) }
 {
     let file = Arg::new(alloc, "FILE").help(

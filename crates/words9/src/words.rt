@@ -15,9 +15,10 @@ use std::alloc::{AllocError, Global};
 /// The task that these words give: those of the command line after the program's own name.
 ///
 /// The words are `check`, `explain`, `run` or `why`, and with it at most one file and, before or after the file, at most once
-/// `--hands`; or they are `--version` or `-V`. What else they may look like is `clap`'s own definition.
+/// `--hands` and, but for `run`, at most once `--all`; or they are `--version` or `-V`. What else they may look like is
+/// `clap`'s own definition.
 ///
-/// * `Ok(task)` only where the definition takes the words. The task has the subcommand, the file and the option
+/// * `Ok(task)` only where the definition takes the words. The task has the subcommand, the file and the options
 ///   that it gives for them.
 /// * `Err(Usage)` only where it does not take them, and they are not those that ask for the version. Words that ask for
 ///   help are not taken.
@@ -44,12 +45,18 @@ pub fn read_words(alloc: Global, words: Vec<String>) -> Result<Task, WordsFault>
     let Ok(file) = file_of(alloc, found) else {
         return Err(WordsFault::NoMemory);
     };
-    let hands = if has_hands(found) {
+    let hands = if is_given(found, "hands") {
         Hands::Allowed
     } else {
         Hands::None
     };
-    Ok(Task { verb, file, hands })
+    let all = is_given(found, "all");
+    Ok(Task {
+        verb,
+        file,
+        hands,
+        all,
+    })
 }
 
 /// The fault of words that `clap` refuses.
@@ -93,11 +100,11 @@ fn file_of(alloc: Global, found: &ArgMatches<'_>) -> Result<Option<String>, Allo
     }
 }
 
-/// Whether the subcommand was given its option.
-fn has_hands(found: &ArgMatches<'_>) -> bool
-    ensures { result ≡ is_on (first_of (codes "hands") (rows_of (found_of found.now))) }
+/// Whether the subcommand was given this option. One that it does not have, it was not given.
+fn is_given(found: &ArgMatches<'_>, option: &str) -> bool
+    ensures { result ≡ is_on (first_of option.now (rows_of (found_of found.now))) }
 {
-    match found.get_str("hands") {
+    match found.get_str(option) {
         Some(text) => text == "true",
         None => false,
     }

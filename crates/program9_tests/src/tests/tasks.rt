@@ -22,16 +22,16 @@ fn owned(alloc: Global, words: &[&str]) -> Result<Vec<String>, AllocError> {
 }
 
 /// Whether these words ask for this.
-fn asks(alloc: Global, words: &[&str], verb: Verb, file: Option<&str>, hands: Hands) -> bool {
+fn asks(alloc: Global, words: &[&str], wanted: &Wanted) -> bool {
     let Ok(task) = task_of(alloc, words) else {
         return false;
     };
-    let same_file = match (&task.file, file) {
+    let same_file = match (&task.file, wanted.file) {
         (Some(name), Some(want)) => name.as_str() == want,
         (None, None) => true,
         _ => false,
     };
-    same_file && task.verb == verb && task.hands == hands
+    same_file && task.verb == wanted.verb && task.hands == wanted.hands && task.all == wanted.all
 }
 
 /// Whether these words are no command.
@@ -42,31 +42,67 @@ fn are_refused(alloc: Global, words: &[&str]) -> bool {
     }
 }
 
-/// Words, and the verb, the file and the hands that they ask for.
-type Asked = (&'static [&'static str], Verb, Option<&'static str>, Hands);
+/// The task that words ask for.
+struct Wanted {
+    verb: Verb,
+    file: Option<&'static str>,
+    hands: Hands,
+    all: bool,
+}
 
-/// tests/cases/words.txt has others. Here a file has a blank in its name, has the option's name beside the option, or has none.
-const COMMANDS: &[Asked] = &[
+/// tests/cases/words.txt has others. Here a file has a blank in its name, has an option's name beside the option, or has none.
+const COMMANDS: &[(&'static [&'static str], Wanted)] = &[
     (
         &["explain", "a b", "--hands"],
-        Verb::Explain,
-        Some("a b"),
-        Hands::Allowed,
+        Wanted {
+            verb: Verb::Explain,
+            file: Some("a b"),
+            hands: Hands::Allowed,
+            all: false,
+        },
     ),
     (
         &["check", "--hands", "--", "--hands"],
-        Verb::Check,
-        Some("--hands"),
-        Hands::Allowed,
+        Wanted {
+            verb: Verb::Check,
+            file: Some("--hands"),
+            hands: Hands::Allowed,
+            all: false,
+        },
     ),
-    (&["check", ""], Verb::Check, Some(""), Hands::None),
+    (
+        &["check", ""],
+        Wanted {
+            verb: Verb::Check,
+            file: Some(""),
+            hands: Hands::None,
+            all: false,
+        },
+    ),
+    (
+        &["why", "--all", "--", "--all"],
+        Wanted {
+            verb: Verb::Why,
+            file: Some("--all"),
+            hands: Hands::None,
+            all: true,
+        },
+    ),
+    (
+        &["explain", "--all", "--hands"],
+        Wanted {
+            verb: Verb::Explain,
+            file: None,
+            hands: Hands::Allowed,
+            all: true,
+        },
+    ),
 ];
 
 #[test]
 fn words_that_are_a_command(rt: HostRuntime) {
-    for (words, verb, file, hands) in COMMANDS {
-        let is_asked = asks(rt.alloc(), *words, *verb, *file, *hands);
-        same(&rt, is_asked, true, *words);
+    for (words, wanted) in COMMANDS {
+        same(&rt, asks(rt.alloc(), *words, wanted), true, *words);
     }
 }
 
@@ -76,4 +112,6 @@ fn words_that_are_none(rt: HostRuntime) {
     same(&rt, are_refused(rt.alloc(), &[""]), true, "an empty word");
     let words = &["help", "--version"];
     same(&rt, are_refused(rt.alloc(), words), true, "help --version");
+    let words = &["run", "--all"];
+    same(&rt, are_refused(rt.alloc(), words), true, "run --all");
 }

@@ -1,0 +1,124 @@
+#!/usr/bin/env bash
+# Goes on after each break: draws captures, damages them, and compares what the built program writes with --all with what is composed
+# of what it writes without; and looks at the statuses and the streams. The last line is 'N passed, M failed'.
+set -u
+cd "$(dirname "$0")/.." || exit 1
+program=${NINECHECK:-$PWD/crates/ninecheck/out/ninecheck}
+. tests/lib/judge.sh
+. tests/lib/errors.sh
+awk=${AWK:-awk}
+
+# How many captures are drawn, every second of them with hands.
+drawn=500
+
+work=$(mktemp -d)
+trap 'rm -rf "$work"' EXIT
+
+# run WORDS...: the program with these words; its streams are left in $work/out and $work/err.
+run() {
+    "$program" "$@" > "$work/out" 2> "$work/err"
+    status=$?
+}
+
+# is_composed FILE STATUS: the last run wrote this, said nothing, and ended with this status.
+is_composed() {
+    [ "$status" = "$2" ] && cmp "$work/out" "$1" && [ ! -s "$work/err" ]
+}
+
+# compare NAME HANDS: check, explain and why of a capture, from its file or from standard input, with the words in another order.
+compare() {
+    local verb words= want
+    [ "$2" = 0 ] || words=--hands
+    for verb in check explain why; do
+        want=1
+        ! grep -q '^breaks 0:' "$work/$1.$verb" || want=0
+        run $verb --all $words "$work/$1.csv"
+        judge "capture $1: $verb --all $words" is_composed "$work/$1.$verb" $want
+        run $verb $words --all < "$work/$1.csv"
+        judge "capture $1: $verb $words --all from standard input" is_composed "$work/$1.$verb" $want
+    done
+}
+
+# at_least LEAST FORM: that many lines of what was composed have this form.
+at_least() {
+    [ "$(grep -cE "$2" "$work/composed")" -ge "$1" ]
+}
+
+"$awk" -v number=$drawn -v folder="$work" -f tests/lib/deck.awk -f tests/lib/drawing.awk > "$work/list"
+"$awk" -v number=$drawn -v folder="$work" -f tests/lib/damaging.awk
+"$awk" '{ print $1 "-damaged " $2 }' "$work/list" > "$work/damaged"
+"$awk" -v program="$program" -v folder="$work" -f tests/lib/composing.awk "$work/damaged" > "$work/composed"
+while read -r name hands; do
+    compare "$name" "$hands"
+done < "$work/damaged"
+
+# What was drawn has what is to be seen.
+for reason in P1 P2 P3 L2 P4 L1 B3 B1 B2 P6 P5 P7 M1; do
+    judge "breaks by $reason" at_least 15 " $reason$"
+done
+judge 'captures of one part' at_least 10 ' of 1 parts'
+judge 'captures of two parts' at_least 50 ' of 2 parts'
+judge 'captures of five parts and more' at_least 50 ' of ([5-9]|[1-9][0-9]+) parts'
+judge 'captures of which nothing is passed over' at_least 10 'passed over 0$'
+
+# PLAY and two acknowledgements, 40,000 times: a part each, of which nothing is kept. The program has 64 MB.
+"$awk" 'BEGIN { split("C,20 C,01 C,21 D,10 D,01 D,11 D,10 D,01 D,11", row, " ")
+    print "time_us,wire,byte"
+    for (k = 0; k < 360000; k++) print 400 * (k + 1) "," row[k % 9 + 1] }' > "$work/many.csv"
+"$awk" 'BEGIN { for (k = 0; k < 40000; k++) print "no at record " 9 * k + 7 ": P1 reply without a command"
+    print "breaks 40000: records 360000, exchanges 40000, passed over 120000, open 0" }' > "$work/want"
+(
+    ulimit -v 65536
+    "$program" check --all < "$work/many.csv" > "$work/out" 2> "$work/err"
+)
+status=$?
+judge 'forty thousand parts' is_composed "$work/want" 1
+(
+    ulimit -v 65536
+    "$program" why --all < "$work/many.csv" > "$work/out" 2> "$work/err"
+)
+status=$?
+grep -E '^(no|breaks) ' "$work/out" > "$work/breaks"
+mv "$work/breaks" "$work/out"
+judge 'why of forty thousand parts' is_composed "$work/want" 1
+
+# A row that can't be read, among records that are passed over and in the last part; and streams that fail. `second` breaks twice.
+second=$work/second.csv
+{
+    cat examples/second-reply.csv
+    printf '4000,C,20\n4400,C,01\n4800,C,21\n5200,D,10\n5600,D,01\n5800,D,11\n6200,D,10\n'
+} > "$second"
+{
+    cat examples/second-reply.csv
+    echo '4000,D,1G'
+} > "$work/bad.csv"
+broken='no at record 7: P1 reply without a command'
+run check --all "$work/bad.csv"
+judge 'a bad row that is passed over' is_text 3 "$broken" "$(both_lines 'unreadable at row 10: byte')"
+run check --all "$second"
+judge 'two breaks' is_text 1 "$broken
+no at record 16: P1 reply without a command
+breaks 2: records 16, exchanges 2, passed over 4, open 0" ''
+(cat "$second"; echo 'no row') | "$program" check --all > "$work/out" 2> "$work/err"
+status=$?
+judge 'a bad row behind the last break' is_text 3 "$broken
+no at record 16: P1 reply without a command" "$(both_lines 'unreadable at row 17: fields')"
+run check --all "$work/absent.csv"
+judge 'an absent file' is_text 4 '' "cannot open
+$work/absent.csv: No such file or directory"
+run explain --all .
+judge 'a directory' is_text 4 '' 'read fault at row 0
+.: Is a directory'
+for verb in check explain why; do
+    "$program" $verb --all "$second" > /dev/full 2> "$work/err"
+    status=$?
+    : > "$work/out"
+    judge "a full device, $verb" is_text 4 '' "$(both_lines 'write fault')"
+    "$program" $verb --all "$second" >&- 2> "$work/err"
+    status=$?
+    judge "a closed output, $verb" is_text 4 '' "$(both_lines 'write fault')"
+done
+run run --all "$second"
+judge 'run has no --all' [ "$status" = 2 -a ! -s "$work/out" ]
+
+tell_counts
