@@ -15,13 +15,13 @@ use Rattle.judge9.proofs.TellLemmas.{cut_counts}
 -- ---- after the line of a break
 
 -- a record broke a rule, the last one that was read, and these are the texts of the parts up to that break
-pub record AfterBreak {R : Type 0} (view : View) (hands : Hands) (rows : Option Rows) (j : Judging R) (reason : Reason) (breaking : LineByte)
+pub record AfterBreak {R : Type 0} (T : BrokenPart → List ℕ → Type 0) (view : View) (hands : Hands) (rows : Option Rows) (j : Judging R) (reason : Reason) (breaking : LineByte)
     (broken : List BrokenPart) (texts : List ℕ) : Type 0 where
   pub items : List LineByte
   pub front : Progress R
   pub read : AreRead rows items front
   pub gives : GivesRecord front breaking j.rows
-  pub are_texts : AreTextsOf view hands broken texts
+  pub are_texts : AreTextsOf T broken texts
   pub few : length (exchanges_of broken) ≤ length items
   pub fits : records_in (exchanges_of broken) ≤ length items
   pub onward : (after : List LineByte) (others : List BrokenPart) (left : Rest) → AreParts hands (rest_after (length items) reason breaking after) others left
@@ -32,11 +32,11 @@ pub exchanges_push : (broken : List BrokenPart) (b : BrokenPart) → exchanges_o
 exchanges_push [] b = append-nil b.part.exchanges
 exchanges_push (x ∷ broken) b = ap (λ l. x.part.exchanges ++ l) (exchanges_push broken b) ∙ sym (append_assoc x.part.exchanges (exchanges_of broken) b.part.exchanges)
 
-texts_push : (view : View) (hands : Hands) (broken : List BrokenPart) (b : BrokenPart) (texts text : List ℕ) → AreTextsOf view hands broken texts
-    → IsTextOf view hands b text → AreTextsOf view hands (broken ++ b ∷ []) (texts ++ text)
-texts_push view hands [] b texts text are is = (text, [], is, refl, rw are (sym (append-nil text)))
-texts_push view hands (x ∷ broken) b texts text are is =
-    (are.0, are.1 ++ text, are.2, texts_push view hands broken b are.1 text are.3 is, ap (λ t. t ++ text) are.4 ∙ append_assoc are.0 are.1 text)
+texts_push : (T : BrokenPart → List ℕ → Type 0) (broken : List BrokenPart) (b : BrokenPart) (texts text : List ℕ) → AreTextsOf T broken texts
+    → T b text → AreTextsOf T (broken ++ b ∷ []) (texts ++ text)
+texts_push T [] b texts text are is = (text, [], is, refl, rw are (sym (append-nil text)))
+texts_push T (x ∷ broken) b texts text are is =
+    (are.0, are.1 ++ text, are.2, texts_push T broken b are.1 text are.3 is, ap (λ t. t ++ text) are.4 ∙ append_assoc are.0 are.1 text)
 
 pub records_joined : (es fs : List Exchange) → records_in (es ++ fs) ≡ records_in es + records_in fs
 records_joined [] fs = omega arith
@@ -55,22 +55,22 @@ broken_at {past = past} {front = front} {es = es} f r reason = record {
 abbrev pub break_line : ℕ → Reason → List ℕ
 break_line at reason = line_of (Verdict.No at reason)
 
-pub after_break : {R : Type 0} {view : View} {hands : Hands} {rows : Option Rows} {broken : List BrokenPart} {past : List LineByte}
-    {old begun now : Option (List ℕ)} {front : Judging R} {es : List Exchange} (j : Judging R) (before : Before view hands broken past old begun)
-    (f : SoFar view hands rows past front begun now es) (r : LineByte) (reason : Reason) → GivesRecord front.rows r j.rows → Breaks hands f.items r reason
+pub after_break : {R : Type 0} {T : BrokenPart → List ℕ → Type 0} {view : View} {hands : Hands} {rows : Option Rows} {broken : List BrokenPart} {past : List LineByte}
+    {old begun now : Option (List ℕ)} {front : Judging R} {es : List Exchange} (j : Judging R) (before : Before T broken past old begun)
+    (f : SoFar view hands rows past front begun now es) (r : LineByte) (reason : Reason) (text : List ℕ) → T (broken_at f r reason) text
+    → GivesRecord front.rows r j.rows → Breaks hands f.items r reason
     → ((more : List LineByte) → Onward hands broken past (f.items ++ r ∷ more))
-    → AfterBreak view hands rows j reason r (broken ++ broken_at f r reason ∷ []) (before.texts ++ (f.text ++ break_line j.rows.given reason))
-after_break {view = view} {hands = hands} {broken = broken} {past = past} {front = front} {es = es} j before f r reason gives breaks on =
+    → AfterBreak T view hands rows j reason r (broken ++ broken_at f r reason ∷ []) (before.texts ++ text)
+after_break {T = T} {view = view} {hands = hands} {broken = broken} {past = past} {front = front} {es = es} j before f r reason text is gives breaks on =
     let b : BrokenPart = broken_at f r reason in
     let size = length-append past f.items in
-    let number : j.rows.given ≡ number_of b = omega (arith, gives.given, f.are_given.given, size) in
     let counts = cut_counts f.items es front.pairer.tail f.cut in
     record {
       items = past ++ f.items;
       front = front.rows;
       read = record { is_reading = f.is_reading; read = f.read; are_given = f.are_given };
       gives = gives;
-      are_texts = texts_push view hands broken b before.texts _ before.are_texts (f.text, f.explained, ap (λ n. f.text ++ break_line n reason) number);
+      are_texts = texts_push T broken b before.texts text before.are_texts is;
       few = rw (exchanges_push broken b) (omega (arith, before.few, size, counts.0, length-append (exchanges_of broken) es));
       fits = rw (exchanges_push broken b) (omega (arith, before.fits, size, cut_len f.items es front.pairer.tail f.cut, records_joined (exchanges_of broken) es));
       onward = λ after others left parts.
@@ -80,8 +80,8 @@ after_break {view = view} {hands = hands} {broken = broken} {past = past} {front
           rw (append_assoc past f.items (r ∷ after), append_assoc broken (b ∷ []) others) all;
     }
 
-module _ {R : Type 0} {view : View} {hands : Hands} {rows : Option Rows} {j : Judging R} {reason : Reason} {breaking : LineByte} {broken : List BrokenPart}
-    {texts : List ℕ} (h : AfterBreak view hands rows j reason breaking broken texts) where
+module _ {R : Type 0} {T : BrokenPart → List ℕ → Type 0} {view : View} {hands : Hands} {rows : Option Rows} {j : Judging R} {reason : Reason} {breaking : LineByte} {broken : List BrokenPart}
+    {texts : List ℕ} (h : AfterBreak T view hands rows j reason breaking broken texts) where
   -- the record that broke is the first of the next part
   at_breaking : begins_next_part reason breaking ≡ true → (more : List LineByte) → Onward hands broken h.items (breaking ∷ more)
   at_breaking begins more others left parts = h.onward more others left (rw begins parts)
@@ -114,7 +114,7 @@ module _ {R : Type 0} {view : View} {hands : Hands} {rows : Option Rows} {j : Ju
       rw (past_joined passed [], append-nil) on
 
   -- the parts before the next one
-  before_next : {old now : Option (List ℕ)} (past : List LineByte) → length h.items ≤ length past → Appends old now texts → Before view hands broken past old now
+  before_next : {old now : Option (List ℕ)} (past : List LineByte) → length h.items ≤ length past → Appends old now texts → Before T broken past old now
   before_next past longer wrote = record { texts = texts; are_texts = h.are_texts; wrote = wrote; few = omega (arith, h.few, longer); fits = omega (arith, h.fits, longer) }
 
   -- the judging stops before the next part
@@ -137,16 +137,16 @@ module _ {R : Type 0} {view : View} {hands : Hands} {rows : Option Rows} {j : Ju
   longer passed = omega (arith, past_size passed)
 
   -- since the line of the break was not written whole
-  pub break-write : {old new : Option (List ℕ)} → AppendsPart old new texts → JudgesParts view hands rows (Err JudgeError.Write) old new
+  pub break-write : {old new : Option (List ℕ)} → AppendsPart old new texts → JudgesParts T view hands rows (Err JudgeError.Write) old new
   break-write part = stopped (λ past keeps more nil on s. parts-write broken texts h.are_texts keeps more on s (rw (nil, append-nil) part))
 
   -- or memory was refused after it
-  break-memory : {old now : Option (List ℕ)} → Appends old now texts → JudgesParts view hands rows (Err JudgeError.OutOfMemory) old now
+  break-memory : {old now : Option (List ℕ)} → Appends old now texts → JudgesParts T view hands rows (Err JudgeError.OutOfMemory) old now
   break-memory wrote = stopped (λ past keeps more nil on s. parts-memory broken texts h.are_texts keeps more on s (rw (nil, append-nil) wrote))
 
   -- or the next turn comes
   pub resume : (old now : Option (List ℕ)) (k : Judging R) (r : Result Turn JudgeError) → Appends old now texts → TakesUp hands reason breaking j r k
-      → Arrives view hands rows old now broken [] r k
+      → Arrives T view hands rows old now broken [] None r k
   resume old now k r wrote (inl (is, rest)) = rw is (break-memory wrote)
   resume old now k r wrote (inr taken) = by (begins_next_part reason breaking) refl taken
     where
@@ -154,9 +154,9 @@ module _ {R : Type 0} {view : View} {hands : Hands} {rows : Option Rows} {j : Ju
           → ((first : LineByte) × (may_begin (last_of breaking passed) first ≡ true) × Resumes hands mid first r k)
           ⊎ ((r ≡ Ok Turn.End) × GivesEnd mid k.rows × Begins hands k)
           ⊎ ((e : CaptureError) × GivesRefusal mid e k.rows × (r ≡ Err (refusal_of e)))
-          → Arrives view hands rows old now broken [] r k
+          → Arrives T view hands rows old now broken [] None r k
       goes_on passed mid after none gives (inl (first, may, new)) =
-          arrive_first (before_next (past_of passed) (longer passed) wrote) new.begins (rw new.rows (read_past passed gives)) (at_first passed first after none may) new.with_first
+          arrive_first view (before_next (past_of passed) (longer passed) wrote) new.begins (rw new.rows (read_past passed gives)) (at_first passed first after none may) new.with_first
       goes_on passed mid after none gives (inr (inl (is, ends, begins))) =
           let read = read_past passed gives in
           let begins_so : Begins hands (record { rows = mid; pairer = k.pairer; tracker = k.tracker }) =
@@ -169,14 +169,15 @@ module _ {R : Type 0} {view : View} {hands : Hands} {rows : Option Rows} {j : Ju
             so_far = so_far-begin begins_so read.is_reading read.read read.are_given;
             turned = record { ends = ends; same_pairer = refl; same_tracker = refl };
             ahead = at_end passed after none;
+            ended = λ nil. refl;
           })
       goes_on passed mid after none gives (inr (inr (e, refusal, is))) =
           rw is (parts-refusal broken texts h.are_texts (keeps-none view hands (past_of passed) refl) (rw append-nil (read_past passed gives)) (at_end passed after none) refusal refl
           (rw append-nil wrote))
 
       by : (b : Bool) → begins_next_part reason breaking ≡ b → MatchBool b ((before : Progress R) → GivesRecord before breaking j.rows
-          → Resumes hands before breaking r k) (ResumesAfter hands breaking j.rows r k) → Arrives view hands rows old now broken [] r k
+          → Resumes hands before breaking r k) (ResumesAfter hands breaking j.rows r k) → Arrives T view hands rows old now broken [] None r k
       by true begins up =
           let new = up h.front h.gives in
-          arrive_first (before_next h.items (omega arith) wrote) new.begins (rw new.rows h.read) (at_breaking begins) new.with_first
+          arrive_first view (before_next h.items (omega arith) wrote) new.begins (rw new.rows h.read) (at_breaking begins) new.with_first
       by false after up = goes_on up.passed up.mid after up.none_begins up.gives up.goes_on

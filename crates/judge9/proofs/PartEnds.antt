@@ -5,14 +5,14 @@ use Rattle.judge9.proofs.Words.{ℕ, ◌++◌, ◌∙◌, ◌∷◌, ◌≡◌, 
 use Rattle.judge9.proofs.Words.{IfOk, IsToTheEnd, Paired, WrittenInParts, ◌+◌}
 use Rattle.verdict9.specs.Lines.{line_of_totals}
 use Rattle.verdict9.specs.declared.totals.Totals.{Totals}
-use Rattle.judge9.proofs.Words.{Appends-nil, IsFresh, no_rows-can_be, Ok, records_of, ToldInParts, ◌<◌}
+use Rattle.judge9.proofs.Words.{Appends-nil, IsFresh, IsTextOf, number_of, no_rows-can_be, Ok, records_of, PartsTold, ◌<◌}
 use Rattle.judge9.proofs.CutSteps.{cut-exchange}
 use Rattle.judge9.proofs.PartMeasure.{left_to_do, less-up}
 use Rattle.judge9.proofs.LineSteps.{appended, cut_len, none_after}
 use Rattle.judge9.proofs.PartBreaks.{after_break, AfterBreak, break_line, break-write, broken_at, exchanges_push, records_joined, resume}
 use Rattle.judge9.proofs.PartLemmas.{IsPlain, Onward, onward-more, onward-start, OnwardAll, parts-memory, parts-write, plain, told_in_parts}
 use Rattle.judge9.proofs.PartTurns.{arrive, Arrives, AtTurn, Before, wrote_all}
-use Rattle.judge9.proofs.SoFar.{given_on, keeps-none, Seen, seen, so_far-start, unread, seen_now, seen_on, so_far-exchange, so_far-exchange_items, so_far-more, SoFar}
+use Rattle.judge9.proofs.SoFar.{exchange_ended, given_on, keeps-none, Seen, seen, so_far-start, unread, seen_now, seen_on, so_far-exchange, so_far-exchange_items, so_far-more, SoFar}
 use Rattle.judge9.proofs.TellLemmas.{breaks-pairing, breaks-run, cut_counts}
 
 -- ---- what is counted
@@ -31,101 +31,112 @@ pub all_exchanges : (broken : List BrokenPart) (b : BrokenPart) (es : List Excha
 all_exchanges broken b es same = append-nil _ ∙ exchanges_push broken b ∙ ap (λ l. exchanges_of broken ++ l) same
 
 -- a break leaves less to do
-pub less-end : {R : Type 0} (hands : Hands) (reason : Reason) (last : LineByte) (j k : Judging R) (old new : Option (List ℕ)) (turn : Turn)
-    → (before : Progress R) × GivesRecord before last j.rows → EndsPart hands reason last j (Ok turn) k old new
+pub less-end : {R : Type 0} (text : List ℕ) (hands : Hands) (reason : Reason) (last : LineByte) (j k : Judging R) (old new : Option (List ℕ)) (turn : Turn)
+    → (before : Progress R) × GivesRecord before last j.rows → EndsPart text hands reason last j (Ok turn) k old new
     → left_to_do turn k < left_to_do (Turn.Break reason last) j
-less-end hands reason last j k old new turn read (inl (x, is, rest)) = absurd (cc is)
-less-end hands reason last j k old new turn read (inr (wrote, up)) = less-up hands read.0 reason last j turn k read.1 up
+less-end text hands reason last j k old new turn read (inl (x, is, rest)) = absurd (cc is)
+less-end text hands reason last j k old new turn read (inr (wrote, up)) = less-up hands read.0 reason last j turn k read.1 up
 
 -- ---- the first turn
 
-before_none : (view : View) (hands : Hands) (old : Option (List ℕ)) → Before view hands [] [] old old
-before_none view hands old = record { texts = []; are_texts = refl; wrote = Appends-nil old; few = omega arith; fits = omega arith }
+before_none : (T : BrokenPart → List ℕ → Type 0) (old : Option (List ℕ)) → Before T [] [] old old
+before_none T old = record { texts = []; are_texts = refl; wrote = Appends-nil old; few = omega arith; fits = omega arith }
 
-pub at_start : {R : Type 0} (view : View) (hands : Hands) (old : Option (List ℕ)) (j k : Judging R) (result : Result Turn JudgeError) → IsFresh hands j
-    → ComesTo j result k → Arrives view hands j.rows.rows old old [] [] result k
-at_start view hands old j k result fresh come = arrive (before_none view hands old) (so_far-start fresh) (onward-start hands) come
+pub at_start : {R : Type 0} (T : BrokenPart → List ℕ → Type 0) (view : View) (hands : Hands) (old : Option (List ℕ)) (j k : Judging R)
+    (result : Result Turn JudgeError) → IsFresh hands j → ComesTo j result k → Arrives T view hands j.rows.rows old old [] [] None result k
+at_start T view hands old j k result fresh come = arrive (before_none T old) None (so_far-start fresh) (onward-start hands) (λ none. refl) come
 
 -- or there was no memory for the tracker, and nothing was read
-pub nothing_told : (view : View) (hands : Hands) (rows : Option Rows) (old : Option (List ℕ)) → ToldInParts view hands rows (Err JudgeError.OutOfMemory) old old
-nothing_told view hands rows old =
+pub nothing_told : (T : BrokenPart → List ℕ → Type 0) (view : View) (hands : Hands) (rows : Option Rows) (old : Option (List ℕ)) → PartsTold T view hands rows (Err JudgeError.OutOfMemory) old old
+nothing_told T view hands rows old =
     told_in_parts [] [] refl (keeps-none view hands [] refl) {left = rows} [] (onward-start hands []) (seen rows rows [] None (unread rows) no_rows-can_be)
     (Err JudgeError.OutOfMemory) (Appends-nil old)
 
 -- ---- the turns
 
-module _ {R : Type 0} {view : View} {hands : Hands} {rows : Option Rows} {broken : List BrokenPart} {past : List LineByte}
-    {old begun now new : Option (List ℕ)} {front : Judging R} {es : List Exchange} (before : Before view hands broken past old begun)
+module _ {R : Type 0} {T : BrokenPart → List ℕ → Type 0} {view : View} {hands : Hands} {rows : Option Rows} {broken : List BrokenPart} {past : List LineByte}
+    {old begun now new : Option (List ℕ)} {front : Judging R} {es : List Exchange} (before : Before T broken past old begun)
     (f : SoFar view hands rows past front begun now es) where
   -- a break
-  part_ends : (j k : Judging R) (last : LineByte) (reason : Reason) (result : Result Turn JudgeError) → GivesRecord front.rows last j.rows → Breaks hands f.items last reason
-      → ((more : List LineByte) → Onward hands broken past (f.items ++ last ∷ more)) → EndsPart hands reason last j result k now new
-      → Arrives view hands rows old new (broken ++ broken_at f last reason ∷ []) [] result k
-  part_ends j k last reason result gives breaks on (inl (x, is, puts)) = rw is (failed x puts)
+  part_ends : (j k : Judging R) (last : LineByte) (reason : Reason) (text : List ℕ) (result : Result Turn JudgeError)
+      → T (broken_at f last reason) (f.text ++ text) → GivesRecord front.rows last j.rows → Breaks hands f.items last reason
+      → ((more : List LineByte) → Onward hands broken past (f.items ++ last ∷ more)) → EndsPart text hands reason last j result k now new
+      → Arrives T view hands rows old new (broken ++ broken_at f last reason ∷ []) [] None result k
+  part_ends j k last reason text result told gives breaks on (inl (x, is, puts)) = rw is (failed x puts)
     where
-      broke : AfterBreak view hands rows j reason last (broken ++ broken_at f last reason ∷ []) (before.texts ++ (f.text ++ break_line j.rows.given reason))
-      broke = after_break j before f last reason gives breaks on
+      broke : AfterBreak T view hands rows j reason last (broken ++ broken_at f last reason ∷ []) (before.texts ++ (f.text ++ text))
+      broke = after_break j before f last reason (f.text ++ text) told gives breaks on
 
-      failed : (x : JudgeError) → Puts {A = Turn} (break_line j.rows.given reason) (Err x) now new → JudgesParts view hands rows (Err x) old new
+      failed : (x : JudgeError) → Puts {A = Turn} text (Err x) now new → JudgesParts T view hands rows (Err x) old new
       failed (JudgeError.Capture e) puts = absurd puts
       failed JudgeError.Write puts =
-          break-write broke (part_after old begun new before.texts (f.text ++ break_line j.rows.given reason) before.wrote
-          (part_after begun now new f.text (break_line j.rows.given reason) f.wrote puts))
+          break-write broke (part_after old begun new before.texts (f.text ++ text) before.wrote (part_after begun now new f.text text f.wrote puts))
       failed JudgeError.OutOfMemory puts =
           parts-memory broken before.texts before.are_texts f.keeps {left = j.rows.rows} (last ∷ []) (on []) (seen_on f gives)
           (wrote_all before new f.text (none_after begun now new f.text f.wrote puts))
-  part_ends j k last reason result gives breaks on (inr (wrote, up)) =
-      resume (after_break j before f last reason gives breaks on) old new k result
-      (wrote_all before new (f.text ++ break_line j.rows.given reason) (Appends-trans begun now new f.text (break_line j.rows.given reason) f.wrote wrote)) up
+  part_ends j k last reason text result told gives breaks on (inr (wrote, up)) =
+      resume (after_break j before f last reason (f.text ++ text) told gives breaks on) old new k result
+      (wrote_all before new (f.text ++ text) (Appends-trans begun now new f.text text f.wrote wrote)) up
 
-module _ {R : Type 0} {view : View} {hands : Hands} {rows : Option Rows} {broken : List BrokenPart} {old now : Option (List ℕ)} {j : Judging R}
-    {es : List Exchange} where
+-- what a view shows of such a part
+pub shown_text : {R : Type 0} {view : View} {hands : Hands} {rows : Option Rows} {past : List LineByte} {begun now : Option (List ℕ)} {front : Judging R}
+    {es : List Exchange} (j : Judging R) (f : SoFar view hands rows past front begun now es) (last : LineByte) (reason : Reason) → GivesRecord front.rows last j.rows
+    → IsTextOf view hands (broken_at f last reason) (f.text ++ break_line j.rows.given reason)
+shown_text {past = past} j f last reason gives =
+    let number : j.rows.given ≡ number_of (broken_at f last reason) = omega (arith, gives.given, f.are_given.given, length-append past f.items) in
+    (f.text, f.explained, ap (λ n. f.text ++ break_line n reason) number)
+
+module _ {R : Type 0} {T : BrokenPart → List ℕ → Type 0} {view : View} {hands : Hands} {rows : Option Rows} {broken : List BrokenPart} {old now : Option (List ℕ)} {j : Judging R}
+    {es : List Exchange} {end_us : Option ℕ} where
   -- by a rule of pairing
-  pub at_break : (k : Judging R) {new : Option (List ℕ)} {reason : Reason} {last : LineByte} (result : Result Turn JudgeError)
-      → AtTurn view hands rows (Turn.Break reason last) j old now broken es → EndsPart hands reason last j result k now new
-      → (b : BrokenPart) × (b.part.exchanges ≡ es) × Arrives view hands rows old new (broken ++ b ∷ []) [] result k
-  at_break k {new = new} {reason = reason} {last = last} result h ends =
+  pub at_break : (k : Judging R) {new : Option (List ℕ)} {reason : Reason} {last : LineByte} (text : List ℕ) (result : Result Turn JudgeError)
+      (h : AtTurn T view hands rows (Turn.Break reason last) j old now broken es end_us) → T (broken_at h.so_far h.turned.0 reason) (h.so_far.text ++ text)
+      → EndsPart text hands reason last j result k now new
+      → (b : BrokenPart) × (b.part.exchanges ≡ es) × Arrives T view hands rows old new (broken ++ b ∷ []) [] None result k
+  at_break k {new = new} {reason = reason} {last = last} text result h told ends =
       let t = h.turned in (
         broken_at h.so_far t.0 reason,
         refl,
-        part_ends h.before h.so_far j k t.0 reason result t.1.1.gives (breaks-pairing h.so_far t.1.1) h.ahead
-            (subst (λ r. EndsPart hands reason r j result k now new) t.1.0 ends),
+        part_ends h.before h.so_far j k t.0 reason text result told t.1.1.gives (breaks-pairing h.so_far t.1.1) h.ahead
+            (subst (λ r. EndsPart text hands reason r j result k now new) t.1.0 ends),
       )
 
   -- or by the deck
-  pub at_no_run : (k : Judging R) {new : Option (List ℕ)} {e : Exchange} {last : LineByte} (result : Result Turn JudgeError)
-      → AtTurn view hands rows (Turn.NoRun e last) j old now broken es → EndsPart hands Reason.NoRun last j result k now new
-      → (b : BrokenPart) × (b.part.exchanges ≡ es) × Arrives view hands rows old new (broken ++ b ∷ []) [] result k
-  at_no_run k {new = new} {last = last} result h ends =
+  pub at_no_run : (k : Judging R) {new : Option (List ℕ)} {e : Exchange} {last : LineByte} (text : List ℕ) (result : Result Turn JudgeError)
+      (h : AtTurn T view hands rows (Turn.NoRun e last) j old now broken es end_us) → T (broken_at h.so_far h.turned.0 Reason.NoRun) (h.so_far.text ++ text)
+      → EndsPart text hands Reason.NoRun last j result k now new
+      → (b : BrokenPart) × (b.part.exchanges ≡ es) × Arrives T view hands rows old new (broken ++ b ∷ []) [] None result k
+  at_no_run k {new = new} {last = last} text result h told ends =
       let t = h.turned in (
         broken_at h.so_far t.0 Reason.NoRun,
         refl,
-        part_ends h.before h.so_far j k t.0 Reason.NoRun result t.1.1.gives (breaks-run h.so_far t.1.1 t.1.2) h.ahead
-            (subst (λ r. EndsPart hands Reason.NoRun r j result k now new) t.1.0 ends),
+        part_ends h.before h.so_far j k t.0 Reason.NoRun text result told t.1.1.gives (breaks-run h.so_far t.1.1 t.1.2) h.ahead
+            (subst (λ r. EndsPart text hands Reason.NoRun r j result k now new) t.1.0 ends),
       )
 
   -- the record was read last
-  pub break_read : {reason : Reason} {last : LineByte} → AtTurn view hands rows (Turn.Break reason last) j old now broken es
+  pub break_read : {reason : Reason} {last : LineByte} → AtTurn T view hands rows (Turn.Break reason last) j old now broken es end_us
       → (before : Progress R) × GivesRecord before last j.rows
   break_read h = (h.front.rows, rw h.turned.1.0 h.turned.1.1.gives)
 
-  pub no_run_read : {e : Exchange} {last : LineByte} → AtTurn view hands rows (Turn.NoRun e last) j old now broken es
+  pub no_run_read : {e : Exchange} {last : LineByte} → AtTurn T view hands rows (Turn.NoRun e last) j old now broken es end_us
       → (before : Progress R) × GivesRecord before last j.rows
   no_run_read h = (h.front.rows, rw h.turned.1.0 h.turned.1.1.gives)
 
   -- an exchange, and what comes after it
   pub at_exchange : {k : Judging R} {new : Option (List ℕ)} {e : Exchange} (result : Result Turn JudgeError)
-      → AtTurn view hands rows (Turn.Exchange e) j old now broken es → Explains view hands j.rows.given e (Possible j.tracker.states) (Ok tt) now new
-      → ComesTo j result k → Arrives view hands rows old new broken (es ++ e ∷ []) result k
-  at_exchange result h line come =
+      → AtTurn T view hands rows (Turn.Exchange e) j old now broken es end_us → Explains view hands j.rows.given e (Possible j.tracker.states) (Ok tt) now new
+      → ComesTo j result k → Arrives T view hands rows old new broken (es ++ e ∷ []) j.pairer.last_time result k
+  at_exchange {new = new} result h line come =
       let t = h.turned in
       let far = so_far-exchange h.so_far line.line t.1.0 t.1.1 line.is_line line.puts in
-      arrive h.before far (subst (OnwardAll hands broken h.past) (sym (so_far-exchange_items h.so_far _ line.line t.1.0 t.1.1 line.is_line line.puts))
-      (onward-more hands broken h.past h.so_far.items t.0 h.ahead)) come
+      let all = subst (OnwardAll hands broken h.past) (sym (so_far-exchange_items h.so_far new line.line t.1.0 t.1.1 line.is_line line.puts))
+      (onward-more hands broken h.past h.so_far.items t.0 h.ahead) in
+      arrive h.before j.pairer.last_time far all (λ nil. exchange_ended h.so_far new line.line t.1.0 t.1.1 line.is_line line.puts) come
 
   -- whose line was not written whole
-  pub at_unexplained : {new : Option (List ℕ)} {e : Exchange} (x : JudgeError) → AtTurn view hands rows (Turn.Exchange e) j old now broken es
-      → Explains view hands j.rows.given e (Possible j.tracker.states) (Err x) now new → JudgesParts view hands rows (Err x) old new
+  pub at_unexplained : {new : Option (List ℕ)} {e : Exchange} (x : JudgeError) → AtTurn T view hands rows (Turn.Exchange e) j old now broken es end_us
+      → Explains view hands j.rows.given e (Possible j.tracker.states) (Err x) now new → JudgesParts T view hands rows (Err x) old new
   unfolding so_far-exchange so_far-more
   at_unexplained (JudgeError.Capture c) h line = absurd line.puts
   at_unexplained {new = new} JudgeError.Write h line =
@@ -141,7 +152,7 @@ module _ {R : Type 0} {view : View} {hands : Hands} {rows : Option Rows} {broken
       (wrote_all h.before new h.so_far.text (none_after h.begun now new h.so_far.text h.so_far.wrote line.puts))
 
   -- how many records and exchanges there are with it
-  pub exchange_fits : {e : Exchange} → AtTurn view hands rows (Turn.Exchange e) j old now broken es
+  pub exchange_fits : {e : Exchange} → AtTurn T view hands rows (Turn.Exchange e) j old now broken es end_us
       → (records_in (exchanges_of broken ++ (es ++ e ∷ [])) ≤ 4000000) × (length (exchanges_of broken ++ (es ++ e ∷ [])) ≤ 4000000)
   exchange_fits {e = e} h =
       let feeds = h.turned.1.0 in
@@ -154,7 +165,7 @@ module _ {R : Type 0} {view : View} {hands : Hands} {rows : Option Rows} {broken
       )
 
   -- the end: how many records are in exchanges or open
-  pub end_fits : AtTurn view hands rows Turn.End j old now broken es → records_in (exchanges_of broken ++ es) + length j.pairer.tail ≤ j.rows.given
+  pub end_fits : AtTurn T view hands rows Turn.End j old now broken es end_us → records_in (exchanges_of broken ++ es) + length j.pairer.tail ≤ j.rows.given
   end_fits h =
       let f = h.so_far in
       let ends : j.rows.given ≡ h.front.rows.given = h.turned.ends.given in
@@ -171,10 +182,10 @@ module _ {R : Type 0} {view : View} {hands : Hands} {rows : Option Rows} {broken
       )
 
   -- and what is told there
-  pub at_the_end : {new : Option (List ℕ)} (t : Totals) (r : Result Totals JudgeError) → AtTurn view hands rows Turn.End j old now broken es
+  pub at_the_end : {new : Option (List ℕ)} (t : Totals) (r : Result Totals JudgeError) → AtTurn T view hands rows Turn.End j old now broken es end_us
       → t.breaks ≡ length broken → t.records ≡ j.rows.given → t.exchanges ≡ length (exchanges_of broken ++ es) → t.tail ≡ length j.pairer.tail
       → records_in (exchanges_of broken ++ es) + t.passed_over + t.tail ≡ j.rows.given → IfOk r (λ told. told ≡ t) → Puts (line_of_totals t) r now new
-      → JudgesParts view hands rows r old new
+      → JudgesParts T view hands rows r old new
   at_the_end {new = new} t r h breaks records exchanges tail passed same puts = by r same puts
     where
       f : SoFar view hands rows h.past h.front h.begun now es
@@ -205,10 +216,10 @@ module _ {R : Type 0} {view : View} {hands : Hands} {rows : Option Rows} {broken
 
       told : (r : Result Totals JudgeError) → IsPlain r → WrittenInParts s.all (h.past ++ (f.items ++ [])) broken (record { past = length h.past; records = f.items ++ [] })
           (record { past = length h.past; records = f.items; exchanges = es; tail = h.front.pairer.tail }) (h.before.texts ++ f.text) r old new
-          → JudgesParts view hands rows r old new
+          → JudgesParts T view hands rows r old new
       told r is written = plain r is (told_in_parts broken h.before.texts h.before.are_texts f.keeps [] on s r written)
 
-      by : (r : Result Totals JudgeError) → IfOk r (λ told. told ≡ t) → Puts (line_of_totals t) r now new → JudgesParts view hands rows r old new
+      by : (r : Result Totals JudgeError) → IfOk r (λ told. told ≡ t) → Puts (line_of_totals t) r now new → JudgesParts T view hands rows r old new
       by (Ok w) same puts = rw same (told (Ok t) tt
           (to_the_end, Appends-trans old now new (h.before.texts ++ f.text) (line_of_totals t) (wrote_all h.before now f.text f.wrote) puts))
       by (Err (JudgeError.Capture e)) same puts = absurd puts

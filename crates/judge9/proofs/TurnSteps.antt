@@ -25,17 +25,6 @@ pub comes : {R : Type 0} {which : View} {hands : Hands} {rows : Option Rows} {pa
 comes {which = which} {hands = hands} {rows = rows} {past = past} {old = old} {now = now} {es = es} h c at =
     at c.front (opened (λ k. SoFar which hands rows past k old now es) (λ i k r far waits. so_far-open far waits) c.are_open.0 c.front h c.are_open.1) c.turned
 
--- and what holds of its records, where one more keeps it
-pub comes_with : {R : Type 0} {which : View} {hands : Hands} {rows : Option Rows} {past : List LineByte} {j k : Judging R} {old now : Option (List ℕ)}
-    {es : List Exchange} {r : Result Turn JudgeError} {P : Type 0} (Q : List LineByte → Type 0)
-    → ((items : List LineByte) (r : LineByte) → Q items → Q (items ++ r ∷ [])) → (h : SoFar which hands rows past j old now es) → Q h.items → ComesTo j r k
-    → ((front : Judging R) (f : SoFar which hands rows past front old now es) → Q f.items → Turned front r k → P) → P
-comes_with {which = which} {hands = hands} {rows = rows} {past = past} {old = old} {now = now} {es = es} Q more h q c at =
-    let w = opened (λ i. (f : SoFar which hands rows past i old now es) × Q f.items)
-    (λ i k r far waits. (so_far-open far.0 waits, subst Q (sym (so_far-open_items far.0 waits)) (more far.0.items r far.1))) c.are_open.0 c.front (h, q)
-    c.are_open.1 in
-    at c.front w.0 w.1 c.turned
-
 -- such a row leaves a record open
 filled : {P : Type 0} (t : List LineByte) (r : LineByte) → t ++ r ∷ [] ≡ [] → P
 filled [] r e = cc
@@ -45,16 +34,31 @@ left_open : {R : Type 0} {P : Type 0} {j k : Judging R} {r : LineByte} (s : Step
 left_open (Step.Exchange e) feeds is_open nil = absurd is_open
 left_open {j = j} {r = r} s feeds is_open nil = filled j.pairer.tail r (sym feeds.takes.tail ∙ nil)
 
--- the same with the time at which the last exchange ended, where no record is open
+-- and what holds of its records, where one more keeps it
+pub comes_with : {R : Type 0} {which : View} {hands : Hands} {rows : Option Rows} {past : List LineByte} {j k : Judging R} {old now : Option (List ℕ)}
+    {es : List Exchange} {r : Result Turn JudgeError} {P : Type 0} (Q : Judging R → List LineByte → Type 0)
+    → ((i k : Judging R) (items : List LineByte) (r : LineByte) → Q i items → Waits i k r → Q k (items ++ r ∷ []))
+    → (h : SoFar which hands rows past j old now es) → Q j h.items → ComesTo j r k
+    → ((front : Judging R) (f : SoFar which hands rows past front old now es) → Q front f.items → Turned front r k → P) → P
+comes_with {which = which} {hands = hands} {rows = rows} {past = past} {old = old} {now = now} {es = es} Q more h q c at =
+    let w = opened (λ i. (f : SoFar which hands rows past i old now es) × Q i f.items)
+    (λ i k r far waits. (so_far-open far.0 waits, subst (Q k) (sym (so_far-open_items far.0 waits)) (more i k far.0.items r far.1 waits))) c.are_open.0 c.front (h, q)
+    c.are_open.1 in
+    at c.front w.0 w.1 c.turned
+
+-- with the time at which the last exchange ended, where no record is open
+abbrev pub IsEnded : {R : Type 0} → List Exchange → Option ℕ → Judging R → List LineByte → Type 0
+IsEnded es end_us j items = j.pairer.tail ≡ [] → IsEnd items es end_us
+
+pub ended-more : {R : Type 0} (es : List Exchange) (end_us : Option ℕ) (i k : Judging R) (items : List LineByte) (r : LineByte) → IsEnded es end_us i items
+    → Waits i k r → IsEnded es end_us k (items ++ r ∷ [])
+ended-more es end_us i k items r ended waits = λ nil. left_open waits.step waits.feeds waits.is_open nil
+
 pub comes_ended : {R : Type 0} {which : View} {hands : Hands} {rows : Option Rows} {past : List LineByte} {j k : Judging R} {old now : Option (List ℕ)}
     {es : List Exchange} {r : Result Turn JudgeError} (end_us : Option ℕ) {P : Type 0} (h : SoFar which hands rows past j old now es)
     → IsEnd h.items es end_us → ComesTo j r k → ((front : Judging R) (f : SoFar which hands rows past front old now es)
     → (front.pairer.tail ≡ [] → IsEnd f.items es end_us) → Turned front r k → P) → P
-comes_ended {which = which} {hands = hands} {rows = rows} {past = past} {old = old} {now = now} {es = es} end_us h ended c at =
-    let w = opened (λ i. (f : SoFar which hands rows past i old now es) × (i.pairer.tail ≡ [] → IsEnd f.items es end_us))
-    (λ i k r far waits. (so_far-open far.0 waits, λ nil. left_open waits.step waits.feeds waits.is_open nil)) c.are_open.0 c.front (h, λ nil. ended) c.are_open.1
-    in
-    at c.front w.0 w.1 c.turned
+comes_ended {es = es} end_us h ended c at = comes_with (IsEnded es end_us) (ended-more es end_us) h (λ nil. ended) c at
 
 -- one such row more
 pub waits_more : {R : Type 0} {j front k : Judging R} {r : LineByte} → (n : ℕ) × AreOpen n j front → Waits front k r

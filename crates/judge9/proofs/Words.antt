@@ -49,7 +49,7 @@ pub use Rattle.block9.specs.Line.{last_time}
 pub use Rattle.judge9.specs.Working.Trail.{Arrived, KeepsEnds, FollowsFrom, GoesBack, IsBeforeAll, IsEnd, IsTrail, KeepsTrail, Leads, LeadsFrom, stretch_length}
 pub use Rattle.judge9.specs.Parts.{AreParts, AreTotals, BrokenPart, exchanges_of, from_command, IsPart, may_begin, number_of, Part, records_in, Rest, rest_after, takes_up_at}
 pub use Rattle.judge9.specs.Parts.{begins_next_part}
-pub use Rattle.judge9.specs.PartsReport.{AreTextsOf, InParts, IsRefusedAfter, IsTextOf, IsToTheEnd, ToldInParts, WrittenInParts}
+pub use Rattle.judge9.specs.PartsReport.{AreTextsOf, InParts, PartsTold, IsRefusedAfter, IsTextOf, IsToTheEnd, ToldInParts, WrittenInParts}
 pub use Rattle.judge9.specs.Working.Parts.{BeginsWith, EndsPart, GivesAll, JudgesParts, last_of, GoesOn, NoneBegins, Resumes, PassesOver, ResumesAfter, TakesUp}
 pub use Rattle.judge9.specs.Working.Turn.{AreOpen, Begins, ComesTo, EndsRows, Feeds, IsFresh, IsObserved, IsOpen, IsTaken, Observes, Spoils, Turned, Waits}
 pub use Rattle.judge9.specs.declared.judging.Turn.TheVariants.{the_data as Turn}

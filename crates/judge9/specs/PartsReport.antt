@@ -1,5 +1,5 @@
 -- The text of a report on all parts of a capture, and how much of it was written.
-use Rattle.std.specs.Prelude.{◌≡◌, ◌⊎◌, ℕ, List, [], ◌∷◌, ◌++◌, length, IsTrue, Option, Some, None, Result, Ok, Err}
+use Rattle.std.specs.Prelude.{◌+◌, ◌≡◌, ◌⊎◌, ℕ, List, [], ◌∷◌, ◌++◌, length, IsTrue, Option, Some, None, Result, Ok, Err}
 use Rattle.std.specs.Option.{IfNone, IfSome}
 use Rattle.std.specs.Io.KnownBytes.{Appends}
 use Rattle.capture9.specs.declared.error.CaptureError.{CaptureError}
@@ -15,24 +15,35 @@ use Rattle.verdict9.specs.declared.error.JudgeError.TheVariants as error
 use Rattle.verdict9.specs.declared.totals.Totals.{Totals}
 use Rattle.verdict9.specs.declared.verdict.Verdict.TheVariants.{No}
 use Rattle.verdict9.specs.declared.verdict.View.{View}
+use Rattle.verdict9.specs.declared.verdict.View.TheVariants as view
+use Rattle.verdict9.specs.declared.why_verdict.WhyVerdict.{WhyVerdict}
+use Rattle.report9.specs.WhyText.{text_of_why}
 use Rattle.text9.specs.Writing.{AppendsPart}
 use Rattle.judge9.specs.Parts.{AreParts, AreTotals, BrokenPart, IsPart, Part, Rest, number_of}
 use Rattle.judge9.specs.Report.{IsExplained}
+use Rattle.judge9.specs.WhyVerdict.{HasItsWhy, moved, verdict_of}
 
 -- what a view shows of a part that breaks: the lines of its exchanges, and the line of its break
 abbrev pub IsTextOf : View → Hands → BrokenPart → List ℕ → Type 0
 IsTextOf view hands b text =
     (lines : List ℕ) × IsExplained view hands b.part.past b.part.exchanges lines × (text ≡ lines ++ line_of (No (number_of b) b.reason))
 
--- of all these parts, one after another
-abbrev pub AreTextsOf : View → Hands → List BrokenPart → List ℕ → Type 0
-AreTextsOf view hands [] text = text ≡ []
-AreTextsOf view hands (b ∷ broken) text =
-    (first : List ℕ) × (others : List ℕ) × IsTextOf view hands b first × AreTextsOf view hands broken others × (text ≡ first ++ others)
+-- what is told of a part that breaks, and why it does: as `why` tells it of a capture that ends with the record that breaks,
+-- with the numbers that its records have in the whole capture
+abbrev pub IsWhyOf : Hands → BrokenPart → List ℕ → Type 0
+IsWhyOf hands b text =
+    (why : WhyVerdict) × (verdict_of why ≡ No (length b.part.records + 1) b.reason)
+    × HasItsWhy hands (record { records = b.part.records ++ b.breaking ∷ []; fault = None }) why × (text ≡ text_of_why hands (moved b.part.past why))
+
+-- the texts of all these parts, one after another, where this is the text of each
+abbrev pub AreTextsOf : (BrokenPart → List ℕ → Type 0) → List BrokenPart → List ℕ → Type 0
+AreTextsOf IsText [] text = text ≡ []
+AreTextsOf IsText (b ∷ broken) text =
+    (first : List ℕ) × (others : List ℕ) × IsText b first × AreTextsOf IsText broken others × (text ≡ first ++ others)
 
 -- what came of these rows is told of the first of their records, `items`: they have these parts that break, and what is left
--- of them begins with the last part, which keeps the rules; `text` is what the view shows of all these parts
-pub record InParts (view : View) (hands : Hands) (rows : Rows) (items : List LineByte) (broken : List BrokenPart) (left : Rest) (last : Part)
+-- of them begins with the last part, which keeps the rules; `text` is that of the parts that break, and what the view shows of the last
+pub record InParts (IsText : BrokenPart → List ℕ → Type 0) (view : View) (hands : Hands) (rows : Rows) (items : List LineByte) (broken : List BrokenPart) (left : Rest) (last : Part)
     (text : List ℕ) : Type 0 where
   pub start : IsStartOf items rows.records
   pub parts : AreParts hands (record { past = 0; records = items }) broken left
@@ -40,7 +51,7 @@ pub record InParts (view : View) (hands : Hands) (rows : Rows) (items : List Lin
   pub past : last.past ≡ left.past
   pub begins : IsStartOf last.records left.records
   pub texts : List ℕ
-  pub are_texts : AreTextsOf view hands broken texts
+  pub are_texts : AreTextsOf IsText broken texts
   pub lines : List ℕ
   pub explained : IsExplained view hands last.past last.exchanges lines
   pub whole : text ≡ texts ++ lines
@@ -74,7 +85,8 @@ WrittenInParts rows items broken left last text (Err error.OutOfMemory) old new 
 
 -- the rows that a judging of all parts speaks of, their parts, and what was written. The rows are those of the text, where the
 -- reader tells its bytes; else they are what it gave, and are those of some text
-pub record ToldInParts (view : View) (hands : Hands) (known : Option Rows) (result : Result Totals JudgeError) (old new : Option (List ℕ)) : Type 0 where
+pub record PartsTold (IsText : BrokenPart → List ℕ → Type 0) (view : View) (hands : Hands) (known : Option Rows) (result : Result Totals JudgeError)
+    (old new : Option (List ℕ)) : Type 0 where
   pub rows : Rows
   pub is_known : IfSome known (λ all. rows ≡ all)
   pub of_a_text : IfNone known (IsOfSomeText rows)
@@ -83,5 +95,13 @@ pub record ToldInParts (view : View) (hands : Hands) (known : Option Rows) (resu
   pub left : Rest
   pub last : Part
   pub text : List ℕ
-  pub in_parts : InParts view hands rows items broken left last text
+  pub in_parts : InParts IsText view hands rows items broken left last text
   pub written : WrittenInParts rows items broken left last text result old new
+
+-- with what a view shows of each part
+abbrev pub ToldInParts : View → Hands → Option Rows → Result Totals JudgeError → Option (List ℕ) → Option (List ℕ) → Type 0
+ToldInParts view hands known result old new = PartsTold (IsTextOf view hands) view hands known result old new
+
+-- with why each part breaks, and nothing of the last, which does not
+abbrev pub WhyInParts : Hands → Option Rows → Result Totals JudgeError → Option (List ℕ) → Option (List ℕ) → Type 0
+WhyInParts hands known result old new = PartsTold (IsWhyOf hands) view.Verdict hands known result old new

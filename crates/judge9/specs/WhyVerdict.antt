@@ -1,5 +1,5 @@
 -- What a result of a judging tells that says why no run remains: a verdict, and which replies contradict one another.
-use Rattle.std.specs.Prelude.{◌≡◌, ◌≢◌, ◌<◌, ◌^◌, ◌↔◌, ⊤, true, Some, List, [], ◌∷◌, ◌++◌, take, Option, Result, Ok, Err}
+use Rattle.std.specs.Prelude.{ℕ, ◌+◌, ◌≡◌, ◌≢◌, ◌<◌, ◌^◌, ◌↔◌, ⊤, true, Some, List, [], ◌∷◌, ◌++◌, take, Option, Result, Ok, Err}
 use Rattle.std.specs.Option.{IfNone, IfSome}
 use Rattle.std.specs.Result.{IfOk}
 use Rattle.capture9.specs.Rows.{Rows}
@@ -32,6 +32,12 @@ abbrev pub verdict_of : WhyVerdict → Verdict
 verdict_of (why.Yes records exchanges tail) = verdict.Yes records exchanges tail
 verdict_of (why.Break at reason tail command before r) = verdict.No at reason
 verdict_of (why.Contradiction at exchanges places known shown) = verdict.No at NoRun
+
+-- the same of records that come after so many others
+abbrev pub moved : ℕ → WhyVerdict → WhyVerdict
+moved past (why.Yes records exchanges tail) = why.Yes records exchanges tail
+moved past (why.Break at reason tail command before r) = why.Break (past + at) reason tail command before r
+moved past (why.Contradiction at exchanges places known shown) = why.Contradiction (past + at) exchanges places known shown
 
 -- the result of a judging with the verdict alone
 abbrev pub judged_of : Result WhyVerdict JudgeError → Result Verdict JudgeError

@@ -1,8 +1,8 @@
 //! Judges the whole capture: where a record breaks a rule, the judging goes on with the next part, and the totals come last.
 ghost use Rattle.std.specs.Prelude.{◌≡◌, ◌≢◌, IfOk, IfSome, option_map};
 ghost use Rattle.capture9.specs.Rows.{HasHeader, rows_of};
-ghost use Rattle.judge9.specs.PartsReport.{ToldInParts};
-ghost use Rattle.verdict9.specs.Lines.{line_of_totals};
+ghost use Rattle.judge9.specs.PartsReport.{IsTextOf, ToldInParts};
+ghost use Rattle.verdict9.specs.Lines.{line_of, line_of_totals};
 ghost use Rattle.judge9.specs.Working.{Puts};
 ghost use Rattle.capture9.specs.Records.{GivesRecord, Progress};
 ghost use Rattle.judge9.specs.Working.Parts.{EndsPart, JudgesParts};
@@ -16,7 +16,7 @@ use deck9::Hands;
 use std::alloc::Global;
 use std::io::{Read, Write};
 use text9::put_all;
-use verdict9::{JudgeError, Totals, View, put_totals_line};
+use verdict9::{JudgeError, Totals, Verdict, View, put_totals_line};
 
 /// Judges the capture that the reader gives, part by part, and writes the report that the view asks for.
 ///
@@ -71,7 +71,7 @@ fn judge_rows<R: Read + Drop, W: Write>(
     hands: Hands,
 ) -> Result<Totals, JudgeError>
     requires { IsFresh hands judging.old }
-    ensures { JudgesParts view hands judging.old.rows.rows result (W.contents writer.old) (W.contents writer.new) }
+    ensures { JudgesParts (IsTextOf view hands) view hands judging.old.rows.rows result (W.contents writer.old) (W.contents writer.new) }
 {
     let mut breaks = 0u32;
     let mut exchanges = 0u32;
@@ -130,7 +130,7 @@ fn end_part<R: Read + Drop, W: Write>(
     last: LineByte,
 ) -> Result<Turn, JudgeError>
     requires { (before : Progress R) × GivesRecord before last judging.old.rows }
-    ensures { EndsPart hands reason last judging.old result judging.new (W.contents writer.old) (W.contents writer.new) }
+    ensures { EndsPart (line_of (Verdict.No judging.old.rows.given reason)) hands reason last judging.old result judging.new (W.contents writer.old) (W.contents writer.new) }
 {
     tell_no(line, writer, judging.rows.given(), reason)?;
     judging.take_up(alloc, hands, reason, last)

@@ -2,12 +2,11 @@
 use Rattle.std.specs.Prelude.{◌≡◌, ◌≢◌, ◌+◌, ◌++◌, ◌∷◌, ◌⊎◌}
 use Rattle.std.specs.Bool.{MatchBool}
 use Rattle.judge9.specs.Working.{[], CaptureError, CaptureKind, Err, false, GivesEnd, GivesRecord, GivesRefusal, Hands, IfSome, JudgeError, Judging, LineByte, List, None, Ok, Option, Progress}
-use Rattle.judge9.specs.Working.{Appends, Puts, Reason, refusal_of, Result, Rows, Some, true, Verdict, View, ℕ, ⊤}
-use Rattle.verdict9.specs.Lines.{line_of}
+use Rattle.judge9.specs.Working.{Appends, Puts, Reason, refusal_of, Result, Rows, Some, true, View, ℕ, ⊤}
 use Rattle.verdict9.specs.declared.totals.Totals.{Totals}
-use Rattle.judge9.specs.PartsReport.{ToldInParts}
+use Rattle.judge9.specs.PartsReport.{PartsTold}
 use Rattle.capture9.specs.Rows.{HasHeader}
-use Rattle.judge9.specs.Parts.{begins_next_part, may_begin}
+use Rattle.judge9.specs.Parts.{begins_next_part, BrokenPart, may_begin}
 use Rattle.judge9.specs.Working.Turn.{Begins, ComesTo, IsTaken, Waits}
 use Rattle.judge9.specs.declared.judging.Turn.TheVariants.{the_data as Turn}
 
@@ -71,14 +70,15 @@ TakesUp {R} hands reason last j result k =
     ⊎ MatchBool (begins_next_part reason last) ((before : Progress R) → GivesRecord before last j.rows → Resumes hands before last result k)
     (ResumesAfter hands last j.rows result k)
 
--- the line of a break was not written whole, or it was and the judging took up again
-abbrev pub EndsPart : {R : Type 0} → Hands → Reason → LineByte → Judging R → Result Turn JudgeError → Judging R → Option (List ℕ) → Option (List ℕ) → Type 0
-EndsPart hands reason last j result k old new =
-    ((x : JudgeError) × (result ≡ Err x) × Puts {A = Turn} (line_of (Verdict.No j.rows.given reason)) (Err x) old new)
-    ⊎ (Appends old new (line_of (Verdict.No j.rows.given reason)) × TakesUp hands reason last j result k)
+-- the text of a break was not written whole, or it was and the judging took up again
+abbrev pub EndsPart : {R : Type 0} → List ℕ → Hands → Reason → LineByte → Judging R → Result Turn JudgeError → Judging R → Option (List ℕ) → Option (List ℕ)
+    → Type 0
+EndsPart text hands reason last j result k old new =
+    ((x : JudgeError) × (result ≡ Err x) × Puts {A = Turn} text (Err x) old new) ⊎ (Appends old new text × TakesUp hands reason last j result k)
 
 -- all that the result of a judging in parts tells
-pub record JudgesParts (view : View) (hands : Hands) (rows : Option Rows) (result : Result Totals JudgeError) (old new : Option (List ℕ)) : Type 0 where
-  pub told : ToldInParts view hands rows result old new
+pub record JudgesParts (IsText : BrokenPart → List ℕ → Type 0) (view : View) (hands : Hands) (rows : Option Rows) (result : Result Totals JudgeError)
+    (old new : Option (List ℕ)) : Type 0 where
+  pub told : PartsTold IsText view hands rows result old new
   pub is_kind : (e : CaptureError) → result ≡ Err (JudgeError.Capture e) → e.kind ≢ CaptureKind.OutOfMemory
   pub headed : IfSome rows (λ all. (e : CaptureError) → result ≡ Err (JudgeError.Capture e) → e.row ≢ 0 → HasHeader all)

@@ -4,7 +4,7 @@ use Rattle.judge9.proofs.PartEnds.{nothing_told}
 use Rattle.judge9.proofs.TellLemmas.{of_text}
 
 pub returns-in_default-clause-told : goal.returns-in_default-clause-told
-returns-in_default-clause-told g c = nothing_told _ _ _ _
+returns-in_default-clause-told g c = nothing_told _ _ _ _ _
 
 pub returns-clause-header : goal.returns-clause-header
 returns-clause-header g c =

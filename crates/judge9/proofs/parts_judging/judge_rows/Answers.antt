@@ -1,17 +1,19 @@
-use Rattle.judge9.proofs.Words.{[], append-nil, arith, exchanges_of, length, length_push, Reason, Ok, Err, records_in, refl, Turn, ◌++◌, ◌∷◌}
+use Rattle.judge9.proofs.Words.{[], append-nil, arith, exchanges_of, length, length_push, None, Reason, Ok, Err, records_in, refl, Turn, ◌++◌, ◌∷◌}
 use Rattle.judge9.proofs.parts_judging.judge_rows.Goals as goal
-use Rattle.judge9.proofs.PartEnds.{all_exchanges, at_break, at_exchange, at_no_run, at_start, at_the_end, at_unexplained, break_read, count_more, end_fits, exchange_fits, less-end, no_run_read}
+use Rattle.judge9.proofs.PartEnds.{all_exchanges, at_break, at_exchange, at_no_run, at_start, at_the_end, at_unexplained, break_read, count_more, end_fits, exchange_fits, less-end, no_run_read, shown_text}
+use Rattle.judge9.proofs.PartBreaks.{break_line}
 use Rattle.judge9.proofs.PartMeasure.{less-come}
 use Rattle.judge9.proofs.TurnSteps.{handed}
 
 pub returns-in_err-turn : goal.returns-in_err-turn
-returns-in_err-turn g c = rw (handed c.from_residual.result c.from_residual.ensures.1) (at_start _ _ _ _ _ (Err _) c.requires c.in_err-turn.ensures)
+returns-in_err-turn g c = rw (handed c.from_residual.result c.from_residual.ensures.1) (at_start _ _ _ _ _ _ (Err _) c.requires c.in_err-turn.ensures)
 
 pub rows-init : goal.rows-init
 rows-init g c = record {
   broken = [];
   es = [];
-  at_turn = at_start _ _ _ _ _ (Ok c.in_ok-turn.turn) c.requires c.in_ok-turn.ensures;
+  end_us = None;
+  at_turn = at_start _ _ _ _ _ _ (Ok c.in_ok-turn.turn) c.requires c.in_ok-turn.ensures;
   breaks = refl;
   exchanges = refl;
   in_exchanges = refl;
@@ -44,6 +46,7 @@ rows-preserved-in_ok-turn-in-Exchange g c =
     record {
       broken = so_far.broken;
       es = so_far.es ++ c.in-Exchange.exchange ∷ [];
+      end_us = c.rows.judging.pairer.last_time;
       at_turn = at_exchange (Ok turn) (rw c.in-Exchange.is at so_far.at_turn) explains c.in_ok-turn-in-Exchange.ensures;
       breaks = so_far.breaks;
       exchanges = omega (arith, so_far.exchanges, more);
@@ -62,29 +65,31 @@ end_part-requires g c = no_run_read (rw c.in-NoRun.is at c.rows.invariant.at_tur
 pub returns-in_err-turn-in-NoRun : goal.returns-in_err-turn-in-NoRun
 returns-in_err-turn-in-NoRun g c =
     rw (handed c.from_residual-in_err-turn-in-NoRun.result c.from_residual-in_err-turn-in-NoRun.ensures.1)
-    (at_no_run _ (Err _) (rw c.in-NoRun.is at c.rows.invariant.at_turn) c.in_err-turn-in-NoRun.ensures).2
+    (let at = rw c.in-NoRun.is at c.rows.invariant.at_turn in
+    (at_no_run _ (break_line c.rows.judging.rows.given Reason.NoRun) (Err _) at (shown_text c.rows.judging at.so_far at.turned.0 Reason.NoRun at.turned.1.1.gives) c.in_err-turn-in-NoRun.ensures).2)
 
 pub rows-preserved-in_ok-turn-in-NoRun : goal.rows-preserved-in_ok-turn-in-NoRun
 rows-preserved-in_ok-turn-in-NoRun g c =
     let so_far = c.rows.invariant in
     let turn = c.in_ok-turn-in-NoRun.turn in
     let at = rw c.in-NoRun.is at so_far.at_turn in
-    let next = at_no_run _ (Ok turn) at c.in_ok-turn-in-NoRun.ensures in
+    let next = at_no_run _ (break_line c.rows.judging.rows.given Reason.NoRun) (Ok turn) at (shown_text c.rows.judging at.so_far at.turned.0 Reason.NoRun at.turned.1.1.gives) c.in_ok-turn-in-NoRun.ensures in
     let all = all_exchanges so_far.broken next.0 so_far.es next.1 in
     let bound = rw c.in-NoRun.is at so_far.bound in
     record {
       broken = so_far.broken ++ next.0 ∷ [];
       es = [];
+      end_us = None;
       at_turn = next.2;
       breaks = omega (arith, so_far.breaks, length_push so_far.broken next.0);
       exchanges = rw all so_far.exchanges;
       in_exchanges = rw all so_far.in_exchanges;
-      bound = omega (arith, bound, less-end c.args.hands Reason.NoRun c.in-NoRun.last c.rows.judging c.end_part.new.judging _ _ turn (no_run_read at) c.in_ok-turn-in-NoRun.ensures);
+      bound = omega (arith, bound, less-end _ c.args.hands Reason.NoRun c.in-NoRun.last c.rows.judging c.end_part.new.judging _ _ turn (no_run_read at) c.in_ok-turn-in-NoRun.ensures);
     }
 
 pub rows-smaller-in_ok-turn-in-NoRun : goal.rows-smaller-in_ok-turn-in-NoRun
 rows-smaller-in_ok-turn-in-NoRun g c =
-    let less = less-end c.args.hands Reason.NoRun c.in-NoRun.last c.rows.judging c.end_part.new.judging _ _ c.in_ok-turn-in-NoRun.turn (no_run_read (rw c.in-NoRun.is at c.rows.invariant.at_turn)) c.in_ok-turn-in-NoRun.ensures in
+    let less = less-end _ c.args.hands Reason.NoRun c.in-NoRun.last c.rows.judging c.end_part.new.judging _ _ c.in_ok-turn-in-NoRun.turn (no_run_read (rw c.in-NoRun.is at c.rows.invariant.at_turn)) c.in_ok-turn-in-NoRun.ensures in
     rw c.in-NoRun.is (omega (arith, less))
 
 pub end_part-requires-in-Break : goal.end_part-requires-in-Break
@@ -93,29 +98,31 @@ end_part-requires-in-Break g c = break_read (rw c.in-Break.is at c.rows.invarian
 pub returns-in_err-turn-in-Break : goal.returns-in_err-turn-in-Break
 returns-in_err-turn-in-Break g c =
     rw (handed c.from_residual-in_err-turn-in-Break.result c.from_residual-in_err-turn-in-Break.ensures.1)
-    (at_break _ (Err _) (rw c.in-Break.is at c.rows.invariant.at_turn) c.in_err-turn-in-Break.ensures).2
+    (let at = rw c.in-Break.is at c.rows.invariant.at_turn in
+    (at_break _ (break_line c.rows.judging.rows.given c.in-Break.reason) (Err _) at (shown_text c.rows.judging at.so_far at.turned.0 c.in-Break.reason at.turned.1.1.gives) c.in_err-turn-in-Break.ensures).2)
 
 pub rows-preserved : goal.rows-preserved
 rows-preserved g c =
     let so_far = c.rows.invariant in
     let turn = c.in_ok-turn-in-Break.turn in
     let at = rw c.in-Break.is at so_far.at_turn in
-    let next = at_break _ (Ok turn) at c.in_ok-turn-in-Break.ensures in
+    let next = at_break _ (break_line c.rows.judging.rows.given c.in-Break.reason) (Ok turn) at (shown_text c.rows.judging at.so_far at.turned.0 c.in-Break.reason at.turned.1.1.gives) c.in_ok-turn-in-Break.ensures in
     let all = all_exchanges so_far.broken next.0 so_far.es next.1 in
     let bound = rw c.in-Break.is at so_far.bound in
     record {
       broken = so_far.broken ++ next.0 ∷ [];
       es = [];
+      end_us = None;
       at_turn = next.2;
       breaks = omega (arith, so_far.breaks, length_push so_far.broken next.0);
       exchanges = rw all so_far.exchanges;
       in_exchanges = rw all so_far.in_exchanges;
-      bound = omega (arith, bound, less-end c.args.hands c.in-Break.reason c.in-Break.last c.rows.judging c.end_part-in-Break.new.judging _ _ turn (break_read at) c.in_ok-turn-in-Break.ensures);
+      bound = omega (arith, bound, less-end _ c.args.hands c.in-Break.reason c.in-Break.last c.rows.judging c.end_part-in-Break.new.judging _ _ turn (break_read at) c.in_ok-turn-in-Break.ensures);
     }
 
 pub rows-smaller : goal.rows-smaller
 rows-smaller g c =
-    let less = less-end c.args.hands c.in-Break.reason c.in-Break.last c.rows.judging c.end_part-in-Break.new.judging _ _ c.in_ok-turn-in-Break.turn (break_read (rw c.in-Break.is at c.rows.invariant.at_turn)) c.in_ok-turn-in-Break.ensures in
+    let less = less-end _ c.args.hands c.in-Break.reason c.in-Break.last c.rows.judging c.end_part-in-Break.new.judging _ _ c.in_ok-turn-in-Break.turn (break_read (rw c.in-Break.is at c.rows.invariant.at_turn)) c.in_ok-turn-in-Break.ensures in
     rw c.in-Break.is less
 
 pub overflow_sub-records : goal.overflow_sub-records

@@ -1,4 +1,4 @@
-use Rattle.judge9.proofs.Words.{BrokenPart, Exchange, exchanges_of, length, List, records_in, ◌++◌, ◌+◌, ◌≡◌, ◌≤◌}
+use Rattle.judge9.proofs.Words.{BrokenPart, Exchange, exchanges_of, IsTextOf, length, List, Option, records_in, ℕ, ◌++◌, ◌+◌, ◌≡◌, ◌≤◌}
 use Rattle.judge9.proofs.parts_judging.judge_rows.Given as goal
 use Rattle.judge9.proofs.PartMeasure.{left_to_do}
 use Rattle.judge9.proofs.PartTurns.{AtTurn}
@@ -8,7 +8,8 @@ abbrev pub invariant-rows : goal.invariant-rows
 invariant-rows g l = record {
   broken : List BrokenPart;
   es : List Exchange;
-  at_turn : AtTurn l.view l.hands l.fn.judging.rows.rows l.turn l.judging (g.W.Write.contents l.fn.writer) (g.W.Write.contents l.writer) broken es;
+  end_us : Option ℕ;
+  at_turn : AtTurn (IsTextOf l.view l.hands) l.view l.hands l.fn.judging.rows.rows l.turn l.judging (g.W.Write.contents l.fn.writer) (g.W.Write.contents l.writer) broken es end_us;
   breaks : l.breaks ≡ length broken;
   exchanges : l.exchanges ≡ length (exchanges_of broken ++ es);
   in_exchanges : l.in_exchanges ≡ records_in (exchanges_of broken ++ es);
