@@ -6,14 +6,22 @@ use Rattle.judge9.proofs.Words.{IfOk, IsToTheEnd, Paired, WrittenInParts, ◌+�
 use Rattle.verdict9.specs.Lines.{line_of_totals}
 use Rattle.verdict9.specs.declared.totals.Totals.{Totals}
 use Rattle.judge9.proofs.Words.{Appends-nil, IsFresh, IsTextOf, number_of, no_rows-can_be, Ok, records_of, PartsTold, ◌<◌}
+use Rattle.judge9.proofs.Words.{All, BreaksAtLast, Feeds, IsBreakAfter, IsBreakText, length_push, SetsInDay, Step, take, take-length, text_of_why, ◌≢◌}
+use Rattle.verdict9.specs.Telling.{view_of}
+use Rattle.verdict9.specs.declared.verdict.Telling.{Telling}
+use Rattle.verdict9.specs.declared.verdict.Telling.TheVariants as Telling
+use Rattle.judge9.proofs.DayLemmas.{cut_in_day}
+use Rattle.judge9.proofs.TrailJudging.{broken_why, no_run_why, unmoved}
+use Rattle.judge9.proofs.TurnSteps.{IsEnded}
 use Rattle.judge9.proofs.CutSteps.{cut-exchange}
+use Rattle.judge9.proofs.LawLemmas.{pairing_reason}
 use Rattle.judge9.proofs.PartMeasure.{left_to_do, less-up}
 use Rattle.judge9.proofs.LineSteps.{appended, cut_len, none_after}
 use Rattle.judge9.proofs.PartBreaks.{after_break, AfterBreak, break_line, break-write, broken_at, exchanges_push, records_joined, resume}
 use Rattle.judge9.proofs.PartLemmas.{IsPlain, Onward, onward-more, onward-start, OnwardAll, parts-memory, parts-write, plain, told_in_parts}
 use Rattle.judge9.proofs.PartTurns.{arrive, Arrives, AtTurn, Before, wrote_all}
 use Rattle.judge9.proofs.SoFar.{exchange_ended, given_on, keeps-none, Seen, seen, so_far-start, unread, seen_now, seen_on, so_far-exchange, so_far-exchange_items, so_far-more, SoFar}
-use Rattle.judge9.proofs.TellLemmas.{breaks-pairing, breaks-run, cut_counts}
+use Rattle.judge9.proofs.TellLemmas.{breaks-pairing, breaks-run, cut_counts, none_observed}
 
 -- ---- what is counted
 
@@ -34,7 +42,7 @@ all_exchanges broken b es same = append-nil _ ∙ exchanges_push broken b ∙ ap
 pub less-end : {R : Type 0} (text : List ℕ) (hands : Hands) (reason : Reason) (last : LineByte) (j k : Judging R) (old new : Option (List ℕ)) (turn : Turn)
     → (before : Progress R) × GivesRecord before last j.rows → EndsPart text hands reason last j (Ok turn) k old new
     → left_to_do turn k < left_to_do (Turn.Break reason last) j
-less-end text hands reason last j k old new turn read (inl (x, is, rest)) = absurd (cc is)
+less-end text hands reason last j k old new turn read (inl (is, rest)) = absurd (cc is)
 less-end text hands reason last j k old new turn read (inr (wrote, up)) = less-up hands read.0 reason last j turn k read.1 up
 
 -- ---- the first turn
@@ -55,64 +63,122 @@ nothing_told T view hands rows old =
 -- ---- the turns
 
 module _ {R : Type 0} {T : BrokenPart → List ℕ → Type 0} {view : View} {hands : Hands} {rows : Option Rows} {broken : List BrokenPart} {past : List LineByte}
-    {old begun now new : Option (List ℕ)} {front : Judging R} {es : List Exchange} (before : Before T broken past old begun)
+    {old begun now : Option (List ℕ)} {front : Judging R} {es : List Exchange} (before : Before T broken past old begun)
     (f : SoFar view hands rows past front begun now es) where
   -- a break
-  part_ends : (j k : Judging R) (last : LineByte) (reason : Reason) (text : List ℕ) (result : Result Turn JudgeError)
+  part_ends : (new : Option (List ℕ)) (j k : Judging R) (last : LineByte) (reason : Reason) (text : List ℕ) (result : Result Turn JudgeError)
       → T (broken_at f last reason) (f.text ++ text) → GivesRecord front.rows last j.rows → Breaks hands f.items last reason
       → ((more : List LineByte) → Onward hands broken past (f.items ++ last ∷ more)) → EndsPart text hands reason last j result k now new
       → Arrives T view hands rows old new (broken ++ broken_at f last reason ∷ []) [] None result k
-  part_ends j k last reason text result told gives breaks on (inl (x, is, puts)) = rw is (failed x puts)
-    where
-      broke : AfterBreak T view hands rows j reason last (broken ++ broken_at f last reason ∷ []) (before.texts ++ (f.text ++ text))
-      broke = after_break j before f last reason (f.text ++ text) told gives breaks on
-
-      failed : (x : JudgeError) → Puts {A = Turn} text (Err x) now new → JudgesParts T view hands rows (Err x) old new
-      failed (JudgeError.Capture e) puts = absurd puts
-      failed JudgeError.Write puts =
-          break-write broke (part_after old begun new before.texts (f.text ++ text) before.wrote (part_after begun now new f.text text f.wrote puts))
-      failed JudgeError.OutOfMemory puts =
-          parts-memory broken before.texts before.are_texts f.keeps {left = j.rows.rows} (last ∷ []) (on []) (seen_on f gives)
-          (wrote_all before new f.text (none_after begun now new f.text f.wrote puts))
-  part_ends j k last reason text result told gives breaks on (inr (wrote, up)) =
+  part_ends new j k last reason text result told gives breaks on (inl (is, part)) =
+      rw is (break-write (after_break j before f last reason (f.text ++ text) told gives breaks on)
+      (part_after old begun new before.texts (f.text ++ text) before.wrote (part_after begun now new f.text text f.wrote part)))
+  part_ends new j k last reason text result told gives breaks on (inr (wrote, up)) =
       resume (after_break j before f last reason (f.text ++ text) told gives breaks on) old new k result
       (wrote_all before new (f.text ++ text) (Appends-trans begun now new f.text text f.wrote wrote)) up
 
 -- what a view shows of such a part
 pub shown_text : {R : Type 0} {view : View} {hands : Hands} {rows : Option Rows} {past : List LineByte} {begun now : Option (List ℕ)} {front : Judging R}
     {es : List Exchange} (j : Judging R) (f : SoFar view hands rows past front begun now es) (last : LineByte) (reason : Reason) → GivesRecord front.rows last j.rows
-    → IsTextOf view hands (broken_at f last reason) (f.text ++ break_line j.rows.given reason)
+    → IsTextOf (Telling.Shown view) hands (broken_at f last reason) (f.text ++ break_line j.rows.given reason)
 shown_text {past = past} j f last reason gives =
     let number : j.rows.given ≡ number_of (broken_at f last reason) = omega (arith, gives.given, f.are_given.given, length-append past f.items) in
     (f.text, f.explained, ap (λ n. f.text ++ break_line n reason) number)
 
+-- the text of a break by a rule of pairing, where these exchanges were kept
+pub pairing_text : {R : Type 0} {rows : Option Rows} {past : List LineByte} {begun now : Option (List ℕ)} {front : Judging R} {es : List Exchange}
+    (telling : Telling) (hands : Hands) (j : Judging R) (f : SoFar (view_of telling) hands rows past front begun now es) (last : LineByte) (reason : Reason)
+    → GivesRecord front.rows last j.rows → j.pairer.tail ≡ front.pairer.tail → reason ≢ Reason.NoRun → (end_us : Option ℕ) → IsEnded es end_us front f.items
+    → (fs : List Exchange) (us : Option ℕ) → (telling ≡ Telling.Why → (fs ≡ es) × (us ≡ end_us)) → (text : List ℕ)
+    → IsBreakText telling hands j.rows.given reason last j.pairer.tail fs us text → IsTextOf telling hands (broken_at f last reason) (f.text ++ text)
+pairing_text (Telling.Shown view) hands j f last reason gives tail other end_us ended fs us kept text is = rw is (shown_text j f last reason gives)
+pairing_text {past = past} {front = front} {es = es} Telling.Why hands j f last reason gives tail other end_us ended fs us kept text (why, says, is) =
+    let k = kept refl in
+    let number : j.rows.given ≡ length past + (length f.items + 1) = omega (arith, gives.given, f.are_given.given, length-append past f.items) in
+    let own = unmoved hands (length past) (length f.items + 1) reason last front.pairer.tail es end_us why (rw (k.0, k.1, tail, number) at says) in
+    let broken : IsBreakAfter (f.items ++ last ∷ []) (length f.items + 1) front.pairer.tail last =
+    record { before = f.items; after = []; split = refl; number = refl; exchanges = es; cut = f.cut } in
+    let both = broken_why hands (record { records = f.items ++ last ∷ []; fault = None }) (length f.items + 1) reason last front.pairer.tail es end_us own.0 own.1
+    other (broken, refl, ended) in
+    rw f.explained (own.0, both.0, both.1, is ∙ ap (text_of_why hands) own.2)
+
+-- and that of a break by the deck
+pub no_run_text : {R : Type 0} {rows : Option Rows} {past : List LineByte} {begun now : Option (List ℕ)} {front : Judging R} {es : List Exchange}
+    (telling : Telling) (hands : Hands) (j : Judging R) (f : SoFar (view_of telling) hands rows past front begun now es) (last : LineByte) (e : Exchange)
+    → Feeds front j last (Step.Exchange e) → (fs : List Exchange) (us : Option ℕ) → (telling ≡ Telling.Why → fs ≡ es ++ e ∷ []) → (text : List ℕ)
+    → IsBreakText telling hands j.rows.given Reason.NoRun last j.pairer.tail fs us text
+    → IsTextOf telling hands (broken_at f last Reason.NoRun) (f.text ++ text)
+no_run_text (Telling.Shown view) hands j f last e feeds fs us kept text is = rw is (shown_text j f last Reason.NoRun feeds.gives)
+no_run_text {past = past} {front = front} {es = es} Telling.Why hands j f last e feeds fs us kept text (why, says, is) =
+    let number : j.rows.given ≡ length past + (length f.items + 1) = omega (arith, feeds.gives.given, f.are_given.given, length-append past f.items) in
+    let own = unmoved hands (length past) (length f.items + 1) Reason.NoRun last j.pairer.tail (es ++ e ∷ []) us why (rw (kept refl, number) at says) in
+    let read : List LineByte = f.items ++ last ∷ [] in
+    let up_to : take (length f.items + 1) read ≡ read = ap (λ n. take n read) (sym (length_push f.items last)) ∙ take-length read in
+    let cut = cut-exchange f.items es front.pairer.tail last e f.cut feeds.takes.does in
+    let both = no_run_why hands (record { records = read; fault = None }) (length f.items + 1) last j.pairer.tail (es ++ e ∷ []) us own.0 own.1 (rw up_to cut) in
+    rw f.explained (own.0, both.0, both.1, is ∙ ap (text_of_why hands) own.2)
+
 module _ {R : Type 0} {T : BrokenPart → List ℕ → Type 0} {view : View} {hands : Hands} {rows : Option Rows} {broken : List BrokenPart} {old now : Option (List ℕ)} {j : Judging R}
     {es : List Exchange} {end_us : Option ℕ} where
   -- by a rule of pairing
-  pub at_break : (k : Judging R) {new : Option (List ℕ)} {reason : Reason} {last : LineByte} (text : List ℕ) (result : Result Turn JudgeError)
+  pub at_break : (k : Judging R) (new : Option (List ℕ)) {reason : Reason} {last : LineByte} (text : List ℕ) (result : Result Turn JudgeError)
       (h : AtTurn T view hands rows (Turn.Break reason last) j old now broken es end_us) → T (broken_at h.so_far h.turned.0 reason) (h.so_far.text ++ text)
       → EndsPart text hands reason last j result k now new
       → (b : BrokenPart) × (b.part.exchanges ≡ es) × Arrives T view hands rows old new (broken ++ b ∷ []) [] None result k
-  at_break k {new = new} {reason = reason} {last = last} text result h told ends =
+  at_break k new {reason = reason} {last = last} text result h told ends =
       let t = h.turned in (
         broken_at h.so_far t.0 reason,
         refl,
-        part_ends h.before h.so_far j k t.0 reason text result told t.1.1.gives (breaks-pairing h.so_far t.1.1) h.ahead
+        part_ends h.before h.so_far new j k t.0 reason text result told t.1.1.gives (breaks-pairing h.so_far t.1.1) h.ahead
             (subst (λ r. EndsPart text hands reason r j result k now new) t.1.0 ends),
       )
 
   -- or by the deck
-  pub at_no_run : (k : Judging R) {new : Option (List ℕ)} {e : Exchange} {last : LineByte} (text : List ℕ) (result : Result Turn JudgeError)
+  pub at_no_run : (k : Judging R) (new : Option (List ℕ)) {e : Exchange} {last : LineByte} (text : List ℕ) (result : Result Turn JudgeError)
       (h : AtTurn T view hands rows (Turn.NoRun e last) j old now broken es end_us) → T (broken_at h.so_far h.turned.0 Reason.NoRun) (h.so_far.text ++ text)
       → EndsPart text hands Reason.NoRun last j result k now new
       → (b : BrokenPart) × (b.part.exchanges ≡ es) × Arrives T view hands rows old new (broken ++ b ∷ []) [] None result k
-  at_no_run k {new = new} {last = last} text result h told ends =
+  at_no_run k new {last = last} text result h told ends =
       let t = h.turned in (
         broken_at h.so_far t.0 Reason.NoRun,
         refl,
-        part_ends h.before h.so_far j k t.0 Reason.NoRun text result told t.1.1.gives (breaks-run h.so_far t.1.1 t.1.2) h.ahead
+        part_ends h.before h.so_far new j k t.0 Reason.NoRun text result told t.1.1.gives (breaks-run h.so_far t.1.1 t.1.2) h.ahead
             (subst (λ r. EndsPart text hands Reason.NoRun r j result k now new) t.1.0 ends),
       )
+
+  -- or there was no memory for its text
+  pub break_memory : {reason : Reason} {last : LineByte} → AtTurn T view hands rows (Turn.Break reason last) j old now broken es end_us
+      → JudgesParts T view hands rows (Err JudgeError.OutOfMemory) old now
+  break_memory h =
+      parts-memory broken h.before.texts h.before.are_texts h.so_far.keeps {left = j.rows.rows} (h.turned.0 ∷ []) (h.ahead [])
+      (seen_on h.so_far h.turned.1.1.gives) (wrote_all h.before now h.so_far.text h.so_far.wrote)
+
+  pub no_run_memory : {e : Exchange} {last : LineByte} → AtTurn T view hands rows (Turn.NoRun e last) j old now broken es end_us
+      → JudgesParts T view hands rows (Err JudgeError.OutOfMemory) old now
+  no_run_memory h =
+      parts-memory broken h.before.texts h.before.are_texts h.so_far.keeps {left = j.rows.rows} (h.turned.0 ∷ []) (h.ahead [])
+      (seen_on h.so_far h.turned.1.1.gives) (wrote_all h.before now h.so_far.text h.so_far.wrote)
+
+  -- the exchanges have a run without the last alone
+  pub loses_its_runs : {e : Exchange} {last : LineByte} → AtTurn T view hands rows (Turn.NoRun e last) j old now broken es end_us
+      → BreaksAtLast hands (es ++ e ∷ []) × All SetsInDay (es ++ e ∷ [])
+  loses_its_runs {e = e} h =
+      let t = h.turned in
+      let cut = cut-exchange h.so_far.items es h.front.pairer.tail t.0 e h.so_far.cut t.1.1.takes.does in (
+        record { before = es; last = e; is_split = refl; has_run = h.so_far.run; has_none = none_observed h.so_far t.1.2 },
+        cut_in_day (h.so_far.items ++ t.0 ∷ []) (es ++ e ∷ []) [] cut,
+      )
+
+  -- or no memory to keep an exchange that was told
+  pub at_unkept : {new : Option (List ℕ)} {e : Exchange} → AtTurn T view hands rows (Turn.Exchange e) j old now broken es end_us
+      → Explains view hands j.rows.given e (Possible j.tracker.states) (Ok tt) now new → JudgesParts T view hands rows (Err JudgeError.OutOfMemory) old new
+  unfolding so_far-exchange so_far-more
+  at_unkept {new = new} h line =
+      let t = h.turned in
+      let far = so_far-exchange h.so_far line.line t.1.0 t.1.1 line.is_line line.puts in
+      let on = onward-more hands broken h.past h.so_far.items t.0 h.ahead in
+      parts-memory broken h.before.texts h.before.are_texts far.keeps {left = j.rows.rows} [] (on []) (rw append-nil (seen_now far))
+      (wrote_all h.before new far.text far.wrote)
 
   -- the record was read last
   pub break_read : {reason : Reason} {last : LineByte} → AtTurn T view hands rows (Turn.Break reason last) j old now broken es end_us
@@ -227,3 +293,29 @@ module _ {R : Type 0} {T : BrokenPart → List ℕ → Type 0} {view : View} {ha
           (inr (t, to_the_end, part_after old now new (h.before.texts ++ f.text) (line_of_totals t) (wrote_all h.before now f.text f.wrote) puts))
       by (Err JudgeError.OutOfMemory) same puts = told (Err JudgeError.OutOfMemory) tt
           (none_after old now new (h.before.texts ++ f.text) (wrote_all h.before now f.text f.wrote) puts)
+
+-- ---- a break, where the text was made of what was kept
+
+module _ {R : Type 0} {telling : Telling} {hands : Hands} {rows : Option Rows} {broken : List BrokenPart} {old now : Option (List ℕ)} {j : Judging R}
+    {es : List Exchange} {end_us : Option ℕ} (k : Judging R) (new : Option (List ℕ)) (result : Result Turn JudgeError) where
+  pub told_no_run : {e : Exchange} {last : LineByte} (h : AtTurn (IsTextOf telling hands) (view_of telling) hands rows (Turn.NoRun e last) j old now broken es end_us)
+      (fs : List Exchange) (us : Option ℕ) → (telling ≡ Telling.Why → fs ≡ es ++ e ∷ []) → (text : List ℕ)
+      → IsBreakText telling hands j.rows.given Reason.NoRun last j.pairer.tail fs us text → EndsPart text hands Reason.NoRun last j result k now new
+      → (b : BrokenPart) × (b.part.exchanges ≡ es)
+      × Arrives (IsTextOf telling hands) (view_of telling) hands rows old new (broken ++ b ∷ []) [] None result k
+  told_no_run {e = e} h fs us kept text said ends =
+      let t = h.turned in
+      let is = subst (λ r. IsBreakText telling hands j.rows.given Reason.NoRun r j.pairer.tail fs us text) t.1.0 said in
+      at_no_run k new text result h (no_run_text telling hands j h.so_far t.0 e t.1.1 fs us kept text is) ends
+
+  pub told_break : {reason : Reason} {last : LineByte}
+      (h : AtTurn (IsTextOf telling hands) (view_of telling) hands rows (Turn.Break reason last) j old now broken es end_us) (fs : List Exchange) (us : Option ℕ)
+      → (telling ≡ Telling.Why → (fs ≡ es) × (us ≡ end_us)) → (text : List ℕ) → IsBreakText telling hands j.rows.given reason last j.pairer.tail fs us text
+      → EndsPart text hands reason last j result k now new
+      → (b : BrokenPart) × (b.part.exchanges ≡ es)
+      × Arrives (IsTextOf telling hands) (view_of telling) hands rows old new (broken ++ b ∷ []) [] None result k
+  told_break {reason = reason} h fs us kept text said ends =
+      let t = h.turned in
+      let is = subst (λ r. IsBreakText telling hands j.rows.given reason r j.pairer.tail fs us text) t.1.0 said in
+      at_break k new text result h (pairing_text telling hands j h.so_far t.0 reason t.1.1.gives t.1.1.refuses.tail (pairing_reason t.1.1.refuses.is_reason) end_us
+      h.ended fs us kept text is) ends

@@ -69,7 +69,7 @@ module _ {R : Type 0} {T : BrokenPart → List ℕ → Type 0} {view : View} {ha
       → OnwardAll hands broken past h.items → IsEnded es end_us j h.items → ComesTo j r k → Arrives T view hands rows old now broken es end_us r k
   arrive {k = k} {es = es} {r = r} end_us h all ended come =
       comes_with Kept (λ i k items r kept waits. (onward-more hands broken past items r (λ more. kept.0 (r ∷ more)), ended-more es end_us i k items r kept.1 waits)) h
-          (all, ended) come (by r)
+      (all, ended) come (by r)
     where
       Kept : Judging R → List LineByte → Type 0
       Kept i items = OnwardAll hands broken past items × IsEnded es end_us i items

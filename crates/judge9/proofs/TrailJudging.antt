@@ -3,6 +3,10 @@ use Rattle.judge9.proofs.Words.{Spoils, EndedExchange, IsBefore, IsBeforeAll, Is
 use Rattle.judge9.proofs.Words.{[], ap, append_assoc, arith, BreaksAtLast, Cut, Ending, Err, Exchange, Hands, inl, inr, IsBreakAfter, IsErrAnd, IsTrail}
 use Rattle.judge9.proofs.Words.{JudgeError, Judging, KeepsTrail, length, length_push, LineByte, List, None, Ok, Option, Reason, refl, Result, Rows, some_end}
 use Rattle.judge9.proofs.Words.{take, take-append_seam, Tracked, Turn, Turned, Verdict, View, ◌++◌, ◌∙◌, ◌∷◌, ◌≡◌, ◌≢◌}
+use Rattle.judge9.proofs.Words.{HasItsWhy, SaysWhy, WhyVerdict, ◌+◌}
+use Rattle.judge9.specs.WhyVerdict.{moved, verdict_of}
+use Rattle.judge9.specs.Working.{Judges}
+use Rattle.judge9.specs.Working.Trail.{JudgesWhy}
 use Rattle.judge9.proofs.CutSteps.{cut-exchange}
 use Rattle.judge9.proofs.RunSteps.{follows-from}
 use Rattle.judge9.proofs.SoFar.{SoFar}
@@ -35,6 +39,43 @@ broken_with records at left items r es end_us told same ended tells =
           subst (λ (l : List Exchange). Cut was.before l items) ended.1 cut;
     } in
     (broken, tells was.before (λ nil. ended.2 (sym same ∙ nil)))
+
+-- why a record broke a rule of pairing, where it is the one of this number
+pub broken_why : (hands : Hands) (rows : Rows) (at : ℕ) (reason : Reason) (r : LineByte) (left : List LineByte) (es : List Exchange) (end_us : Option ℕ)
+    (why : WhyVerdict) → SaysWhy hands at reason r left es end_us why → reason ≢ Reason.NoRun
+    → ((broken : IsBreakAfter rows.records at left r) × (broken.exchanges ≡ es) × (left ≡ [] → IsEnd broken.before es end_us))
+    → (verdict_of why ≡ Verdict.No at reason) × HasItsWhy hands rows why
+broken_why hands rows at reason r left es end_us (WhyVerdict.Yes records exchanges tail) says other broken = absurd says
+broken_why hands rows at reason r left es end_us (WhyVerdict.Break number x tail command before breaking) (number_is, x_is, r_is, tail_is, commands, told, _) other
+    broken =
+    let both = broken_with rows.records at left tail.items r es end_us before tail_is broken (λ records ended. rw tail_is (told records (λ nil. ended (tail_is ∙ nil)))) in
+    rw (number_is, x_is, r_is) (refl, (other, rw tail_is commands, both.0, both.1))
+broken_why hands rows at reason r left es end_us (WhyVerdict.Contradiction number exchanges places known shown) says other broken = absurd (other says.4)
+
+-- or why no run remains with the last of these exchanges
+pub no_run_why : (hands : Hands) (rows : Rows) (at : ℕ) (r : LineByte) (left : List LineByte) (es : List Exchange) (end_us : Option ℕ) (why : WhyVerdict)
+    → SaysWhy hands at Reason.NoRun r left es end_us why → Cut (take at rows.records) es []
+    → (verdict_of why ≡ Verdict.No at Reason.NoRun) × HasItsWhy hands rows why
+no_run_why hands rows at r left es end_us (WhyVerdict.Yes records exchanges tail) says cut = absurd says
+no_run_why hands rows at r left es end_us (WhyVerdict.Break number x tail command before breaking) says cut = absurd (says.6 refl)
+no_run_why hands rows at r left es end_us (WhyVerdict.Contradiction number exchanges places known shown) (number_is, es_is, is, shows, _) cut =
+    rw (number_is, es_is) (refl, (cut, is, shows))
+
+-- so the judging tells why
+pub judges_why : {hands : Hands} {rows : Option Rows} (v : Verdict) (why : WhyVerdict) → verdict_of why ≡ v
+    → (judges : Judges View.Verdict hands rows (Ok v) None None) → HasItsWhy hands judges.told.rows why → JudgesWhy hands rows (Ok why)
+judges_why {hands = hands} {rows = rows} v why same judges has =
+    let both = subst (λ w. (j : Judges View.Verdict hands rows (Ok w) None None) × HasItsWhy hands j.told.rows why) (sym same) (judges, has) in
+    record { judges = both.0; why = both.1; no_write = λ q. cc }
+
+-- the same of records that come after others
+pub unmoved : (hands : Hands) (past at : ℕ) (reason : Reason) (r : LineByte) (left : List LineByte) (es : List Exchange) (end_us : Option ℕ) (why : WhyVerdict)
+    → SaysWhy hands (past + at) reason r left es end_us why → (own : WhyVerdict) × SaysWhy hands at reason r left es end_us own × (why ≡ moved past own)
+unmoved hands past at reason r left es end_us (WhyVerdict.Yes records exchanges tail) says = absurd says
+unmoved hands past at reason r left es end_us (WhyVerdict.Break number x tail command before breaking) (number_is, x_is, r_is, tail_is, commands, told, other) =
+    (WhyVerdict.Break at x tail command before breaking, (refl, x_is, r_is, tail_is, commands, told, other), ap (λ n. WhyVerdict.Break n x tail command before breaking) number_is)
+unmoved hands past at reason r left es end_us (WhyVerdict.Contradiction number exchanges places known shown) (number_is, es_is, is, shows, same) =
+    (WhyVerdict.Contradiction at exchanges places known shown, (refl, es_is, is, shows, same), ap (λ n. WhyVerdict.Contradiction n exchanges places known shown) number_is)
 
 -- ---- what is kept at each end
 

@@ -43,14 +43,15 @@ pub use Rattle.judge9.specs.Working.{[], All, Appends, AppendsPart, AreReached, 
 pub use Rattle.judge9.specs.Working.{Exchanges, Explains, false, GivesEnd, GivesRecord, GivesRefusal, Hands, IfErr, IfOk, IfSome, IsBreakAfter, IsKnowledge, IsLineOf, IsSame}
 pub use Rattle.judge9.specs.Working.{JudgeError, Judges, Judging, Knowledge, last_state, length, line_of_exchange, LineByte, List, None, Ok, Option, Possible, Puts, Reason}
 pub use Rattle.judge9.specs.Working.{refusal_of, Result, reverse, Rows, SetsInDay, slice_get, Some, Standing, State, Step, StoppedBefore, suc, take, Takes, Told, Tracked, true}
-pub use Rattle.judge9.specs.Working.{IsTrue, Verdict, View, zero, ℕ, ⊤}
+pub use Rattle.judge9.specs.Working.{HasItsWhy, IsTrue, Verdict, WhyVerdict, View, zero, ℕ, ⊤}
 pub use Rattle.block9.proofs.TailLemmas.{last_time-append}
 pub use Rattle.block9.specs.Line.{last_time}
 pub use Rattle.judge9.specs.Working.Trail.{Arrived, KeepsEnds, FollowsFrom, GoesBack, IsBeforeAll, IsEnd, IsTrail, KeepsTrail, Leads, LeadsFrom, stretch_length}
-pub use Rattle.judge9.specs.Parts.{AreParts, AreTotals, BrokenPart, exchanges_of, from_command, IsPart, may_begin, number_of, Part, records_in, Rest, rest_after, takes_up_at}
+pub use Rattle.judge9.specs.Parts.{AreParts, AreTotals, BrokenPart, exchanges_of, from_command, IsPart, may_begin, number_of, Part, Rest, rest_after, takes_up_at}
 pub use Rattle.judge9.specs.Parts.{begins_next_part}
 pub use Rattle.judge9.specs.PartsReport.{AreTextsOf, InParts, PartsTold, IsRefusedAfter, IsTextOf, IsToTheEnd, ToldInParts, WrittenInParts}
-pub use Rattle.judge9.specs.Working.Parts.{BeginsWith, EndsPart, GivesAll, JudgesParts, last_of, GoesOn, NoneBegins, Resumes, PassesOver, ResumesAfter, TakesUp}
+pub use Rattle.report9.specs.WhyText.{records_in, text_of_why}
+pub use Rattle.judge9.specs.Working.Parts.{BeginsWith, EndsPart, IsBreakText, SaysWhy, GivesAll, JudgesParts, last_of, GoesOn, NoneBegins, Resumes, PassesOver, ResumesAfter, TakesUp}
 pub use Rattle.judge9.specs.Working.Turn.{AreOpen, Begins, ComesTo, EndsRows, Feeds, IsFresh, IsObserved, IsOpen, IsTaken, Observes, Spoils, Turned, Waits}
 pub use Rattle.judge9.specs.declared.judging.Turn.TheVariants.{the_data as Turn}
 pub use Rattle.std.proofs.Common.{ap, arith, drop, get_or, if◌then◌else◌, inl, inr, length-append, OnOk, option_map, refl, slice_range, subst, sym, take-add}

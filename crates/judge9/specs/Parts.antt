@@ -5,11 +5,12 @@ use Rattle.capture9.specs.declared.line_byte.LineByte.{LineByte}
 use Rattle.block9.specs.declared.pairer.Exchange.{Exchange}
 use Rattle.block9.specs.declared.reason.Reason.{Reason}
 use Rattle.block9.specs.declared.reason.Reason.TheVariants.{ByteGap, CommandBeforeReply, CommandInsideReply, NoReply}
-use Rattle.block9.specs.Exchange.{Cut, records_of}
+use Rattle.block9.specs.Exchange.{Cut}
 use Rattle.block9.specs.Line.{byte_gap}
 use Rattle.deck9.specs.declared.state.Hands.{Hands}
 use Rattle.deck9.specs.Run.{HasRun}
 use Rattle.verdict9.specs.declared.totals.Totals.{Totals}
+use Rattle.report9.specs.WhyText.{records_in}
 use Rattle.verdict9.specs.OpenRecords.{is_commands_wire}
 use Rattle.judge9.specs.Verdict.{Breaks}
 
@@ -89,11 +90,6 @@ AreParts hands rest (b ∷ broken) left =
 abbrev pub exchanges_of : List BrokenPart → List Exchange
 exchanges_of [] = []
 exchanges_of (b ∷ broken) = b.part.exchanges ++ exchanges_of broken
-
--- how many records these exchanges have
-abbrev pub records_in : List Exchange → ℕ
-records_in [] = 0
-records_in (e ∷ exchanges) = records_of e + records_in exchanges
 
 -- what is counted of a capture with so many records, over the parts that break and the last, which does not
 pub record AreTotals (records : ℕ) (broken : List BrokenPart) (last : Part) (totals : Totals) : Type 0 where

@@ -15,7 +15,9 @@ use Rattle.verdict9.specs.declared.error.JudgeError.TheVariants as error
 use Rattle.verdict9.specs.declared.totals.Totals.{Totals}
 use Rattle.verdict9.specs.declared.verdict.Verdict.TheVariants.{No}
 use Rattle.verdict9.specs.declared.verdict.View.{View}
-use Rattle.verdict9.specs.declared.verdict.View.TheVariants as view
+use Rattle.verdict9.specs.declared.verdict.Telling.{Telling}
+use Rattle.verdict9.specs.declared.verdict.Telling.TheVariants.{Shown, Why}
+use Rattle.verdict9.specs.Telling.{view_of}
 use Rattle.verdict9.specs.declared.why_verdict.WhyVerdict.{WhyVerdict}
 use Rattle.report9.specs.WhyText.{text_of_why}
 use Rattle.text9.specs.Writing.{AppendsPart}
@@ -23,15 +25,12 @@ use Rattle.judge9.specs.Parts.{AreParts, AreTotals, BrokenPart, IsPart, Part, Re
 use Rattle.judge9.specs.Report.{IsExplained}
 use Rattle.judge9.specs.WhyVerdict.{HasItsWhy, moved, verdict_of}
 
--- what a view shows of a part that breaks: the lines of its exchanges, and the line of its break
-abbrev pub IsTextOf : View → Hands → BrokenPart → List ℕ → Type 0
-IsTextOf view hands b text =
+-- what is told of a part that breaks: what the view shows of its exchanges, and the line of its break; or why it breaks, as of a
+-- capture that ends with the record that breaks, with the numbers that its records have in the whole capture
+abbrev pub IsTextOf : Telling → Hands → BrokenPart → List ℕ → Type 0
+IsTextOf (Shown view) hands b text =
     (lines : List ℕ) × IsExplained view hands b.part.past b.part.exchanges lines × (text ≡ lines ++ line_of (No (number_of b) b.reason))
-
--- what is told of a part that breaks, and why it does: as `why` tells it of a capture that ends with the record that breaks,
--- with the numbers that its records have in the whole capture
-abbrev pub IsWhyOf : Hands → BrokenPart → List ℕ → Type 0
-IsWhyOf hands b text =
+IsTextOf Why hands b text =
     (why : WhyVerdict) × (verdict_of why ≡ No (length b.part.records + 1) b.reason)
     × HasItsWhy hands (record { records = b.part.records ++ b.breaking ∷ []; fault = None }) why × (text ≡ text_of_why hands (moved b.part.past why))
 
@@ -98,10 +97,6 @@ pub record PartsTold (IsText : BrokenPart → List ℕ → Type 0) (view : View)
   pub in_parts : InParts IsText view hands rows items broken left last text
   pub written : WrittenInParts rows items broken left last text result old new
 
--- with what a view shows of each part
-abbrev pub ToldInParts : View → Hands → Option Rows → Result Totals JudgeError → Option (List ℕ) → Option (List ℕ) → Type 0
-ToldInParts view hands known result old new = PartsTold (IsTextOf view hands) view hands known result old new
-
--- with why each part breaks, and nothing of the last, which does not
-abbrev pub WhyInParts : Hands → Option Rows → Result Totals JudgeError → Option (List ℕ) → Option (List ℕ) → Type 0
-WhyInParts hands known result old new = PartsTold (IsWhyOf hands) view.Verdict hands known result old new
+-- with what is told of each part, and what is shown of the last, which does not break
+abbrev pub ToldInParts : Telling → Hands → Option Rows → Result Totals JudgeError → Option (List ℕ) → Option (List ℕ) → Type 0
+ToldInParts telling hands known result old new = PartsTold (IsTextOf telling hands) (view_of telling) hands known result old new

@@ -1,24 +1,32 @@
 //! Judges the whole capture: where a record breaks a rule, the judging goes on with the next part, and the totals come last.
-ghost use Rattle.std.specs.Prelude.{◌≡◌, ◌≢◌, IfOk, IfSome, option_map};
+ghost use Rattle.std.specs.Prelude.{◌≡◌, ◌≢◌, IfErr, IfOk, IfSome, OnOk, option_map};
 ghost use Rattle.capture9.specs.Rows.{HasHeader, rows_of};
 ghost use Rattle.judge9.specs.PartsReport.{IsTextOf, ToldInParts};
-ghost use Rattle.verdict9.specs.Lines.{line_of, line_of_totals};
+ghost use Rattle.verdict9.specs.Lines.{line_of_totals};
+ghost use Rattle.verdict9.specs.Telling.{view_of};
+ghost use Rattle.deck9.specs.Laws.{SetsInDay};
+ghost use Rattle.std.specs.List.{All};
+ghost use Rattle.why9.specs.Contradiction.{BreaksAtLast};
 ghost use Rattle.judge9.specs.Working.{Puts};
 ghost use Rattle.capture9.specs.Records.{GivesRecord, Progress};
-ghost use Rattle.judge9.specs.Working.Parts.{EndsPart, JudgesParts};
+ghost use Rattle.judge9.specs.Working.Parts.{EndsPart, IsBreakText, JudgesParts};
 ghost use Rattle.judge9.specs.Working.Turn.{IsFresh};
 
 use crate::judging::{Judging, Turn};
-use crate::verdict_judging::{explain, tell_no};
+use crate::kept::Kept;
+use crate::verdict_judging::explain;
+use crate::why_judging::{why_broken, why_no_run};
 use block9::Reason;
 use capture9::{CaptureError, CaptureKind, LineByte};
 use deck9::Hands;
+use report9::put_why;
 use std::alloc::Global;
 use std::io::{Read, Write};
+use std::mem::replace;
 use text9::put_all;
-use verdict9::{JudgeError, Totals, Verdict, View, put_totals_line};
+use verdict9::{JudgeError, Telling, Totals, Verdict, put_totals_line, put_verdict_line};
 
-/// Judges the capture that the reader gives, part by part, and writes the report that the view asks for.
+/// Judges the capture that the reader gives, part by part, and writes what is asked for.
 ///
 /// Each part is judged as [`judge`](crate::judge) judges a capture: nothing is known of the deck where it begins. It ends with
 /// the first record that breaks a rule, and the next part begins with the first record that may begin a command: with the one
@@ -26,9 +34,10 @@ use verdict9::{JudgeError, Totals, Verdict, View, put_totals_line};
 /// it did not end; else after it, with the first on the controller's wire that comes after a record of the deck's wire or after
 /// the byte gap. Where there is none, the rest is passed over. The rule is this profile's choice.
 ///
-/// For each part it writes what `judge` writes for a capture that breaks there, with the numbers that the records have in the
-/// whole capture; for a part that does not break the lines of its exchanges alone; and the line of the totals last. It keeps no
-/// list of records or parts. The writer is not flushed.
+/// For each part it writes what `judge` writes for a capture that breaks there, or what `report9`'s `write_why` writes of it, with
+/// the numbers that the records have in the whole capture; for a part that does not break the lines of its exchanges alone, where
+/// these are asked for; and the line of the totals last. It keeps no list of records or parts, and the exchanges of a part only to
+/// say why it breaks. The writer is not flushed.
 ///
 /// `Ok(totals)` comes exactly where no row of the text is bad: no break ends the reading. Errors come as with `judge`, and the
 /// line of the totals is then missing:
@@ -42,10 +51,10 @@ pub fn judge_parts<R: Read + Drop, W: Write>(
     alloc: Global,
     reader: R,
     writer: &mut W,
-    view: View,
+    telling: Telling,
     hands: Hands,
 ) -> Result<Totals, JudgeError>
-    ensures told { ToldInParts view hands (option_map rows_of (R.remaining reader)) result
+    ensures told { ToldInParts telling hands (option_map rows_of (R.remaining reader)) result
         (W.contents writer.old) (W.contents writer.new) }
     ensures kind { (e : CaptureError) → result ≡ Err (JudgeError.Capture e)
         → e.kind ≢ CaptureKind.OutOfMemory }
@@ -56,7 +65,7 @@ pub fn judge_parts<R: Read + Drop, W: Write>(
         return Err(JudgeError::OutOfMemory);
     };
     let mut line = Vec::new(alloc);
-    let totals = judge_rows(alloc, &mut judging, &mut line, writer, view, hands);
+    let totals = judge_rows(alloc, &mut judging, &mut line, writer, telling, hands);
     drop(judging);
     totals
 }
@@ -67,15 +76,16 @@ fn judge_rows<R: Read + Drop, W: Write>(
     judging: &mut Judging<R>,
     line: &mut Vec<u8>,
     writer: &mut W,
-    view: View,
+    telling: Telling,
     hands: Hands,
 ) -> Result<Totals, JudgeError>
     requires { IsFresh hands judging.old }
-    ensures { JudgesParts (IsTextOf view hands) view hands judging.old.rows.rows result (W.contents writer.old) (W.contents writer.new) }
+    ensures { JudgesParts (IsTextOf telling hands) (view_of telling) hands judging.old.rows.rows result (W.contents writer.old) (W.contents writer.new) }
 {
     let mut breaks = 0u32;
     let mut exchanges = 0u32;
     let mut in_exchanges = 0u32;
+    let mut kept = Kept::new(alloc);
     let mut turn = judging.next()?;
     'rows: loop {
         turn = match turn {
@@ -85,21 +95,28 @@ fn judge_rows<R: Read + Drop, W: Write>(
                 explain(
                     line,
                     writer,
-                    view,
+                    telling.view(),
                     hands,
                     judging.rows.given(),
                     &exchange,
                     &judging.tracker,
                 )?;
+                kept.keep(telling, exchange, judging.pairer.last_time())?;
                 judging.next()?
             }
-            Turn::NoRun(_, last) => {
+            Turn::NoRun(exchange, last) => {
                 breaks += 1;
-                end_part(alloc, judging, line, writer, hands, Reason::NoRun, last)?
+                kept.keep(telling, exchange, None)?;
+                let part = replace(&mut kept, Kept::new(alloc));
+                let reason = Reason::NoRun;
+                put_break(alloc, line, judging, telling, hands, reason, last, part)?;
+                end_part(alloc, judging, line.as_slice(), writer, hands, reason, last)?
             }
             Turn::Break(reason, last) => {
                 breaks += 1;
-                end_part(alloc, judging, line, writer, hands, reason, last)?
+                let part = replace(&mut kept, Kept::new(alloc));
+                put_break(alloc, line, judging, telling, hands, reason, last, part)?;
+                end_part(alloc, judging, line.as_slice(), writer, hands, reason, last)?
             }
             Turn::End => break 'rows,
         };
@@ -119,20 +136,62 @@ fn judge_rows<R: Read + Drop, W: Write>(
     )
 }
 
-/// Writes the line of a break at `last`, the record that was read last, and takes up where the next part begins.
+/// Puts what is told of a break at `last`, the record that was read last, in place of what the buffer holds: these are the
+/// exchanges that were kept of the part. An error comes where memory is refused.
+fn put_break<R: Read + Drop>(
+    alloc: Global,
+    line: &mut Vec<u8>,
+    judging: &Judging<R>,
+    telling: Telling,
+    hands: Hands,
+    reason: Reason,
+    last: LineByte,
+    kept: Kept,
+) -> Result<(), JudgeError>
+    requires { telling ≡ Telling.Why → reason ≡ Reason.NoRun → BreaksAtLast hands kept.exchanges.items × All SetsInDay kept.exchanges.items }
+    ensures ok { OnOk result (IsBreakText telling hands judging.now.rows.given reason last judging.now.pairer.tail kept.exchanges.items kept.end_us line.new.items) }
+    ensures err { IfErr result (λ e. e ≡ JudgeError.OutOfMemory) }
+{
+    line.clear();
+    let at = judging.rows.given();
+    match (telling, reason) {
+        (Telling::Shown(_), _) => put_verdict_line(line, Verdict::No { at, reason })?,
+        (Telling::Why, Reason::NoRun) => {
+            let why = why_no_run(alloc, hands, at, kept.exchanges)?;
+            put_why(line, hands, &why)?;
+        }
+        (Telling::Why, _) => {
+            let why = why_broken(
+                alloc,
+                &judging.pairer,
+                at,
+                reason,
+                last,
+                kept.exchanges,
+                kept.end_us,
+            )?;
+            put_why(line, hands, &why)?;
+        }
+    }
+    Ok(())
+}
+
+/// Writes the text of a break at `last`, the record that was read last, and takes up where the next part begins.
 fn end_part<R: Read + Drop, W: Write>(
     alloc: Global,
     judging: &mut Judging<R>,
-    line: &mut Vec<u8>,
+    text: &[u8],
     writer: &mut W,
     hands: Hands,
     reason: Reason,
     last: LineByte,
 ) -> Result<Turn, JudgeError>
     requires { (before : Progress R) × GivesRecord before last judging.old.rows }
-    ensures { EndsPart (line_of (Verdict.No judging.old.rows.given reason)) hands reason last judging.old result judging.new (W.contents writer.old) (W.contents writer.new) }
+    ensures { EndsPart text.now hands reason last judging.old result judging.new (W.contents writer.old) (W.contents writer.new) }
 {
-    tell_no(line, writer, judging.rows.given(), reason)?;
+    let Ok(()) = put_all(writer, text) else {
+        return Err(JudgeError::Write);
+    };
     judging.take_up(alloc, hands, reason, last)
 }
 

@@ -1,10 +1,15 @@
 //! Judges a capture and says why a no is one: what is open where a rule of pairing is broken, and which replies contradict
 //! one another where no run of the deck remains.
-ghost use Rattle.std.specs.Prelude.{◌≡◌, ◌≢◌, [], IfSome, IfOk, IfErr, List, option_map};
+ghost use Rattle.std.specs.Prelude.{◌≡◌, ◌≢◌, ℕ, [], IfSome, IfOk, IfErr, List, Option, option_map};
 ghost use Rattle.capture9.specs.Rows.{rows_of};
 ghost use Rattle.judge9.specs.Judging.{CanBeResult, IsTheAnswer, StoppedBefore, answer_of};
 ghost use Rattle.verdict9.specs.OpenRecords.{IsBefore};
 ghost use Rattle.judge9.specs.WhyVerdict.{IsJudgedWhy, judged_of};
+ghost use Rattle.deck9.specs.Laws.{SetsInDay};
+ghost use Rattle.deck9.specs.declared.state.Hands.{Hands as AHands};
+ghost use Rattle.std.specs.List.{All};
+ghost use Rattle.why9.specs.Contradiction.{BreaksAtLast};
+ghost use Rattle.judge9.specs.Working.Parts.{SaysWhy};
 ghost use Rattle.judge9.specs.Working.Trail.{IsEnd, JudgesWhy};
 ghost use Rattle.capture9.specs.declared.line_byte.LineByte.{LineByte as ALineByte};
 ghost use Rattle.judge9.specs.Working.Turn.{IsFresh};
@@ -14,7 +19,7 @@ use crate::ending::Ending;
 use crate::judging::Judging;
 use crate::trail::Trail;
 use crate::trail_judging::keep_trail;
-use block9::{Exchange, Pairer};
+use block9::{Exchange, Pairer, Reason};
 use capture9::{CaptureError, CaptureKind, LineByte};
 use deck9::Hands;
 use std::alloc::{AllocError, Global};
@@ -93,38 +98,87 @@ fn judge_rows<R: Read + Drop>(
                 end_us,
             },
         ) => {
-            let Ok(tail) = open_records(alloc, &judging.pairer) else {
-                return Err(JudgeError::OutOfMemory);
-            };
-            let command = judging.pairer.open_command();
-            let before = ended_before(trail.into_exchanges(), tail.as_slice(), end_us);
-            Ok(WhyVerdict::Break {
+            let exchanges = trail.into_exchanges();
+            let Ok(why) = why_broken(
+                alloc,
+                &judging.pairer,
                 at,
                 reason,
-                tail,
-                command,
-                before,
                 breaking,
-            })
+                exchanges,
+                end_us,
+            ) else {
+                return Err(JudgeError::OutOfMemory);
+            };
+            Ok(why)
         }
         Ok(Ending::NoRun { at }) => {
-            let exchanges = trail.into_exchanges();
-            let Ok(places) = contradicting(alloc, hands, &exchanges) else {
+            let Ok(why) = why_no_run(alloc, hands, at, trail.into_exchanges()) else {
                 return Err(JudgeError::OutOfMemory);
             };
-            let Ok((known, shown)) = could_show(alloc, hands, &exchanges) else {
-                return Err(JudgeError::OutOfMemory);
-            };
-            Ok(WhyVerdict::Contradiction {
-                at,
-                exchanges,
-                places,
-                known,
-                shown,
-            })
+            Ok(why)
         }
         Err(e) => Err(e),
     }
+}
+
+/// Why the record of this number broke a rule of blocks, pairing or timing: what the pairer holds was open before it, and these
+/// exchanges came before that, the last of which ended at this time. An error comes where memory is refused.
+pub(crate) fn why_broken(
+    alloc: Global,
+    pairer: &Pairer,
+    at: u32,
+    reason: Reason,
+    breaking: LineByte,
+    exchanges: Vec<Exchange>,
+    end_us: Option<u64>,
+) -> Result<WhyVerdict, JudgeError>
+    requires { reason ≢ Reason.NoRun }
+    ensures ok { (hands : AHands) → IfOk result (SaysWhy hands at reason breaking pairer.now.tail exchanges.items end_us) }
+    ensures err { IfErr result (λ e. e ≡ JudgeError.OutOfMemory) }
+{
+    let Ok(tail) = open_records(alloc, pairer) else {
+        return Err(JudgeError::OutOfMemory);
+    };
+    let command = pairer.open_command();
+    let before = ended_before(exchanges, tail.as_slice(), end_us);
+    Ok(WhyVerdict::Break {
+        at,
+        reason,
+        tail,
+        command,
+        before,
+        breaking,
+    })
+}
+
+/// Why no run remains with the last of these exchanges, which ends with the record of this number: which replies contradict one
+/// another, and what the deck could show. An error comes where memory is refused.
+pub(crate) fn why_no_run(
+    alloc: Global,
+    hands: Hands,
+    at: u32,
+    exchanges: Vec<Exchange>,
+) -> Result<WhyVerdict, JudgeError>
+    requires breaks { BreaksAtLast hands exchanges.items }
+    requires presets { All SetsInDay exchanges.items }
+    ensures ok { (r : ALineByte) (left : List ALineByte) (end_us : Option ℕ)
+        → IfOk result (SaysWhy hands at Reason.NoRun r left exchanges.items end_us) }
+    ensures err { IfErr result (λ e. e ≡ JudgeError.OutOfMemory) }
+{
+    let Ok(places) = contradicting(alloc, hands, &exchanges) else {
+        return Err(JudgeError::OutOfMemory);
+    };
+    let Ok((known, shown)) = could_show(alloc, hands, &exchanges) else {
+        return Err(JudgeError::OutOfMemory);
+    };
+    Ok(WhyVerdict::Contradiction {
+        at,
+        exchanges,
+        places,
+        known,
+        shown,
+    })
 }
 
 /// The records that are open, in memory of their own.

@@ -13,7 +13,7 @@ pub use Rattle.deck9.specs.declared.state.Hands.{Hands}
 pub use Rattle.deck9.specs.declared.state.State.{State}
 pub use Rattle.report9.specs.RunText.{known_entry, known_state, lines_of_run}
 unfoldable pub use Rattle.report9.specs.RunText.{line_of_state}
-pub use Rattle.report9.specs.WhyText.{block_of, end_before, hex_bytes, in_a_row, line_if_ended, lines_at, local_said, names_of, own, progress_told, since_told, sum_told, words_if_whole}
+pub use Rattle.report9.specs.WhyText.{block_of, end_before, hex_bytes, in_a_row, line_if_ended, lines_at, local_said, records_in, names_of, own, progress_told, since_told, sum_told, words_if_whole}
 unfoldable pub use Rattle.report9.specs.WhyText.{line_of_breaking, line_of_contradicting, line_of_could_show, line_of_open, lines_of_break, text_of_reply_given, text_of_command_sent, text_of_modes}
 unfoldable pub use Rattle.report9.specs.WhyText.{line_of_before, text_of_block, text_of_records, text_of_reply, words_of}
 pub use Rattle.capture9.specs.declared.line_byte.Wire.{Wire}

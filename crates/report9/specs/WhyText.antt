@@ -146,6 +146,11 @@ lines_at places place at [] = []
 lines_at places place at (e ∷ es) =
     (if is_among places place then line_of_contradicting at e else []) ++ lines_at places (place + 1) (at + records_of e) es
 
+-- how many records exchanges have
+abbrev pub records_in : List Exchange → ℕ
+records_in [] = 0
+records_in (e ∷ es) = records_of e + records_in es
+
 -- the modes that the deck could show, and `any` where that is every one
 unfoldable pub text_of_shown : ModeSet → List ℕ
 text_of_shown set = if list_all (has set.0) every_mode then codes "any" else text_of_modes set
@@ -245,4 +250,4 @@ text_of_why hands (why.Yes records exchanges tail) = line_of (verdict.Yes record
 text_of_why hands (why.Break at reason tail command before r) =
     lines_of_break (at - (length tail.items + 1)) at reason tail.items command before r ++ line_of (verdict.No at reason)
 text_of_why hands (why.Contradiction at exchanges places known shown) =
-    lines_at places.items 0 0 exchanges.items ++ line_of_could_show hands known shown ++ line_of (verdict.No at NoRun)
+    lines_at places.items 0 (at - records_in exchanges.items) exchanges.items ++ line_of_could_show hands known shown ++ line_of (verdict.No at NoRun)

@@ -5,4 +5,4 @@ mod run_text;
 mod why_text;
 
 pub use run_text::write_run;
-pub use why_text::write_why;
+pub use why_text::{put_why, write_why};

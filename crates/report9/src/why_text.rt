@@ -6,12 +6,12 @@ mod exchange_line;
 mod modes;
 mod said;
 
-ghost use Rattle.std.specs.Prelude.{◌≡◌, ◌⊎◌, ◌++◌, [], OnOk, IfErr};
+ghost use Rattle.std.specs.Prelude.{◌≡◌, ◌⊎◌, ◌-◌, ◌++◌, [], OnOk, IfErr};
 ghost use Rattle.std.specs.Io.KnownBytes.{Appends};
 ghost use Rattle.verdict9.specs.Lines.{line_of};
 ghost use Rattle.text9.specs.Writing.{AppendsPart};
 ghost use Rattle.verdict9.specs.declared.verdict.Verdict.TheVariants as verdict;
-ghost use Rattle.report9.specs.WhyText.{line_of_could_show, lines_at, text_of_shown, text_of_why};
+ghost use Rattle.report9.specs.WhyText.{line_of_could_show, lines_at, records_in, text_of_shown, text_of_why};
 
 use block9::{Exchange, Reason};
 use break_lines::put_break;
@@ -64,8 +64,10 @@ pub fn write_why<W: Write>(
     }
 }
 
-/// Puts the whole text to the end of a buffer.
-fn put_why(text: &mut Vec<u8>, hands: Hands, verdict: &WhyVerdict) -> Result<(), AllocError>
+/// Puts the text that [`write_why`] writes to the end of a buffer.
+///
+/// An error comes where the buffer has to grow and is refused; then a part of the text may be there.
+pub fn put_why(text: &mut Vec<u8>, hands: Hands, verdict: &WhyVerdict) -> Result<(), AllocError>
     ensures { OnOk result (text.new.items ≡ text.old.items ++ text_of_why hands verdict.now) }
 {
     match verdict {
@@ -107,7 +109,7 @@ fn put_why(text: &mut Vec<u8>, hands: Hands, verdict: &WhyVerdict) -> Result<(),
             known,
             shown,
         } => {
-            put_lines(text, places.as_slice(), exchanges.as_slice())?;
+            put_lines(text, *at, places.as_slice(), exchanges.as_slice())?;
             put_could_show(text, hands, known, *shown)?;
             put_no(text, *at, Reason::NoRun)
         }
@@ -121,11 +123,17 @@ fn put_no(text: &mut Vec<u8>, at: u32, reason: Reason) -> Result<(), AllocError>
     put_verdict_line(text, Verdict::No { at, reason })
 }
 
-/// Puts the lines of the exchanges at these places.
-fn put_lines(text: &mut Vec<u8>, places: &[usize], exchanges: &[Exchange]) -> Result<(), AllocError>
-    ensures { OnOk result (text.new.items ≡ text.old.items ++ lines_at places.now 0 0 exchanges.now) }
+/// Puts the lines of the exchanges at these places, the last of which ends with the record of this number.
+fn put_lines(
+    text: &mut Vec<u8>,
+    last: u32,
+    places: &[usize],
+    exchanges: &[Exchange],
+) -> Result<(), AllocError>
+    ensures { OnOk result (text.new.items ≡ text.old.items
+        ++ lines_at places.now 0 (last - records_in exchanges.now) exchanges.now) }
 {
-    let mut at = 0u128;
+    let mut at = u128::from(last).saturating_sub(records_in(exchanges));
     for (place, exchange) in exchanges.iter().enumerate() {
         if places.contains(&place) {
             put_contradicting(text, at, exchange)?;
@@ -133,6 +141,17 @@ fn put_lines(text: &mut Vec<u8>, places: &[usize], exchanges: &[Exchange]) -> Re
         at += exchange.records() as u128;
     }
     Ok(())
+}
+
+/// How many records these exchanges have.
+fn records_in(exchanges: &[Exchange]) -> u128
+    ensures { result ≡ records_in exchanges.now }
+{
+    let mut records = 0u128;
+    for exchange in exchanges.iter() {
+        records += exchange.records() as u128;
+    }
+    records
 }
 
 /// Puts the line of what the deck could show.

@@ -1,3 +1,4 @@
 pub mod Error
 pub mod Lines
 pub mod OpenRecords
+pub mod Telling

@@ -33,3 +33,27 @@ pub enum View {
     /// A line for each exchange, with what is then known of the deck, and the line of the verdict.
     Explain,
 }
+
+/// What is written of each part of a capture where the judging goes on after a break.
+#[derive(Clone, Copy, Debug, PartialEq, Eq)]
+pub enum Telling {
+    /// What the view shows of the part, and the line of its break.
+    Shown(View),
+    /// Why the part breaks, and the line of its break; nothing of a part that does not break.
+    Why,
+}
+
+impl Telling {
+    ghost use Rattle.std.specs.Prelude.{◌≡◌};
+    ghost use Rattle.verdict9.specs.Telling.{view_of};
+
+    /// What is shown of the exchanges of each part.
+    pub fn view(self) -> View
+        ensures { result ≡ view_of self }
+    {
+        match self {
+            Telling::Shown(view) => view,
+            Telling::Why => View::Verdict,
+        }
+    }
+}

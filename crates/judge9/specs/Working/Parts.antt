@@ -1,10 +1,20 @@
 -- Where a judging takes up again after a break: the records that are passed over, and the first one of the next part.
-use Rattle.std.specs.Prelude.{◌≡◌, ◌≢◌, ◌+◌, ◌++◌, ◌∷◌, ◌⊎◌}
+use Rattle.std.specs.Prelude.{◌≡◌, ◌≢◌, ◌↔◌, ◌+◌, ◌++◌, ◌∷◌, ◌⊎◌}
 use Rattle.std.specs.Bool.{MatchBool}
 use Rattle.judge9.specs.Working.{[], CaptureError, CaptureKind, Err, false, GivesEnd, GivesRecord, GivesRefusal, Hands, IfSome, JudgeError, Judging, LineByte, List, None, Ok, Option, Progress}
-use Rattle.judge9.specs.Working.{Appends, Puts, Reason, refusal_of, Result, Rows, Some, true, View, ℕ, ⊤}
+use Rattle.judge9.specs.Working.{Appends, AppendsPart, Exchange, Reason, refusal_of, Result, Rows, Some, true, Verdict, View, WhyVerdict, ℕ, ⊤}
 use Rattle.verdict9.specs.declared.totals.Totals.{Totals}
 use Rattle.judge9.specs.PartsReport.{PartsTold}
+use Rattle.judge9.specs.WhyVerdict.{CouldShow}
+use Rattle.judge9.specs.Working.Trail.{IsEnd}
+use Rattle.block9.specs.Pairer.{BeginsWith as BeginsWithCommand}
+use Rattle.block9.specs.declared.command.Command.{Command}
+use Rattle.report9.specs.WhyText.{text_of_why}
+use Rattle.verdict9.specs.Lines.{line_of}
+use Rattle.verdict9.specs.OpenRecords.{IsBefore}
+use Rattle.verdict9.specs.declared.verdict.Telling.{Telling}
+use Rattle.verdict9.specs.declared.verdict.Telling.TheVariants.{Shown, Why}
+use Rattle.why9.specs.Contradiction.{IsContradiction}
 use Rattle.capture9.specs.Rows.{HasHeader}
 use Rattle.judge9.specs.Parts.{begins_next_part, BrokenPart, may_begin}
 use Rattle.judge9.specs.Working.Turn.{Begins, ComesTo, IsTaken, Waits}
@@ -70,11 +80,27 @@ TakesUp {R} hands reason last j result k =
     ⊎ MatchBool (begins_next_part reason last) ((before : Progress R) → GivesRecord before last j.rows → Resumes hands before last result k)
     (ResumesAfter hands last j.rows result k)
 
--- the text of a break was not written whole, or it was and the judging took up again
+-- why a record broke a rule: these records were open before it, and these exchanges came before them, with the time at which the
+-- last of them ended; or the last of them is one with which no run remains
+abbrev pub SaysWhy : Hands → ℕ → Reason → LineByte → List LineByte → List Exchange → Option ℕ → WhyVerdict → Type 0
+SaysWhy hands at reason r left es end_us (WhyVerdict.Yes records exchanges tail) = ⊥
+SaysWhy hands at reason r left es end_us (WhyVerdict.Break number x tail command before breaking) =
+    (number ≡ at) × (x ≡ reason) × (breaking ≡ r) × (tail.items ≡ left) × ((c : Command) → (command ≡ Some c) ↔ BeginsWithCommand left c)
+    × ((records : List LineByte) → (left ≡ [] → IsEnd records es end_us) → IsBefore records es left before) × (reason ≢ Reason.NoRun)
+SaysWhy hands at reason r left es end_us (WhyVerdict.Contradiction number exchanges places known shown) =
+    (number ≡ at) × (exchanges.items ≡ es) × IsContradiction hands es places.items × CouldShow hands es known shown × (reason ≡ Reason.NoRun)
+
+-- what is written of the break itself
+abbrev pub IsBreakText : Telling → Hands → ℕ → Reason → LineByte → List LineByte → List Exchange → Option ℕ → List ℕ → Type 0
+IsBreakText (Shown view) hands at reason r left es end_us text = text ≡ line_of (Verdict.No at reason)
+IsBreakText Why hands at reason r left es end_us text =
+    (why : WhyVerdict) × SaysWhy hands at reason r left es end_us why × (text ≡ text_of_why hands why)
+
+-- a first part of the text of a break was written, or it was and the judging took up again
 abbrev pub EndsPart : {R : Type 0} → List ℕ → Hands → Reason → LineByte → Judging R → Result Turn JudgeError → Judging R → Option (List ℕ) → Option (List ℕ)
     → Type 0
 EndsPart text hands reason last j result k old new =
-    ((x : JudgeError) × (result ≡ Err x) × Puts {A = Turn} text (Err x) old new) ⊎ (Appends old new text × TakesUp hands reason last j result k)
+    ((result ≡ Err JudgeError.Write) × AppendsPart old new text) ⊎ (Appends old new text × TakesUp hands reason last j result k)
 
 -- all that the result of a judging in parts tells
 pub record JudgesParts (IsText : BrokenPart → List ℕ → Type 0) (view : View) (hands : Hands) (rows : Option Rows) (result : Result Totals JudgeError)

@@ -1,7 +1,8 @@
-use Rattle.judge9.proofs.Words.{[], append-nil, arith, exchanges_of, length, length_push, None, Reason, Ok, Err, records_in, refl, Turn, ◌++◌, ◌∷◌}
+use Rattle.judge9.proofs.Words.{[], arith, Err, exchanges_of, length_push, None, Ok, Reason, refl, ◌++◌, ◌∙◌, ◌∷◌}
 use Rattle.judge9.proofs.parts_judging.judge_rows.Goals as goal
-use Rattle.judge9.proofs.PartEnds.{all_exchanges, at_break, at_exchange, at_no_run, at_start, at_the_end, at_unexplained, break_read, count_more, end_fits, exchange_fits, less-end, no_run_read, shown_text}
-use Rattle.judge9.proofs.PartBreaks.{break_line}
+use Rattle.judge9.proofs.LawLemmas.{pairing_reason}
+use Rattle.judge9.proofs.PartEnds.{all_exchanges, at_break, at_exchange, at_no_run, at_start, at_the_end, at_unexplained, at_unkept, break_memory, break_read, count_more}
+use Rattle.judge9.proofs.PartEnds.{end_fits, exchange_fits, less-end, loses_its_runs, no_run_memory, no_run_read, told_break, told_no_run}
 use Rattle.judge9.proofs.PartMeasure.{less-come}
 use Rattle.judge9.proofs.TurnSteps.{handed}
 
@@ -17,6 +18,7 @@ rows-init g c = record {
   breaks = refl;
   exchanges = refl;
   in_exchanges = refl;
+  kept = λ _. (c.new-kept.ensures.exchanges, c.new-kept.ensures.end);
   bound = omega (arith, less-come _ _ c.in_ok-turn.turn c.in_ok-turn.ensures);
 }
 
@@ -26,21 +28,30 @@ overflow_add-in_exchanges g c =
     let fits = exchange_fits (rw c.in-Exchange.is at so_far.at_turn) in
     omega (arith, so_far.in_exchanges, c.records.ensures.records, count_more (exchanges_of so_far.broken) so_far.es c.in-Exchange.exchange, fits)
 
+-- ---- an exchange
+
 pub returns-in_err-explain-in-Exchange : goal.returns-in_err-explain-in-Exchange
 returns-in_err-explain-in-Exchange g c =
+    let explains = rw (c.given.ensures, c.view.ensures) at c.in_err-explain-in-Exchange.ensures in
     rw (handed c.from_residual-in_err-explain-in-Exchange.result c.from_residual-in_err-explain-in-Exchange.ensures.1)
-    (at_unexplained _ (rw c.in-Exchange.is at c.rows.invariant.at_turn) (rw c.given.ensures at c.in_err-explain-in-Exchange.ensures))
+    (at_unexplained _ (rw c.in-Exchange.is at c.rows.invariant.at_turn) explains)
+
+pub returns-in_err-keep-in-Exchange : goal.returns-in_err-keep-in-Exchange
+returns-in_err-keep-in-Exchange g c =
+    let explains = rw (c.given.ensures, c.view.ensures) at c.in_ok-explain-in-Exchange.ensures in
+    rw (handed c.from_residual-in_err-keep-in-Exchange.result c.from_residual-in_err-keep-in-Exchange.ensures.1)
+    (at_unkept (rw c.in-Exchange.is at c.rows.invariant.at_turn) explains)
 
 pub returns-in_err-turn-in-Exchange : goal.returns-in_err-turn-in-Exchange
 returns-in_err-turn-in-Exchange g c =
-    let explains = rw c.given.ensures at c.in_ok-explain-in-Exchange.ensures in
+    let explains = rw (c.given.ensures, c.view.ensures) at c.in_ok-explain-in-Exchange.ensures in
     rw (handed c.from_residual-in_err-turn-in-Exchange.result c.from_residual-in_err-turn-in-Exchange.ensures.1)
     (at_exchange (Err _) (rw c.in-Exchange.is at c.rows.invariant.at_turn) explains c.in_err-turn-in-Exchange.ensures)
 
 pub rows-preserved-in_ok-turn-in-Exchange : goal.rows-preserved-in_ok-turn-in-Exchange
 rows-preserved-in_ok-turn-in-Exchange g c =
     let so_far = c.rows.invariant in
-    let explains = rw c.given.ensures at c.in_ok-explain-in-Exchange.ensures in
+    let explains = rw (c.given.ensures, c.view.ensures) at c.in_ok-explain-in-Exchange.ensures in
     let more = count_more (exchanges_of so_far.broken) so_far.es c.in-Exchange.exchange in
     let turn = c.in_ok-turn-in-Exchange.turn in
     record {
@@ -51,29 +62,53 @@ rows-preserved-in_ok-turn-in-Exchange g c =
       breaks = so_far.breaks;
       exchanges = omega (arith, so_far.exchanges, more);
       in_exchanges = omega (arith, so_far.in_exchanges, c.records.ensures.records, more);
+      kept = λ why. let is = c.in_ok-keep-in-Exchange.ensures why in (rw (so_far.kept why).0 at is.0, is.1 ∙ c.last_time.ensures);
       bound = omega (arith, so_far.bound, less-come _ _ turn c.in_ok-turn-in-Exchange.ensures);
     }
 
 pub rows-smaller-in_ok-turn-in-Exchange : goal.rows-smaller-in_ok-turn-in-Exchange
 rows-smaller-in_ok-turn-in-Exchange g c =
-    let less = less-come _ _ c.in_ok-turn-in-Exchange.turn c.in_ok-turn-in-Exchange.ensures in
-    rw c.in-Exchange.is (omega (arith, less))
+    let less = less-come _ _ c.in_ok-turn-in-Exchange.turn c.in_ok-turn-in-Exchange.ensures in rw c.in-Exchange.is (omega (arith, less))
+
+-- ---- no run remains
+
+pub returns-in_err-keep-in-NoRun : goal.returns-in_err-keep-in-NoRun
+returns-in_err-keep-in-NoRun g c =
+    rw (handed c.from_residual-in_err-keep-in-NoRun.result c.from_residual-in_err-keep-in-NoRun.ensures.1)
+    (no_run_memory (rw c.in-NoRun.is at c.rows.invariant.at_turn))
+
+pub put_break-requires : goal.put_break-requires
+put_break-requires g c = λ why no_run.
+    let so_far = c.rows.invariant in
+    let is = c.in_ok-keep-in-NoRun.ensures why in
+    rw (c.replace-part.ensures.value, is.0, (so_far.kept why).0) (loses_its_runs (rw c.in-NoRun.is at so_far.at_turn))
+
+pub returns-in_err-put_break-in-NoRun : goal.returns-in_err-put_break-in-NoRun
+returns-in_err-put_break-in-NoRun g c =
+    rw (handed c.from_residual-in_err-put_break-in-NoRun.result c.from_residual-in_err-put_break-in-NoRun.ensures.1, c.in_err-put_break-in-NoRun.ensures.err)
+    (no_run_memory (rw c.in-NoRun.is at c.rows.invariant.at_turn))
 
 pub end_part-requires : goal.end_part-requires
 end_part-requires g c = no_run_read (rw c.in-NoRun.is at c.rows.invariant.at_turn)
 
 pub returns-in_err-turn-in-NoRun : goal.returns-in_err-turn-in-NoRun
 returns-in_err-turn-in-NoRun g c =
+    let so_far = c.rows.invariant in
+    let ends = rw c.as_slice.ensures.value at c.in_err-turn-in-NoRun.ensures in
     rw (handed c.from_residual-in_err-turn-in-NoRun.result c.from_residual-in_err-turn-in-NoRun.ensures.1)
-    (let at = rw c.in-NoRun.is at c.rows.invariant.at_turn in
-    (at_no_run _ (break_line c.rows.judging.rows.given Reason.NoRun) (Err _) at (shown_text c.rows.judging at.so_far at.turned.0 Reason.NoRun at.turned.1.1.gives) c.in_err-turn-in-NoRun.ensures).2)
+    (told_no_run c.end_part.new.judging _ (Err _) (rw c.in-NoRun.is at so_far.at_turn) c.replace-part.result.exchanges.items c.replace-part.result.end_us
+    (λ why. rw (c.replace-part.ensures.value, (c.in_ok-keep-in-NoRun.ensures why).0, (so_far.kept why).0) refl) c.put_break.new.line.items
+    c.in_ok-put_break-in-NoRun.ensures.ok ends).2
 
 pub rows-preserved-in_ok-turn-in-NoRun : goal.rows-preserved-in_ok-turn-in-NoRun
 rows-preserved-in_ok-turn-in-NoRun g c =
     let so_far = c.rows.invariant in
     let turn = c.in_ok-turn-in-NoRun.turn in
     let at = rw c.in-NoRun.is at so_far.at_turn in
-    let next = at_no_run _ (break_line c.rows.judging.rows.given Reason.NoRun) (Ok turn) at (shown_text c.rows.judging at.so_far at.turned.0 Reason.NoRun at.turned.1.1.gives) c.in_ok-turn-in-NoRun.ensures in
+    let ends = rw c.as_slice.ensures.value at c.in_ok-turn-in-NoRun.ensures in
+    let next = told_no_run c.end_part.new.judging _ (Ok turn) at c.replace-part.result.exchanges.items c.replace-part.result.end_us
+    (λ why. rw (c.replace-part.ensures.value, (c.in_ok-keep-in-NoRun.ensures why).0, (so_far.kept why).0) refl) c.put_break.new.line.items
+    c.in_ok-put_break-in-NoRun.ensures.ok ends in
     let all = all_exchanges so_far.broken next.0 so_far.es next.1 in
     let bound = rw c.in-NoRun.is at so_far.bound in
     record {
@@ -84,29 +119,45 @@ rows-preserved-in_ok-turn-in-NoRun g c =
       breaks = omega (arith, so_far.breaks, length_push so_far.broken next.0);
       exchanges = rw all so_far.exchanges;
       in_exchanges = rw all so_far.in_exchanges;
-      bound = omega (arith, bound, less-end _ c.args.hands Reason.NoRun c.in-NoRun.last c.rows.judging c.end_part.new.judging _ _ turn (no_run_read at) c.in_ok-turn-in-NoRun.ensures);
+      kept = λ _. rw c.replace-part.ensures.after (c.new.ensures.exchanges, c.new.ensures.end);
+      bound = omega (arith, bound, less-end _ c.args.hands Reason.NoRun c.in-NoRun.last c.rows.judging c.end_part.new.judging _ _ turn (no_run_read at) ends);
     }
 
 pub rows-smaller-in_ok-turn-in-NoRun : goal.rows-smaller-in_ok-turn-in-NoRun
 rows-smaller-in_ok-turn-in-NoRun g c =
-    let less = less-end _ c.args.hands Reason.NoRun c.in-NoRun.last c.rows.judging c.end_part.new.judging _ _ c.in_ok-turn-in-NoRun.turn (no_run_read (rw c.in-NoRun.is at c.rows.invariant.at_turn)) c.in_ok-turn-in-NoRun.ensures in
+    let read = no_run_read (rw c.in-NoRun.is at c.rows.invariant.at_turn) in
+    let less = less-end _ c.args.hands Reason.NoRun c.in-NoRun.last c.rows.judging c.end_part.new.judging _ _ c.in_ok-turn-in-NoRun.turn read
+    c.in_ok-turn-in-NoRun.ensures in
     rw c.in-NoRun.is (omega (arith, less))
+
+-- ---- a rule of pairing is broken
+
+pub returns-in_err-put_break-in-Break : goal.returns-in_err-put_break-in-Break
+returns-in_err-put_break-in-Break g c =
+    rw (handed c.from_residual-in_err-put_break-in-Break.result c.from_residual-in_err-put_break-in-Break.ensures.1, c.in_err-put_break-in-Break.ensures.err)
+    (break_memory (rw c.in-Break.is at c.rows.invariant.at_turn))
 
 pub end_part-requires-in-Break : goal.end_part-requires-in-Break
 end_part-requires-in-Break g c = break_read (rw c.in-Break.is at c.rows.invariant.at_turn)
 
 pub returns-in_err-turn-in-Break : goal.returns-in_err-turn-in-Break
 returns-in_err-turn-in-Break g c =
+    let so_far = c.rows.invariant in
+    let ends = rw c.as_slice-in-Break.ensures.value at c.in_err-turn-in-Break.ensures in
     rw (handed c.from_residual-in_err-turn-in-Break.result c.from_residual-in_err-turn-in-Break.ensures.1)
-    (let at = rw c.in-Break.is at c.rows.invariant.at_turn in
-    (at_break _ (break_line c.rows.judging.rows.given c.in-Break.reason) (Err _) at (shown_text c.rows.judging at.so_far at.turned.0 c.in-Break.reason at.turned.1.1.gives) c.in_err-turn-in-Break.ensures).2)
+    (told_break c.end_part-in-Break.new.judging _ (Err _) (rw c.in-Break.is at so_far.at_turn) c.replace-part-in-Break.result.exchanges.items
+    c.replace-part-in-Break.result.end_us (λ why. rw c.replace-part-in-Break.ensures.value (so_far.kept why)) c.put_break-in-Break.new.line.items
+    c.in_ok-put_break-in-Break.ensures.ok ends).2
 
 pub rows-preserved : goal.rows-preserved
 rows-preserved g c =
     let so_far = c.rows.invariant in
     let turn = c.in_ok-turn-in-Break.turn in
     let at = rw c.in-Break.is at so_far.at_turn in
-    let next = at_break _ (break_line c.rows.judging.rows.given c.in-Break.reason) (Ok turn) at (shown_text c.rows.judging at.so_far at.turned.0 c.in-Break.reason at.turned.1.1.gives) c.in_ok-turn-in-Break.ensures in
+    let ends = rw c.as_slice-in-Break.ensures.value at c.in_ok-turn-in-Break.ensures in
+    let next = told_break c.end_part-in-Break.new.judging _ (Ok turn) at c.replace-part-in-Break.result.exchanges.items
+    c.replace-part-in-Break.result.end_us (λ why. rw c.replace-part-in-Break.ensures.value (so_far.kept why)) c.put_break-in-Break.new.line.items
+    c.in_ok-put_break-in-Break.ensures.ok ends in
     let all = all_exchanges so_far.broken next.0 so_far.es next.1 in
     let bound = rw c.in-Break.is at so_far.bound in
     record {
@@ -117,13 +168,18 @@ rows-preserved g c =
       breaks = omega (arith, so_far.breaks, length_push so_far.broken next.0);
       exchanges = rw all so_far.exchanges;
       in_exchanges = rw all so_far.in_exchanges;
-      bound = omega (arith, bound, less-end _ c.args.hands c.in-Break.reason c.in-Break.last c.rows.judging c.end_part-in-Break.new.judging _ _ turn (break_read at) c.in_ok-turn-in-Break.ensures);
+      kept = λ _. rw c.replace-part-in-Break.ensures.after (c.new-in-Break.ensures.exchanges, c.new-in-Break.ensures.end);
+      bound = omega (arith, bound, less-end _ c.args.hands c.in-Break.reason c.in-Break.last c.rows.judging c.end_part-in-Break.new.judging _ _ turn (break_read at) ends);
     }
 
 pub rows-smaller : goal.rows-smaller
 rows-smaller g c =
-    let less = less-end _ c.args.hands c.in-Break.reason c.in-Break.last c.rows.judging c.end_part-in-Break.new.judging _ _ c.in_ok-turn-in-Break.turn (break_read (rw c.in-Break.is at c.rows.invariant.at_turn)) c.in_ok-turn-in-Break.ensures in
+    let read = break_read (rw c.in-Break.is at c.rows.invariant.at_turn) in
+    let less = less-end _ c.args.hands c.in-Break.reason c.in-Break.last c.rows.judging c.end_part-in-Break.new.judging _ _ c.in_ok-turn-in-Break.turn read
+    c.in_ok-turn-in-Break.ensures in
     rw c.in-Break.is less
+
+-- ---- the end
 
 pub overflow_sub-records : goal.overflow_sub-records
 overflow_sub-records g c =

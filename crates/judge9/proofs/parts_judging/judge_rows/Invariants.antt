@@ -1,18 +1,22 @@
 use Rattle.judge9.proofs.Words.{BrokenPart, Exchange, exchanges_of, IsTextOf, length, List, Option, records_in, ℕ, ◌++◌, ◌+◌, ◌≡◌, ◌≤◌}
+use Rattle.verdict9.specs.Telling.{view_of}
+use Rattle.verdict9.specs.declared.verdict.Telling.TheVariants as Telling
 use Rattle.judge9.proofs.parts_judging.judge_rows.Given as goal
 use Rattle.judge9.proofs.PartMeasure.{left_to_do}
 use Rattle.judge9.proofs.PartTurns.{AtTurn}
 
--- a turn came, and these were counted
+-- a turn came, these were counted, and the exchanges of the part were kept where it is asked why it breaks
 abbrev pub invariant-rows : goal.invariant-rows
 invariant-rows g l = record {
   broken : List BrokenPart;
   es : List Exchange;
   end_us : Option ℕ;
-  at_turn : AtTurn (IsTextOf l.view l.hands) l.view l.hands l.fn.judging.rows.rows l.turn l.judging (g.W.Write.contents l.fn.writer) (g.W.Write.contents l.writer) broken es end_us;
+  at_turn : AtTurn (IsTextOf l.telling l.hands) (view_of l.telling) l.hands l.fn.judging.rows.rows l.turn l.judging (g.W.Write.contents l.fn.writer)
+      (g.W.Write.contents l.writer) broken es end_us;
   breaks : l.breaks ≡ length broken;
   exchanges : l.exchanges ≡ length (exchanges_of broken ++ es);
   in_exchanges : l.in_exchanges ≡ records_in (exchanges_of broken ++ es);
+  kept : l.telling ≡ Telling.Why → (l.kept.exchanges.items ≡ es) × (l.kept.end_us ≡ end_us);
   bound : l.breaks + left_to_do l.turn l.judging ≤ 12000002;
 }
 

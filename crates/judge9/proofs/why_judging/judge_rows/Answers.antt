@@ -1,21 +1,30 @@
+use Rattle.judge9.proofs.Words.{[], None}
+use Rattle.capture9.specs.declared.line_byte.Wire.TheVariants as Wire
 use Rattle.judge9.proofs.why_judging.judge_rows.Goals as goal
-use Rattle.judge9.proofs.TrailJudging.{broken_with}
+use Rattle.judge9.proofs.TrailJudging.{broken_why, judges_why, no_run_why}
 
-pub contradicting-requires-clause-presets : goal.contradicting-requires-clause-presets
-contradicting-requires-clause-presets g c =
-    let ended = rw c.in-Ok-NoRun.field-0-is at c.in-Ok-NoRun.ensures in
-    rw (c.deref.ensures.value, c.into_exchanges-exchanges.ensures) ended.ends.presets
+pub why_broken-requires : goal.why_broken-requires
+why_broken-requires g c = (rw c.in-Ok-Break.field-0-is at c.in-Ok-Break.ensures).ends.0
 
-pub returns-in-Ok-could_show : goal.returns-in-Ok-could_show
-returns-in-Ok-could_show g c =
-    let ended = rw c.in-Ok-NoRun.field-0-is at c.in-Ok-NoRun.ensures in
-    let is = rw c.deref.ensures.value at c.in-Ok-contradicting.ensures in
-    let shows = rw c.deref-in-Ok-NoRun.ensures.value at c.in-Ok-could_show.ensures in
-    record { judges = ended.judges; why = (rw c.into_exchanges-exchanges.ensures ended.ends.cut, is, shows); no_write = λ q. cc }
+pub why_no_run-requires-clause-breaks : goal.why_no_run-requires-clause-breaks
+why_no_run-requires-clause-breaks g c =
+    let ended = rw c.in-Ok-NoRun.field-0-is at c.in-Ok-NoRun.ensures in rw c.into_exchanges-in-Ok-NoRun.ensures ended.ends.breaks
+
+pub why_no_run-requires-clause-presets : goal.why_no_run-requires-clause-presets
+why_no_run-requires-clause-presets g c =
+    let ended = rw c.in-Ok-NoRun.field-0-is at c.in-Ok-NoRun.ensures in rw c.into_exchanges-in-Ok-NoRun.ensures ended.ends.presets
 
 pub returns-in-Ok : goal.returns-in-Ok
 returns-in-Ok g c =
     let ended = rw c.in-Ok-Break.field-0-is at c.in-Ok-Break.ensures in
-    let tells = rw (c.as_slice.ensures.value, c.into_exchanges-in-Ok-Break.ensures) at c.ended_before-before.ensures in
-    let broken = broken_with _ _ _ _ _ _ _ _ c.in-Ok.ensures (ended.ends.1, ended.ends.2, ended.ends.3) tells in
-    record { judges = ended.judges; why = (ended.ends.0, rw c.in-Ok.ensures c.open_command-command.ensures, broken.0, broken.1); no_write = λ q. cc }
+    let says = rw c.into_exchanges-exchanges.ensures at (c.in-Ok.ensures.ok c.args.hands) in
+    let both = broken_why c.args.hands ended.judges.told.rows c.in-Ok-Break.at c.in-Ok-Break.reason _ _ _ _ c.in-Ok.why says ended.ends.0
+    (ended.ends.1, ended.ends.2, ended.ends.3) in
+    judges_why _ c.in-Ok.why both.0 ended.judges both.1
+
+pub returns-in-Ok-why_no_run : goal.returns-in-Ok-why_no_run
+returns-in-Ok-why_no_run g c =
+    let ended = rw c.in-Ok-NoRun.field-0-is at c.in-Ok-NoRun.ensures in
+    let says = rw c.into_exchanges-in-Ok-NoRun.ensures at (c.in-Ok-why_no_run.ensures.ok (record { time_us = 0; wire = Wire.Deck; byte = 0 }) [] None) in
+    let both = no_run_why c.args.hands ended.judges.told.rows c.in-Ok-NoRun.at _ _ _ _ c.in-Ok-why_no_run.why says ended.ends.cut in
+    judges_why _ c.in-Ok-why_no_run.why both.0 ended.judges both.1
