@@ -22,6 +22,7 @@ PARTS = [
     [("judge9", "judge")],
     [("judge9", "judge_with_run"), ("deck9", "is_run"), ("report9", "write_run")],
     [("judge9", "judge_with_contradiction"), ("report9", "write_why")],
+    [("judge9", "judge_parts")],
     [("program9", "run_program"), ("program9", "End::status"), ("program9", "Message::fmt")],
 ]
 PAGE, SECTION = "docs/ARCHITECTURE.md", "## What the theorem says"

@@ -17,7 +17,7 @@ use Rattle.program9.specs.Output.{IsFirstPart}
 
 -- of a judging that answered `judged`, after which the writer was to hold `all`: the result is that answer, and
 -- the writer holds all of it; or the result is a write fault, and the writer holds a first part
-abbrev pub HandsOn : Result Verdict JudgeError → Option (List ℕ) → Result Verdict JudgeError → Option (List ℕ) → Type 0
+abbrev pub HandsOn : {A : Type 0} → Result A JudgeError → Option (List ℕ) → Result A JudgeError → Option (List ℕ) → Type 0
 HandsOn judged all result now = ((result ≡ judged) × Keeps all now) ⊎ ((result ≡ Err error.Write) × IsFirstPart now all)
 
 -- what writing the text of a run answers: where there is none the refusal, and nothing was written; else the verdict, and
@@ -43,9 +43,9 @@ WritesWhy hands (Ok why) result old new =
 abbrev pub TellsWhy : Hands → Option Rows → Option (List ℕ) → Result Verdict JudgeError → Option (List ℕ) → Type 0
 TellsWhy hands known old judged all = (found : Result WhyVerdict JudgeError) × IsJudgedWhy hands known found × WritesWhy hands found judged old all
 
--- some judging of this kind ended with this result, and the writer holds this now
-pub record EndsAs (Kind : Result Verdict JudgeError → Option (List ℕ) → Type 0) (result : Result Verdict JudgeError) (now : Option (List ℕ)) : Type 0 where
-  pub judged : Result Verdict JudgeError
+-- some judging of this kind, with this kind of answer, ended with this result, and the writer holds this now
+pub record EndsAs {A : Type 0} (Kind : Result A JudgeError → Option (List ℕ) → Type 0) (result : Result A JudgeError) (now : Option (List ℕ)) : Type 0 where
+  pub judged : Result A JudgeError
   pub all : Option (List ℕ)
   pub is_judged : Kind judged all
   pub hands_on : HandsOn judged all result now

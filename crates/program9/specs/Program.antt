@@ -1,5 +1,5 @@
 -- How the program ends, by the words of its command line, the capture that they name and the writer.
-use Rattle.std.specs.Prelude.{◌≡◌, ◌≢◌, ◌⊎◌, ℕ, List, Option, Result, Ok, Err, IfErr, IfSome, Vec, String, map, option_map}
+use Rattle.std.specs.Prelude.{◌≡◌, ◌≢◌, ◌⊎◌, ℕ, Bool, true, false, List, Option, Result, Ok, Err, IfErr, IfSome, Vec, String, map, option_map}
 use Rattle.std.specs.Global.{Global}
 use Rattle.std.specs.Io.KnownBytes.{Keeps}
 use Rattle.std.specs.IoError.{error_kind}
@@ -9,13 +9,15 @@ use Rattle.std.specs.declared.io.ErrorKind.{ErrorKind}
 use Rattle.std.specs.declared.io.ErrorKind.TheVariants.{FilesystemLoop, IsADirectory, NotADirectory, NotFound, OutOfMemory, PermissionDenied}
 use Rattle.capture9.specs.declared.error.CaptureError.{CaptureError}
 use Rattle.capture9.specs.declared.error.CaptureKind.TheVariants as kind
-use Rattle.capture9.specs.Rows.{Rows, rows_of}
+use Rattle.capture9.specs.Rows.{HasHeader, Rows, rows_of}
 use Rattle.deck9.specs.declared.state.Hands.{Hands}
 use Rattle.verdict9.specs.declared.error.JudgeError.{JudgeError}
 use Rattle.verdict9.specs.declared.error.JudgeError.TheVariants as error
+use Rattle.verdict9.specs.declared.totals.Totals.{Totals}
 use Rattle.verdict9.specs.declared.verdict.Verdict.{Verdict}
 use Rattle.verdict9.specs.declared.verdict.View.TheVariants as view
 use Rattle.judge9.specs.Judging.{CanBeResult, IsTheAnswer, StoppedBefore, answer_of}
+use Rattle.judge9.specs.PartsReport.{ToldInParts}
 use Rattle.judge9.specs.Report.{Told}
 use Rattle.words9.specs.declared.task.Task.{Task}
 use Rattle.words9.specs.declared.task.Verb.{Verb}
@@ -30,7 +32,7 @@ use Rattle.program9.specs.declared.ending.Outcome.{Outcome}
 use Rattle.program9.specs.declared.ending.WhyUnopened.{WhyUnopened}
 use Rattle.program9.specs.declared.ending.WhyUnopened.TheVariants as why
 use Rattle.program9.specs.Judging.{EndsAs, TellsRun, TellsWhy}
-use Rattle.program9.specs.Outcome.{outcome_of}
+use Rattle.program9.specs.Outcome.{outcome_in_parts, outcome_of}
 use Rattle.program9.specs.Version.{TellsVersion}
 
 -- the end where memory runs out
@@ -72,13 +74,41 @@ pub record IsJudgedFor (verb : Verb) (hands : Hands) (capture : Option (List ℕ
   pub kind : (e : CaptureError) → result ≡ Err (error.Capture e) → e.kind ≢ kind.OutOfMemory
   pub can_be : CanBeResult result
 
+-- whether the judging goes on after a break, and judges the whole capture: with these verbs, where the words say `--all`
+abbrev pub goes_on : Verb → Bool → Bool
+goes_on verb.Check all = all
+goes_on verb.Explain all = all
+goes_on verb.Run all = false
+goes_on verb.Why all = false
+
+-- what a judging part by part with this verb tells of each part; one with another verb never goes on
+abbrev pub TellsInParts : Verb → Hands → Option Rows → Option (List ℕ) → Result Totals JudgeError → Option (List ℕ) → Type 0
+TellsInParts verb.Check hands known old judged all = ToldInParts view.Verdict hands known judged old all
+TellsInParts verb.Explain hands known old judged all = ToldInParts view.Explain hands known judged old all
+TellsInParts verb.Run hands known old judged all = ⊥
+TellsInParts verb.Why hands known old judged all = ⊥
+
+-- a capture, whose text is given where it is known, was judged part by part with this verb and these hands: the result, and
+-- what the writer holds before and after
+pub record IsJudgedInParts (verb : Verb) (hands : Hands) (capture : Option (List ℕ)) (old : Option (List ℕ)) (result : Result Totals JudgeError)
+    (now : Option (List ℕ)) : Type 0 where
+  pub told : EndsAs (TellsInParts verb hands (option_map rows_of capture) old) result now
+  pub kind : (e : CaptureError) → result ≡ Err (error.Capture e) → e.kind ≢ kind.OutOfMemory
+  pub header : IfSome capture (λ text. (e : CaptureError) → result ≡ Err (error.Capture e) → e.row ≢ 0 → HasHeader (rows_of text))
+
+-- a capture was judged with this verb and these hands, and this is the end: it was judged part by part, or to its first break
+abbrev pub EndsJudged : Bool → Verb → Hands → Option (List ℕ) → Option (List ℕ) → Outcome → Option (List ℕ) → Type 0
+EndsJudged true verb hands capture old end now =
+    (result : Result Totals JudgeError) × IsJudgedInParts verb hands capture old result now × (end ≡ outcome_in_parts result)
+EndsJudged false verb hands capture old end now =
+    (result : Result Verdict JudgeError) × IsJudgedFor verb hands capture old result now × (end ≡ outcome_of result)
+
 -- a task's capture was opened so, and this is the end: it was not opened, and nothing is written; or it was judged as
 -- the task says; or memory for the buffer was refused, and nothing is written
 abbrev pub EndsOpened : {R : Type 0} → (R → Option (List ℕ)) → Task → Result R Error → Option (List ℕ) → Outcome → Option (List ℕ) → Type 0
 EndsOpened coming task (Err e) old end now = (end ≡ outcome_unopened task.file e) × Keeps old now
 EndsOpened coming task (Ok reader) old end now =
-    ((end ≡ no_memory) × Keeps old now)
-    ⊎ ((result : Result Verdict JudgeError) × IsJudgedFor task.verb task.hands (coming reader) old result now × (end ≡ outcome_of result))
+    ((end ≡ no_memory) × Keeps old now) ⊎ EndsJudged (goes_on task.verb task.all) task.verb task.hands (coming reader) old end now
 
 -- the task was carried out: its file was opened, or standard input where it names none, and this is the end
 pub record EndsTask {R : Type 0} (opens : Option (String Global) → Result R Error → Type 0) (coming : R → Option (List ℕ)) (task : Task) (old : Option (List ℕ))

@@ -1,7 +1,8 @@
 //! The judging that a verb asks for, whose report goes through a buffer, and the flush after it.
 ghost use Rattle.std.specs.Prelude.{◌≡◌, ◌≢◌, Err, IfSome, IfErr, option_map};
-ghost use Rattle.capture9.specs.Rows.{rows_of};
+ghost use Rattle.capture9.specs.Rows.{HasHeader, rows_of};
 ghost use Rattle.judge9.specs.Judging.{CanBeResult, IsTheAnswer, StoppedBefore, answer_of};
+ghost use Rattle.judge9.specs.PartsReport.{ToldInParts};
 ghost use Rattle.judge9.specs.RunVerdict.{judged_of, verdict_of};
 ghost use Rattle.judge9.specs.Verdict.{CanBeVerdict};
 ghost use Rattle.judge9.specs.WhyVerdict.{verdict_of as verdict_of_why};
@@ -14,8 +15,8 @@ use block9::Reason;
 use capture9::{CaptureError, CaptureKind};
 use deck9::Hands;
 use judge9::{
-    JudgeError, RunVerdict, Verdict, View, WhyVerdict, judge, judge_with_contradiction,
-    judge_with_run,
+    JudgeError, RunVerdict, Totals, Verdict, View, WhyVerdict, judge, judge_parts,
+    judge_with_contradiction, judge_with_run,
 };
 use report9::{write_run, write_why};
 use std::alloc::Global;
@@ -49,6 +50,32 @@ pub fn judge_and_flush<R: Read + Drop, W: Write + Drop>(
     ensures can_be { CanBeResult result }
 {
     let judged = tell(alloc, reader, out, verb, hands);
+    ended(out, judged)
+}
+
+/// Judges the whole capture that the reader gives, part by part, as the view says, and passes the whole report on to the writer
+/// behind the buffer.
+///
+/// The report is that of `judge_parts`. The result is what that answers where the writer took the whole report. Else it is
+/// `Err(Write)`, and the writer has a first part of the report; what the buffer still holds is not written. After a write that
+/// failed, that was interrupted or that took no byte, none is tried again.
+pub fn judge_parts_and_flush<R: Read + Drop, W: Write + Drop>(
+    alloc: Global,
+    reader: R,
+    out: &mut Buffered<W>,
+    view: View,
+    hands: Hands,
+) -> Result<Totals, JudgeError>
+    ensures told { EndsAs
+        (λ judged all. ToldInParts view hands (option_map rows_of (R.remaining reader)) judged
+        (held_contents W.contents out.old) all)
+        result (contents_behind W.contents out.new) }
+    ensures kind { (e : CaptureError) → result ≡ Err (JudgeError.Capture e)
+        → e.kind ≢ CaptureKind.OutOfMemory }
+    ensures header { IfSome (R.remaining reader) (λ text. (e : CaptureError)
+        → result ≡ Err (JudgeError.Capture e) → e.row ≢ 0 → HasHeader (rows_of text)) }
+{
+    let judged = judge_parts(alloc, reader, out, view, hands);
     ended(out, judged)
 }
 
@@ -162,10 +189,10 @@ fn verdict_of_why(why: &WhyVerdict) -> Verdict
 }
 
 /// The end of a judging that answered this: all is passed on, unless a write failed already.
-fn ended<W: Write + Drop>(
+fn ended<W: Write + Drop, A: Drop>(
     out: &mut Buffered<W>,
-    judged: Result<Verdict, JudgeError>,
-) -> Result<Verdict, JudgeError>
+    judged: Result<A, JudgeError>,
+) -> Result<A, JudgeError>
     ensures handed_on { HandsOn judged (held_contents W.contents out.old)
         result (contents_behind W.contents out.new) }
     // After a write that failed there is neither a write nor a flush.

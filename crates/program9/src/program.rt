@@ -1,16 +1,19 @@
 //! From the words of the command line to how the program ends.
 ghost use Rattle.std.specs.Prelude.{◌≡◌};
 ghost use Rattle.std.specs.Fn.{FnOnceReturnsAt};
-ghost use Rattle.program9.specs.Program.{EndsProgram, EndsTask, EndsWithout, outcome_unopened, why_of};
+ghost use Rattle.program9.specs.Output.{contents_behind, held_contents};
+ghost use Rattle.program9.specs.Program.{EndsJudged, EndsProgram, EndsTask, EndsWithout, goes_on, outcome_unopened, why_of};
 
 use crate::buffered::Buffered;
 use crate::ending::{End, Message, Outcome, Unopened, WhyUnopened};
-use crate::judging::judge_and_flush;
-use crate::status::outcome;
+use crate::judging::{judge_and_flush, judge_parts_and_flush};
+use crate::status::{outcome, outcome_in_parts};
 use crate::version::tell_version;
+use deck9::Hands;
+use judge9::View;
 use std::alloc::Global;
 use std::io::{self, Read, Write};
-use words9::{Task, WordsFault, read_words};
+use words9::{Task, Verb, WordsFault, read_words};
 
 /// The program from its words, or from why there are none, to its end: reads the task, opens its capture, judges that
 /// and writes the report to `out`; or writes its version there. It answers how the program ends, and the writer as it left
@@ -19,7 +22,8 @@ use words9::{Task, WordsFault, read_words};
 /// `opener` is asked once, for the task's file, where there is a task. The end is
 ///
 /// * `Usage` only where the words are no command, or could not be fetched as text: nothing is written;
-/// * the `Outcome` of the judging that the words ask for: with their verb, and with hands where they say so;
+/// * the `Outcome` of the judging that the words ask for: with their verb, with hands where they say so, and with `check` and
+///   `explain` part by part where they say `--all`;
 /// * status 4 with `CannotOpen`, the file and the reason where `opener` failed: nothing is written;
 /// * status 0 where the words ask for the version: its line is written; or status 4 with `WriteFault`, and a first part of
 ///   it;
@@ -70,7 +74,12 @@ fn carry_out<F: FnOnce(&Option<String>) -> io::Result<R>, R: Read + Drop, W: Wri
     requires { F.IsAlwaysCallable opener }
     ensures { EndsTask (FnOnceReturnsAt F.FnOnce opener) R.remaining task (W.contents out) result.0 (W.contents result.1) }
 {
-    let Task { verb, file, hands } = task;
+    let Task {
+        verb,
+        file,
+        hands,
+        all,
+    } = task;
     let reader = match opener(&file) {
         Ok(reader) => reader,
         Err(e) => return (not_opened(file, &e), out),
@@ -79,8 +88,36 @@ fn carry_out<F: FnOnce(&Option<String>) -> io::Result<R>, R: Read + Drop, W: Wri
         Ok(out) => out,
         Err(out) => return (Outcome::new(5, Message::NoMemory), out),
     };
-    let judged = judge_and_flush(alloc, reader, &mut out, verb, hands);
-    (outcome(&judged), out.into_writer())
+    let end = judge_for(alloc, reader, &mut out, verb, hands, all);
+    (end, out.into_writer())
+}
+
+/// Judges the capture with the verb, part by part where it goes on after a break, and hands the report on: the end.
+fn judge_for<R: Read + Drop, W: Write + Drop>(
+    alloc: Global,
+    reader: R,
+    out: &mut Buffered<W>,
+    verb: Verb,
+    hands: Hands,
+    all: bool,
+) -> Outcome
+    ensures { EndsJudged (goes_on verb all) verb hands (R.remaining reader)
+        (held_contents W.contents out.old) result (contents_behind W.contents out.new) }
+{
+    match verb {
+        Verb::Check if all => {
+            let judged = judge_parts_and_flush(alloc, reader, out, View::Verdict, hands);
+            outcome_in_parts(&judged)
+        }
+        Verb::Explain if all => {
+            let judged = judge_parts_and_flush(alloc, reader, out, View::Explain, hands);
+            outcome_in_parts(&judged)
+        }
+        Verb::Check | Verb::Explain | Verb::Run | Verb::Why => {
+            let judged = judge_and_flush(alloc, reader, out, verb, hands);
+            outcome(&judged)
+        }
+    }
 }
 
 /// The end where the capture was not opened.

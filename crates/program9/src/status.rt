@@ -1,10 +1,10 @@
 //! From the result of a judging to how the program ends.
 ghost use Rattle.std.specs.Prelude.{◌≡◌};
-ghost use Rattle.program9.specs.Outcome.{outcome_of};
+ghost use Rattle.program9.specs.Outcome.{outcome_in_parts, outcome_of, outcome_refused};
 
 use crate::ending::{Message, Outcome};
 use capture9::CaptureKind;
-use judge9::{JudgeError, Verdict};
+use judge9::{JudgeError, Totals, Verdict};
 
 /// How the program ends after a judging; the statuses are this profile's choice. Takes no memory.
 ///
@@ -22,12 +22,33 @@ pub fn outcome(judged: &Result<Verdict, JudgeError>) -> Outcome
     match judged {
         Ok(Verdict::Yes { .. }) => Outcome::new(0, Message::Nothing),
         Ok(Verdict::No { .. }) => Outcome::new(1, Message::Nothing),
-        Err(JudgeError::Capture(e)) => match e.kind {
+        Err(refusal) => outcome_refused(refusal),
+    }
+}
+
+/// How the program ends after a judging part by part: with status 0 where no part breaks, with 1 where one does, and
+/// after a refusal as [`outcome`] says. Takes no memory.
+pub fn outcome_in_parts(judged: &Result<Totals, JudgeError>) -> Outcome
+    ensures { result ≡ outcome_in_parts judged.now }
+{
+    match judged {
+        Ok(totals) if totals.breaks == 0 => Outcome::new(0, Message::Nothing),
+        Ok(_) => Outcome::new(1, Message::Nothing),
+        Err(refusal) => outcome_refused(refusal),
+    }
+}
+
+/// How the program ends after this refusal.
+fn outcome_refused(refusal: &JudgeError) -> Outcome
+    ensures { result ≡ outcome_refused refusal.now }
+{
+    match refusal {
+        JudgeError::Capture(e) => match e.kind {
             CaptureKind::Read => Outcome::new(4, Message::ReadFault(e.row)),
             CaptureKind::OutOfMemory => Outcome::new(5, Message::NoMemory),
             _ => Outcome::new(3, Message::Unreadable(*e)),
         },
-        Err(JudgeError::Write) => Outcome::new(4, Message::WriteFault),
-        Err(JudgeError::OutOfMemory) => Outcome::new(5, Message::NoMemory),
+        JudgeError::Write => Outcome::new(4, Message::WriteFault),
+        JudgeError::OutOfMemory => Outcome::new(5, Message::NoMemory),
     }
 }

@@ -2,8 +2,8 @@
 
 use crate::tests::same;
 use capture9::{CaptureError, CaptureKind};
-use judge9::JudgeError;
-use program9::{Message, Unopened, WhyUnopened, outcome};
+use judge9::{JudgeError, Totals};
+use program9::{Message, Unopened, WhyUnopened, outcome, outcome_in_parts};
 use std::alloc::{AllocError, Global};
 
 /// A reader, a writer and memory that fail; tests/program.sh has the rows that can't be read.
@@ -72,4 +72,20 @@ fn a_capture_that_is_not_opened_is_told_by_its_name(rt: HostRuntime) {
 fn of_a_verdict_nothing_is_said(rt: HostRuntime) {
     let text = Message::Nothing.to_string(rt.alloc()).expect(&rt, "memory");
     same(&rt, text.as_str(), "", "a verdict");
+}
+
+#[test]
+fn one_part_that_breaks_is_a_no(rt: HostRuntime) {
+    for (breaks, status) in [(0, 0), (1, 1), (256, 1)] {
+        let totals = Totals {
+            breaks,
+            records: 600,
+            exchanges: 40,
+            passed_over: 20,
+            tail: 3,
+        };
+        let end = outcome_in_parts(&Ok(totals));
+        same(&rt, end.status, status, breaks);
+        same(&rt, end.message, Message::Nothing, breaks);
+    }
 }

@@ -14,6 +14,17 @@ const PLAY: &str =
 /// What is answered to it.
 const YES: &str = "yes: records 6, exchanges 1, open 0\n";
 
+/// The totals of it.
+const NO_BREAK: &str = "breaks 0: records 6, exchanges 1, passed over 0, open 0\n";
+
+/// PLAY, its acknowledgement twice, and the first byte of a command.
+const TWICE: &str =
+    "time_us,wire,byte\n400,C,20\n800,C,01\n1200,C,21\n1600,D,10\n2000,D,01\n2400,D,11\n2800,D,10\n3200,D,01\n3600,D,11\n4000,C,20\n";
+
+/// What is answered to it where the judging goes on. The second acknowledgement is passed over, and the last byte begins a part.
+const ONE_BREAK: &str =
+    "no at record 7: P1 reply without a command\nbreaks 1: records 10, exchanges 1, passed over 3, open 1\n";
+
 /// The words of a command line.
 fn words_of(alloc: Global, words: &[&str]) -> Result<Vec<String>, AllocError> {
     let mut all = Vec::new(alloc);
@@ -23,11 +34,12 @@ fn words_of(alloc: Global, words: &[&str]) -> Result<Vec<String>, AllocError> {
     Ok(all)
 }
 
-/// What stands for the files: PLAY on standard input. Nothing else can be opened.
+/// What stands for the files: PLAY on standard input, and one with the acknowledgement twice. Nothing else can be opened.
 fn opened<'a>(file: &Option<String>) -> io::Result<&'a [u8]> {
     match file {
         None => Ok(PLAY.as_bytes()),
         Some(name) => match name.as_str() {
+            "twice.csv" => Ok(TWICE.as_bytes()),
             "" => Err(io::Error::from(io::ErrorKind::OutOfMemory)),
             "forbidden.csv" => Err(io::Error::from(io::ErrorKind::PermissionDenied)),
             "folder" => Err(io::Error::from(io::ErrorKind::IsADirectory)),
@@ -109,14 +121,41 @@ fn the_version_is_told(rt: HostRuntime) {
 }
 
 #[test]
+fn the_whole_capture_is_judged(rt: HostRuntime) {
+    let writer = Narrow::new(rt.alloc(), usize::MAX);
+    let (end, writer) = end_on(&rt, &["check", "--all"], writer);
+    same(&rt, is_told(&end, 0, Message::Nothing), true, NO_BREAK);
+    took(&rt, &writer, NO_BREAK.as_bytes(), 0, 1);
+    let writer = Narrow::new(rt.alloc(), usize::MAX);
+    let (end, writer) = end_on(&rt, &["check", "--all", "twice.csv"], writer);
+    same(&rt, is_told(&end, 1, Message::Nothing), true, ONE_BREAK);
+    took(&rt, &writer, ONE_BREAK.as_bytes(), 0, 1);
+    let writer = Narrow::new(rt.alloc(), usize::MAX);
+    let (end, writer) = end_on(&rt, &["explain", "twice.csv", "--all"], writer);
+    same(&rt, is_told(&end, 1, Message::Nothing), true, ONE_BREAK);
+    let whole = writer.taken.as_slice();
+    let begin = b"record 6: PLAY -> ACK, delay 400, ";
+    same(&rt, whole.starts_with(begin), true, whole);
+    took_to_the_end(&rt, &writer, ONE_BREAK.as_bytes());
+}
+
+#[test]
 fn a_writer_that_fails(rt: HostRuntime) {
-    for verb in ["check", "explain", "run", "why"] {
-        let (end, writer) = end_on(&rt, &[verb], Narrow::new(rt.alloc(), 4));
-        same(&rt, is_told(&end, 4, Message::WriteFault), true, verb);
+    let asked: [(&[&str], &str); 6] = [
+        (&["check"], YES),
+        (&["explain"], YES),
+        (&["run"], YES),
+        (&["why"], YES),
+        (&["check", "--all"], NO_BREAK),
+        (&["explain", "--all"], NO_BREAK),
+    ];
+    for (words, line) in &asked {
+        let (end, writer) = end_on(&rt, *words, Narrow::new(rt.alloc(), 4));
+        same(&rt, is_told(&end, 4, Message::WriteFault), true, *words);
         let counts = (writer.taken.len(), writer.failures, writer.flushes);
-        same(&rt, counts, (4, 1, 0), verb);
-        let (end, writer) = end_on(&rt, &[verb], Narrow::that_fails_to_flush(rt.alloc()));
-        same(&rt, is_told(&end, 4, Message::WriteFault), true, verb);
-        took_to_the_end(&rt, &writer, YES.as_bytes());
+        same(&rt, counts, (4, 1, 0), *words);
+        let (end, writer) = end_on(&rt, *words, Narrow::that_fails_to_flush(rt.alloc()));
+        same(&rt, is_told(&end, 4, Message::WriteFault), true, *words);
+        took_to_the_end(&rt, &writer, line.as_bytes());
     }
 }
