@@ -15,6 +15,7 @@ use Rattle.verdict9.specs.declared.error.JudgeError.{JudgeError}
 use Rattle.verdict9.specs.declared.error.JudgeError.TheVariants as error
 use Rattle.verdict9.specs.declared.totals.Totals.{Totals}
 use Rattle.verdict9.specs.declared.verdict.Verdict.{Verdict}
+use Rattle.verdict9.specs.declared.verdict.Telling.TheVariants as telling
 use Rattle.verdict9.specs.declared.verdict.View.TheVariants as view
 use Rattle.judge9.specs.Judging.{CanBeResult, IsTheAnswer, StoppedBefore, answer_of}
 use Rattle.judge9.specs.PartsReport.{ToldInParts}
@@ -79,14 +80,14 @@ abbrev pub goes_on : Verb → Bool → Bool
 goes_on verb.Check all = all
 goes_on verb.Explain all = all
 goes_on verb.Run all = false
-goes_on verb.Why all = false
+goes_on verb.Why all = all
 
 -- what a judging part by part with this verb tells of each part; one with another verb never goes on
 abbrev pub TellsInParts : Verb → Hands → Option Rows → Option (List ℕ) → Result Totals JudgeError → Option (List ℕ) → Type 0
-TellsInParts verb.Check hands known old judged all = ToldInParts view.Verdict hands known judged old all
-TellsInParts verb.Explain hands known old judged all = ToldInParts view.Explain hands known judged old all
+TellsInParts verb.Check hands known old judged all = ToldInParts (telling.Shown view.Verdict) hands known judged old all
+TellsInParts verb.Explain hands known old judged all = ToldInParts (telling.Shown view.Explain) hands known judged old all
 TellsInParts verb.Run hands known old judged all = ⊥
-TellsInParts verb.Why hands known old judged all = ⊥
+TellsInParts verb.Why hands known old judged all = ToldInParts telling.Why hands known judged old all
 
 -- a capture, whose text is given where it is known, was judged part by part with this verb and these hands: the result, and
 -- what the writer holds before and after

@@ -15,7 +15,7 @@ use block9::Reason;
 use capture9::{CaptureError, CaptureKind};
 use deck9::Hands;
 use judge9::{
-    JudgeError, RunVerdict, Totals, Verdict, View, WhyVerdict, judge, judge_parts,
+    JudgeError, RunVerdict, Telling, Totals, Verdict, View, WhyVerdict, judge, judge_parts,
     judge_with_contradiction, judge_with_run,
 };
 use report9::{write_run, write_why};
@@ -53,7 +53,7 @@ pub fn judge_and_flush<R: Read + Drop, W: Write + Drop>(
     ended(out, judged)
 }
 
-/// Judges the whole capture that the reader gives, part by part, as the view says, and passes the whole report on to the writer
+/// Judges the whole capture that the reader gives, part by part, tells what is asked for of each part, and passes the whole report on to the writer
 /// behind the buffer.
 ///
 /// The report is that of `judge_parts`. The result is what that answers where the writer took the whole report. Else it is
@@ -63,11 +63,11 @@ pub fn judge_parts_and_flush<R: Read + Drop, W: Write + Drop>(
     alloc: Global,
     reader: R,
     out: &mut Buffered<W>,
-    view: View,
+    telling: Telling,
     hands: Hands,
 ) -> Result<Totals, JudgeError>
     ensures told { EndsAs
-        (λ judged all. ToldInParts view hands (option_map rows_of (R.remaining reader)) judged
+        (λ judged all. ToldInParts telling hands (option_map rows_of (R.remaining reader)) judged
         (held_contents W.contents out.old) all)
         result (contents_behind W.contents out.new) }
     ensures kind { (e : CaptureError) → result ≡ Err (JudgeError.Capture e)
@@ -75,7 +75,7 @@ pub fn judge_parts_and_flush<R: Read + Drop, W: Write + Drop>(
     ensures header { IfSome (R.remaining reader) (λ text. (e : CaptureError)
         → result ≡ Err (JudgeError.Capture e) → e.row ≢ 0 → HasHeader (rows_of text)) }
 {
-    let judged = judge_parts(alloc, reader, out, view, hands);
+    let judged = judge_parts(alloc, reader, out, telling, hands);
     ended(out, judged)
 }
 

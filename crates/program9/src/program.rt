@@ -10,7 +10,7 @@ use crate::judging::{judge_and_flush, judge_parts_and_flush};
 use crate::status::{outcome, outcome_in_parts};
 use crate::version::tell_version;
 use deck9::Hands;
-use judge9::View;
+use judge9::{Telling, View};
 use std::alloc::Global;
 use std::io::{self, Read, Write};
 use words9::{Task, Verb, WordsFault, read_words};
@@ -22,8 +22,8 @@ use words9::{Task, Verb, WordsFault, read_words};
 /// `opener` is asked once, for the task's file, where there is a task. The end is
 ///
 /// * `Usage` only where the words are no command, or could not be fetched as text: nothing is written;
-/// * the `Outcome` of the judging that the words ask for: with their verb, with hands where they say so, and with `check` and
-///   `explain` part by part where they say `--all`;
+/// * the `Outcome` of the judging that the words ask for: with their verb, with hands where they say so, and with `check`,
+///   `explain` and `why` part by part where they say `--all`;
 /// * status 4 with `CannotOpen`, the file and the reason where `opener` failed: nothing is written;
 /// * status 0 where the words ask for the version: its line is written; or status 4 with `WriteFault`, and a first part of
 ///   it;
@@ -106,12 +106,15 @@ fn judge_for<R: Read + Drop, W: Write + Drop>(
 {
     match verb {
         Verb::Check if all => {
-            let judged = judge_parts_and_flush(alloc, reader, out, View::Verdict, hands);
-            outcome_in_parts(&judged)
+            let telling = Telling::Shown(View::Verdict);
+            outcome_in_parts(&judge_parts_and_flush(alloc, reader, out, telling, hands))
         }
         Verb::Explain if all => {
-            let judged = judge_parts_and_flush(alloc, reader, out, View::Explain, hands);
-            outcome_in_parts(&judged)
+            let telling = Telling::Shown(View::Explain);
+            outcome_in_parts(&judge_parts_and_flush(alloc, reader, out, telling, hands))
+        }
+        Verb::Why if all => {
+            outcome_in_parts(&judge_parts_and_flush(alloc, reader, out, Telling::Why, hands))
         }
         Verb::Check | Verb::Explain | Verb::Run | Verb::Why => {
             let judged = judge_and_flush(alloc, reader, out, verb, hands);
