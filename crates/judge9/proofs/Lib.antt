@@ -4,6 +4,7 @@ pub mod LawLemmas
 pub mod LineSteps
 pub mod PartBreaks
 pub mod PartEnds
+pub mod PartLaws
 pub mod PartLemmas
 pub mod PartMeasure
 pub mod PartSteps

@@ -1,6 +1,6 @@
 //! The laws of the definitions that contracts cite, each the contract of a function that does nothing: what
 //! carries a verdict from a record to the next.
-ghost use Rattle.std.specs.Prelude.{◌≡◌, ◌≤◌, ◌↔◌, ℕ, List, [], ◌∷◌, ◌++◌, Option, Some, Result};
+ghost use Rattle.std.specs.Prelude.{◌≡◌, ◌≤◌, ◌+◌, ◌↔◌, ℕ, List, [], ◌∷◌, ◌++◌, drop, length, Option, Some, Result};
 ghost use Rattle.block9.specs.Exchange.{Cut, IsKept};
 ghost use Rattle.block9.specs.Line.{last_time};
 ghost use Rattle.block9.specs.Reason.{IsReason};
@@ -10,13 +10,15 @@ ghost use Rattle.judge9.specs.Judging.{Answer, IsAnswer};
 ghost use Rattle.judge9.specs.Judging.Answer.{judged};
 ghost use Rattle.judge9.specs.Report.{IsText, Told};
 ghost use Rattle.text9.specs.Writing.{AppendsPart};
-ghost use Rattle.judge9.specs.Verdict.{Breaks, IsOk};
+ghost use Rattle.judge9.specs.Parts.{AreParts, AreTotals, BrokenPart, IsPart, Part, Rest, number_of};
+ghost use Rattle.judge9.specs.Verdict.{AreCounts, Breaks, IsFirstBreak, IsOk};
+ghost use Rattle.std.specs.List.{All};
 ghost use Rattle.deck9.specs.Run.{HasRun};
 
 use block9::Reason;
 use capture9::LineByte;
 use deck9::Hands;
-use verdict9::{JudgeError, Verdict, View};
+use verdict9::{JudgeError, Totals, Verdict, View};
 
 /// A list of records has at most one cut into exchanges and a tail.
 pub fn one_cut()
@@ -67,4 +69,22 @@ pub fn hands_judge_no_harder()
         → IsAnswer Hands.Allowed rows (judged (Verdict.Yes records exchanges tail)) }
     ensures no { (rows : Rows) (at other : ℕ) (reason another : Reason) → IsAnswer Hands.None rows (judged (Verdict.No at reason))
         → IsAnswer Hands.Allowed rows (judged (Verdict.No other another)) → at ≤ other }
+{}
+
+/// Where no part breaks, the totals are the counts of a yes, and no record is passed over.
+pub fn parts_without_a_break()
+    ensures { (hands : Hands) (items : List LineByte) (left : Rest) (last : Part) (totals : Totals)
+        → AreParts hands (record { past = 0; records = items }) [] left → IsPart hands last → last.records ≡ left.records
+        → AreTotals (length items) [] last totals
+        → (totals.breaks ≡ 0) × AreCounts hands items totals.records totals.exchanges totals.tail × (totals.passed_over ≡ 0) }
+{}
+
+/// Each part that breaks is the no of a capture that begins with its first record, its number moved by how many come before it;
+/// the first is the no of the whole capture.
+pub fn each_part_is_a_no()
+    ensures each { (hands : Hands) (items : List LineByte) (broken : List BrokenPart) (left : Rest)
+        → AreParts hands (record { past = 0; records = items }) broken left
+        → All (λ b. IsFirstBreak hands (drop b.part.past items) (length b.part.records + 1) b.reason) broken }
+    ensures first { (hands : Hands) (items : List LineByte) (b : BrokenPart) (broken : List BrokenPart) (left : Rest)
+        → AreParts hands (record { past = 0; records = items }) (b ∷ broken) left → IsFirstBreak hands items (number_of b) b.reason }
 {}
