@@ -1,5 +1,5 @@
 -- What the rows do that end no exchange, and what a turn of a judging brings.
-use Rattle.judge9.proofs.Words.{Some, IsTaken, [], IsEnd, ◌++◌, ◌∙◌, ◌∷◌}
+use Rattle.judge9.proofs.Words.{inr, refl, BeginsWith, Some, IsTaken, [], IsEnd, ◌++◌, ◌∙◌, ◌∷◌}
 use Rattle.judge9.proofs.Words.{ap, AreOpen, arith, ComesTo, Err, Exchange, false, Feeds, ForSome, GivesRecord, Hands, inl, IsErrAnd, IsObserved, IsOpen, JudgeError, Judging}
 use Rattle.judge9.proofs.Words.{LineByte, List, None, Observes, Ok, Option, Paired, Progress, Result, Rows, Step, subst, suc, sym, Takes, true, Turn, Turned, View, Waits, zero}
 use Rattle.judge9.proofs.Words.{ℕ, ◌-◌, ◌<◌, ◌≡◌, ◌≤◌}
@@ -80,21 +80,31 @@ fewer_rows {j = j} c =
 -- ---- what a record comes to
 
 -- what the tracker makes of an exchange that a record made whole
-pub taken-observed : {R : Type 0} (j k : Judging R) {rows : Progress R} {paired : Paired} {line_byte : LineByte} {e : Exchange}
-    (r : Result (Option Turn) JudgeError) → GivesRecord j.rows line_byte rows → Takes j.pairer line_byte (Step.Exchange e) paired → k.rows ≡ rows
-    → k.pairer ≡ paired → IsObserved j.tracker e line_byte r k.tracker → IsTaken j line_byte r k
+abbrev pub some_turn : Result Turn JudgeError → Result (Option Turn) JudgeError
+some_turn (Ok turn) = Ok (Some turn)
+some_turn (Err x) = Err x
+
+pub taken-observed : {R : Type 0} (j k : Judging R) {rows : Progress R} {paired : Paired} {line_byte : LineByte} {e : Exchange} (r : Result Turn JudgeError)
+    → GivesRecord j.rows line_byte rows → Takes j.pairer line_byte (Step.Exchange e) paired → k.rows ≡ rows → k.pairer ≡ paired
+    → IsObserved j.tracker e line_byte r k.tracker → IsTaken j line_byte (some_turn r) k
 taken-observed j k {line_byte = line_byte} {e = e} r gives takes same_rows same_pairer o = by r o
   where
     feeds : (f : Exchange) → f ≡ e → Feeds j k line_byte (Step.Exchange f)
     feeds f same = record { gives = rw same_rows gives; takes = rw (same, same_pairer) takes }
 
-    by : (r : Result (Option Turn) JudgeError) → IsObserved j.tracker e line_byte r k.tracker → IsTaken j line_byte r k
-    by (Ok (Some (Turn.Exchange f))) o = (feeds f o.0, subst (λ x. Observes j.tracker k.tracker x true) (sym o.0) o.1)
-    by (Ok (Some (Turn.NoRun f last))) o = (o.1, feeds f o.0, subst (λ x. Observes j.tracker k.tracker x false) (sym o.0) o.2)
+    by : (r : Result Turn JudgeError) → IsObserved j.tracker e line_byte r k.tracker → IsTaken j line_byte (some_turn r) k
+    by (Ok (Turn.Exchange f)) o = (feeds f o.0, subst (λ x. Observes j.tracker k.tracker x true) (sym o.0) o.1)
+    by (Ok (Turn.NoRun f last)) o = (o.1, feeds f o.0, subst (λ x. Observes j.tracker k.tracker x false) (sym o.0) o.2)
     by (Err x) o = (o, rw same_rows gives)
     by _ o = absurd o
 
 -- the turn of a row whose record comes to it
-pub taken_turned : {R : Type 0} (j k : Judging R) (r : LineByte) (turn : Turn) → IsTaken j r (Ok (Some turn)) k → Turned j (Ok turn) k
-taken_turned j k r Turn.End taken = absurd taken
-taken_turned j k r turn taken = (r, taken)
+pub taken_turned : {R : Type 0} (j k : Judging R) (r : LineByte) (result : Result Turn JudgeError) → IsTaken j r (some_turn result) k → Turned j result k
+taken_turned j k r (Ok Turn.End) taken = absurd taken
+taken_turned j k r (Ok turn) taken = (r, taken)
+taken_turned j k r (Err x) taken = inl taken.0
+
+-- and of the first record of a part
+pub taken_first : {R : Type 0} (j k : Judging R) (r : LineByte) (result : Result Turn JudgeError) → IsTaken j r (some_turn result) k → BeginsWith j r result k
+taken_first j k r (Ok turn) taken = inr (inl (turn, refl, taken))
+taken_first j k r (Err x) taken = inl (x, refl, taken)

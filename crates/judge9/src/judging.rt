@@ -7,7 +7,7 @@ ghost use Rattle.capture9.specs.Records.{GivesRecord, Progress};
 ghost use Rattle.capture9.specs.Rows.{rows_of};
 ghost use Rattle.deck9.specs.declared.state.Hands.{Hands as AHands};
 ghost use Rattle.judge9.specs.Working.Parts.{BeginsWith, TakesUp};
-ghost use Rattle.judge9.specs.Working.Turn.{Begins, ComesTo, IsFresh, IsObserved, IsTaken};
+ghost use Rattle.judge9.specs.Working.Turn.{Begins, ComesTo, IsFresh, IsObserved};
 
 use crate::parts::{begins_next_part, pass_over};
 use block9::{Exchange, Pairer, Reason, Step};
@@ -73,40 +73,25 @@ impl<R: Read + Drop> Judging<R> {
                 Ok(None) => return Ok(Turn::End),
                 Err(error) => return Err(JudgeError::from(error)),
             };
-            match self.take(line_byte) {
-                Ok(None) => {}
-                Ok(Some(turn)) => return Ok(turn),
-                Err(error) => return Err(error),
+            match self.pairer.feed(line_byte) {
+                Ok(Step::Waiting) => {}
+                Ok(Step::Command) => {}
+                Ok(Step::Exchange(exchange)) => return self.observe(exchange, line_byte),
+                Err(reason) => return Ok(Turn::Break(reason, line_byte)),
             }
-        }
-    }
-
-    /// What the record that was read last comes to: nothing yet where it leaves its block or its exchange open.
-    #[inline(always)] // as above
-    fn take(&mut self, line_byte: LineByte) -> Result<Option<Turn>, JudgeError>
-        requires no_reason { self.old.pairer.reason ≡ None }
-        requires in_order { ForSome self.old.pairer.last_time (λ time. time ≤ line_byte.time_us) }
-        ensures { (before : Progress R) → GivesRecord before line_byte self.old.rows
-            → IsTaken (record { rows = before; pairer = self.old.pairer; tracker = self.old.tracker }) line_byte result self.new }
-    {
-        match self.pairer.feed(line_byte) {
-            Ok(Step::Waiting) => Ok(None),
-            Ok(Step::Command) => Ok(None),
-            Ok(Step::Exchange(exchange)) => self.observe(exchange, line_byte),
-            Err(reason) => Ok(Some(Turn::Break(reason, line_byte))),
         }
     }
 
     /// Whether a state of the deck remains with this exchange, which ends with this record.
     #[inline(always)] // as above
-    fn observe(&mut self, exchange: Exchange, last: LineByte) -> Result<Option<Turn>, JudgeError>
+    fn observe(&mut self, exchange: Exchange, last: LineByte) -> Result<Turn, JudgeError>
         ensures rows { self.new.rows ≡ self.old.rows }
         ensures pairer { self.new.pairer ≡ self.old.pairer }
         ensures observed { IsObserved self.old.tracker exchange last result self.new.tracker }
     {
         match self.tracker.observe(&exchange.command, &exchange.reply) {
-            Ok(true) => Ok(Some(Turn::Exchange(exchange))),
-            Ok(false) => Ok(Some(Turn::NoRun(exchange, last))),
+            Ok(true) => Ok(Turn::Exchange(exchange)),
+            Ok(false) => Ok(Turn::NoRun(exchange, last)),
             Err(_) => Err(JudgeError::OutOfMemory),
         }
     }
@@ -153,9 +138,11 @@ impl<R: Read + Drop> Judging<R> {
         ensures { (before : Progress R) → GivesRecord before first self.old.rows
             → BeginsWith (record { rows = before; pairer = self.old.pairer; tracker = self.old.tracker }) first result self.new }
     {
-        match self.take(first)? {
-            Some(turn) => Ok(turn),
-            None => self.next(),
+        match self.pairer.feed(first) {
+            Ok(Step::Waiting) => self.next(),
+            Ok(Step::Command) => self.next(),
+            Ok(Step::Exchange(exchange)) => self.observe(exchange, first),
+            Err(reason) => Ok(Turn::Break(reason, first)),
         }
     }
 }

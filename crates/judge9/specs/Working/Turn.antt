@@ -41,12 +41,11 @@ pub record Observes (old new : Tracked) (e : Exchange) (b : Bool) : Type 0 where
   pub remains : IsTrue b ↔ ((s : State) × Possible new.states s)
 
 -- what the tracker makes of an exchange that ends with this record
-abbrev pub IsObserved : Tracked → Exchange → LineByte → Result (Option Turn) JudgeError → Tracked → Type 0
-IsObserved old e last (Ok (Some (Turn.Exchange f))) new = (f ≡ e) × Observes old new e true
-IsObserved old e last (Ok (Some (Turn.NoRun f r))) new = (f ≡ e) × (r ≡ last) × Observes old new e false
-IsObserved old e last (Ok (Some (Turn.Break reason r))) new = ⊥
-IsObserved old e last (Ok (Some Turn.End)) new = ⊥
-IsObserved old e last (Ok None) new = ⊥
+abbrev pub IsObserved : Tracked → Exchange → LineByte → Result Turn JudgeError → Tracked → Type 0
+IsObserved old e last (Ok (Turn.Exchange f)) new = (f ≡ e) × Observes old new e true
+IsObserved old e last (Ok (Turn.NoRun f r)) new = (f ≡ e) × (r ≡ last) × Observes old new e false
+IsObserved old e last (Ok (Turn.Break reason r)) new = ⊥
+IsObserved old e last (Ok Turn.End) new = ⊥
 IsObserved old e last (Err x) new = x ≡ JudgeError.OutOfMemory
 
 -- there was no row

@@ -1,6 +1,9 @@
-use Rattle.judge9.proofs.Words.{inr}
+use Rattle.judge9.proofs.Words.{ap, inr, Judging, LineByte, Paired, refl, Step, Waits}
 use Rattle.judge9.proofs.judging.Judging.begin.Goals as goal
 
-pub returns-in-None : goal.returns-in-None
-returns-in-None g c = λ before gives.
-    inr (inr (c.take.new.self, rw c.in-None.is at (c.in_ok-turn.ensures before gives), c.next.ensures))
+pub returns-in-Ok-Waiting : goal.returns-in-Ok-Waiting
+returns-in-Ok-Waiting g c = λ before gives.
+    let no_reason = ap (λ (p : Paired). p.reason) c.requires.begins.1.fed_nothing in
+    let takes = rw c.in-Ok-Waiting.field-0-is at (c.in-Ok-Waiting.ensures.takes no_reason) in
+    let mid : Judging _ = record { rows = c.args.self.now.rows; pairer = c.feed.new.self; tracker = c.args.self.now.tracker } in
+    inr (inr (mid, record { step = Step.Waiting; feeds = record { gives = gives; takes = takes }; is_open = tt; same_tracker = refl }, c.next.ensures))

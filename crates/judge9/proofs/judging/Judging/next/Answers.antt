@@ -1,11 +1,6 @@
-use Rattle.judge9.proofs.Words.{inl, inr, refl}
+use Rattle.judge9.proofs.Words.{inr, refl, Spoils, Step}
 use Rattle.judge9.proofs.judging.Judging.next.Goals as goal
-use Rattle.judge9.proofs.TurnSteps.{taken_turned, waits_more}
-
-pub open-preserved : goal.open-preserved
-open-preserved g c =
-    let given = rw c.in-Ok-Some.field-0-is at c.in-Ok-Some.ensures.given in
-    waits_more c.open.invariant.are_open (rw c.in-Ok-None-take.field-0-is at (c.in-Ok-None-take.ensures c.open.self.rows given))
+use Rattle.judge9.proofs.TurnSteps.{taken-observed, taken_turned, waits_more}
 
 pub returns-in-Ok-None : goal.returns-in-Ok-None
 returns-in-Ok-None g c =
@@ -16,13 +11,28 @@ pub returns-in-Err : goal.returns-in-Err
 returns-in-Err g c =
     record { front = c.open.self; are_open = c.open.invariant.are_open; turned = inr (c.in-Err.error, c.in-Err.ensures.refused, c.from.ensures) }
 
-pub returns-in-Ok-Some-take : goal.returns-in-Ok-Some-take
-returns-in-Ok-Some-take g c =
+pub open-preserved-in-Ok-Waiting : goal.open-preserved-in-Ok-Waiting
+open-preserved-in-Ok-Waiting g c =
     let given = rw c.in-Ok-Some.field-0-is at c.in-Ok-Some.ensures.given in
-    let taken = rw c.in-Ok-Some-take.field-0-is at (c.in-Ok-Some-take.ensures c.open.self.rows given) in
-    record { front = c.open.self; are_open = c.open.invariant.are_open; turned = taken_turned _ _ _ c.in-Ok-Some-take.turn taken }
+    let takes = rw c.in-Ok-Waiting.field-0-is at (c.in-Ok-Waiting.ensures.takes c.open.invariant.no_reason) in
+    waits_more c.open.invariant.are_open (record { step = Step.Waiting; feeds = record { gives = given; takes = takes }; is_open = tt; same_tracker = refl })
 
-pub returns-in-Err-take : goal.returns-in-Err-take
-returns-in-Err-take g c =
+pub open-preserved : goal.open-preserved
+open-preserved g c =
     let given = rw c.in-Ok-Some.field-0-is at c.in-Ok-Some.ensures.given in
-    record { front = c.open.self; are_open = c.open.invariant.are_open; turned = inl (c.in-Err-take.ensures c.open.self.rows given).0 }
+    let takes = rw c.in-Ok-Command.field-0-is at (c.in-Ok-Command.ensures.takes c.open.invariant.no_reason) in
+    waits_more c.open.invariant.are_open (record { step = Step.Command; feeds = record { gives = given; takes = takes }; is_open = tt; same_tracker = refl })
+
+pub returns-in-Ok-Exchange : goal.returns-in-Ok-Exchange
+returns-in-Ok-Exchange g c =
+    let given = rw c.in-Ok-Some.field-0-is at c.in-Ok-Some.ensures.given in
+    let takes = rw c.in-Ok-Exchange.field-0-is at (c.in-Ok-Exchange.ensures.takes c.open.invariant.no_reason) in
+    let observed = rw c.in-Ok-Exchange.exchange-is at c.observe.ensures.observed in
+    let taken = taken-observed c.open.self c.observe.new.self c.observe.result given takes c.observe.ensures.rows c.observe.ensures.pairer observed in
+    record { front = c.open.self; are_open = c.open.invariant.are_open; turned = taken_turned _ _ _ c.observe.result taken }
+
+pub returns-in-Err-feed : goal.returns-in-Err-feed
+returns-in-Err-feed g c =
+    let given = rw c.in-Ok-Some.field-0-is at c.in-Ok-Some.ensures.given in
+    let spoils : Spoils c.open.self _ c.in-Err-feed.reason c.in-Ok-Some.line_byte = record { gives = given; refuses = c.in-Err-feed.ensures.refuses c.open.invariant.no_reason; same_tracker = refl } in
+    record { front = c.open.self; are_open = c.open.invariant.are_open; turned = (c.in-Ok-Some.line_byte, (refl, spoils)) }
