@@ -101,7 +101,7 @@ no at record 16: P1 reply without a command
 breaks 2: records 16, exchanges 2, passed over 4, open 0" ''
 (cat "$second"; echo 'no row') | "$program" check --all > "$work/out" 2> "$work/err"
 status=$?
-judge 'a bad row behind the last break' is_text 3 "$broken
+judge 'a bad row after the last break' is_text 3 "$broken
 no at record 16: P1 reply without a command" "$(both_lines 'unreadable at row 17: fields')"
 run check --all "$work/absent.csv"
 judge 'an absent file' is_text 4 '' "cannot open

@@ -17,7 +17,7 @@
 # shown that is no longer known: a deck that plays may stop at any time, so only after a STATUS SENSE its mode is known.
 # For any other field that is no longer known it gets a line once for each value.
 #
-# Of `explain --all` each break has its line, nothing is known at the beginning of the part behind it, and the totals are the
+# Of `explain --all` each break has its line, nothing is known at the beginning of the part after it, and the totals are the
 # last line.
 
 BEGIN {

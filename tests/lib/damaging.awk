@@ -1,5 +1,5 @@
-# Damages captures as lines and machines do: awk -v number=N -v folder=FOLDER -f tests/lib/damaging.awk. Capture i, the one behind it
-# and the next, which are FOLDER/i.csv and so on, stand one behind the other in FOLDER/i-damaged.csv, with up to six faults: bytes
+# Damages captures as lines and machines do: awk -v number=N -v folder=FOLDER -f tests/lib/damaging.awk. Capture i, the one after it
+# and the next, which are FOLDER/i.csv and so on, stand one after the other in FOLDER/i-damaged.csv, with up to six faults: bytes
 # that come late, are lost, come twice, have another bit, come on both wires or on the other one, a time that is none,
 # another kind of reply, and none. Every run damages the same.
 
@@ -31,7 +31,7 @@ function value_of(digits) {
 
 function other(letter) { return letter == "C" ? "D" : "C" }
 
-# Puts the records of a capture behind those that are there.
+# Puts the records of a capture after those that are there.
 function take(file,    row, part) {
     getline row < file
     while ((getline row < file) > 0) {
