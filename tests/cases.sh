@@ -58,7 +58,7 @@ is_end() {
     esac
 }
 
-# goes_on: what the last run wrote is what the run without --all wrote, in $work/alone, and after a break what comes behind it.
+# goes_on: what the last run wrote is what the run without --all wrote, in $work/alone, and after a break what comes after it.
 goes_on() {
     case $(cat "$folder/status") in
         0)

@@ -20,7 +20,7 @@ cc -shared -fPIC -O2 -o "$work/fail_call.so" tests/fail_call.c -ldl || exit 1
         for (k = 1; k <= 6000; k++) print 400 * k "," row[(k - 1) % 6 + 1] }'
 } > "$work/long.csv"
 
-# The same with two acknowledgements: a break each, and a part behind it. `three.csv` has two breaks, and a part behind them.
+# The same with two acknowledgements: a break each, and a part after it. `three.csv` has two breaks, and a part after them.
 {
     echo 'time_us,wire,byte'
     awk 'BEGIN { split("C,20 C,01 C,21 D,10 D,01 D,11 D,10 D,01 D,11", row, " ")

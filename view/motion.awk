@@ -103,7 +103,7 @@ function read_bytes(    number, digits, wire, is_answer, n) {
     if (digits != substr(reply, 1, digits == "NAK" ? 3 : 5)) refuse("record " record " of the capture ends another reply: " capture)
 }
 
-# The record at which the exchange begins: the one behind the exchange before, or after a break the first of the part, which is the
+# The record at which the exchange begins: the one after the exchange before, or after a break the first of the part, which is the
 # first record that may begin a command.
 function first_record(    number, wire, stamp, wire_before, stamp_before, may_begin) {
     if (broke_at == "") return rows + 1
