@@ -1,13 +1,12 @@
 -- A run that believes some replies, exchange by exchange, from the states that a tracker keeps.
-use Rattle.why9.proofs.Words.{[], All, All-take, ap, AreReached, arith, before_the_first, behind_first, Bool, drop, drop-cons, drop_all, Exchange, false, Hands, HasBelieving}
-use Rattle.why9.proofs.Words.{IsBelievingFrom, IsFirst, length, length-take-le, List, MayDo, Possible, SetsInDay, slice_index_or, State, subst, suc, take, take-append-drop}
-use Rattle.why9.proofs.Words.{DriftsAndMayDo, Tracked, ℕ, ◌+◌, ◌<◌, ◌↔◌, ◌∙◌, ◌∷◌, ◌≡◌, ◌≤◌}
+use Rattle.why9.proofs.Words.{[], All, All-take, ap, append_assoc, AreReached, arith, before_the_first, behind_first, Bool, drop, drop-cons, drop-drop, Exchange}
+use Rattle.why9.proofs.Words.{false, Hands, HasBelieving, IsBelievingFrom, IsFirst, length, length-append, length-drop, length-take-le, List, MayDo, nat_le, nat_tests, SetsInDay, sym}
+use Rattle.why9.proofs.Words.{slice_index_or, slice_range, State, subst, suc, take, take-append-drop, take_rest, true, ArePassed, ArePassedTo, DriftsAndMayDo, GoesOn, GoesOnFrom, ℕ, ◌++◌, ◌+◌, ◌-◌, ◌<◌}
+use Rattle.why9.proofs.Words.{◌↔◌, ◌∙◌, ◌∷◌, ◌≡◌, ◌≤◌}
 
--- some run from one of these states believes the replies at these places
-abbrev pub GoesOn : Hands → (State → Type 0) → (ℕ → Bool) → List Exchange → Type 0
-GoesOn h X b es = (s : State) × X s × (ts : List State) × IsBelievingFrom h b s es ts
+-- ---- what plays no part
 
--- what is believed after the last exchange plays no part
+-- what is believed after the last exchange
 pub same_places : (h : Hands) (b c : ℕ → Bool) (es : List Exchange) (s : State) (ts : List State) → ((k : ℕ) → k < length es → b k ≡ c k)
     → IsBelievingFrom h b s es ts → IsBelievingFrom h c s es ts
 same_places h b c [] s [] same run = tt
@@ -20,7 +19,11 @@ same_places h b c (e ∷ es) s (t ∷ ts) same (d, drift, does, run) = (
 )
 same_places h b c es s ts same run = absurd run
 
--- before the first exchange
+pub goes-same : (h : Hands) (X : State → Type 0) (b c : ℕ → Bool) (es : List Exchange) → ((k : ℕ) → k < length es → b k ≡ c k) → GoesOn h X b es
+    → GoesOn h X c es
+goes-same h X b c es same g = (g.0, g.1, g.2, same_places h b c es g.0 g.2 same g.3)
+
+-- passing what comes before the first reply that is believed
 pub goes-start : (h : Hands) (b : ℕ → Bool) (es : List Exchange) (first : ℕ) (X : State → Type 0) → All SetsInDay es → first ≤ length es
     → ((k : ℕ) → k < first → b k ≡ false) → ((s : State) → X s ↔ IsFirst h s)
     → HasBelieving h b es ↔ GoesOn h X (λ j. b (first + j)) (drop first es)
@@ -37,35 +40,94 @@ goes-start h b es first X sets low none firsts = (
         (subst (λ (l : List Exchange). HasBelieving h b l ↔ HasBelieving h (λ k. b (length (take first es) + k)) (drop first es)) (take-append-drop first es)
         (before_the_first h b (take first es) (drop first es) (All-take SetsInDay first es sets) (λ k below. none k (rw n at below))))
 
--- after the last exchange
-pub goes-past : (h : Hands) (b : ℕ → Bool) (es : List Exchange) (k : ℕ) (X : State → Type 0) → length es ≤ k → GoesOn h X b (drop k es) ↔ ((s : State) × X s)
-goes-past h b es k X past = rw (drop_all k es past) (λ g. (g.0, g.1), λ s. (s.0, s.1, [], tt))
+-- ---- through one exchange
 
--- through one exchange, the first of those that are left
-pub goes-through : (h : Hands) (b : ℕ → Bool) (es : List Exchange) (k : ℕ) (e : Exchange) (old new : Tracked) (believed : Bool) → k < length es
-    → e ≡ slice_index_or es k e → old.hands ≡ h
-    → believed ≡ b k → AreReached (Possible old.states) (DriftsAndMayDo old.hands believed e) (Possible new.states)
-    → GoesOn h (Possible old.states) (λ j. b (k + j)) (drop k es) ↔ GoesOn h (Possible new.states) (λ j. b (k + 1 + j)) (drop (k + 1) es)
-goes-through h b es k e old new believed low is same asked taken = rw split (λ g. to g.0 g.1 g.2 g.3, λ g. from g.0 g.1 g.2 g.3)
+goes-first : (h : Hands) (X Y : State → Type 0) (b : ℕ → Bool) (e : Exchange) (es : List Exchange) → AreReached X (DriftsAndMayDo h (b 0) e) Y
+    → GoesOn h X b (e ∷ es) ↔ GoesOn h Y (behind_first b) es
+goes-first h X Y b e es reached =
+    (λ g. to g.0 g.1 g.2 g.3, λ g. let w = reached.0 g.0 g.1 in (w.0, w.1, g.0 ∷ g.2, (w.2.0, w.2.1, w.2.2, g.3)))
+  where
+    to : (s : State) → X s → (ts : List State) → IsBelievingFrom h b s (e ∷ es) ts → GoesOn h Y (behind_first b) es
+    to s x [] run = absurd run
+    to s x (t ∷ ts) (d, drift, does, run) = (t, reached.1 s t x (d, drift, does), ts, run)
+
+-- the first of those from a place on
+pub goes-through : (h : Hands) (X Y : State → Type 0) (b : ℕ → Bool) (es : List Exchange) (k : ℕ) (e : Exchange) (believed : Bool) → k < length es
+    → e ≡ slice_index_or es k e → believed ≡ b k → AreReached X (DriftsAndMayDo h believed e) Y → GoesOnFrom h X k b es ↔ GoesOnFrom h Y (k + 1) b es
+goes-through h X Y b es k e believed low is asked reached = rw split (
+  λ g. goes-same h Y _ _ (drop (k + 1) es) (λ j below. ap b (omega arith)) (first.0 g),
+  λ g. first.1 (goes-same h Y _ _ (drop (k + 1) es) (λ j below. ap b (omega arith)) g),
+)
   where
     split : drop k es ≡ e ∷ drop (k + 1) es
     split = let next : suc k ≡ k + 1 = omega arith in cc (drop-cons es k e low)
 
-    reached : AreReached (Possible old.states) (DriftsAndMayDo h (b (k + 0)) e) (Possible new.states)
-    reached = let here : believed ≡ b (k + 0) = asked ∙ ap b (omega arith) in rw here at (rw same at taken)
+    first : GoesOn h X (λ j. b (k + j)) (e ∷ drop (k + 1) es) ↔ GoesOn h Y (λ j. b (k + (j + 1))) (drop (k + 1) es)
+    first = let here : believed ≡ b (k + 0) = asked ∙ ap b (omega arith) in
+        goes-first h X Y (λ j. b (k + j)) e (drop (k + 1) es) (rw here at reached)
 
-    to : (s : State) → Possible old.states s → (ts : List State) → IsBelievingFrom h (λ j. b (k + j)) s (e ∷ drop (k + 1) es) ts
-        → GoesOn h (Possible new.states) (λ j. b (k + 1 + j)) (drop (k + 1) es)
-    to s x [] run = absurd run
-    to s x (t ∷ ts) (d, drift, does, run) = (
-      t,
-      reached.1 s t x (d, drift, does),
-      ts,
-      same_places h _ _ (drop (k + 1) es) t ts (λ j below. ap b (omega arith))
-          run,
+-- ---- through exchanges that are passed
+
+pub passed-more : (h : Hands) (X Y Z : State → Type 0) (es : List Exchange) (e : Exchange) → ArePassed h X es Y → AreReached Y (DriftsAndMayDo h false e) Z
+    → ArePassed h X (es ++ e ∷ []) Z
+passed-more h X Y Z es e passed reached = record { goes = goes }
+  where
+    size : length (es ++ e ∷ []) ≡ length es + 1
+    size = length-append es (e ∷ [])
+
+    goes : (b : ℕ → Bool) (rest : List Exchange) → ((k : ℕ) → k < length (es ++ e ∷ []) → b k ≡ false)
+        → GoesOn h X b ((es ++ e ∷ []) ++ rest) ↔ GoesOn h Z (λ k. b (length (es ++ e ∷ []) + k)) rest
+    goes b rest none =
+        let all = passed.goes b (e ∷ rest) (λ k below. none k (omega (arith, size))) in
+        let here : false ≡ b (length es + 0) = sym (none (length es + 0) (omega (arith, size))) in
+        let one = goes-first h Y Z (λ k. b (length es + k)) e rest (subst (λ (x : Bool). AreReached Y (DriftsAndMayDo h x e) Z) here reached) in
+        rw (append_assoc es (e ∷ []) rest) (
+          λ g. goes-same h Z _ _ rest (λ k below. ap b (omega (arith, size))) (one.0 (all.0 g)),
+          λ g. all.1 (one.1 (goes-same h Z _ _ rest (λ k below. ap b (omega (arith, size))) g)),
+        )
+
+-- believing all that comes after them
+pub goes-passed : (h : Hands) (X Y : State → Type 0) (passed believed : List Exchange) → ArePassed h X passed Y
+    → GoesOn h X (nat_le (length passed)) (passed ++ believed) ↔ GoesOn h Y (λ k. true) believed
+goes-passed h X Y passed believed are =
+    let all = are.goes (nat_le (length passed)) believed (λ k below. grind (arith, nat_tests)) in (
+      λ g. goes-same h Y _ _ believed (λ k below. grind (arith, nat_tests)) (all.0 g),
+      λ g. all.1 (goes-same h Y _ _ believed (λ k below. grind (arith, nat_tests)) g),
     )
 
-    from : (t : State) → Possible new.states t → (ts : List State) → IsBelievingFrom h (λ j. b (k + 1 + j)) t (drop (k + 1) es) ts
-        → GoesOn h (Possible old.states) (λ j. b (k + j)) (e ∷ drop (k + 1) es)
-    from t y ts run =
-        let w = reached.0 t y in (w.0, w.1, t ∷ ts, (w.2.0, w.2.1, w.2.2, same_places h _ _ (drop (k + 1) es) t ts (λ j below. ap b (omega arith)) run))
+-- ---- through those of a range
+
+module _ (es : List Exchange) (low place : ℕ) (ascend : low ≤ place) (within : place ≤ length es) where
+  range_length : length (slice_range es low place) ≡ place - low
+  range_length = length-take-le (place - low) (drop low es) (simp length-drop (omega arith))
+
+  range_rest : slice_range es low place ++ drop place es ≡ drop low es
+  range_rest =
+      let whole = take-append-drop (place - low) (drop low es) in
+      let rest = drop-drop (place - low) low es in
+      let same : low + (place - low) ≡ place = omega arith in
+      cc
+
+pub passed-to : (h : Hands) (es : List Exchange) (low place : ℕ) (X Y : State → Type 0) → low ≤ place → place ≤ length es
+    → ArePassed h X (slice_range es low place) Y → ArePassedTo h es low X place Y
+passed-to h es low place X Y ascend within passed = record { goes = goes }
+  where
+    size : length (slice_range es low place) ≡ place - low
+    size = range_length es low place ascend within
+
+    goes : (b : ℕ → Bool) → ((k : ℕ) → low ≤ k → k < place → b k ≡ false) → GoesOnFrom h X low b es ↔ GoesOnFrom h Y place b es
+    goes b none =
+        let all = rw (range_rest es low place ascend within) at
+        (passed.goes (λ k. b (low + k)) (drop place es) (λ k below. none (low + k) (omega arith) (omega (arith, size)))) in (
+          λ g. goes-same h Y _ _ (drop place es) (λ k below. ap b (omega (arith, size))) (all.0 g),
+          λ g. all.1 (goes-same h Y _ _ (drop place es) (λ k below. ap b (omega (arith, size))) g),
+        )
+
+-- a question passes up to its place, and believes what is left
+pub goes-range : (h : Hands) (es : List Exchange) (low place : ℕ) (X : State → Type 0) → low ≤ place → place ≤ length es
+    → GoesOn h X (nat_le (length (slice_range es low place))) (slice_range es low place ++ slice_range es place (length es))
+    ↔ GoesOnFrom h X low (nat_le place) es
+goes-range h es low place X ascend within = rw (take_rest es place, range_rest es low place ascend within, range_length es low place ascend within) (
+  λ g. goes-same h X _ _ (drop low es) (λ k below. grind (arith, nat_tests)) g,
+  λ g. goes-same h X _ _ (drop low es) (λ k below. grind (arith, nat_tests)) g,
+)

@@ -1,11 +1,15 @@
--- The places found: in order, contradicting with all that follow, and each of them needed.
-use Rattle.why9.proofs.Words.{[], All, All-cons, All-head, All-nil, All-push, All-tail, all_pairs_push, AllPairs, ap, AreFound, arith, behind_first, believing_all}
-use Rattle.why9.proofs.Words.{believing_fewer, Bool, BreaksAtLast, Contradict, Exchange, false, false≢true, Hands, HasBelieving, inl, inr, is_among, is_among_others, is_in_question}
-use Rattle.why9.proofs.Words.{IsBelievingFrom, IsContradiction, IsNext, length, length-append, List, list_any-append, nat_lt, nat_tests, refl, slice_get, Some, State, suc, true}
-use Rattle.why9.proofs.Words.{ℕ, ◌++◌, ◌+◌, ◌<◌, ◌==◌, ◌||◌, ◌∙◌, ◌∷◌, ◌≡◌, ◌≤◌, ◌⊎◌}
-use Rattle.why9.proofs.QuestionLemmas.{same_places}
+-- The places found: in order, contradicting with all that follow, and each of them needed; and the tracker that goes along.
+use Rattle.why9.proofs.Words.{[], All, All-head, All-nil, All-push, All-tail, all_pairs_push, AllPairs, ap, ArePassedTo, AreReached, arith, behind_first, believing_all}
+use Rattle.why9.proofs.Words.{believing_fewer, Bool, BreaksAtLast, Contradict, DriftsAndMayDo, drop, Exchange, false, false≢true, GoesOn, GoesOnFrom, Hands, HasBelieving, inl, inr}
+use Rattle.why9.proofs.Words.{is_among, is_among_others, IsBelievingFrom, IsBetween, IsContradiction, IsFirst, length, length-append, List, list_any-append, nat_le, nat_lt, nat_tests}
+use Rattle.why9.proofs.Words.{refl, SetsInDay, slice_index_or, slice_range, State, sym, take_rest, true, ℕ, ◌++◌, ◌+◌, ◌-◌, ◌<◌, ◌==◌, ◌||◌, ◌↔◌, ◌∙◌, ◌∷◌, ◌≡◌, ◌≤◌, ◌⊎◌}
+use Rattle.why9.proofs.QuestionLemmas.{goes-same, goes-start, goes-through, same_places}
 
 -- ---- places
+
+-- a place is at this one or after it, or is one of those found
+abbrev pub is_in_question : ℕ → List ℕ → ℕ → Bool
+is_in_question from found k = nat_le from k || is_among found k
 
 -- what holds of all places holds of each
 pub among_all : (P : ℕ → Type 0) (ps : List ℕ) (k : ℕ) → All P ps → is_among ps k ≡ true → P k
@@ -19,21 +23,17 @@ among_more ps p k = list_any-append (λ q. q == k) ps (p ∷ [])
 among_push : (ps : List ℕ) (p k : ℕ) → is_among (ps ++ p ∷ []) k ≡ true → (is_among ps k ≡ true) ⊎ (k ≡ p)
 among_push ps p k e = let more = among_more ps p k in grind (arith, nat_tests)
 
--- the first place is before all others, and before the one that they are all before
-before_first : (from first : ℕ) (rest : List ℕ) → AllPairs (λ p q. p < q) (first ∷ rest) → All (λ p. p < from) (first ∷ rest) → (k : ℕ) → k < first
-    → is_in_question from (first ∷ rest) k ≡ false
-before_first from first rest ascend below k low =
-    let high = All-head (λ p. p < from) first rest below in
-    let from_first = All-cons (λ p. first ≤ p) first rest (omega arith) (λ i d l. let b = ascend 0 (suc i) d (omega arith) (omega arith) in omega arith) in
-    let is_behind : is_among (first ∷ rest) k ≡ true → first ≤ k = among_all (λ p. first ≤ p) (first ∷ rest) k from_first in
-    grind (arith, nat_tests)
+not_among : (low : ℕ) (found : List ℕ) → All (λ p. p < low) found → (k : ℕ) → low ≤ k → is_among found k ≡ false
+not_among low found below k le = let l = among_all (λ p. p < low) found k below in grind (arith, nat_tests)
 
-pub before_found : (from first : ℕ) (found : List ℕ) → AllPairs (λ p q. p < q) found → All (λ p. p < from) found → slice_get found 0 ≡ Some first → (k : ℕ)
-    → k < first → is_in_question from found k ≡ false
-before_found from first [] ascend below e k low = cc
-before_found from first (p ∷ ps) ascend below e k low = before_first from p ps ascend below k (let same : p ≡ first = cc in omega arith)
+-- ---- the places found
 
--- ---- after the last place found
+-- they ascend, and are before `low`: with every reply from there on they contradict, and each of them is needed
+pub record AreFound (h : Hands) (es : List Exchange) (low : ℕ) (found : List ℕ) : Type 0 where
+  pub ascend : AllPairs (λ p q. p < q) found
+  pub below : All (λ p. p < low) found
+  pub contradict : Contradict h (is_in_question low found) es
+  pub needed : (p : ℕ) → is_among found p ≡ true → HasBelieving h (λ k. nat_lt p k || is_among_others found p k) es
 
 pushed_ascend : (low place : ℕ) (found : List ℕ) → AllPairs (λ p q. p < q) found → All (λ p. p < low) found → low ≤ place
     → AllPairs (λ p q. p < q) (found ++ place ∷ [])
@@ -45,32 +45,36 @@ others_push : (low p place : ℕ) (found : List ℕ) → All (λ q. q < low) fou
 others_push low p place found below le is k e =
     let l = among_all (λ q. q < low) found p below is in let more = among_more found place k in grind (arith, nat_tests)
 
--- ---- the search
-
-pub found-start : (h : Hands) (es : List Exchange) → BreaksAtLast h es → AreFound h es 0 []
-found-start h es breaks = record {
+-- none, before the first
+pub found-start : (h : Hands) (es : List Exchange) (place : ℕ) → Contradict h (nat_le place) es → AreFound h es place []
+found-start h es place contradict = record {
   ascend = λ i j d l m. absurd (omega arith);
-  below = All-nil (λ p. p < 0);
-  contradict = λ w. breaks.has_none ((believing_all h es).0 (believing_fewer h (is_in_question 0 []) (λ k. true) es (λ k e. grind (arith, nat_tests)) w));
+  below = All-nil (λ p. p < place);
+  contradict = λ w. contradict (believing_fewer h (is_in_question place []) (nat_le place) es (λ k e. grind (arith, nat_tests)) w);
   needed = λ p e. absurd (false≢true e);
 }
 
-pub found-more : (h : Hands) (es : List Exchange) (low last place : ℕ) (found : List ℕ) → AreFound h es low found → IsNext h es low last found place
-    → AreFound h es (place + 1) (found ++ place ∷ [])
-found-more h es low last place found old next = record {
-  ascend = pushed_ascend low place found old.ascend old.below next.low_place;
+-- one more: from it on the replies contradict those found, and after it they do not
+pub found-more : (h : Hands) (es : List Exchange) (low place : ℕ) (found : List ℕ) → AreFound h es low found → low ≤ place
+    → Contradict h (is_in_question place found) es → HasBelieving h (is_in_question (place + 1) found) es → AreFound h es (place + 1) (found ++ place ∷ [])
+found-more h es low place found old le contradict after = record {
+  ascend = pushed_ascend low place found old.ascend old.below le;
   below = All-push (λ p. p < place + 1) found place (λ i d l. let b = old.below i d l in omega arith) (omega arith);
-  contradict = λ w. next.contradict (believing_fewer h (is_in_question (place + 1) (found ++ place ∷ [])) (is_in_question place found) es
+  contradict = λ w. contradict (believing_fewer h (is_in_question (place + 1) (found ++ place ∷ [])) (is_in_question place found) es
       (λ k e. let more = among_more found place k in grind (arith, nat_tests)) w);
   needed = λ p e. by p (among_push found place p e);
 }
   where
     by : (p : ℕ) → (is_among found p ≡ true) ⊎ (p ≡ place) → HasBelieving h (λ k. nat_lt p k || is_among_others (found ++ place ∷ []) p k) es
-    by p (inl is) = believing_fewer h _ _ es (others_push low p place found old.below next.low_place is) (old.needed p is)
+    by p (inl is) = believing_fewer h _ _ es (others_push low p place found old.below le is) (old.needed p is)
     by p (inr same) = believing_fewer h (is_in_question (place + 1) found) _ es (λ k e. let more = among_more found place k in grind (arith, nat_tests))
-        next.behind
+        after
 
--- ---- the end
+-- ---- all but the last exchange
+
+pub none_from_first : (h : Hands) (es : List Exchange) → BreaksAtLast h es → Contradict h (nat_le 0) es
+none_from_first h es breaks w =
+    breaks.has_none ((believing_all h es).0 (believing_fewer h (nat_le 0) (λ k. true) es (λ k e. grind (arith, nat_tests)) w))
 
 pub some_last : (h : Hands) (es : List Exchange) → BreaksAtLast h es → 0 < length es
 some_last h es breaks = let n = simp length-append at (ap length breaks.is_split) in omega arith
@@ -84,7 +88,7 @@ passes_last h b (f ∷ fs) e s (t ∷ ts) none (d, drift, does, run) =
     let more = passes_last h (behind_first b) fs e t ts (ap b (omega arith) ∙ none) run in
     (t ∷ more.0, (d, drift, does, more.1))
 
-without_last : (h : Hands) (b : ℕ → Bool) (es : List Exchange) (last : ℕ) → BreaksAtLast h es → last + 1 ≡ length es → b last ≡ false → HasBelieving h b es
+pub without_last : (h : Hands) (b : ℕ → Bool) (es : List Exchange) (last : ℕ) → BreaksAtLast h es → last + 1 ≡ length es → b last ≡ false → HasBelieving h b es
 without_last h b es last breaks is none =
     let w = believing_fewer h (λ k. true) b breaks.before (λ k e. refl) ((believing_all h breaks.before).1 breaks.has_run) in
     let n = simp length-append at (ap length breaks.is_split) in
@@ -92,28 +96,164 @@ without_last h b es last breaks is none =
     let more = passes_last h b breaks.before breaks.last w.first w.after (ap b place ∙ none) w.is_run in
     rw breaks.is_split (record { first = w.first; is_first = w.is_first; after = more.0; is_run = more.1 })
 
-pub found-all : (h : Hands) (es : List Exchange) (low last : ℕ) (found : List ℕ) → BreaksAtLast h es → AreFound h es low found → low ≤ last
-    → last + 1 ≡ length es
-    → Contradict h (is_in_question last found) es → IsContradiction h es (found ++ last ∷ [])
-found-all h es low last found breaks old le is contradict = record {
-  contradict = λ w. contradict (record {
+-- ---- the tracker that goes along
+
+-- it keeps these states: those after everything before `low`, where the replies at the places found are believed and no others
+pub record IsKept (h : Hands) (X : State → Type 0) (es : List Exchange) (low : ℕ) (found : List ℕ) : Type 0 where
+  pub goes : (b : ℕ → Bool) → ((k : ℕ) → k < low → b k ≡ is_among found k) → HasBelieving h b es ↔ GoesOnFrom h X low b es
+
+-- the first states are those before any place, as long as none is found
+kept-start : (h : Hands) (X : State → Type 0) (es : List Exchange) (place : ℕ) → All SetsInDay es → ((s : State) → X s ↔ IsFirst h s) → place ≤ length es
+    → IsKept h X es place []
+kept-start h X es place sets firsts le = record { goes = λ b none. goes-start h b es place X sets le none firsts }
+
+kept-push : (h : Hands) (X : State → Type 0) (es : List Exchange) (place : ℕ) (found : List ℕ) → IsKept h X es place found
+    → IsKept h X es place (found ++ place ∷ [])
+kept-push h X es place found kept =
+    record { goes = λ b same. kept.goes b (λ k below. let more = among_more found place k in let here = same k below in grind (arith, nat_tests)) }
+
+-- it believes the reply at a place found
+kept-believed : (h : Hands) (X Y : State → Type 0) (es : List Exchange) (place : ℕ) (e : Exchange) (found : List ℕ) → place < length es
+    → e ≡ slice_index_or es place e → is_among found place ≡ true → AreReached X (DriftsAndMayDo h true e) Y → IsKept h X es place found
+    → IsKept h Y es (place + 1) found
+kept-believed h X Y es place e found low is among reached kept = record {
+  goes = λ b same.
+      let before = kept.goes b (λ k below. same k (omega arith)) in
+      let through = goes-through h X Y b es place e true low is (sym (same place (omega arith) ∙ among)) reached in
+      (λ w. through.0 (before.0 w), λ g. before.1 (through.1 g));
+}
+
+-- it passes what is between two of them
+kept-passed : (h : Hands) (X Y : State → Type 0) (es : List Exchange) (low place : ℕ) (found : List ℕ) → All (λ p. p < low) found → low ≤ place
+    → ArePassedTo h es low X place Y → IsKept h X es low found → IsKept h Y es place found
+kept-passed h X Y es low place found below le passed kept = record {
+  goes = λ b same.
+      let before = kept.goes b (λ k l. same k (omega arith)) in
+      let after = passed.goes b (λ k m l. same k l ∙ not_among low found below k m) in
+      (λ w. after.0 (before.0 w), λ g. before.1 (after.1 g));
+}
+
+-- what is asked of it is asked of all exchanges
+kept-asked : (h : Hands) (X : State → Type 0) (es : List Exchange) (low place : ℕ) (found : List ℕ) → All (λ p. p < low) found → low ≤ place
+    → IsKept h X es low found → HasBelieving h (is_in_question place found) es ↔ GoesOnFrom h X low (nat_le place) es
+kept-asked h X es low place found below le kept =
+    let all = kept.goes (is_in_question place found) (λ k l. grind (arith, nat_tests)) in (
+      λ w. goes-same h X _ _ (drop low es) (λ j l. let none = not_among low found below (low + j) (omega arith) in grind (arith, nat_tests)) (all.0 w),
+      λ g. all.1 (goes-same h X _ _ (drop low es) (λ j l. let none = not_among low found below (low + j) (omega arith) in grind (arith, nat_tests)) g),
+    )
+
+-- ---- the search
+
+-- the first place is found by a tracker of the first states
+pub first-asked : (h : Hands) (X : State → Type 0) (es : List Exchange) (place : ℕ) → All SetsInDay es → ((s : State) → X s ↔ IsFirst h s) → place ≤ length es
+    → GoesOn h X (nat_le (length {A = Exchange} [])) ([] ++ slice_range es place (length es))
+    ↔ HasBelieving h (nat_le place) es
+first-asked h X es place sets firsts le =
+    let all = goes-start h (nat_le place) es place X sets le (λ k below. grind (arith, nat_tests)) firsts in
+    rw (take_rest es place) (
+      λ g. all.1 (goes-same h X _ _ (drop place es) (λ k below. grind (arith, nat_tests)) g),
+      λ w. goes-same h X _ _ (drop place es) (λ k below. grind (arith, nat_tests)) (all.0 w),
+    )
+
+-- between two places the next one is looked for
+pub between-moved : (h : Hands) (X Y : State → Type 0) (es : List Exchange) (low place high : ℕ) → IsBetween h X es low high → low ≤ place → place < high
+    → ¬ GoesOnFrom h X low (nat_le place) es → ArePassedTo h es low X place Y → IsBetween h Y es place high
+between-moved h X Y es low place high old above below none passed = record {
+  low_high = below;
+  high_end = old.high_end;
+  contradict = λ g. none ((passed.goes (nat_le place) (λ k m l. grind (arith, nat_tests))).1 g);
+  after = (passed.goes (nat_le high) (λ k m l. grind (arith, nat_tests))).0 old.after;
+}
+
+pub between-nearer : (h : Hands) (X : State → Type 0) (es : List Exchange) (low place high : ℕ) → IsBetween h X es low high → low < place → place < high
+    → GoesOnFrom h X low (nat_le place) es → IsBetween h X es low place
+between-nearer h X es low place high old above below run =
+    record { low_high = above; high_end = let end = old.high_end in omega arith; contradict = old.contradict; after = run }
+
+pub passed-on : (h : Hands) (X Y Z : State → Type 0) (es : List Exchange) (from low place : ℕ) → from ≤ low → low ≤ place → ArePassedTo h es from X low Y
+    → ArePassedTo h es low Y place Z → ArePassedTo h es from X place Z
+passed-on h X Y Z es from low place le more one two = record {
+  goes = λ b none.
+      let first = one.goes b (λ k m l. none k m (omega arith)) in
+      let second = two.goes b (λ k m l. none k (omega arith) l) in
+      (λ g. second.0 (first.0 g), λ g. first.1 (second.1 g));
+}
+
+-- the places so far, of which this is the last, and the states that the tracker keeps before it believes the reply there
+pub record IsReached (h : Hands) (X : State → Type 0) (es : List Exchange) (place : ℕ) (places : List ℕ) : Type 0 where
+  pub within : place < length es
+  pub earlier : List ℕ
+  pub end_with : places ≡ earlier ++ place ∷ []
+  pub found : AreFound h es (place + 1) places
+  pub kept : IsKept h X es place places
+
+pub reached-first : (h : Hands) (X : State → Type 0) (es : List Exchange) (place : ℕ) → All SetsInDay es → ((s : State) → X s ↔ IsFirst h s)
+    → place < length es → Contradict h (nat_le place) es → HasBelieving h (nat_le (place + 1)) es → IsReached h X es place (place ∷ [])
+reached-first h X es place sets firsts within contradict after = record {
+  within = within;
+  earlier = [];
+  end_with = refl;
+  found = found-more h es place place [] (found-start h es place contradict) (omega arith) (found-start h es place contradict).contradict
+      (believing_fewer h (nat_le (place + 1)) (is_in_question (place + 1) []) es (λ k e. grind (arith, nat_tests)) after);
+  kept = kept-push h X es place [] (kept-start h X es place sets firsts (omega arith));
+}
+
+-- the reply at the place is believed
+reached-believed : (h : Hands) (X Y : State → Type 0) (es : List Exchange) (place : ℕ) (e : Exchange) (found : List ℕ) → e ≡ slice_index_or es place e
+    → AreReached X (DriftsAndMayDo h true e) Y → IsReached h X es place found → IsKept h Y es (place + 1) found
+reached-believed h X Y es place e found is reached at =
+    kept-believed h X Y es place e found at.within is
+    (let more = among_more at.earlier place place in rw at.end_with (grind (arith, nat_tests))) reached at.kept
+
+-- where the next place is looked for
+pub reached-between : (h : Hands) (X Y : State → Type 0) (es : List Exchange) (place : ℕ) (e : Exchange) (found : List ℕ) → BreaksAtLast h es
+    → e ≡ slice_index_or es place e → AreReached X (DriftsAndMayDo h true e) Y → IsReached h X es place found → place + 1 < length es
+    → IsBetween h Y es (place + 1) (length es)
+reached-between h X Y es place e found breaks is reached at more =
+    let kept = reached-believed h X Y es place e found is reached at in
+    let none = not_among (place + 1) found at.found.below (length es - 1) (omega arith) in
+    record {
+      low_high = more;
+      high_end = omega arith;
+      contradict = λ g. at.found.contradict ((kept-asked h Y es (place + 1) (place + 1) found at.found.below (omega arith) kept).1 g);
+      after = (kept-asked h Y es (place + 1) (length es) found at.found.below (omega arith) kept).0
+          (without_last h (is_in_question (length es) found) es (length es - 1) breaks (omega arith) (grind (arith, nat_tests)));
+    }
+
+-- it is found, and the tracker passes up to it
+pub reached-next : (h : Hands) (X Y Z : State → Type 0) (es : List Exchange) (place next : ℕ) (e : Exchange) (found : List ℕ)
+    → e ≡ slice_index_or es place e → AreReached X (DriftsAndMayDo h true e) Y → IsReached h X es place found → place + 1 ≤ next
+    → ArePassedTo h es (place + 1) Y next Z → IsBetween h Z es next (next + 1) → IsReached h Z es next (found ++ next ∷ [])
+reached-next h X Y Z es place next e found is reached at le passed between = record {
+  within = let high = between.high_end in omega arith;
+  earlier = found;
+  end_with = refl;
+  found = found-more h es (place + 1) next found at.found le (λ w. between.contradict ((asked next (omega arith)).0 w))
+      ((asked (next + 1) (omega arith)).1 between.after);
+  kept = kept-push h Z es next found kept;
+}
+  where
+    kept : IsKept h Z es next found
+    kept = kept-passed h Y Z es (place + 1) next found at.found.below le passed (reached-believed h X Y es place e found is reached at)
+
+    asked : (from : ℕ) → next ≤ from → HasBelieving h (is_in_question from found) es ↔ GoesOnFrom h Z next (nat_le from) es
+    asked from low = kept-asked h Z es next from found (λ i d l. let b = at.found.below i d l in omega arith) low kept
+
+-- the last place is that of the last exchange
+pub reached-all : (h : Hands) (X : State → Type 0) (es : List Exchange) (place : ℕ) (found : List ℕ) → IsReached h X es place found → length es ≤ place + 1
+    → IsContradiction h es found
+reached-all h X es place found at past = record {
+  contradict = λ w. at.found.contradict (record {
     first = w.first;
     is_first = w.is_first;
     after = w.after;
     is_run =
-        same_places h _ _ es w.first w.after same w.is_run;
+        same_places h _ _ es w.first w.after (λ k below. grind (arith, nat_tests)) w.is_run;
   });
-  needed = λ p e. needed p (among_push found last p e);
-  ascend = pushed_ascend low last found old.ascend old.below le;
-  earlier = found;
-  last = last;
-  end_with = refl;
-  is_last = is;
+  needed = at.found.needed;
+  ascend = at.found.ascend;
+  earlier = at.earlier;
+  last = place;
+  end_with = at.end_with;
+  is_last = let low = at.within in omega arith;
 }
-  where
-    same : (k : ℕ) → k < length es → is_among (found ++ last ∷ []) k ≡ is_in_question last found k
-    same k below = let more = among_more found last k in grind (arith, nat_tests)
-
-    needed : (p : ℕ) → (is_among found p ≡ true) ⊎ (p ≡ last) → HasBelieving h (λ k. nat_lt p k || is_among_others (found ++ last ∷ []) p k) es
-    needed p (inl among) = believing_fewer h _ _ es (others_push low p last found old.below le among) (old.needed p among)
-    needed p (inr same) = without_last h _ es p breaks (ap (λ (x : ℕ). x + 1) same ∙ is) (grind (arith, nat_tests))

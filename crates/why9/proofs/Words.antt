@@ -7,16 +7,17 @@ pub use Rattle.deck9.specs.State.{IsFirst}
 pub use Rattle.deck9.specs.Step.{AreReached}
 pub use Rattle.deck9.specs.declared.state.Hands.{Hands}
 pub use Rattle.deck9.specs.declared.state.State.{State}
-pub use Rattle.std.proofs.Common.{[], ap, arith, Bool, drop, false, inl, inr, length, length-append, List, nat_lt, not, refl, slice_get, slice_index_or, Some, subst, suc, sym, take}
+pub use Rattle.std.proofs.Common.{[], ap, append_assoc, arith, Bool, drop, false, inl, inr, length, length-append, List, nat_le, nat_lt, not, refl, slice_index_or, slice_range, subst, suc, sym, take}
 pub use Rattle.std.proofs.Common.{true, ℕ, ◌&&◌, ◌++◌, ◌+◌, ◌-◌, ◌<◌, ◌==◌, ◌||◌, ◌↔◌, ◌∙◌, ◌∷◌, ◌≡◌, ◌≤◌, ◌⊎◌}
 pub use Rattle.std.proofs.Math.Seq.{drop-cons}
 pub use Rattle.std.proofs.lemmas.Bool.{false≢true}
 pub use Rattle.std.proofs.lemmas.Bool.Decides.{nat_tests}
-pub use Rattle.std.proofs.lemmas.List.{drop_all, length-take-le, take-append-drop}
-pub use Rattle.std.proofs.lemmas.List.Elements.{All-cons, All-head, All-nil, All-push, All-tail, All-take}
+pub use Rattle.std.proofs.lemmas.List.{drop-drop, length-drop, length-take-le, take-append-drop, take_more, take_rest}
+pub use Rattle.std.proofs.lemmas.List.Elements.{All-head, All-nil, All-push, All-tail, All-take}
 pub use Rattle.std.proofs.lemmas.List.Folds.{list_any-append}
 pub use Rattle.std.proofs.lemmas.List.Quantifiers.{all_pairs_push}
+pub use Rattle.std.proofs.lemmas.Result.{IfOk-weaker}
 pub use Rattle.std.specs.List.{All, AllPairs}
-pub use Rattle.track9.specs.Tracker.{Possible, Tracked}
+pub use Rattle.track9.specs.Tracker.{Possible}
 pub use Rattle.why9.specs.Contradiction.{BreaksAtLast, is_among, is_among_others, IsContradiction}
-pub use Rattle.why9.specs.Working.{AreFound, is_in_question, IsNext, DriftsAndMayDo}
+pub use Rattle.why9.specs.Working.{ArePassed, ArePassedTo, DriftsAndMayDo, GoesOn, GoesOnFrom, IsBetween}

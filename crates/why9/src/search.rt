@@ -1,15 +1,23 @@
 //! The search for replies that contradict one another.
-ghost use Rattle.std.specs.Prelude.{◌≡◌, ◌<◌, ◌≤◌, ◌+◌, IfOk, IfNone, IfSome, length};
+//!
+//! One tracker goes along, from the first place found to the last: it believes the replies at the places found, and passes the
+//! exchanges between them. A question goes on from a copy of it, so it looks at no place found again.
+ghost use Rattle.std.specs.Prelude.{◌≡◌, ◌↔◌, ◌<◌, ◌≤◌, ◌+◌, IfOk, false, length, nat_le, true};
 ghost use Rattle.std.specs.List.{All};
 ghost use Rattle.deck9.specs.Contradict.{Contradict, HasBelieving};
 ghost use Rattle.deck9.specs.Laws.{SetsInDay};
+ghost use Rattle.deck9.specs.State.{IsFirst};
+ghost use Rattle.deck9.specs.declared.state.State.{State as AState};
+ghost use Rattle.track9.specs.Tracker.{Possible};
 ghost use Rattle.why9.specs.Contradiction.{BreaksAtLast, IsContradiction};
-ghost use Rattle.why9.specs.Working.{AreFound, IsNext, is_in_question};
+ghost use Rattle.why9.specs.Working.{ArePassedTo, GoesOnFrom, IsBetween};
 
-use crate::question::leaves_a_run;
+use crate::question::{believe, leaves_a_run, pass_all};
 use block9::Exchange;
 use deck9::Hands;
+use sets25::SpanSet;
 use std::alloc::{AllocError, Global};
+use track9::Tracker;
 
 /// The places, counted from 0, of replies that contradict one another, in ascending order.
 ///
@@ -28,47 +36,117 @@ pub fn contradicting(
     requires breaks { BreaksAtLast hands exchanges.now }
     ensures { IfOk result (λ places. IsContradiction hands exchanges.now places.items) }
 {
-    let last = exchanges.len() - 1;
+    let mut tracker = Tracker::new(alloc, hands)?;
+    let places = find_places(alloc, &mut tracker, exchanges);
+    drop(tracker);
+    places
+}
+
+/// The places, found one after the other with a tracker that has taken nothing yet.
+fn find_places(
+    alloc: Global,
+    tracker: &mut Tracker<SpanSet>,
+    exchanges: &[Exchange],
+) -> Result<Vec<usize>, AllocError>
+    requires presets { All SetsInDay exchanges.now }
+    requires breaks { BreaksAtLast tracker.old.hands exchanges.now }
+    requires states { (s : AState) → Possible tracker.old.states s ↔ IsFirst tracker.old.hands s }
+    ensures { IfOk result (λ places. IsContradiction tracker.old.hands exchanges.now places.items) }
+{
     let mut places = Vec::new(alloc);
-    let mut low = 0;
-    while let Some(place) = next_place(alloc, hands, exchanges, low, last, &places)? {
+    let mut place = first_place(tracker, exchanges)?;
+    places.push(place)?;
+    let mut between = 0;
+    while place + 1 < exchanges.len() {
+        believe(tracker, &exchanges[place])?;
+        let low = place + 1;
+        place = next_place(tracker, exchanges, low, between)?;
         places.push(place)?;
-        low = place + 1;
+        between = place - low;
     }
-    places.push(last)?;
     Ok(places)
 }
 
-/// The greatest place from which on the replies, with those found, contradict one another, or `None` where the last reply
-/// does so with those found alone.
-fn next_place(
-    alloc: Global,
-    hands: Hands,
-    exchanges: &[Exchange],
-    low: usize,
-    last: usize,
-    found: &[usize],
-) -> Result<Option<usize>, AllocError>
+/// The greatest place from which on the replies contradict one another, by a tracker that has taken nothing yet.
+///
+/// Passing exchanges leads the first states to the first states. So a question needs to pass none: it begins at its place,
+/// and costs what lies after it.
+fn first_place(tracker: &Tracker<SpanSet>, exchanges: &[Exchange]) -> Result<usize, AllocError>
     requires presets { All SetsInDay exchanges.now }
-    requires low { low ≤ last }
-    requires last { last < length exchanges.now }
-    requires found { AreFound hands exchanges.now low found.now }
-    ensures none { IfOk result (λ o. IfNone o (Contradict hands (is_in_question last found.now) exchanges.now)) }
-    ensures some { IfOk result (λ o. IfSome o (IsNext hands exchanges.now low last found.now)) }
+    requires breaks { BreaksAtLast tracker.now.hands exchanges.now }
+    requires states { (s : AState) → Possible tracker.now.states s ↔ IsFirst tracker.now.hands s }
+    ensures within { IfOk result (λ place. place < length exchanges.now) }
+    ensures contradict { IfOk result (λ place. Contradict tracker.now.hands (nat_le place) exchanges.now) }
+    ensures after { IfOk result (λ place. HasBelieving tracker.now.hands (nat_le (place + 1)) exchanges.now) }
 {
-    if !leaves_a_run(alloc, hands, exchanges, last, found)? {
-        return Ok(None);
-    }
-    let mut low = low;
-    let mut high = last;
+    let mut low = 0;
+    let mut high = exchanges.len();
     while high - low > 1 {
         // Back from the end with steps that double, and then by halves.
-        let place = high - (last - high + 1).min((high - low) / 2);
-        if leaves_a_run(alloc, hands, exchanges, place, found)? {
+        let place = high - (exchanges.len() - high + 1).min((high - low) / 2);
+        if leaves_a_run(tracker, &[], &exchanges[place..])? {
             high = place;
         } else {
             low = place;
         }
     }
-    Ok(Some(low))
+    Ok(low)
+}
+
+/// The next place: the greatest from which on the replies contradict those that the tracker believes. The tracker has gone
+/// through everything before `low`, and goes on to that place.
+///
+/// A question costs about what lies after `low`, wherever its place is, so few of them are best. Places often lie equally far
+/// apart. So the first step has the length that lies between the two places before, and the next ones are short and grow fast.
+fn next_place(
+    tracker: &mut Tracker<SpanSet>,
+    exchanges: &[Exchange],
+    low: usize,
+    between: usize,
+) -> Result<usize, AllocError>
+    requires { IsBetween tracker.old.hands (Possible tracker.old.states) exchanges.now low (length exchanges.now) }
+    ensures low { IfOk result (λ place. low ≤ place) }
+    ensures next { IfOk result (λ place. IsBetween tracker.old.hands (Possible tracker.new.states) exchanges.now place (place + 1)) }
+    ensures passed { IfOk result (λ place. ArePassedTo tracker.old.hands exchanges.now low (Possible tracker.old.states) place (Possible tracker.new.states)) }
+    ensures hands { IfOk result (λ place. tracker.new.hands ≡ tracker.old.hands) }
+{
+    let mut place = low;
+    let mut high = exchanges.len();
+    let mut step = between.max(1);
+    let mut next_step = 1;
+    while place + 1 < high {
+        let further = place + step.min((high - place) / 2);
+        step = next_step;
+        next_step = next_step.saturating_mul(16);
+        if moves_on(tracker, exchanges, place, further)? {
+            place = further;
+        } else {
+            high = further;
+        }
+    }
+    Ok(place)
+}
+
+/// Whether the replies from a place on contradict those that the tracker believes. If they do, the tracker, which has gone
+/// through everything before `low`, goes on to that place; else it stays as it is.
+fn moves_on(
+    tracker: &mut Tracker<SpanSet>,
+    exchanges: &[Exchange],
+    low: usize,
+    place: usize,
+) -> Result<bool, AllocError>
+    requires low { low ≤ place }
+    requires place { place ≤ length exchanges.now }
+    ensures contradict { IfOk result (λ b. b ≡ true → ¬ GoesOnFrom tracker.old.hands (Possible tracker.old.states) low (nat_le place) exchanges.now) }
+    ensures passed { IfOk result (λ b. b ≡ true → ArePassedTo tracker.old.hands exchanges.now low (Possible tracker.old.states) place (Possible tracker.new.states)) }
+    ensures run { IfOk result (λ b. b ≡ false → GoesOnFrom tracker.old.hands (Possible tracker.old.states) low (nat_le place) exchanges.now) }
+    ensures unchanged { IfOk result (λ b. b ≡ false → tracker.new ≡ tracker.old) }
+    ensures hands { IfOk result (λ b. tracker.new.hands ≡ tracker.old.hands) }
+{
+    let passed = &exchanges[low..place];
+    if leaves_a_run(tracker, passed, &exchanges[place..])? {
+        return Ok(false);
+    }
+    pass_all(tracker, passed)?;
+    Ok(true)
 }

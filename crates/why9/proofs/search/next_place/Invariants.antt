@@ -1,15 +1,16 @@
--- From `low` on the replies contradict those found, and from `high` on they do not.
-use Rattle.why9.proofs.Words.{Contradict, HasBelieving, is_in_question, ◌-◌, ◌<◌, ◌≤◌}
+-- The next place is between `place` and `high`, and the tracker has passed up to `place`.
+use Rattle.why9.proofs.Words.{ArePassedTo, IsBetween, Possible, ◌-◌, ◌<◌, ◌≡◌, ◌≤◌}
 use Rattle.why9.proofs.search.next_place.Given as goal
 
-abbrev pub invariant-loop-high : goal.invariant-loop-high
-invariant-loop-high l = record {
-  above : l.fn.low ≤ l.low;
-  between : l.low < l.high;
-  below : l.high ≤ l.last;
-  contradict : Contradict l.hands (is_in_question l.low l.found) l.exchanges;
-  behind : HasBelieving l.hands (is_in_question l.high l.found) l.exchanges;
+abbrev pub invariant-loop-place : goal.invariant-loop-place
+invariant-loop-place l = record {
+  step : 0 < l.step;
+  next_step : 0 < l.next_step;
+  hands : l.tracker.hands ≡ l.fn.tracker.hands;
+  above : l.low ≤ l.place;
+  between : IsBetween l.fn.tracker.hands (Possible l.tracker.states) l.exchanges l.place l.high;
+  passed : ArePassedTo l.fn.tracker.hands l.exchanges l.low (Possible l.fn.tracker.states) l.place (Possible l.tracker.states);
 }
 
-abbrev pub decreases-loop-high : goal.decreases-loop-high
-decreases-loop-high l = l.high - l.low
+abbrev pub decreases-loop-place : goal.decreases-loop-place
+decreases-loop-place l = l.high - l.place

@@ -1,0 +1,24 @@
+use Rattle.why9.proofs.Words.{false≢true, Possible, refl, sym, true, ◌∙◌}
+use Rattle.why9.proofs.QuestionLemmas.{goes-through}
+use Rattle.why9.proofs.question.believe_all.Goals as goal
+
+pub returns-then-not-branch : goal.returns-then-not-branch
+returns-then-not-branch c =
+    let reached = rw c.loop-exchange.invariant.hands at c.in_ok-believe.ensures.reached in
+    let through = goes-through _ (Possible c.loop-exchange.tracker.states) (Possible c.believe.new.tracker.states) (λ k. true) c.args.exchanges.now
+    c.loop-exchange.exchange-index c.exchange-item.result true c.loop-exchange-test.true c.exchange-item.is refl reached in (
+      λ t. absurd (false≢true t),
+      λ w.
+          let g = through.0 (c.loop-exchange.invariant.goes.0 w) in
+          absurd (false≢true (sym c.if-not-branch.true ∙ c.in_ok-believe.ensures.remains.1 (g.0, g.1))),
+    )
+
+pub loop-exchange-preserved : goal.loop-exchange-preserved
+loop-exchange-preserved c =
+    let reached = rw c.loop-exchange.invariant.hands at c.in_ok-believe.ensures.reached in
+    let through = goes-through _ (Possible c.loop-exchange.tracker.states) (Possible c.believe.new.tracker.states) (λ k. true) c.args.exchanges.now
+    c.loop-exchange.exchange-index c.exchange-item.result true c.loop-exchange-test.true c.exchange-item.is refl reached in
+    record {
+      hands = c.in_ok-believe.ensures.hands ∙ c.loop-exchange.invariant.hands;
+      goes = (λ w. through.0 (c.loop-exchange.invariant.goes.0 w), λ g. c.loop-exchange.invariant.goes.1 (through.1 g));
+    }

@@ -1,0 +1,9 @@
+-- The exchanges so far are passed.
+use Rattle.why9.proofs.Words.{ArePassed, Possible, take, ◌≡◌}
+use Rattle.why9.proofs.question.pass_all.Given as goal
+
+abbrev pub invariant-loop-exchange : goal.invariant-loop-exchange
+invariant-loop-exchange l = record {
+  hands : l.tracker.hands ≡ l.fn.tracker.hands;
+  passed : ArePassed l.fn.tracker.hands (Possible l.fn.tracker.states) (take l.exchange-index l.exchanges) (Possible l.tracker.states);
+}
