@@ -1,6 +1,7 @@
 pub mod CountLemmas
 pub mod Lemmas
 pub mod ListLemmas
+pub mod SharedSetLemmas
 pub mod SpanListLemmas
 pub mod SpanSetLemmas
 pub mod SpansLemmas

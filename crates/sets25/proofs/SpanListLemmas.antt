@@ -2,7 +2,7 @@
 use Rattle.sets25.proofs.Words.{[], add-one, All, All-append, All-cons, All-drop, All-nil, All-set, All-take, AllFilled, ap, append_assoc, arith, begin_of, Bool, cond, day, drop}
 use Rattle.sets25.proofs.Words.{drop-append-le, drop-map, drop-set-lt, drop_more, end_to_end, ended_at, EndsBefore, get_or, get_or-map, get_or-set_same, Global, glue, in_span}
 use Rattle.sets25.proofs.Words.{insert, is_covered, IsCanonical, IsListPlace, leb, length, length-append, length-map, List, list_any-append, lists_in, lt-leb, map-append, map-set}
-use Rattle.sets25.proofs.Words.{meet, nat_tests, None, only_span, refl, remove, set, Span, suc, sym, take, take-append-drop, take-map, take-set, Vec, with_frame, zero, ℕ, ◌*◌}
+use Rattle.sets25.proofs.Words.{meet, nat_tests, None, only_span, refl, remove, set, Span, suc, sym, take, take-append-drop, take-map, take-set, take_more, Vec, with_frame, zero, ℕ, ◌*◌}
 use Rattle.sets25.proofs.Words.{◌++◌, ◌+◌, ◌-◌, ◌<◌, ◌∙◌, ◌∷◌, ◌≡◌, ◌≤◌}
 use Rattle.sets25.proofs.SpansLemmas.{canonical_parts, canonical_with, covered_past, grown, uncovered_below, with_frame-past}
 
@@ -194,6 +194,13 @@ ended_at-set n i xs s e at = absurd (omega arith)
 pub behind_more : (vs : List (Vec Span Global)) (i : ℕ) (v : Vec Span Global) → i < length vs → v ≡ get_or vs i v
     → end_to_end (drop i (lists_in vs)) ≡ v.items ++ end_to_end (drop (i + 1) (lists_in vs))
 behind_more vs i v h at = rw (drop_more (lists_in vs) i [] (omega (arith, lists_in-length vs)), lists_in-at vs i v h at) refl
+
+-- the next list copied
+pub copied_more : (vs ws xs : List (Vec Span Global)) (i : ℕ) (v w : Vec Span Global) → lists_in ws ≡ take i (lists_in vs) → i < length vs → v ≡ get_or vs i v
+    → w.items ≡ v.items → xs ≡ ws ++ w ∷ [] → lists_in xs ≡ take (i + 1) (lists_in vs)
+copied_more vs ws xs i v w so_far h at same is =
+    ap lists_in is ∙ map-append (λ (u : Vec Span Global). u.items) ws (w ∷ [])
+    ∙ (rw (so_far, same, ← lists_in-at vs i v h at) (sym (take_more (lists_in vs) i [] (omega (arith, lists_in-length vs)))))
 
 -- the first span of a list dropped, and the list with it where that was all
 pub dropped : (first : List Span) (vs ws : List (Vec Span Global)) (i : ℕ) (v : Vec Span Global) (left : List (List Span)) → i < length vs → v ≡ get_or vs i v

@@ -103,6 +103,10 @@ module _ (p q : ℕ → Bool) where
         same f,
       ))
 
+  pub times_where-union : (r : ℕ → Bool) → ((f : ℕ) → f < day → q f ≡ (r f || p f)) → times_where q ≡ set.union (times_where p) (times_where r)
+  times_where-union r same = times_where-is q _ (λ f. grind
+      (arith, nat_tests, set.contains-union nat_cmp_total, contains-times_where p, contains-times_where r, same f))
+
 module _ (q : ℕ → Bool) where
   pub times_where-empty : ((f : ℕ) → f < day → q f ≡ false) → times_where q ≡ set.empty
   times_where-empty same = times_where-is q _ (λ f. grind (arith, nat_tests, set.contains-empty nat_cmp, same f))

@@ -3,7 +3,7 @@
 ghost use Rattle.std.specs.Prelude.{◌≡◌, ◌≤◌, ◌<◌, ◌+◌, ◌++◌, ◌==◌, ◌||◌, ℕ, [], ◌∷◌, if◌then◌else◌, length, take, drop, slice_get, slice_index_or, slice_set, IfOk, OnOk, OnErr, List, MatchOption};
 ghost use Rattle.tc25.specs.Day.{day};
 ghost use Rattle.sets25.specs.ShortLists.{end_to_end, lists_in, AllFilled, AllFilled-prop};
-ghost use Rattle.sets25.specs.Spans.{is_covered, IsCanonical};
+ghost use Rattle.sets25.specs.Spans.{in_span, is_covered, IsCanonical, IsSpan};
 ghost use Rattle.sets25.specs.Working.Moves.{moved_from};
 ghost use Rattle.sets25.specs.Working.ShortLists.{begin_of, ended_at, meet, only_span, IsListPlace};
 ghost use Rattle.sets25.specs.Working.SpanLists.{with_frame};
@@ -13,7 +13,7 @@ ghost use Rattle.sets25.specs.declared.span.Span.{Span};
 use crate::direction::Direction;
 use crate::span::Span;
 use crate::spans;
-use std::alloc::AllocError;
+use std::alloc::{AllocError, Global};
 
 /// A list of so many spans is cut in halves before one more is added to it.
 ///
@@ -47,6 +47,11 @@ impl SpanList {
         ensures { result ≡ (length (spans_of self.now) == 0) }
     {
         self.first.is_empty()
+    }
+
+    /// Where its memory comes from.
+    pub(crate) fn allocator(&self) -> Global {
+        *self.first.allocator()
     }
 
     /// The number of spans. It takes a step for each list.
@@ -91,12 +96,17 @@ impl SpanList {
         spans::contains(self.list(place), frame)
     }
 
-    /// The spans in a list of their own.
+    /// The spans in a list of their own, in short lists of the same lengths.
     pub(crate) fn copy(&self) -> Result<SpanList, AllocError>
-        requires { IsCanonical 0 (spans_of self.now) }
-        ensures { IfOk result (λ l. spans_of l ≡ spans_of self.now) }
+        ensures { IfOk result (λ l. lists_of l ≡ lists_of self.now) }
     {
-        Ok(SpanList::from_spans(self.as_one()?))
+        let alloc = self.allocator();
+        let first = Vec::from_slice(alloc, &self.first)?;
+        let mut rest = Vec::with_capacity(alloc, self.rest.len())?;
+        for list in &self.rest {
+            rest.push(Vec::from_slice(alloc, list)?)?;
+        }
+        Ok(SpanList { first, rest })
     }
 
     /// Adds a frame: to a span that it touches, or as a span of its own.
@@ -112,6 +122,32 @@ impl SpanList {
         let place = self.place_of(frame);
         self.add_at(place, frame)?;
         self.join(place);
+        Ok(())
+    }
+
+    /// Adds the frames of a span. Where memory is refused, it may have added some of them.
+    fn add_span(&mut self, span: Span) -> Result<(), AllocError>
+        requires canonical { IsCanonical 0 (spans_of self.old) }
+        requires in_day { IsSpan span }
+        ensures canonical { IsCanonical 0 (spans_of self.new) }
+        ensures ok { OnOk result ((f : ℕ) → is_covered f (spans_of self.new) ≡ (in_span f span || is_covered f (spans_of self.old))) }
+    {
+        for frame in span.first..span.last + 1 {
+            self.add(frame)?;
+        }
+        Ok(())
+    }
+
+    /// Adds the frames of another list. Where memory is refused, it may have added some of them.
+    pub(crate) fn add_all(&mut self, other: &SpanList) -> Result<(), AllocError>
+        requires canonical { IsCanonical 0 (spans_of self.old) }
+        requires others { IsCanonical 0 (spans_of other.now) }
+        ensures canonical { IsCanonical 0 (spans_of self.new) }
+        ensures ok { OnOk result ((f : ℕ) → is_covered f (spans_of self.new) ≡ (is_covered f (spans_of other.now) || is_covered f (spans_of self.old))) }
+    {
+        for span in &other.as_one()? {
+            self.add_span(*span)?;
+        }
         Ok(())
     }
 

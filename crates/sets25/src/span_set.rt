@@ -21,7 +21,8 @@ pub struct SpanSet {
 }
 
 impl SpanSet {
-    ghost use Rattle.std.specs.Prelude.{◌≡◌};
+    ghost use Rattle.std.specs.Prelude.{◌≡◌, OnOk};
+    ghost use Rattle.std.specs.FinSet as set;
     ghost use Rattle.sets25.specs.SpanSet.{members_of};
     ghost use Rattle.sets25.specs.Times.{span_count};
 
@@ -32,6 +33,18 @@ impl SpanSet {
         ensures { result ≡ span_count (members_of self.now) }
     {
         self.spans.len()
+    }
+
+    /// Where its memory comes from.
+    pub(crate) fn allocator(&self) -> Global {
+        self.spans.allocator()
+    }
+
+    /// Adds the members of another set. Where memory is refused, it may have added some of them.
+    pub(crate) fn add_all(&mut self, other: &SpanSet) -> Result<(), AllocError>
+        ensures { OnOk result (members_of self.new ≡ set.union (members_of self.old) (members_of other.now)) }
+    {
+        self.spans.add_all(&other.spans)
     }
 }
 

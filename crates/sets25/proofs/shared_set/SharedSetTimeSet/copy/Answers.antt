@@ -1,0 +1,6 @@
+-- The new base has all members.
+use Rattle.sets25.proofs.Lemmas.{union-empty_right}
+use Rattle.sets25.proofs.shared_set.SharedSetTimeSet.copy.Goals as goal
+
+pub returns-then-spans-most_copied : goal.returns-then-spans-most_copied
+returns-then-spans-most_copied c = rw (c.in-Ok.ensures.ok, c.none.ensures, union-empty_right) c.in_ok-gathered.ensures

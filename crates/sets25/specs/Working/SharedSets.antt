@@ -1,0 +1,24 @@
+-- That the members of a `SharedSet` are below the day.
+use Rattle.std.specs.Prelude.{Option, None, Some}
+use Rattle.std.proofs.Common.{◌≡◌, ◌<◌, ℕ, true, arith, nat_cmp}
+use Rattle.std.specs.Cmp.{nat_cmp_total}
+use Rattle.std.specs.FinSet as set
+use Rattle.std.specs.declared.alloc.Global.{Global}
+use Rattle.std.specs.declared.rc.Rc.{Rc}
+use Rattle.tc25.specs.Day.{day}
+use Rattle.sets25.specs.SharedSet.{members_of, shared_members}
+use Rattle.sets25.specs.SpanList.{spans_of}
+use Rattle.sets25.specs.Spans.{is_covered}
+use Rattle.sets25.specs.Times.{BelowDay}
+use Rattle.sets25.specs.Working.TimesWhere.{times_where_below}
+use Rattle.sets25.specs.declared.shared_set.SharedSet.{SharedSet}
+use Rattle.sets25.specs.declared.span_set.SpanSet.{SpanSet}
+
+shared_below : (base : Option (Rc SpanSet Global)) → BelowDay (shared_members base)
+shared_below None t there = grind (arith, set.contains-empty nat_cmp)
+shared_below (Some base) t there = times_where_below _ t there
+
+pub shared_set_below : (s : SharedSet) (t : ℕ) → set.contains (members_of s) t ≡ true → t < day
+shared_set_below s t there =
+    let own = times_where_below (λ f. is_covered f (spans_of s.own.spans)) t in
+    grind (arith, set.contains-union nat_cmp_total, shared_below s.base t)
