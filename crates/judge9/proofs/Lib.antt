@@ -1,5 +1,6 @@
 pub mod CutSteps
 pub mod DayLemmas
+pub mod EndSteps
 pub mod LawLemmas
 pub mod LineSteps
 pub mod PartBreaks
@@ -14,6 +15,6 @@ pub mod ShowLemmas
 pub mod SoFar
 pub mod TellLemmas
 pub mod TextLemmas
-pub mod TrailJudging
 pub mod TurnSteps
+pub mod WayBackSteps
 pub mod Words

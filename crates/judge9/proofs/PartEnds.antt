@@ -11,7 +11,7 @@ use Rattle.verdict9.specs.Telling.{view_of}
 use Rattle.verdict9.specs.declared.verdict.Telling.{Telling}
 use Rattle.verdict9.specs.declared.verdict.Telling.TheVariants as Telling
 use Rattle.judge9.proofs.DayLemmas.{cut_in_day}
-use Rattle.judge9.proofs.TrailJudging.{broken_why, no_run_why, unmoved}
+use Rattle.judge9.proofs.EndSteps.{broken_why, no_run_why, unmoved}
 use Rattle.judge9.proofs.TurnSteps.{IsEnded}
 use Rattle.judge9.proofs.CutSteps.{cut-exchange}
 use Rattle.judge9.proofs.LawLemmas.{pairing_reason}

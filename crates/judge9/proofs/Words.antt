@@ -46,7 +46,9 @@ pub use Rattle.judge9.specs.Working.{refusal_of, Result, reverse, Rows, SetsInDa
 pub use Rattle.judge9.specs.Working.{HasItsWhy, IsTrue, Verdict, WhyVerdict, View, zero, ℕ, ⊤}
 pub use Rattle.block9.proofs.TailLemmas.{last_time-append}
 pub use Rattle.block9.specs.Line.{last_time}
-pub use Rattle.judge9.specs.Working.Trail.{Arrived, KeepsEnds, FollowsFrom, GoesBack, IsBeforeAll, IsEnd, IsTrail, KeepsTrail, Leads, LeadsFrom, stretch_length}
+pub use Rattle.judge9.specs.Working.Endings.{IsEnd, KeepsEnds, KeepsExchanges, KeepsRuns}
+pub use Rattle.judge9.specs.Working.WayBack.{AreMarks, FollowsFrom, GoesBack, IsNextMark, last_mark, Leads, LeadsFrom, place_of, tracked_by}
+pub use Rattle.judge9.specs.declared.way_back.Mark.{Mark}
 pub use Rattle.judge9.specs.Parts.{AreParts, AreTotals, BrokenPart, exchanges_of, from_command, IsPart, may_begin, number_of, Part, Rest, rest_after, takes_up_at}
 pub use Rattle.judge9.specs.Parts.{begins_next_part}
 pub use Rattle.judge9.specs.PartsReport.{AreTextsOf, InParts, PartsTold, IsRefusedAfter, IsTextOf, IsToTheEnd, ToldInParts, WrittenInParts}

@@ -1,8 +1,9 @@
 -- What the clauses of private functions cite, and the names from elsewhere that its parts need, passed on from here. No public
 -- contract reaches it, so no reader has to believe it.
+pub mod Endings
 pub mod Parts
-pub mod Trail
 pub mod Turn
+pub mod WayBack
 pub use Rattle.block9.specs.Exchange.{Cut}
 pub use Rattle.block9.specs.Pairer.{Refuses, Takes}
 pub use Rattle.block9.specs.declared.pairer.Exchange.{Exchange}

@@ -1,12 +1,12 @@
 //! What the deck could show when it gave a reply after which no run of the deck remains.
-ghost use Rattle.std.specs.Prelude.{◌≡◌, ◌↔◌, IfOk, OnOk};
+ghost use Rattle.std.specs.Prelude.{◌≡◌, ◌↔◌, IfOk};
 ghost use Rattle.deck9.specs.State.{IsFirst};
 ghost use Rattle.deck9.specs.declared.state.State.{State as AState};
 ghost use Rattle.track9.specs.Tracker.{Possible};
 ghost use Rattle.why9.specs.Contradiction.{BreaksAtLast};
-ghost use Rattle.judge9.specs.Working.Trail.{KeepsEnds};
 ghost use Rattle.judge9.specs.WhyVerdict.{CouldShow};
 
+use crate::following::follow;
 use block9::Exchange;
 use deck9::{Hands, Knowledge, ModeSet};
 use sets25::SpanSet;
@@ -40,23 +40,7 @@ fn shown_after(
     requires hands { tracker.old.hands ≡ hands }
     ensures { IfOk result (λ told. CouldShow hands exchanges.now told.0 told.1) }
 {
-    follow(tracker, hands, &exchanges[..exchanges.len() - 1])?;
+    follow(tracker, &exchanges[..exchanges.len() - 1])?;
     tracker.drift()?;
     Ok((tracker.knowledge(), tracker.shown()))
-}
-
-/// Takes these exchanges, with nothing before them.
-fn follow(
-    tracker: &mut Tracker<SpanSet>,
-    hands: Hands,
-    exchanges: &[Exchange],
-) -> Result<(), AllocError>
-    requires states { (s : AState) → Possible tracker.old.states s ↔ IsFirst hands s }
-    requires hands { tracker.old.hands ≡ hands }
-    ensures { OnOk result (KeepsEnds hands exchanges.now tracker.new) }
-{
-    for exchange in exchanges {
-        tracker.observe(&exchange.command, &exchange.reply)?;
-    }
-    Ok(())
 }

@@ -8,41 +8,42 @@
 //!
 //! The search is not proved to find such a run. What it finds is asked of `is_run`, and is handed out where that says that
 //! it is a run.
-ghost use Rattle.std.specs.Prelude.{◌≡◌, ◌≤◌, [], IfOk, IfSome, OnOk, length};
+ghost use Rattle.std.specs.Prelude.{◌≡◌, ◌≤◌, IfOk, IfSome, length};
 ghost use Rattle.deck9.specs.Run.{IsRun};
 ghost use Rattle.deck9.specs.declared.state.State.{State as AState};
-ghost use Rattle.judge9.specs.Working.Trail.{Arrived, FollowsFrom, IsTrail};
+ghost use Rattle.judge9.specs.Working.Endings.{KeepsEnds};
 ghost use Rattle.track9.specs.Tracker.{Possible};
 
+use crate::following::follow;
 use crate::kept_by_hand::{NOTHING, keep_modes, kept_by_hand};
 use crate::panel::{may_be_on_after, switch_on_for_hand, switch_panels};
-use crate::trail::{Trail, go_back_from, mark};
+use crate::way_back::{Pace, go_back, states_to};
 use block9::Exchange;
 use deck9::{Hands, State, is_run};
-use sets25::SpanSet;
+use sets25::{SharedSet, SpanSet};
 use std::alloc::{AllocError, Global};
 use track9::{Start, Tracker};
 
-/// The states after each exchange of a trail in a run that ends in a state of this tracker, or, where hands are allowed,
+/// The states after each of these exchanges in a run that ends in a state of this tracker, or, where hands are allowed,
 /// in one with the fewest moves of a hand, which keeps what it can.
 pub(crate) fn states_of_run(
     alloc: Global,
     hands: Hands,
-    trail: &Trail,
+    exchanges: &[Exchange],
     end: &Tracker<SpanSet>,
+    pace: Pace,
 ) -> Result<Vec<State>, AllocError>
-    requires hands { end.now.hands ≡ hands }
-    requires arrived { Arrived end.now.hands trail.now.exchanges.items trail.now.trackers.items end.now }
+    requires keeps { KeepsEnds hands exchanges.now end.now }
     requires some { (s : AState) × Possible end.now.states s }
-    ensures { IfOk result (λ states. IsRun end.now.hands trail.now.exchanges.items states.items) }
+    ensures { IfOk result (λ states. IsRun hands exchanges.now states.items) }
 {
     if hands == Hands::Allowed {
-        let states = states_with_fewest_moves(alloc, trail.exchanges())?;
-        if let Some(states) = if_a_run(hands, trail.exchanges(), states) {
+        let states = states_with_fewest_moves(alloc, exchanges, pace)?;
+        if let Some(states) = if_a_run(hands, exchanges, states) {
             return Ok(states);
         }
     }
-    trail.states(alloc, end)
+    states_to(alloc, hands, exchanges, end, pace)
 }
 
 /// These states, where they are those after each of the exchanges in some run, and else `None`.
@@ -60,9 +61,10 @@ fn if_a_run(hands: Hands, exchanges: &[Exchange], states: Vec<State>) -> Option<
 fn states_with_fewest_moves(
     alloc: Global,
     exchanges: &[Exchange],
+    pace: Pace,
 ) -> Result<Vec<State>, AllocError> {
     let starts = starts_of_stretches(alloc, exchanges)?;
-    let states = states_of_stretches(alloc, exchanges, &starts);
+    let states = states_of_stretches(alloc, exchanges, &starts, pace);
     drop(starts);
     states
 }
@@ -120,9 +122,10 @@ fn states_of_stretches(
     alloc: Global,
     exchanges: &[Exchange],
     starts: &[usize],
+    pace: Pace,
 ) -> Result<Vec<State>, AllocError> {
     let mut states = Vec::new(alloc);
-    match put_states(alloc, exchanges, starts, &mut states) {
+    match put_states(alloc, exchanges, starts, pace, &mut states) {
         Ok(()) => Ok(states),
         Err(error) => {
             drop(states);
@@ -137,9 +140,10 @@ fn put_states(
     alloc: Global,
     exchanges: &[Exchange],
     starts: &[usize],
+    pace: Pace,
     states: &mut Vec<State>,
 ) -> Result<(), AllocError> {
-    go_through_stretches(alloc, exchanges, starts, states)?;
+    go_through_stretches(alloc, exchanges, starts, pace, states)?;
     for start in starts {
         switch_on_for_hand(between(exchanges, 0, *start), states);
     }
@@ -152,14 +156,20 @@ fn go_through_stretches(
     alloc: Global,
     exchanges: &[Exchange],
     starts: &[usize],
+    pace: Pace,
     states: &mut Vec<State>,
 ) -> Result<(), AllocError> {
     let mut start = 0;
     for next in starts {
-        put_stretch(alloc, between(exchanges, start, *next), states)?;
+        put_stretch(alloc, between(exchanges, start, *next), pace, states)?;
         start = *next;
     }
-    put_stretch(alloc, between(exchanges, start, exchanges.len()), states)
+    put_stretch(
+        alloc,
+        between(exchanges, start, exchanges.len()),
+        pace,
+        states,
+    )
 }
 
 /// The exchanges from the one at `start` to the one before `end`, or none where there are no such places.
@@ -175,6 +185,7 @@ fn between(exchanges: &[Exchange], start: usize, end: usize) -> &[Exchange] {
 fn put_stretch(
     alloc: Global,
     exchanges: &[Exchange],
+    pace: Pace,
     states: &mut Vec<State>,
 ) -> Result<(), AllocError> {
     let found = states.last().copied();
@@ -183,7 +194,7 @@ fn put_stretch(
         None => NOTHING,
     };
     let mut stretch = Vec::new(alloc);
-    go_back_untouched(alloc, &kept, exchanges, &mut stretch)?;
+    go_back_untouched(alloc, &kept, exchanges, pace, &mut stretch)?;
     stretch.reverse();
     if let Some(found) = &found {
         keep_modes(found, exchanges, stretch.as_mut_slice());
@@ -197,48 +208,46 @@ fn go_back_untouched(
     alloc: Global,
     kept: &Start,
     exchanges: &[Exchange],
+    pace: Pace,
     states: &mut Vec<State>,
 ) -> Result<(), AllocError> {
-    let mut trackers = Vec::new(alloc);
-    let mut tracker = Tracker::starting(alloc, kept)?;
-    let result = go_back_along(&mut tracker, &mut trackers, exchanges, states);
-    drop(tracker);
-    drop(trackers);
+    let first = Tracker::starting(alloc, kept)?;
+    let result = go_back_along(alloc, &first, exchanges, pace, states);
+    drop(first);
     result
 }
 
-/// Goes back along these exchanges, by a tracker that has taken nothing yet and a trail of none.
+/// Goes back along these exchanges, to one of the states that the tracker before them keeps.
 fn go_back_along(
-    tracker: &mut Tracker<SpanSet>,
-    trackers: &mut Vec<Tracker<SpanSet>>,
+    alloc: Global,
+    first: &Tracker<SharedSet>,
     exchanges: &[Exchange],
+    pace: Pace,
+    states: &mut Vec<State>,
+) -> Result<(), AllocError> {
+    let mut last = first.snapshot()?;
+    let result = go_back_by(alloc, first, &mut last, exchanges, pace, states);
+    drop(last);
+    result
+}
+
+/// Goes back along these exchanges by two equal trackers, of which the second goes along them first.
+fn go_back_by(
+    alloc: Global,
+    first: &Tracker<SharedSet>,
+    last: &mut Tracker<SharedSet>,
+    exchanges: &[Exchange],
+    pace: Pace,
     states: &mut Vec<State>,
 ) -> Result<(), AllocError>
-    requires { trackers.old.items ≡ [] }
+    requires { last.old ≡ first.now }
 {
-    follow_untouched(tracker, trackers, exchanges)?;
-    if !tracker.remains() {
+    follow(last, exchanges)?;
+    if !last.remains() {
         return Ok(());
     }
-    match go_back_from(tracker, trackers, exchanges, states) {
+    match go_back(alloc, first, exchanges, last, pace, states) {
         Ok(_) => Ok(()),
         Err(error) => Err(error),
     }
-}
-
-/// Takes these exchanges, where nobody touches the deck, and keeps the trackers that a trail has before them.
-fn follow_untouched(
-    tracker: &mut Tracker<SpanSet>,
-    trackers: &mut Vec<Tracker<SpanSet>>,
-    exchanges: &[Exchange],
-) -> Result<(), AllocError>
-    requires { trackers.old.items ≡ [] }
-    ensures follows { OnOk result (FollowsFrom tracker.old exchanges.now tracker.new) }
-    ensures trail { OnOk result (IsTrail tracker.old exchanges.now trackers.new.items) }
-{
-    for (at, exchange) in exchanges.iter().enumerate() {
-        mark(trackers, &exchanges[..at], tracker)?;
-        tracker.observe(&exchange.command, &exchange.reply)?;
-    }
-    Ok(())
 }

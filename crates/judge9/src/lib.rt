@@ -10,7 +10,9 @@
 
 mod could_show;
 mod ending;
+mod exchanges_judging;
 mod fewest_hands;
+mod following;
 mod judging;
 mod kept;
 mod kept_by_hand;
@@ -19,9 +21,8 @@ mod panel;
 mod parts;
 mod parts_judging;
 mod run_judging;
-mod trail;
-mod trail_judging;
 mod verdict_judging;
+mod way_back;
 mod why_judging;
 
 pub use deck9::is_run;

@@ -1,16 +1,16 @@
-//! Judges a capture and keeps its trail, so that a yes comes with a run of the deck.
+//! Judges a capture and keeps its exchanges, so that a yes comes with a run of the deck.
 ghost use Rattle.std.specs.Prelude.{◌≡◌, ◌≢◌, IfSome, IfErr, option_map};
 ghost use Rattle.capture9.specs.Rows.{rows_of};
 ghost use Rattle.judge9.specs.Judging.{CanBeResult, IsTheAnswer, StoppedBefore, answer_of};
 ghost use Rattle.judge9.specs.RunVerdict.{IsJudgedRun, judged_of};
-ghost use Rattle.judge9.specs.Working.Trail.{JudgesRun};
+ghost use Rattle.judge9.specs.Working.Endings.{JudgesRun};
 ghost use Rattle.judge9.specs.Working.Turn.{IsFresh};
 
 use crate::ending::Ending;
+use crate::exchanges_judging::keep_exchanges;
 use crate::fewest_hands::states_of_run;
 use crate::judging::Judging;
-use crate::trail::Trail;
-use crate::trail_judging::keep_trail;
+use crate::way_back::Pace;
 use block9::Reason;
 use capture9::{CaptureError, CaptureKind};
 use deck9::Hands;
@@ -24,8 +24,10 @@ use verdict9::{JudgeError, RunVerdict};
 /// at each of which the hand keeps what it can, which is tested and not proved; beyond that, which of several runs it is,
 /// is not said.
 ///
-/// It writes nothing, and keeps all exchanges, their states and for each 256th exchange what was possible before it: with
-/// hands twice, as each exchange is then observed once more, or twice, and after a move of a hand seven times more.
+/// It writes nothing, and keeps all exchanges, their states, and what was possible before some of the exchanges: before so
+/// few that it takes no more memory than twice what the exchanges and states take. To find the run each exchange is observed
+/// again, twice or, where much is possible, as often as the number of exchanges can be halved; with hands up to nine times
+/// more.
 ///
 /// Where the reader tells its bytes, the verdict, its counts and the refusals of the text are those that
 /// [`judge`](crate::judge) gives, and the exchanges are those that the records are cut into. Errors come as there, but
@@ -67,16 +69,23 @@ fn judge_rows<R: Read + Drop>(
     requires { IsFresh hands judging.old }
     ensures { JudgesRun hands judging.old.rows.rows result }
 {
-    let mut trail = Trail::new(alloc);
-    match keep_trail(judging, &mut trail, hands) {
-        Ok(Ending::End { records, tail }) => {
-            let Ok(states) = states_of_run(alloc, hands, &trail, &judging.tracker) else {
+    let mut exchanges = Vec::new(alloc);
+    match keep_exchanges(judging, &mut exchanges, hands) {
+        Ok(
+            Ending::End {
+                records,
+                tail,
+                spans,
+            },
+        ) => {
+            let pace = Pace::of(exchanges.len(), spans);
+            let Ok(states) = states_of_run(alloc, hands, &exchanges, &judging.tracker, pace) else {
                 return Err(JudgeError::OutOfMemory);
             };
             Ok(RunVerdict::Yes {
                 records,
                 tail,
-                exchanges: trail.into_exchanges(),
+                exchanges,
                 states,
             })
         }

@@ -10,15 +10,14 @@ ghost use Rattle.deck9.specs.declared.state.Hands.{Hands as AHands};
 ghost use Rattle.std.specs.List.{All};
 ghost use Rattle.why9.specs.Contradiction.{BreaksAtLast};
 ghost use Rattle.judge9.specs.Working.Parts.{SaysWhy};
-ghost use Rattle.judge9.specs.Working.Trail.{IsEnd, JudgesWhy};
+ghost use Rattle.judge9.specs.Working.Endings.{IsEnd, JudgesWhy};
 ghost use Rattle.capture9.specs.declared.line_byte.LineByte.{LineByte as ALineByte};
 ghost use Rattle.judge9.specs.Working.Turn.{IsFresh};
 
 use crate::could_show::could_show;
 use crate::ending::Ending;
+use crate::exchanges_judging::keep_exchanges;
 use crate::judging::Judging;
-use crate::trail::Trail;
-use crate::trail_judging::keep_trail;
 use block9::{Exchange, Pairer, Reason};
 use capture9::{CaptureError, CaptureKind, LineByte};
 use deck9::Hands;
@@ -40,9 +39,8 @@ use why9::contradicting;
 /// not believed is in `specs/Contradict.antt` of the crate `deck9`. Told with them is what was known of the deck when it gave
 /// the last of the replies, and which modes it could then show.
 ///
-/// It writes nothing, and keeps all exchanges, and for each 256th what was possible before it. The search asks whether
-/// parts of the exchanges have a run, each time of a fresh tracker, and of no exchange before the first place in
-/// question.
+/// It writes nothing, and keeps all exchanges. The search asks whether parts of them have a run, and looks at no exchange
+/// before the first place in question.
 ///
 /// Where the reader tells its bytes, the verdict, its counts and the refusals of the text are those that
 /// [`judge`](crate::judge) gives. Errors come as in [`judge_with_run`](crate::judge_with_run):
@@ -83,11 +81,11 @@ fn judge_rows<R: Read + Drop>(
     requires { IsFresh hands judging.old }
     ensures { JudgesWhy hands judging.old.rows.rows result }
 {
-    let mut trail = Trail::new(alloc);
-    match keep_trail(judging, &mut trail, hands) {
-        Ok(Ending::End { records, tail }) => Ok(WhyVerdict::Yes {
+    let mut exchanges = Vec::new(alloc);
+    match keep_exchanges(judging, &mut exchanges, hands) {
+        Ok(Ending::End { records, tail, .. }) => Ok(WhyVerdict::Yes {
             records,
-            exchanges: trail.into_exchanges().len() as u32,
+            exchanges: exchanges.len() as u32,
             tail,
         }),
         Ok(
@@ -98,7 +96,6 @@ fn judge_rows<R: Read + Drop>(
                 end_us,
             },
         ) => {
-            let exchanges = trail.into_exchanges();
             let Ok(why) = why_broken(
                 alloc,
                 &judging.pairer,
@@ -113,7 +110,7 @@ fn judge_rows<R: Read + Drop>(
             Ok(why)
         }
         Ok(Ending::NoRun { at }) => {
-            let Ok(why) = why_no_run(alloc, hands, at, trail.into_exchanges()) else {
+            let Ok(why) = why_no_run(alloc, hands, at, exchanges) else {
                 return Err(JudgeError::OutOfMemory);
             };
             Ok(why)

@@ -6,7 +6,7 @@ use Rattle.judge9.specs.Working.{Appends, AppendsPart, Exchange, Reason, refusal
 use Rattle.verdict9.specs.declared.totals.Totals.{Totals}
 use Rattle.judge9.specs.PartsReport.{PartsTold}
 use Rattle.judge9.specs.WhyVerdict.{CouldShow}
-use Rattle.judge9.specs.Working.Trail.{IsEnd}
+use Rattle.judge9.specs.Working.Endings.{IsEnd}
 use Rattle.block9.specs.Pairer.{BeginsWith as BeginsWithCommand}
 use Rattle.block9.specs.declared.command.Command.{Command}
 use Rattle.report9.specs.WhyText.{text_of_why}

@@ -1,0 +1,245 @@
+-- The way back from the end of a capture to a run of the deck: where exchanges lead, the trackers at marks, and one exchange back.
+use Rattle.judge9.proofs.Words.{[], All, ap, append-nil, append_assoc, AreMarks, AreReached, arith, drop, Ends, ends_more, ends_none, Exchange, Exchanges, FollowsFrom, get_or}
+use Rattle.judge9.proofs.Words.{GoesBack, Hands, inl, inr, IsNextMark, IsRun, KeepsEnds, last_mark, Leads, LeadsFrom, length, length_push, List, Mark, None, Option, place_of, Possible, refl}
+use Rattle.judge9.proofs.Words.{reverse, reverse-append, reverse-reverse, slice_get, slice_range, Some, State, subst, suc, sym, take, take-add, take_all, take_more, Tracked, tracked_by, ℕ}
+use Rattle.judge9.proofs.Words.{◌++◌, ◌+◌, ◌-◌, ◌<◌, ◌↔◌, ◌∙◌, ◌∷◌, ◌≡◌, ◌≤◌, ◌⊎◌}
+use Rattle.deck9.specs.State.{IsFirst}
+use Rattle.std.proofs.Math.Seq.{drop-cons}
+use Rattle.std.proofs.lemmas.Bool.{cases_lt, false≢true}
+use Rattle.std.proofs.lemmas.Grind.{common_steps}
+use Rattle.std.proofs.lemmas.List.{drop_all}
+use Rattle.std.proofs.lemmas.List.Elements.{All-push}
+use Rattle.std.proofs.lemmas.List.Quantifiers.{all_pairs_push}
+use Rattle.std.proofs.lemmas.Option.{get_or_from_slice_get, slice_get-get_or, slice_get_read, slice_get_within}
+use Rattle.std.specs.List.{AllPairs}
+use Rattle.std.specs.Option.{IsSome, option_to_list}
+
+-- ---- where exchanges lead
+
+pub leads_on : (h : Hands) (es : List Exchange) (X Y : State → Type 0) (t : State) → ((s : State) → X s → Y s) → Leads h X es t → Leads h Y es t
+leads_on h [] X Y t f l = f t l
+leads_on h (e ∷ es) X Y t f l =
+    leads_on h es (λ u. (s : State) × X s × Exchanges h e.command e.reply s u) (λ u. (s : State) × Y s × Exchanges h e.command e.reply s u) t
+    (λ u w. (w.0, f w.0 w.1, w.2)) l
+
+-- from where runs end, the exchanges that follow lead to where the runs of all end
+ends_lead : (h : Hands) (es fs : List Exchange) (t : State) → Ends h (es ++ fs) t → Leads h (Ends h es) fs t
+ends_lead h es [] t l = subst (λ (x : List Exchange). Ends h x t) (append-nil es) l
+ends_lead h es (f ∷ fs) t l =
+    let more = ends_lead h (es ++ f ∷ []) fs t (subst (λ (x : List Exchange). Ends h x t) (sym (append_assoc es (f ∷ []) fs)) l) in
+    leads_on h fs (Ends h (es ++ f ∷ [])) (λ u. (s : State) × Ends h es s × Exchanges h f.command f.reply s u) t (λ u w. (ends_more h es f).0 u w) more
+
+lead_ends : (h : Hands) (es fs : List Exchange) (t : State) → Leads h (Ends h es) fs t → Ends h (es ++ fs) t
+lead_ends h es [] t l = subst (λ (x : List Exchange). Ends h x t) (sym (append-nil es)) l
+lead_ends h es (f ∷ fs) t l =
+    let more = leads_on h fs (λ u. (s : State) × Ends h es s × Exchanges h f.command f.reply s u) (Ends h (es ++ f ∷ [])) t
+    (λ u w. (ends_more h es f).1 w.0 u w.1 w.2) l in
+    subst (λ (x : List Exchange). Ends h x t) (append_assoc es (f ∷ []) fs) (lead_ends h (es ++ f ∷ []) fs t more)
+
+-- the same from one exchange to the next, and through some and then others
+leads_more : (h : Hands) (X : State → Type 0) (es : List Exchange) (e : Exchange) (t : State)
+    → Leads h X (es ++ e ∷ []) t ↔ ((s : State) × Leads h X es s × Exchanges h e.command e.reply s t)
+leads_more h X [] e t = (λ l. l, λ l. l)
+leads_more h X (f ∷ fs) e t = leads_more h (λ u. (s : State) × X s × Exchanges h f.command f.reply s u) fs e t
+
+leads_then : (h : Hands) (X : State → Type 0) (es fs : List Exchange) (t : State) → Leads h X (es ++ fs) t → Leads h (Leads h X es) fs t
+leads_then h X [] fs t l = leads_on h fs X (Leads h X []) t (λ s x. x) l
+leads_then h X (e ∷ es) fs t l = leads_on h fs (Leads h (λ u. (s : State) × X s × Exchanges h e.command e.reply s u) es) (Leads h X (e ∷ es)) t (λ s x. x)
+    (leads_then h (λ u. (s : State) × X s × Exchanges h e.command e.reply s u) es fs t l)
+
+leads_join : (h : Hands) (X : State → Type 0) (es fs : List Exchange) (t : State) → Leads h (Leads h X es) fs t → Leads h X (es ++ fs) t
+leads_join h X [] fs t l = leads_on h fs (Leads h X []) X t (λ s x. x) l
+leads_join h X (e ∷ es) fs t l = leads_join h (λ u. (s : State) × X s × Exchanges h e.command e.reply s u) es fs t
+    (leads_on h fs (Leads h X (e ∷ es)) (Leads h (λ u. (s : State) × X s × Exchanges h e.command e.reply s u) es) t (λ s x. x) l)
+
+-- ---- a tracker that follows another one
+
+pub from-start : (t : Tracked) → FollowsFrom t [] t
+from-start t = record { states = λ s. (λ p. p, λ p. p); hands = refl }
+
+-- the same of the first exchanges of some
+pub from-next : (first : Tracked) (es : List Exchange) (k : ℕ) (e : Exchange) (old new : Tracked) → k < length es → e ≡ get_or es k e
+    → FollowsFrom first (take k es) old
+    → AreReached (Possible old.states) (Exchanges old.hands e.command e.reply) (Possible new.states) → new.hands ≡ old.hands
+    → (take (k + 1) es ≡ take k es ++ e ∷ []) × FollowsFrom first (take (k + 1) es) new
+from-next first es k e old new low is f reached kept =
+    let more = take_more es k e low ∙ ap (λ (x : Exchange). take k es ++ x ∷ []) (sym is) in
+    let same = rw f.hands at reached in
+    let next : FollowsFrom first (take k es ++ e ∷ []) new = record {
+      states = λ t. (
+        λ p. let s = same.0 t p in (leads_more first.hands (Possible first.states) (take k es) e t).1 (s.0, (f.states s.0).0 s.1, s.2),
+        λ p. let s = (leads_more first.hands (Possible first.states) (take k es) e t).0 p in same.1 s.0 t ((f.states s.0).1 s.1) s.2,
+      );
+      hands = kept ∙ f.hands;
+    } in
+    (more, rw more next)
+
+-- and then others
+follows-then : {first t u : Tracked} (es fs : List Exchange) → FollowsFrom first es t → FollowsFrom t fs u → FollowsFrom first (es ++ fs) u
+follows-then {first = first} {t = t} es fs f g = record {
+  states = λ s. (
+    λ p. leads_join first.hands (Possible first.states) es fs s
+        (leads_on first.hands fs (Possible t.states) (LeadsFrom first es) s (λ v. (f.states v).0) (rw f.hands at ((g.states s).0 p))),
+    λ l. (g.states s).1 (rw f.hands (leads_on first.hands fs (LeadsFrom first es) (Possible t.states) s (λ v. (f.states v).1)
+        (leads_then first.hands (Possible first.states) es fs s l))),
+  );
+  hands = g.hands ∙ f.hands;
+}
+
+-- the first exchanges, cut at a place
+parts : (es : List Exchange) (first at : ℕ) → first ≤ at → take at es ≡ take first es ++ slice_range es first at
+parts es first at low =
+    let sum : at ≡ first + (at - first) = omega arith in
+    ap (λ n. take n es) sum ∙ take-add first (at - first) es
+
+-- ---- from the states before a capture
+
+-- a state in which runs end is one to which the exchanges lead
+ends_from : (h : Hands) (first : Tracked) (es : List Exchange) (t : State) → ((s : State) → Possible first.states s ↔ IsFirst h s) → first.hands ≡ h
+    → Ends h es t → LeadsFrom first es t
+ends_from h first es t states hands ends = rw hands
+    (leads_on h es (Ends h []) (Possible first.states) t (λ u w. (states u).1 ((ends_none h u).0 w)) (ends_lead h [] es t ends))
+
+from_leads : (h : Hands) (first : Tracked) (es : List Exchange) (t : State) → ((s : State) → Possible first.states s ↔ IsFirst h s) → first.hands ≡ h
+    → LeadsFrom first es t → Ends h es t
+from_leads h first es t states hands leads = lead_ends h [] es t
+    (leads_on h es (Possible first.states) (Ends h []) t (λ u w. (ends_none h u).1 ((states u).0 w)) (rw hands at leads))
+
+-- so a tracker that keeps the states in which runs end follows them, and the other way round
+pub follows_ends : (h : Hands) (first : Tracked) (es : List Exchange) (t : Tracked) → ((s : State) → Possible first.states s ↔ IsFirst h s) → first.hands ≡ h
+    → KeepsEnds h es t → FollowsFrom first es t
+follows_ends h first es t states hands f = record {
+  states = λ s. (λ p. ends_from h first es s states hands ((f.states s).0 p), λ l. (f.states s).1 (from_leads h first es s states hands l));
+  hands = f.hands ∙ sym hands;
+}
+
+pub keeps_ends : (h : Hands) (first : Tracked) (es : List Exchange) (t : Tracked) → ((s : State) → Possible first.states s ↔ IsFirst h s) → first.hands ≡ h
+    → FollowsFrom first es t → KeepsEnds h es t
+keeps_ends h first es t states hands f = record {
+  states = λ s. (λ p. from_leads h first es s states hands ((f.states s).0 p), λ e. (f.states s).1 (ends_from h first es s states hands e));
+  hands = f.hands ∙ hands;
+}
+
+-- and going back from one of them finds a run
+pub back_run : (h : Hands) (first : Tracked) (es : List Exchange) (t u : State) (new : List State) → ((s : State) → Possible first.states s ↔ IsFirst h s)
+    → first.hands ≡ h → GoesBack first.hands (Possible first.states) es t [] new u → IsRun h es (reverse new)
+back_run h first es t u new states hands g = rw (g.put, reverse-reverse g.after) (u, (states u).0 g.from, rw hands at g.is_run)
+
+-- ---- marks
+
+-- what holds of all marks holds of each
+at_mark : (P : Mark → Type 0) (marks : List Mark) (k : ℕ) (m : Mark) → All P marks → slice_get marks k ≡ Some m → P m
+at_mark P marks k m all e = subst P (get_or_from_slice_get marks k m m e) (all k m (slice_get_within marks k m e))
+
+last_pushed : (marks : List Mark) (m : Mark) → last_mark (marks ++ m ∷ []) ≡ Some m
+last_pushed marks m = slice_get_read (marks ++ m ∷ []) (length (marks ++ m ∷ [])) (length (marks ++ m ∷ []) - 1) m refl (omega (arith, length_push marks m))
+    (let n = length_push marks m in grind (arith, common_steps))
+
+-- the last tracker that is marked keeps the states to which the exchanges before it lead
+pub nearest_follows : {first : Tracked} {es : List Exchange} {at : ℕ} {marks : List Mark} → AreMarks first es at marks
+    → FollowsFrom first (take (place_of (last_mark marks)) es) (tracked_by first (last_mark marks))
+nearest_follows {first = first} {es = es} {marks = marks} are = by (last_mark marks) refl
+  where
+    by : (o : Option Mark) → last_mark marks ≡ o → FollowsFrom first (take (place_of o) es) (tracked_by first o)
+    by None e = from-start first
+    by (Some m) e = at_mark (λ n. FollowsFrom first (take n.place es) n.tracker) marks (length marks - 1) m are.follow e
+
+pub nearest_within : {first : Tracked} {es : List Exchange} {at : ℕ} {marks : List Mark} → AreMarks first es (at + 1) marks → place_of (last_mark marks) ≤ at
+nearest_within {at = at} {marks = marks} are = by (last_mark marks) refl
+  where
+    by : (o : Option Mark) → last_mark marks ≡ o → place_of o ≤ at
+    by None e = omega arith
+    by (Some m) e = let low = at_mark (λ x. x.place < at + 1) marks (length marks - 1) m are.within e in omega arith
+
+-- no mark is after the last
+before_last_mark : (marks : List Mark) → AllPairs (λ a b. a.place < b.place) marks → (k : ℕ) (d : Mark) → k < length marks
+    → (get_or marks k d).place ≤ place_of (last_mark marks)
+before_last_mark marks ascend k d low = elim (cases_lt k (length marks - 1)) [
+  | inl less ↦ let before = ascend k (length marks - 1) d less (omega arith) in rw last (omega arith)
+  | inr more ↦ let same : k ≡ length marks - 1 = omega arith in rw (last, same) (omega arith)
+]
+  where
+    last : last_mark marks ≡ Some (get_or marks (length marks - 1) d)
+    last = slice_get-get_or marks (length marks - 1) d (omega arith)
+
+pub no_marks : (first : Tracked) (es : List Exchange) (at : ℕ) → AreMarks first es at []
+no_marks first es at = record {
+  follow = λ k d low. absurd (omega arith);
+  ascend = λ i j d low within. absurd (omega arith);
+  within = λ k d low. absurd (omega arith);
+}
+
+-- one mark more
+pub marked : {first : Tracked} {es : List Exchange} {at : ℕ} {marks : List Mark} (m : Mark) → AreMarks first es (at + 1) marks
+    → IsNextMark (place_of (last_mark marks)) (tracked_by first (last_mark marks)) es at m
+    → AreMarks first es (at + 1) (marks ++ m ∷ []) × (place_of (last_mark (marks ++ m ∷ [])) ≡ m.place)
+marked {first = first} {es = es} {at = at} {marks = marks} m are next = (
+  record {
+    follow = All-push (λ n. FollowsFrom first (take n.place es) n.tracker) marks m are.follow
+        (subst (λ l. FollowsFrom first l m.tracker) (sym (parts es (place_of (last_mark marks)) m.place (let on = next.on in omega arith)))
+        (follows-then _ _ (nearest_follows are) next.follows));
+    ascend = all_pairs_push (λ a b. a.place < b.place) marks m are.ascend
+        (λ k d low. let up = before_last_mark marks are.ascend k d low in let on = next.on in omega arith);
+    within = All-push (λ n. n.place < at + 1) marks m are.within (let within = next.within in omega arith);
+  },
+  ap place_of (last_pushed marks m),
+)
+
+-- one mark less, the one before the exchange at `at`, or none
+pub unmarked : {first : Tracked} {es : List Exchange} {at : ℕ} {marks rest : List Mark} (o : Option Mark) → AreMarks first es (at + 1) marks
+    → place_of (last_mark marks) ≡ at → marks ≡ rest ++ option_to_list o → (0 < length marks → IsSome o) → AreMarks first es at rest
+unmarked {marks = marks} {rest = rest} None are is split some =
+    let empty : ¬ (0 < length marks) = λ low. false≢true (some low) in
+    let none : length rest ≡ 0 = omega (arith, ap length split, ap length (append-nil rest), empty) in
+    record { follow = λ k d low. absurd (omega arith); ascend = λ i j d low within. absurd (omega arith); within = λ k d low. absurd (omega arith) }
+unmarked {first = first} {es = es} {at = at} {marks = marks} {rest = rest} (Some m) are is split some = record {
+  follow = λ k d low. subst (λ (n : Mark). FollowsFrom first (take n.place es) n.tracker) (same k d low) ((rw split at are.follow) k d (omega (arith, long)));
+  ascend = λ i j d low within. rw (← same i d (omega arith), ← same j d within) ((rw split at are.ascend) i j d low (omega (arith, long)));
+  within = λ k d low.
+      let before = (rw split at are.ascend) k (length rest) d low (omega (arith, long)) in
+      let last : (get_or (rest ++ m ∷ []) (length rest) d) ≡ m = grind (arith, common_steps) in
+      let place : m.place ≡ at = ap place_of (sym (last_pushed rest m)) ∙ (rw split at is) in
+      rw (same k d low, last, place) at before;
+}
+  where
+    long : length (rest ++ m ∷ []) ≡ length rest + 1
+    long = length_push rest m
+
+    same : (k : ℕ) (d : Mark) → k < length rest → get_or (rest ++ m ∷ []) k d ≡ get_or rest k d
+    same k d low = grind (arith, common_steps)
+
+-- ---- going back
+
+pub back-start : (first : Tracked) (es : List Exchange) (end : State) (old : List State) → LeadsFrom first es end
+    → GoesBack first.hands (LeadsFrom first (take (length es) es)) (drop (length es) es) end old old end
+back-start first es end old leads = rw (take_all (length es) es (omega arith), drop_all (length es) es (omega arith))
+    (record { from = leads; after = []; is_run = tt; is_end = refl; put = sym (append-nil old) })
+
+module _ {first before : Tracked} (es : List Exchange) (at : ℕ) (e : Exchange) (low : at < length es) (is : e ≡ get_or es at e)
+    (follows : FollowsFrom first (take at es) before) where
+  one_more : take (at + 1) es ≡ take at es ++ e ∷ []
+  one_more = take_more es at e low ∙ ap (λ (x : Exchange). take at es ++ x ∷ []) (sym is)
+
+  -- a state to which the exchanges lead comes from one before the last of them
+  pub step_from : (state : State) → LeadsFrom first (take (at + 1) es) state
+      → (s : State) × Possible before.states s × Exchanges before.hands e.command e.reply s state
+  step_from state leads =
+      let l = (leads_more first.hands (Possible first.states) (take at es) e state).0 (rw one_more at leads) in
+      (l.0, (follows.states l.0).1 l.1, subst (λ h. Exchanges h e.command e.reply l.0 state) (sym follows.hands) l.2)
+
+  -- through one exchange more
+  pub back-more : (end state earlier : State) (old mid new : List State)
+      → GoesBack first.hands (LeadsFrom first (take (at + 1) es)) (drop (at + 1) es) end old mid state
+      → Possible before.states earlier × Exchanges before.hands e.command e.reply earlier state → new ≡ mid ++ state ∷ []
+      → GoesBack first.hands (LeadsFrom first (take at es)) (drop at es) end old new earlier
+  back-more end state earlier old mid new g from put = rw split (record {
+    from = (follows.states earlier).0 from.0;
+    after = state ∷ g.after;
+    is_run = (subst (λ h. Exchanges h e.command e.reply earlier state) follows.hands from.1, g.is_run);
+    is_end = g.is_end;
+    put = put ∙ ap (λ (l : List State). l ++ state ∷ []) g.put ∙ append_assoc old (reverse g.after) (state ∷ [])
+        ∙ ap (λ (l : List State). old ++ l) (sym (reverse-append (state ∷ []) g.after));
+  })
+    where
+      split : drop at es ≡ e ∷ drop (at + 1) es
+      split = let next : suc at ≡ at + 1 = omega arith in cc (drop-cons es at e low)

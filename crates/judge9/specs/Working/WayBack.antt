@@ -1,0 +1,54 @@
+-- The way back from the end of a capture to a run of the deck.
+use Rattle.std.specs.Prelude.{◌++◌, ◌-◌, ◌<◌, ◌↔◌, ◌∷◌, ◌≡◌, ◌≤◌}
+use Rattle.std.specs.List.{AllPairs}
+use Rattle.judge9.specs.Working.{[], All, Exchange, Exchanges, Hands, IsRunFrom, last_state, length, List, None, Option, Possible, reverse, slice_get, Some, State, take, Tracked, ℕ}
+use Rattle.judge9.specs.declared.way_back.Mark.{Mark}
+use Rattle.std.proofs.Common.{slice_range}
+
+-- from one of the states X these exchanges lead to the state t
+abbrev pub Leads : Hands → (State → Type 0) → List Exchange → State → Type 0
+Leads h X [] t = X t
+Leads h X (e ∷ es) t = Leads h (λ u. (s : State) × X s × Exchanges h e.command e.reply s u) es t
+
+-- from one of the states that the first tracker keeps
+abbrev pub LeadsFrom : Tracked → List Exchange → State → Type 0
+LeadsFrom first es t = Leads first.hands (Possible first.states) es t
+
+-- a tracker keeps exactly those to which these exchanges lead
+pub record FollowsFrom (first : Tracked) (es : List Exchange) (t : Tracked) : Type 0 where
+  pub states : (s : State) → Possible t.states s ↔ LeadsFrom first es s
+  pub hands : t.hands ≡ first.hands
+
+-- the last of these marks, if there is one
+abbrev pub last_mark : List Mark → Option Mark
+last_mark marks = slice_get marks (length marks - 1)
+
+-- how many exchanges come before it, and none where there is none
+abbrev pub place_of : Option Mark → ℕ
+place_of None = 0
+place_of (Some m) = m.place
+
+-- its tracker, or the first one
+abbrev pub tracked_by : Tracked → Option Mark → Tracked
+tracked_by first None = first
+tracked_by first (Some m) = m.tracker
+
+-- each of these trackers keeps the states to which the exchanges before it lead, and they are in order, before this place
+pub record AreMarks (first : Tracked) (es : List Exchange) (at : ℕ) (marks : List Mark) : Type 0 where
+  pub follow : All (λ m. FollowsFrom first (take m.place es) m.tracker) marks
+  pub ascend : AllPairs (λ m n. m.place < n.place) marks
+  pub within : All (λ m. m.place < at) marks
+
+-- a mark after the tracker at a place, up to this one
+pub record IsNextMark (place : ℕ) (t : Tracked) (es : List Exchange) (at : ℕ) (m : Mark) : Type 0 where
+  pub on : place < m.place
+  pub within : m.place ≤ at
+  pub follows : FollowsFrom t (slice_range es place m.place) m.tracker
+
+-- these are the states after the exchanges in a run from s to `end`, and they were put after others, the last one first
+pub record GoesBack (h : Hands) (X : State → Type 0) (es : List Exchange) (end : State) (old new : List State) (s : State) : Type 0 where
+  pub from : X s
+  pub after : List State
+  pub is_run : IsRunFrom h s es after
+  pub is_end : last_state s after ≡ end
+  pub put : new ≡ old ++ reverse after

@@ -1,0 +1,212 @@
+//! The way back from the end of a capture to a run of the deck.
+//!
+//! A run is found backwards: from a state in which the deck can be at the end, through the exchanges, to one before the first
+//! of them. That needs the states that were possible before each exchange. They are made again from the first ones, and kept
+//! at marks: few where they take much memory, and before each exchange of the range that is gone back through next.
+ghost use Rattle.std.specs.Prelude.{◌≡◌, ◌<◌, ◌≤◌, ◌+◌, ◌++◌, [], ◌∷◌, IfOk, OnOk, length};
+ghost use Rattle.deck9.specs.Run.{IsRun};
+ghost use Rattle.deck9.specs.Step.{Exchanges};
+ghost use Rattle.deck9.specs.declared.state.State.{State as AState};
+ghost use Rattle.judge9.specs.Working.Endings.{KeepsEnds};
+ghost use Rattle.judge9.specs.Working.WayBack.{AreMarks, FollowsFrom, GoesBack, IsNextMark, LeadsFrom, last_mark, place_of, tracked_by};
+ghost use Rattle.track9.specs.Tracker.{Possible};
+
+use crate::following::follow;
+use block9::Exchange;
+use deck9::{Hands, State};
+use sets25::{SharedSet, SpanSet, TimeSet};
+use std::alloc::{AllocError, Global};
+use track9::Tracker;
+
+/// A tracker, and how many of the exchanges come before it.
+#[derive(Drop)]
+pub(crate) struct Mark {
+    place: usize,
+    tracker: Tracker<SharedSet>,
+}
+
+/// How close marks are put. It bears on speed and memory alone.
+#[derive(Clone, Copy)]
+pub(crate) struct Pace {
+    /// Through so many exchanges there is a mark before each.
+    dense: usize,
+    /// Elsewhere the next mark comes so many exchanges on, but at most halfway to where marks are dense.
+    apart: usize,
+}
+
+impl Pace {
+    /// How close marks are put before so many exchanges, where a tracker keeps at most so many spans of times.
+    ///
+    /// Marks that are as far apart as each is heavy take together as much memory as the exchanges do, and so do dense ones.
+    pub(crate) fn of(exchanges: usize, spans: usize) -> Pace {
+        /// What a tracker takes beside its times, as spans of 8 bytes.
+        const BARE: usize = 128;
+        /// What dense marks may take however few the exchanges are, as spans.
+        const LEAST: usize = 32768;
+
+        let weight = spans.saturating_add(BARE);
+        Pace {
+            dense: exchanges.max(LEAST) / weight,
+            apart: weight,
+        }
+    }
+
+    /// How far on the next mark comes, where so many exchanges lie between the one before and the place that is led up to.
+    fn step(self, between: usize) -> usize
+        requires { 0 < between }
+        ensures some { 0 < result }
+        ensures within { result ≤ between }
+    {
+        if between <= self.dense {
+            return 1;
+        }
+        self.apart.max(1).min(between - between / 2)
+    }
+}
+
+/// The states after each of these exchanges in a run that ends in a state of this tracker.
+pub(crate) fn states_to(
+    alloc: Global,
+    hands: Hands,
+    exchanges: &[Exchange],
+    end: &Tracker<SpanSet>,
+    pace: Pace,
+) -> Result<Vec<State>, AllocError>
+    requires keeps { KeepsEnds hands exchanges.now end.now }
+    requires some { (s : AState) × Possible end.now.states s }
+    ensures { IfOk result (λ states. IsRun hands exchanges.now states.items) }
+{
+    let first = Tracker::new(alloc, hands)?;
+    let mut states = Vec::new(alloc);
+    let found = go_back(alloc, &first, exchanges, end, pace, &mut states);
+    drop(first);
+    match found {
+        Ok(_) => {}
+        Err(error) => return Err(error),
+    }
+    states.reverse();
+    Ok(states)
+}
+
+/// Goes back from some state of the tracker `end` through all of these exchanges to one of the states that the tracker before
+/// them keeps. The states after each exchange are put after `states`, the last one first.
+pub(crate) fn go_back<S: TimeSet>(
+    alloc: Global,
+    first: &Tracker<SharedSet>,
+    exchanges: &[Exchange],
+    end: &Tracker<S>,
+    pace: Pace,
+    states: &mut Vec<State>,
+) -> Result<State, AllocError>
+    requires follows { FollowsFrom first.now exchanges.now end.now }
+    requires some { (s : AState) × Possible end.now.states s }
+    ensures { IfOk result (λ s. (t : AState) × GoesBack first.now.hands (Possible first.now.states) exchanges.now t states.old.items states.new.items s) }
+{
+    let Some(state) = end.member() else {
+        unreachable!();
+    };
+    go_back_to(alloc, first, exchanges, state, pace, states)
+}
+
+/// Goes back from the state `end` through all of these exchanges.
+fn go_back_to(
+    alloc: Global,
+    first: &Tracker<SharedSet>,
+    exchanges: &[Exchange],
+    end: State,
+    pace: Pace,
+    states: &mut Vec<State>,
+) -> Result<State, AllocError>
+    requires { LeadsFrom first.now exchanges.now end }
+    ensures { IfOk result (GoesBack first.now.hands (Possible first.now.states) exchanges.now end states.old.items states.new.items) }
+{
+    let mut marks = Vec::new(alloc);
+    let mut state = end;
+    let mut at = exchanges.len();
+    while at > 0 {
+        at -= 1;
+        lead_up(first, &mut marks, exchanges, at, pace)?;
+        let (_, before) = nearest(first, &marks);
+        state = step_back(before, &exchanges[at], state, states)?;
+        drop(marks.pop());
+    }
+    Ok(state)
+}
+
+/// Puts marks after the last one, until a tracker is the one before the exchange at `at`.
+fn lead_up(
+    first: &Tracker<SharedSet>,
+    marks: &mut Vec<Mark>,
+    exchanges: &[Exchange],
+    at: usize,
+    pace: Pace,
+) -> Result<(), AllocError>
+    requires place { at < length exchanges.now }
+    requires marks { AreMarks first.now exchanges.now (at + 1) marks.old.items }
+    ensures marks { OnOk result (AreMarks first.now exchanges.now (at + 1) marks.new.items) }
+    ensures nearest { OnOk result (place_of (last_mark marks.new.items) ≡ at) }
+{
+    loop {
+        let (place, tracker) = nearest(first, marks);
+        if place == at {
+            return Ok(());
+        }
+        let next = next_mark(place, tracker, exchanges, at, pace)?;
+        marks.push(next)?;
+    }
+}
+
+/// The last tracker that is marked, or else the first one, and how many exchanges come before it.
+fn nearest<'a>(first: &'a Tracker<SharedSet>, marks: &'a [Mark]) -> (usize, &'a Tracker<SharedSet>)
+    ensures place { result.0 ≡ place_of (last_mark marks.now) }
+    ensures tracker { result.1.now ≡ tracked_by first.now (last_mark marks.now) }
+{
+    match marks.last() {
+        Some(mark) => (mark.place, &mark.tracker),
+        None => (0, first),
+    }
+}
+
+/// The mark after the tracker at a place, on the way to the exchange at `at`.
+fn next_mark(
+    place: usize,
+    tracker: &Tracker<SharedSet>,
+    exchanges: &[Exchange],
+    at: usize,
+    pace: Pace,
+) -> Result<Mark, AllocError>
+    requires on { place < at }
+    requires within { at < length exchanges.now }
+    ensures { IfOk result (IsNextMark place tracker.now exchanges.now at) }
+{
+    let next = place + pace.step(at - place);
+    let mut after = tracker.snapshot()?;
+    match follow(&mut after, &exchanges[place..next]) {
+        Ok(()) => Ok(Mark {
+            place: next,
+            tracker: after,
+        }),
+        Err(error) => {
+            drop(after);
+            Err(error)
+        }
+    }
+}
+
+/// Puts the state after an exchange after the others, and answers one that it may come from.
+fn step_back(
+    before: &Tracker<SharedSet>,
+    exchange: &Exchange,
+    state: State,
+    states: &mut Vec<State>,
+) -> Result<State, AllocError>
+    requires { (s : AState) × Possible before.now.states s × Exchanges before.now.hands exchange.now.command exchange.now.reply s state }
+    ensures from { IfOk result (λ s. Possible before.now.states s × Exchanges before.now.hands exchange.now.command exchange.now.reply s state) }
+    ensures put { OnOk result (states.new.items ≡ states.old.items ++ state ∷ []) }
+{
+    let Some(earlier) = before.before(&exchange.command, &exchange.reply, &state) else {
+        unreachable!();
+    };
+    states.push(state)?;
+    Ok(earlier)
+}
