@@ -27,33 +27,15 @@ reader=$work/crates/read_rows/out/read_rows
 [ -x "$reader" ] || { cat "$work/log"; echo "the reading loop could not be built"; exit 1; }
 
 PYTHONDONTWRITEBYTECODE=1 PYTHONPATH=$top/bench/lib python3 - "$program" "$reader" "$work" "$turns" <<'PY'
-import os, random, re, shutil, subprocess, sys, time
-from blocks import ACK, block, time_bytes
+import os, re, shutil, subprocess, sys, time
+from blocks import ACK, block, mixed, shuffled_presets, time_bytes, write
 program, reader, work, turns = sys.argv[1:]
 RECORDS = 4000000
 COUNTED = 200000
 
 PLAY = [(block(2, 0x01), ACK)]
 
-# What an editor asks and sets while it looks for an edit, of IN (0) or of OUT (1); the deck is not in local, and IN is set.
-def mixed(turn, register=0):
-    at = time_bytes(turn * 7 % 2160000)
-    shifted = time_bytes((turn * 7 + 1) % 2160000)
-    yield block(6, 0x20, 0x04), block(7, 0x20, 0x00, 0x20, 0x00, 2 * register + 1)
-    yield block(6, 0x0C, 0x01), block(7, 0x04, *at)
-    yield block(4, 0x14 + register, *at), ACK
-    yield block(6, 0x10 + register), block(7, 0x10 + register, *at)
-    yield block(4, 0x18 + 2 * register), ACK
-    yield block(6, 0x10 + register), block(7, 0x10 + register, *shifted)
-
-# Presets to a deck in local whose IN was read, and which may have left each undone: each at another time, in no order.
-def shuffled_presets():
-    yield block(6, 0x20, 0x01), block(7, 0x20, 0x01)
-    yield block(6, 0x10), block(7, 0x10, *time_bytes(0))
-    for frames in random.Random(9).sample(range(2160000), RECORDS // 10):
-        yield block(4, 0x14, *time_bytes(frames)), ACK
-
-# A deck that is not in local, a preset of IN, and a sense that answers another time; and a preset of OUT.
+# A deck that is in REMOTE, a preset of IN, and a sense that answers another time; and a preset of OUT.
 REMOTE = block(6, 0x20, 0x01), block(7, 0x20, 0x00)
 PRESET = block(4, 0x14, *time_bytes(900000)), ACK
 SENSED = block(6, 0x10), block(7, 0x10, *time_bytes(990000))
@@ -71,15 +53,15 @@ def length(exchanges):
 TURN = length(mixed(0))
 
 # As many turns as there is room for, and then what `exchanges` gives each time it is asked.
-def behind_turns(exchanges):
+def after_turns(exchanges):
     for turn in range((RECORDS - length(exchanges())) // TURN):
         yield from mixed(turn)
     yield from exchanges()
 
 def contradicting_at_end():
-    return behind_turns(lambda: (REMOTE, PRESET, SENSED))
+    return after_turns(lambda: (REMOTE, PRESET, SENSED))
 
-# The first of those that contradict one another is the preset, since each status reply says that the deck is not in local.
+# The first of those that contradict one another is the preset, since each status reply says that the deck is in REMOTE.
 # Between it and the last are so many turns that leave IN alone, and three exchanges more.
 def contradicting_across(turns_between):
     def exchanges():
@@ -87,24 +69,11 @@ def contradicting_across(turns_between):
         for turn in range(turns_between):
             yield from mixed(turn, 1)
         yield from (REMOTE, REMOTE, SENSED)
-    return behind_turns(exchanges)
+    return after_turns(exchanges)
 
 # How many records the first of them lies before the last.
 def apart(turns_between):
     return turns_between * TURN + length([PRESET, OUT_PRESET, REMOTE, REMOTE])
-
-def write(path, exchanges, most=RECORDS):
-    now = records = 0
-    with open(path, 'w') as text:
-        text.write('time_us,wire,byte\n')
-        for asked, answered in exchanges:
-            for wire, bytes_sent in (('C', asked), ('D', answered)):
-                for byte in bytes_sent:
-                    if records == most:
-                        return
-                    now += 400
-                    records += 1
-                    text.write('%d,%s,%02X\n' % (now, wire, byte))
 
 # Processor time, of the program and of the system for it: how long it waits for a processor does not count.
 def seconds(words, capture, out, answer=0):
@@ -136,7 +105,7 @@ def instructions(words, capture):
 check, explain, run, why = ([program, verb] for verb in ('check', 'explain', 'run', 'why'))
 for name, exchanges in (('PLAY and ACK', lambda turn: PLAY), ('mixed traffic', mixed)):
     capture = f'{work}/capture.csv'
-    write(capture, all_turns(exchanges))
+    write(capture, all_turns(exchanges), RECORDS)
     runs = [(seconds(check, capture, '/dev/null'), seconds([reader], capture, '/dev/null'),
              seconds(explain, capture, f'{work}/lines'), seconds(run, capture, f'{work}/lines')) for _ in range(int(turns))]
     judged, read, told, found = (min(column) for column in zip(*runs))
@@ -151,7 +120,7 @@ for name, exchanges in (('PLAY and ACK', lambda turn: PLAY), ('mixed traffic', m
         print(f'{name}: instructions a record: reading {read:.0f}, check {judged:.0f}, ratio {judged / read:.2f}; '
               f'explain {told:.0f}, ratio to check {told / judged:.2f}; run {found:.0f}, ratio to check {found / judged:.2f}')
 
-captures = {'PLAY and ACK': all_turns(lambda turn: PLAY), 'shuffled presets': shuffled_presets(), 'half as many': shuffled_presets()}
+captures = {'PLAY and ACK': all_turns(lambda turn: PLAY), 'shuffled presets': shuffled_presets(RECORDS // 10), 'half as many': shuffled_presets(RECORDS // 10)}
 for name, exchanges in captures.items():
     write(f'{work}/{name}.csv', exchanges, RECORDS // 2 if name == 'half as many' else RECORDS)
 for verb in 'check', 'explain':
@@ -171,7 +140,7 @@ for name, exchanges, records in (('contradicting at the end', contradicting_at_e
                                  ('contradicting within 94', contradicting_across(15), apart(15)),
                                  ('contradicting from afar', contradicting_across(66666), apart(66666))):
     capture = f'{work}/capture.csv'
-    write(capture, exchanges)
+    write(capture, exchanges, RECORDS)
     runs = [(seconds(check, capture, '/dev/null', 1), seconds(why, capture, f'{work}/lines', 1)) for _ in range(int(turns))]
     if told_apart(f'{work}/lines') != (3, records):
         sys.exit(f'{name}: {told_apart(f"{work}/lines")} was told')
