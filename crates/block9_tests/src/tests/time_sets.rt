@@ -1,4 +1,4 @@
-//! Tests of both kinds of set: each call on examples, and both kinds side by side.
+//! Tests of sets: each call on examples of each kind, and the two plain kinds side by side.
 
 use crate::tests::same;
 use sets25::{ListSet, SpanSet, TimeSet};
@@ -8,14 +8,14 @@ use std::test::Fail;
 use tc25::TimeCode;
 
 /// Frames round midnight and round noon, at which sets are compared.
-const FRAMES: [u32; 24] = [
+pub(super) const FRAMES: [u32; 24] = [
     0, 1, 2, 3, 4, 5, 6, 7, 8, 9, 1_079_998, 1_079_999, 1_080_000, 1_080_001, 1_080_002, 2_159_991,
     2_159_992, 2_159_993, 2_159_994, 2_159_995, 2_159_996, 2_159_997, 2_159_998, 2_159_999,
 ];
 
 /// A call that changes a set.
 #[derive(Clone, Copy, Debug)]
-enum Call {
+pub(super) enum Call {
     ShiftNext,
     ShiftPrev,
     WidenNext,
@@ -110,11 +110,11 @@ fn examples() -> [Example; 12] {
     ]
 }
 
-fn time(frame: u32) -> TimeCode {
+pub(super) fn time(frame: u32) -> TimeCode {
     TimeCode::from_frames(frame).unwrap_or_default()
 }
 
-fn make_call<S: TimeSet>(set: &mut S, call: Call) -> Result<(), AllocError> {
+pub(super) fn make_call<S: TimeSet>(set: &mut S, call: Call) -> Result<(), AllocError> {
     match call {
         Call::ShiftNext => set.shift_next(),
         Call::ShiftPrev => set.shift_prev(),
@@ -125,7 +125,7 @@ fn make_call<S: TimeSet>(set: &mut S, call: Call) -> Result<(), AllocError> {
     }
 }
 
-fn set_of<S: TimeSet>(alloc: Global, frames: &[u32]) -> Result<S, AllocError> {
+pub(super) fn set_of<S: TimeSet>(alloc: Global, frames: &[u32]) -> Result<S, AllocError> {
     let mut set = S::none(alloc);
     for frame in frames {
         set.add(time(*frame))?;
@@ -134,7 +134,7 @@ fn set_of<S: TimeSet>(alloc: Global, frames: &[u32]) -> Result<S, AllocError> {
 }
 
 /// Whether the members at the frames that are compared are the given ones.
-fn has_only<S: TimeSet>(set: &S, frames: &[u32]) -> bool {
+pub(super) fn has_only<S: TimeSet>(set: &S, frames: &[u32]) -> bool {
     for frame in FRAMES {
         if set.contains(time(frame)) != frames.contains(&frame) {
             return false;
@@ -165,7 +165,7 @@ fn follows_examples<S: TimeSet>(rt: &impl Abort, alloc: Global) -> Result<(), Al
 }
 
 /// Holds that a set has no other members at the frames that are compared, which time is its only one, and which its least.
-fn holds<S: TimeSet>(
+pub(super) fn holds<S: TimeSet>(
     rt: &impl Abort,
     set: &S,
     frames: &[u32],
@@ -241,38 +241,34 @@ fn all_but_the_last<S: TimeSet>(alloc: Global) -> Result<S, AllocError> {
     Ok(set)
 }
 
+fn fills_the_day<S: TimeSet>(rt: &impl Abort, alloc: Global) -> Result<(), AllocError> {
+    let mut set: S = all_but_the_last(alloc)?;
+    set.widen_next()?;
+    holds(rt, &set, &FRAMES, None, Some(0));
+    Ok(())
+}
+
+/// The examples of each kind of set.
+pub(super) fn is_a_set<S: TimeSet>(rt: &impl Abort, alloc: Global) -> Result<(), AllocError> {
+    follows_examples::<S>(rt, alloc)?;
+    knows_one_time::<S>(rt, alloc)?;
+    copies::<S>(rt, alloc)?;
+    keeps_the_whole_day::<S>(rt, alloc)?;
+    fills_the_day::<S>(rt, alloc)
+}
+
 #[test]
 fn lists(rt: HostRuntime) -> Result<(), Fail> {
-    follows_examples::<ListSet>(&rt, rt.alloc())?;
-    knows_one_time::<ListSet>(&rt, rt.alloc())?;
-    copies::<ListSet>(&rt, rt.alloc())?;
-    keeps_the_whole_day::<ListSet>(&rt, rt.alloc())?;
-    let mut set: ListSet = all_but_the_last(rt.alloc())?;
-    set.widen_next()?;
-    same(
-        &rt,
-        has_only(&set, &FRAMES),
-        true,
-        "all but the last, widened",
-    );
+    is_a_set::<ListSet>(&rt, rt.alloc())?;
     Ok(())
 }
 
 #[test]
 fn spans(rt: HostRuntime) -> Result<(), Fail> {
-    follows_examples::<SpanSet>(&rt, rt.alloc())?;
-    knows_one_time::<SpanSet>(&rt, rt.alloc())?;
-    copies::<SpanSet>(&rt, rt.alloc())?;
-    keeps_the_whole_day::<SpanSet>(&rt, rt.alloc())?;
+    is_a_set::<SpanSet>(&rt, rt.alloc())?;
     let mut set: SpanSet = all_but_the_last(rt.alloc())?;
     same(&rt, set.spans(), 1, "all but the last");
     set.widen_next()?;
-    same(
-        &rt,
-        has_only(&set, &FRAMES),
-        true,
-        "all but the last, widened",
-    );
     same(&rt, set.spans(), 1, "all but the last, widened");
     set.shift_prev()?;
     same(&rt, set.spans(), 1, "all but the last, widened and shifted");
@@ -299,7 +295,7 @@ fn fourth_frame(turn: u32, from: u32) -> TimeCode {
     time(turn % MANY * 1_201 % MANY * 4 + from % 4)
 }
 
-fn add_fourths<S: TimeSet>(set: &mut S, from: u32) -> Result<(), AllocError> {
+pub(super) fn add_fourths<S: TimeSet>(set: &mut S, from: u32) -> Result<(), AllocError> {
     for turn in 0..MANY {
         set.add(fourth_frame(turn, from))?;
     }
@@ -307,7 +303,7 @@ fn add_fourths<S: TimeSet>(set: &mut S, from: u32) -> Result<(), AllocError> {
 }
 
 /// Whether the members, as far as frame 7,999, are each fourth frame from one on.
-fn has_fourths<S: TimeSet>(set: &S, from: u32) -> bool {
+pub(super) fn has_fourths<S: TimeSet>(set: &S, from: u32) -> bool {
     for turn in 0..MANY {
         for other in 0..4 {
             if set.contains(fourth_frame(turn, other)) != (other == from) {
@@ -359,7 +355,7 @@ fn many_spans_that_meet(rt: HostRuntime) -> Result<(), Fail> {
 }
 
 /// A call from a drawn number, mostly one that adds or moves.
-fn call_from(drawn: u32) -> Call {
+pub(super) fn call_from(drawn: u32) -> Call {
     let frame = FRAMES[(drawn >> 8) as usize % 24];
     match drawn >> 28 {
         0 | 1 => Call::ShiftNext,
@@ -369,6 +365,17 @@ fn call_from(drawn: u32) -> Call {
         8 => Call::KeepOnly(frame),
         _ => Call::Add(frame),
     }
+}
+
+/// Holds that two sets answer the same.
+pub(super) fn agree<S: TimeSet, T: TimeSet>(rt: &impl Abort, one: &S, other: &T, turn: (u32, u32)) {
+    for frame in FRAMES {
+        let time = time(frame);
+        same(rt, one.contains(time), other.contains(time), (turn, frame));
+    }
+    same(rt, one.is_empty(), other.is_empty(), turn);
+    same(rt, one.only(), other.only(), turn);
+    same(rt, one.least(), other.least(), turn);
 }
 
 #[test]
@@ -381,18 +388,7 @@ fn both_kinds_agree(rt: HostRuntime) -> Result<(), Fail> {
         let call = call_from(drawn);
         make_call(&mut spans, call)?;
         make_call(&mut list, call)?;
-        for frame in FRAMES {
-            let time = time(frame);
-            same(
-                &rt,
-                spans.contains(time),
-                list.contains(time),
-                (turn, frame),
-            );
-        }
-        same(&rt, spans.is_empty(), list.is_empty(), turn);
-        same(&rt, spans.only(), list.only(), turn);
-        same(&rt, spans.least(), list.least(), turn);
+        agree(&rt, &spans, &list, (0, turn));
     }
     Ok(())
 }
