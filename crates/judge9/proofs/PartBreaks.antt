@@ -15,7 +15,8 @@ use Rattle.judge9.proofs.TellLemmas.{cut_counts}
 -- ---- after the line of a break
 
 -- a record broke a rule, the last one that was read, and these are the texts of the parts up to that break
-pub record AfterBreak {R : Type 0} (T : BrokenPart → List ℕ → Type 0) (view : View) (hands : Hands) (rows : Option Rows) (j : Judging R) (reason : Reason) (breaking : LineByte)
+pub record AfterBreak {R : Type 0} (T : BrokenPart → List ℕ → Type 0) (view : View) (hands : Hands) (rows : Option Rows) (j : Judging R) (reason : Reason)
+    (breaking : LineByte)
     (broken : List BrokenPart) (texts : List ℕ) : Type 0 where
   pub items : List LineByte
   pub front : Progress R
@@ -30,7 +31,8 @@ pub record AfterBreak {R : Type 0} (T : BrokenPart → List ℕ → Type 0) (vie
 -- one part more
 pub exchanges_push : (broken : List BrokenPart) (b : BrokenPart) → exchanges_of (broken ++ b ∷ []) ≡ exchanges_of broken ++ b.part.exchanges
 exchanges_push [] b = append-nil b.part.exchanges
-exchanges_push (x ∷ broken) b = ap (λ l. x.part.exchanges ++ l) (exchanges_push broken b) ∙ sym (append_assoc x.part.exchanges (exchanges_of broken) b.part.exchanges)
+exchanges_push (x ∷ broken) b = ap (λ l. x.part.exchanges ++ l) (exchanges_push broken b)
+    ∙ sym (append_assoc x.part.exchanges (exchanges_of broken) b.part.exchanges)
 
 texts_push : (T : BrokenPart → List ℕ → Type 0) (broken : List BrokenPart) (b : BrokenPart) (texts text : List ℕ) → AreTextsOf T broken texts
     → T b text → AreTextsOf T (broken ++ b ∷ []) (texts ++ text)
@@ -55,7 +57,8 @@ broken_at {past = past} {front = front} {es = es} f r reason = record {
 abbrev pub break_line : ℕ → Reason → List ℕ
 break_line at reason = line_of (Verdict.No at reason)
 
-pub after_break : {R : Type 0} {T : BrokenPart → List ℕ → Type 0} {view : View} {hands : Hands} {rows : Option Rows} {broken : List BrokenPart} {past : List LineByte}
+pub after_break : {R : Type 0} {T : BrokenPart → List ℕ → Type 0} {view : View} {hands : Hands} {rows : Option Rows} {broken : List BrokenPart}
+    {past : List LineByte}
     {old begun now : Option (List ℕ)} {front : Judging R} {es : List Exchange} (j : Judging R) (before : Before T broken past old begun)
     (f : SoFar view hands rows past front begun now es) (r : LineByte) (reason : Reason) (text : List ℕ) → T (broken_at f r reason) text
     → GivesRecord front.rows r j.rows → Breaks hands f.items r reason
@@ -72,7 +75,8 @@ after_break {T = T} {view = view} {hands = hands} {broken = broken} {past = past
       gives = gives;
       are_texts = texts_push T broken b before.texts text before.are_texts is;
       few = rw (exchanges_push broken b) (omega (arith, before.few, size, counts.0, length-append (exchanges_of broken) es));
-      fits = rw (exchanges_push broken b) (omega (arith, before.fits, size, cut_len f.items es front.pairer.tail f.cut, records_joined (exchanges_of broken) es));
+      fits = rw (exchanges_push broken b)
+          (omega (arith, before.fits, size, cut_len f.items es front.pairer.tail f.cut, records_joined (exchanges_of broken) es));
       onward = λ after others left parts.
           let rest : AreParts hands (rest_after (length past + length f.items) reason r after) others left =
           subst (λ n. AreParts hands (rest_after n reason r after) others left) size parts in
@@ -80,7 +84,8 @@ after_break {T = T} {view = view} {hands = hands} {broken = broken} {past = past
           rw (append_assoc past f.items (r ∷ after), append_assoc broken (b ∷ []) others) all;
     }
 
-module _ {R : Type 0} {T : BrokenPart → List ℕ → Type 0} {view : View} {hands : Hands} {rows : Option Rows} {j : Judging R} {reason : Reason} {breaking : LineByte} {broken : List BrokenPart}
+module _ {R : Type 0} {T : BrokenPart → List ℕ → Type 0} {view : View} {hands : Hands} {rows : Option Rows} {j : Judging R} {reason : Reason}
+    {breaking : LineByte} {broken : List BrokenPart}
     {texts : List ℕ} (h : AfterBreak T view hands rows j reason breaking broken texts) where
   -- the record that broke is the first of the next part
   at_breaking : begins_next_part reason breaking ≡ true → (more : List LineByte) → Onward hands broken h.items (breaking ∷ more)
@@ -115,7 +120,8 @@ module _ {R : Type 0} {T : BrokenPart → List ℕ → Type 0} {view : View} {ha
 
   -- the parts before the next one
   before_next : {old now : Option (List ℕ)} (past : List LineByte) → length h.items ≤ length past → Appends old now texts → Before T broken past old now
-  before_next past longer wrote = record { texts = texts; are_texts = h.are_texts; wrote = wrote; few = omega (arith, h.few, longer); fits = omega (arith, h.fits, longer) }
+  before_next past longer wrote = record { texts = texts; are_texts = h.are_texts; wrote = wrote; few = omega (arith, h.few, longer);
+      fits = omega (arith, h.fits, longer) }
 
   -- the judging stops before the next part
   stopped : {P : Type 0} → ((past : List LineByte) (keeps : Keeps view hands past [] []) (more : List LineByte) → keeps.text ≡ []
@@ -156,7 +162,8 @@ module _ {R : Type 0} {T : BrokenPart → List ℕ → Type 0} {view : View} {ha
           ⊎ ((e : CaptureError) × GivesRefusal mid e k.rows × (r ≡ Err (refusal_of e)))
           → Arrives T view hands rows old now broken [] None r k
       goes_on passed mid after none gives (inl (first, may, new)) =
-          arrive_first view (before_next (past_of passed) (longer passed) wrote) new.begins (rw new.rows (read_past passed gives)) (at_first passed first after none may) new.with_first
+          arrive_first view (before_next (past_of passed) (longer passed) wrote) new.begins (rw new.rows (read_past passed gives))
+              (at_first passed first after none may) new.with_first
       goes_on passed mid after none gives (inr (inl (is, ends, begins))) =
           let read = read_past passed gives in
           let begins_so : Begins hands (record { rows = mid; pairer = k.pairer; tracker = k.tracker }) =
@@ -172,7 +179,8 @@ module _ {R : Type 0} {T : BrokenPart → List ℕ → Type 0} {view : View} {ha
             ended = λ nil. refl;
           })
       goes_on passed mid after none gives (inr (inr (e, refusal, is))) =
-          rw is (parts-refusal broken texts h.are_texts (keeps-none view hands (past_of passed) refl) (rw append-nil (read_past passed gives)) (at_end passed after none) refusal refl
+          rw is (parts-refusal broken texts h.are_texts (keeps-none view hands (past_of passed) refl) (rw append-nil (read_past passed gives))
+              (at_end passed after none) refusal refl
           (rw append-nil wrote))
 
       by : (b : Bool) → begins_next_part reason breaking ≡ b → MatchBool b ((before : Progress R) → GivesRecord before breaking j.rows

@@ -55,7 +55,8 @@ pub at_start : {R : Type 0} (T : BrokenPart → List ℕ → Type 0) (view : Vie
 at_start T view hands old j k result fresh come = arrive (before_none T old) None (so_far-start fresh) (onward-start hands) (λ none. refl) come
 
 -- or there was no memory for the tracker, and nothing was read
-pub nothing_told : (T : BrokenPart → List ℕ → Type 0) (view : View) (hands : Hands) (rows : Option Rows) (old : Option (List ℕ)) → PartsTold T view hands rows (Err JudgeError.OutOfMemory) old old
+pub nothing_told : (T : BrokenPart → List ℕ → Type 0) (view : View) (hands : Hands) (rows : Option Rows) (old : Option (List ℕ)) → PartsTold T view hands rows
+    (Err JudgeError.OutOfMemory) old old
 nothing_told T view hands rows old =
     told_in_parts [] [] refl (keeps-none view hands [] refl) {left = rows} [] (onward-start hands []) (seen rows rows [] None (unread rows) no_rows-can_be)
     (Err JudgeError.OutOfMemory) (Appends-nil old)
@@ -79,7 +80,8 @@ module _ {R : Type 0} {T : BrokenPart → List ℕ → Type 0} {view : View} {ha
 
 -- what a view shows of such a part
 pub shown_text : {R : Type 0} {view : View} {hands : Hands} {rows : Option Rows} {past : List LineByte} {begun now : Option (List ℕ)} {front : Judging R}
-    {es : List Exchange} (j : Judging R) (f : SoFar view hands rows past front begun now es) (last : LineByte) (reason : Reason) → GivesRecord front.rows last j.rows
+    {es : List Exchange} (j : Judging R) (f : SoFar view hands rows past front begun now es) (last : LineByte) (reason : Reason)
+        → GivesRecord front.rows last j.rows
     → IsTextOf (Telling.Shown view) hands (broken_at f last reason) (f.text ++ break_line j.rows.given reason)
 shown_text {past = past} j f last reason gives =
     let number : j.rows.given ≡ number_of (broken_at f last reason) = omega (arith, gives.given, f.are_given.given, length-append past f.items) in
@@ -98,7 +100,8 @@ pairing_text {past = past} {front = front} {es = es} Telling.Why hands j f last 
     let own = unmoved hands (length past) (length f.items + 1) reason last front.pairer.tail es end_us why (rw (k.0, k.1, tail, number) at says) in
     let broken : IsBreakAfter (f.items ++ last ∷ []) (length f.items + 1) front.pairer.tail last =
     record { before = f.items; after = []; split = refl; number = refl; exchanges = es; cut = f.cut } in
-    let both = broken_why hands (record { records = f.items ++ last ∷ []; fault = None }) (length f.items + 1) reason last front.pairer.tail es end_us own.0 own.1
+    let both = broken_why hands (record { records = f.items ++ last ∷ []; fault = None })
+        (length f.items + 1) reason last front.pairer.tail es end_us own.0 own.1
     other (broken, refl, ended) in
     rw f.explained (own.0, both.0, both.1, is ∙ ap (text_of_why hands) own.2)
 
@@ -115,10 +118,12 @@ no_run_text {past = past} {front = front} {es = es} Telling.Why hands j f last e
     let read : List LineByte = f.items ++ last ∷ [] in
     let up_to : take (length f.items + 1) read ≡ read = ap (λ n. take n read) (sym (length_push f.items last)) ∙ take-length read in
     let cut = cut-exchange f.items es front.pairer.tail last e f.cut feeds.takes.does in
-    let both = no_run_why hands (record { records = read; fault = None }) (length f.items + 1) last j.pairer.tail (es ++ e ∷ []) us own.0 own.1 (rw up_to cut) in
+    let both = no_run_why hands (record { records = read; fault = None }) (length f.items + 1) last j.pairer.tail (es ++ e ∷ []) us own.0 own.1
+        (rw up_to cut) in
     rw f.explained (own.0, both.0, both.1, is ∙ ap (text_of_why hands) own.2)
 
-module _ {R : Type 0} {T : BrokenPart → List ℕ → Type 0} {view : View} {hands : Hands} {rows : Option Rows} {broken : List BrokenPart} {old now : Option (List ℕ)} {j : Judging R}
+module _ {R : Type 0} {T : BrokenPart → List ℕ → Type 0} {view : View} {hands : Hands} {rows : Option Rows} {broken : List BrokenPart}
+    {old now : Option (List ℕ)} {j : Judging R}
     {es : List Exchange} {end_us : Option ℕ} where
   -- by a rule of pairing
   pub at_break : (k : Judging R) (new : Option (List ℕ)) {reason : Reason} {last : LineByte} (text : List ℕ) (result : Result Turn JudgeError)
@@ -227,7 +232,8 @@ module _ {R : Type 0} {T : BrokenPart → List ℕ → Type 0} {view : View} {ha
       let given = (given_on h.so_far feeds.gives).given in
       let size = length-append h.past items in (
         omega (arith, given, feeds.gives.within, size, cut_len items (es ++ e ∷ []) [] cut, h.before.fits, records_joined (exchanges_of broken) (es ++ e ∷ [])),
-        omega (arith, given, feeds.gives.within, size, (cut_counts items (es ++ e ∷ []) [] cut).0, h.before.few, length-append (exchanges_of broken) (es ++ e ∷ [])),
+        omega (arith, given, feeds.gives.within, size, (cut_counts items (es ++ e ∷ []) [] cut).0, h.before.few,
+            length-append (exchanges_of broken) (es ++ e ∷ [])),
       )
 
   -- the end: how many records are in exchanges or open
@@ -280,7 +286,8 @@ module _ {R : Type 0} {T : BrokenPart → List ℕ → Type 0} {view : View} {ha
         };
       }
 
-      told : (r : Result Totals JudgeError) → IsPlain r → WrittenInParts s.all (h.past ++ (f.items ++ [])) broken (record { past = length h.past; records = f.items ++ [] })
+      told : (r : Result Totals JudgeError) → IsPlain r → WrittenInParts s.all (h.past ++ (f.items ++ [])) broken
+          (record { past = length h.past; records = f.items ++ [] })
           (record { past = length h.past; records = f.items; exchanges = es; tail = h.front.pairer.tail }) (h.before.texts ++ f.text) r old new
           → JudgesParts T view hands rows r old new
       told r is written = plain r is (told_in_parts broken h.before.texts h.before.are_texts f.keeps [] on s r written)
@@ -298,7 +305,8 @@ module _ {R : Type 0} {T : BrokenPart → List ℕ → Type 0} {view : View} {ha
 
 module _ {R : Type 0} {telling : Telling} {hands : Hands} {rows : Option Rows} {broken : List BrokenPart} {old now : Option (List ℕ)} {j : Judging R}
     {es : List Exchange} {end_us : Option ℕ} (k : Judging R) (new : Option (List ℕ)) (result : Result Turn JudgeError) where
-  pub told_no_run : {e : Exchange} {last : LineByte} (h : AtTurn (IsTextOf telling hands) (view_of telling) hands rows (Turn.NoRun e last) j old now broken es end_us)
+  pub told_no_run : {e : Exchange} {last : LineByte}
+      (h : AtTurn (IsTextOf telling hands) (view_of telling) hands rows (Turn.NoRun e last) j old now broken es end_us)
       (fs : List Exchange) (us : Option ℕ) → (telling ≡ Telling.Why → fs ≡ es ++ e ∷ []) → (text : List ℕ)
       → IsBreakText telling hands j.rows.given Reason.NoRun last j.pairer.tail fs us text → EndsPart text hands Reason.NoRun last j result k now new
       → (b : BrokenPart) × (b.part.exchanges ≡ es)
@@ -309,7 +317,8 @@ module _ {R : Type 0} {telling : Telling} {hands : Hands} {rows : Option Rows} {
       at_no_run k new text result h (no_run_text telling hands j h.so_far t.0 e t.1.1 fs us kept text is) ends
 
   pub told_break : {reason : Reason} {last : LineByte}
-      (h : AtTurn (IsTextOf telling hands) (view_of telling) hands rows (Turn.Break reason last) j old now broken es end_us) (fs : List Exchange) (us : Option ℕ)
+      (h : AtTurn (IsTextOf telling hands) (view_of telling) hands rows (Turn.Break reason last) j old now broken es end_us) (fs : List Exchange)
+          (us : Option ℕ)
       → (telling ≡ Telling.Why → (fs ≡ es) × (us ≡ end_us)) → (text : List ℕ) → IsBreakText telling hands j.rows.given reason last j.pairer.tail fs us text
       → EndsPart text hands reason last j result k now new
       → (b : BrokenPart) × (b.part.exchanges ≡ es)
@@ -317,5 +326,6 @@ module _ {R : Type 0} {telling : Telling} {hands : Hands} {rows : Option Rows} {
   told_break {reason = reason} h fs us kept text said ends =
       let t = h.turned in
       let is = subst (λ r. IsBreakText telling hands j.rows.given reason r j.pairer.tail fs us text) t.1.0 said in
-      at_break k new text result h (pairing_text telling hands j h.so_far t.0 reason t.1.1.gives t.1.1.refuses.tail (pairing_reason t.1.1.refuses.is_reason) end_us
+      at_break k new text result h (pairing_text telling hands j h.so_far t.0 reason t.1.1.gives t.1.1.refuses.tail
+          (pairing_reason t.1.1.refuses.is_reason) end_us
       h.ended fs us kept text is) ends

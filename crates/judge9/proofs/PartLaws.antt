@@ -18,7 +18,8 @@ behind items n records r after is =
     sym (drop-append_seam records (r ∷ after)) ∙ ap (drop (length records)) is ∙ drop-drop (length records) n items in
     (at, ap (drop 1) at ∙ drop-drop 1 (n + length records) items)
 
-from_command_rest : (items : List LineByte) (n : ℕ) (last : LineByte) (records : List LineByte) → records ≡ drop n items → IsRestOf items (from_command n last records)
+from_command_rest : (items : List LineByte) (n : ℕ) (last : LineByte) (records : List LineByte) → records ≡ drop n items
+    → IsRestOf items (from_command n last records)
 from_command_rest items n last [] is = is
 from_command_rest items n last (r ∷ records) is =
     by (may_begin last r) refl (from_command_rest items (n + 1) r records (ap (drop 1) is ∙ drop-drop 1 n items))
@@ -48,7 +49,8 @@ each_is_a_no hands items rest (b ∷ broken) left is (after, same, part, breaks,
     let on = rest_after_rest items (b.part.past + length b.part.records) b.reason b.breaking after next.0 next.1 in
     let no : IsOwnNo hands items b =
     record { before = b.part.records; next = b.breaking; after = after; split = sym records; number = refl; breaks = breaks } in
-    All-cons (IsOwnNo hands items) b broken no (each_is_a_no hands items (rest_after (b.part.past + length b.part.records) b.reason b.breaking after) broken left on others)
+    All-cons (IsOwnNo hands items) b broken no
+        (each_is_a_no hands items (rest_after (b.part.past + length b.part.records) b.reason b.breaking after) broken left on others)
 
 pub first_is_a_no : (hands : Hands) (items : List LineByte) (b : BrokenPart) (broken : List BrokenPart) (left : Rest)
     → AreParts hands (record { past = 0; records = items }) (b ∷ broken) left → IsFirstBreak hands items (number_of b) b.reason

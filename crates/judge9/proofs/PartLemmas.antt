@@ -39,12 +39,14 @@ all_rows : (o : Option Rows) (P : Rows → Type 0) → ((all : Rows) → P all) 
 all_rows None P h = tt
 all_rows (Some all) P h = h all
 
-pub plain : {T : BrokenPart → List ℕ → Type 0} {view : View} {hands : Hands} {rows : Option Rows} {old new : Option (List ℕ)} (r : Result Totals JudgeError) → IsPlain r
+pub plain : {T : BrokenPart → List ℕ → Type 0} {view : View} {hands : Hands} {rows : Option Rows} {old new : Option (List ℕ)} (r : Result Totals JudgeError)
+    → IsPlain r
     → PartsTold T view hands rows r old new → JudgesParts T view hands rows r old new
 plain (Err (JudgeError.Capture e)) is told = absurd is
 plain {rows = rows} r is told = record { told = told; is_kind = λ e q. cc; headed = all_rows rows _ (λ all e q. cc) }
 
-module _ {T : BrokenPart → List ℕ → Type 0} {view : View} {hands : Hands} {rows : Option Rows} {past : List LineByte} {es : List Exchange} {tail : List LineByte} {old : Option (List ℕ)}
+module _ {T : BrokenPart → List ℕ → Type 0} {view : View} {hands : Hands} {rows : Option Rows} {past : List LineByte} {es : List Exchange}
+    {tail : List LineByte} {old : Option (List ℕ)}
     (broken : List BrokenPart) (texts : List ℕ) (are_texts : AreTextsOf T broken texts) (keeps : Keeps view hands past es tail) where
   -- these records were read, and so many of them judged
   pub told_in_parts : {left : Option Rows} {fault : Option CaptureError} {new : Option (List ℕ)} (more : List LineByte)

@@ -48,7 +48,8 @@ none_open reason r h = refl
 -- ---- a turn after rows
 
 -- a record that was given
-less-taken : {R : Type 0} (j k : Judging R) (r : LineByte) (turn : Turn) → IsTaken j r (Ok (Some turn)) k → (k.rows.given ≡ j.rows.given + 1) × (k.rows.given ≤ 4000000)
+less-taken : {R : Type 0} (j k : Judging R) (r : LineByte) (turn : Turn) → IsTaken j r (Ok (Some turn)) k → (k.rows.given ≡ j.rows.given + 1)
+    × (k.rows.given ≤ 4000000)
 less-taken j k r Turn.End t = absurd t
 less-taken j k r (Turn.Exchange e) t = (t.0.gives.given, t.0.gives.within)
 less-taken j k r (Turn.NoRun e last) t = (t.1.gives.given, t.1.gives.within)

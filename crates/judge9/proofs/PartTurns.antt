@@ -7,7 +7,8 @@ use Rattle.judge9.proofs.SoFar.{seen_now, seen_on, so_far-begin, so_far-open, so
 use Rattle.judge9.proofs.TurnSteps.{comes_with, ended-more, IsEnded}
 
 -- what is ahead of the records that were judged, where this turn came
-abbrev pub Ahead : {R : Type 0} (front j : Judging R) → Hands → List BrokenPart → List LineByte → List LineByte → (turn : Turn) → Turned front (Ok turn) j → Type 0
+abbrev pub Ahead : {R : Type 0} (front j : Judging R) → Hands → List BrokenPart → List LineByte → List LineByte → (turn : Turn) → Turned front (Ok turn) j
+    → Type 0
 Ahead front j hands broken past items Turn.End t = Onward hands broken past items
 Ahead front j hands broken past items (Turn.Exchange e) t = (more : List LineByte) → Onward hands broken past (items ++ t.0 ∷ more)
 Ahead front j hands broken past items (Turn.NoRun e r) t = (more : List LineByte) → Onward hands broken past (items ++ t.0 ∷ more)
@@ -22,7 +23,8 @@ pub record Before (T : BrokenPart → List ℕ → Type 0) (broken : List Broken
   pub fits : records_in (exchanges_of broken) ≤ length past
 
 -- a turn came in a part that has these exchanges
-pub record AtTurn {R : Type 0} (T : BrokenPart → List ℕ → Type 0) (view : View) (hands : Hands) (rows : Option Rows) (turn : Turn) (j : Judging R) (old now : Option (List ℕ))
+pub record AtTurn {R : Type 0} (T : BrokenPart → List ℕ → Type 0) (view : View) (hands : Hands) (rows : Option Rows) (turn : Turn) (j : Judging R)
+    (old now : Option (List ℕ))
     (broken : List BrokenPart) (es : List Exchange) (end_us : Option ℕ) : Type 0 where
   pub past : List LineByte
   pub begun : Option (List ℕ)
@@ -62,13 +64,15 @@ pub wrote_all : {T : BrokenPart → List ℕ → Type 0} {broken : List BrokenPa
     → Appends old new (before.texts ++ text)
 wrote_all {old = old} {begun = begun} before new text wrote = Appends-trans old begun new before.texts text before.wrote wrote
 
-module _ {R : Type 0} {T : BrokenPart → List ℕ → Type 0} {view : View} {hands : Hands} {rows : Option Rows} {old begun now : Option (List ℕ)} {broken : List BrokenPart} {past : List LineByte}
+module _ {R : Type 0} {T : BrokenPart → List ℕ → Type 0} {view : View} {hands : Hands} {rows : Option Rows} {old begun now : Option (List ℕ)}
+    {broken : List BrokenPart} {past : List LineByte}
     (before : Before T broken past old begun) where
   -- the next turn comes
   pub arrive : {j k : Judging R} {es : List Exchange} {r : Result Turn JudgeError} (end_us : Option ℕ) (h : SoFar view hands rows past j begun now es)
       → OnwardAll hands broken past h.items → IsEnded es end_us j h.items → ComesTo j r k → Arrives T view hands rows old now broken es end_us r k
   arrive {k = k} {es = es} {r = r} end_us h all ended come =
-      comes_with Kept (λ i k items r kept waits. (onward-more hands broken past items r (λ more. kept.0 (r ∷ more)), ended-more es end_us i k items r kept.1 waits)) h
+      comes_with Kept (λ i k items r kept waits.
+          (onward-more hands broken past items r (λ more. kept.0 (r ∷ more)), ended-more es end_us i k items r kept.1 waits)) h
       (all, ended) come (by r)
     where
       Kept : Judging R → List LineByte → Type 0
@@ -87,13 +91,15 @@ module _ {R : Type 0} {T : BrokenPart → List ℕ → Type 0} {view : View} {ha
         ended = ended;
       }
       by (Err x) front f (all, ended) (inl memory) =
-          rw memory (parts-memory broken before.texts before.are_texts f.keeps {left = front.rows.rows} [] (all []) (rw append-nil (seen_now f)) (wrote_all before now f.text f.wrote))
+          rw memory (parts-memory broken before.texts before.are_texts f.keeps {left = front.rows.rows} [] (all []) (rw append-nil (seen_now f))
+              (wrote_all before now f.text f.wrote))
       by (Err x) front f (all, ended) (inr refused) =
           parts-refusal broken before.texts before.are_texts f.keeps (record { is_reading = f.is_reading; read = f.read; are_given = f.are_given })
           (subst (Onward hands broken past) (append-nil f.items) (all [])) refused.1 refused.2 (wrote_all before now f.text f.wrote)
 
 -- the first record of a part comes
-pub arrive_first : {R : Type 0} (view : View) {T : BrokenPart → List ℕ → Type 0} {hands : Hands} {rows : Option Rows} {old now : Option (List ℕ)} {broken : List BrokenPart}
+pub arrive_first : {R : Type 0} (view : View) {T : BrokenPart → List ℕ → Type 0} {hands : Hands} {rows : Option Rows} {old now : Option (List ℕ)}
+    {broken : List BrokenPart}
     {past : List LineByte} {j k : Judging R} {first : LineByte} {r : Result Turn JudgeError} → Before T broken past old now → Begins hands j
     → AreRead rows past j.rows → ((more : List LineByte) → Onward hands broken past (first ∷ more)) → BeginsWith j first r k
     → Arrives T view hands rows old now broken [] None r k
@@ -108,6 +114,7 @@ arrive_first view {T = T} {hands = hands} {rows = rows} {old = old} {now = now} 
         let at = first_ahead j k hands broken past first turn taken on in
         rw is (record { past = past; begun = now; before = before; front = j; so_far = h; turned = at.0; ahead = rw nil at.1; ended = λ none. refl })
     by h nil (inr (inr (mid, waits, come))) =
-        let all = subst (OnwardAll hands broken past) (sym (so_far-open_items h waits ∙ ap (λ l. l ++ first ∷ []) nil)) (onward-more hands broken past [] first on)
+        let all = subst (OnwardAll hands broken past) (sym (so_far-open_items h waits ∙ ap (λ l. l ++ first ∷ []) nil))
+            (onward-more hands broken past [] first on)
         in
         arrive before None (so_far-open h waits) all (λ none. refl) come

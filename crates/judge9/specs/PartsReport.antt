@@ -42,7 +42,8 @@ AreTextsOf IsText (b ∷ broken) text =
 
 -- what came of these rows is told of the first of their records, `items`: they have these parts that break, and what is left
 -- of them begins with the last part, which keeps the rules; `text` is that of the parts that break, and what the view shows of the last
-pub record InParts (IsText : BrokenPart → List ℕ → Type 0) (view : View) (hands : Hands) (rows : Rows) (items : List LineByte) (broken : List BrokenPart) (left : Rest) (last : Part)
+pub record InParts (IsText : BrokenPart → List ℕ → Type 0) (view : View) (hands : Hands) (rows : Rows) (items : List LineByte) (broken : List BrokenPart)
+    (left : Rest) (last : Part)
     (text : List ℕ) : Type 0 where
   pub start : IsStartOf items rows.records
   pub parts : AreParts hands (record { past = 0; records = items }) broken left
@@ -73,7 +74,8 @@ pub record IsRefusedAfter (rows : Rows) (items : List LineByte) (left : Rest) (l
 
 -- what was written, by the result: the text and the line of the totals; at a refusal of the capture the text; where the writer
 -- failed a first part of these; where memory ran out the text
-abbrev pub WrittenInParts : Rows → List LineByte → List BrokenPart → Rest → Part → List ℕ → Result Totals JudgeError → Option (List ℕ) → Option (List ℕ) → Type 0
+abbrev pub WrittenInParts : Rows → List LineByte → List BrokenPart → Rest → Part → List ℕ → Result Totals JudgeError → Option (List ℕ) → Option (List ℕ)
+    → Type 0
 WrittenInParts rows items broken left last text (Ok t) old new =
     IsToTheEnd rows items broken left last t × Appends old new (text ++ line_of_totals t)
 WrittenInParts rows items broken left last text (Err (error.Capture e)) old new = IsRefusedAfter rows items left last e × Appends old new text

@@ -9,5 +9,5 @@ knowledge-requires c = c.in_ok-drift.ensures.remains.0 (show.before_last c.args.
 pub returns : goal.returns
 returns c =
     show.could_show c.args.hands c.args.exchanges.now c.follow.new.tracker c.drift.new.self c.knowledge.result c.shown.result c.requires.breaks
-    (keeps_ends c.args.hands c.args.tracker.now _ c.follow.new.tracker c.requires.states c.requires.hands c.in_ok-follow.ensures) c.in_ok-drift.ensures.reached c.knowledge.ensures c.shown.ensures.ten
-    c.shown.ensures.modes
+    (keeps_ends c.args.hands c.args.tracker.now _ c.follow.new.tracker c.requires.states c.requires.hands c.in_ok-follow.ensures)
+    c.in_ok-drift.ensures.reached c.knowledge.ensures c.shown.ensures.ten c.shown.ensures.modes

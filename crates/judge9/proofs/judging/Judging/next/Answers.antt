@@ -34,5 +34,6 @@ returns-in-Ok-Exchange g c =
 pub returns-in-Err-feed : goal.returns-in-Err-feed
 returns-in-Err-feed g c =
     let given = rw c.in-Ok-Some.field-0-is at c.in-Ok-Some.ensures.given in
-    let spoils : Spoils c.open.self _ c.in-Err-feed.reason c.in-Ok-Some.line_byte = record { gives = given; refuses = c.in-Err-feed.ensures.refuses c.open.invariant.no_reason; same_tracker = refl } in
+    let spoils : Spoils c.open.self _ c.in-Err-feed.reason c.in-Ok-Some.line_byte =
+    record { gives = given; refuses = c.in-Err-feed.ensures.refuses c.open.invariant.no_reason; same_tracker = refl } in
     record { front = c.open.self; are_open = c.open.invariant.are_open; turned = (c.in-Ok-Some.line_byte, (refl, spoils)) }
