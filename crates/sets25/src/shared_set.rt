@@ -10,14 +10,15 @@ use std::alloc::{AllocError, Global};
 use std::rc::Rc;
 use tc25::TimeCode;
 
-/// A copy takes up to so many spans that it does not share, where there is a base. Of more it makes a base, with all members.
+/// Up to so many spans beside a base are copied. Where there are more, a copy gets a new base, which has all
+/// members.
 const MOST_COPIED: usize = 512;
 
 /// A set of times as a base, which it shares with its copies, and what it has besides.
 ///
-/// A copy costs little where few times were added since the base was made. Where there are many, or no base
-/// yet, the copy gets a base of its own, and the set itself keeps what it has. So a caller that copies again
-/// and again goes on with the copy, and lays the set itself aside.
+/// A copy costs little where few times were added since the base was made. Where there are many, or there is
+/// no base yet, the copy gets a new base, and the set itself stays as it is. So a caller that copies again and
+/// again goes on with the copy, and lays the set itself aside.
 #[derive(Drop)]
 pub struct SharedSet {
     base: Option<Rc<SpanSet, Global>>,
@@ -48,7 +49,7 @@ impl SharedSet {
         }
     }
 
-    /// How many spans a copy takes at most that it does not share.
+    /// How many of its own spans are copied at most, in place of a new base.
     fn most_copied(&self) -> usize {
         match self.base {
             Some(_) => MOST_COPIED,

@@ -26,7 +26,7 @@ goes-same h X b c es same g = (g.0, g.1, g.2, same_places h b c es g.0 g.2 same 
 -- passing what comes before the first reply that is believed
 pub goes-start : (h : Hands) (b : ℕ → Bool) (es : List Exchange) (first : ℕ) (X : State → Type 0) → All SetsInDay es → first ≤ length es
     → ((k : ℕ) → k < first → b k ≡ false) → ((s : State) → X s ↔ IsFirst h s)
-    → HasBelieving h b es ↔ GoesOn h X (λ j. b (first + j)) (drop first es)
+    → HasBelieving h b es ↔ GoesOnFrom h X first b es
 goes-start h b es first X sets low none firsts = (
   λ r. let a = law.0 r in (a.first, (firsts a.first).1 a.is_first, a.after, a.is_run),
   λ g. law.1 (record { first = g.0; is_first = (firsts g.0).0 g.1; after = g.2; is_run = g.3 }),

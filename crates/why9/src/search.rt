@@ -96,8 +96,9 @@ fn first_place(tracker: &Tracker<SpanSet>, exchanges: &[Exchange]) -> Result<usi
 /// The next place: the greatest from which on the replies contradict those that the tracker believes. The tracker has gone
 /// through everything before `low`, and goes on to that place.
 ///
-/// A question costs about what lies after `low`, wherever its place is, so few of them are best. Places often lie equally far
-/// apart. So the first step has the length that lies between the two places before, and the next ones are short and grow fast.
+/// A question costs about what lies after `low`, wherever its place is, so few are best. Places often lie equally far apart:
+/// so the first step goes over `between` exchanges, as many as lie between the two places before. The next steps are short and
+/// grow fast, and none goes over more than half of what is left.
 fn next_place(
     tracker: &mut Tracker<SpanSet>,
     exchanges: &[Exchange],
