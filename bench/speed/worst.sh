@@ -51,7 +51,7 @@ def dense_with_hands(records):
 
 # So many shifts, evenly among other traffic that leaves IN alone.
 def spread(shifts, others):
-    between = (RECORDS - length([REMOTE, preset(900000), sensed(0)])) // (shifts + 1)
+    between = (RECORDS - length([REMOTE, preset(900000), *[SHIFT] * shifts, sensed(0)])) // (shifts + 1)
     yield from (REMOTE, preset(900000))
     for shift in range(shifts + 1):
         left = between

@@ -3,6 +3,7 @@ use Rattle.why9.proofs.Words.{[], All, All-take, ap, append_assoc, AreReached, a
 use Rattle.why9.proofs.Words.{false, Hands, HasBelieving, IsBelievingFrom, IsFirst, length, length-append, length-drop, length-take-le, List, MayDo, nat_le, nat_tests, SetsInDay, sym}
 use Rattle.why9.proofs.Words.{slice_index_or, slice_range, State, subst, suc, take, take-append-drop, take_rest, true, ArePassed, ArePassedTo, DriftsAndMayDo, GoesOn, GoesOnFrom, ℕ, ◌++◌, ◌+◌, ◌-◌, ◌<◌}
 use Rattle.why9.proofs.Words.{◌↔◌, ◌∙◌, ◌∷◌, ◌≡◌, ◌≤◌}
+use Rattle.why9.proofs.Words.{DeckStep, done, Drift, drift_join, false≢true, ignored, is_nak, refl, refused}
 
 -- ---- what plays no part
 
@@ -65,6 +66,38 @@ goes-through h X Y b es k e believed low is asked reached = rw split (
     first : GoesOn h X (λ j. b (k + j)) (e ∷ drop (k + 1) es) ↔ GoesOn h Y (λ j. b (k + (j + 1))) (drop (k + 1) es)
     first = let here : believed ≡ b (k + 0) = asked ∙ ap b (omega arith) in
         goes-first h X Y (λ j. b (k + j)) e (drop (k + 1) es) (rw here at reached)
+
+-- ---- past a NAK that is believed
+
+-- a run goes on from where a drift to its first state begins
+drifts_before : (h : Hands) (b : ℕ → Bool) (es : List Exchange) (s t : State) (ts : List State) → Drift h s t → IsBelievingFrom h b t es ts
+    → IsBelievingFrom h b s es ts
+drifts_before h b [] s t [] drift run = tt
+drifts_before h b (e ∷ es) s t (u ∷ us) drift (d, more, does, run) = (d, drift_join h s t d drift more, does, run)
+drifts_before h b es s t ts drift run = absurd run
+
+keeps_state : (h : Hands) (e : Exchange) (s t : State) → is_nak e.reply ≡ true → DeckStep h e.command e.reply s t → t ≡ s
+keeps_state h e s t nak (refused is same) = same
+keeps_state h e s t nak (done other shows does) = absurd (false≢true (sym other ∙ nak))
+keeps_state h e s t nak (ignored other shows may local same) = same
+
+-- it keeps the state, and the drift before it goes on in the next one
+goes-nak : (h : Hands) (X : State → Type 0) (e : Exchange) (es : List Exchange) → is_nak e.reply ≡ true
+    → GoesOn h X (λ k. true) (e ∷ es) ↔ GoesOn h X (λ k. true) es
+goes-nak h X e es nak = (λ g. to g.0 g.1 g.2 g.3, λ g. (g.0, g.1, g.0 ∷ g.2, (g.0, ([], refl), refused nak refl, g.3)))
+  where
+    to : (s : State) → X s → (ts : List State) → IsBelievingFrom h (λ k. true) s (e ∷ es) ts → GoesOn h X (λ k. true) es
+    to s x [] run = absurd run
+    to s x (t ∷ ts) (d, drift, does, run) =
+        (s, x, ts, drifts_before h (λ k. true) es s t ts (subst (λ u. Drift h s u) (sym (keeps_state h e d t nak does)) drift) run)
+
+-- the first of those from a place on
+pub goes-past-nak : (h : Hands) (X : State → Type 0) (es : List Exchange) (k : ℕ) (e : Exchange) → k < length es → e ≡ slice_index_or es k e
+    → is_nak e.reply ≡ true → GoesOnFrom h X k (λ k. true) es ↔ GoesOnFrom h X (k + 1) (λ k. true) es
+goes-past-nak h X es k e low is nak = rw split (goes-nak h X e (drop (k + 1) es) nak)
+  where
+    split : drop k es ≡ e ∷ drop (k + 1) es
+    split = let next : suc k ≡ k + 1 = omega arith in cc (drop-cons es k e low)
 
 -- ---- through exchanges that are passed
 

@@ -1,5 +1,9 @@
 -- The names from elsewhere that the proofs of this crate cite, passed on from one place. Declares nothing.
 pub use Rattle.block9.specs.declared.pairer.Exchange.{Exchange}
+pub use Rattle.block9.specs.Command.{is_nak}
+pub use Rattle.deck9.proofs.LawLemmas.{drift_join}
+pub use Rattle.deck9.specs.Drift.{Drift}
+pub use Rattle.deck9.specs.Step.{DeckStep, done, ignored, refused}
 pub use Rattle.deck9.proofs.ContradictLemmas.{before_the_first, believing_all, believing_fewer}
 pub use Rattle.deck9.specs.Contradict.{behind_first, Contradict, HasBelieving, IsBelievingFrom, MayDo}
 pub use Rattle.deck9.specs.Laws.{SetsInDay}

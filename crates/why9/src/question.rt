@@ -53,10 +53,15 @@ pub(crate) fn pass_all(
 }
 
 /// Believes the replies of these exchanges, and answers whether some run does. It ends as soon as none does.
+///
+/// A NAK keeps the state, and the drift before it goes on in the next one, so whether some run does hangs on no NAK.
 fn believe_all(tracker: &mut Tracker<SpanSet>, exchanges: &[Exchange]) -> Result<bool, AllocError>
     ensures { IfOk result (λ b. IsTrue b ↔ GoesOn tracker.old.hands (Possible tracker.old.states) (λ k. true) exchanges.now) }
 {
     for exchange in exchanges {
+        if exchange.reply.is_nak() {
+            continue;
+        }
         if !believe(tracker, exchange)? {
             return Ok(false);
         }

@@ -1,5 +1,5 @@
 use Rattle.why9.proofs.Words.{false≢true, Possible, refl, sym, true, ◌∙◌}
-use Rattle.why9.proofs.QuestionLemmas.{goes-through}
+use Rattle.why9.proofs.QuestionLemmas.{goes-past-nak, goes-through}
 use Rattle.why9.proofs.question.believe_all.Goals as goal
 
 pub returns-then-not-branch : goal.returns-then-not-branch
@@ -21,4 +21,13 @@ loop-exchange-preserved c =
     record {
       hands = c.in_ok-believe.ensures.hands ∙ c.loop-exchange.invariant.hands;
       goes = (λ w. through.0 (c.loop-exchange.invariant.goes.0 w), λ g. c.loop-exchange.invariant.goes.1 (through.1 g));
+    }
+
+pub loop-exchange-preserved-then-is_nak : goal.loop-exchange-preserved-then-is_nak
+loop-exchange-preserved-then-is_nak c =
+    let past = goes-past-nak c.args.tracker.now.hands (Possible c.loop-exchange.tracker.states) c.args.exchanges.now c.loop-exchange.exchange-index
+    c.exchange-item.result c.loop-exchange-test.true c.exchange-item.is (sym c.is_nak.ensures ∙ c.if-is_nak.true) in
+    record {
+      hands = c.loop-exchange.invariant.hands;
+      goes = (λ w. past.0 (c.loop-exchange.invariant.goes.0 w), λ g. c.loop-exchange.invariant.goes.1 (past.1 g));
     }
