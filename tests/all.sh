@@ -44,8 +44,8 @@ at_least() {
     [ "$(grep -cE "$2" "$work/composed")" -ge "$1" ]
 }
 
-"$awk" -v number=$drawn -v folder="$work" -f tests/lib/deck.awk -f tests/lib/drawing.awk > "$work/list"
-"$awk" -v number=$drawn -v folder="$work" -f tests/lib/damaging.awk
+"$awk" -v number=$drawn -v folder="$work" -f tests/lib/chance.awk -f tests/lib/deck.awk -f tests/lib/drawing.awk > "$work/list"
+"$awk" -v number=$drawn -v folder="$work" -f tests/lib/chance.awk -f tests/lib/damaging.awk
 "$awk" '{ print $1 "-damaged " $2 }' "$work/list" > "$work/damaged"
 "$awk" -v program="$program" -v folder="$work" -f tests/lib/composing.awk "$work/damaged" > "$work/composed"
 while read -r name hands; do

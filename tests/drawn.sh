@@ -60,7 +60,7 @@ at_least() {
     [ "$(sed -nE "s/^$2 without hands ([0-9]+), with hands ([0-9]+), .*/\\$3/p" "$work/compared")" -ge "$1" ]
 }
 
-"$awk" -v number="$drawn" -v folder="$work" -f tests/lib/deck.awk -f tests/lib/drawing.awk > "$work/list"
+"$awk" -v number="$drawn" -v folder="$work" -f tests/lib/chance.awk -f tests/lib/deck.awk -f tests/lib/drawing.awk > "$work/list"
 ask < "$work/list" > "$work/results"
 compare "$work/results" -v fewest=yes > "$work/compared"
 cat "$work/compared"

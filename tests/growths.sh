@@ -147,13 +147,13 @@ try_words 1 why examples/disputed-in-point.csv
 try_words 1 why examples/late-reply.csv
 try_words 3 why examples/bad-byte.csv
 
-# PLAY and its reply once more than a stretch of a run's way back has exchanges.
+# PLAY and its reply more often than a run puts marks close together on its way back.
 {
     echo 'time_us,wire,byte'
     awk 'BEGIN { split("C,20 C,01 C,21 D,10 D,01 D,11", row, " ")
         for (k = 1; k <= 6 * 257; k++) print 400 * k "," row[(k - 1) % 6 + 1] }'
-} > "$work/stretches.csv"
-try_side_by_side 0 run "$work/stretches.csv"
+} > "$work/marks.csv"
+try_side_by_side 0 run "$work/marks.csv"
 
 # try_blocks STATUS WORDS BLOCKS: the same on records 400 microseconds apart: wire letters, each before the bytes that
 # it brings.

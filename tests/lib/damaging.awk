@@ -1,4 +1,4 @@
-# Damages captures as lines and machines do: awk -v number=N -v folder=FOLDER -f tests/lib/damaging.awk. Capture i, the one after it
+# Damages captures as lines and machines do: awk -v number=N -v folder=FOLDER -f tests/lib/chance.awk -f tests/lib/damaging.awk. Capture i, the one after it
 # and the next, which are FOLDER/i.csv and so on, stand one after the other in FOLDER/i-damaged.csv, with up to six faults: bytes
 # that come late, are lost, come twice, have another bit, come on both wires or on the other one, a time that is none,
 # another kind of reply, and none. Every run damages the same.
@@ -11,18 +11,6 @@ BEGIN {
         for (faults = draw(7); faults > 0; faults--) damage(draw(records) + 1)
         put(folder "/" n "-damaged.csv")
     }
-}
-
-# a number from 0 to n - 1
-function draw(n) {
-    seed = (seed * 16807) % 2147483647
-    return int(seed / 2147483647 * n)
-}
-
-# one of these words
-function one_of(words,    word, n) {
-    n = split(words, word, " ")
-    return word[draw(n) + 1]
 }
 
 function value_of(digits) {

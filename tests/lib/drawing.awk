@@ -1,4 +1,4 @@
-# Draws captures: awk -v number=N -v folder=FOLDER -f tests/lib/deck.awk -f tests/lib/drawing.awk. Capture i is written to
+# Draws captures: awk -v number=N -v folder=FOLDER -f tests/lib/chance.awk -f tests/lib/deck.awk -f tests/lib/drawing.awk. Capture i is written to
 # FOLDER/i.csv, and a line for it to standard output: i, whether it is to be judged with hands, and its exchanges as
 # read_capture reads them. The replies are those of a deck that takes one way of those that it has; in most captures one of
 # them is then spoilt. Every run draws the same.
@@ -9,18 +9,6 @@ BEGIN {
     split("10:00:00:00 10:00:00:01 11:00:00:00 00:00:00:00", pool, " ")
     for (i = 1; i <= 4; i++) pool[i] = frame_of(pool[i])
     for (n = 1; n <= number; n++) draw_capture(n)
-}
-
-# a number from 0 to n - 1
-function draw(n) {
-    seed = (seed * 16807) % 2147483647
-    return int(seed / 2147483647 * n)
-}
-
-# one of these words
-function one_of(words,    word, n) {
-    n = split(words, word, " ")
-    return word[draw(n) + 1]
 }
 
 function hex(byte) { return sprintf("%02X", byte) }
