@@ -45,7 +45,7 @@ broken_why hands rows at reason r left es end_us (WhyVerdict.Break number x tail
     (number_is, x_is, r_is, tail_is, commands, told, _) other
     broken =
     let both = broken_with rows.records at left tail.items r es end_us before tail_is broken
-        (λ records ended. rw tail_is (told records (λ nil. ended (tail_is ∙ nil)))) in
+    (λ records ended. rw tail_is (told records (λ nil. ended (tail_is ∙ nil)))) in
     rw (number_is, x_is, r_is) (refl, (other, rw tail_is commands, both.0, both.1))
 broken_why hands rows at reason r left es end_us (WhyVerdict.Contradiction number exchanges places known shown) says other broken = absurd (other says.4)
 
@@ -69,12 +69,16 @@ judges_why {hands = hands} {rows = rows} v why same judges has =
 pub unmoved : (hands : Hands) (past at : ℕ) (reason : Reason) (r : LineByte) (left : List LineByte) (es : List Exchange) (end_us : Option ℕ) (why : WhyVerdict)
     → SaysWhy hands (past + at) reason r left es end_us why → (own : WhyVerdict) × SaysWhy hands at reason r left es end_us own × (why ≡ moved past own)
 unmoved hands past at reason r left es end_us (WhyVerdict.Yes records exchanges tail) says = absurd says
-unmoved hands past at reason r left es end_us (WhyVerdict.Break number x tail command before breaking) (number_is, x_is, r_is, tail_is, commands, told, other) =
-    (WhyVerdict.Break at x tail command before breaking, (refl, x_is, r_is, tail_is, commands, told, other),
-        ap (λ n. WhyVerdict.Break n x tail command before breaking) number_is)
-unmoved hands past at reason r left es end_us (WhyVerdict.Contradiction number exchanges places known shown) (number_is, es_is, is, shows, same) =
-    (WhyVerdict.Contradiction at exchanges places known shown, (refl, es_is, is, shows, same),
-        ap (λ n. WhyVerdict.Contradiction n exchanges places known shown) number_is)
+unmoved hands past at reason r left es end_us (WhyVerdict.Break number x tail command before breaking) (number_is, x_is, r_is, tail_is, commands, told, other) = (
+  WhyVerdict.Break at x tail command before breaking,
+  (refl, x_is, r_is, tail_is, commands, told, other),
+  ap (λ n. WhyVerdict.Break n x tail command before breaking) number_is,
+)
+unmoved hands past at reason r left es end_us (WhyVerdict.Contradiction number exchanges places known shown) (number_is, es_is, is, shows, same) = (
+  WhyVerdict.Contradiction at exchanges places known shown,
+  (refl, es_is, is, shows, same),
+  ap (λ n. WhyVerdict.Contradiction n exchanges places known shown) number_is,
+)
 
 -- ---- what is kept at each end
 

@@ -120,8 +120,13 @@ module _ {R : Type 0} {T : BrokenPart → List ℕ → Type 0} {view : View} {ha
 
   -- the parts before the next one
   before_next : {old now : Option (List ℕ)} (past : List LineByte) → length h.items ≤ length past → Appends old now texts → Before T broken past old now
-  before_next past longer wrote = record { texts = texts; are_texts = h.are_texts; wrote = wrote; few = omega (arith, h.few, longer);
-      fits = omega (arith, h.fits, longer) }
+  before_next past longer wrote = record {
+    texts = texts;
+    are_texts = h.are_texts;
+    wrote = wrote;
+    few = omega (arith, h.few, longer);
+    fits = omega (arith, h.fits, longer);
+  }
 
   -- the judging stops before the next part
   stopped : {P : Type 0} → ((past : List LineByte) (keeps : Keeps view hands past [] []) (more : List LineByte) → keeps.text ≡ []
@@ -163,7 +168,7 @@ module _ {R : Type 0} {T : BrokenPart → List ℕ → Type 0} {view : View} {ha
           → Arrives T view hands rows old now broken [] None r k
       goes_on passed mid after none gives (inl (first, may, new)) =
           arrive_first view (before_next (past_of passed) (longer passed) wrote) new.begins (rw new.rows (read_past passed gives))
-              (at_first passed first after none may) new.with_first
+          (at_first passed first after none may) new.with_first
       goes_on passed mid after none gives (inr (inl (is, ends, begins))) =
           let read = read_past passed gives in
           let begins_so : Begins hands (record { rows = mid; pairer = k.pairer; tracker = k.tracker }) =
@@ -180,7 +185,7 @@ module _ {R : Type 0} {T : BrokenPart → List ℕ → Type 0} {view : View} {ha
           })
       goes_on passed mid after none gives (inr (inr (e, refusal, is))) =
           rw is (parts-refusal broken texts h.are_texts (keeps-none view hands (past_of passed) refl) (rw append-nil (read_past passed gives))
-              (at_end passed after none) refusal refl
+          (at_end passed after none) refusal refl
           (rw append-nil wrote))
 
       by : (b : Bool) → begins_next_part reason breaking ≡ b → MatchBool b ((before : Progress R) → GivesRecord before breaking j.rows

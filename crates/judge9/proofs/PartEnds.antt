@@ -81,7 +81,7 @@ module _ {R : Type 0} {T : BrokenPart → List ℕ → Type 0} {view : View} {ha
 -- what a view shows of such a part
 pub shown_text : {R : Type 0} {view : View} {hands : Hands} {rows : Option Rows} {past : List LineByte} {begun now : Option (List ℕ)} {front : Judging R}
     {es : List Exchange} (j : Judging R) (f : SoFar view hands rows past front begun now es) (last : LineByte) (reason : Reason)
-        → GivesRecord front.rows last j.rows
+    → GivesRecord front.rows last j.rows
     → IsTextOf (Telling.Shown view) hands (broken_at f last reason) (f.text ++ break_line j.rows.given reason)
 shown_text {past = past} j f last reason gives =
     let number : j.rows.given ≡ number_of (broken_at f last reason) = omega (arith, gives.given, f.are_given.given, length-append past f.items) in
@@ -101,7 +101,7 @@ pairing_text {past = past} {front = front} {es = es} Telling.Why hands j f last 
     let broken : IsBreakAfter (f.items ++ last ∷ []) (length f.items + 1) front.pairer.tail last =
     record { before = f.items; after = []; split = refl; number = refl; exchanges = es; cut = f.cut } in
     let both = broken_why hands (record { records = f.items ++ last ∷ []; fault = None })
-        (length f.items + 1) reason last front.pairer.tail es end_us own.0 own.1
+    (length f.items + 1) reason last front.pairer.tail es end_us own.0 own.1
     other (broken, refl, ended) in
     rw f.explained (own.0, both.0, both.1, is ∙ ap (text_of_why hands) own.2)
 
@@ -119,7 +119,7 @@ no_run_text {past = past} {front = front} {es = es} Telling.Why hands j f last e
     let up_to : take (length f.items + 1) read ≡ read = ap (λ n. take n read) (sym (length_push f.items last)) ∙ take-length read in
     let cut = cut-exchange f.items es front.pairer.tail last e f.cut feeds.takes.does in
     let both = no_run_why hands (record { records = read; fault = None }) (length f.items + 1) last j.pairer.tail (es ++ e ∷ []) us own.0 own.1
-        (rw up_to cut) in
+    (rw up_to cut) in
     rw f.explained (own.0, both.0, both.1, is ∙ ap (text_of_why hands) own.2)
 
 module _ {R : Type 0} {T : BrokenPart → List ℕ → Type 0} {view : View} {hands : Hands} {rows : Option Rows} {broken : List BrokenPart}
@@ -232,8 +232,15 @@ module _ {R : Type 0} {T : BrokenPart → List ℕ → Type 0} {view : View} {ha
       let given = (given_on h.so_far feeds.gives).given in
       let size = length-append h.past items in (
         omega (arith, given, feeds.gives.within, size, cut_len items (es ++ e ∷ []) [] cut, h.before.fits, records_joined (exchanges_of broken) (es ++ e ∷ [])),
-        omega (arith, given, feeds.gives.within, size, (cut_counts items (es ++ e ∷ []) [] cut).0, h.before.few,
-            length-append (exchanges_of broken) (es ++ e ∷ [])),
+        omega (
+          arith,
+          given,
+          feeds.gives.within,
+          size,
+          (cut_counts items (es ++ e ∷ []) [] cut).0,
+          h.before.few,
+          length-append (exchanges_of broken) (es ++ e ∷ []),
+        ),
       )
 
   -- the end: how many records are in exchanges or open
@@ -318,7 +325,7 @@ module _ {R : Type 0} {telling : Telling} {hands : Hands} {rows : Option Rows} {
 
   pub told_break : {reason : Reason} {last : LineByte}
       (h : AtTurn (IsTextOf telling hands) (view_of telling) hands rows (Turn.Break reason last) j old now broken es end_us) (fs : List Exchange)
-          (us : Option ℕ)
+      (us : Option ℕ)
       → (telling ≡ Telling.Why → (fs ≡ es) × (us ≡ end_us)) → (text : List ℕ) → IsBreakText telling hands j.rows.given reason last j.pairer.tail fs us text
       → EndsPart text hands reason last j result k now new
       → (b : BrokenPart) × (b.part.exchanges ≡ es)
@@ -327,5 +334,5 @@ module _ {R : Type 0} {telling : Telling} {hands : Hands} {rows : Option Rows} {
       let t = h.turned in
       let is = subst (λ r. IsBreakText telling hands j.rows.given reason r j.pairer.tail fs us text) t.1.0 said in
       at_break k new text result h (pairing_text telling hands j h.so_far t.0 reason t.1.1.gives t.1.1.refuses.tail
-          (pairing_reason t.1.1.refuses.is_reason) end_us
+      (pairing_reason t.1.1.refuses.is_reason) end_us
       h.ended fs us kept text is) ends

@@ -50,7 +50,7 @@ each_is_a_no hands items rest (b ∷ broken) left is (after, same, part, breaks,
     let no : IsOwnNo hands items b =
     record { before = b.part.records; next = b.breaking; after = after; split = sym records; number = refl; breaks = breaks } in
     All-cons (IsOwnNo hands items) b broken no
-        (each_is_a_no hands items (rest_after (b.part.past + length b.part.records) b.reason b.breaking after) broken left on others)
+    (each_is_a_no hands items (rest_after (b.part.past + length b.part.records) b.reason b.breaking after) broken left on others)
 
 pub first_is_a_no : (hands : Hands) (items : List LineByte) (b : BrokenPart) (broken : List BrokenPart) (left : Rest)
     → AreParts hands (record { past = 0; records = items }) (b ∷ broken) left → IsFirstBreak hands items (number_of b) b.reason

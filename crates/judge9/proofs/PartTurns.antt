@@ -72,7 +72,7 @@ module _ {R : Type 0} {T : BrokenPart → List ℕ → Type 0} {view : View} {ha
       → OnwardAll hands broken past h.items → IsEnded es end_us j h.items → ComesTo j r k → Arrives T view hands rows old now broken es end_us r k
   arrive {k = k} {es = es} {r = r} end_us h all ended come =
       comes_with Kept (λ i k items r kept waits.
-          (onward-more hands broken past items r (λ more. kept.0 (r ∷ more)), ended-more es end_us i k items r kept.1 waits)) h
+      (onward-more hands broken past items r (λ more. kept.0 (r ∷ more)), ended-more es end_us i k items r kept.1 waits)) h
       (all, ended) come (by r)
     where
       Kept : Judging R → List LineByte → Type 0
@@ -92,7 +92,7 @@ module _ {R : Type 0} {T : BrokenPart → List ℕ → Type 0} {view : View} {ha
       }
       by (Err x) front f (all, ended) (inl memory) =
           rw memory (parts-memory broken before.texts before.are_texts f.keeps {left = front.rows.rows} [] (all []) (rw append-nil (seen_now f))
-              (wrote_all before now f.text f.wrote))
+          (wrote_all before now f.text f.wrote))
       by (Err x) front f (all, ended) (inr refused) =
           parts-refusal broken before.texts before.are_texts f.keeps (record { is_reading = f.is_reading; read = f.read; are_given = f.are_given })
           (subst (Onward hands broken past) (append-nil f.items) (all [])) refused.1 refused.2 (wrote_all before now f.text f.wrote)
@@ -115,6 +115,6 @@ arrive_first view {T = T} {hands = hands} {rows = rows} {old = old} {now = now} 
         rw is (record { past = past; begun = now; before = before; front = j; so_far = h; turned = at.0; ahead = rw nil at.1; ended = λ none. refl })
     by h nil (inr (inr (mid, waits, come))) =
         let all = subst (OnwardAll hands broken past) (sym (so_far-open_items h waits ∙ ap (λ l. l ++ first ∷ []) nil))
-            (onward-more hands broken past [] first on)
+        (onward-more hands broken past [] first on)
         in
         arrive before None (so_far-open h waits) all (λ none. refl) come

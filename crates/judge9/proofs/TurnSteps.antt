@@ -42,8 +42,11 @@ pub comes_with : {R : Type 0} {which : View} {hands : Hands} {rows : Option Rows
     → ((front : Judging R) (f : SoFar which hands rows past front old now es) → Q front f.items → Turned front r k → P) → P
 comes_with {which = which} {hands = hands} {rows = rows} {past = past} {old = old} {now = now} {es = es} Q more h q c at =
     let w = opened (λ i. (f : SoFar which hands rows past i old now es) × Q i f.items)
-    (λ i k r far waits. (so_far-open far.0 waits, subst (Q k) (sym (so_far-open_items far.0 waits))
-        (more i k far.0.items r far.1 waits))) c.are_open.0 c.front (h, q)
+    (λ i k r far waits. (
+      so_far-open far.0 waits,
+      subst (Q k) (sym (so_far-open_items far.0 waits))
+          (more i k far.0.items r far.1 waits),
+    )) c.are_open.0 c.front (h, q)
     c.are_open.1 in
     at c.front w.0 w.1 c.turned
 

@@ -169,8 +169,12 @@ rows-preserved g c =
       exchanges = rw all so_far.exchanges;
       in_exchanges = rw all so_far.in_exchanges;
       kept = λ _. rw c.replace-part-in-Break.ensures.after (c.new-in-Break.ensures.exchanges, c.new-in-Break.ensures.end);
-      bound = omega (arith, bound, less-end _ c.args.hands c.in-Break.reason c.in-Break.last c.rows.judging c.end_part-in-Break.new.judging _ _ turn
-          (break_read at) ends);
+      bound = omega (
+        arith,
+        bound,
+        less-end _ c.args.hands c.in-Break.reason c.in-Break.last c.rows.judging c.end_part-in-Break.new.judging _ _ turn
+            (break_read at) ends,
+      );
     }
 
 pub rows-smaller : goal.rows-smaller
