@@ -16,7 +16,7 @@
 #
 # Where the timestamps are coarser than 100 microseconds a line on standard error says that limits of time mean little. That is so
 # where each stamp of the log is a multiple of 125 microseconds or each one of 200: so are stamps in milliseconds, however many
-# zeros stand behind them, and those of clocks that tick every 125, 200, 250 or 500 microseconds or every 15.625 milliseconds.
+# zeros stand after them, and those of clocks that tick every 125, 200, 250 or 500 microseconds or every 15.625 milliseconds.
 
 BEGIN {
     converter = "log.awk"

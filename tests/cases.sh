@@ -12,14 +12,14 @@
 #   records RECORDS      a header, and then these records; more such lines go on with the capture. A record is a byte, after
 #                        the letter of its wire, 400 microseconds after the record before, or N where +N stands before it.
 #                        A block's name stands for its records, and 'N times NAME' for them so often
-#   text TEXT            the capture as it is, with \n, \r, \t and \\; behind records it goes on with them
+#   text TEXT            the capture as it is, with \n, \r, \t and \\; after records it goes on with them
 #   status N             the status
 #   out LINE, err LINE   a line of standard output, and one of standard error; none: nothing is written there
 #
 # Where many cases differ in a few words, one stands for all of them:
 #
 #   each FIELD | FIELD   the case once more, with $1, $2 and so on in its lines replaced by these fields
-#   with FIELD | FIELD   each of these cases once more, with the fields counted on behind those of `each`
+#   with FIELD | FIELD   each of these cases once more, with the fields counted on after those of `each`
 #
 # `@MARK` between records keeps the number of the record before it, which `@MARK` is in a line of what is written.
 #

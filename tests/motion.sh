@@ -25,7 +25,7 @@ mkdir "$TMPDIR"
 #     +N               the next record comes N microseconds later
 #     N*(              as often goes what stands up to the next )
 #
-# In a time that is to run with the turns of N*( a `+K` behind it adds K frames a turn: t=10:00:00:00+1
+# In a time that is to run with the turns of N*( a `+K` after it adds K frames a turn: t=10:00:00:00+1
 capture_of() {
     echo "$1" | awk '
         BEGIN {
@@ -76,7 +76,7 @@ motion() {
 }
 
 # is_motion NAME WORDS: of the capture of these words the view makes the text on standard input, in which @first is the first
-# line and @table the heading of the table; the words behind a `/` are the program's.
+# line and @table the heading of the table; the words after a `/` are the program's.
 is_motion() {
     capture_of "${2%%/*}"
     sed "s|^@first$|what the deck did after each transport command that it acknowledged; nothing is judged, a deck may take any time|
@@ -221,7 +221,7 @@ yes: records 67, exchanges 7, open 0
 END
 
 # What holds from one status to another. Between the two times lie 20 records, of a status and a time, and the wait: 1.000000 s
-# in all, and a microsecond less. The time behind the last status does not count.
+# in all, and a microsecond less. The time after the last status does not count.
 is_motion 'a time that stands still in PLAY' 's=01,00 t=10:00:00:00 s=01,00 +992000 t=10:00:00:00 s=01,00 t=10:00:09:00' <<'END'
 @first
 no transport command with a mode of its own was acknowledged

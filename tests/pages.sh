@@ -1,5 +1,5 @@
 #!/usr/bin/env bash
-# Runs the commands that the README and the pages of docs/ show, as they stand there: behind a dollar sign, with what is shown
+# Runs the commands that the README and the pages of docs/ show, as they stand there: after a dollar sign, with what is shown
 # below compared, and without one, as the table below says. A block that the table does not have has failed. The last line
 # is 'N passed, M failed'.
 set -u
@@ -138,7 +138,7 @@ take_block() {
     esac
 }
 
-# A block is what stands behind four blanks below an empty line.
+# A block is what stands after four blanks below an empty line.
 shown=0
 others=0
 for page in README.md docs/*.md; do

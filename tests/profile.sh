@@ -25,7 +25,7 @@ blocks() {
     done | awk '{ time += 400; print time "," $1 "," $2 }'
 }
 
-# table TITLE: the rows of the first table behind this title, their cells parted by bars without blanks and marks.
+# table TITLE: the rows of the first table after this title, their cells parted by bars without blanks and marks.
 table() {
     sed -n "/^### $1/,/^##/p" docs/PROFILE.md | grep '^| `' | sed 's/^| //; s/ |$//; s/`//g; s/ | /|/g'
 }

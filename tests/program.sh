@@ -129,14 +129,14 @@ END
 run_text 'time_us,wire,byte\n0,C,20\n0,C,01\n0,C,21\n0,D,10\n0,D,01\n0,D,11\n999999999999999,C,20\n'
 expect 'records at one time, and a long pause' 0 'yes: records 7, exchanges 1, open 1' ''
 
-# Words: the file before and behind the option, and standard input where there is none.
+# Words: the file before and after the option, and standard input where there is none.
 yes='yes: records 6, exchanges 1, open 0'
 run check examples/play.csv < /dev/null
 expect 'check with a file' 0 "$yes" ''
 run check --hands examples/play.csv < /dev/null
 expect 'check with the option before the file' 0 "$yes" ''
 run check examples/play.csv --hands < /dev/null
-expect 'check with the option behind the file' 0 "$yes" ''
+expect 'check with the option after the file' 0 "$yes" ''
 run check --hands < examples/play.csv
 expect 'check with the option on standard input' 0 "$yes" ''
 run check examples/second-reply.csv < /dev/null
@@ -158,7 +158,7 @@ explained 'explain with a file' 0 "$yes" ''
 run explain --hands examples/play.csv < /dev/null
 explained 'explain with the option before the file' 0 "$yes" ''
 run explain examples/play.csv --hands < /dev/null
-explained 'explain with the option behind the file' 0 "$yes" ''
+explained 'explain with the option after the file' 0 "$yes" ''
 run explain < examples/play.csv
 explained 'explain on standard input' 0 "$yes" ''
 run explain examples/wrong-sum.csv < /dev/null
@@ -181,7 +181,7 @@ ran 'run with a file' 2 0 "$yes" ''
 run run --hands examples/play.csv < /dev/null
 ran 'run with the option before the file' 2 0 "$yes" ''
 run run examples/play.csv --hands < /dev/null
-ran 'run with the option behind the file' 2 0 "$yes" ''
+ran 'run with the option after the file' 2 0 "$yes" ''
 run run < examples/play.csv
 ran 'run on standard input' 2 0 "$yes" ''
 run run --hands < examples/play.csv
@@ -203,7 +203,7 @@ expect 'why with a file' 0 "$yes" ''
 run why --hands examples/play.csv < /dev/null
 expect 'why with the option before the file' 0 "$yes" ''
 run why examples/play.csv --hands < /dev/null
-expect 'why with the option behind the file' 0 "$yes" ''
+expect 'why with the option after the file' 0 "$yes" ''
 run why < examples/play.csv
 expect 'why on standard input' 0 "$yes" ''
 run why < examples/second-reply.csv

@@ -1,5 +1,5 @@
 #!/usr/bin/env bash
-# Checks that the page of each crate's proofs names each of their files once, behind the files that it cites.
+# Checks that the page of each crate's proofs names each of their files once, after the files that it cites.
 # The last line is 'N passed, M failed'.
 set -u
 cd "$(dirname "$0")/.." || exit 1

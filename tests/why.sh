@@ -65,7 +65,7 @@ no at record 28: M1 no run remains' ''
 why --hands "$work/capture.csv"
 judge 'the dispute with hands' is_text 0 'yes: records 28, exchanges 3, open 0' ''
 why "$work/capture.csv" --hands
-judge 'the dispute with hands, behind the file' is_text 0 'yes: records 28, exchanges 3, open 0' ''
+judge 'the dispute with hands, after the file' is_text 0 'yes: records 28, exchanges 3, open 0' ''
 
 # is_no NAME TEXT [WORDS...]: the whole text of why the capture is a no by M1.
 is_no() {
@@ -202,16 +202,16 @@ records 19 to 26 at 7600: STATUS SENSE 61 20 31 B2 -> 71 20 05 96, says in set, 
 could show: shown any, in unknown, out unknown, local no, ain unknown, aout 10:00:00:00
 no at record 26: M1 no run remains'
 
-# The dispute of a deck that somebody may touch: it is one behind LOCAL DISABLE alone, which is a line of it then. Where nobody may,
+# The dispute of a deck that somebody may touch: it is one after LOCAL DISABLE alone, which is a line of it then. Where nobody may,
 # LOCAL DISABLE does nothing.
 capture_of "$disable $remote $preset $sensed_at_11"
 disputed='records 7 to 14 at 2800: STATUS SENSE 61 20 01 82 -> 71 20 00 91, says local no
 records 15 to 24 at 6000: IN DATA PRESET 10:00:00:00 44 14 00 00 00 10 68 -> 10 01 11
 records 25 to 34 at 10000: IN DATA SENSE 60 10 70 -> 11:00:00:00 74 10 00 00 00 11 95
 could show: shown any, in 10:00:00:00, out unknown, local no, ain unknown, aout unknown'
-is_no 'the dispute behind LOCAL DISABLE' "$disputed
+is_no 'the dispute after LOCAL DISABLE' "$disputed
 no at record 34: M1 no run remains"
-is_no 'the dispute behind LOCAL DISABLE, with hands' "records 1 to 6 at 400: LOCAL DISABLE 00 0C 0C -> 10 01 11
+is_no 'the dispute after LOCAL DISABLE, with hands' "records 1 to 6 at 400: LOCAL DISABLE 00 0C 0C -> 10 01 11
 $disputed, panel off
 no at record 34: M1 no run remains" --hands
 
@@ -349,7 +349,7 @@ judge 'a bad row, with hands' is_text 3 '' "$(both_lines 'unreadable at row 7: b
 capture_of "$remote $preset $sensed_at_11"
 echo '12000,C,G1' >> "$work/capture.csv"
 why "$work/capture.csv"
-judge 'a bad row behind the break' is_why 1 'no at record 28: M1 no run remains' ''
+judge 'a bad row after the break' is_why 1 'no at record 28: M1 no run remains' ''
 
 # A pipe that is closed before the text is written ends the program, with two lines on standard error.
 capture_of "$remote $preset $sensed_at_11"

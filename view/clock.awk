@@ -6,7 +6,7 @@
 #     records 1067 to 1070 at 14:30:47.440040: STATUS SENSE 61 20 03 84
 #
 # With -v form=seconds it is `at 52247.440040:`. It takes any text: what is rewritten is `at` with a whole number of up to fifteen
-# digits behind it, in microseconds, up to a colon and a blank, a comma or the end of the line; and as a clock also the seconds
+# digits after it, in microseconds, up to a colon and a blank, a comma or the end of the line; and as a clock also the seconds
 # at the beginning of a line of view/digest.awk or view/motion.awk (`record 8, 1.002422 s: `). All else passes unchanged. A clock
 # counts from the capture's time 0, so its hours go on past 23: what convert/log.awk makes of a log with clocks begins with the
 # first line's day.
@@ -23,7 +23,7 @@ BEGIN {
 
 { print rewritten(form == "clock" ? with_clock($0) : $0) | output }
 
-# The line with each time that stands behind `at` in its form.
+# The line with each time that stands after `at` in its form.
 function rewritten(text,    done, digits) {
     done = ""
     while (match(text, / at [0-9]+(:( |\r?$)|,|\r?$)/)) {

@@ -253,7 +253,7 @@ function take_time(    track, frames) {
     if (label_of_stretch != "") move(ahead, track, frames)
 }
 
-# The frame of the day that the four bytes behind the head tell, or -1.
+# The frame of the day that the four bytes after the head tell, or -1.
 function frames_of(    hours, minutes, of_seconds, frames) {
     frames = digits_of(answered[3], 4, 24)
     of_seconds = digits_of(answered[4], 8, 59)

@@ -1,4 +1,4 @@
-# Draws the record that breaks a rule, as an SVG: both wires over time, each byte a box, and what stands before and behind it.
+# Draws the record that breaks a rule, as an SVG: both wires over time, each byte a box, and what stands before and after it.
 #
 #     ./ninecheck check capture.csv | awk -v capture=capture.csv -f view/picture.awk > picture.svg
 #
@@ -88,7 +88,7 @@ function draw_break() {
 
 # ---- the capture
 
-# Reads the capture up to some records behind this one, and keeps those around it.
+# Reads the capture up to some records after this one, and keeps those around it.
 function read_capture(number,    k) {
     rows = -1
     if (!next_row() || row !~ /time_us"?,"?wire"?,"?byte"?\r?$/) refuse("no header of a capture: " capture)
@@ -180,7 +180,7 @@ function begin_or_go_on(number,    on, is_open) {
     is_between[number] = held["C"] == length_of[first["C"]] && held["D"] == length_of[first["D"]]
 }
 
-# Whether the open block of a wire goes on with this record, behind the one in question, where nothing is judged any more: not
+# Whether the open block of a wire goes on with this record, after the one in question, where nothing is judged any more: not
 # where the wire has rested longer than a block may, nor where the other wire came between and the sum would be wrong.
 function goes_on(number, on,    k, n, sum) {
     if (stamp[number] - latest[on] > limit_of["B3"]) return 0
@@ -226,7 +226,7 @@ function place_records(    k, rest, step) {
     }
 }
 
-# The records that are drawn: what is open and the record in question, whole blocks behind it on a third of the room at
+# The records that are drawn: what is open and the record in question, whole blocks after it on a third of the room at
 # most, and as many whole blocks before as then fit.
 function choose_records(    room, need, end, whole, k) {
     end = x[breaking] + box

@@ -87,7 +87,7 @@ function put(file, line) {
     kept[file] = kept[file] line
 }
 
-# Puts the rows of these records behind those of the case.
+# Puts the rows of these records after those of the case.
 function put_records(list,    parts, n, i, word, times) {
     if (!has_capture) print "time_us,wire,byte" > capture
     has_capture = 1

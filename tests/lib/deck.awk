@@ -635,13 +635,13 @@ function is_listed(i,    word) {
     return (word[1] word[2]) in effect_of || command_text[i] ~ /^61 0C 0[12348] /
 }
 
-# the bytes of the command, behind the time where it is one that has to be valid
+# the bytes of the command, after the time where it is one that has to be valid
 function asked_text(i,    word) {
     split(command_text[i], word, " ")
     return (does[i] == "at" || word[1] word[2] == "2431" ? time_text(time_at(word, 3)) " " : "") command_text[i]
 }
 
-# the bytes of the reply, behind the time where it is that of a register, and before what status data say by themselves
+# the bytes of the reply, after the time where it is that of a register, and before what status data say by themselves
 function answered_text(i) {
     return (asks[i] == "register" && told[i] >= 0 ? time_text(told[i]) " " : "") reply_text[i] said_by(i)
 }

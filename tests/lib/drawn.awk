@@ -1,7 +1,7 @@
 # Compares what the program says of drawn captures with the plain deck:
 # awk [-v fewest=yes] -f tests/lib/deck.awk -f tests/lib/list.awk -f tests/lib/drawn.awk LIST RESULTS. LIST has the lines of drawing.awk. RESULTS has
 # for each capture a line `capture i`, and then for each of `check`, `check --hands`, `why`, `run` and `run --hands`, that of `why`
-# with the words of the capture, a line `- check` or the like with what the program wrote behind it. With fewest=yes a run with
+# with the words of the capture, a line `- check` or the like with what the program wrote after it. With fewest=yes a run with
 # hands has to be one of the fewest moves of a hand.
 #
 # Written are a line for each capture that is refused, and then lines with counts.
