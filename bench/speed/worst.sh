@@ -49,24 +49,20 @@ def dense_with_hands(records):
     refusals = records // length([PANEL_ON_REFUSED])
     return [PANEL_OFF, REMOTE, preset(900000), *[PANEL_ON_REFUSED] * refusals, sensed(900001)]
 
-# So many shifts, evenly among other traffic that leaves IN alone.
-def spread(shifts, others):
+# So many shifts, evenly among turns of other traffic that leave IN alone.
+def spread(shifts, turns):
     between = (RECORDS - length([REMOTE, preset(900000), *[SHIFT] * shifts, sensed(0)])) // (shifts + 1)
     yield from (REMOTE, preset(900000))
+    turn = list(next(turns))
     for shift in range(shifts + 1):
         left = between
-        for exchange in others:
-            left -= length([exchange])
-            if left < 0:
-                break
-            yield exchange
+        while length(turn) <= left:
+            left -= length(turn)
+            yield from turn
+            turn = list(next(turns))
         if shift < shifts:
             yield SHIFT
     yield sensed(900000 + shifts - 1)
-
-def traffic():
-    for turn in itertools.count():
-        yield from mixed(turn, 1)
 
 # Processor time in seconds, and the greatest resident memory in kB.
 def cost(words, answer, stack=None):
@@ -95,12 +91,12 @@ for name, make, words in (('needed shifts', dense, ()), ('needed refusals', dens
         write(capture, make(records))
         seconds.append(told(f'{name}, {records} records', 'why', 1, *words))
     print(f'{name}: ten times the records take {seconds[1] / seconds[0]:.0f} times as long')
-for name, others in (('PLAY', lambda: itertools.repeat(PLAY)), ('mixed traffic', traffic)):
+for name, turns in (('PLAY', lambda: itertools.repeat([PLAY])), ('mixed traffic', lambda: (mixed(turn, 1) for turn in itertools.count()))):
     for shifts in (2, 4, 8, 16):
-        write(capture, spread(shifts, others()))
+        write(capture, spread(shifts, turns()))
         told(f'{shifts} needed shifts spread over {name}', 'why', 1)
 for verb, records in (('why', 2000000), ('why', 4000000), ('run', 500000), ('run', 1000000), ('run', 2000000)):
-    write(capture, shuffled_presets(records // 10))
+    write(capture, shuffled_presets(records // 10 - 2))
     told(f'shuffled presets, {records} records', verb, 0)
 for name, exchanges in (('PLAY', itertools.repeat(PLAY)), ('mixed traffic', itertools.chain.from_iterable(mixed(turn) for turn in itertools.count()))):
     write(capture, exchanges, RECORDS)
