@@ -3,11 +3,13 @@ use Rattle.judge9.proofs.Words.{[], All, ap, append-nil, append_assoc, AreMarks,
 use Rattle.judge9.proofs.Words.{GoesBack, Hands, inl, inr, IsNextMark, IsRun, KeepsEnds, last_mark, Leads, LeadsFrom, length, length_push, List, Mark, None, Option, place_of, Possible, refl}
 use Rattle.judge9.proofs.Words.{reverse, reverse-append, reverse-reverse, slice_get, slice_range, Some, State, subst, suc, sym, take, take-add, take_all, take_more, Tracked, tracked_by, ℕ}
 use Rattle.judge9.proofs.Words.{◌++◌, ◌+◌, ◌-◌, ◌<◌, ◌↔◌, ◌∙◌, ◌∷◌, ◌≡◌, ◌≤◌, ◌⊎◌}
+use Rattle.judge9.specs.Working.WayBack.{GoesOn}
 use Rattle.deck9.specs.State.{IsFirst}
 use Rattle.std.proofs.Math.Seq.{drop-cons}
 use Rattle.std.proofs.lemmas.Bool.{cases_lt, false≢true}
 use Rattle.std.proofs.lemmas.Grind.{common_steps}
-use Rattle.std.proofs.lemmas.List.{drop_all}
+use Rattle.std.proofs.Math.ListN.{set}
+use Rattle.std.proofs.lemmas.List.{drop_all, set_at}
 use Rattle.std.proofs.lemmas.List.Elements.{All-push}
 use Rattle.std.proofs.lemmas.List.Quantifiers.{all_pairs_push}
 use Rattle.std.proofs.lemmas.Option.{get_or_from_slice_get, slice_get-get_or, slice_get_read, slice_get_within}
@@ -135,6 +137,13 @@ last_pushed : (marks : List Mark) (m : Mark) → last_mark (marks ++ m ∷ []) �
 last_pushed marks m = slice_get_read (marks ++ m ∷ []) (length (marks ++ m ∷ [])) (length (marks ++ m ∷ []) - 1) m refl (omega (arith, length_push marks m))
     (let n = length_push marks m in grind (arith, common_steps))
 
+-- the last of some, and another in its place
+pub last_got : (before : List Mark) (m d : Mark) → get_or (before ++ m ∷ []) (length (before ++ m ∷ []) - 1) d ≡ m
+last_got before m d = get_or_from_slice_get (before ++ m ∷ []) (length (before ++ m ∷ []) - 1) m d (last_pushed before m)
+
+pub last_set : (before : List Mark) (m n : Mark) → set (before ++ m ∷ []) (length (before ++ m ∷ []) - 1) n ≡ before ++ n ∷ []
+last_set before m n = set_at before m [] n (length (before ++ m ∷ []) - 1) (let long = length_push before m in omega arith)
+
 -- the last tracker that is marked keeps the states to which the exchanges before it lead
 pub nearest_follows : {first : Tracked} {es : List Exchange} {at : ℕ} {marks : List Mark} → AreMarks first es at marks
     → FollowsFrom first (take (place_of (last_mark marks)) es) (tracked_by first (last_mark marks))
@@ -184,6 +193,18 @@ marked {first = first} {es = es} {at = at} {marks = marks} m are next = (
   },
   ap place_of (last_pushed marks m),
 )
+
+-- a mark is put there with the last tracker, and that goes on
+pub went_on : {first : Tracked} {es : List Exchange} {at : ℕ} {marks : List Mark} (new : List Mark) (m : Mark) (place : ℕ) → AreMarks first es (at + 1) marks
+    → place ≡ place_of (last_mark marks) → m.tracker ≡ tracked_by first (last_mark marks) → place < m.place → m.place ≤ at
+    → GoesOn marks m (slice_range es place m.place) new → AreMarks first es (at + 1) new × (place_of (last_mark new) ≡ m.place)
+went_on {first = first} {es = es} {marks = marks} new m place are is same on within g =
+    let next = marked g.after are (record {
+      on = omega (arith, is, g.place);
+      within = omega (arith, g.place);
+      follows = rw (g.place, ← is, ← same) g.follows;
+    }) in
+    rw g.same (next.0, next.1 ∙ g.place)
 
 -- one mark less, the one before the exchange at `at`, or none
 pub unmarked : {first : Tracked} {es : List Exchange} {at : ℕ} {marks rest : List Mark} (o : Option Mark) → AreMarks first es (at + 1) marks

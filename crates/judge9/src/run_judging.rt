@@ -25,9 +25,9 @@ use verdict9::{JudgeError, RunVerdict};
 /// is not said.
 ///
 /// It writes nothing, and keeps all exchanges, their states, and what was possible before some of the exchanges: before so
-/// few of them that this takes no more than twice as much memory. To find the run each exchange is observed again, mostly
-/// twice, and where much is possible as often as the number of exchanges can be halved; with hands once or twice more, and
-/// after a move of a hand seven times more.
+/// few of them that this takes about as much memory as the exchanges, which is measured and not proved. To find the run
+/// each exchange is observed again, mostly twice, and where much is possible as often as the number of exchanges can be
+/// halved; with hands once or twice more, and after a move of a hand seven times more.
 ///
 /// Where the reader tells its bytes, the verdict, its counts and the refusals of the text are those that
 /// [`judge`](crate::judge) gives, and the exchanges are those that the records are cut into. Errors come as there, but

@@ -3,12 +3,13 @@
 //! A run is found backwards: from a state in which the deck can be at the end, through the exchanges, to one before the first
 //! of them. That needs the states that were possible before each exchange. They are made again from the first ones, and kept
 //! at marks: few where they take much memory, and before each exchange of the range that is gone back through next.
-ghost use Rattle.std.specs.Prelude.{◌≡◌, ◌<◌, ◌≤◌, ◌+◌, ◌++◌, [], ◌∷◌, IfOk, OnOk, length};
+ghost use Rattle.std.specs.Prelude.{◌≡◌, ◌<◌, ◌≤◌, ◌+◌, ◌++◌, [], ◌∷◌, IfOk, List, OnOk, length};
 ghost use Rattle.deck9.specs.Run.{IsRun};
 ghost use Rattle.deck9.specs.Step.{Exchanges};
 ghost use Rattle.deck9.specs.declared.state.State.{State as AState};
 ghost use Rattle.judge9.specs.Working.Endings.{KeepsEnds};
-ghost use Rattle.judge9.specs.Working.WayBack.{AreMarks, FollowsFrom, GoesBack, IsNextMark, LeadsFrom, last_mark, place_of, tracked_by};
+ghost use Rattle.judge9.specs.Working.WayBack.{AreMarks, FollowsFrom, GoesBack, GoesOn, LeadsFrom, last_mark, place_of, tracked_by};
+ghost use Rattle.judge9.specs.declared.way_back.Mark.{Mark as AMark};
 ghost use Rattle.track9.specs.Tracker.{Possible};
 
 use crate::following::follow;
@@ -43,10 +44,12 @@ impl Pace {
         const BARE: usize = 128;
         /// What dense marks may take however few the exchanges are, as spans.
         const LEAST: usize = 32768;
+        /// More marks than these would not stay in a processor's cache until they are gone back to.
+        const MOST_DENSE: usize = 256;
 
         let weight = spans.saturating_add(BARE);
         Pace {
-            dense: exchanges.max(LEAST) / weight,
+            dense: (exchanges.max(LEAST) / weight).min(MOST_DENSE),
             apart: weight,
         }
     }
@@ -151,8 +154,13 @@ fn lead_up(
         if place == at {
             return Ok(());
         }
-        let next = next_mark(place, tracker, exchanges, at, pace)?;
-        marks.push(next)?;
+        let next = place + pace.step(at - place);
+        let copy = tracker.snapshot()?;
+        marks.push(Mark {
+            place: next,
+            tracker: copy,
+        })?;
+        go_on(marks, &exchanges[place..next])?;
     }
 }
 
@@ -167,30 +175,14 @@ fn nearest<'a>(first: &'a Tracker<SharedSet>, marks: &'a [Mark]) -> (usize, &'a 
     }
 }
 
-/// The mark after the tracker at a place, on the way to the exchange at `at`.
-fn next_mark(
-    place: usize,
-    tracker: &Tracker<SharedSet>,
-    exchanges: &[Exchange],
-    at: usize,
-    pace: Pace,
-) -> Result<Mark, AllocError>
-    requires on { place < at }
-    requires within { at < length exchanges.now }
-    ensures { IfOk result (IsNextMark place tracker.now exchanges.now at) }
+/// Takes these exchanges into the last tracker that is marked, where it stands: a tracker is large.
+fn go_on(marks: &mut Vec<Mark>, exchanges: &[Exchange]) -> Result<(), AllocError>
+    ensures { (before : List AMark) (m : AMark) → marks.old.items ≡ before ++ m ∷ [] → OnOk result (GoesOn before m exchanges.now marks.new.items) }
 {
-    let next = place + pace.step(at - place);
-    let mut after = tracker.snapshot()?;
-    match follow(&mut after, &exchanges[place..next]) {
-        Ok(()) => Ok(Mark {
-            place: next,
-            tracker: after,
-        }),
-        Err(error) => {
-            drop(after);
-            Err(error)
-        }
-    }
+    let Some(mark) = marks.last_mut() else {
+        return Ok(());
+    };
+    follow(&mut mark.tracker, exchanges)
 }
 
 /// Puts the state after an exchange after the others, and answers one that it may come from.

@@ -45,6 +45,13 @@ pub record IsNextMark (place : ℕ) (t : Tracked) (es : List Exchange) (at : ℕ
   pub within : m.place ≤ at
   pub follows : FollowsFrom t (slice_range es place m.place) m.tracker
 
+-- the mark after others has taken these exchanges
+pub record GoesOn (before : List Mark) (m : Mark) (es : List Exchange) (marks : List Mark) : Type 0 where
+  pub after : Mark
+  pub same : marks ≡ before ++ after ∷ []
+  pub place : after.place ≡ m.place
+  pub follows : FollowsFrom m.tracker es after.tracker
+
 -- these are the states after the exchanges in a run from s to `end`, and they were put after others, the last one first
 pub record GoesBack (h : Hands) (X : State → Type 0) (es : List Exchange) (end : State) (old new : List State) (s : State) : Type 0 where
   pub from : X s
