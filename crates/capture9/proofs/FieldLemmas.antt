@@ -1,5 +1,5 @@
 -- Decimal digits, read one at a time, and the three fields of a CSV record by their places.
-use Rattle.capture9.proofs.Words.{[], all_ascii_digits, and_assoc, and_parts, ap, arith, decimal_value, digit_value, digits_after, digits_value_short, field_at, get_or}
+use Rattle.capture9.proofs.Words.{[], all_ascii_digits, ap, arith, decimal_value, digit_value, digits_after, digits_value_short, field_at}
 use Rattle.capture9.proofs.Words.{is_ascii_digit, IsNumeralModel, length, length-append, List, lit<, mul-le-mul_left, mul-le-mul_right, nat_tests, None, numerals_by_weight}
 use Rattle.capture9.proofs.Words.{pow-add, pow-le-pow_right, pow-suc, refl, Some, suc, tells_all_ascii_digits, time_in, true, zero, ℕ, ◌&&◌, ◌*◌, ◌++◌, ◌+◌, ◌-◌, ◌<◌, ◌^◌, ◌∙◌}
 use Rattle.capture9.proofs.Words.{◌∷◌, ◌≡◌, ◌≢◌, ◌≤◌}
@@ -68,24 +68,6 @@ module _ (field front rest : List ℕ) (whole : field ≡ front ++ rest) (some :
 
   pub time_in-some : (n : ℕ) → digits_after 0 front ≡ Some n → time_in field ≡ digits_after n rest
   time_in-some n h = time_in-digits field some few ∙ rw whole (grind (arith, all_ascii_digits-append, decimal_value-append))
-
--- ---- eight digits at once
-
--- they are digits where each of them is, two by two
-pub all-eight : (xs : List ℕ) → length xs ≡ 8
-    → all_ascii_digits xs ≡ ((is_ascii_digit (get_or xs 0 0) && is_ascii_digit (get_or xs 1 0)) &&
-    ((is_ascii_digit (get_or xs 2 0) && is_ascii_digit (get_or xs 3 0))
-    && ((is_ascii_digit (get_or xs 4 0) && is_ascii_digit (get_or xs 5 0)) && ((is_ascii_digit (get_or xs 6 0) && is_ascii_digit (get_or xs 7 0)) && true))))
-all-eight (a ∷ b ∷ c ∷ d ∷ e ∷ f ∷ g ∷ h ∷ []) size = simp and_assoc
-all-eight xs size = absurd (omega arith)
-
--- what their bytes come to: each `0` is 48 too many
-pub value-eight : (xs : List ℕ) → length xs ≡ 8 → all_ascii_digits xs ≡ true
-    → decimal_value xs + 533333328
-    ≡ ((get_or xs 0 0 * 10 + get_or xs 1 0) * 100 + (get_or xs 2 0 * 10 + get_or xs 3 0)) * 10000 +
-    ((get_or xs 4 0 * 10 + get_or xs 5 0) * 100 + (get_or xs 6 0 * 10 + get_or xs 7 0))
-value-eight (a ∷ b ∷ c ∷ d ∷ e ∷ f ∷ g ∷ h ∷ []) size all = grind (arith, nat_tests, digit_value-digit, and_parts)
-value-eight xs size all = absurd (omega arith)
 
 -- ---- three fields, by their places
 

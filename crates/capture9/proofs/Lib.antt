@@ -2,6 +2,7 @@ pub mod CaptureLemmas
 pub mod CsvLemmas
 pub mod FieldLemmas
 pub mod GivenLemmas
+pub mod LaneLemmas
 pub mod LawLemmas
 pub mod RecordsLemmas
 pub mod RuleLemmas

@@ -26,21 +26,24 @@ unfoldable pub use Rattle.csv.specs.Writing.{fields_text, is_blank}
 pub use Rattle.csv.specs.declared.parser.Config.{Config}
 pub use Rattle.csv.specs.declared.parser.State.{State}
 pub use Rattle.csv.specs.declared.reader.Reader.{Reader}
+pub use Rattle.std.proofs.Common.{cond, Fits, ltb, replicate, w32, w8}
 pub use Rattle.std.proofs.Common.{[], add-one, add-zero, All, ap, append-nil, arith, Bool, codes, drop, Err, false, get_or, length, length-append, length-take-le, List, lit<}
 pub use Rattle.std.proofs.Common.{lit≤, map, nat_lt, None, Ok, Option, option_map, pow-add, pow-suc, refl, Result, rules, Some, suc, sym, take-append-drop, true, zero, ℕ, ◌%◌}
 pub use Rattle.std.proofs.Common.{◌&&◌, ◌*◌, ◌++◌, ◌+◌, ◌-◌, ◌/◌, ◌<◌, ◌^◌, ◌∙◌, ◌∷◌, ◌≡◌, ◌≢◌, ◌≤◌, ◌⊎◌}
 pub use Rattle.std.proofs.Math.Bool.{and_assoc}
 pub use Rattle.std.proofs.Math.Nat.{mul-le-mul_left, mul-le-mul_right, pow-le-pow_right}
-pub use Rattle.std.proofs.lemmas.Bool.{and_parts, cond_both, le-leb}
+pub use Rattle.std.proofs.lemmas.Bool.{agree_below_at, and_parts, cond_both, le-leb}
 pub use Rattle.std.proofs.lemmas.Bool.Decides.{nat_tests}
 pub use Rattle.std.proofs.lemmas.Fmt.{decimal_nonempty, digits_decimal, digits_value-decimal, length-decimal-le}
-pub use Rattle.std.proofs.lemmas.List.{drop_more, length_push, nil_from_length}
+pub use Rattle.std.proofs.lemmas.List.{drop_more, length-map, length_push, nil_from_length}
 pub use Rattle.std.proofs.lemmas.List.Elements.{All-cons, All-from_recursion, All-push}
 pub use Rattle.std.proofs.lemmas.List.Sorted.{IsNonDecreasingBy-insert, IsNonDecreasingBy-push}
+pub use Rattle.std.proofs.lemmas.Simd.{bitmask_splat, Each1-zip2, Each2-all, zip2_splat}
 pub use Rattle.std.proofs.lemmas.Str.Parse.{digits_value_short, IsNumeralModel, numerals_by_weight, tells_all_ascii_digits}
 pub use Rattle.std.specs.Char.{digit_value, is_ascii_digit}
 pub use Rattle.std.specs.Fmt.{decimal}
 pub use Rattle.std.specs.List.{AllByRecursion}
 pub use Rattle.std.specs.List.Sorted.{IsNonDecreasingBy}
 pub use Rattle.std.specs.Prelude.{IfSome, if◌then◌else◌, IsTrue, ⊤, ◌↔◌}
+pub use Rattle.std.specs.Simd.Lanes.{Each1, fold_l, mask_l, top, zip2}
 pub use Rattle.std.specs.Str.{all_ascii_digits}

@@ -10,6 +10,7 @@ ghost use Rattle.capture9.specs.Working.{digits_after};
 use crate::error::CaptureKind;
 use crate::line_byte::{LineByte, Wire};
 use csv::ByteRecord;
+use std::simd::prelude::*;
 
 /// The most data rows of a capture.
 const MAX_ROWS: u32 = 4_000_000;
@@ -17,8 +18,8 @@ const MAX_ROWS: u32 = 4_000_000;
 /// The most digits of a time.
 const MAX_TIME_DIGITS: usize = 15;
 
-/// What the bytes of eight digits `0` come to where each counts ten times the next.
-const ZEROS: u32 = 48 * 11_111_111;
+/// What a one is worth at each place of eight decimal digits.
+const WORTHS: [u32; 8] = [10_000_000, 1_000_000, 100_000, 10_000, 1_000, 100, 10, 1];
 
 /// The three fields of a row.
 #[derive(Clone, Copy)]
@@ -100,36 +101,17 @@ fn read_time(field: &[u8]) -> Option<u64>
     }
 }
 
-/// The number that eight decimal digits spell. One test serves for all of them, and what a `0` stands for is taken away from
-/// their sum and not from each, so that the compiler tests them side by side.
+/// The number that eight decimal digits spell. They are tested, and then summed, all at once.
+#[inline(always)] // else it is called for each time, as large as its many lanes seem
 fn eight_digits(digits: &[u8; 8]) -> Option<u64>
     ensures { result ≡ digits_after 0 digits.now }
 {
-    let [a, b, c, d, e, f, g, h] = *digits;
-    let are_digits = are_two_digits(a, b)
-        & are_two_digits(c, d)
-        & are_two_digits(e, f)
-        & are_two_digits(g, h);
-    if !are_digits {
+    let values = u8x8::from_array(*digits) - u8x8::splat(b'0');
+    if !values.simd_lt(u8x8::splat(10)).all() {
         return None;
     }
-    let high = pair(a, b) * 100 + pair(c, d);
-    let low = pair(e, f) * 100 + pair(g, h);
-    Some(u64::from(high * 10_000 + low - ZEROS))
-}
-
-/// Whether both bytes are decimal digits.
-fn are_two_digits(tens: u8, ones: u8) -> bool
-    ensures { result ≡ (is_ascii_digit tens && is_ascii_digit ones) }
-{
-    tens.is_ascii_digit() & ones.is_ascii_digit()
-}
-
-/// Ten times one byte and once the other.
-fn pair(tens: u8, ones: u8) -> u32
-    ensures { result ≡ tens * 10 + ones }
-{
-    u32::from(tens) * 10 + u32::from(ones)
+    let worths = values.cast::<u32>() * u32x8::from_array(WORTHS);
+    Some(u64::from(worths.reduce_sum()))
 }
 
 /// The number that these decimal digits make after the digits of `front`.
@@ -172,8 +154,11 @@ fn read_byte(field: &[u8]) -> Option<u8>
 fn hex_digit(byte: u8) -> Option<u8>
     ensures { result ≡ hex_digit_of byte }
 {
+    // By one test, and not among the arms, where it would be two.
+    if byte.is_ascii_digit() {
+        return Some(byte - b'0');
+    }
     match byte {
-        b'0'..=b'9' => Some(byte - b'0'),
         b'a'..=b'f' => Some(byte - b'a' + 10),
         b'A'..=b'F' => Some(byte - b'A' + 10),
         _ => None,
