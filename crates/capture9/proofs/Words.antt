@@ -30,7 +30,6 @@ pub use Rattle.std.proofs.Common.{cond, Fits, ltb, replicate, w32, w8}
 pub use Rattle.std.proofs.Common.{[], add-one, add-zero, All, ap, append-nil, arith, Bool, codes, drop, Err, false, get_or, length, length-append, length-take-le, List, lit<}
 pub use Rattle.std.proofs.Common.{lit≤, map, nat_lt, None, Ok, Option, option_map, pow-add, pow-suc, refl, Result, rules, Some, suc, sym, take-append-drop, true, zero, ℕ, ◌%◌}
 pub use Rattle.std.proofs.Common.{◌&&◌, ◌*◌, ◌++◌, ◌+◌, ◌-◌, ◌/◌, ◌<◌, ◌^◌, ◌∙◌, ◌∷◌, ◌≡◌, ◌≢◌, ◌≤◌, ◌⊎◌}
-pub use Rattle.std.proofs.Math.Bool.{and_assoc}
 pub use Rattle.std.proofs.Math.Nat.{mul-le-mul_left, mul-le-mul_right, pow-le-pow_right}
 pub use Rattle.std.proofs.lemmas.Bool.{agree_below_at, and_parts, cond_both, le-leb}
 pub use Rattle.std.proofs.lemmas.Bool.Decides.{nat_tests}

@@ -102,7 +102,7 @@ fn read_time(field: &[u8]) -> Option<u64>
 }
 
 /// The number that eight decimal digits spell. They are tested, and then summed, all at once.
-#[inline(always)] // else it is called for each time, as large as its many lanes seem
+#[inline(always)] // else each time costs a call
 fn eight_digits(digits: &[u8; 8]) -> Option<u64>
     ensures { result ≡ digits_after 0 digits.now }
 {
