@@ -129,6 +129,7 @@ impl<R: Read + Drop> Records<R> {
     }
 
     /// Reads the first CSV record, which has to be the header.
+    #[inline(always)] // else the room for its result is cleared before each record
     fn read_header(&mut self) -> Result<(), CaptureError>
         requires reading { self.old.standing ≡ Standing.Reading }
         requires first { self.old.is_headed ≡ false }
