@@ -1,10 +1,12 @@
 -- What a pairer answers, and what it holds, after one more record.
+use Rattle.block9.proofs.Words.{Deck, early_fault, to_come, ends_block, grown, last_fed, length_push, OpenBlock, refl, ◌<◌, ◌≢◌}
 use Rattle.block9.proofs.Words.{append-nil, ap, BeginsWith, option_map, ◌↔◌, ◌∙◌, ◌+◌, length, length-append, block_len, inl, inr}
 use Rattle.block9.proofs.Words.{[], arith, OpenCommand, block_of, Bool, bytes_of, Closes, Command, command_of, Controller, IsStep, Exchange, false, ForSome, HoldsInPairer}
 use Rattle.block9.proofs.Words.{IsCommand, IsExchange, IsHeld, IsTurn, last_time, LineByte, List, nat_tests, None, open_at, Option, Paired, pairing}
 use Rattle.block9.proofs.Words.{place_of, Reason, Refuses, reply_fault, Some, Step, sum, sym, tail_after, Takes, true, ℕ, ◌%◌, ◌++◌, ◌∷◌, ◌≡◌, ◌≤◌}
 use Rattle.block9.proofs.LineLemmas.{block_len-append, whole_len, whole_long, whole_parts}
-use Rattle.block9.proofs.TailLemmas.{answered, place_in_command, place_of_command}
+use Rattle.block9.proofs.TailLemmas.{answered, last_time-append, place_in_command, place_of_command}
+use Rattle.block9.proofs.StandsLemmas.{ends_by_left, stands_after, stands_push}
 use Rattle.block9.proofs.StepLemmas.{begun_now, closes, commands, held_tail, last_time-tail_after, reply_now, tail_short, waits}
 use Rattle.block9.proofs.ReasonLemmas.{reason_broken, table_reason}
 
@@ -29,6 +31,16 @@ ends_command t r c held later turn right meant =
     let quiet : pairing t r ≡ None = grind (arith, nat_tests) in
     record { whole = rw place (commands t r held later quiet (sym turn.1)).1.whole; meaning = meant }
 
+-- a complete command is held
+pub held_command : (t : List LineByte) (r : LineByte) (c : Command) → IsHeld t None → last_time t ≤ r.time_us → IsTurn t r true
+    → r.byte ≡ sum (bytes_of (open_at (place_of t) t)) % 256 → command_of (block_of (bytes_of t)) ≡ Some c
+    → IsCommand (t ++ r ∷ []) (block_of (bytes_of t)) c
+    × HoldsInPairer (t ++ r ∷ []) (Some (record { command = c; block = block_of (bytes_of t) })) (to_come Deck)
+held_command t r c held later turn right meant =
+    let place = place_in_command Controller t (begun_now t held (sym turn.1)) in
+    let command : IsCommand (t ++ r ∷ []) (block_of (bytes_of t)) c = rw place at (ends_command t r c held later turn right (rw place meant)) in
+    (command, record { held = inl command; stands = stands_after (t ++ r ∷ []) (place_of_command Controller (t ++ r ∷ []) _ command.whole) })
+
 pub ends_exchange : (t : List LineByte) (a : OpenCommand) (r : LineByte) (e : Exchange) → IsHeld t (Some a) → last_time t ≤ r.time_us → IsTurn t r true
     → r.byte ≡ sum (bytes_of (open_at (place_of t) t)) % 256
     → Closes t a e → reply_fault (Some a.command) (block_of (bytes_of (open_at (place_of t) t))) ≡ None → IsExchange (t ++ r ∷ []) e
@@ -38,27 +50,46 @@ ends_exchange t a r e held later turn right read none =
 
 -- ---- what is held afterwards
 
-pub held_waiting : (t seen : List LineByte) (o : Option OpenCommand) (r : LineByte) (last : Option ℕ) (ends : Bool) → HoldsInPairer t o last
-    → ForSome last (λ time. time ≤ r.time_us)
-    → seen ≡ t → IsTurn seen r ends → ends ≡ false → HoldsInPairer (t ++ r ∷ []) o (Some r.time_us) × IsStep t r Step.Waiting
-held_waiting t seen o r last ends h known same seen_turn waits_still =
-    let turn : IsTurn t r false = rw (← same) (rw waits_still at seen_turn) in
-    let later : last_time t ≤ r.time_us = grind arith in
-    let still = waits t o r h.held later (grind (arith, nat_tests)) (sym turn.1) in
+-- a time that is fed is not before the tail's last one
+pub fed_later : (t : List LineByte) (reason : Option Reason) (passed : Option ℕ) (r : LineByte) → reason ≡ None
+    → ForSome (last_fed t reason passed) (λ time. time ≤ r.time_us) → last_time t ≤ r.time_us
+fed_later [] None passed r e h = omega arith
+fed_later (a ∷ t) None passed r e h = h (last_time (a ∷ t)) refl
+fed_later t (Some x) passed r e h = cc
+
+pub fed_in_order : (t : List LineByte) (reason : Option Reason) (passed : Option ℕ) (r : LineByte) (was old : Paired) → was ≡ old → reason ≡ None
+    → was.last_time ≡ last_fed t reason passed → ForSome old.last_time (λ time. time ≤ r.time_us) → last_time t ≤ r.time_us
+fed_in_order t reason passed r was old same none told known = fed_later t reason passed r none (rw (← same, told) at known)
+
+-- what a record breaks by its turn, its time or its group is the first that it breaks
+pub early_told : (t : List LineByte) (r : LineByte) (x : Reason) → early_fault (place_of t) t r ≡ Some x → pairing t r ≡ Some x
+early_told t r x e = rw e refl
+
+-- the time that was fed last is the tail's last one, or is kept
+pub fed_waiting : (t : List LineByte) (r : LineByte) (passed : Option ℕ) → last_fed (t ++ r ∷ []) None passed ≡ Some r.time_us
+fed_waiting [] r passed = refl
+fed_waiting (a ∷ t) r passed = ap Some (last_time-append (a ∷ t) (r ∷ []) (omega arith))
+
+pub fed_step : (t : List LineByte) (r : LineByte) (s : Step) → last_fed (tail_after t r s) None (Some r.time_us) ≡ Some r.time_us
+fed_step t r Step.Waiting = fed_waiting t r (Some r.time_us)
+fed_step t r Step.Command = fed_waiting t r (Some r.time_us)
+fed_step t r (Step.Exchange e) = refl
+
+pub fed_refused : (t : List LineByte) (reason : Reason) (passed : Option ℕ) → last_fed t (Some reason) passed ≡ passed
+fed_refused [] reason passed = refl
+fed_refused (a ∷ t) reason passed = refl
+
+pub held_waiting : (t : List LineByte) (o : Option OpenCommand) (b : OpenBlock) (r : LineByte) → HoldsInPairer t o b → last_time t ≤ r.time_us
+    → early_fault (place_of t) t r ≡ None → b.left ≢ 1 → r.byte < 256
+    → HoldsInPairer (t ++ r ∷ []) o (grown b r.byte) × (length t < 35) × IsStep t r Step.Waiting
+held_waiting t o b r h later quiet more byte =
+    let goes_on : ends_block (open_at (place_of t) t) ≡ false = let ends = ends_by_left t b h.stands in grind (arith, nat_tests) in
+    let still = waits t o r h.held later (grind (arith, nat_tests)) goes_on in
     let tail = held_tail (t ++ r ∷ []) o still.0 in (
-      record { held = still.0; short = tail_short _ tail; in_order = last_time-tail_after t r Step.Waiting },
+      record { held = still.0; stands = stands_push t r b h.stands more byte },
+      (omega (arith, tail_short _ tail, length_push t r)),
       (tail, λ b c k. still.1 (place_of_command Controller (t ++ r ∷ []) b k.whole)),
     )
-
-pub held_step : (t : List LineByte) (o : Option OpenCommand) (r : LineByte) (s : Step) → IsHeld (tail_after t r s) o
-    → HoldsInPairer (tail_after t r s) o (Some r.time_us)
-held_step t o r s held = record { held = held; short = tail_short _ (held_tail _ o held); in_order = last_time-tail_after t r s }
-
-pub held_refused : (t : List LineByte) (o : Option OpenCommand) (r : LineByte) (was old : Paired) (last : Option ℕ) → HoldsInPairer t o last → was ≡ old
-    → was.last_time ≡ last
-    → ForSome old.last_time (λ time. time ≤ r.time_us) → HoldsInPairer t o (Some r.time_us)
-held_refused t o r was old last h same time known =
-    let known_time = rw (← same) at known in record { held = h.held; short = h.short; in_order = grind arith }
 
 -- ---- what a caller is told
 
@@ -66,13 +97,10 @@ pub takes : (was old new : Paired) (r : LineByte) (s : Step) → was ≡ old →
     → new.last_time ≡ Some r.time_us → new.reason ≡ None → Takes old r s new
 takes was old new r s same done tail time reason = rw (← same) (record { does = done; tail = tail; last_time = time; reason = reason })
 
-pub refuses : (o : Option OpenCommand) (was old new : Paired) (r : LineByte) (reason : Reason) → was ≡ old → HoldsInPairer was.tail o was.last_time
-    → ForSome old.last_time (λ time. time ≤ r.time_us)
+pub refuses : (o : Option OpenCommand) (was old new : Paired) (r : LineByte) (reason : Reason) → was ≡ old → IsHeld was.tail o → last_time was.tail ≤ r.time_us
     → pairing was.tail r ≡ Some reason → new.tail ≡ was.tail → new.last_time ≡ Some r.time_us → new.reason ≡ Some reason → Refuses old r reason new
-refuses o was old new r reason same h in_time told tail_same time known =
-    let tail = held_tail was.tail o h.held in
-    let known_time = rw (← same) at in_time in
-    let later : last_time was.tail ≤ r.time_us = grind arith in
+refuses o was old new r reason same held later told tail_same time known =
+    let tail = held_tail was.tail o held in
     let why = table_reason was.tail r reason tail later told in
     rw (← same) (record { is_reason = why; not_kept = reason_broken was.tail r reason tail why; tail = tail_same; last_time = time; known = known })
 
@@ -112,3 +140,7 @@ open_is t (Some a) c held = (λ same. let mine : a.command ≡ c = cc in rw mine
 pub open_told : (o : Option OpenCommand) (told : Option Command) (was old : Paired) → was ≡ old → IsHeld was.tail o
     → option_map (λ (a : OpenCommand). a.command) o ≡ told → (c : Command) → (told ≡ Some c) ↔ BeginsWith old.tail c
 open_told o told was old same held is c = rw (← is, ← same) (open_is was.tail o c held)
+
+-- the command that was held is held of the same records
+pub asked_held : (t seen : List LineByte) (o : Option OpenCommand) (a : OpenCommand) → IsHeld t o → o ≡ Some a → seen ≡ t → IsHeld seen (Some a)
+asked_held t seen o a held was same = rw same (rw was at held)

@@ -7,6 +7,7 @@ pub mod LineLemmas
 pub mod OrderLemmas
 pub mod ReasonLemmas
 pub mod SpellingLemmas
+pub mod StandsLemmas
 pub mod StepLemmas
 pub mod TailLemmas
 pub mod Words

@@ -1,5 +1,6 @@
 -- Which bytes spell a block.
 use Rattle.std.specs.List.{fold}
+use Rattle.block9.proofs.Words.{common_steps, drop, first_time, refl, slice_index_or, take, ◌<◌, ◌≤◌}
 use Rattle.block9.proofs.Words.{[], ap, arith, Block, body_of, last_time, length, LineByte, List, same_from_push, slice_get, Some, Spells, suc, sum, sym, ℕ, ◌%◌, ◌*◌, ◌++◌, ◌+◌}
 use Rattle.block9.proofs.Words.{◌-◌, ◌∙◌, ◌∷◌, ◌≡◌}
 
@@ -26,3 +27,19 @@ last_time-last (a ∷ b ∷ records) last e =
 pub sum_from : (start : ℕ) (bytes : List ℕ) → fold (λ a x. a + x) start bytes ≡ start + sum bytes
 sum_from start [] = omega arith
 sum_from start (byte ∷ bytes) = let more = sum_from (start + byte) bytes in let all = sum_from (0 + byte) bytes in omega arith
+
+-- the times of records by their places: of the last one, of the first after some, and of the last of some
+pub last_at : (records : List LineByte) (blank : LineByte) → 0 < length records → (slice_index_or records (length records - 1) blank).time_us ≡ last_time records
+last_at [] blank some = absurd (omega arith)
+last_at (a ∷ []) blank some = refl
+last_at (a ∷ b ∷ records) blank some =
+    let count : length (a ∷ b ∷ records) - 1 ≡ suc (length (b ∷ records) - 1) = omega arith in
+    ap (λ (n : ℕ). (slice_index_or (a ∷ b ∷ records) n blank).time_us) count ∙ last_at (b ∷ records) blank (omega arith)
+
+pub first_at : (records : List LineByte) (n : ℕ) (blank : LineByte) → n < length records → (slice_index_or records n blank).time_us ≡ first_time (drop n records)
+first_at records n blank within = grind (arith, common_steps)
+
+pub last_of_first : (records : List LineByte) (n : ℕ) (blank : LineByte) → 0 < n → n ≤ length records
+    → (slice_index_or records (n - 1) blank).time_us ≡ last_time (take n records)
+last_of_first records n blank some within =
+    let front = last_at (take n records) blank (grind (arith, common_steps)) in grind (arith, common_steps)

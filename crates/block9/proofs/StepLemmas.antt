@@ -1,9 +1,10 @@
 -- What a record that breaks no rule makes of a tail.
+use Rattle.block9.proofs.Words.{Block, common_steps, InReply, ◌+◌, ◌<◌}
 use Rattle.block9.proofs.Words.{[], after_command, AfterCommand, ap, append_assoc, arith, OpenCommand, block_len, block_of, bytes_of, closed_of, Command, Controller, Deck, IsStep, drop}
 use Rattle.block9.proofs.Words.{ends_block, false, first_time, in_command, in_reply, inl, inr, IsAnswered, IsBegun, IsCommand, IsExchange, IsHeld, IsTail, last_time, length}
 use Rattle.block9.proofs.Words.{length-append, LineByte, List, None, nothing, open_at, Option, pairing, place_of, refl, Some, Step, tail_after, take, true, ◌++◌, ◌∙◌, ◌∷◌, ◌≡◌}
 use Rattle.block9.proofs.Words.{◌≢◌, ◌≤◌}
-use Rattle.block9.proofs.LineLemmas.{first_time-push_any, whole_len}
+use Rattle.block9.proofs.LineLemmas.{first_time-push_any, whole_count, whole_len}
 use Rattle.block9.proofs.BlockSteps.{begun_push, whole_now}
 use Rattle.block9.proofs.TailLemmas.{after_command_quiet, answered, idle_quiet, in_command_quiet, in_reply_quiet, last_time-append, place_in_command, place_of_command}
 
@@ -38,6 +39,19 @@ pub reply_now : (t : List LineByte) (a : OpenCommand) → IsHeld t (Some a) → 
     → (reply : List LineByte) × (is : IsAnswered t a.command reply) × (is.block ≡ a.block)
 reply_now t a (inl h) ends = absurd (let place = place_of_command Controller t a.block h.whole in cc)
 reply_now t a (inr parts) ends = parts
+
+-- where the reply begins in the tail, by the length of the command's block
+pub reply_begin : (t : List LineByte) (a : OpenCommand) → IsHeld t (Some a) → ends_block (open_at (place_of t) t) ≡ true
+    → (block_len t ≡ length a.block.bytes.items + 3) × (length a.block.bytes.items + 3 < length t) × (place_of t ≡ InReply)
+reply_begin t a held ends =
+    let now = reply_now t a held ends in
+    let parts = answered t now.0 a.command now.1 in
+    let count = whole_count Controller now.1.command now.1.block now.1.is_command.whole in
+    let same : length now.1.block.bytes.items ≡ length a.block.bytes.items = ap (λ (b : Block). length b.bytes.items) now.2 in
+    let rest : length (drop (block_len t) t) ≡ length now.0 = ap length parts.current in
+    let front : length (take (block_len t) t) ≡ length now.1.command = ap length parts.first in
+    let some = now.1.begun.begun in
+    (grind (arith, common_steps), grind (arith, common_steps), parts.place)
 
 -- the reply's first record is not before the command's last one
 pub delay_fits : (t reply : List LineByte) (c : Command) → IsAnswered t c reply → last_time (take (block_len t) t) ≤ first_time (drop (block_len t) t)

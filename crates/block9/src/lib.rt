@@ -10,11 +10,13 @@ mod command;
 pub mod laws;
 mod line;
 mod nak;
+mod open_block;
 mod pairer;
 mod place;
 mod reason;
 mod reply;
 mod rules;
+mod tail;
 
 pub use block::Block;
 pub use command::Command;

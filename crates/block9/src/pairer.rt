@@ -1,26 +1,22 @@
 //! Pairs commands with replies, one record at a time.
-ghost use Rattle.std.specs.Prelude.{◌≡◌, ◌≤◌, length, true, IfOk, IfErr, OnErr, OnOk, None, Some};
-ghost use Rattle.std.specs.Option.{ForSome};
+ghost use Rattle.std.specs.List.{sum};
+ghost use Rattle.std.specs.Prelude.{◌≡◌, ◌≤◌, ◌%◌, ◌++◌, ◌∷◌, true, IfOk, IfErr, OnErr, None, Some};
 ghost use Rattle.block9.specs.Exchange.{IsStep, tail_after};
-ghost use Rattle.block9.specs.declared.pairer.OpenCommand.{OpenCommand as Open};
 ghost use Rattle.block9.specs.Line.{bytes_of, last_time};
 ghost use Rattle.block9.specs.Working.Body.{block_of};
-ghost use Rattle.block9.specs.Working.Held.{Closes, IsHeld, IsTurn, most_open};
-ghost use Rattle.block9.specs.Working.Table.{early_fault, ends_block, open_at, pairing, place_of, reply_fault};
+ghost use Rattle.block9.specs.Working.Held.{Closes, HoldsInPairer, IsHeld, IsTurn, Stands};
+ghost use Rattle.block9.specs.Working.Table.{early_fault, ends_block, is_soon, open_at, pairing, place_of, reply_fault};
 
 use crate::block::Block;
 use crate::command::Command;
-use crate::line::{block_len, byte_sum, ends_block, first_time, last_time};
-use crate::place::Place;
+use crate::line::last_time;
+use crate::open_block::OpenBlock;
 use crate::reason::Reason;
 use crate::reply::reply_time_valid;
+use crate::tail::Tail;
 use crate::{BYTE_GAP_US, REPLY_LIMIT_US, rules};
-use arrayvec::ArrayVec;
-use capture9::LineByte;
+use capture9::{LineByte, Wire};
 use std::marker::Model;
-
-/// The most records since the last complete exchange: a command of 18, and all of its reply but the last.
-const MOST_OPEN: usize = 35;
 
 /// A complete command and its complete reply.
 #[derive(Debug, Drop, PartialEq, Eq)]
@@ -71,142 +67,162 @@ struct OpenCommand {
     block: Block,
 }
 
-/// The rule that the record breaks before its block is complete: its turn, its time, its group.
-fn early_fault(place: Place, tail: &[LineByte], line_byte: LineByte) -> Option<Reason>
-    requires later { last_time tail.now ≤ line_byte.time_us }
-    ensures { result ≡ early_fault place tail.now line_byte }
-{
-    let since_us = line_byte.time_us - last_time(tail);
-    let soon = since_us <= REPLY_LIMIT_US;
-    rules::wire_fault(place, line_byte.wire, soon)
-        .or(rules::time_fault(place, soon, since_us <= BYTE_GAP_US))
-        .or(rules::group_fault(place, rules::allows(line_byte.wire, line_byte.byte / 16)))
+impl OpenCommand {
+    ghost use Rattle.std.specs.Prelude.{◌≡◌, ◌+◌, length};
+
+    /// How many records the command has.
+    fn len(&self) -> usize
+        ensures { result ≡ length self.now.block.bytes.items + 3 }
+    {
+        self.block.bytes.len() + 3
+    }
 }
 
-/// Whether this may be the reply to the open command, if there is one: an error is the rule that it breaks, by its kind or
-/// its time.
-#[inline(always)]
-fn reply_fits(open_command: &Option<OpenCommand>, reply: &Block) -> Result<(), Reason>
-    ensures ok { OnOk result (ForSome open_command.now (λ (a : Open). reply_fault (Some a.command) reply.now ≡ None)) }
-    ensures err { IfErr result (λ reason. (a : Open) × (open_command.now ≡ Some a) × (reply_fault (Some a.command) reply.now ≡ Some reason)) }
+/// Whether the record comes within the reply limit after the last one of the tail.
+fn is_soon(tail: &[LineByte], line_byte: LineByte) -> bool
+    requires { last_time tail.now ≤ line_byte.time_us }
+    ensures { result ≡ is_soon tail.now line_byte }
 {
-    let Some(OpenCommand { command, .. }) = open_command else {
-        return Ok(());
-    };
-    if !command.fits(reply) {
-        return Err(Reason::WrongReply);
+    line_byte.time_us - last_time(tail) <= REPLY_LIMIT_US
+}
+
+/// The rule that the record breaks before its block is complete: its turn, its time, its group. `block`: what is kept of
+/// the block that is open at the tail's end. Most records go on with it on its wire, and owe no test but that of the gap.
+#[inline(always)]
+fn early_fault(block: OpenBlock, tail: &[LineByte], line_byte: LineByte) -> Option<Reason>
+    requires stands { Stands tail.now block }
+    requires later { last_time tail.now ≤ line_byte.time_us }
+    ensures { result ≡ early_fault (place_of tail.now) tail.now line_byte }
+{
+    let place = block.place();
+    if line_byte.wire != block.wire {
+        return rules::wire_fault(place, line_byte.wire, is_soon(tail, line_byte));
     }
-    if !reply_time_valid(command, reply) {
-        return Err(Reason::InvalidReplyTime);
+    if block.left == 0 {
+        let allowed = rules::allows(line_byte.wire, line_byte.byte / 16);
+        return rules::time_fault(place, is_soon(tail, line_byte), true)
+            .or(rules::group_fault(place, allowed));
     }
-    Ok(())
+    let since_us = line_byte.time_us - tail[tail.len() - 1].time_us;
+    rules::time_fault(place, true, since_us <= BYTE_GAP_US)
+}
+
+/// The rule that this reply to the open command breaks, by its kind or its time.
+#[inline(always)]
+fn reply_fault(asked: &OpenCommand, reply: &Block) -> Option<Reason>
+    ensures { result ≡ reply_fault (Some asked.now.command) reply.now }
+{
+    if !asked.command.fits(reply) {
+        return Some(Reason::WrongReply);
+    }
+    if !reply_time_valid(&asked.command, reply) {
+        return Some(Reason::InvalidReplyTime);
+    }
+    None
+}
+
+/// The records of the reply to this command, which the tail begins with.
+fn reply_in<'a>(tail: &'a [LineByte], asked: &OpenCommand) -> &'a [LineByte]
+    requires held { IsHeld tail.now (Some asked.now) }
+    requires ends { ends_block (open_at (place_of tail.now) tail.now) ≡ true }
+    ensures { result.now ≡ open_at (place_of tail.entry.now) tail.entry.now }
+{
+    &tail[asked.len()..]
 }
 
 /// The exchange that the tail and a complete reply to its command are.
 #[inline(always)] // else an exchange is handed on through memory
-fn exchange_of(tail: &[LineByte], open_command: OpenCommand, reply: Block) -> Exchange
-    requires held { IsHeld tail.now (Some open_command) }
+fn exchange_of(tail: &[LineByte], asked: OpenCommand, reply: Block) -> Exchange
+    requires held { IsHeld tail.now (Some asked) }
     requires ends { ends_block (open_at (place_of tail.now) tail.now) ≡ true }
     requires reply { reply ≡ block_of (bytes_of (open_at (place_of tail.now) tail.now)) }
-    ensures { Closes tail.now open_command result }
+    ensures { Closes tail.now asked result }
 {
-    let OpenCommand { command, block } = open_command;
-    let (asked, answered) = tail.split_at(block_len(tail));
-    let delay_us = first_time(answered) - last_time(asked);
+    let begin = asked.len();
+    let OpenCommand { command, block } = asked;
     Exchange {
         command,
         block,
         reply,
-        time_us: first_time(tail),
-        delay_us,
+        time_us: tail[0].time_us,
+        delay_us: tail[begin].time_us - tail[begin - 1].time_us,
     }
 }
 
-/// Whether the record is the last one of the block that it goes on with, or the first rule that it breaks before its
-/// block is complete. `place`: where the tail stands.
-#[inline(always)]
-fn turn_at(place: Place, tail: &[LineByte], line_byte: LineByte) -> Result<bool, Reason>
-    requires place { place ≡ place_of tail.now }
-    requires later { last_time tail.now ≤ line_byte.time_us }
-    ensures ok { IfOk result (λ ends. IsTurn tail.now line_byte ends) }
-    ensures err { IfErr result (λ reason. pairing tail.now line_byte ≡ Some reason) }
-{
-    if let Some(reason) = early_fault(place, tail, line_byte) {
-        return Err(reason);
-    }
-    Ok(ends_block(place.open_in(tail)))
-}
-
-/// Whether the record is the last one of the block that it goes on with, or the first rule that it breaks before its block is
-/// complete. Each place has a call of its own, which is compiled for it alone: most records neither begin nor end a block,
-/// and are done after this.
-#[inline(always)]
-fn turn(tail: &[LineByte], line_byte: LineByte) -> Result<bool, Reason>
-    requires { last_time tail.now ≤ line_byte.time_us }
-    ensures ok { IfOk result (λ ends. IsTurn tail.now line_byte ends) }
-    ensures err { IfErr result (λ reason. pairing tail.now line_byte ≡ Some reason) }
-{
-    match Place::of(tail) {
-        Place::Idle => turn_at(Place::Idle, tail, line_byte),
-        Place::InCommand => turn_at(Place::InCommand, tail, line_byte),
-        Place::AfterCommand => turn_at(Place::AfterCommand, tail, line_byte),
-        Place::InReply => turn_at(Place::InReply, tail, line_byte),
-    }
-}
-
-/// What the last record of a block does, where it breaks no rule before its block is complete, or the first rule that it
-/// breaks. `open_command`: the complete command with which the tail begins, if it does; an exchange takes it, and a record that
-/// breaks a rule leaves it.
-#[inline(always)] // else an exchange is handed on through memory
-fn end(
-    tail: &[LineByte],
+/// What the last record of a command does, or the rule that the command breaks.
+#[inline(always)] // as above
+fn end_command(
+    tail: &mut Tail,
+    block: &mut OpenBlock,
     open_command: &mut Option<OpenCommand>,
     line_byte: LineByte,
 ) -> Result<Step, Reason>
-    requires held { IsHeld tail.now open_command.old }
-    requires later { last_time tail.now ≤ line_byte.time_us }
-    requires ends { IsTurn tail.now line_byte true }
-    ensures ok { IfOk result (λ step. IsStep tail.now line_byte step × IsHeld (tail_after tail.now line_byte step) open_command.new) }
-    ensures err { IfErr result (λ reason. pairing tail.now line_byte ≡ Some reason) }
-    ensures kept { OnErr result (open_command.new ≡ open_command.old) }
+    requires held { IsHeld tail.old None }
+    requires none { open_command.old ≡ None }
+    requires later { last_time tail.old ≤ line_byte.time_us }
+    requires ends { IsTurn tail.old line_byte true }
+    requires right_sum { line_byte.byte ≡ sum (bytes_of (open_at (place_of tail.old) tail.old)) % 256 }
+    ensures ok { IfOk result (λ step. IsStep tail.old line_byte step × (tail.new ≡ tail_after tail.old line_byte step) × HoldsInPairer tail.new open_command.new block.new) }
+    ensures err { IfErr result (λ reason. pairing tail.old line_byte ≡ Some reason) }
+    ensures kept { OnErr result ((tail.new ≡ tail.old) × (block.new ≡ block.old) × (open_command.new ≡ open_command.old)) }
 {
-    let place = Place::of(tail);
-    let open_block = place.open_in(tail);
-    if byte_sum(open_block) != line_byte.byte {
+    let sent = Block::of_records(tail.as_slice());
+    let Some(command) = Command::of(&sent) else {
+        return Err(Reason::InvalidCommandTime);
+    };
+    *open_command = Some(OpenCommand { command, block: sent });
+    *block = OpenBlock::to_come(Wire::Deck);
+    tail.push(line_byte);
+    Ok(Step::Command)
+}
+
+/// What the last record of a block does, or the first rule that it breaks by its sum or by what the block means. A record that
+/// breaks a rule leaves all as it is.
+#[inline(always)] // as above
+fn end(
+    tail: &mut Tail,
+    block: &mut OpenBlock,
+    open_command: &mut Option<OpenCommand>,
+    line_byte: LineByte,
+) -> Result<Step, Reason>
+    requires held { HoldsInPairer tail.old open_command.old block.old }
+    requires later { last_time tail.old ≤ line_byte.time_us }
+    requires ends { IsTurn tail.old line_byte true }
+    ensures ok { IfOk result (λ step. IsStep tail.old line_byte step × (tail.new ≡ tail_after tail.old line_byte step) × HoldsInPairer tail.new open_command.new block.new) }
+    ensures err { IfErr result (λ reason. pairing tail.old line_byte ≡ Some reason) }
+    ensures kept { OnErr result ((tail.new ≡ tail.old) × (block.new ≡ block.old) × (open_command.new ≡ open_command.old)) }
+{
+    if block.sum != line_byte.byte {
         return Err(Reason::WrongSum);
     }
-    let block = Block::of_records(open_block);
-    reply_fits(open_command, &block)?;
-    match open_command.take() {
-        Some(command) => Ok(Step::Exchange(exchange_of(tail, command, block))),
-        None => match Command::of(&block) {
-            Some(command) => {
-                *open_command = Some(OpenCommand { command, block });
-                Ok(Step::Command)
-            }
-            None => Err(Reason::InvalidCommandTime),
-        },
+    let Some(asked) = open_command.take() else {
+        return end_command(tail, block, open_command, line_byte);
+    };
+    let records = tail.as_slice();
+    let reply = Block::of_records(reply_in(records, &asked));
+    if let Some(reason) = reply_fault(&asked, &reply) {
+        *open_command = Some(asked);
+        return Err(reason);
     }
+    let exchange = exchange_of(records, asked, reply);
+    *block = OpenBlock::to_come(Wire::Controller);
+    tail.clear();
+    Ok(Step::Exchange(exchange))
 }
 
-/// Leaves the tail as a step does: it has the record at its end, or is empty after a complete exchange.
-#[inline(always)]
-fn advance(tail: &mut ArrayVec<LineByte, MOST_OPEN>, line_byte: LineByte, step: &Step)
-    requires { length (tail_after tail.old.items line_byte step.now) ≤ most_open }
-    ensures { tail.new.items ≡ tail_after tail.old.items line_byte step.now }
-{
-    match step {
-        Step::Waiting | Step::Command => tail.push(line_byte),
-        Step::Exchange(_) => tail.clear(),
-    }
-}
-
-/// Keeps the reason why a record was refused, and answers it.
-fn refuse(kept: &mut Option<Reason>, reason: Reason) -> Reason
+/// Keeps the reason why a record was refused and the record's time, and answers the reason.
+fn refuse(
+    kept: &mut Option<Reason>,
+    passed_us: &mut Option<u64>,
+    reason: Reason,
+    time_us: u64,
+) -> Reason
     ensures same { result ≡ reason }
     ensures kept { kept.new ≡ Some reason }
+    ensures passed { passed_us.new ≡ Some time_us }
 {
     *kept = Some(reason);
+    *passed_us = Some(time_us);
     reason
 }
 
@@ -217,23 +233,26 @@ fn refuse(kept: &mut Option<Reason>, reason: Reason) -> Reason
 /// takes memory.
 #[derive(Drop)]
 pub struct Pairer {
-    tail: ArrayVec<LineByte, MOST_OPEN>,
+    tail: Tail,
+    /// The block that is open at the tail's end.
+    block: OpenBlock,
     /// The command with which the tail begins, once it is complete.
     open_command: Option<OpenCommand>,
-    last_time: Option<u64>,
+    /// The time of the last record that is not in the tail: it ended an exchange, or broke a rule.
+    passed_us: Option<u64>,
     reason: Option<Reason>,
 }
 
 impl Model for Pairer {
     ghost use Rattle.std.specs.Prelude.{◌≡◌, None};
     ghost use Rattle.block9.specs.Pairer.{Paired};
-    ghost use Rattle.block9.specs.Working.Held.{HoldsInPairer};
+    ghost use Rattle.block9.specs.Working.Held.{HoldsInPairer, last_fed};
 
     ghost Value = { Paired };
 
-    ghost view = { λ p. record { tail = p.tail.items; last_time = p.last_time; reason = p.reason } };
+    ghost view = { λ p. record { tail = p.tail; last_time = last_fed p.tail p.reason p.passed_us; reason = p.reason } };
 
-    ghost invariant = { λ p. HoldsInPairer p.tail.items p.open_command p.last_time };
+    ghost invariant = { λ p. HoldsInPairer p.tail p.open_command p.block };
 }
 
 impl Pairer {
@@ -246,9 +265,10 @@ impl Pairer {
         ensures { result ≡ record { tail = []; last_time = None; reason = None } }
     {
         Pairer {
-            tail: ArrayVec::new(),
+            tail: Tail::new(),
+            block: OpenBlock::to_come(Wire::Controller),
             open_command: None,
-            last_time: None,
+            passed_us: None,
             reason: None,
         }
     }
@@ -275,20 +295,27 @@ impl Pairer {
         if let Some(reason) = self.reason {
             return Err(reason);
         }
-        self.last_time = Some(line_byte.time_us);
-        match turn(self.tail.as_slice(), line_byte) {
-            Ok(false) => {
-                self.tail.push(line_byte);
-                Ok(Step::Waiting)
+        if let Some(reason) = early_fault(self.block, self.tail.as_slice(), line_byte) {
+            let kept = &mut self.reason;
+            return Err(refuse(kept, &mut self.passed_us, reason, line_byte.time_us));
+        }
+        if self.block.left != 1 {
+            self.block = self.block.grown(line_byte.byte);
+            self.tail.push(line_byte);
+            return Ok(Step::Waiting);
+        }
+        self.passed_us = Some(line_byte.time_us);
+        match end(
+            &mut self.tail,
+            &mut self.block,
+            &mut self.open_command,
+            line_byte,
+        ) {
+            Ok(step) => Ok(step),
+            Err(reason) => {
+                self.reason = Some(reason);
+                Err(reason)
             }
-            Ok(true) => match end(self.tail.as_slice(), &mut self.open_command, line_byte) {
-                Ok(step) => {
-                    advance(&mut self.tail, line_byte, &step);
-                    Ok(step)
-                }
-                Err(reason) => Err(refuse(&mut self.reason, reason)),
-            },
-            Err(reason) => Err(refuse(&mut self.reason, reason)),
         }
     }
 
@@ -297,7 +324,11 @@ impl Pairer {
     pub fn last_time(&self) -> Option<u64>
         ensures { result ≡ self.now.last_time }
     {
-        self.last_time
+        let tail = self.tail.as_slice();
+        if self.reason.is_some() || tail.is_empty() {
+            return self.passed_us;
+        }
+        Some(last_time(tail))
     }
 
     /// The records since the last complete exchange: those of a command whose reply is unfinished yet, with what there is of the

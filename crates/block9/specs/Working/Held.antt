@@ -1,9 +1,15 @@
 -- What a `Pairer` holds, which callers do not see, and what a record does to it.
-use Rattle.std.specs.Prelude.{ℕ, ◌≡◌, ◌≤◌, ◌-◌, ◌⊎◌, length, Bool, Option, Some, None, List, [], take, drop}
+use Rattle.std.specs.Prelude.{ℕ, ◌≡◌, ◌<◌, ◌≤◌, ◌+◌, ◌-◌, ◌%◌, ◌==◌, ◌⊎◌, if◌then◌else◌, length, Bool, true, false, Option, Some, None, List, [], ◌∷◌, take, drop}
+use Rattle.std.specs.List.{sum}
 use Rattle.capture9.specs.declared.line_byte.LineByte.{LineByte}
-use Rattle.capture9.specs.declared.line_byte.Wire.TheVariants.{Controller}
+use Rattle.capture9.specs.declared.line_byte.Wire.{Wire}
+use Rattle.capture9.specs.declared.line_byte.Wire.TheVariants.{Controller, Deck}
+use Rattle.block9.specs.declared.open_block.OpenBlock.{OpenBlock}
 use Rattle.block9.specs.declared.pairer.OpenCommand.{OpenCommand}
 use Rattle.block9.specs.declared.pairer.Exchange.{Exchange}
+use Rattle.block9.specs.declared.place.Place.{Place}
+use Rattle.block9.specs.declared.place.Place.TheVariants.{Idle, InCommand, AfterCommand, InReply}
+use Rattle.block9.specs.declared.reason.Reason.{Reason}
 use Rattle.block9.specs.Exchange.{IsCommand}
 use Rattle.block9.specs.Line.{IsBegun, block_len, bytes_of, first_time, last_time}
 use Rattle.block9.specs.Reason.{IsAnswered}
@@ -15,20 +21,46 @@ abbrev pub IsHeld : List LineByte → Option OpenCommand → Type 0
 IsHeld records None = (records ≡ []) ⊎ IsBegun Controller records
 IsHeld records (Some a) = IsCommand records a.block a.command ⊎ ((reply : List LineByte) × (is : IsAnswered records a.command reply) × (is.block ≡ a.block))
 
--- a time that is known, and is not before this one; with none known, it is 0
-abbrev pub IsNotBefore : Option ℕ → ℕ → Type 0
-IsNotBefore None time = time ≡ 0
-IsNotBefore (Some last) time = time ≤ last
+-- a block on a wire that is not begun
+abbrev pub to_come : Wire → OpenBlock
+to_come wire = record { wire = wire; left = 0; sum = 0 }
+
+-- a block with one byte more, which is not its last
+abbrev pub grown : OpenBlock → ℕ → OpenBlock
+grown b byte =
+    if b.left == 0 then record { wire = b.wire; left = byte % 16 + 2; sum = byte }
+    else record { wire = b.wire; left = b.left - 1; sum = (b.sum + byte) % 256 }
+
+-- where a tail stands, by the block at its end
+abbrev pub place_on : Wire → Bool → Place
+place_on Controller true = Idle
+place_on Controller false = InCommand
+place_on Deck true = AfterCommand
+place_on Deck false = InReply
+
+abbrev pub place_at : OpenBlock → Place
+place_at b = place_on b.wire (b.left == 0)
+
+-- what is kept of the block that is open at the end of a tail
+pub record Stands (tail : List LineByte) (b : OpenBlock) : Type 0 where
+  pub place : place_at b ≡ place_of tail
+  pub left : length (open_at (place_of tail) tail) + b.left ≡ block_len (open_at (place_of tail) tail)
+  pub sum_so_far : 0 < b.left → b.sum ≡ sum (bytes_of (open_at (place_of tail) tail)) % 256
+
+-- the time of the last record that was fed: the tail's last one, but for one that ended an exchange or broke a rule
+abbrev pub last_fed : List LineByte → Option Reason → Option ℕ → Option ℕ
+last_fed [] reason passed = passed
+last_fed (r ∷ records) None passed = Some (last_time (r ∷ records))
+last_fed (r ∷ records) (Some reason) passed = passed
 
 -- the most records since the last complete exchange: a command of 18, and all of its reply but the last
 abbrev pub most_open : ℕ
 most_open = 35
 
--- what holds inside a `Pairer`: none of its records is later than the last one that was fed
-pub record HoldsInPairer (records : List LineByte) (asked : Option OpenCommand) (last : Option ℕ) : Type 0 where
+-- what holds inside a `Pairer`
+pub record HoldsInPairer (records : List LineByte) (asked : Option OpenCommand) (b : OpenBlock) : Type 0 where
   pub held : IsHeld records asked
-  pub short : length records ≤ most_open
-  pub in_order : IsNotBefore last (last_time records)
+  pub stands : Stands records b
 
 -- a record that breaks no rule before its block is complete, and whether it is the last one of its block
 abbrev pub IsTurn : List LineByte → LineByte → Bool → Type 0

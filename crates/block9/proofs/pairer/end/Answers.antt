@@ -1,28 +1,30 @@
-use Rattle.block9.proofs.Words.{[], rules, block_of, bytes_of, inl, IsHeld, open_at, place_of, refl, subst, sym, ◌∙◌, ◌≡◌}
-use Rattle.block9.proofs.FeedLemmas.{ends_command, ends_exchange, reply_says}
+use Rattle.block9.proofs.Words.{[], arith, block_of, bytes_of, inl, IsHeld, None, open_at, place_of, refl, reply_fault, rules, Some, subst, sym, ◌∙◌, ◌≡◌}
+use Rattle.block9.proofs.FeedLemmas.{asked_held, ends_exchange, reply_says}
+use Rattle.block9.proofs.StandsLemmas.{right_sum, stands_idle}
 use Rattle.block9.proofs.pairer.end.Goals as goal
 
-pub returns-in_err-reply_fits-clause-err : goal.returns-in_err-reply_fits-clause-err
-returns-in_err-reply_fits-clause-err c =
-    let told = c.in_err-reply_fits.ensures.err in
-    let held = subst (IsHeld c.args.tail.now) told.1 c.requires.held in
-    let block : block_of (bytes_of (open_at (place_of c.args.tail.now) c.args.tail.now)) ≡ c.of_records-block.result = cc in
-    let says = reply_says c.args.tail.now told.0 c.args.line_byte _ held c.requires.ends (cc) (rw (← block) at told.2) in
-    search (rules, says)
+pub reply_in-requires-clause-held : goal.reply_in-requires-clause-held
+reply_in-requires-clause-held c =
+    asked_held _ _ _ _ c.requires.held.held (sym c.take.ensures.value ∙ c.in-Some.is) c.as_slice-records.ensures
 
-pub returns-in-Some-clause-ok : goal.returns-in-Some-clause-ok
-returns-in-Some-clause-ok c =
-    let was = sym c.take.ensures.value ∙ c.in-Some.is in
-    let held = subst (IsHeld c.args.tail.now) was c.requires.held in
-    let block : block_of (bytes_of (open_at (place_of c.args.tail.now) c.args.tail.now)) ≡ c.of_records-block.result = cc in
-    let fits = rw (← block) at (c.in_ok-reply_fits.ensures.ok _ was) in
-    let exchange = ends_exchange c.args.tail.now c.in-Some.command c.args.line_byte c.exchange_of.result held c.requires.later c.requires.ends (cc)
-    c.exchange_of.ensures fits in
-    (exchange, subst (IsHeld []) (sym c.take.ensures.after) (inl refl))
+pub returns-in-Some-reply_fault-clause-err : goal.returns-in-Some-reply_fault-clause-err
+returns-in-Some-reply_fault-clause-err c =
+    let held = asked_held _ _ _ _ c.requires.held.held (sym c.take.ensures.value ∙ c.in-Some.is) refl in
+    let right = right_sum c.args.tail.now c.args.block.now c.args.line_byte.byte c.requires.held.stands (sym c.requires.ends.1) (search rules) in
+    let block : c.of_records-reply.result ≡ block_of (bytes_of (open_at (place_of c.args.tail.now) c.args.tail.now)) = cc in
+    let meant : reply_fault (Some c.in-Some.asked.command) (block_of (bytes_of (open_at (place_of c.args.tail.now) c.args.tail.now))) ≡ Some c.in-Some-reply_fault.reason = cc in
+    reply_says c.args.tail.now c.in-Some.asked c.args.line_byte _ held c.requires.ends right meant
 
-pub returns-in-Some-of-clause-ok : goal.returns-in-Some-of-clause-ok
-returns-in-Some-of-clause-ok c =
-    let held = subst (IsHeld c.args.tail.now) (sym c.take.ensures.value ∙ c.in-None.is) c.requires.held in
-    let block : block_of (bytes_of (open_at (place_of c.args.tail.now) c.args.tail.now)) ≡ c.of_records-block.result = cc in
-    let command = rw block at (ends_command c.args.tail.now c.args.line_byte c.in-Some-of.command held c.requires.later c.requires.ends (cc) (cc)) in
-    ((c.of_records-block.result, c.in-Some-of.command, command), inl command)
+pub exchange_of-exchange-requires-clause-held : goal.exchange_of-exchange-requires-clause-held
+exchange_of-exchange-requires-clause-held c =
+    asked_held _ _ _ _ c.requires.held.held (sym c.take.ensures.value ∙ c.in-Some.is) c.as_slice-records.ensures
+
+pub returns-clause-ok : goal.returns-clause-ok
+returns-clause-ok c =
+    let held = asked_held _ _ _ _ c.requires.held.held (sym c.take.ensures.value ∙ c.in-Some.is) refl in
+    let right = right_sum c.args.tail.now c.args.block.now c.args.line_byte.byte c.requires.held.stands (sym c.requires.ends.1) (search rules) in
+    let block : c.of_records-reply.result ≡ block_of (bytes_of (open_at (place_of c.args.tail.now) c.args.tail.now)) = cc in
+    let meant : reply_fault (Some c.in-Some.asked.command) (block_of (bytes_of (open_at (place_of c.args.tail.now) c.args.tail.now))) ≡ None = search rules in
+    let closes = rw c.as_slice-records.ensures at c.exchange_of-exchange.ensures in
+    let exchange = ends_exchange c.args.tail.now c.in-Some.asked c.args.line_byte c.exchange_of-exchange.result held c.requires.later c.requires.ends right closes meant in
+    rw (c.clear.ensures, c.to_come.ensures, c.take.ensures.after) (exchange, refl, record { held = inl refl; stands = stands_idle })
