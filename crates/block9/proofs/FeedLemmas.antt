@@ -1,5 +1,5 @@
 -- What a pairer answers, and what it holds, after one more record.
-use Rattle.block9.proofs.Words.{Deck, early_fault, to_come, ends_block, grown, last_fed, length_push, OpenBlock, refl, ◌<◌, ◌≢◌}
+use Rattle.block9.proofs.Words.{Deck, early_fault, next_of, to_come, ends_block, grown, last_fed, length_push, OpenBlock, refl, ◌<◌, ◌≢◌}
 use Rattle.block9.proofs.Words.{append-nil, ap, BeginsWith, option_map, ◌↔◌, ◌∙◌, ◌+◌, length, length-append, block_len, inl, inr}
 use Rattle.block9.proofs.Words.{[], arith, OpenCommand, block_of, Bool, bytes_of, Closes, Command, command_of, Controller, IsStep, Exchange, false, ForSome, HoldsInPairer}
 use Rattle.block9.proofs.Words.{IsCommand, IsExchange, IsHeld, IsTurn, last_time, LineByte, List, nat_tests, None, open_at, Option, Paired, pairing}
@@ -79,14 +79,16 @@ pub fed_refused : (t : List LineByte) (reason : Reason) (passed : Option ℕ) �
 fed_refused [] reason passed = refl
 fed_refused (a ∷ t) reason passed = refl
 
-pub held_waiting : (t : List LineByte) (o : Option OpenCommand) (b : OpenBlock) (r : LineByte) → HoldsInPairer t o b → last_time t ≤ r.time_us
-    → early_fault (place_of t) t r ≡ None → b.left ≢ 1 → r.byte < 256
-    → HoldsInPairer (t ++ r ∷ []) o (grown b r.byte) × (length t < 35) × IsStep t r Step.Waiting
-held_waiting t o b r h later quiet more byte =
+pub held_waiting : (t : List LineByte) (o : Option OpenCommand) (b : OpenBlock) (r : LineByte) (next : OpenBlock) → HoldsInPairer t o b → last_time t ≤ r.time_us
+    → early_fault (place_of t) t r ≡ None → Some next ≡ next_of b r.byte → r.byte < 256
+    → HoldsInPairer (t ++ r ∷ []) o next × (length t < 35) × IsStep t r Step.Waiting
+held_waiting t o b r next h later quiet is_next byte =
+    let more : b.left ≢ 1 = λ one. grind (arith, nat_tests) in
+    let same : next ≡ grown b r.byte = grind (arith, nat_tests) in
     let goes_on : ends_block (open_at (place_of t) t) ≡ false = let ends = ends_by_left t b h.stands in grind (arith, nat_tests) in
     let still = waits t o r h.held later (grind (arith, nat_tests)) goes_on in
     let tail = held_tail (t ++ r ∷ []) o still.0 in (
-      record { held = still.0; stands = stands_push t r b h.stands more byte },
+      record { held = still.0; stands = rw same (stands_push t r b h.stands more byte) },
       (omega (arith, tail_short _ tail, length_push t r)),
       (tail, λ b c k. still.1 (place_of_command Controller (t ++ r ∷ []) b k.whole)),
     )

@@ -3,8 +3,9 @@ use Rattle.block9.proofs.Words.{[], AfterCommand, arith, block_len, bytes_of, Co
 use Rattle.block9.proofs.Words.{nat_tests, open_at, OpenBlock, place_at, place_of, refl, Stands, sum, sym, to_come, ℕ, ◌%◌, ◌++◌, ◌+◌, ◌-◌, ◌<◌, ◌==◌, ◌∷◌, ◌≡◌, ◌≢◌, ◌≤◌, ◌∙◌}
 use Rattle.std.proofs.lemmas.List.Sums.{fold_push}
 use Rattle.std.proofs.lemmas.List.{drop-append-le, length-drop}
+use Rattle.block9.proofs.Words.{ByteGap, if◌then◌else◌, None, Option, Some, wire_fault}
 use Rattle.block9.proofs.Words.{ap, Bool, Idle, map_push, Place}
-use Rattle.block9.proofs.Words.{allows, early_fault, false, group_fault, group_in, is_soon, last_time, nat_le, option_or, place_on, time_fault, true, Wire, byte_gap}
+use Rattle.block9.proofs.Words.{early_fault, false, is_soon, last_time, nat_le, place_on, true, Wire, byte_gap}
 use Rattle.block9.proofs.LineLemmas.{block_len-append}
 
 -- where a block is begun there is a record
@@ -34,26 +35,26 @@ stands_after t e = record { place = sym e; left = rw e refl; sum_so_far = λ som
 
 -- ---- what the table says of a record on the wire whose turn it is
 
--- the first one of a block, whose gap is free
-first_faults : (w : Wire) (t : List LineByte) (r : LineByte) → r.wire ≡ w
-    → option_or (time_fault (place_on w true) (is_soon t r) true) (group_fault (place_on w true) (allows r.wire (group_in r.byte)))
-    ≡ early_fault (place_on w true) t r
-first_faults Controller t r e = grind (arith, nat_tests)
-first_faults Deck t r e = grind (arith, nat_tests)
+-- its wire breaks no rule
+right_wire : (wire w : Wire) (first soon : Bool) → wire ≡ w → wire_fault (place_on w first) wire soon ≡ None
+right_wire wire Controller true soon e = rw e refl
+right_wire wire Controller false soon e = rw e refl
+right_wire wire Deck true soon e = rw e refl
+right_wire wire Deck false soon e = rw e refl
 
--- one that goes on with a block, on which no limit but the gap is
-next_faults : (w : Wire) (t : List LineByte) (r : LineByte) → r.wire ≡ w
-    → time_fault (place_on w false) true (nat_le r.time_us (last_time t + byte_gap)) ≡ early_fault (place_on w false) t r
-next_faults Controller t r e = grind (arith, nat_tests)
-next_faults Deck t r e = grind (arith, nat_tests)
+pub its_turn : (t : List LineByte) (r : LineByte) (b : OpenBlock) → r.wire ≡ b.wire → wire_fault (place_at b) r.wire (is_soon t r) ≡ None
+its_turn t r b e = right_wire r.wire b.wire (b.left == 0) (is_soon t r) e
 
-pub first_told : (t : List LineByte) (r : LineByte) (b : OpenBlock) → Stands t b → r.wire ≡ b.wire → b.left ≡ 0
-    → option_or (time_fault (place_at b) (is_soon t r) true) (group_fault (place_at b) (allows r.wire (group_in r.byte))) ≡ early_fault (place_of t) t r
-first_told t r b h wire none = rw (← h.place, none) (first_faults b.wire t r wire)
+-- inside a block it breaks the limit on the gap, or nothing
+gap_of : (w : Wire) (t : List LineByte) (r : LineByte) → wire_fault (place_on w false) r.wire (is_soon t r) ≡ None
+    → early_fault (place_on w false) t r ≡ (if nat_le r.time_us (last_time t + byte_gap) then None else Some ByteGap)
+gap_of Controller t r e = grind (arith, nat_tests)
+gap_of Deck t r e = grind (arith, nat_tests)
 
-pub next_told : (t : List LineByte) (r : LineByte) (b : OpenBlock) → Stands t b → r.wire ≡ b.wire → b.left ≢ 0
-    → time_fault (place_at b) true (nat_le r.time_us (last_time t + byte_gap)) ≡ early_fault (place_of t) t r
-next_told t r b h wire some = let begun : (b.left == 0) ≡ false = grind (arith, nat_tests) in rw (← h.place, begun) (next_faults b.wire t r wire)
+pub gap_told : (t : List LineByte) (r : LineByte) (b : OpenBlock) → Stands t b → wire_fault (place_at b) r.wire (is_soon t r) ≡ None → b.left ≢ 0
+    → early_fault (place_of t) t r ≡ (if nat_le r.time_us (last_time t + byte_gap) then None else Some ByteGap)
+gap_told t r b h turn some =
+    let begun : (b.left == 0) ≡ false = grind (arith, nat_tests) in rw (← h.place, begun) (gap_of b.wire t r (rw begun at turn))
 
 -- ---- one more record, which is not the last one of its block
 

@@ -3,12 +3,12 @@ pub use Rattle.block9.specs.Block.{body_of, spelling, Spells}
 pub use Rattle.block9.specs.Command.{command_of, fits, is_reply_time_valid}
 pub use Rattle.block9.specs.Exchange.{Cut, IsStep, IsCommand, IsExchange, IsInTime, IsKept, IsTail, tail_after}
 pub use Rattle.block9.specs.Exchange.IsTail.{after_command, in_command, in_reply, nothing}
-pub use Rattle.block9.specs.Line.{allows, block_len, byte_gap, bytes_of, first_time, group_in, IsBegun, IsLinked, IsWhole, last_time}
+pub use Rattle.block9.specs.Line.{block_len, byte_gap, bytes_of, first_time, IsBegun, IsLinked, IsWhole, last_time}
 pub use Rattle.block9.specs.Pairer.{BeginsWith, Paired, Refuses, Takes}
 pub use Rattle.block9.specs.Reason.{EndsReply, Holds, IsAnswered, IsFirst, IsReason, IsWholeCommand, order}
 pub use Rattle.block9.specs.Working.Body.{block_of}
-pub use Rattle.block9.specs.Working.Held.{closed_of, Closes, grown, HoldsInPairer, IsHeld, IsTurn, last_fed, place_at, place_on, Stands, to_come}
-pub use Rattle.block9.specs.Working.Table.{early_fault, ends_block, fault_at, group_fault, is_soon, open_at, pairing, place_of, reply_fault, time_fault}
+pub use Rattle.block9.specs.Working.Held.{closed_of, Closes, grown, HoldsInPairer, IsHeld, IsTurn, last_fed, next_of, place_at, place_on, Stands, to_come}
+pub use Rattle.block9.specs.Working.Table.{early_fault, ends_block, fault_at, is_soon, open_at, pairing, place_of, reply_fault, wire_fault}
 pub use Rattle.block9.specs.declared.block.Block.{Block}
 pub use Rattle.block9.specs.declared.command.Command.{Command}
 pub use Rattle.block9.specs.declared.open_block.OpenBlock.{OpenBlock}
@@ -31,5 +31,5 @@ pub use Rattle.std.proofs.lemmas.Grind.{common_steps}
 pub use Rattle.std.proofs.lemmas.List.{append-nil, append_assoc, drop_at, length-map, length_push, map_push, same_from_push, take-append-le, take_all, take_at, take_more}
 pub use Rattle.std.specs.List.{slice_get, sum}
 pub use Rattle.std.specs.Option.{ForSome, option_or}
-pub use Rattle.std.specs.Prelude.{nat_le, option_map}
+pub use Rattle.std.specs.Prelude.{if◌then◌else◌, nat_le, option_map}
 unfoldable pub use Rattle.tc25.specs.Day.{time_of}

@@ -17,7 +17,7 @@ pub(crate) struct OpenBlock {
 
 impl OpenBlock {
     ghost use Rattle.std.specs.Prelude.{◌≡◌, ◌≢◌, ◌≤◌};
-    ghost use Rattle.block9.specs.Working.Held.{grown, place_at, to_come};
+    ghost use Rattle.block9.specs.Working.Held.{grown, next_of, place_at, to_come};
 
     /// A block on this wire that is not begun.
     pub(crate) fn to_come(wire: Wire) -> OpenBlock
@@ -42,22 +42,30 @@ impl OpenBlock {
         }
     }
 
-    /// The block with one record more, which is not its last: with the first one its length is known.
-    pub(crate) fn grown(self, byte: u8) -> OpenBlock
-        requires { self.left ≢ 1 }
+    /// The block with its first byte, from which on it is known how many records it has.
+    pub(crate) fn begun(self, byte: u8) -> OpenBlock
+        requires { self.left ≡ 0 }
         ensures { result ≡ grown self byte }
     {
-        match self.left {
-            0 => OpenBlock {
-                left: byte % 16 + 2,
-                sum: byte,
-                ..self
-            },
-            left => OpenBlock {
-                left: left - 1,
-                sum: self.sum.wrapping_add(byte),
-                ..self
-            },
+        OpenBlock {
+            wire: self.wire,
+            left: byte % 16 + 2,
+            sum: byte,
         }
+    }
+
+    /// The begun block with one byte more, or none where that is its last.
+    pub(crate) fn longer(self, byte: u8) -> Option<OpenBlock>
+        requires { self.left ≢ 0 }
+        ensures { result ≡ next_of self byte }
+    {
+        if self.left == 1 {
+            return None;
+        }
+        Some(OpenBlock {
+            wire: self.wire,
+            left: self.left - 1,
+            sum: self.sum.wrapping_add(byte),
+        })
     }
 }

@@ -4,13 +4,14 @@ ghost use Rattle.std.specs.Prelude.{◌≡◌, ◌≤◌, ◌%◌, ◌++◌, ◌
 ghost use Rattle.block9.specs.Exchange.{IsStep, tail_after};
 ghost use Rattle.block9.specs.Line.{bytes_of, last_time};
 ghost use Rattle.block9.specs.Working.Body.{block_of};
-ghost use Rattle.block9.specs.Working.Held.{Closes, HoldsInPairer, IsHeld, IsTurn, Stands};
+ghost use Rattle.block9.specs.Working.Held.{Closes, HoldsInPairer, IsHeld, IsTurn, Stands, next_of, place_on};
 ghost use Rattle.block9.specs.Working.Table.{early_fault, ends_block, is_soon, open_at, pairing, place_of, reply_fault};
 
 use crate::block::Block;
 use crate::command::Command;
 use crate::line::last_time;
 use crate::open_block::OpenBlock;
+use crate::place::Place;
 use crate::reason::Reason;
 use crate::reply::reply_time_valid;
 use crate::tail::Tail;
@@ -86,25 +87,59 @@ fn is_soon(tail: &[LineByte], line_byte: LineByte) -> bool
     line_byte.time_us - last_time(tail) <= REPLY_LIMIT_US
 }
 
-/// The rule that the record breaks before its block is complete: its turn, its time, its group. `block`: what is kept of
-/// the block that is open at the tail's end. Most records go on with it on its wire, and owe no test but that of the gap.
+/// The rule that a record on the wire whose turn it is breaks as the first one of its block: its time, its group.
 #[inline(always)]
-fn early_fault(block: OpenBlock, tail: &[LineByte], line_byte: LineByte) -> Option<Reason>
+fn first_fault(tail: &[LineByte], line_byte: LineByte) -> Option<Reason>
+    requires { last_time tail.now ≤ line_byte.time_us }
+    ensures { result ≡ early_fault (place_on line_byte.wire true) tail.now line_byte }
+{
+    let allowed = rules::allows(line_byte.wire, line_byte.byte / 16);
+    match line_byte.wire {
+        Wire::Controller => rules::group_fault(Place::Idle, allowed),
+        Wire::Deck => rules::time_fault(Place::AfterCommand, is_soon(tail, line_byte))
+            .or(rules::group_fault(Place::AfterCommand, allowed)),
+    }
+}
+
+/// What the block at the tail's end is with the record, or none where the record is its last one; or the first rule that the
+/// record breaks before its block is complete. Most records go on with a block on its wire, and owe the test of the gap alone.
+#[inline(always)]
+fn turn(
+    block: OpenBlock,
+    tail: &[LineByte],
+    line_byte: LineByte,
+) -> Result<Option<OpenBlock>, Reason>
     requires stands { Stands tail.now block }
     requires later { last_time tail.now ≤ line_byte.time_us }
-    ensures { result ≡ early_fault (place_of tail.now) tail.now line_byte }
+    ensures ok { IfOk result (λ next. (early_fault (place_of tail.now) tail.now line_byte ≡ None) × (next ≡ next_of block line_byte.byte)) }
+    ensures err { IfErr result (λ reason. early_fault (place_of tail.now) tail.now line_byte ≡ Some reason) }
 {
-    let place = block.place();
     if line_byte.wire != block.wire {
-        return rules::wire_fault(place, line_byte.wire, is_soon(tail, line_byte));
+        let soon = is_soon(tail, line_byte);
+        if let Some(reason) = rules::wire_fault(block.place(), line_byte.wire, soon) {
+            return Err(reason);
+        }
     }
     if block.left == 0 {
-        let allowed = rules::allows(line_byte.wire, line_byte.byte / 16);
-        return rules::time_fault(place, is_soon(tail, line_byte), true)
-            .or(rules::group_fault(place, allowed));
+        return match first_fault(tail, line_byte) {
+            Some(reason) => Err(reason),
+            None => Ok(Some(block.begun(line_byte.byte))),
+        };
     }
-    let since_us = line_byte.time_us - tail[tail.len() - 1].time_us;
-    rules::time_fault(place, true, since_us <= BYTE_GAP_US)
+    if line_byte.time_us - tail[tail.len() - 1].time_us > BYTE_GAP_US {
+        return Err(Reason::ByteGap);
+    }
+    Ok(block.longer(line_byte.byte))
+}
+
+/// Keeps the reason why a record is refused, and refuses it.
+#[inline(always)] // as below
+fn refuse(kept: &mut Option<Reason>, reason: Reason) -> Result<Step, Reason>
+    ensures refused { result ≡ Err reason }
+    ensures kept { kept.new ≡ Some reason }
+{
+    *kept = Some(reason);
+    Err(reason)
 }
 
 /// The rule that this reply to the open command breaks, by its kind or its time.
@@ -155,6 +190,7 @@ fn end_command(
     tail: &mut Tail,
     block: &mut OpenBlock,
     open_command: &mut Option<OpenCommand>,
+    kept: &mut Option<Reason>,
     line_byte: LineByte,
 ) -> Result<Step, Reason>
     requires held { IsHeld tail.old None }
@@ -162,13 +198,13 @@ fn end_command(
     requires later { last_time tail.old ≤ line_byte.time_us }
     requires ends { IsTurn tail.old line_byte true }
     requires right_sum { line_byte.byte ≡ sum (bytes_of (open_at (place_of tail.old) tail.old)) % 256 }
-    ensures ok { IfOk result (λ step. IsStep tail.old line_byte step × (tail.new ≡ tail_after tail.old line_byte step) × HoldsInPairer tail.new open_command.new block.new) }
-    ensures err { IfErr result (λ reason. pairing tail.old line_byte ≡ Some reason) }
-    ensures kept { OnErr result ((tail.new ≡ tail.old) × (block.new ≡ block.old) × (open_command.new ≡ open_command.old)) }
+    ensures ok { IfOk result (λ step. IsStep tail.old line_byte step × (tail.new ≡ tail_after tail.old line_byte step) × HoldsInPairer tail.new open_command.new block.new × (kept.new ≡ kept.old)) }
+    ensures err { IfErr result (λ reason. (pairing tail.old line_byte ≡ Some reason) × (kept.new ≡ Some reason) × (tail.new ≡ tail.old)) }
+    ensures same { OnErr result ((tail.new ≡ tail.old) × (block.new ≡ block.old) × (open_command.new ≡ open_command.old)) }
 {
     let sent = Block::of_records(tail.as_slice());
     let Some(command) = Command::of(&sent) else {
-        return Err(Reason::InvalidCommandTime);
+        return refuse(kept, Reason::InvalidCommandTime);
     };
     *open_command = Some(OpenCommand { command, block: sent });
     *block = OpenBlock::to_come(Wire::Deck);
@@ -183,47 +219,32 @@ fn end(
     tail: &mut Tail,
     block: &mut OpenBlock,
     open_command: &mut Option<OpenCommand>,
+    kept: &mut Option<Reason>,
     line_byte: LineByte,
 ) -> Result<Step, Reason>
     requires held { HoldsInPairer tail.old open_command.old block.old }
     requires later { last_time tail.old ≤ line_byte.time_us }
     requires ends { IsTurn tail.old line_byte true }
-    ensures ok { IfOk result (λ step. IsStep tail.old line_byte step × (tail.new ≡ tail_after tail.old line_byte step) × HoldsInPairer tail.new open_command.new block.new) }
-    ensures err { IfErr result (λ reason. pairing tail.old line_byte ≡ Some reason) }
-    ensures kept { OnErr result ((tail.new ≡ tail.old) × (block.new ≡ block.old) × (open_command.new ≡ open_command.old)) }
+    ensures ok { IfOk result (λ step. IsStep tail.old line_byte step × (tail.new ≡ tail_after tail.old line_byte step) × HoldsInPairer tail.new open_command.new block.new × (kept.new ≡ kept.old)) }
+    ensures err { IfErr result (λ reason. (pairing tail.old line_byte ≡ Some reason) × (kept.new ≡ Some reason) × (tail.new ≡ tail.old)) }
+    ensures same { OnErr result ((tail.new ≡ tail.old) × (block.new ≡ block.old) × (open_command.new ≡ open_command.old)) }
 {
     if block.sum != line_byte.byte {
-        return Err(Reason::WrongSum);
+        return refuse(kept, Reason::WrongSum);
     }
     let Some(asked) = open_command.take() else {
-        return end_command(tail, block, open_command, line_byte);
+        return end_command(tail, block, open_command, kept, line_byte);
     };
     let records = tail.as_slice();
     let reply = Block::of_records(reply_in(records, &asked));
     if let Some(reason) = reply_fault(&asked, &reply) {
         *open_command = Some(asked);
-        return Err(reason);
+        return refuse(kept, reason);
     }
     let exchange = exchange_of(records, asked, reply);
     *block = OpenBlock::to_come(Wire::Controller);
     tail.clear();
     Ok(Step::Exchange(exchange))
-}
-
-/// Keeps the reason why a record was refused and the record's time, and answers the reason.
-fn refuse(
-    kept: &mut Option<Reason>,
-    passed_us: &mut Option<u64>,
-    reason: Reason,
-    time_us: u64,
-) -> Reason
-    ensures same { result ≡ reason }
-    ensures kept { kept.new ≡ Some reason }
-    ensures passed { passed_us.new ≡ Some time_us }
-{
-    *kept = Some(reason);
-    *passed_us = Some(time_us);
-    reason
 }
 
 /// Pairs commands with replies, one record at a time.
@@ -295,28 +316,26 @@ impl Pairer {
         if let Some(reason) = self.reason {
             return Err(reason);
         }
-        if let Some(reason) = early_fault(self.block, self.tail.as_slice(), line_byte) {
-            let kept = &mut self.reason;
-            return Err(refuse(kept, &mut self.passed_us, reason, line_byte.time_us));
-        }
-        if self.block.left != 1 {
-            self.block = self.block.grown(line_byte.byte);
-            self.tail.push(line_byte);
-            return Ok(Step::Waiting);
+        match turn(self.block, self.tail.as_slice(), line_byte) {
+            Ok(Some(block)) => {
+                self.block = block;
+                self.tail.push(line_byte);
+                return Ok(Step::Waiting);
+            }
+            Ok(None) => {}
+            Err(reason) => {
+                self.passed_us = Some(line_byte.time_us);
+                return refuse(&mut self.reason, reason);
+            }
         }
         self.passed_us = Some(line_byte.time_us);
-        match end(
+        end(
             &mut self.tail,
             &mut self.block,
             &mut self.open_command,
+            &mut self.reason,
             line_byte,
-        ) {
-            Ok(step) => Ok(step),
-            Err(reason) => {
-                self.reason = Some(reason);
-                Err(reason)
-            }
-        }
+        )
     }
 
     /// The time of the last record that it was fed, in microseconds, and `None` before the first. After a

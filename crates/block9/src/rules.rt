@@ -1,6 +1,6 @@
 //! The rules that a record may break before its block is complete, by the place where the tail stands. What each
 //! reason says is in `specs/Reason.antt`.
-ghost use Rattle.std.specs.Prelude.{◌≡◌, ◌<◌};
+ghost use Rattle.std.specs.Prelude.{◌≡◌, ◌<◌, true};
 ghost use Rattle.block9.specs.Line.{allows};
 ghost use Rattle.block9.specs.Working.Table.{wire_fault, time_fault, group_fault};
 
@@ -22,13 +22,12 @@ pub(crate) fn wire_fault(place: Place, wire: Wire, soon: bool) -> Option<Reason>
     }
 }
 
-/// A record that comes too late to begin a reply (`soon` is false) or to go on with a block (`linked` is).
-pub(crate) fn time_fault(place: Place, soon: bool, linked: bool) -> Option<Reason>
-    ensures { result ≡ time_fault place soon linked }
+/// A record that comes too late to begin a reply: `soon` is false.
+pub(crate) fn time_fault(place: Place, soon: bool) -> Option<Reason>
+    ensures { result ≡ time_fault place soon true }
 {
     match place {
         Place::AfterCommand if !soon => Some(Reason::LateReply),
-        Place::InCommand | Place::InReply if !linked => Some(Reason::ByteGap),
         _ => None,
     }
 }

@@ -31,6 +31,10 @@ grown b byte =
     if b.left == 0 then record { wire = b.wire; left = byte % 16 + 2; sum = byte }
     else record { wire = b.wire; left = b.left - 1; sum = (b.sum + byte) % 256 }
 
+-- a begun block with one byte more, and none where that is its last
+abbrev pub next_of : OpenBlock → ℕ → Option OpenBlock
+next_of b byte = if b.left == 1 then None else Some (grown b byte)
+
 -- where a tail stands, by the block at its end
 abbrev pub place_on : Wire → Bool → Place
 place_on Controller true = Idle

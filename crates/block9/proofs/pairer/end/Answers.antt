@@ -13,7 +13,7 @@ returns-in-Some-reply_fault-clause-err c =
     let right = right_sum c.args.tail.now c.args.block.now c.args.line_byte.byte c.requires.held.stands (sym c.requires.ends.1) (search rules) in
     let block : c.of_records-reply.result ≡ block_of (bytes_of (open_at (place_of c.args.tail.now) c.args.tail.now)) = cc in
     let meant : reply_fault (Some c.in-Some.asked.command) (block_of (bytes_of (open_at (place_of c.args.tail.now) c.args.tail.now))) ≡ Some c.in-Some-reply_fault.reason = cc in
-    reply_says c.args.tail.now c.in-Some.asked c.args.line_byte _ held c.requires.ends right meant
+    rw c.refuse-in-Some-reply_fault.ensures.refused (reply_says c.args.tail.now c.in-Some.asked c.args.line_byte _ held c.requires.ends right meant, c.refuse-in-Some-reply_fault.ensures.kept, refl)
 
 pub exchange_of-exchange-requires-clause-held : goal.exchange_of-exchange-requires-clause-held
 exchange_of-exchange-requires-clause-held c =
@@ -27,4 +27,4 @@ returns-clause-ok c =
     let meant : reply_fault (Some c.in-Some.asked.command) (block_of (bytes_of (open_at (place_of c.args.tail.now) c.args.tail.now))) ≡ None = search rules in
     let closes = rw c.as_slice-records.ensures at c.exchange_of-exchange.ensures in
     let exchange = ends_exchange c.args.tail.now c.in-Some.asked c.args.line_byte c.exchange_of-exchange.result held c.requires.later c.requires.ends right closes meant in
-    rw (c.clear.ensures, c.to_come.ensures, c.take.ensures.after) (exchange, refl, record { held = inl refl; stands = stands_idle })
+    rw (c.clear.ensures, c.to_come.ensures, c.take.ensures.after) (exchange, refl, record { held = inl refl; stands = stands_idle }, refl)
