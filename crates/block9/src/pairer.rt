@@ -1,6 +1,6 @@
 //! Pairs commands with replies, one record at a time.
 ghost use Rattle.std.specs.List.{sum};
-ghost use Rattle.std.specs.Prelude.{◌≡◌, ◌≤◌, ◌%◌, ◌++◌, ◌∷◌, true, IfOk, IfErr, OnErr, None, Some};
+ghost use Rattle.std.specs.Prelude.{◌≡◌, ◌≤◌, ◌%◌, ◌++◌, ◌∷◌, true, [], IfOk, IfErr, OnErr, OnOk, None, Some};
 ghost use Rattle.block9.specs.Exchange.{IsStep, tail_after};
 ghost use Rattle.block9.specs.Line.{bytes_of, last_time};
 ghost use Rattle.block9.specs.Working.Body.{block_of};
@@ -184,32 +184,34 @@ fn exchange_of(tail: &[LineByte], asked: OpenCommand, reply: Block) -> Exchange
     }
 }
 
-/// What the last record of a command does, or the rule that the command breaks.
-#[inline(always)] // as above
+/// Takes the last record of a command, whose meaning is kept; or the rule that the command breaks, and then all stays.
+#[inline(always)]
 fn end_command(
     tail: &mut Tail,
     block: &mut OpenBlock,
     open_command: &mut Option<OpenCommand>,
-    kept: &mut Option<Reason>,
     line_byte: LineByte,
-) -> Result<Step, Reason>
+) -> Result<(), Reason>
     requires held { IsHeld tail.old None }
     requires none { open_command.old ≡ None }
     requires later { last_time tail.old ≤ line_byte.time_us }
     requires ends { IsTurn tail.old line_byte true }
     requires right_sum { line_byte.byte ≡ sum (bytes_of (open_at (place_of tail.old) tail.old)) % 256 }
-    ensures ok { IfOk result (λ step. IsStep tail.old line_byte step × (tail.new ≡ tail_after tail.old line_byte step) × HoldsInPairer tail.new open_command.new block.new × (kept.new ≡ kept.old)) }
-    ensures err { IfErr result (λ reason. (pairing tail.old line_byte ≡ Some reason) × (kept.new ≡ Some reason) × (tail.new ≡ tail.old)) }
+    ensures ok { OnOk result (IsStep tail.old line_byte Step.Command × (tail.new ≡ tail.old ++ line_byte ∷ []) × HoldsInPairer tail.new open_command.new block.new) }
+    ensures err { IfErr result (λ reason. pairing tail.old line_byte ≡ Some reason) }
     ensures same { OnErr result ((tail.new ≡ tail.old) × (block.new ≡ block.old) × (open_command.new ≡ open_command.old)) }
 {
     let sent = Block::of_records(tail.as_slice());
     let Some(command) = Command::of(&sent) else {
-        return refuse(kept, Reason::InvalidCommandTime);
+        return Err(Reason::InvalidCommandTime);
     };
-    *open_command = Some(OpenCommand { command, block: sent });
+    *open_command = Some(OpenCommand {
+        command,
+        block: sent,
+    });
     *block = OpenBlock::to_come(Wire::Deck);
     tail.push(line_byte);
-    Ok(Step::Command)
+    Ok(())
 }
 
 /// What the last record of a block does, or the first rule that it breaks by its sum or by what the block means. A record that
@@ -233,7 +235,10 @@ fn end(
         return refuse(kept, Reason::WrongSum);
     }
     let Some(asked) = open_command.take() else {
-        return end_command(tail, block, open_command, kept, line_byte);
+        if let Err(reason) = end_command(tail, block, open_command, line_byte) {
+            return refuse(kept, reason);
+        }
+        return Ok(Step::Command);
     };
     let records = tail.as_slice();
     let reply = Block::of_records(reply_in(records, &asked));
