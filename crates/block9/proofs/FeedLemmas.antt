@@ -1,7 +1,7 @@
 -- What a pairer answers, and what it holds, after one more record.
 use Rattle.block9.proofs.Words.{Deck, early_fault, next_of, to_come, ends_block, grown, last_fed, length_push, OpenBlock, refl, ◌<◌, ◌≢◌}
 use Rattle.block9.proofs.Words.{append-nil, ap, BeginsWith, option_map, ◌↔◌, ◌∙◌, ◌+◌, length, length-append, block_len, inl, inr}
-use Rattle.block9.proofs.Words.{[], arith, OpenCommand, block_of, Bool, bytes_of, Closes, Command, command_of, Controller, IsStep, Exchange, false, ForSome, HoldsInPairer}
+use Rattle.block9.proofs.Words.{[], arith, block_of, Bool, bytes_of, Closes, Command, command_of, Controller, IsStep, Exchange, false, ForSome, HoldsInPairer}
 use Rattle.block9.proofs.Words.{IsCommand, IsExchange, IsHeld, IsTurn, last_time, LineByte, List, nat_tests, None, open_at, Option, Paired, pairing}
 use Rattle.block9.proofs.Words.{place_of, Reason, Refuses, reply_fault, Some, Step, sum, sym, tail_after, Takes, true, ℕ, ◌%◌, ◌++◌, ◌∷◌, ◌≡◌, ◌≤◌}
 use Rattle.block9.proofs.LineLemmas.{block_len-append, whole_len, whole_long, whole_parts}
@@ -13,12 +13,12 @@ use Rattle.block9.proofs.ReasonLemmas.{reason_broken, table_reason}
 -- ---- what the last record of a block does
 
 -- with a right sum, the table says at the end of a reply what it says of a reply to the command that is held
-pub reply_says : (t : List LineByte) (a : OpenCommand) (r : LineByte) (m : Option Reason) → IsHeld t (Some a) → IsTurn t r true
+pub reply_says : (t : List LineByte) (c : Command) (r : LineByte) (m : Option Reason) → IsHeld t (Some c) → IsTurn t r true
     → r.byte ≡ sum (bytes_of (open_at (place_of t) t)) % 256
-    → reply_fault (Some a.command) (block_of (bytes_of (open_at (place_of t) t))) ≡ m → pairing t r ≡ m
-reply_says t a r m held turn right meant =
-    let now = reply_now t a held (sym turn.1) in
-    let parts = answered t now.0 a.command now.1 in
+    → reply_fault (Some c) (block_of (bytes_of (open_at (place_of t) t))) ≡ m → pairing t r ≡ m
+reply_says t c r m held turn right meant =
+    let now = reply_now t c held (sym turn.1) in
+    let parts = answered t now.0 c now.1 in
     let place = parts.place in
     let read = parts.meant in
     grind (arith, nat_tests)
@@ -35,18 +35,18 @@ ends_command t r c held later turn right meant =
 pub held_command : (t : List LineByte) (r : LineByte) (c : Command) → IsHeld t None → last_time t ≤ r.time_us → IsTurn t r true
     → r.byte ≡ sum (bytes_of (open_at (place_of t) t)) % 256 → command_of (block_of (bytes_of t)) ≡ Some c
     → IsCommand (t ++ r ∷ []) (block_of (bytes_of t)) c
-    × HoldsInPairer (t ++ r ∷ []) (Some (record { command = c; block = block_of (bytes_of t) })) (to_come Deck)
+    × HoldsInPairer (t ++ r ∷ []) (Some c) (to_come Deck)
 held_command t r c held later turn right meant =
     let place = place_in_command Controller t (begun_now t held (sym turn.1)) in
     let command : IsCommand (t ++ r ∷ []) (block_of (bytes_of t)) c = rw place at (ends_command t r c held later turn right (rw place meant)) in
-    (command, record { held = inl command; stands = stands_after (t ++ r ∷ []) (place_of_command Controller (t ++ r ∷ []) _ command.whole) })
+    (command, record { held = inl (_, command); stands = stands_after (t ++ r ∷ []) (place_of_command Controller (t ++ r ∷ []) _ command.whole) })
 
-pub ends_exchange : (t : List LineByte) (a : OpenCommand) (r : LineByte) (e : Exchange) → IsHeld t (Some a) → last_time t ≤ r.time_us → IsTurn t r true
+pub ends_exchange : (t : List LineByte) (c : Command) (r : LineByte) (e : Exchange) → IsHeld t (Some c) → last_time t ≤ r.time_us → IsTurn t r true
     → r.byte ≡ sum (bytes_of (open_at (place_of t) t)) % 256
-    → Closes t a e → reply_fault (Some a.command) (block_of (bytes_of (open_at (place_of t) t))) ≡ None → IsExchange (t ++ r ∷ []) e
-ends_exchange t a r e held later turn right read none =
-    let now = reply_now t a held (sym turn.1) in
-    rw read (closes t now.0 a r now.1 now.2 later (reply_says t a r None held turn right none) (sym turn.1))
+    → Closes t c e → reply_fault (Some c) (block_of (bytes_of (open_at (place_of t) t))) ≡ None → IsExchange (t ++ r ∷ []) e
+ends_exchange t c r e held later turn right read none =
+    let now = reply_now t c held (sym turn.1) in
+    rw read (closes t now.0 c r now.1 later (reply_says t c r None held turn right none) (sym turn.1))
 
 -- ---- what is held afterwards
 
@@ -79,7 +79,7 @@ pub fed_refused : (t : List LineByte) (reason : Reason) (passed : Option ℕ) �
 fed_refused [] reason passed = refl
 fed_refused (a ∷ t) reason passed = refl
 
-pub held_waiting : (t : List LineByte) (o : Option OpenCommand) (b : OpenBlock) (r : LineByte) (next : OpenBlock) → HoldsInPairer t o b → last_time t ≤ r.time_us
+pub held_waiting : (t : List LineByte) (o : Option Command) (b : OpenBlock) (r : LineByte) (next : OpenBlock) → HoldsInPairer t o b → last_time t ≤ r.time_us
     → early_fault (place_of t) t r ≡ None → Some next ≡ next_of b r.byte → r.byte < 256
     → HoldsInPairer (t ++ r ∷ []) o next × (length t < 35) × IsStep t r Step.Waiting
 held_waiting t o b r next h later quiet is_next byte =
@@ -99,7 +99,7 @@ pub takes : (was old new : Paired) (r : LineByte) (s : Step) → was ≡ old →
     → new.last_time ≡ Some r.time_us → new.reason ≡ None → Takes old r s new
 takes was old new r s same done tail time reason = rw (← same) (record { does = done; tail = tail; last_time = time; reason = reason })
 
-pub refuses : (o : Option OpenCommand) (was old new : Paired) (r : LineByte) (reason : Reason) → was ≡ old → IsHeld was.tail o → last_time was.tail ≤ r.time_us
+pub refuses : (o : Option Command) (was old new : Paired) (r : LineByte) (reason : Reason) → was ≡ old → IsHeld was.tail o → last_time was.tail ≤ r.time_us
     → pairing was.tail r ≡ Some reason → new.tail ≡ was.tail → new.last_time ≡ Some r.time_us → new.reason ≡ Some reason → Refuses old r reason new
 refuses o was old new r reason same held later told tail_same time known =
     let tail = held_tail was.tail o held in
@@ -122,11 +122,11 @@ none_begun t c held begins =
     by (inr h) long first all = let short = h.short in omega arith
 
 -- what a tail holds is the complete command with which it begins, and no other
-pub held_begins : (t : List LineByte) (a : OpenCommand) → IsHeld t (Some a) → BeginsWith t a.command
-held_begins t a (inl h) = record { records = t; reply = []; split = sym (append-nil t); block = a.block; command = h }
-held_begins t a (inr (reply, is, same)) = record { records = is.command; reply = reply; split = is.split; block = is.block; command = is.is_command }
+pub held_begins : (t : List LineByte) (c : Command) → IsHeld t (Some c) → BeginsWith t c
+held_begins t c (inl (b, h)) = record { records = t; reply = []; split = sym (append-nil t); block = b; command = h }
+held_begins t c (inr (reply, is)) = record { records = is.command; reply = reply; split = is.split; block = is.block; command = is.is_command }
 
-one_begun : (t : List LineByte) (a : OpenCommand) (c : Command) → IsHeld t (Some a) → BeginsWith t c → a.command ≡ c
+one_begun : (t : List LineByte) (a c : Command) → IsHeld t (Some a) → BeginsWith t c → a ≡ c
 one_begun t a c held begins =
     let own = held_begins t a held in
     let same = (whole_parts Controller own.records begins.records own.reply begins.reply own.block begins.block own.command.whole begins.command.whole
@@ -135,14 +135,13 @@ one_begun t a c held begins =
     let other = begins.command.meaning in
     cc
 
-open_is : (t : List LineByte) (o : Option OpenCommand) (c : Command) → IsHeld t o → option_map (λ (a : OpenCommand). a.command) o ≡ Some c ↔ BeginsWith t c
+open_is : (t : List LineByte) (o : Option Command) (c : Command) → IsHeld t o → o ≡ Some c ↔ BeginsWith t c
 open_is t None c held = (λ same. absurd (cc), λ begins. absurd (none_begun t c held begins))
-open_is t (Some a) c held = (λ same. let mine : a.command ≡ c = cc in rw mine at (held_begins t a held), λ begins. ap Some (one_begun t a c held begins))
+open_is t (Some a) c held = (λ same. let mine : a ≡ c = cc in rw mine at (held_begins t a held), λ begins. ap Some (one_begun t a c held begins))
 
-pub open_told : (o : Option OpenCommand) (told : Option Command) (was old : Paired) → was ≡ old → IsHeld was.tail o
-    → option_map (λ (a : OpenCommand). a.command) o ≡ told → (c : Command) → (told ≡ Some c) ↔ BeginsWith old.tail c
-open_told o told was old same held is c = rw (← is, ← same) (open_is was.tail o c held)
+pub open_told : (o : Option Command) (was old : Paired) → was ≡ old → IsHeld was.tail o → (c : Command) → (o ≡ Some c) ↔ BeginsWith old.tail c
+open_told o was old same held c = rw (← same) (open_is was.tail o c held)
 
 -- the command that was held is held of the same records
-pub asked_held : (t seen : List LineByte) (o : Option OpenCommand) (a : OpenCommand) → IsHeld t o → o ≡ Some a → seen ≡ t → IsHeld seen (Some a)
-asked_held t seen o a held was same = rw same (rw was at held)
+pub asked_held : (t seen : List LineByte) (o : Option Command) (c : Command) → IsHeld t o → o ≡ Some c → seen ≡ t → IsHeld seen (Some c)
+asked_held t seen o c held was same = rw same (rw was at held)

@@ -30,10 +30,6 @@ pub whole_long : (w : Wire) (records : List LineByte) (b : Block) → IsWhole w 
 whole_long w [] b h = cc (h.spelled.spelled)
 whole_long w (a ∷ rest) b h = let f = whole_first w a rest b h in omega arith
 
-pub whole_count : (w : Wire) (records : List LineByte) (b : Block) → IsWhole w records b → length records ≡ length b.bytes.items + 3
-whole_count w [] b h = cc (h.spelled.spelled)
-whole_count w (a ∷ rest) b h = (whole_first w a rest b h).2
-
 pub block_len-append : (xs ys : List LineByte) → 0 < length xs → block_len (xs ++ ys) ≡ block_len xs
 block_len-append xs ys h = grind arith
 

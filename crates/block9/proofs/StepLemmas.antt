@@ -1,53 +1,46 @@
 -- What a record that breaks no rule makes of a tail.
-use Rattle.block9.proofs.Words.{Block, common_steps, InReply, ◌+◌, ◌<◌}
-use Rattle.block9.proofs.Words.{[], after_command, AfterCommand, ap, append_assoc, arith, OpenCommand, block_len, block_of, bytes_of, closed_of, Command, Controller, Deck, IsStep, drop}
+use Rattle.block9.proofs.Words.{Block, common_steps, InReply, ◌+◌, ◌-◌, ◌<◌}
+use Rattle.block9.proofs.Words.{[], after_command, AfterCommand, ap, append_assoc, arith, block_len, block_of, bytes_of, closed_of, Command, Controller, Deck, IsStep, drop}
 use Rattle.block9.proofs.Words.{ends_block, false, first_time, in_command, in_reply, inl, inr, IsAnswered, IsBegun, IsCommand, IsExchange, IsHeld, IsTail, last_time, length}
 use Rattle.block9.proofs.Words.{length-append, LineByte, List, None, nothing, open_at, Option, pairing, place_of, refl, Some, Step, tail_after, take, true, ◌++◌, ◌∙◌, ◌∷◌, ◌≡◌}
 use Rattle.block9.proofs.Words.{◌≢◌, ◌≤◌}
-use Rattle.block9.proofs.LineLemmas.{first_time-push_any, whole_count, whole_len}
+use Rattle.block9.proofs.LineLemmas.{first_time-push_any, whole_len, whole_long}
 use Rattle.block9.proofs.BlockSteps.{begun_push, whole_now}
-use Rattle.block9.proofs.TailLemmas.{after_command_quiet, answered, idle_quiet, in_command_quiet, in_reply_quiet, last_time-append, place_in_command, place_of_command}
+use Rattle.block9.proofs.TailLemmas.{after_command_quiet, answered, asked_block, idle_quiet, in_command_quiet, in_reply_quiet, last_time-append, place_in_command, place_of_command}
 
 -- ---- what is held
 
 -- what is held is a tail, and something is held beside each tail
-pub held_tail : (t : List LineByte) (o : Option OpenCommand) → IsHeld t o → IsTail t
+pub held_tail : (t : List LineByte) (o : Option Command) → IsHeld t o → IsTail t
 held_tail t None (inl e) = nothing e
 held_tail t None (inr h) = in_command h
-held_tail t (Some a) (inl h) = after_command a.block a.command h
-held_tail t (Some a) (inr (reply, is, same)) = in_reply is.command reply is.block a.command is.split is.is_command is.begun is.in_time
+held_tail t (Some c) (inl (b, h)) = after_command b c h
+held_tail t (Some c) (inr (reply, is)) = in_reply is.command reply is.block c is.split is.is_command is.begun is.in_time
 
-pub tail_held : (t : List LineByte) → IsTail t → (o : Option OpenCommand) × IsHeld t o
+pub tail_held : (t : List LineByte) → IsTail t → (o : Option Command) × IsHeld t o
 tail_held t (nothing e) = (None, inl e)
 tail_held t (in_command h) = (None, inr h)
-tail_held t (after_command b c h) = (Some (record { command = c; block = b }), inl h)
-tail_held t (in_reply command reply b c e hc hd soon) = (
-  Some (record { command = c; block = b }),
-  inr (
-    reply,
-    record { command = command; block = b; split = e; is_command = hc; begun = hd; in_time = soon },
-    refl,
-  ),
-)
+tail_held t (after_command b c h) = (Some c, inl (b, h))
+tail_held t (in_reply command reply b c e hc hd soon) =
+    (Some c, inr (reply, record { command = command; block = b; split = e; is_command = hc; begun = hd; in_time = soon }))
 
 -- where the last record of a block is to come and no command is held, a command is begun
 pub begun_now : (t : List LineByte) → IsHeld t None → ends_block (open_at (place_of t) t) ≡ true → IsBegun Controller t
 begun_now t h ends = grind arith
 
 -- and where one is held, its reply is begun
-pub reply_now : (t : List LineByte) (a : OpenCommand) → IsHeld t (Some a) → ends_block (open_at (place_of t) t) ≡ true
-    → (reply : List LineByte) × (is : IsAnswered t a.command reply) × (is.block ≡ a.block)
-reply_now t a (inl h) ends = absurd (let place = place_of_command Controller t a.block h.whole in cc)
-reply_now t a (inr parts) ends = parts
+pub reply_now : (t : List LineByte) (c : Command) → IsHeld t (Some c) → ends_block (open_at (place_of t) t) ≡ true
+    → (reply : List LineByte) × IsAnswered t c reply
+reply_now t c (inl (b, h)) ends = absurd (let place = place_of_command Controller t b h.whole in cc)
+reply_now t c (inr parts) ends = parts
 
--- where the reply begins in the tail, by the length of the command's block
-pub reply_begin : (t : List LineByte) (a : OpenCommand) → IsHeld t (Some a) → ends_block (open_at (place_of t) t) ≡ true
-    → (block_len t ≡ length a.block.bytes.items + 3) × (length a.block.bytes.items + 3 < length t) × (place_of t ≡ InReply)
-reply_begin t a held ends =
-    let now = reply_now t a held ends in
-    let parts = answered t now.0 a.command now.1 in
-    let count = whole_count Controller now.1.command now.1.block now.1.is_command.whole in
-    let same : length now.1.block.bytes.items ≡ length a.block.bytes.items = ap (λ (b : Block). length b.bytes.items) now.2 in
+-- the reply begins in the tail after a command's length
+pub reply_begin : (t : List LineByte) (c : Command) → IsHeld t (Some c) → ends_block (open_at (place_of t) t) ≡ true
+    → (2 < block_len t) × (block_len t < length t) × (place_of t ≡ InReply)
+reply_begin t c held ends =
+    let now = reply_now t c held ends in
+    let parts = answered t now.0 c now.1 in
+    let long = whole_long Controller now.1.command now.1.block now.1.is_command.whole in
     let rest : length (drop (block_len t) t) ≡ length now.0 = ap length parts.current in
     let front : length (take (block_len t) t) ≡ length now.1.command = ap length parts.first in
     let some = now.1.begun.begun in
@@ -63,33 +56,32 @@ delay_fits t reply c is = let parts = answered t reply c is in rw (parts.first, 
 still_begun : (t : List LineByte) → IsBegun Controller t → IsHeld t None × (place_of t ≢ AfterCommand)
 still_begun t h = (inr h, let place = place_in_command Controller t h in λ p. cc)
 
-still_answered : (t reply : List LineByte) (a : OpenCommand) (is : IsAnswered t a.command reply) → is.block ≡ a.block
-    → IsHeld t (Some a) × (place_of t ≢ AfterCommand)
-still_answered t reply a is same = (inr (reply, is, same), let place = (answered t reply a.command is).place in λ p. cc)
+still_answered : (t reply : List LineByte) (c : Command) → IsAnswered t c reply → IsHeld t (Some c) × (place_of t ≢ AfterCommand)
+still_answered t reply c is = (inr (reply, is), let place = (answered t reply c is).place in λ p. cc)
 
 -- a record that does not end its block
-pub waits : (t : List LineByte) (o : Option OpenCommand) (r : LineByte) → IsHeld t o → last_time t ≤ r.time_us → pairing t r ≡ None
+pub waits : (t : List LineByte) (o : Option Command) (r : LineByte) → IsHeld t o → last_time t ≤ r.time_us → pairing t r ≡ None
     → ends_block (open_at (place_of t) t) ≡ false
     → IsHeld (t ++ r ∷ []) o × (place_of (t ++ r ∷ []) ≢ AfterCommand)
 waits t None r (inl e) later quiet ends = rw e (still_begun (r ∷ []) ((idle_quiet r).0 (rw e at quiet)))
 waits t None r (inr h) later quiet ends =
     let goes_on = ((in_command_quiet t r h later).0 quiet).0 in
     still_begun (t ++ r ∷ []) ((begun_push Controller t r h.begun).1 (h, goes_on, rw (place_in_command Controller t h) at ends))
-waits t (Some a) r (inl h) later quiet ends =
-    let next = (after_command_quiet t r a.block h.whole later).0 quiet in
-    still_answered (t ++ r ∷ []) (r ∷ []) a (record { command = t; block = a.block; split = refl; is_command = h; begun = next.0; in_time = next.1 }) refl
-waits t (Some a) r (inr (reply, is, same)) later quiet ends =
-    let parts = answered t reply a.command is in
-    let goes_on = ((in_reply_quiet is.command reply t a.command r parts later).0 quiet).0 in
+waits t (Some c) r (inl (b, h)) later quiet ends =
+    let next = (after_command_quiet t r b h.whole later).0 quiet in
+    still_answered (t ++ r ∷ []) (r ∷ []) c (record { command = t; block = b; split = refl; is_command = h; begun = next.0; in_time = next.1 })
+waits t (Some c) r (inr (reply, is)) later quiet ends =
+    let parts = answered t reply c is in
+    let goes_on = ((in_reply_quiet is.command reply t c r parts later).0 quiet).0 in
     let first = first_time-push_any reply r is.begun.begun in
-    still_answered (t ++ r ∷ []) (reply ++ r ∷ []) a (record {
+    still_answered (t ++ r ∷ []) (reply ++ r ∷ []) c (record {
       command = is.command;
       block = is.block;
       split = ap (λ l. l ++ r ∷ []) is.split ∙ append_assoc is.command reply (r ∷ []);
       is_command = is.is_command;
       begun = (begun_push Deck reply r is.begun.begun).1 (is.begun, goes_on, rw (parts.place, parts.current) at ends);
       in_time = omega arith;
-    }) same
+    })
 
 -- a record that ends a command
 pub commands : (t : List LineByte) (r : LineByte) → IsHeld t None → last_time t ≤ r.time_us → pairing t r ≡ None → ends_block (open_at (place_of t) t) ≡ true
@@ -102,12 +94,13 @@ commands t r held later quiet ends =
     (right.1, record { whole = whole_now Controller t r h next.0 same right.0; meaning = right.2 })
 
 -- a record that ends a reply
-pub closes : (t reply : List LineByte) (a : OpenCommand) (r : LineByte) (is : IsAnswered t a.command reply) → is.block ≡ a.block → last_time t ≤ r.time_us
-    → pairing t r ≡ None → ends_block (open_at (place_of t) t) ≡ true → IsExchange (t ++ r ∷ []) (closed_of t a)
-closes t reply a r is same later quiet ends =
-    let parts = answered t reply a.command is in
+pub closes : (t reply : List LineByte) (c : Command) (r : LineByte) (is : IsAnswered t c reply) → last_time t ≤ r.time_us
+    → pairing t r ≡ None → ends_block (open_at (place_of t) t) ≡ true → IsExchange (t ++ r ∷ []) (closed_of t c)
+closes t reply c r is later quiet ends =
+    let parts = answered t reply c is in
+    let asked : block_of (bytes_of (take (block_len t - 1) t)) ≡ is.block = rw is.split (asked_block is.command reply is.block is.is_command.whole) in
     let now : ends_block reply ≡ true = rw (parts.place, parts.current) at ends in
-    let next = (in_reply_quiet is.command reply t a.command r parts later).0 quiet in
+    let next = (in_reply_quiet is.command reply t c r parts later).0 quiet in
     let right = next.1 now in
     let first = first_time-push_any reply r is.begun.begun in
     let place = parts.place in
@@ -115,7 +108,7 @@ closes t reply a r is same later quiet ends =
       asked = is.command;
       answered = reply ++ r ∷ [];
       split = ap (λ l. l ++ r ∷ []) is.split ∙ append_assoc is.command reply (r ∷ []);
-      command = rw same at is.is_command;
+      command = rw asked is.is_command;
       reply = rw (parts.place, parts.current) (whole_now Deck reply r is.begun next.0 now right.0);
       in_time = omega arith;
       time = grind arith;

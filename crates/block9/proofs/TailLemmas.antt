@@ -42,6 +42,21 @@ pub record InReplyOf (command reply tail : List LineByte) (c : Command) : Type 0
   pub meant : command_of (block_of (bytes_of (take (block_len tail - 1) tail))) ≡ Some c
   pub last : last_time tail ≡ last_time reply
 
+-- the block of the command with which a tail begins
+pub asked_block : (command reply : List LineByte) (b : Block) → IsWhole Controller command b
+    → block_of (bytes_of (take (block_len (command ++ reply) - 1) (command ++ reply))) ≡ b
+asked_block command reply b h =
+    let len = whole_len Controller command b h in
+    let long = whole_long Controller command b h in
+    let whole : block_len (command ++ reply) ≡ length command = block_len-append command reply (omega arith) ∙ sym len in
+    let last = length command - 1 in
+    let apart : command ≡ take last command ++ get_or command last (record { time_us = 0; wire = Deck; byte = 0 }) ∷ [] =
+    sym (take_all (last + 1) command (omega arith)) ∙ take_more command last (record { time_us = 0; wire = Deck; byte = 0 }) (omega arith) in
+    let body = (whole_less Controller _ _ b (subst (λ (l : List LineByte). IsWhole Controller l b) apart h)).block in
+    let front : take (block_len (command ++ reply) - 1) (command ++ reply) ≡ take last command =
+    ap (λ n. take (n - 1) (command ++ reply)) whole ∙ take-append-le last command reply (omega arith) in
+    ap (λ l. block_of (bytes_of l)) front ∙ sym body
+
 pub in_reply_of : (command reply tail : List LineByte) (b : Block) (c : Command) → tail ≡ command ++ reply → IsCommand command b c → 0 < length reply
     → InReplyOf command reply tail c
 in_reply_of command reply tail b c split h some =
@@ -49,17 +64,11 @@ in_reply_of command reply tail b c split h some =
     let long = whole_long Controller command b h.whole in
     let whole : block_len (command ++ reply) ≡ length command = block_len-append command reply (omega arith) ∙ sym len in
     let all = length-append command reply in
-    let last = length command - 1 in
-    let apart : command ≡ take last command ++ get_or command last (record { time_us = 0; wire = Deck; byte = 0 }) ∷ [] =
-    sym (take_all (last + 1) command (omega arith)) ∙ take_more command last (record { time_us = 0; wire = Deck; byte = 0 }) (omega arith) in
-    let body = (whole_less Controller _ _ b (subst (λ (l : List LineByte). IsWhole Controller l b) apart h.whole)).block in
-    let front : take (block_len (command ++ reply) - 1) (command ++ reply) ≡ take last command =
-    ap (λ n. take (n - 1) (command ++ reply)) whole ∙ take-append-le last command reply (omega arith) in
     rw split (record {
       place = grind (arith, nat_tests);
       current = ap (λ n. drop n (command ++ reply)) whole ∙ drop_at command reply (length command) refl;
       first = ap (λ n. take n (command ++ reply)) whole ∙ take_at command reply (length command) refl;
-      meant = ap (λ l. command_of (block_of (bytes_of l))) front ∙ ap command_of (sym body) ∙ h.meaning;
+      meant = ap command_of (asked_block command reply b h.whole) ∙ h.meaning;
       last = last_time-append command reply some;
     })
 

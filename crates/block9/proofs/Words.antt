@@ -7,12 +7,11 @@ pub use Rattle.block9.specs.Line.{block_len, byte_gap, bytes_of, first_time, IsB
 pub use Rattle.block9.specs.Pairer.{BeginsWith, Paired, Refuses, Takes}
 pub use Rattle.block9.specs.Reason.{EndsReply, Holds, IsAnswered, IsFirst, IsReason, IsWholeCommand, order}
 pub use Rattle.block9.specs.Working.Body.{block_of}
-pub use Rattle.block9.specs.Working.Held.{closed_of, Closes, grown, HoldsInPairer, IsHeld, IsTurn, last_fed, next_of, place_at, place_on, Stands, to_come}
+pub use Rattle.block9.specs.Working.Held.{closed_of, Closes, grown, HoldsInPairer, IsHeld, IsTurn, IsWholeOf, last_fed, next_of, place_at, place_on, Stands, to_come}
 pub use Rattle.block9.specs.Working.Table.{early_fault, ends_block, fault_at, is_soon, open_at, pairing, place_of, reply_fault, wire_fault}
 pub use Rattle.block9.specs.declared.block.Block.{Block}
 pub use Rattle.block9.specs.declared.command.Command.{Command}
 pub use Rattle.block9.specs.declared.open_block.OpenBlock.{OpenBlock}
-pub use Rattle.block9.specs.declared.pairer.OpenCommand.{OpenCommand}
 pub use Rattle.block9.specs.declared.pairer.Exchange.{Exchange}
 pub use Rattle.block9.specs.declared.pairer.Step.{Step}
 pub use Rattle.block9.specs.declared.place.Place.{Place}

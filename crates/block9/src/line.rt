@@ -1,9 +1,19 @@
-//! Lists of records: the sum of their bytes, and the time at which they end.
-ghost use Rattle.std.specs.Prelude.{◌≡◌, ◌%◌};
+//! Lists of records: the block that they begin, the sum of their bytes, and the time at which they end.
+ghost use Rattle.std.specs.Prelude.{◌≡◌, ◌+◌, ◌%◌};
 ghost use Rattle.std.specs.List.{sum};
-ghost use Rattle.block9.specs.Line.{bytes_of, last_time};
+ghost use Rattle.block9.specs.Line.{block_len, bytes_of, last_time};
 
 use capture9::LineByte;
+
+/// How many records the block has that begins with these: 0 where there is none.
+pub(crate) fn block_len(records: &[LineByte]) -> usize
+    ensures { result ≡ block_len records.now }
+{
+    match records.first() {
+        Some(first) => usize::from(first.byte % 16) + 3,
+        None => 0,
+    }
+}
 
 /// The time of the last record, and 0 where there is none.
 pub(crate) fn last_time(records: &[LineByte]) -> u64

@@ -2,6 +2,7 @@
 ghost use Rattle.std.specs.List.{sum};
 ghost use Rattle.std.specs.Prelude.{◌≡◌, ◌≤◌, ◌%◌, ◌++◌, ◌∷◌, true, [], IfOk, IfErr, OnErr, OnOk, None, Some};
 ghost use Rattle.block9.specs.Exchange.{IsStep, tail_after};
+ghost use Rattle.block9.specs.declared.place.Place.TheVariants.{InReply};
 ghost use Rattle.block9.specs.Line.{bytes_of, last_time};
 ghost use Rattle.block9.specs.Working.Body.{block_of};
 ghost use Rattle.block9.specs.Working.Held.{Closes, HoldsInPairer, IsHeld, IsTurn, Stands, next_of, place_on};
@@ -9,7 +10,7 @@ ghost use Rattle.block9.specs.Working.Table.{early_fault, ends_block, is_soon, o
 
 use crate::block::Block;
 use crate::command::Command;
-use crate::line::last_time;
+use crate::line::{block_len, last_time};
 use crate::open_block::OpenBlock;
 use crate::place::Place;
 use crate::reason::Reason;
@@ -57,26 +58,6 @@ pub enum Step {
     Command,
     /// It is the last record of a reply: this exchange is complete.
     Exchange(Exchange),
-}
-
-/// A complete command whose reply is still to come.
-#[derive(Drop)]
-struct OpenCommand {
-    /// What the command's block means.
-    command: Command,
-    /// The command's block.
-    block: Block,
-}
-
-impl OpenCommand {
-    ghost use Rattle.std.specs.Prelude.{◌≡◌, ◌+◌, length};
-
-    /// How many records the command has.
-    fn len(&self) -> usize
-        ensures { result ≡ length self.now.block.bytes.items + 3 }
-    {
-        self.block.bytes.len() + 3
-    }
 }
 
 /// Whether the record comes within the reply limit after the last one of the tail.
@@ -142,42 +123,40 @@ fn refuse(kept: &mut Option<Reason>, reason: Reason) -> Result<Step, Reason>
     Err(reason)
 }
 
-/// The rule that this reply to the open command breaks, by its kind or its time.
+/// The rule that this reply to the command breaks, by its kind or its time.
 #[inline(always)]
-fn reply_fault(asked: &OpenCommand, reply: &Block) -> Option<Reason>
-    ensures { result ≡ reply_fault (Some asked.now.command) reply.now }
+fn reply_fault(command: &Command, reply: &Block) -> Option<Reason>
+    ensures { result ≡ reply_fault (Some command.now) reply.now }
 {
-    if !asked.command.fits(reply) {
+    if !command.fits(reply) {
         return Some(Reason::WrongReply);
     }
-    if !reply_time_valid(&asked.command, reply) {
+    if !reply_time_valid(command, reply) {
         return Some(Reason::InvalidReplyTime);
     }
     None
 }
 
-/// The records of the reply to this command, which the tail begins with.
-fn reply_in<'a>(tail: &'a [LineByte], asked: &OpenCommand) -> &'a [LineByte]
-    requires held { IsHeld tail.now (Some asked.now) }
-    requires ends { ends_block (open_at (place_of tail.now) tail.now) ≡ true }
+/// The records of the reply that the tail ends with.
+fn reply_in<'a>(tail: &'a [LineByte]) -> &'a [LineByte]
+    requires { place_of tail.now ≡ InReply }
     ensures { result.now ≡ open_at (place_of tail.entry.now) tail.entry.now }
 {
-    &tail[asked.len()..]
+    &tail[block_len(tail)..]
 }
 
 /// The exchange that the tail and a complete reply to its command are.
 #[inline(always)] // else an exchange is handed on through memory
-fn exchange_of(tail: &[LineByte], asked: OpenCommand, reply: Block) -> Exchange
-    requires held { IsHeld tail.now (Some asked) }
+fn exchange_of(tail: &[LineByte], command: Command, reply: Block) -> Exchange
+    requires held { IsHeld tail.now (Some command) }
     requires ends { ends_block (open_at (place_of tail.now) tail.now) ≡ true }
     requires reply { reply ≡ block_of (bytes_of (open_at (place_of tail.now) tail.now)) }
-    ensures { Closes tail.now asked result }
+    ensures { Closes tail.now command result }
 {
-    let begin = asked.len();
-    let OpenCommand { command, block } = asked;
+    let begin = block_len(tail);
     Exchange {
         command,
-        block,
+        block: Block::of_records(&tail[..begin - 1]),
         reply,
         time_us: tail[0].time_us,
         delay_us: tail[begin].time_us - tail[begin - 1].time_us,
@@ -189,7 +168,7 @@ fn exchange_of(tail: &[LineByte], asked: OpenCommand, reply: Block) -> Exchange
 fn end_command(
     tail: &mut Tail,
     block: &mut OpenBlock,
-    open_command: &mut Option<OpenCommand>,
+    open_command: &mut Option<Command>,
     line_byte: LineByte,
 ) -> Result<(), Reason>
     requires held { IsHeld tail.old None }
@@ -205,10 +184,7 @@ fn end_command(
     let Some(command) = Command::of(&sent) else {
         return Err(Reason::InvalidCommandTime);
     };
-    *open_command = Some(OpenCommand {
-        command,
-        block: sent,
-    });
+    *open_command = Some(command);
     *block = OpenBlock::to_come(Wire::Deck);
     tail.push(line_byte);
     Ok(())
@@ -220,7 +196,7 @@ fn end_command(
 fn end(
     tail: &mut Tail,
     block: &mut OpenBlock,
-    open_command: &mut Option<OpenCommand>,
+    open_command: &mut Option<Command>,
     kept: &mut Option<Reason>,
     line_byte: LineByte,
 ) -> Result<Step, Reason>
@@ -234,19 +210,19 @@ fn end(
     if block.sum != line_byte.byte {
         return refuse(kept, Reason::WrongSum);
     }
-    let Some(asked) = open_command.take() else {
+    let Some(command) = *open_command else {
         if let Err(reason) = end_command(tail, block, open_command, line_byte) {
             return refuse(kept, reason);
         }
         return Ok(Step::Command);
     };
     let records = tail.as_slice();
-    let reply = Block::of_records(reply_in(records, &asked));
-    if let Some(reason) = reply_fault(&asked, &reply) {
-        *open_command = Some(asked);
+    let reply = Block::of_records(reply_in(records));
+    if let Some(reason) = reply_fault(&command, &reply) {
         return refuse(kept, reason);
     }
-    let exchange = exchange_of(records, asked, reply);
+    let exchange = exchange_of(records, command, reply);
+    *open_command = None;
     *block = OpenBlock::to_come(Wire::Controller);
     tail.clear();
     Ok(Step::Exchange(exchange))
@@ -263,7 +239,7 @@ pub struct Pairer {
     /// The block that is open at the tail's end.
     block: OpenBlock,
     /// The command with which the tail begins, once it is complete.
-    open_command: Option<OpenCommand>,
+    open_command: Option<Command>,
     /// The time of the last record that is not in the tail: it ended an exchange, or broke a rule.
     passed_us: Option<u64>,
     reason: Option<Reason>,
@@ -369,10 +345,7 @@ impl Pairer {
     pub fn open_command(&self) -> Option<Command>
         ensures { (c : Command) → (result ≡ Some c) ↔ BeginsWith self.now.tail c }
     {
-        match &self.open_command {
-            Some(open) => Some(open.command),
-            None => None,
-        }
+        self.open_command
     }
 
     /// How many records came since the last complete exchange, at most 35.

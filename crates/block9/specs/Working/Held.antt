@@ -5,7 +5,8 @@ use Rattle.capture9.specs.declared.line_byte.LineByte.{LineByte}
 use Rattle.capture9.specs.declared.line_byte.Wire.{Wire}
 use Rattle.capture9.specs.declared.line_byte.Wire.TheVariants.{Controller, Deck}
 use Rattle.block9.specs.declared.open_block.OpenBlock.{OpenBlock}
-use Rattle.block9.specs.declared.pairer.OpenCommand.{OpenCommand}
+use Rattle.block9.specs.declared.block.Block.{Block}
+use Rattle.block9.specs.declared.command.Command.{Command}
 use Rattle.block9.specs.declared.pairer.Exchange.{Exchange}
 use Rattle.block9.specs.declared.place.Place.{Place}
 use Rattle.block9.specs.declared.place.Place.TheVariants.{Idle, InCommand, AfterCommand, InReply}
@@ -16,10 +17,14 @@ use Rattle.block9.specs.Reason.{IsAnswered}
 use Rattle.block9.specs.Working.Body.{block_of}
 use Rattle.block9.specs.Working.Table.{early_fault, ends_block, open_at, place_of}
 
+-- the records are a complete command with this meaning
+abbrev pub IsWholeOf : List LineByte → Command → Type 0
+IsWholeOf records c = (b : Block) × IsCommand records b c
+
 -- the records are a tail, and what is kept beside them is the complete command with which they begin, if they do
-abbrev pub IsHeld : List LineByte → Option OpenCommand → Type 0
+abbrev pub IsHeld : List LineByte → Option Command → Type 0
 IsHeld records None = (records ≡ []) ⊎ IsBegun Controller records
-IsHeld records (Some a) = IsCommand records a.block a.command ⊎ ((reply : List LineByte) × (is : IsAnswered records a.command reply) × (is.block ≡ a.block))
+IsHeld records (Some c) = IsWholeOf records c ⊎ ((reply : List LineByte) × IsAnswered records c reply)
 
 -- a block on a wire that is not begun
 abbrev pub to_come : Wire → OpenBlock
@@ -62,7 +67,7 @@ abbrev pub most_open : ℕ
 most_open = 35
 
 -- what holds inside a `Pairer`
-pub record HoldsInPairer (records : List LineByte) (asked : Option OpenCommand) (b : OpenBlock) : Type 0 where
+pub record HoldsInPairer (records : List LineByte) (asked : Option Command) (b : OpenBlock) : Type 0 where
   pub held : IsHeld records asked
   pub stands : Stands records b
 
@@ -71,14 +76,14 @@ abbrev pub IsTurn : List LineByte → LineByte → Bool → Type 0
 IsTurn tail r ends = (early_fault (place_of tail) tail r ≡ None) × (ends ≡ ends_block (open_at (place_of tail) tail))
 
 -- an exchange is the one that a tail inside a reply and one more record are, as it is read
-abbrev pub closed_of : List LineByte → OpenCommand → Exchange
-closed_of tail a = record {
-  command = a.command;
-  block = a.block;
+abbrev pub closed_of : List LineByte → Command → Exchange
+closed_of tail c = record {
+  command = c;
+  block = block_of (bytes_of (take (block_len tail - 1) tail));
   reply = block_of (bytes_of (open_at (place_of tail) tail));
   time_us = first_time tail;
   delay_us = first_time (drop (block_len tail) tail) - last_time (take (block_len tail) tail);
 }
 
-abbrev pub Closes : List LineByte → OpenCommand → Exchange → Type 0
-Closes tail a e = e ≡ closed_of tail a
+abbrev pub Closes : List LineByte → Command → Exchange → Type 0
+Closes tail c e = e ≡ closed_of tail c

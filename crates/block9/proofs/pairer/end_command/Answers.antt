@@ -7,4 +7,4 @@ returns-clause-ok c =
     let sent : c.of_records-sent.result ≡ block_of (bytes_of c.args.tail.now) = cc (c.of_records-sent.ensures, c.as_slice.ensures) in
     let meant : command_of (block_of (bytes_of c.args.tail.now)) ≡ Some c.in-Some.command = cc in
     let told = held_command c.args.tail.now c.args.line_byte c.in-Some.command c.requires.held c.requires.later c.requires.ends c.requires.right_sum meant in
-    rw (c.push.ensures, c.to_come.ensures, sent) ((_, _, told.0), refl, told.1)
+    rw (c.push.ensures, c.to_come.ensures) ((_, _, told.0), refl, told.1)
