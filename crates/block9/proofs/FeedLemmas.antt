@@ -1,13 +1,13 @@
 -- What a pairer answers, and what it holds, after one more record.
 use Rattle.block9.proofs.Words.{Deck, early_fault, next_of, to_come, ends_block, grown, last_fed, length_push, OpenBlock, refl, ◌<◌, ◌≢◌}
-use Rattle.block9.proofs.Words.{append-nil, ap, BeginsWith, option_map, ◌↔◌, ◌∙◌, ◌+◌, length, length-append, block_len, inl, inr}
-use Rattle.block9.proofs.Words.{[], arith, block_of, Bool, bytes_of, Closes, Command, command_of, Controller, IsStep, Exchange, false, ForSome, HoldsInPairer}
+use Rattle.block9.proofs.Words.{append-nil, ap, BeginsWith, ◌↔◌, ◌∙◌, ◌+◌, length, length-append, block_len, inl, inr}
+use Rattle.block9.proofs.Words.{[], arith, block_of, bytes_of, Closes, Command, command_of, Controller, IsStep, Exchange, false, ForSome, HoldsInPairer}
 use Rattle.block9.proofs.Words.{IsCommand, IsExchange, IsHeld, IsTurn, last_time, LineByte, List, nat_tests, None, open_at, Option, Paired, pairing}
 use Rattle.block9.proofs.Words.{place_of, Reason, Refuses, reply_fault, Some, Step, sum, sym, tail_after, Takes, true, ℕ, ◌%◌, ◌++◌, ◌∷◌, ◌≡◌, ◌≤◌}
 use Rattle.block9.proofs.LineLemmas.{block_len-append, whole_len, whole_long, whole_parts}
 use Rattle.block9.proofs.TailLemmas.{answered, last_time-append, place_in_command, place_of_command}
 use Rattle.block9.proofs.StandsLemmas.{ends_by_left, stands_after, stands_push}
-use Rattle.block9.proofs.StepLemmas.{begun_now, closes, commands, held_tail, last_time-tail_after, reply_now, tail_short, waits}
+use Rattle.block9.proofs.StepLemmas.{begun_now, closes, commands, held_tail, reply_now, tail_short, waits}
 use Rattle.block9.proofs.ReasonLemmas.{reason_broken, table_reason}
 
 -- ---- what the last record of a block does

@@ -1,9 +1,9 @@
 -- What is kept of the block that is open at the end of a tail: how it stands with one record more.
-use Rattle.block9.proofs.Words.{[], AfterCommand, arith, block_len, bytes_of, Controller, Deck, drop, drop_at, ends_block, grown, InCommand, InReply, length, length-append, length_push, LineByte, List}
-use Rattle.block9.proofs.Words.{nat_tests, open_at, OpenBlock, place_at, place_of, refl, Stands, sum, sym, to_come, ℕ, ◌%◌, ◌++◌, ◌+◌, ◌-◌, ◌<◌, ◌==◌, ◌∷◌, ◌≡◌, ◌≢◌, ◌≤◌, ◌∙◌}
+use Rattle.block9.proofs.Words.{[], AfterCommand, arith, block_len, bytes_of, Controller, Deck, drop, drop_at, ends_block, grown, InCommand, InReply, length, length_push, LineByte, List}
+use Rattle.block9.proofs.Words.{nat_tests, open_at, OpenBlock, place_at, place_of, refl, Stands, sum, sym, to_come, ℕ, ◌%◌, ◌++◌, ◌+◌, ◌-◌, ◌<◌, ◌==◌, ◌∷◌, ◌≡◌, ◌≢◌, ◌∙◌}
 use Rattle.std.proofs.lemmas.List.Sums.{fold_push}
 use Rattle.std.proofs.lemmas.List.{drop-append-le, length-drop}
-use Rattle.block9.proofs.Words.{ByteGap, if◌then◌else◌, None, Option, Some, wire_fault}
+use Rattle.block9.proofs.Words.{ByteGap, if◌then◌else◌, None, Some, wire_fault}
 use Rattle.block9.proofs.Words.{ap, Bool, Idle, map_push, Place}
 use Rattle.block9.proofs.Words.{early_fault, false, is_soon, last_time, nat_le, place_on, true, Wire, byte_gap}
 use Rattle.block9.proofs.LineLemmas.{block_len-append}

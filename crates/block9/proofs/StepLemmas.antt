@@ -1,5 +1,5 @@
 -- What a record that breaks no rule makes of a tail.
-use Rattle.block9.proofs.Words.{Block, common_steps, InReply, ◌+◌, ◌-◌, ◌<◌}
+use Rattle.block9.proofs.Words.{common_steps, InReply, ◌-◌, ◌<◌}
 use Rattle.block9.proofs.Words.{[], after_command, AfterCommand, ap, append_assoc, arith, block_len, block_of, bytes_of, closed_of, Command, Controller, Deck, IsStep, drop}
 use Rattle.block9.proofs.Words.{ends_block, false, first_time, in_command, in_reply, inl, inr, IsAnswered, IsBegun, IsCommand, IsExchange, IsHeld, IsTail, last_time, length}
 use Rattle.block9.proofs.Words.{length-append, LineByte, List, None, nothing, open_at, Option, pairing, place_of, refl, Some, Step, tail_after, take, true, ◌++◌, ◌∙◌, ◌∷◌, ◌≡◌}

@@ -77,8 +77,9 @@ fn first_fault(tail: &[LineByte], line_byte: LineByte) -> Option<Reason>
     let allowed = rules::allows(line_byte.wire, line_byte.byte / 16);
     match line_byte.wire {
         Wire::Controller => rules::group_fault(Place::Idle, allowed),
-        Wire::Deck => rules::time_fault(Place::AfterCommand, is_soon(tail, line_byte))
-            .or(rules::group_fault(Place::AfterCommand, allowed)),
+        Wire::Deck => rules::time_fault(Place::AfterCommand, is_soon(tail, line_byte)).or(
+            rules::group_fault(Place::AfterCommand, allowed),
+        ),
     }
 }
 

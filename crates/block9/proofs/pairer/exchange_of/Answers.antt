@@ -1,4 +1,4 @@
-use Rattle.block9.proofs.Words.{rules, arith, block_len, block_of, bytes_of, length, refl, take, ◌-◌, ◌≡◌}
+use Rattle.block9.proofs.Words.{rules, arith, block_len, block_of, bytes_of, refl, take, ◌-◌, ◌≡◌}
 use Rattle.block9.proofs.SpellingLemmas.{first_at, last_of_first}
 use Rattle.block9.proofs.StepLemmas.{delay_fits, reply_begin, reply_now}
 use Rattle.block9.proofs.pairer.exchange_of.Goals as goal
@@ -16,13 +16,21 @@ overflow_sub-result-2 c =
     let now = reply_now c.args.tail.now c.args.command c.requires.held c.requires.ends in
     let begin = reply_begin c.args.tail.now c.args.command c.requires.held c.requires.ends in
     let fits = delay_fits c.args.tail.now now.0 c.args.command now.1 in
-    rw (c.block_len-begin.ensures, first_at c.args.tail.now (block_len c.args.tail.now) _ begin.1,
-    last_of_first c.args.tail.now (block_len c.args.tail.now) _ (omega (arith, begin.0)) (omega (arith, begin.1))) fits
+    rw (
+      c.block_len-begin.ensures,
+      first_at c.args.tail.now (block_len c.args.tail.now) _ begin.1,
+      last_of_first c.args.tail.now (block_len c.args.tail.now) _ (omega (arith, begin.0)) (omega (arith, begin.1)),
+    ) fits
 
 pub returns : goal.returns
 returns c =
     let begin = reply_begin c.args.tail.now c.args.command c.requires.held c.requires.ends in
     let asked : c.of_records.result ≡ block_of (bytes_of (take (block_len c.args.tail.now - 1) c.args.tail.now)) = search rules in
-    rw (asked, c.block_len-begin.ensures, first_at c.args.tail.now (block_len c.args.tail.now) _ begin.1,
-    last_of_first c.args.tail.now (block_len c.args.tail.now) _ (omega (arith, begin.0)) (omega (arith, begin.1)),
-    first_at c.args.tail.now 0 _ (omega (arith, begin.1)), c.requires.reply) refl
+    rw (
+      asked,
+      c.block_len-begin.ensures,
+      first_at c.args.tail.now (block_len c.args.tail.now) _ begin.1,
+      last_of_first c.args.tail.now (block_len c.args.tail.now) _ (omega (arith, begin.0)) (omega (arith, begin.1)),
+      first_at c.args.tail.now 0 _ (omega (arith, begin.1)),
+      c.requires.reply,
+    ) refl

@@ -1,4 +1,4 @@
-use Rattle.block9.proofs.Words.{Controller, ap, arith, Bool, ByteGap, if◌then◌else◌, Option, Some, ◌∙◌, byte_gap, early_fault, false, is_soon, last_time, nat_le, nat_tests, None, place_at, place_of, rules, true, Wire, wire_fault, ◌+◌, ◌≡◌}
+use Rattle.block9.proofs.Words.{Controller, ap, arith, Bool, ByteGap, if◌then◌else◌, Some, ◌∙◌, byte_gap, false, is_soon, last_time, nat_le, nat_tests, None, place_at, rules, true, wire_fault, ◌+◌, ◌≡◌}
 use Rattle.block9.proofs.SpellingLemmas.{last_at}
 use Rattle.block9.proofs.StandsLemmas.{begun_some, gap_told, its_turn}
 use Rattle.block9.proofs.pairer.turn.Goals as goal
@@ -32,6 +32,7 @@ returns-clause-ok c =
     let some = begun_some c.args.tail.now c.args.block c.requires.stands c.if-block-eq0.false in
     let last = last_at c.args.tail.now (record { time_us = 0; wire = Controller; byte = 0 }) some in
     let gap : nat_le c.args.line_byte.time_us (last_time c.args.tail.now + byte_gap) ≡ true =
-    let later = c.requires.later in let short = rw last at c.if-line_byte-tail-gt-BYTE_GAP_US.false in grind (arith, nat_tests) in
-    (gap_told c.args.tail.now c.args.line_byte c.args.block c.requires.stands turn c.if-block-eq0.false ∙ ap (λ (x : Bool). if x then None else Some ByteGap) gap,
-    c.longer.ensures)
+    let later = c.requires.later in let short = rw last at c.if-line_byte-tail-gt-BYTE_GAP_US.false in grind (arith, nat_tests) in (
+      gap_told c.args.tail.now c.args.line_byte c.args.block c.requires.stands turn c.if-block-eq0.false ∙ ap (λ (x : Bool). if x then None else Some ByteGap) gap,
+      c.longer.ensures,
+    )

@@ -1,7 +1,6 @@
-use Rattle.block9.proofs.Words.{arith, early_fault, ends_block, grown, nat_tests, next_of, None, open_at, place_of, refl, rules, Some, Step, sym, true, ◌<◌, ◌≡◌, ◌≢◌, ◌∙◌}
+use Rattle.block9.proofs.Words.{early_fault, place_of, refl, rules, Some, Step, ◌≡◌, ◌∙◌}
 use Rattle.std.proofs.lemmas.Result.{IfErr-weaker, IfOk-weaker}
 use Rattle.block9.proofs.FeedLemmas.{early_told, fed_in_order, fed_refused, fed_step, fed_waiting, held_waiting, refuses, takes}
-use Rattle.block9.proofs.StandsLemmas.{ends_by_left}
 use Rattle.block9.proofs.pairer.Pairer.feed.Goals as goal
 
 -- a record that begins a block or goes on with one
