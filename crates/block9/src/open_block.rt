@@ -1,5 +1,4 @@
 //! The block that is open at the end of a tail, as a pairer counts it.
-ghost use Rattle.std.specs.Prelude.{◌≡◌, ◌≢◌};
 
 use crate::place::Place;
 use capture9::Wire;
@@ -16,7 +15,7 @@ pub(crate) struct OpenBlock {
 }
 
 impl OpenBlock {
-    ghost use Rattle.std.specs.Prelude.{◌≡◌, ◌≢◌, ◌≤◌};
+    ghost use Rattle.std.specs.Prelude.{◌≡◌, ◌≢◌};
     ghost use Rattle.block9.specs.Working.Held.{grown, next_of, place_at, to_come};
 
     /// A block on this wire that is not begun.

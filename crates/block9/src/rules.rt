@@ -1,5 +1,5 @@
-//! The rules that a record may break before its block is complete, by the place where the tail stands. What each
-//! reason says is in `specs/Reason.antt`.
+//! The rules that a record may break before its block is complete, by the place where the tail stands, but for the gap inside
+//! a block, which the pairer tests itself. What each reason says is in `specs/Reason.antt`.
 ghost use Rattle.std.specs.Prelude.{◌≡◌, ◌<◌, true};
 ghost use Rattle.block9.specs.Line.{allows};
 ghost use Rattle.block9.specs.Working.Table.{wire_fault, time_fault, group_fault};
