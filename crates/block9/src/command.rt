@@ -263,6 +263,7 @@ impl Command {
     /// answers DEVICE TYPE and the senses with what they ask for, and every other command with an
     /// acknowledgement. The time in a reply is not judged here, but by [`crate::reply_time_valid`].
     #[tactic(auto, unfolding(crate::specs::Command::fits))]
+    #[inline(always)] // it is asked of every exchange
     pub fn fits(&self, reply: &Block) -> bool
         ensures { result ≡ fits self.now reply.now }
     {
