@@ -6,7 +6,10 @@
 //!
 //! What was made aside is handed to `drop` where memory is refused, and so is what it takes the place of. Their end in place,
 //! by `?` or by an assignment, would cost the proof of a function most of its time.
-ghost use Rattle.std.specs.Prelude.{◌≡◌, IfOk, IsOk, IsTrue, OnErr, OnOk, false, if◌then◌else◌, max, option_map, true};
+//!
+//! Those with the panel on are in a box of their own, so that they take no room where hands are not allowed. It is made once:
+//! a command puts new states into it.
+ghost use Rattle.std.specs.Prelude.{◌≡◌, IfOk, IsOk, IsTrue, OnErr, OnOk, Some, false, if◌then◌else◌, max, option_map, true};
 ghost use Rattle.sets25.specs.Times.{span_count};
 ghost use Rattle.track9.specs.Tracker.{entries_of};
 ghost use Rattle.track9.specs.Working.Starts.{states_from};
@@ -29,18 +32,19 @@ mod member;
 #[derive(Drop)]
 pub(crate) struct States<S: TimeSet> {
     off: Halves<S>,
-    on: Option<Halves<S>>,
+    on: Option<Box<Halves<S>>>,
 }
 
 impl<S: TimeSet> Model for States<S> {
     ghost use Rattle.track9.specs.Tracker.{States};
+    ghost use Rattle.std.specs.Prelude.{option_map};
     ghost use Rattle.track9.specs.Working.Codes.{states_code};
 
     ghost Value = { States };
 
     ghost coded = { states_code };
 
-    ghost view = { λ v. record { off = v.off; on = v.on } };
+    ghost view = { λ v. record { off = v.off; on = option_map (λ b. b.value) v.on } };
 }
 
 impl<S: TimeSet> States<S> {
@@ -51,7 +55,7 @@ impl<S: TimeSet> States<S> {
         let off = Halves::all_or_none(alloc, true)?;
         match hands {
             Hands::None => Ok(States { off, on: None }),
-            Hands::Allowed => match Halves::all_or_none(alloc, true) {
+            Hands::Allowed => match all_boxed(alloc) {
                 Ok(all) => Ok(States { off, on: Some(all) }),
                 Err(error) => {
                     drop(off);
@@ -79,7 +83,7 @@ impl<S: TimeSet> States<S> {
         let Some(on) = &self.on else {
             return Ok(States { off, on: None });
         };
-        match on.copy() {
+        match copy_boxed(on) {
             Ok(copy) => Ok(States {
                 off,
                 on: Some(copy),
@@ -105,7 +109,7 @@ impl<S: TimeSet> States<S> {
     pub(crate) fn hands(&self) -> Hands
         ensures { result ≡ hands_of self.now }
     {
-        match self.on {
+        match &self.on {
             Some(_) => Hands::Allowed,
             None => Hands::None,
         }
@@ -192,12 +196,13 @@ impl<S: TimeSet> States<S> {
 
     /// The states after a drift, where hands are allowed.
     fn drift_by_hand(&mut self, alloc: Global) -> Result<(), AllocError>
+        requires { hands_of self.old ≡ Hands.Allowed }
         ensures ok { OnOk result (self.new ≡ all_drifted self.old) }
         ensures err { OnErr result (self.new ≡ self.old) }
     {
         let on = self.drifted_on(alloc)?;
         self.off.drift();
-        drop(replace(&mut self.on, Some(on)));
+        self.put_on(on);
         Ok(())
     }
 
@@ -226,7 +231,7 @@ impl<S: TimeSet> States<S> {
         let on = self.taken_on(alloc, command, reply)?;
         match self.off.take(alloc, command, reply) {
             Ok(()) => {
-                drop(replace(&mut self.on, Some(on)));
+                self.put_on(on);
                 Ok(())
             }
             Err(error) => {
@@ -269,6 +274,7 @@ impl<S: TimeSet> States<S> {
 
     /// The panel is switched on or off, after a drift.
     fn switch_panel(&mut self, alloc: Global, on: bool) -> Result<(), AllocError>
+        requires { hands_of self.old ≡ Hands.Allowed }
         ensures ok { OnOk result (self.new ≡ after_panel on self.old) }
         ensures err { OnErr result (self.new ≡ self.old) }
     {
@@ -284,21 +290,34 @@ impl<S: TimeSet> States<S> {
 
     /// Puts these states in place of all: those with the panel off, and those with it on.
     fn put(&mut self, off: Halves<S>, on: Halves<S>)
+        requires { hands_of self.old ≡ Hands.Allowed }
         ensures { self.new ≡ record { off = off; on = Some on } }
     {
-        let next = States { off, on: Some(on) };
-        drop(replace(self, next));
+        drop(replace(&mut self.off, off));
+        self.put_on(on);
+    }
+
+    /// Puts these states in place of those with the panel on, in the same box.
+    fn put_on(&mut self, on: Halves<S>)
+        requires { hands_of self.old ≡ Hands.Allowed }
+        ensures { self.new ≡ record self.old { on = Some on } }
+    {
+        match &mut self.on {
+            Some(boxed) => drop(Box::replace(boxed, on)),
+            None => drop(on),
+        }
     }
 
     /// The panel may be switched on or off, after a drift, or stay.
     fn pass_panel(&mut self, alloc: Global, on: bool) -> Result<(), AllocError>
+        requires { hands_of self.old ≡ Hands.Allowed }
         ensures ok { OnOk result (self.new ≡ panel_passed on self.old) }
         ensures err { OnErr result (self.new ≡ self.old) }
     {
         let known = self.either_panel(alloc)?;
         if on {
             self.off.drift();
-            drop(replace(&mut self.on, Some(known)));
+            self.put_on(known);
             return Ok(());
         }
         match self.drifted_on(alloc) {
@@ -324,6 +343,22 @@ impl<S: TimeSet> States<S> {
         }
         Ok(())
     }
+}
+
+/// Every state with one value of the panel, in a box.
+fn all_boxed<S: TimeSet>(alloc: Global) -> Result<Box<Halves<S>>, AllocError>
+    ensures { IfOk result (λ b. b.value ≡ all_or_none true) }
+{
+    let all = Halves::all_or_none(alloc, true)?;
+    Ok(Box::new(alloc, all)?)
+}
+
+/// An equal set, in a box of its own.
+fn copy_boxed<S: TimeSet>(states: &Box<Halves<S>>) -> Result<Box<Halves<S>>, AllocError>
+    ensures { IfOk result (λ b. b.value ≡ states.now.value) }
+{
+    let copy = states.copy()?;
+    Ok(Box::new(*Box::allocator(states), copy)?)
 }
 
 /// The effect that a command may have: none where its reply is a NAK.

@@ -1,4 +1,4 @@
-use Rattle.track9.proofs.Words.{ap, Drift, hands_of, on_ok_weaker, States, subst, sym, TwoWhole, ◌∙◌}
+use Rattle.track9.proofs.Words.{ap, Drift, hands_of, on_ok_weaker, option_map, States, subst, sym, TwoWhole, ◌∙◌}
 use Rattle.track9.proofs.states.States.drift.Goals as goal
 use Rattle.deck9.specs.declared.state.Hands.TheVariants as hands
 use Rattle.track9.proofs.EffectLemmas.{drift_leads}
@@ -8,7 +8,7 @@ use Rattle.track9.proofs.PartLemmas.{drift_panel}
 pub returns-in-None-clause-ok : goal.returns-in-None-clause-ok
 returns-in-None-clause-ok g c = rw (
   ← c.self.view_is,
-  none_on c.self.inside.on (ap hands_of c.self.view_is ∙ sym c.hands.ensures ∙ c.in-None.is),
+  none_on (option_map (λ b. b.value) c.self.inside.on) (ap hands_of c.self.view_is ∙ sym c.hands.ensures ∙ c.in-None.is),
   c.drift.ensures,
 )
     (leads_off Drift (λ n. n) (drift_panel hands.None) c.self.inside.off _

@@ -1,4 +1,4 @@
-use Rattle.track9.proofs.Words.{drift_from_pairs, false, hands_of, IfSome_then, inl, InTwo, RunsTo, State, States, subst, true}
+use Rattle.track9.proofs.Words.{drift_from_pairs, false, hands_of, IfSome_then, inl, InTwo, option_map, RunsTo, State, States, subst, true}
 use Rattle.track9.proofs.states.States.origin.Goals as goal
 use Rattle.track9.proofs.BeforeLemmas.{hand_leads, if_none, no_origin, panel_hands}
 use Rattle.track9.proofs.PartLemmas.{of_two}
@@ -14,7 +14,7 @@ returns-in-Some-clause-some g c =
 
 pub returns-clause-some : goal.returns-clause-some
 returns-clause-some g c = IfSome_then c.origin.result c.origin.ensures.some (λ s (there, (d, kept, reaches, fits)). (
-  rw (← c.self.view_is) (of_two (record { off = c.self.inside.off; on = c.self.inside.on }) s false there),
+  rw (← c.self.view_is) (of_two (record { off = c.self.inside.off; on = option_map (λ b. b.value) c.self.inside.on }) s false there),
   (d, drift_from_pairs (hands_of c.args.self.now) s d (inl (kept, reaches)), fits),
 ))
 

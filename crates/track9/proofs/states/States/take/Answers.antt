@@ -5,6 +5,6 @@ use Rattle.track9.proofs.PanelLemmas.{leads_off, none_on, take_panel}
 pub returns-in-None-clause-ok : goal.returns-in-None-clause-ok
 returns-in-None-clause-ok g c =
     let reply = option_map (λ b. b.now) c.args.reply in
-    rw (← c.self.view_is, none_on c.self.inside.on (ap hands_of c.self.view_is ∙ sym c.hands.ensures ∙ c.in-None.is))
+    rw (← c.self.view_is, none_on (option_map (λ b. b.value) c.self.inside.on) (ap hands_of c.self.view_is ∙ sym c.hands.ensures ∙ c.in-None.is))
     (on_ok_weaker c.take.result (leads_off (DriftsAndGoes (StepOrPass c.args.command.now reply)) _ (take_panel c.args.command.now reply) c.self.inside.off
     c.take.new.self) c.take.ensures.ok)

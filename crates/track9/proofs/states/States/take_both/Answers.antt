@@ -5,6 +5,6 @@ use Rattle.track9.proofs.PanelLemmas.{leads_both, narrow_take}
 pub returns-in-Ok-clause-ok : goal.returns-in-Ok-clause-ok
 returns-in-Ok-clause-ok g c =
     let reply = option_map (λ b. b.now) c.args.reply in
-    rw c.replace.ensures.after (leads_both (StepOrPass c.args.command.now reply) _ c.args.self.now c.take.new.self c.in_ok-on.on
+    rw c.put_on.ensures (leads_both (StepOrPass c.args.command.now reply) _ c.args.self.now c.take.new.self c.in_ok-on.on
     (narrow_take c.args.command.now reply c.requires.narrow) c.requires.whole c.below_day.ensures
     (subst (λ (v : States). Taken c.args.command.now reply v.off c.take.new.self) c.self.view_is c.in-Ok.ensures.ok) c.in_ok-on.ensures)
