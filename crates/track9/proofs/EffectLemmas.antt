@@ -7,8 +7,8 @@ use Rattle.track9.proofs.Words.{gone_pairs, gone_part, gone_with, has, has-and, 
 use Rattle.track9.proofs.Words.{inr, InTwo, is_as_wanted, is_live, is_mode, is_mode-same, is_nak, LeadsOn, List, map_two, masked, masked_part, Mode, mode_self, modes, ModeSet}
 use Rattle.track9.proofs.Words.{no_states, None, nothing_has, Option, or-false, or-true, or_cases, Part, Presets, presets_after, put_aside, put_settled}
 use Rattle.track9.proofs.Words.{refl, refused, RegAudioIn, RegAudioOut, RegIn, Register, RegistersSet, RegOut, reported_part, rules, Sense, sense_of, sensed_part, set_where, settled}
-use Rattle.track9.proofs.Words.{shown_with, ShowsStatus, Some, some_entry, some_mode, some_two, State, Status, status_of, status_part, DeckStep, Stop, subst, sym, Taken, Tells, time_of, true}
-use Rattle.track9.proofs.Words.{two_changed, two_drifted, two_sensed, two_status, TwoBelow, TwoFew, Halves, TwoWhole, where_live, Whole, with_command, with_entries, with_entry}
+use Rattle.track9.proofs.Words.{shown_with, ShowsStatus, Some, some_entry, some_mode, some_pair, some_two, State, Status, status_of, status_part, DeckStep, Stop, subst, sym, Taken, Tells, time_of, true}
+use Rattle.track9.proofs.Words.{two_changed, two_drifted, two_gone, two_sensed, two_status, TwoBelow, TwoFew, Halves, TwoWhole, where_live, Whole, with_command, with_entries, with_entry}
 use Rattle.track9.proofs.Words.{ℕ, ◌&&◌, ◌==◌, ◌||◌, ◌↔◌, ◌∙◌, ◌≡◌, ◌⊎◌}
 use Rattle.deck9.specs.declared.effect.Effect.TheVariants as effect
 use Rattle.deck9.specs.declared.state.Hands.TheVariants as hands
@@ -122,6 +122,21 @@ goal_has true goal p g m = pair_by_goal (λ f. either (shown_with p f) (shown_wi
 goal_goes : (may_stay : Bool) (goal : Mode) (p : List ModeSet) (m : Mode) → has (goes p).0 m ≡ true → has_pair (gone_pairs may_stay goal p) goal m ≡ true
 goal_goes b goal p m h = goal_has b goal p goal m ∙ rw (mode_self goal, h) (or-true (b && has_pair p goal m))
 
+-- a command leaves a state
+gone_some : (may_stay : Bool) (goal : Mode) (p : List ModeSet) → some_pair p ≡ true → some_pair (gone_pairs may_stay goal p) ≡ true
+gone_some b goal p some = let m = some_mode (goes p) some in pairs_some (gone_pairs b goal p) goal m.0 (goal_goes b goal p m.0 m.1)
+
+live_gone : (may_stay : Bool) (goal : Mode) (p : Part) → is_live (where_live (gone_part may_stay goal) p) ≡ is_live p
+live_gone m goal p = by (is_live p) refl
+  where
+    by : (b : Bool) → is_live p ≡ b → is_live (if b then gone_part m goal p else p) ≡ b
+    by true live = gone_some m goal p.pairs live
+    by false dead = dead
+
+pub two_live_gone : (may_stay : Bool) (goal : Mode) (h : Halves) → some_two (two_gone may_stay goal h) ≡ some_two h
+two_live_gone m goal h = ap (λ b. b || is_live (where_live (gone_part true goal) h.local)) (live_gone m goal h.remote)
+    ∙ ap (λ b. is_live h.remote || b) (live_gone true goal h.local)
+
 -- the states with this goal, and those that may stay as they are
 goal_leads : (Goes : State → State → Type 0) (may_stay : Bool → Bool) (goal : Mode) (p : Part)
     → ((s t : State) → Goes s t ↔ ((t ≡ record s { goal = goal }) ⊎ ((may_stay s.local ≡ true) × (t ≡ s))))
@@ -146,8 +161,7 @@ goal_leads Goes may_stay goal p steps whole live = record {
     | inr (stays, e) ↦ rw e (in_pairs p (gone_pairs b goal p.pairs) s s.goal s.shown i.registers
         (goal_has b goal p.pairs s.goal s.shown ∙ rw (stays, i.pair) refl))
   ];
-  whole = λ l. let q = gone_pairs (may_stay l) goal p.pairs in let m = some_mode (goes p.pairs) live in
-      whole_pairs q p whole (pairs_some q goal m.0 (goal_goes (may_stay l) goal p.pairs m.0 m.1) ∙ sym live);
+  whole = λ l. whole_pairs (gone_pairs (may_stay l) goal p.pairs) p whole (gone_some (may_stay l) goal p.pairs live ∙ sym live);
   few = λ l n few. few_pairs n _ p few;
 }
 

@@ -49,7 +49,7 @@ pub use Rattle.track9.specs.Working.Parts.{is_live, masked_part, no_states, put_
 pub use Rattle.track9.specs.Working.Parts.{with_pairs}
 pub use Rattle.track9.specs.Working.States.{after_panel, all_drifted, all_forgotten, all_or_none, AllLeadOn, AreBelow, AreFew, AreWhole, counted, counts_after, DoesOrNot, DriftsAndGoes, effect_taken}
 pub use Rattle.track9.specs.Working.States.{either_panel, first_states, Follows, FollowsDrift, hands_by, hands_of, HasEffect, InTwo, is_panel_live, is_wide, IsKept}
-pub use Rattle.track9.specs.Working.States.{LeadsOn, map_two, on_two, panel_passed, part_of, some_state, some_two, switched, Taken, StepOrPass, two_changed, two_drifted}
+pub use Rattle.track9.specs.Working.States.{LeadsOn, map_two, on_two, panel_passed, part_of, some_state, some_two, switched, Taken, StepOrPass, two_changed, two_drifted, two_gone}
 pub use Rattle.track9.specs.Start.{StartsFrom}
 pub use Rattle.track9.specs.Working.Starts.{entries_known, modes_known, pairs_of, part_from, part_known, shown_if, states_from, two_from}
 pub use Rattle.track9.specs.declared.start.Start.{Start}

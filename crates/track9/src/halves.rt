@@ -100,23 +100,31 @@ impl<S: TimeSet> Halves<S> {
         self.remote.is_live() || self.local.is_live()
     }
 
-    /// A drift of the mechanics.
-    pub(crate) fn drift(&mut self)
-        ensures { self.new ≡ two_drifted self.old }
+    /// A drift of the mechanics. It answers whether there is a state.
+    #[inline(never)] // where a command follows it, one machine code for both would be longer
+    pub(crate) fn drift(&mut self) -> bool
+        ensures drifted { self.new ≡ two_drifted self.old }
+        ensures some { result ≡ some_two self.new }
     {
-        self.remote.drift();
-        self.local.drift();
+        let remote = self.remote.drift();
+        let local = self.local.drift();
+        remote || local
     }
 
-    /// The deck is commanded to a mode; a deck in LOCAL may leave it, and so may any where `may_stay`.
-    fn go(&mut self, may_stay: bool, goal: Mode)
-        ensures { self.new ≡ two_gone may_stay goal self.old }
+    /// A drift of the mechanics, and then the deck is commanded to a mode; a deck in LOCAL may leave it, and so may any where
+    /// `may_stay`. It answers whether there is a state.
+    fn drift_and_go(&mut self, may_stay: bool, goal: Mode) -> bool
+        ensures gone { self.new ≡ two_gone may_stay goal (two_drifted self.old) }
+        ensures some { result ≡ some_two self.new }
     {
+        let some = self.drift();
         self.remote.go(may_stay, goal);
         self.local.go(true, goal);
+        some
     }
 
     /// A register changes; a deck in LOCAL may leave it, and so may any where `may_stay`.
+    #[inline(never)] // as it takes memory
     fn change(
         &mut self,
         alloc: Global,
@@ -134,6 +142,7 @@ impl<S: TimeSet> Halves<S> {
     }
 
     /// A register's time was read: None where the reply has no valid time.
+    #[inline(never)] // as it takes memory
     fn sense(
         &mut self,
         alloc: Global,
@@ -159,6 +168,7 @@ impl<S: TimeSet> Halves<S> {
     }
 
     /// Goal, shown mode and registers are forgotten.
+    #[inline(never)] // as it takes memory
     fn forget_tape(&mut self, alloc: Global) -> Result<(), AllocError>
         ensures ok { OnOk result (self.new ≡ tape_forgotten self.old) }
         ensures err { OnErr result (self.new ≡ self.old) }
@@ -177,6 +187,7 @@ impl<S: TimeSet> Halves<S> {
     }
 
     /// The registers are forgotten.
+    #[inline(never)] // as it takes memory
     fn forget_registers(&mut self, alloc: Global) -> Result<(), AllocError>
         ensures ok { OnOk result (self.new ≡ registers_forgotten self.old) }
         ensures err { OnErr result (self.new ≡ self.old) }
@@ -203,6 +214,7 @@ impl<S: TimeSet> Halves<S> {
     }
 
     /// Everything but the panel is forgotten.
+    #[inline(never)] // as it takes memory
     fn forget_all(&mut self, alloc: Global) -> Result<(), AllocError>
         ensures ok { OnOk result (self.new ≡ all_forgotten self.old) }
         ensures err { OnErr result (self.new ≡ self.old) }

@@ -1,6 +1,6 @@
 //! How many data presets were acknowledged.
-ghost use Rattle.std.specs.Prelude.{◌≡◌};
-ghost use Rattle.track9.specs.Presets.{count_of, presets_after, with_command};
+ghost use Rattle.std.specs.Prelude.{◌≡◌, false};
+ghost use Rattle.track9.specs.Presets.{Presets as AllCounts, count_of, presets_after, with_command};
 ghost use Rattle.deck9.specs.declared.state.Register.{Register as ARegister};
 
 use block9::{Block, Command};
@@ -68,7 +68,8 @@ impl Presets {
     pub(crate) fn count_exchange(&mut self, command: &Command, reply: &Block, remains: bool)
         ensures { self.new ≡ presets_after command.now reply.now remains self.old }
     {
-        if !reply.is_nak() && remains {
+        // the command first, since few are data presets
+        if is_data_preset(command) && remains && !reply.is_nak() {
             self.count_command(command);
         }
     }
@@ -85,4 +86,17 @@ impl Presets {
             _ => {}
         }
     }
+}
+
+/// Whether a command is a data preset: no other one counts.
+fn is_data_preset(command: &Command) -> bool
+    ensures { (n : AllCounts) → result ≡ false → with_command command.now n ≡ n }
+{
+    matches!(
+        command,
+        Command::InDataPreset { .. }
+            | Command::OutDataPreset { .. }
+            | Command::AudioInDataPreset { .. }
+            | Command::AudioOutDataPreset { .. }
+    )
 }

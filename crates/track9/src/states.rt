@@ -133,22 +133,26 @@ impl<S: TimeSet> States<S> {
     }
 
     /// The states after a command: after a drift and a step, or, where its reply is not known, nothing or the command's effect.
-    /// Where memory is refused nothing has changed.
+    /// It answers whether there is one. Where memory is refused nothing has changed.
     #[inline(always)] // so that whether there is a reply is known where this is called
     pub(crate) fn take(
         &mut self,
         alloc: Global,
         command: &Command,
         reply: Option<&Block>,
-    ) -> Result<(), AllocError>
+    ) -> Result<bool, AllocError>
         requires { AreWhole self.old }
         ensures ok { OnOk result (Follows (hands_of self.old) command.now (option_map (λ b. b.now) reply.entry) self.old self.new) }
+        ensures some { IfOk result (λ b. b ≡ some_state self.new) }
         ensures err { OnErr result (self.new ≡ self.old) }
         ensures frugal { hands_of self.old ≡ Hands.None → IsTrue (is_frugal_taken command.now (option_map (λ b. b.now) reply.entry)) → IsOk result }
     {
         match self.hands() {
             Hands::None => self.off.take(alloc, command, reply),
-            Hands::Allowed => self.take_by_hand(alloc, command, reply),
+            Hands::Allowed => {
+                self.take_by_hand(alloc, command, reply)?;
+                Ok(self.is_some())
+            }
         }
     }
 
@@ -230,7 +234,7 @@ impl<S: TimeSet> States<S> {
         self.below_day();
         let on = self.taken_on(alloc, command, reply)?;
         match self.off.take(alloc, command, reply) {
-            Ok(()) => {
+            Ok(_) => {
                 self.put_on(on);
                 Ok(())
             }
@@ -252,7 +256,7 @@ impl<S: TimeSet> States<S> {
     {
         let mut on = self.drifted_on(alloc)?;
         match on.take(alloc, command, reply) {
-            Ok(()) => Ok(on),
+            Ok(_) => Ok(on),
             Err(error) => {
                 drop(on);
                 Err(error)

@@ -105,8 +105,7 @@ impl<S: TimeSet> Tracker<S> {
         ensures unchanged { IfErr result (λ e. self.new ≡ self.old) }
         ensures frugal { self.old.hands ≡ Hands.None → IsTrue (is_frugal command.now reply.now) → IsOk result }
     {
-        self.states.take(self.alloc, command, Some(reply))?;
-        let remains = self.states.is_some();
+        let remains = self.states.take(self.alloc, command, Some(reply))?;
         self.presets.count_exchange(command, reply, remains);
         Ok(remains)
     }

@@ -1,28 +1,31 @@
 //! What an exchange does to the states with one value of the panel, where nobody touches it: by what its reply shows, and by
 //! its command's effect; or by the effect alone, where the reply is not known.
-ghost use Rattle.std.specs.Prelude.{◌≡◌, IsOk, IsTrue, None, OnErr, OnOk, Some, option_map};
+ghost use Rattle.std.specs.Prelude.{◌≡◌, IfOk, IsOk, IsTrue, None, OnErr, OnOk, Some, option_map};
 ghost use Rattle.deck9.specs.Effect.{effect_of};
+ghost use Rattle.deck9.specs.Status.{status_of};
+ghost use Rattle.tc25.specs.Day.{time_of};
 ghost use Rattle.track9.specs.Frugal.{is_frugal, is_frugal_effect};
-ghost use Rattle.track9.specs.Working.States.{HasEffect, Taken, TwoWhole, is_frugal_taken, two_drifted};
+ghost use Rattle.track9.specs.Working.States.{HasEffect, Taken, TwoWhole, is_frugal_taken, some_two, two_drifted, two_sensed, two_status};
 
 use crate::halves::Halves;
 use block9::{Block, Command};
-use deck9::{Effect, Mode, Sense, Status};
+use deck9::{Effect, Mode, Register, Sense, Status};
 use sets25::TimeSet;
 use std::alloc::{AllocError, Global};
 
 impl<S: TimeSet> Halves<S> {
     /// The states after a command: after a drift of the mechanics and a step, or, where its reply is not known, nothing or the
-    /// command's effect. Where memory is refused nothing has changed.
+    /// command's effect. It answers whether there is one. Where memory is refused nothing has changed.
     #[inline(always)] // so that whether there is a reply is known where this is called
     pub(crate) fn take(
         &mut self,
         alloc: Global,
         command: &Command,
         reply: Option<&Block>,
-    ) -> Result<(), AllocError>
+    ) -> Result<bool, AllocError>
         requires { TwoWhole self.old }
         ensures ok { OnOk result (Taken command.now (option_map (λ b. b.now) reply.entry) self.old self.new) }
+        ensures some { IfOk result (λ b. b ≡ some_two self.new) }
         ensures err { OnErr result (self.new ≡ self.old) }
         ensures frugal { IsTrue (is_frugal_taken command.now (option_map (λ b. b.now) reply.entry)) → IsOk result }
     {
@@ -32,90 +35,103 @@ impl<S: TimeSet> Halves<S> {
         }
     }
 
-    /// The states after a command whose reply is known.
+    /// The states after a command whose reply is known. It answers whether there is one.
     fn exchange(
         &mut self,
         alloc: Global,
         command: &Command,
         reply: &Block,
-    ) -> Result<(), AllocError>
+    ) -> Result<bool, AllocError>
         requires { TwoWhole self.old }
         ensures ok { OnOk result (Taken command.now (Some reply.now) self.old self.new) }
+        ensures some { IfOk result (λ b. b ≡ some_two self.new) }
         ensures err { OnErr result (self.new ≡ self.old) }
         ensures frugal { IsTrue (is_frugal command.now reply.now) → IsOk result }
     {
         if reply.is_nak() {
-            self.drift();
-            return Ok(());
+            return Ok(self.drift());
         }
         match Sense::of(command) {
-            Sense::Register(register) => {
-                let time = reply.time();
-                self.sense(alloc, register, &time)?;
-                self.drift();
-            }
-            Sense::Status(asked) => {
-                self.drift();
-                self.keep_status(alloc, &Status::of(asked, reply));
-            }
-            Sense::Nothing => {
-                let effect = Effect::of(command);
-                self.apply(alloc, false, &effect)?;
-            }
+            Sense::Register(register) => self.read(alloc, register, reply),
+            Sense::Status(asked) => Ok(self.report(alloc, asked, reply)),
+            Sense::Nothing => self.apply(alloc, false, command),
         }
-        Ok(())
     }
 
-    /// The states after a command whose reply is not known.
-    fn pass(&mut self, alloc: Global, command: &Command) -> Result<(), AllocError>
+    /// The states after a command whose reply is not known. It answers whether there is one.
+    fn pass(&mut self, alloc: Global, command: &Command) -> Result<bool, AllocError>
         requires { TwoWhole self.old }
         ensures ok { OnOk result (Taken command.now None self.old self.new) }
+        ensures some { IfOk result (λ b. b ≡ some_two self.new) }
         ensures err { OnErr result (self.new ≡ self.old) }
         ensures frugal { IsTrue (is_frugal_effect (effect_of command.now)) → IsOk result }
     {
         self.below_day();
-        let effect = Effect::of(command);
-        self.apply(alloc, true, &effect)
+        self.apply(alloc, true, command)
     }
 
-    /// The states after a drift and an effect, which a deck in LOCAL may ignore, and any where `may_stay`.
-    #[inline(always)] // else the effect is handed on through memory
-    fn apply(&mut self, alloc: Global, may_stay: bool, effect: &Effect) -> Result<(), AllocError>
-        requires { TwoWhole self.old }
-        ensures ok { OnOk result (HasEffect may_stay effect.now (two_drifted self.old) self.new) }
+    /// The states after a register's time was read, and a drift. It answers whether there is one.
+    #[inline(never)] // so that an exchange that takes no memory needs no room on the stack
+    fn read(&mut self, alloc: Global, register: Register, reply: &Block) -> Result<bool, AllocError>
+        ensures ok { OnOk result (self.new ≡ two_drifted (two_sensed register (time_of reply.now.bytes.items) self.old)) }
+        ensures some { IfOk result (λ b. b ≡ some_two self.new) }
         ensures err { OnErr result (self.new ≡ self.old) }
-        ensures frugal { IsTrue (is_frugal_effect effect.now) → IsOk result }
     {
-        match effect {
-            Effect::Nothing => self.drift(),
-            Effect::Panel(_) => self.drift(),
-            Effect::Go(goal) => {
-                self.drift();
-                self.go(may_stay, *goal);
-            }
-            Effect::KeepOrStop => {
-                self.drift();
-                self.go(true, Mode::Stop);
-            }
+        let time = reply.time();
+        self.sense(alloc, register, &time)?;
+        Ok(self.drift())
+    }
+
+    /// The states after a drift that agree with a reply to STATUS SENSE. It answers whether there is one.
+    #[inline(never)] // as above
+    fn report(&mut self, alloc: Global, asked: u8, reply: &Block) -> bool
+        ensures kept { self.new ≡ two_status (status_of asked reply.now) (two_drifted self.old) }
+        ensures some { result ≡ some_two self.new }
+    {
+        self.drift();
+        self.keep_status(alloc, &Status::of(asked, reply));
+        self.is_some()
+    }
+
+    /// The states after a drift and a command's effect, which a deck in LOCAL may ignore, and any where `may_stay`. It answers
+    /// whether there is one.
+    #[inline(never)] // as above
+    fn apply(
+        &mut self,
+        alloc: Global,
+        may_stay: bool,
+        command: &Command,
+    ) -> Result<bool, AllocError>
+        requires { TwoWhole self.old }
+        ensures ok { OnOk result (HasEffect may_stay (effect_of command.now) (two_drifted self.old) self.new) }
+        ensures some { IfOk result (λ b. b ≡ some_two self.new) }
+        ensures err { OnErr result (self.new ≡ self.old) }
+        ensures frugal { IsTrue (is_frugal_effect (effect_of command.now)) → IsOk result }
+    {
+        let effect = Effect::of(command);
+        match &effect {
+            Effect::Nothing => Ok(self.drift()),
+            Effect::Panel(_) => Ok(self.drift()),
+            Effect::Go(goal) => Ok(self.drift_and_go(may_stay, *goal)),
+            Effect::KeepOrStop => Ok(self.drift_and_go(true, Mode::Stop)),
             Effect::Change(register, change) => {
                 self.below_day();
                 self.change(alloc, may_stay, *register, change)?;
                 self.below_day();
-                self.drift();
+                Ok(self.drift())
             }
             Effect::ForgetTape => {
                 self.forget_tape(alloc)?;
-                self.drift();
+                Ok(self.drift())
             }
             Effect::ForgetRegisters => {
                 self.forget_registers(alloc)?;
-                self.drift();
+                Ok(self.drift())
             }
             Effect::ForgetAll => {
                 self.forget_all(alloc)?;
-                self.drift();
+                Ok(self.drift())
             }
         }
-        Ok(())
     }
 }

@@ -9,7 +9,7 @@ pub returns-in-None-clause-ok : goal.returns-in-None-clause-ok
 returns-in-None-clause-ok g c = rw (
   ← c.self.view_is,
   none_on (option_map (λ b. b.value) c.self.inside.on) (ap hands_of c.self.view_is ∙ sym c.hands.ensures ∙ c.in-None.is),
-  c.drift.ensures,
+  c.drift.ensures.drifted,
 )
     (leads_off Drift (λ n. n) (drift_panel hands.None) c.self.inside.off _
     (drift_leads c.self.inside.off (subst (λ (v : States). TwoWhole v.off) (sym c.self.view_is) c.requires.off)))

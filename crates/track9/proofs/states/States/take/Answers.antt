@@ -1,4 +1,4 @@
-use Rattle.track9.proofs.Words.{ap, DriftsAndGoes, hands_of, on_ok_weaker, option_map, sym, StepOrPass, ◌∙◌}
+use Rattle.track9.proofs.Words.{ap, DriftsAndGoes, hands_of, on_ok_weaker, option_map, or-false, some_two, sym, StepOrPass, ◌∙◌}
 use Rattle.track9.proofs.states.States.take.Goals as goal
 use Rattle.track9.proofs.PanelLemmas.{leads_off, none_on, take_panel}
 
@@ -8,3 +8,8 @@ returns-in-None-clause-ok g c =
     rw (← c.self.view_is, none_on (option_map (λ b. b.value) c.self.inside.on) (ap hands_of c.self.view_is ∙ sym c.hands.ensures ∙ c.in-None.is))
     (on_ok_weaker c.take.result (leads_off (DriftsAndGoes (StepOrPass c.args.command.now reply)) _ (take_panel c.args.command.now reply) c.self.inside.off
     c.take.new.self) c.take.ensures.ok)
+
+pub returns-in-None-clause-some : goal.returns-in-None-clause-some
+returns-in-None-clause-some g c =
+    rw (none_on (option_map (λ b. b.value) c.self.inside.on) (ap hands_of c.self.view_is ∙ sym c.hands.ensures ∙ c.in-None.is), or-false (some_two c.take.new.self))
+    c.take.ensures.some

@@ -4,16 +4,16 @@ use Rattle.track9.proofs.KnownLemmas.{kept_after, remains_where}
 use Rattle.track9.proofs.PartLemmas.{live_some}
 
 pub invariant_of-self-2 : goal.invariant_of-self-2
-invariant_of-self-2 g c = rw (c.count_exchange.ensures, c.is_some-remains.ensures)
-    (kept_after c.args.command.now c.args.reply.now c.self.inside.states c.take.new.self _ c.self.inside.presets c.self.invariant c.in_ok-take.ensures.ok)
+invariant_of-self-2 g c = rw (c.count_exchange.ensures, c.in_ok-remains.ensures.some)
+    (kept_after c.args.command.now c.args.reply.now c.self.inside.states c.take.new.self _ c.self.inside.presets c.self.invariant c.in_ok-remains.ensures.ok)
 
 pub returns-clause-reached : goal.returns-clause-reached
-returns-clause-reached g c = rw (← c.self.view_is) c.in_ok-take.ensures.ok.reached
+returns-clause-reached g c = rw (← c.self.view_is) c.in_ok-remains.ensures.ok.reached
 
 pub returns-clause-remains : goal.returns-clause-remains
-returns-clause-remains g c = rw c.is_some-remains.ensures (remains_where c.take.new.self c.in_ok-take.ensures.ok.whole)
+returns-clause-remains g c = rw c.in_ok-remains.ensures.some (remains_where c.take.new.self c.in_ok-remains.ensures.ok.whole)
 
 pub returns-clause-over : goal.returns-clause-over
-returns-clause-over g c = rw (← c.self.view_is) (λ none. c.is_some-remains.ensures ∙ false_from_ne_true (some_state c.take.new.self) (λ live.
-    let a = live_some c.take.new.self c.in_ok-take.ensures.ok.whole live in
-    let from = c.in_ok-take.ensures.ok.reached.0 a.0 a.1 in none (from.0, from.1)))
+returns-clause-over g c = rw (← c.self.view_is) (λ none. c.in_ok-remains.ensures.some ∙ false_from_ne_true (some_state c.take.new.self) (λ live.
+    let a = live_some c.take.new.self c.in_ok-remains.ensures.ok.whole live in
+    let from = c.in_ok-remains.ensures.ok.reached.0 a.0 a.1 in none (from.0, from.1)))

@@ -1,0 +1,7 @@
+use Rattle.track9.proofs.Words.{ap, some_two, sym, ◌∙◌}
+use Rattle.track9.proofs.halves.Halves.drift_and_go.Goals as goal
+use Rattle.track9.proofs.EffectLemmas.{two_live_gone}
+
+pub returns-clause-some : goal.returns-clause-some
+returns-clause-some g c = rw (c.go.ensures, c.go-2.ensures) (c.drift-some.ensures.some
+    ∙ sym (two_live_gone c.args.may_stay c.args.goal (record { remote = c.self.inside.remote; local = c.self.inside.local }) ∙ ap some_two c.self.view_is))
