@@ -101,7 +101,7 @@ impl<S: TimeSet> Halves<S> {
     }
 
     /// A drift of the mechanics. It answers whether there is a state.
-    #[inline(never)] // where a command follows it, one machine code for both would be longer
+    #[inline(never)] // so that the modes are taken side by side, also where a command follows
     pub(crate) fn drift(&mut self) -> bool
         ensures drifted { self.new ≡ two_drifted self.old }
         ensures some { result ≡ some_two self.new }
@@ -142,7 +142,6 @@ impl<S: TimeSet> Halves<S> {
     }
 
     /// A register's time was read: None where the reply has no valid time.
-    #[inline(never)] // as it takes memory
     fn sense(
         &mut self,
         alloc: Global,

@@ -6,6 +6,7 @@ ghost use Rattle.track9.specs.Tracker.{has_pair, shown_with};
 ghost use Rattle.track9.specs.Working.Pattern.{IsPairOf, PairRunsTo};
 ghost use Rattle.deck9.specs.ModeCalls.{is_some};
 ghost use Rattle.track9.specs.Working.Starts.{pairs_of, shown_if};
+ghost use Rattle.track9.specs.Working.Parts.{gone_pairs};
 ghost use Rattle.track9.specs.Working.Pairs.{all_pairs, drifted, drifted_with, goes, gone, gone_with, goal_if_shown, goals_of, joined, masked, no_pairs, some_pair};
 ghost use Rattle.deck9.specs.declared.mode.Mode.{Mode as AMode};
 
@@ -184,33 +185,17 @@ impl Pairs {
         }
     }
 
-    /// The pairs with this goal in place of theirs.
-    pub(crate) fn gone(&self, goal: Mode) -> Pairs
-        ensures { result.0 ≡ gone goal self.now.0 }
+    /// The pairs with this goal in place of theirs, and where `may_stay` as they are too.
+    pub(crate) fn go(&mut self, may_stay: bool, goal: Mode)
+        ensures { self.new.0 ≡ gone_pairs may_stay goal self.old.0 }
     {
-        let mut pairs = Pairs::none();
-        pairs.0[goal.index()] = self.all_shown();
-        pairs
-    }
-
-    /// The pairs of either set.
-    pub(crate) fn joined(&self, other: &Pairs) -> Pairs
-        ensures { result.0 ≡ joined self.now.0 other.now.0 }
-    {
-        let [a, b, c, d, e, f, g, h, i, j] = self.0;
-        let [k, l, m, n, o, p, q, r, s, t] = other.0;
-        Pairs([
-            a.or(k),
-            b.or(l),
-            c.or(m),
-            d.or(n),
-            e.or(o),
-            f.or(p),
-            g.or(q),
-            h.or(r),
-            i.or(s),
-            j.or(t),
-        ])
+        let shown = self.all_shown();
+        if may_stay {
+            self.0[goal.index()] = self.shown(goal).or(shown);
+        } else {
+            *self = Pairs::none();
+            self.0[goal.index()] = shown;
+        }
     }
 
     /// The pairs with one of these modes shown.

@@ -190,12 +190,7 @@ impl<S: TimeSet> Part<S> {
         if !self.is_live() {
             return;
         }
-        let gone = self.pairs.gone(goal);
-        self.pairs = if may_stay {
-            self.pairs.joined(&gone)
-        } else {
-            gone
-        };
+        self.pairs.go(may_stay, goal);
     }
 
     /// What becomes of a register's entries, or may where the deck may also leave it, in a set of its own: None where

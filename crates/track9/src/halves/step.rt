@@ -108,15 +108,14 @@ impl<S: TimeSet> Halves<S> {
         ensures err { OnErr result (self.new ≡ self.old) }
         ensures frugal { IsTrue (is_frugal_effect (effect_of command.now)) → IsOk result }
     {
-        let effect = Effect::of(command);
-        match &effect {
+        match Effect::of(command) {
             Effect::Nothing => Ok(self.drift()),
             Effect::Panel(_) => Ok(self.drift()),
-            Effect::Go(goal) => Ok(self.drift_and_go(may_stay, *goal)),
+            Effect::Go(goal) => Ok(self.drift_and_go(may_stay, goal)),
             Effect::KeepOrStop => Ok(self.drift_and_go(true, Mode::Stop)),
             Effect::Change(register, change) => {
                 self.below_day();
-                self.change(alloc, may_stay, *register, change)?;
+                self.change(alloc, may_stay, register, &change)?;
                 self.below_day();
                 Ok(self.drift())
             }
