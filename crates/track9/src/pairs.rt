@@ -127,6 +127,19 @@ impl Pairs {
         ])
     }
 
+    /// A drift of the mechanics. It answers whether there is a pair.
+    #[inline(always)] // each exchange drifts two sets of pairs
+    pub(crate) fn drift(&mut self) -> bool
+        ensures drifted { self.new.0 ≡ drifted self.old.0 }
+        ensures some { result ≡ some_pair self.new.0 }
+    {
+        let some = self.is_some();
+        if some {
+            *self = self.drifted();
+        }
+        some
+    }
+
     /// The modes that a drift can show with a goal: those that it keeps the goal for, and STOP where the
     /// deck has come to a halt. `some`: there is a pair.
     fn drifted_with(&self, some: bool, goal: Mode) -> ModeSet

@@ -174,13 +174,12 @@ impl<S: TimeSet> Part<S> {
     }
 
     /// A drift of the mechanics. It answers whether there is a state.
+    #[inline(always)] // each exchange drifts two parts
     pub(crate) fn drift(&mut self) -> bool
         ensures drifted { self.new ≡ drifted_part self.old }
         ensures live { result ≡ is_live self.new }
     {
-        let live = self.is_live();
-        self.pairs = self.pairs.drifted();
-        live
+        self.pairs.drift()
     }
 
     /// The deck is commanded to a mode, or may also leave it.
