@@ -18,7 +18,10 @@ if (( CURRENT == 2 )); then
 fi
 case $words[2] in
     check | explain | run | why)
-        options=('--hands[somebody may have touched the panel of the deck]')
+        options=(
+            '--hands[somebody may have touched the panel of the deck]'
+            '--rate[the frame rate of the machine, 25 if left out]:rate:(24 25 30 29.97df)'
+        )
         [[ $words[2] == run ]] || options+=('--all[go on after each break, and judge the whole capture]')
         shift words
         (( CURRENT-- ))

@@ -3,22 +3,13 @@
 # of what it writes without; and looks at the statuses and the streams. The last line is 'N passed, M failed'.
 set -u
 cd "$(dirname "$0")/.." || exit 1
-program=${NINECHECK:-$PWD/crates/ninecheck/out/ninecheck}
 . tests/lib/judge.sh
 . tests/lib/errors.sh
+. tests/lib/program.sh
 awk=${AWK:-awk}
 
 # How many captures are drawn, every second of them with hands.
 drawn=500
-
-work=$(mktemp -d)
-trap 'rm -rf "$work"' EXIT
-
-# run WORDS...: the program with these words; its streams are left in $work/out and $work/err.
-run() {
-    "$program" "$@" > "$work/out" 2> "$work/err"
-    status=$?
-}
 
 # is_composed FILE STATUS: the last run wrote this, said nothing, and ended with this status.
 is_composed() {

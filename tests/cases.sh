@@ -23,24 +23,20 @@
 #
 # `@MARK` between records keeps the number of the record before it, which `@MARK` is in a line of what is written.
 #
-# Beside that check, explain, run and why, each with hands where they are asked for, must end with the same status as what is
-# asked, with the same last line where there is a verdict, and with the same standard error. With --all check, explain and why must
+# Beside that check, explain, run and why, each with hands and at a rate where they are asked for, must end with the same status as
+# what is asked, with the same last line where there is a verdict, and with the same standard error. With --all check, explain and why must
 # write the same first, and of a yes the totals in its place. Where --all is asked for itself, all three must have the same breaks,
 # totals, status and standard error. This is not tried where the words are at fault or a file is not opened.
 #
 # What another script asks of a capture, and holds to the whole of its answer, is not asked here again.
 set -u
 cd "$(dirname "$0")/.." || exit 1
-program=${NINECHECK:-$PWD/crates/ninecheck/out/ninecheck}
 . tests/lib/judge.sh
+. tests/lib/program.sh
 
-work=$(mktemp -d)
-trap 'rm -rf "$work"' EXIT
-
-# run WORDS...: the program with these words, on the capture of the case.
-run() {
-    "$program" "$@" < "$folder/capture.csv" > "$work/out" 2> "$work/err"
-    status=$?
+# ask WORDS...: runs the program with these words on the capture of the case.
+ask() {
+    run "$@" < "$folder/capture.csv"
 }
 
 # is_case: the last run ended with the status of this case, and wrote what it says.
@@ -80,25 +76,29 @@ has_same_breaks() {
 }
 breaks_of() { grep -E '^(no at record|breaks) ' "$1"; }
 
-# ends_so WORDS...: whatever is asked of this capture, with hands and to its end or not as these words say, the end is the same.
+# ends_so WORDS...: whatever is asked of this capture, with hands, at a rate, and to its end or not as these words say, the end is
+# the same.
 ends_so() {
-    local verb hands=
-    case " $* " in *' --hands '*) hands=--hands ;; esac
+    local verb hands= rate= asked=" $* "
+    case $asked in *' --hands '*) hands=--hands ;; esac
+    case $asked in *' --rate '*) rate=${asked#* --rate } && rate="--rate ${rate%% *}" ;; esac
     for verb in check explain run why; do
         case " $* " in
             *' --all '*)
                 [ $verb != run ] || continue
-                run $verb --all $hands
+                # shellcheck disable=SC2086
+                ask $verb --all $hands $rate
                 has_same_breaks || return 1
                 continue
                 ;;
         esac
         # shellcheck disable=SC2086
-        run $verb $hands
+        ask $verb $hands $rate
         is_end $verb || return 1
         [ $verb != run ] || continue
         mv "$work/out" "$work/alone"
-        run $verb --all $hands
+        # shellcheck disable=SC2086
+        ask $verb --all $hands $rate
         goes_on || return 1
     done
 }
@@ -110,7 +110,7 @@ for table in tests/cases/*.txt; do
     for folder in "$work/$name"/*; do
         while IFS= read -r words; do
             # shellcheck disable=SC2086
-            run $words
+            ask $words
             judge "$name: $(cat "$folder/name"), $words" is_case
             case $(cat "$folder/status") in 0 | 1 | 3) ;; *) continue ;; esac
             # shellcheck disable=SC2086

@@ -76,16 +76,18 @@ motion() {
 }
 
 # is_motion NAME WORDS: of the capture of these words the view makes the text on standard input, in which @first is the first
-# line and @table the heading of the table; the words after a `/` are the program's.
+# line and @table the heading of the table; the words after a `/` are the program's. A rate among them is given to the view too.
 is_motion() {
+    local rate=
     capture_of "${2%%/*}"
     sed "s|^@first$|what the deck did after each transport command that it acknowledged; nothing is judged, a deck may take any time|
         s|^@table$|commands  shown  never    slowest s  at record  command|" > "$work/want"
     case $2 in */*) words=${2#*/} ;; *) words= ;; esac
+    case " $words" in *' --rate '*) rate=${words#*--rate } ;; esac
     # shellcheck disable=SC2086
     "$program" explain $words "$work/capture.csv" > "$work/in"
     for awk in mawk 'gawk --posix' 'busybox awk'; do
-        motion "-v capture=$work/capture.csv"
+        motion "-v capture=$work/capture.csv ${rate:+-v rate=${rate%% *}}"
         judge "$awk: $1" is_view "$work/want"
     done
 }
@@ -242,19 +244,24 @@ no transport command with a mode of its own was acknowledged
 worth looking at: nothing
 yes: records 49, exchanges 5, open 0
 END
-is_motion 'a time that runs in STOP' 's=20,00 t=10:00:00:00 +995600 t=10:00:01:00 s=20,00 s=01,00' <<'END'
+# A time that moves by as many frames as a second has runs, and one that moves by fewer is not worth looking at.
+for frames in 25 30; do
+    at_rate=
+    [ $frames = 25 ] || at_rate="/--rate $frames"
+    is_motion "a time that runs in STOP, at $frames frames a second" "s=20,00 t=10:00:00:00 +995600 t=10:00:01:00 s=20,00 s=01,00$at_rate" <<END
 @first
 no transport command with a mode of its own was acknowledged
 worth looking at: 1
-    record 9, 0.003600 s: time runs, 10:00:00:00 to 10:00:01:00, 25 frames in 1.000000 s, 1.00 of real time, while STOP is shown
+    record 9, 0.003600 s: time runs, 10:00:00:00 to 10:00:01:00, $frames frames in 1.000000 s, 1.00 of real time, while STOP is shown
 yes: records 49, exchanges 5, open 0
 END
-is_motion 'a time that runs out in STOP' 's=20,00 t=10:00:00:00 +995600 t=10:00:00:24 s=20,00' <<'END'
+    is_motion "a time that runs out in STOP, at $frames frames a second" "s=20,00 t=10:00:00:00 +995600 t=10:00:00:$((frames - 1)) s=20,00$at_rate" <<END
 @first
 no transport command with a mode of its own was acknowledged
 worth looking at: nothing
 yes: records 40, exchanges 4, open 0
 END
+done
 is_motion 'a time that runs back in a cue, and another mode between' 'CUE s=00,01 t=10:00:02:00 +1995600 t=10:00:01:00 s=00,01 s=20,00 s=00,01 t=10:00:01:00 s=00,01' <<'END'
 @first
 record 10, 0.004000 s: CUE UP WITH DATA: CUED shown after 0.003600 s, by status 1 of 5 (CUED 4, STOP 1); time 10:00:02:00 to 10:00:01:00, -25 frames in 2.015200 s, -0.50 of real time
@@ -353,6 +360,68 @@ record 6, 0.002400 s: PLAY: PLAY shown after 0.003200 s, by status 1 of 2 (PLAY 
 worth looking at: nothing
 yes: records 22, exchanges 3, open 0
 END
+
+# Times at other rates. A frame lasts 41,667 microseconds at 24 frames a second, 33,333 at 30 and 33,367 at 29.97. The answers come
+# 4,400 apart, so one frame between them is 9.47 times real time, or 7.58 times.
+is_motion '24 frames a second' 'PLAY t=10:00:00:23 t=10:00:01:00/--rate 24' <<'END'
+@first
+record 6, 0.002400 s: PLAY: no status; time 10:00:00:23 to 10:00:01:00, 1 frame in 0.004400 s, 9.47 of real time
+@table
+       1      0      0            -          -  PLAY
+worth looking at: nothing
+yes: records 28, exchanges 3, open 0
+END
+is_motion '30 frames a second, and midnight' 'PLAY t=10:00:00:29 t=10:00:01:00 REW t=00:00:00:00 t=23:59:59:29/--rate 30' <<'END'
+@first
+record 6, 0.002400 s: PLAY: no status; time 10:00:00:29 to 10:00:01:00, 1 frame in 0.004400 s, 7.58 of real time
+record 34, 0.013600 s: REWIND: no status; time 00:00:00:00 to 23:59:59:29, -1 frame in 0.004400 s, -7.58 of real time
+@table
+       1      0      0            -          -  PLAY
+       1      0      0            -          -  REWIND
+worth looking at: nothing
+yes: records 56, exchanges 6, open 0
+END
+is_motion 'drop frame at a minute, at ten minutes and at midnight' 'PLAY t=00:00:59:29 t=00:01:00:02 STOP t=00:10:00:00 t=00:09:59:29 REW t=00:00:00:00 t=23:59:59:29/--rate 29.97df' <<'END'
+@first
+record 6, 0.002400 s: PLAY: no status; time 00:00:59;29 to 00:01:00;02, 1 frame in 0.004400 s, 7.58 of real time
+record 34, 0.013600 s: STOP: no status; time 00:10:00;00 to 00:09:59;29, -1 frame in 0.004400 s, -7.58 of real time
+record 62, 0.024800 s: REWIND: no status; time 00:00:00;00 to 23:59:59;29, -1 frame in 0.004400 s, -7.58 of real time
+@table
+       1      0      0            -          -  PLAY
+       1      0      0            -          -  STOP
+       1      0      0            -          -  REWIND
+worth looking at: nothing
+yes: records 84, exchanges 9, open 0
+END
+# A minute of drop frame that leaves out two has 1,798 frames, and they last 59.993267 seconds.
+is_motion 'a minute of drop frame' 'PLAY t=10:01:00:02 +59988866 t=10:02:00:02/--rate 29.97df' <<'END'
+@first
+record 6, 0.002400 s: PLAY: no status; time 10:01:00;02 to 10:02:00;02, 1798 frames in 59.993266 s, 1.00 of real time
+@table
+       1      0      0            -          -  PLAY
+worth looking at: nothing
+yes: records 28, exchanges 3, open 0
+END
+# A timer whose bytes name no frame of drop frame is passed over.
+is_motion 'a timer of drop frame' 'PLAY r=00,00:01:00:01 r=00,00:01:00:02/--rate 29.97df' <<'END'
+@first
+record 6, 0.002400 s: PLAY: no status; timer 00:01:00;02 alone
+@table
+       1      0      0            -          -  PLAY
+worth looking at: nothing
+yes: records 28, exchanges 3, open 0
+END
+
+# A rate that is none, and a report of another rate.
+capture_of 'PLAY t=10:00:00:29'
+"$program" explain --rate 30 "$work/capture.csv" > "$work/in"
+for awk in mawk 'gawk --posix' 'busybox awk'; do
+    motion "-v capture=$work/capture.csv -v rate=50"
+    judge "$awk: a rate that is none" is_refused 'motion.awk: line 0: rate has to be 24, 25, 30 or 29.97df: 50'
+    motion "-v capture=$work/capture.csv"
+    judge "$awk: a report of another rate" is_refused \
+        'motion.awk: line 2: record 17 has no time at rate 25: give the rate of the report with -v rate='
+done
 
 # What it refuses, beside what every view refuses.
 capture_of 'PLAY s=01,00'

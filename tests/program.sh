@@ -3,23 +3,14 @@
 # The last line is 'N passed, M failed'.
 set -u
 cd "$(dirname "$0")/.." || exit 1
-program=${NINECHECK:-$PWD/crates/ninecheck/out/ninecheck}
 . tests/lib/judge.sh
 . tests/lib/errors.sh
-
-work=$(mktemp -d)
-trap 'rm -rf "$work"' EXIT
+. tests/lib/program.sh
 
 # expect NAME STATUS STDOUT STDERR: compares with the run whose status is in $status and whose streams are in
 # $work/out and $work/err. The streams are given without their last line feed, and must have it.
 expect() {
     judge "$1" is_text "${@:2}"
-}
-
-# run WORDS...: the program with these words, on the standard input that it is given.
-run() {
-    "$program" "$@" > "$work/out" 2> "$work/err"
-    status=$?
 }
 
 # run_on FILE: the program with this file as its standard input.

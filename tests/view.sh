@@ -58,6 +58,11 @@ a yes|json|yes: records 6, exchanges 1, open 0\n|{"line":"verdict","verdict":"ye
 a no|json|no at record 28: M1 no run remains\n|{"line":"verdict","verdict":"no","record":28,"reason":"M1","text":"no run remains"}\n
 no line feed at the end|json|no at record 3: B2 wrong sum|{"line":"verdict","verdict":"no","record":3,"reason":"B2","text":"wrong sum"}\n
 a state without hands|json|record 6: @state\nyes: records 6, exchanges 1, open 0\n|{"line":"state","record":6,"goal":"STOP","shown":"PLAY","in":"clear","out":"23:59:59:24","local":"no","ain":"clear","aout":"00:00:00:00"}\n{"line":"verdict","verdict":"yes","records":6,"exchanges":1,"open":0}\n
+a time of frame 29|json|record 18: IN DATA PRESET -> ACK, delay 400, goal unknown, shown unknown, in 10:00:00:29, out unknown, local no, ain unknown, aout unknown\nyes: records 18, exchanges 2, open 0\n|{"line":"exchange","record":18,"command":"IN DATA PRESET","reply":"ACK","delay_us":400,"goal":"unknown","shown":"unknown","in":"10:00:00:29","out":"unknown","local":"no","ain":"unknown","aout":"unknown"}\n{"line":"verdict","verdict":"yes","records":18,"exchanges":2,"open":0}\n
+a state of drop frame|json|record 6: goal STOP, shown PLAY, in 00:00:59;29, out 23:59:59;29, local no, ain clear, aout 00:01:00;02\nyes: records 6, exchanges 1, open 0\n|{"line":"state","record":6,"goal":"STOP","shown":"PLAY","in":"00:00:59;29","out":"23:59:59;29","local":"no","ain":"clear","aout":"00:01:00;02"}\n{"line":"verdict","verdict":"yes","records":6,"exchanges":1,"open":0}\n
+replies of drop frame that contradict one another|json|records 9 to 18 at 3600: IN DATA PRESET 00:00:59;29 44 14 29 59 00 00 DA -> 10 01 11\nrecords 25 to 34 at 10000: IN DATA SENSE 60 10 70 -> 00:01:00;03 74 10 03 00 01 00 88\ncould show: shown any, in 00:01:00;02, out unknown, local no, ain 23:59:59;29, aout clear\nno at record 34: M1 no run remains\n|{"line":"contradicting_exchange","first_record":9,"record":18,"time_us":3600,"command":"IN DATA PRESET","command_time":"00:00:59;29","command_bytes":"44 14 29 59 00 00 DA","reply_bytes":"10 01 11","says":{}}\n{"line":"contradicting_exchange","first_record":25,"record":34,"time_us":10000,"command":"IN DATA SENSE","command_bytes":"60 10 70","reply_time":"00:01:00;03","reply_bytes":"74 10 03 00 01 00 88","says":{}}\n{"line":"could_show","modes":["STOP","PLAY","REC","FF","REW","SHUTTLE","JOG","VAR","CUED","EJECT"],"in":"00:01:00;02","out":"unknown","local":"no","ain":"23:59:59;29","aout":"clear"}\n{"line":"verdict","verdict":"no","record":34,"reason":"M1","text":"no run remains"}\n
+an open preset of drop frame|json|records 1 to 7 at 400: IN DATA PRESET 00:01:00;02 44 14 02 00 01 00 5B\nrecord 8 at 12088: D 10, 9288 after the record before, limit 9287\nno at record 8: L1 late reply\n|{"line":"open_command","first_record":1,"record":7,"time_us":400,"command":"IN DATA PRESET","command_time":"00:01:00;02","command_bytes":"44 14 02 00 01 00 5B"}\n{"line":"breaking_record","record":8,"time_us":12088,"wire":"D","byte":"10","elapsed_us":9288,"limit_us":9287}\n{"line":"verdict","verdict":"no","record":8,"reason":"L1","text":"late reply"}\n
+a point that moves in drop frame|digest|record 6: IN SHIFT + -> ACK, delay 400, goal unknown, shown unknown, in 00:00:59;29, out unknown, local no, ain unknown, aout unknown\nrecord 12: IN SHIFT + -> ACK, delay 400, goal unknown, shown unknown, in 00:01:00;02, out unknown, local no, ain unknown, aout unknown\nyes: records 12, exchanges 2, open 0\n|record 6: IN SHIFT + -> ACK, in: unknown => 00:00:59;29, local: unknown => no\nrecord 12: IN SHIFT + -> ACK, in: 00:00:59;29 => 00:01:00;02\nyes: records 12, exchanges 2, open 0\n
 a name with quotes and a backslash|json|record 6: "A\\B" -> C -> ACK, @unknown\nyes: records 6, exchanges 1, open 0\n|{"line":"exchange","record":6,"command":"\\"A\\\\B\\" -> C","reply":"ACK","delay_us":400,"goal":"unknown","shown":"unknown","in":"unknown","out":"unknown","local":"unknown","ain":"unknown","aout":"unknown"}\n{"line":"verdict","verdict":"yes","records":6,"exchanges":1,"open":0}\n
 the replies that contradict one another|json|records 1 to 8 at 400: STATUS SENSE 61 20 01 82 -> 71 20 00 91, says local no\n@preset\nrecords 19 to 28 at 7600: IN DATA SENSE 60 10 70 -> 11:00:00:00 74 10 00 00 00 11 95\ncould show: shown any, in 10:00:00:00, out unknown, local no, ain set, aout clear\nno at record 28: M1 no run remains\n|{"line":"contradicting_exchange","first_record":1,"record":8,"time_us":400,"command":"STATUS SENSE","command_bytes":"61 20 01 82","reply_bytes":"71 20 00 91","says":{"local":"no"}}\n{"line":"contradicting_exchange","first_record":9,"record":18,"time_us":3600,"command":"IN DATA PRESET","command_time":"10:00:00:00","command_bytes":"44 14 00 00 00 10 68","reply_bytes":"10 01 11","says":{}}\n{"line":"contradicting_exchange","first_record":19,"record":28,"time_us":7600,"command":"IN DATA SENSE","command_bytes":"60 10 70","reply_time":"11:00:00:00","reply_bytes":"74 10 00 00 00 11 95","says":{}}\n{"line":"could_show","modes":["STOP","PLAY","REC","FF","REW","SHUTTLE","JOG","VAR","CUED","EJECT"],"in":"10:00:00:00","out":"unknown","local":"no","ain":"set","aout":"clear"}\n{"line":"verdict","verdict":"no","record":28,"reason":"M1","text":"no run remains"}\n
 what status data say, and a command that is not listed|json|records 1 to 6 at 0: 20 40 60 -> 10 01 11\nrecords 7 to 17 at 999999999999999: STATUS SENSE 61 20 04 85 -> 74 20 01 20 00 05 BA, says local yes, shown STOP@barCUED, in set, out clear, ain set, aout clear\ncould show: shown STOP@barPLAY@barREC, in set, out clear, local yes, ain set, aout clear, panel unknown\nno at record 17: M1 no run remains\n|{"line":"contradicting_exchange","first_record":1,"record":6,"time_us":0,"command_bytes":"20 40 60","reply_bytes":"10 01 11","says":{}}\n{"line":"contradicting_exchange","first_record":7,"record":17,"time_us":999999999999999,"command":"STATUS SENSE","command_bytes":"61 20 04 85","reply_bytes":"74 20 01 20 00 05 BA","says":{"local":"yes","modes":["STOP","CUED"],"in":"set","out":"clear","ain":"set","aout":"clear"}}\n{"line":"could_show","modes":["STOP","PLAY","REC"],"in":"set","out":"clear","local":"yes","ain":"set","aout":"clear","panel":"unknown"}\n{"line":"verdict","verdict":"no","record":17,"reason":"M1","text":"no run remains"}\n
@@ -134,7 +139,9 @@ no delay|1|unknown line: record 6: PLAY -> ACK, @nothing|record 6: PLAY -> ACK, 
 a delay below 0|1|unknown line: record 6: PLAY -> ACK, delay -1, @nothing|record 6: PLAY -> ACK, delay -1, @nothing\n
 a delay with a zero in front|1|unknown line: record 6: PLAY -> ACK, delay 0400, @nothing|record 6: PLAY -> ACK, delay 0400, @nothing\n
 a mode that is none|1|unknown line: record 6: PLAY -> ACK, delay 400, goal IDLE, shown unknown, in unknown, out unknown, local unknown, ain unknown, aout unknown|record 6: PLAY -> ACK, delay 400, goal IDLE, shown unknown, in unknown, out unknown, local unknown, ain unknown, aout unknown\n
-a time that is none|1|unknown line: record 6: PLAY -> ACK, delay 400, goal STOP, shown unknown, in 10:00:00:25, out unknown, local unknown, ain unknown, aout unknown|record 6: PLAY -> ACK, delay 400, goal STOP, shown unknown, in 10:00:00:25, out unknown, local unknown, ain unknown, aout unknown\n
+a time that is none|1|unknown line: record 6: PLAY -> ACK, delay 400, goal STOP, shown unknown, in 10:00:00:30, out unknown, local unknown, ain unknown, aout unknown|record 6: PLAY -> ACK, delay 400, goal STOP, shown unknown, in 10:00:00:30, out unknown, local unknown, ain unknown, aout unknown\n
+a time of drop frame that is none|1|unknown line: record 6: PLAY -> ACK, delay 400, goal STOP, shown unknown, in 10:00:00;30, out unknown, local unknown, ain unknown, aout unknown|record 6: PLAY -> ACK, delay 400, goal STOP, shown unknown, in 10:00:00;30, out unknown, local unknown, ain unknown, aout unknown\n
+a time with a semicolon elsewhere|1|unknown line: record 6: PLAY -> ACK, delay 400, goal STOP, shown unknown, in 10:00;00:00, out unknown, local unknown, ain unknown, aout unknown|record 6: PLAY -> ACK, delay 400, goal STOP, shown unknown, in 10:00;00:00, out unknown, local unknown, ain unknown, aout unknown\n
 fields in another order|1|unknown line: record 6: PLAY -> ACK, delay 400, goal unknown, shown unknown, in unknown, ain unknown, local unknown, out unknown, aout unknown|record 6: PLAY -> ACK, delay 400, goal unknown, shown unknown, in unknown, ain unknown, local unknown, out unknown, aout unknown\n
 one field less|1|unknown line: record 6: PLAY -> ACK, delay 400, goal unknown, shown unknown, in unknown, out unknown, local unknown, ain unknown|record 6: PLAY -> ACK, delay 400, goal unknown, shown unknown, in unknown, out unknown, local unknown, ain unknown\n
 one field more|1|unknown line: record 6: PLAY -> ACK, @unknown, panel on,  clear|record 6: PLAY -> ACK, @unknown, panel on,  clear\n
@@ -189,6 +196,21 @@ totals after a state|2|a line that can't stand here: breaks 0: records 6, exchan
 totals after what is open|2|a line that can't stand here: breaks 0: records 1, exchanges 0, passed over 0, open 1|records 1 to 1 at 400: 61\nbreaks 0: records 1, exchanges 0, passed over 0, open 1\n
 a record that breaks on another wire|1|unknown line: record 1 at 0: E 10|record 1 at 0: E 10\n
 END
+}
+
+# The picture of replies of drop frame that contradict one another has their times as the report has them.
+drop_frame_picture() {
+    local time
+    sed 's/^12000,D,02/12000,D,03/; s/^13600,D,87/13600,D,88/' examples/drop-frame.csv > "$work/beside.csv"
+    text_of 'records 9 to 18 at 3600: IN DATA PRESET 00:00:59;29 44 14 29 59 00 00 DA -> 10 01 11
+records 25 to 34 at 10000: IN DATA SENSE 60 10 70 -> 00:01:00;03 74 10 03 00 01 00 88
+could show: shown any, in 00:01:00;02, out unknown, local no, ain unknown, aout unknown
+no at record 34: M1 no run remains\n' > "$work/in"
+    view picture.awk "-v capture=$work/beside.csv" < "$work/in"
+    for time in '>IN DATA PRESET 00:00:59;29<' '00:01:00;03<' 'in 00:01:00;02, local no<'; do
+        judge "$awk: picture: $time" grep -qF "$time" "$work/out"
+    done
+    judge "$awk: picture: times of drop frame" [ "$status" = 0 -a ! -s "$work/err" ]
 }
 
 # Texts that digest and delays refuse, also for the capture beside them: its rows, or - for none.
@@ -432,6 +454,7 @@ for awk in mawk 'gawk --posix' 'busybox awk'; do
     bad_whys
     bad_explanations
     bad_captures
+    drop_frame_picture
     more_delays
     many_late_replies
     polling
@@ -453,6 +476,8 @@ judge 'the stored explanation of keeps-playing.csv' cmp "$work/out" examples/vie
 judge 'the stored explanation of several-breaks.csv' cmp "$work/out" examples/views/several-breaks.txt
 "$program" why --all examples/views/several-breaks.csv > "$work/out" 2> "$work/err"
 judge 'the stored lines of why of several-breaks.csv' cmp "$work/out" examples/views/several-breaks-why.txt
+"$program" explain --rate 29.97df examples/views/drop-frame.csv > "$work/out" 2> "$work/err"
+judge 'the stored explanation of drop-frame.csv' cmp "$work/out" examples/views/drop-frame.txt
 
 # What a reader of the JSON can tell apart.
 awk=mawk

@@ -203,7 +203,7 @@ function name_forms(    number, stamp_form, mode_form, k) {
     mode_form = mode_form ")"
     modes_form = "^" mode_form "([|]" mode_form ")*$"
     bytes_form = "( [0-9A-F][0-9A-F])+$"
-    time_form = " ([01][0-9]|2[0-3]):[0-5][0-9]:[0-5][0-9]:([01][0-9]|2[0-4])$"
+    time_form = " ([01][0-9]|2[0-3]):[0-5][0-9]:[0-5][0-9][:;][0-2][0-9]$"
     arrow = "-> "
     says = ", says "
     records_form = "^records " number " to " number " at " stamp_form ": "
@@ -310,7 +310,7 @@ function is_value(name, value) {
     if (name == "local") return value == "yes" || value == "no"
     if (name == "panel") return value == "on" || value == "off"
     if (value == "set") return kind != "state"
-    return value == "clear" || value ~ /^([01][0-9]|2[0-3]):[0-5][0-9]:[0-5][0-9]:([01][0-9]|2[0-4])$/
+    return value == "clear" || value ~ /^([01][0-9]|2[0-3]):[0-5][0-9]:[0-5][0-9][:;][0-2][0-9]$/
 }
 
 # Takes apart a line of blocks: of an exchange, or of what is open of a command or a reply.

@@ -14,18 +14,21 @@
 # status that shows the mode. A status shows the mode that the explanation knows after it. Where that is unknown it is the mode
 # of the command, if the data fit that one, and else each mode that they fit, with bars between. A status without data 1 and 2
 # is not counted. Times are those under 74 04, 06, 14 and 16, or where none came the `timer`, under 74 00 and 01. Frames are
-# counted the shorter way round the day from each answer to the next, and 25 of them in a second are 1.00 of real time; where
+# counted the shorter way round the day from each answer to the next, and as many as a second has are 1.00 of real time; where
 # the time runs back both are below 0.
+#
+# The times are those of 25 frames a second. Of a report with --rate the same rate is given here: -v rate=24, -v rate=30 or
+# -v rate=29.97df.
 #
 # "Worth looking at" is a mode that no status shows, and what holds from one status to another, with the same mode in all
 # between and no command that asks for another mode or way: a time that stands still for a second or more where PLAY or REC is
-# shown, from the answer on that its line names; one that moves 25 frames or more where STOP, CUED or EJECT is shown, or against
-# the way of the command.
+# shown, from the answer on that its line names; one that moves as many frames as a second has, or more, where STOP, CUED or EJECT
+# is shown, or against the way of the command.
 
 BEGIN {
     view = "motion.awk"
     if (capture == "") refuse("-v capture=FILE is missing")
-    day = 24 * 60 * 60 * 25
+    count_frames()
     most_worth = 100     # so many are listed, and the rest is counted
     name_commands()
     name_modes()
@@ -56,6 +59,17 @@ END {
     put_table()
     put_worth()
     put(last_line)
+}
+
+# The frame rate: how many frames a second and a day have, and how long one lasts, in microseconds. Drop frame leaves out two
+# labels in each minute that is no multiple of ten, and has 29.97 frames in a second of real time.
+function count_frames() {
+    if (rate == "") rate = 25
+    if (rate !~ /^(24|25|30|29\.97df)$/) refuse("rate has to be 24, 25, 30 or 29.97df: " rate)
+    is_drop_frame = rate ~ /df/
+    in_second = is_drop_frame ? 30 : rate + 0
+    day = 24 * 60 * 60 * in_second - (is_drop_frame ? 2 * (24 * 60 - 24 * 6) : 0)
+    frame_us = (is_drop_frame ? 1001000 : 1000000) / in_second
 }
 
 # Each command's mode, and 1 or -1 where the tape runs forward or back by it. STANDBY has no mode of its own.
@@ -248,6 +262,7 @@ function counted(n, what, plural) {
 function take_time(    track, frames) {
     track = answered[2] == "00" || answered[2] == "01" ? "timer" : "time"
     frames = frames_of()
+    if (frames < 0 && track == "time") refuse("record " record " has no time at rate " rate ": give the rate of the report with -v rate=")
     if (frames < 0) return
     if (name != "") move(span, track, frames)
     if (label_of_stretch != "") move(ahead, track, frames)
@@ -255,12 +270,14 @@ function take_time(    track, frames) {
 
 # The frame of the day that the four bytes after the head tell, or -1.
 function frames_of(    hours, minutes, of_seconds, frames) {
-    frames = digits_of(answered[3], 4, 24)
+    frames = digits_of(answered[3], 4, in_second - 1)
     of_seconds = digits_of(answered[4], 8, 59)
     minutes = digits_of(answered[5], 8, 59)
     hours = digits_of(answered[6], 4, 23)
     if (frames < 0 || of_seconds < 0 || minutes < 0 || hours < 0) return -1
-    return ((hours * 60 + minutes) * 60 + of_seconds) * 25 + frames
+    minutes += hours * 60
+    if (is_drop_frame && minutes % 10 != 0 && of_seconds == 0 && frames < 2) return -1
+    return (minutes * 60 + of_seconds) * in_second + frames - (is_drop_frame ? 2 * (minutes - int(minutes / 10)) : 0)
 }
 
 # Two decimal digits, the tens without the flags that are at `flags` and above, or -1.
@@ -314,11 +331,15 @@ function times_told(of,    track) {
 function way_told(of, track,    elapsed) {
     elapsed = of[track, "ended"] - of[track, "began"]
     return clock(of[track, "first"]) " to " clock(of[track, "last"]) ", " counted(of[track, "moved"], "frame", "s") \
-        " in " seconds(elapsed) " s, " hundredths(of[track, "moved"] * 4000000 / elapsed) " of real time"
+        " in " seconds(elapsed) " s, " hundredths(of[track, "moved"] * frame_us * 100 / elapsed) " of real time"
 }
 
-function clock(frames) {
-    return sprintf("%02d:%02d:%02d:%02d", int(frames / 90000), int(frames / 1500) % 60, int(frames / 25) % 60, frames % 25)
+# A frame of the day as the report writes it. In drop frame ten minutes have 17,982 frames, and each but the first of them 1,798.
+function clock(frames,    whole) {
+    if (is_drop_frame) frames += 18 * int(frames / 17982) + (frames % 17982 < 2 ? 0 : 2 * int((frames % 17982 - 2) / 1798))
+    whole = int(frames / in_second)
+    return sprintf("%02d:%02d:%02d%s%02d", int(whole / 3600), int(whole / 60) % 60, whole % 60, is_drop_frame ? ";" : ":",
+        frames % in_second)
 }
 
 # Microseconds as seconds, by the digits, since what awk prints for a number's point depends on the country.
@@ -362,7 +383,7 @@ function end_stretch(    track, moved, elapsed, while_shown) {
             worth(behind[track, "still_from"] track " stands still at " clock(behind[track, "still_at"]) " for " \
                 seconds(behind[track, "still"]) " s" while_shown)
         }
-        if ((moved >= 25 || moved <= -25) && elapsed > 0) {
+        if ((moved >= in_second || moved <= -in_second) && elapsed > 0) {
             if (label_of_stretch ~ /^(STOP|CUED|EJECT)([|](STOP|CUED|EJECT))*$/) {
                 worth(stretch track " runs, " way_told(behind, track) while_shown)
             } else if (label_of_stretch == mode && moved * way < 0) {
@@ -501,7 +522,7 @@ function name_forms(    number, stamp_form, mode_form, k) {
     mode_form = mode_form ")"
     modes_form = "^" mode_form "([|]" mode_form ")*$"
     bytes_form = "( [0-9A-F][0-9A-F])+$"
-    time_form = " ([01][0-9]|2[0-3]):[0-5][0-9]:[0-5][0-9]:([01][0-9]|2[0-4])$"
+    time_form = " ([01][0-9]|2[0-3]):[0-5][0-9]:[0-5][0-9][:;][0-2][0-9]$"
     arrow = "-> "
     says = ", says "
     records_form = "^records " number " to " number " at " stamp_form ": "
@@ -608,7 +629,7 @@ function is_value(name, value) {
     if (name == "local") return value == "yes" || value == "no"
     if (name == "panel") return value == "on" || value == "off"
     if (value == "set") return kind != "state"
-    return value == "clear" || value ~ /^([01][0-9]|2[0-3]):[0-5][0-9]:[0-5][0-9]:([01][0-9]|2[0-4])$/
+    return value == "clear" || value ~ /^([01][0-9]|2[0-3]):[0-5][0-9]:[0-5][0-9][:;][0-2][0-9]$/
 }
 
 # Takes apart a line of blocks: of an exchange, or of what is open of a command or a reply.

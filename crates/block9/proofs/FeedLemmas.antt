@@ -9,139 +9,150 @@ use Rattle.block9.proofs.TailLemmas.{answered, last_time-append, place_in_comman
 use Rattle.block9.proofs.StandsLemmas.{ends_by_left, stands_after, stands_push}
 use Rattle.block9.proofs.StepLemmas.{begun_now, closes, commands, held_tail, reply_now, tail_short, waits}
 use Rattle.block9.proofs.ReasonLemmas.{reason_broken, table_reason}
+use Rattle.tc25.specs.declared.rate.Rate.{Rate}
 
--- ---- what the last record of a block does
+module _ (rate : Rate) where
+  -- ---- what the last record of a block does
 
--- with a right sum, the table says at the end of a reply what it says of a reply to the command that is held
-pub reply_says : (t : List LineByte) (c : Command) (r : LineByte) (m : Option Reason) → IsHeld t (Some c) → IsTurn t r true
-    → r.byte ≡ sum (bytes_of (open_at (place_of t) t)) % 256
-    → reply_fault (Some c) (block_of (bytes_of (open_at (place_of t) t))) ≡ m → pairing t r ≡ m
-reply_says t c r m held turn right meant =
-    let now = reply_now t c held (sym turn.1) in
-    let parts = answered t now.0 c now.1 in
-    let place = parts.place in
-    let read = parts.meant in
-    grind (arith, nat_tests)
+  -- with a right sum, the table says at the end of a reply what it says of a reply to the command that is held
+  pub reply_says : (t : List LineByte) (c : Command) (r : LineByte) (m : Option Reason) → IsHeld rate t (Some c) → IsTurn t r true
+      → r.byte ≡ sum (bytes_of (open_at (place_of t) t)) % 256
+      → reply_fault rate (Some c) (block_of (bytes_of (open_at (place_of t) t))) ≡ m → pairing rate t r ≡ m
+  reply_says t c r m held turn right meant =
+      let now = reply_now rate t c held (sym turn.1) in
+      let parts = answered rate t now.0 c now.1 in
+      let place = parts.place in
+      let read = parts.meant in
+      grind (arith, nat_tests)
 
-pub ends_command : (t : List LineByte) (r : LineByte) (c : Command) → IsHeld t None → last_time t ≤ r.time_us → IsTurn t r true
-    → r.byte ≡ sum (bytes_of (open_at (place_of t) t)) % 256
-    → command_of (block_of (bytes_of (open_at (place_of t) t))) ≡ Some c → IsCommand (t ++ r ∷ []) (block_of (bytes_of (open_at (place_of t) t))) c
-ends_command t r c held later turn right meant =
-    let place = place_in_command Controller t (begun_now t held (sym turn.1)) in
-    let quiet : pairing t r ≡ None = grind (arith, nat_tests) in
-    record { whole = rw place (commands t r held later quiet (sym turn.1)).1.whole; meaning = meant }
+  pub ends_command : (t : List LineByte) (r : LineByte) (c : Command) → IsHeld rate t None → last_time t ≤ r.time_us → IsTurn t r true
+      → r.byte ≡ sum (bytes_of (open_at (place_of t) t)) % 256
+      → command_of rate (block_of (bytes_of (open_at (place_of t) t))) ≡ Some c → IsCommand rate (t ++ r ∷ []) (block_of (bytes_of (open_at (place_of t) t))) c
+  ends_command t r c held later turn right meant =
+      let place = place_in_command rate Controller t (begun_now rate t held (sym turn.1)) in
+      let quiet : pairing rate t r ≡ None = grind (arith, nat_tests) in
+      record { whole = rw place (commands rate t r held later quiet (sym turn.1)).1.whole; meaning = meant }
 
--- a complete command is held
-pub held_command : (t : List LineByte) (r : LineByte) (c : Command) → IsHeld t None → last_time t ≤ r.time_us → IsTurn t r true
-    → r.byte ≡ sum (bytes_of (open_at (place_of t) t)) % 256 → command_of (block_of (bytes_of t)) ≡ Some c
-    → IsCommand (t ++ r ∷ []) (block_of (bytes_of t)) c
-    × HoldsInPairer (t ++ r ∷ []) (Some c) (to_come Deck)
-held_command t r c held later turn right meant =
-    let place = place_in_command Controller t (begun_now t held (sym turn.1)) in
-    let command : IsCommand (t ++ r ∷ []) (block_of (bytes_of t)) c = rw place at (ends_command t r c held later turn right (rw place meant)) in
-    (command, record { held = inl (_, command); stands = stands_after (t ++ r ∷ []) (place_of_command Controller (t ++ r ∷ []) _ command.whole) })
+  -- a complete command is held
+  pub held_command : (t : List LineByte) (r : LineByte) (c : Command) → IsHeld rate t None → last_time t ≤ r.time_us → IsTurn t r true
+      → r.byte ≡ sum (bytes_of (open_at (place_of t) t)) % 256 → command_of rate (block_of (bytes_of t)) ≡ Some c
+      → IsCommand rate (t ++ r ∷ []) (block_of (bytes_of t)) c
+      × HoldsInPairer rate (t ++ r ∷ []) (Some c) (to_come Deck)
+  held_command t r c held later turn right meant =
+      let place = place_in_command rate Controller t (begun_now rate t held (sym turn.1)) in
+      let command : IsCommand rate (t ++ r ∷ []) (block_of (bytes_of t)) c = rw place at (ends_command t r c held later turn right (rw place meant)) in
+      (command, record { held = inl (_, command); stands = stands_after (t ++ r ∷ []) (place_of_command rate Controller (t ++ r ∷ []) _ command.whole) })
 
-pub ends_exchange : (t : List LineByte) (c : Command) (r : LineByte) (e : Exchange) → IsHeld t (Some c) → last_time t ≤ r.time_us → IsTurn t r true
-    → r.byte ≡ sum (bytes_of (open_at (place_of t) t)) % 256
-    → Closes t c e → reply_fault (Some c) (block_of (bytes_of (open_at (place_of t) t))) ≡ None → IsExchange (t ++ r ∷ []) e
-ends_exchange t c r e held later turn right read none =
-    let now = reply_now t c held (sym turn.1) in
-    rw read (closes t now.0 c r now.1 later (reply_says t c r None held turn right none) (sym turn.1))
+  pub ends_exchange : (t : List LineByte) (c : Command) (r : LineByte) (e : Exchange) → IsHeld rate t (Some c) → last_time t ≤ r.time_us → IsTurn t r true
+      → r.byte ≡ sum (bytes_of (open_at (place_of t) t)) % 256
+      → Closes t c e → reply_fault rate (Some c) (block_of (bytes_of (open_at (place_of t) t))) ≡ None → IsExchange rate (t ++ r ∷ []) e
+  ends_exchange t c r e held later turn right read none =
+      let now = reply_now rate t c held (sym turn.1) in
+      rw read (closes rate t now.0 c r now.1 later (reply_says t c r None held turn right none) (sym turn.1))
 
--- ---- what is held afterwards
+  -- ---- what is held afterwards
 
--- a time that is fed is not before the tail's last one
-pub fed_later : (t : List LineByte) (reason : Option Reason) (passed : Option ℕ) (r : LineByte) → reason ≡ None
-    → ForSome (last_fed t reason passed) (λ time. time ≤ r.time_us) → last_time t ≤ r.time_us
-fed_later [] None passed r e h = omega arith
-fed_later (a ∷ t) None passed r e h = h (last_time (a ∷ t)) refl
-fed_later t (Some x) passed r e h = cc
+  -- a time that is fed is not before the tail's last one
+  pub fed_later : (t : List LineByte) (reason : Option Reason) (passed : Option ℕ) (r : LineByte) → reason ≡ None
+      → ForSome (last_fed t reason passed) (λ time. time ≤ r.time_us) → last_time t ≤ r.time_us
+  fed_later [] None passed r e h = omega arith
+  fed_later (a ∷ t) None passed r e h = h (last_time (a ∷ t)) refl
+  fed_later t (Some x) passed r e h = cc
 
-pub fed_in_order : (t : List LineByte) (reason : Option Reason) (passed : Option ℕ) (r : LineByte) (was old : Paired) → was ≡ old → reason ≡ None
-    → was.last_time ≡ last_fed t reason passed → ForSome old.last_time (λ time. time ≤ r.time_us) → last_time t ≤ r.time_us
-fed_in_order t reason passed r was old same none told known = fed_later t reason passed r none (rw (← same, told) at known)
+  pub fed_in_order : (t : List LineByte) (reason : Option Reason) (passed : Option ℕ) (r : LineByte) (was old : Paired) → was ≡ old → reason ≡ None
+      → was.last_time ≡ last_fed t reason passed → ForSome old.last_time (λ time. time ≤ r.time_us) → last_time t ≤ r.time_us
+  fed_in_order t reason passed r was old same none told known = fed_later t reason passed r none (rw (← same, told) at known)
 
--- what a record breaks by its turn, its time or its group is the first that it breaks
-pub early_told : (t : List LineByte) (r : LineByte) (x : Reason) → early_fault (place_of t) t r ≡ Some x → pairing t r ≡ Some x
-early_told t r x e = rw e refl
+  -- what a record breaks by its turn, its time or its group is the first that it breaks
+  pub early_told : (t : List LineByte) (r : LineByte) (x : Reason) → early_fault (place_of t) t r ≡ Some x → pairing rate t r ≡ Some x
+  early_told t r x e = rw e refl
 
--- the time that was fed last is the tail's last one, or is kept
-pub fed_waiting : (t : List LineByte) (r : LineByte) (passed : Option ℕ) → last_fed (t ++ r ∷ []) None passed ≡ Some r.time_us
-fed_waiting [] r passed = refl
-fed_waiting (a ∷ t) r passed = ap Some (last_time-append (a ∷ t) (r ∷ []) (omega arith))
+  -- the time that was fed last is the tail's last one, or is kept
+  pub fed_waiting : (t : List LineByte) (r : LineByte) (passed : Option ℕ) → last_fed (t ++ r ∷ []) None passed ≡ Some r.time_us
+  fed_waiting [] r passed = refl
+  fed_waiting (a ∷ t) r passed = ap Some (last_time-append rate (a ∷ t) (r ∷ []) (omega arith))
 
-pub fed_step : (t : List LineByte) (r : LineByte) (s : Step) → last_fed (tail_after t r s) None (Some r.time_us) ≡ Some r.time_us
-fed_step t r Step.Waiting = fed_waiting t r (Some r.time_us)
-fed_step t r Step.Command = fed_waiting t r (Some r.time_us)
-fed_step t r (Step.Exchange e) = refl
+  pub fed_step : (t : List LineByte) (r : LineByte) (s : Step) → last_fed (tail_after t r s) None (Some r.time_us) ≡ Some r.time_us
+  fed_step t r Step.Waiting = fed_waiting t r (Some r.time_us)
+  fed_step t r Step.Command = fed_waiting t r (Some r.time_us)
+  fed_step t r (Step.Exchange e) = refl
 
-pub fed_refused : (t : List LineByte) (reason : Reason) (passed : Option ℕ) → last_fed t (Some reason) passed ≡ passed
-fed_refused [] reason passed = refl
-fed_refused (a ∷ t) reason passed = refl
+  pub fed_refused : (t : List LineByte) (reason : Reason) (passed : Option ℕ) → last_fed t (Some reason) passed ≡ passed
+  fed_refused [] reason passed = refl
+  fed_refused (a ∷ t) reason passed = refl
 
-pub held_waiting : (t : List LineByte) (o : Option Command) (b : OpenBlock) (r : LineByte) (next : OpenBlock) → HoldsInPairer t o b → last_time t ≤ r.time_us
-    → early_fault (place_of t) t r ≡ None → Some next ≡ next_of b r.byte → r.byte < 256
-    → HoldsInPairer (t ++ r ∷ []) o next × (length t < 35) × IsStep t r Step.Waiting
-held_waiting t o b r next h later quiet is_next byte =
-    let more : b.left ≢ 1 = λ one. grind (arith, nat_tests) in
-    let same : next ≡ grown b r.byte = grind (arith, nat_tests) in
-    let goes_on : ends_block (open_at (place_of t) t) ≡ false = let ends = ends_by_left t b h.stands in grind (arith, nat_tests) in
-    let still = waits t o r h.held later (grind (arith, nat_tests)) goes_on in
-    let tail = held_tail (t ++ r ∷ []) o still.0 in (
-      record { held = still.0; stands = rw same (stands_push t r b h.stands more byte) },
-      (omega (arith, tail_short _ tail, length_push t r)),
-      (tail, λ b c k. still.1 (place_of_command Controller (t ++ r ∷ []) b k.whole)),
-    )
+  pub held_waiting : (t : List LineByte) (o : Option Command) (b : OpenBlock) (r : LineByte) (next : OpenBlock) → HoldsInPairer rate t o b → last_time t ≤ r.time_us
+      → early_fault (place_of t) t r ≡ None → Some next ≡ next_of b r.byte → r.byte < 256
+      → HoldsInPairer rate (t ++ r ∷ []) o next × (length t < 35) × IsStep rate t r Step.Waiting
+  held_waiting t o b r next h later quiet is_next byte =
+      let more : b.left ≢ 1 = λ one. grind (arith, nat_tests) in
+      let same : next ≡ grown b r.byte = grind (arith, nat_tests) in
+      let goes_on : ends_block (open_at (place_of t) t) ≡ false = let ends = ends_by_left t b h.stands in grind (arith, nat_tests) in
+      let still = waits rate t o r h.held later (grind (arith, nat_tests)) goes_on in
+      let tail = held_tail rate (t ++ r ∷ []) o still.0 in (
+        record { held = still.0; stands = rw same (stands_push t r b h.stands more byte) },
+        (omega (arith, tail_short rate _ tail, length_push t r)),
+        (tail, λ b c k. still.1 (place_of_command rate Controller (t ++ r ∷ []) b k.whole)),
+      )
 
--- ---- what a caller is told
+  -- ---- what a caller is told
 
-pub takes : (was old new : Paired) (r : LineByte) (s : Step) → was ≡ old → IsStep was.tail r s → new.tail ≡ tail_after was.tail r s
-    → new.last_time ≡ Some r.time_us → new.reason ≡ None → Takes old r s new
-takes was old new r s same done tail time reason = rw (← same) (record { does = done; tail = tail; last_time = time; reason = reason })
+  pub takes : (was old new : Paired) (r : LineByte) (s : Step) → was ≡ old → was.rate ≡ rate → new.rate ≡ rate → IsStep rate was.tail r s → new.tail ≡ tail_after was.tail r s
+      → new.last_time ≡ Some r.time_us → new.reason ≡ None → Takes old r s new
+  takes was old new r s same at now done tail time reason =
+      rw (← same) (record { rate = now ∙ sym at; does = rw at done; tail = tail; last_time = time; reason = reason })
 
-pub refuses : (o : Option Command) (was old new : Paired) (r : LineByte) (reason : Reason) → was ≡ old → IsHeld was.tail o → last_time was.tail ≤ r.time_us
-    → pairing was.tail r ≡ Some reason → new.tail ≡ was.tail → new.last_time ≡ Some r.time_us → new.reason ≡ Some reason → Refuses old r reason new
-refuses o was old new r reason same held later told tail_same time known =
-    let tail = held_tail was.tail o held in
-    let why = table_reason was.tail r reason tail later told in
-    rw (← same) (record { is_reason = why; not_kept = reason_broken was.tail r reason tail why; tail = tail_same; last_time = time; known = known })
+  pub refuses : (o : Option Command) (was old new : Paired) (r : LineByte) (reason : Reason) → was ≡ old → was.rate ≡ rate → new.rate ≡ rate → IsHeld rate was.tail o → last_time was.tail ≤ r.time_us
+      → pairing rate was.tail r ≡ Some reason → new.tail ≡ was.tail → new.last_time ≡ Some r.time_us → new.reason ≡ Some reason → Refuses old r reason new
+  refuses o was old new r reason same at now held later told tail_same time known =
+      let tail = held_tail rate was.tail o held in
+      let why = table_reason rate was.tail r reason tail later told in
+      rw (← same) (record {
+        rate = now ∙ sym at;
+        is_reason = rw at why;
+        not_kept = rw at (reason_broken rate was.tail r reason tail why);
+        tail = tail_same;
+        last_time = time;
+        known = known;
+      })
 
--- ---- the command that is open
+  -- ---- the command that is open
 
--- a tail with no command held begins with no complete one
-none_begun : (t : List LineByte) (c : Command) → IsHeld t None → ¬ BeginsWith t c
-none_begun t c held begins =
-    let len = whole_len Controller begins.records begins.block begins.command.whole in
-    let long = whole_long Controller begins.records begins.block begins.command.whole in
-    let first : block_len (begins.records ++ begins.reply) ≡ block_len begins.records = block_len-append begins.records begins.reply (omega arith) in
-    let all = length-append begins.records begins.reply in
-    by held long (rw (← begins.split) at first ∙ sym len) (rw (← begins.split) at all)
-  where
-    by : IsHeld t None → 3 ≤ length begins.records → block_len t ≡ length begins.records → length t ≡ length begins.records + length begins.reply → ⊥
-    by (inl e) long first all = omega (arith, ap length e)
-    by (inr h) long first all = let short = h.short in omega arith
+  -- a tail with no command held begins with no complete one
+  none_begun : (t : List LineByte) (c : Command) → IsHeld rate t None → ¬ BeginsWith rate t c
+  none_begun t c held begins =
+      let len = whole_len Controller begins.records begins.block begins.command.whole in
+      let long = whole_long Controller begins.records begins.block begins.command.whole in
+      let first : block_len (begins.records ++ begins.reply) ≡ block_len begins.records = block_len-append begins.records begins.reply (omega arith) in
+      let all = length-append begins.records begins.reply in
+      by held long (rw (← begins.split) at first ∙ sym len) (rw (← begins.split) at all)
+    where
+      by : IsHeld rate t None → 3 ≤ length begins.records → block_len t ≡ length begins.records → length t ≡ length begins.records + length begins.reply → ⊥
+      by (inl e) long first all = omega (arith, ap length e)
+      by (inr h) long first all = let short = h.short in omega arith
 
--- what a tail holds is the complete command with which it begins, and no other
-pub held_begins : (t : List LineByte) (c : Command) → IsHeld t (Some c) → BeginsWith t c
-held_begins t c (inl (b, h)) = record { records = t; reply = []; split = sym (append-nil t); block = b; command = h }
-held_begins t c (inr (reply, is)) = record { records = is.command; reply = reply; split = is.split; block = is.block; command = is.is_command }
+  -- what a tail holds is the complete command with which it begins, and no other
+  pub held_begins : (t : List LineByte) (c : Command) → IsHeld rate t (Some c) → BeginsWith rate t c
+  held_begins t c (inl (b, h)) = record { records = t; reply = []; split = sym (append-nil t); block = b; command = h }
+  held_begins t c (inr (reply, is)) = record { records = is.command; reply = reply; split = is.split; block = is.block; command = is.is_command }
 
-one_begun : (t : List LineByte) (a c : Command) → IsHeld t (Some a) → BeginsWith t c → a ≡ c
-one_begun t a c held begins =
-    let own = held_begins t a held in
-    let same = (whole_parts Controller own.records begins.records own.reply begins.reply own.block begins.block own.command.whole begins.command.whole
-    (sym own.split ∙ begins.split)).2 in
-    let mine = own.command.meaning in
-    let other = begins.command.meaning in
-    cc
+  one_begun : (t : List LineByte) (a c : Command) → IsHeld rate t (Some a) → BeginsWith rate t c → a ≡ c
+  one_begun t a c held begins =
+      let own = held_begins t a held in
+      let same = (whole_parts Controller own.records begins.records own.reply begins.reply own.block begins.block own.command.whole begins.command.whole
+      (sym own.split ∙ begins.split)).2 in
+      let mine = own.command.meaning in
+      let other = begins.command.meaning in
+      cc
 
-open_is : (t : List LineByte) (o : Option Command) (c : Command) → IsHeld t o → o ≡ Some c ↔ BeginsWith t c
-open_is t None c held = (λ same. absurd (cc), λ begins. absurd (none_begun t c held begins))
-open_is t (Some a) c held = (λ same. let mine : a ≡ c = cc in rw mine at (held_begins t a held), λ begins. ap Some (one_begun t a c held begins))
+  open_is : (t : List LineByte) (o : Option Command) (c : Command) → IsHeld rate t o → o ≡ Some c ↔ BeginsWith rate t c
+  open_is t None c held = (λ same. absurd (cc), λ begins. absurd (none_begun t c held begins))
+  open_is t (Some a) c held = (λ same. let mine : a ≡ c = cc in rw mine at (held_begins t a held), λ begins. ap Some (one_begun t a c held begins))
 
-pub open_told : (o : Option Command) (was old : Paired) → was ≡ old → IsHeld was.tail o → (c : Command) → (o ≡ Some c) ↔ BeginsWith old.tail c
-open_told o was old same held c = rw (← same) (open_is was.tail o c held)
+  pub open_told : (o : Option Command) (was old : Paired) → was ≡ old → was.rate ≡ rate → IsHeld rate was.tail o → (c : Command)
+      → (o ≡ Some c) ↔ BeginsWith old.rate old.tail c
+  open_told o was old same at held c = rw (← same, at) (open_is was.tail o c held)
 
--- the command that was held is held of the same records
-pub asked_held : (t seen : List LineByte) (o : Option Command) (c : Command) → IsHeld t o → o ≡ Some c → seen ≡ t → IsHeld seen (Some c)
-asked_held t seen o c held was same = rw same (rw was at held)
+  -- the command that was held is held of the same records
+  pub asked_held : (t seen : List LineByte) (o : Option Command) (c : Command) → IsHeld rate t o → o ≡ Some c → seen ≡ t → IsHeld rate seen (Some c)
+  asked_held t seen o c held was same = rw same (rw was at held)

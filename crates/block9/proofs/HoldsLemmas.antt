@@ -6,53 +6,55 @@ use Rattle.block9.proofs.Words.{ReplyInsideCommand, ReplyWithoutCommand, Some, s
 use Rattle.block9.proofs.LineLemmas.{GoesOn}
 use Rattle.block9.proofs.BlockSteps.{whole_now}
 use Rattle.block9.proofs.TailLemmas.{answered, place_in_command, place_of_command}
+use Rattle.tc25.specs.declared.rate.Rate.{Rate}
 
--- nothing is open
-idle_holds : (r : LineByte) (x : Reason) → pairing [] r ≡ Some x → Holds x [] r
-idle_holds r ReplyWithoutCommand h = (refl, grind (arith, nat_tests))
-idle_holds r WrongGroup h = (inl refl, grind (arith, nat_tests))
-idle_holds r x h = absurd (grind (arith, nat_tests))
+module _ (rate : Rate) where
+  -- nothing is open
+  idle_holds : (r : LineByte) (x : Reason) → pairing rate [] r ≡ Some x → Holds rate x [] r
+  idle_holds r ReplyWithoutCommand h = (refl, grind (arith, nat_tests))
+  idle_holds r WrongGroup h = (inl refl, grind (arith, nat_tests))
+  idle_holds r x h = absurd (grind (arith, nat_tests))
 
--- inside a command
-in_command_holds : (t : List LineByte) (r : LineByte) (x : Reason) → IsBegun Controller t → last_time t ≤ r.time_us → fault_at InCommand t r ≡ Some x
-    → Holds x t r
-in_command_holds t r ReplyInsideCommand begun later h = (begun, grind (arith, nat_tests))
-in_command_holds t r ByteGap begun later h = ((t, inl (refl, begun)), grind (arith, nat_tests))
-in_command_holds t r WrongSum begun later h = (t, inl (refl, begun), grind (arith, nat_tests), λ e. grind (arith, nat_tests))
-in_command_holds t r InvalidCommandTime begun later h =
-    let end : (ends_block t ≡ true) × (r.byte ≡ sum (bytes_of t) % 256) × GoesOn Controller t r = grind (arith, nat_tests) in
-    (block_of (bytes_of t), whole_now Controller t r begun end.2 end.0 end.1, grind (arith, nat_tests))
-in_command_holds t r x begun later h = absurd (grind (arith, nat_tests))
+  -- inside a command
+  in_command_holds : (t : List LineByte) (r : LineByte) (x : Reason) → IsBegun Controller t → last_time t ≤ r.time_us → fault_at rate InCommand t r ≡ Some x
+      → Holds rate x t r
+  in_command_holds t r ReplyInsideCommand begun later h = (begun, grind (arith, nat_tests))
+  in_command_holds t r ByteGap begun later h = ((t, inl (refl, begun)), grind (arith, nat_tests))
+  in_command_holds t r WrongSum begun later h = (t, inl (refl, begun), grind (arith, nat_tests), λ e. grind (arith, nat_tests))
+  in_command_holds t r InvalidCommandTime begun later h =
+      let end : (ends_block t ≡ true) × (r.byte ≡ sum (bytes_of t) % 256) × GoesOn Controller t r = grind (arith, nat_tests) in
+      (block_of (bytes_of t), whole_now Controller t r begun end.2 end.0 end.1, grind (arith, nat_tests))
+  in_command_holds t r x begun later h = absurd (grind (arith, nat_tests))
 
--- after a complete command
-after_command_holds : (t : List LineByte) (r : LineByte) (x : Reason) → IsWholeCommand t → fault_at AfterCommand t r ≡ Some x → Holds x t r
-after_command_holds t r CommandBeforeReply whole h = (whole, grind (arith, nat_tests), grind (arith, nat_tests))
-after_command_holds t r NoReply whole h = (whole, grind (arith, nat_tests), grind (arith, nat_tests))
-after_command_holds t r LateReply whole h = (whole, grind (arith, nat_tests), grind (arith, nat_tests))
-after_command_holds t r WrongGroup whole h = (inr whole, grind (arith, nat_tests))
-after_command_holds t r x whole h = absurd (grind (arith, nat_tests))
+  -- after a complete command
+  after_command_holds : (t : List LineByte) (r : LineByte) (x : Reason) → IsWholeCommand rate t → fault_at rate AfterCommand t r ≡ Some x → Holds rate x t r
+  after_command_holds t r CommandBeforeReply whole h = (whole, grind (arith, nat_tests), grind (arith, nat_tests))
+  after_command_holds t r NoReply whole h = (whole, grind (arith, nat_tests), grind (arith, nat_tests))
+  after_command_holds t r LateReply whole h = (whole, grind (arith, nat_tests), grind (arith, nat_tests))
+  after_command_holds t r WrongGroup whole h = (inr whole, grind (arith, nat_tests))
+  after_command_holds t r x whole h = absurd (grind (arith, nat_tests))
 
--- inside a reply
-in_reply_holds : (t reply : List LineByte) (r : LineByte) (x : Reason) (c : Command) (is : IsAnswered t c reply) → last_time t ≡ last_time reply
-    → last_time t ≤ r.time_us
-    → drop (block_len t) t ≡ reply → command_of (block_of (bytes_of (take (block_len t - 1) t))) ≡ Some c → fault_at InReply t r ≡ Some x → Holds x t r
-in_reply_holds t reply r CommandInsideReply c is last later current meant h = ((c, reply, is), grind (arith, nat_tests))
-in_reply_holds t reply r ByteGap c is last later current meant h = ((reply, inr (c, is)), grind (arith, nat_tests))
-in_reply_holds t reply r WrongSum c is last later current meant h = (reply, inr (c, is), grind (arith, nat_tests), λ e. grind (arith, nat_tests))
-in_reply_holds t reply r WrongReply c is last later current meant h =
-    let end : (ends_block reply ≡ true) × (r.byte ≡ sum (bytes_of reply) % 256) × GoesOn Deck reply r = grind (arith, nat_tests) in
-    (c, _, (reply, is, whole_now Deck reply r is.begun end.2 end.0 end.1), grind (arith, nat_tests))
-in_reply_holds t reply r InvalidReplyTime c is last later current meant h =
-    let end : (ends_block reply ≡ true) × (r.byte ≡ sum (bytes_of reply) % 256) × GoesOn Deck reply r = grind (arith, nat_tests) in
-    (c, _, (reply, is, whole_now Deck reply r is.begun end.2 end.0 end.1), grind (arith, nat_tests))
-in_reply_holds t reply r x c is last later current meant h = absurd (grind (arith, nat_tests))
+  -- inside a reply
+  in_reply_holds : (t reply : List LineByte) (r : LineByte) (x : Reason) (c : Command) (is : IsAnswered rate t c reply) → last_time t ≡ last_time reply
+      → last_time t ≤ r.time_us
+      → drop (block_len t) t ≡ reply → command_of rate (block_of (bytes_of (take (block_len t - 1) t))) ≡ Some c → fault_at rate InReply t r ≡ Some x → Holds rate x t r
+  in_reply_holds t reply r CommandInsideReply c is last later current meant h = ((c, reply, is), grind (arith, nat_tests))
+  in_reply_holds t reply r ByteGap c is last later current meant h = ((reply, inr (c, is)), grind (arith, nat_tests))
+  in_reply_holds t reply r WrongSum c is last later current meant h = (reply, inr (c, is), grind (arith, nat_tests), λ e. grind (arith, nat_tests))
+  in_reply_holds t reply r WrongReply c is last later current meant h =
+      let end : (ends_block reply ≡ true) × (r.byte ≡ sum (bytes_of reply) % 256) × GoesOn Deck reply r = grind (arith, nat_tests) in
+      (c, _, (reply, is, whole_now Deck reply r is.begun end.2 end.0 end.1), grind (arith, nat_tests))
+  in_reply_holds t reply r InvalidReplyTime c is last later current meant h =
+      let end : (ends_block reply ≡ true) × (r.byte ≡ sum (bytes_of reply) % 256) × GoesOn Deck reply r = grind (arith, nat_tests) in
+      (c, _, (reply, is, whole_now Deck reply r is.begun end.2 end.0 end.1), grind (arith, nat_tests))
+  in_reply_holds t reply r x c is last later current meant h = absurd (grind (arith, nat_tests))
 
--- the table's answer holds
-pub table_holds : (t : List LineByte) (r : LineByte) (x : Reason) → IsTail t → last_time t ≤ r.time_us → pairing t r ≡ Some x → Holds x t r
-table_holds t r x (nothing e) later h = rw e (idle_holds r x (rw e at h))
-table_holds t r x (in_command begun) later h = in_command_holds t r x begun later (rw (place_in_command Controller t begun) at h)
-table_holds t r x (after_command b c command) later h = after_command_holds t r x (b, c, command) (rw (place_of_command Controller t b command.whole) at h)
-table_holds t r x (in_reply command reply b c e hc hd soon) later h =
-    let is : IsAnswered t c reply = record { command = command; block = b; split = e; is_command = hc; begun = hd; in_time = soon } in
-    let parts = answered t reply c is in
-    in_reply_holds t reply r x c is parts.last later parts.current parts.meant (rw parts.place at h)
+  -- the table's answer holds
+  pub table_holds : (t : List LineByte) (r : LineByte) (x : Reason) → IsTail rate t → last_time t ≤ r.time_us → pairing rate t r ≡ Some x → Holds rate x t r
+  table_holds t r x (nothing e) later h = rw e (idle_holds r x (rw e at h))
+  table_holds t r x (in_command begun) later h = in_command_holds t r x begun later (rw (place_in_command rate Controller t begun) at h)
+  table_holds t r x (after_command b c command) later h = after_command_holds t r x (b, c, command) (rw (place_of_command rate Controller t b command.whole) at h)
+  table_holds t r x (in_reply command reply b c e hc hd soon) later h =
+      let is : IsAnswered rate t c reply = record { command = command; block = b; split = e; is_command = hc; begun = hd; in_time = soon } in
+      let parts = answered rate t reply c is in
+      in_reply_holds t reply r x c is parts.last later parts.current parts.meant (rw parts.place at h)

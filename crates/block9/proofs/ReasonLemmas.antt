@@ -9,69 +9,71 @@ use Rattle.block9.proofs.CutLemmas.{kept_no_fault}
 use Rattle.block9.proofs.KeptLemmas.{quiet_kept}
 use Rattle.block9.proofs.HoldsLemmas.{table_holds}
 use Rattle.block9.proofs.OrderLemmas.{first_holds, in_order_first, rank, rank_low}
+use Rattle.tc25.specs.declared.rate.Rate.{Rate}
 
--- ---- where a reason holds, the table answers one that is not later
+module _ (rate : Rate) where
+  -- ---- where a reason holds, the table answers one that is not later
 
--- the place of an answer in the order; no answer is after all
-abbrev rank_at : Option Reason → ℕ
-rank_at None = 13
-rank_at (Some x) = rank x
+  -- the place of an answer in the order; no answer is after all
+  abbrev rank_at : Option Reason → ℕ
+  rank_at None = 13
+  rank_at (Some x) = rank x
 
--- a record that ends a reply, after the wire, the time and the group
-reply_told : (t : List LineByte) (r : LineByte) (c : Command) (answer : Block) → EndsReply t r c answer
-    → pairing t r ≡ option_or (early_fault InReply t r) (reply_fault (Some c) answer)
-reply_told t r c answer h =
-    let parts = answered t h.0 c h.1 in
-    let last = whole_less Deck h.0 r answer h.2 in
-    rw parts.place (grind (arith, nat_tests))
+  -- a record that ends a reply, after the wire, the time and the group
+  reply_told : (t : List LineByte) (r : LineByte) (c : Command) (answer : Block) → EndsReply rate t r c answer
+      → pairing rate t r ≡ option_or (early_fault InReply t r) (reply_fault rate (Some c) answer)
+  reply_told t r c answer h =
+      let parts = answered rate t h.0 c h.1 in
+      let last = whole_less Deck h.0 r answer h.2 in
+      rw parts.place (grind (arith, nat_tests))
 
-found : (y : Reason) (t : List LineByte) (r : LineByte) → Holds y t r → rank_at (pairing t r) ≤ rank y
-found ReplyWithoutCommand t r h = rw h.0 (grind (arith, nat_tests))
-found ReplyInsideCommand t r h = rw (place_in_command Controller t h.0) (grind (arith, nat_tests))
-found CommandBeforeReply t r h = rw (place_of_command Controller t h.0.0 h.0.2.whole) (grind (arith, nat_tests))
-found NoReply t r h = rw (place_of_command Controller t h.0.0 h.0.2.whole) (grind (arith, nat_tests))
-found CommandInsideReply t r h = rw (answered t h.0.1 h.0.0 h.0.2).place (grind (arith, nat_tests))
-found LateReply t r h = rw (place_of_command Controller t h.0.0 h.0.2.whole) (grind (arith, nat_tests))
-found ByteGap t r ((records, inl k), h) = rw (place_in_command Controller t (rw k.0 k.1)) (grind (arith, nat_tests))
-found ByteGap t r ((records, inr k), h) = rw (answered t records k.0 k.1).place (grind (arith, nat_tests))
-found WrongGroup t r (inl k, h) = rw k (grind (arith, nat_tests))
-found WrongGroup t r (inr k, h) = rw (place_of_command Controller t k.0 k.2.whole) (grind (arith, nat_tests))
-found WrongSum t r (records, inl k, count, wrong) = rw (k.0, place_in_command Controller records k.1) (let some = k.1.begun in grind (arith, nat_tests))
-found WrongSum t r (records, inr k, count, wrong) =
-    let parts = answered t records k.0 k.1 in
-    let current = parts.current in
-    let some = k.1.begun.begun in
-    rw parts.place (grind (arith, nat_tests))
-found InvalidCommandTime t r (b, whole, meant) =
-    let last = whole_less Controller t r b whole in
-    let none : command_of (block_of (bytes_of t)) ≡ None = ap command_of (sym last.block) ∙ meant in
-    let ends = last.ends in
-    rw (place_in_command Controller t last.begun) (grind (arith, nat_tests))
-found WrongReply t r (c, answer, ends, wrong) = rw (reply_told t r c answer ends) (grind (arith, nat_tests))
-found InvalidReplyTime t r (c, answer, ends, wrong) = rw (reply_told t r c answer ends) (grind (arith, nat_tests))
-found NoRun t r h = absurd h
+  found : (y : Reason) (t : List LineByte) (r : LineByte) → Holds rate y t r → rank_at (pairing rate t r) ≤ rank y
+  found ReplyWithoutCommand t r h = rw h.0 (grind (arith, nat_tests))
+  found ReplyInsideCommand t r h = rw (place_in_command rate Controller t h.0) (grind (arith, nat_tests))
+  found CommandBeforeReply t r h = rw (place_of_command rate Controller t h.0.0 h.0.2.whole) (grind (arith, nat_tests))
+  found NoReply t r h = rw (place_of_command rate Controller t h.0.0 h.0.2.whole) (grind (arith, nat_tests))
+  found CommandInsideReply t r h = rw (answered rate t h.0.1 h.0.0 h.0.2).place (grind (arith, nat_tests))
+  found LateReply t r h = rw (place_of_command rate Controller t h.0.0 h.0.2.whole) (grind (arith, nat_tests))
+  found ByteGap t r ((records, inl k), h) = rw (place_in_command rate Controller t (rw k.0 k.1)) (grind (arith, nat_tests))
+  found ByteGap t r ((records, inr k), h) = rw (answered rate t records k.0 k.1).place (grind (arith, nat_tests))
+  found WrongGroup t r (inl k, h) = rw k (grind (arith, nat_tests))
+  found WrongGroup t r (inr k, h) = rw (place_of_command rate Controller t k.0 k.2.whole) (grind (arith, nat_tests))
+  found WrongSum t r (records, inl k, count, wrong) = rw (k.0, place_in_command rate Controller records k.1) (let some = k.1.begun in grind (arith, nat_tests))
+  found WrongSum t r (records, inr k, count, wrong) =
+      let parts = answered rate t records k.0 k.1 in
+      let current = parts.current in
+      let some = k.1.begun.begun in
+      rw parts.place (grind (arith, nat_tests))
+  found InvalidCommandTime t r (b, whole, meant) =
+      let last = whole_less Controller t r b whole in
+      let none : command_of rate (block_of (bytes_of t)) ≡ None = ap (command_of rate) (sym last.block) ∙ meant in
+      let ends = last.ends in
+      rw (place_in_command rate Controller t last.begun) (grind (arith, nat_tests))
+  found WrongReply t r (c, answer, ends, wrong) = rw (reply_told t r c answer ends) (grind (arith, nat_tests))
+  found InvalidReplyTime t r (c, answer, ends, wrong) = rw (reply_told t r c answer ends) (grind (arith, nat_tests))
+  found NoRun t r h = absurd h
 
--- ---- the table and the reason
+  -- ---- the table and the reason
 
--- the table's answer is the reason
-pub table_reason : (t : List LineByte) (r : LineByte) (x : Reason) → IsTail t → last_time t ≤ r.time_us → pairing t r ≡ Some x → IsReason t r x
-table_reason t r x tail later h = in_order_first (λ y. Holds y t r) x (table_holds t r x tail later h) (λ y k. rw h at (found y t r k))
+  -- the table's answer is the reason
+  pub table_reason : (t : List LineByte) (r : LineByte) (x : Reason) → IsTail rate t → last_time t ≤ r.time_us → pairing rate t r ≡ Some x → IsReason rate t r x
+  table_reason t r x tail later h = in_order_first (λ y. Holds rate y t r) x (table_holds rate t r x tail later h) (λ y k. rw h at (found y t r k))
 
--- where the table has no answer no reason holds, and the other way round
-pub none_holds : (t : List LineByte) (r : LineByte) → pairing t r ≡ None → (y : Reason) → Holds y t r → ⊥
-none_holds t r h y k = let behind : 13 ≤ rank y = rw h at (found y t r k) in let low = rank_low y in omega arith
+  -- where the table has no answer no reason holds, and the other way round
+  pub none_holds : (t : List LineByte) (r : LineByte) → pairing rate t r ≡ None → (y : Reason) → Holds rate y t r → ⊥
+  none_holds t r h y k = let behind : 13 ≤ rank y = rw h at (found y t r k) in let low = rank_low y in omega arith
 
--- ---- what the crates above cite
+  -- ---- what the crates above cite
 
--- a reason applies where the records with the next one are not kept
-pub some_reason : (t : List LineByte) (r : LineByte) → IsTail t → last_time t ≤ r.time_us → (IsKept (t ++ r ∷ []) → ⊥) → (x : Reason) × IsReason t r x
-some_reason t r tail later broken = by (pairing t r) refl
-  where
-    by : (o : Option Reason) → pairing t r ≡ o → (x : Reason) × IsReason t r x
-    by None e = absurd (broken (quiet_kept t r tail later e))
-    by (Some x) e = (x, table_reason t r x tail later e)
+  -- a reason applies where the records with the next one are not kept
+  pub some_reason : (t : List LineByte) (r : LineByte) → IsTail rate t → last_time t ≤ r.time_us → (IsKept rate (t ++ r ∷ []) → ⊥) → (x : Reason) × IsReason rate t r x
+  some_reason t r tail later broken = by (pairing rate t r) refl
+    where
+      by : (o : Option Reason) → pairing rate t r ≡ o → (x : Reason) × IsReason rate t r x
+      by None e = absurd (broken (quiet_kept rate t r tail later e))
+      by (Some x) e = (x, table_reason t r x tail later e)
 
--- and only there
-pub reason_broken : (t : List LineByte) (r : LineByte) (x : Reason) → IsTail t → IsReason t r x → IsKept (t ++ r ∷ []) → ⊥
-reason_broken t r x tail h kept =
-    none_holds t r (kept_no_fault t r tail kept) x (first_holds (λ y. Holds y t r) order x h)
+  -- and only there
+  pub reason_broken : (t : List LineByte) (r : LineByte) (x : Reason) → IsTail rate t → IsReason rate t r x → IsKept rate (t ++ r ∷ []) → ⊥
+  reason_broken t r x tail h kept =
+      none_holds t r (kept_no_fault rate t r tail kept) x (first_holds (λ y. Holds rate y t r) order x h)

@@ -7,128 +7,130 @@ use Rattle.block9.proofs.Words.{◌≢◌, ◌≤◌}
 use Rattle.block9.proofs.LineLemmas.{first_time-push_any, whole_len, whole_long}
 use Rattle.block9.proofs.BlockSteps.{begun_push, whole_now}
 use Rattle.block9.proofs.TailLemmas.{after_command_quiet, answered, asked_block, idle_quiet, in_command_quiet, in_reply_quiet, last_time-append, place_in_command, place_of_command}
+use Rattle.tc25.specs.declared.rate.Rate.{Rate}
 
--- ---- what is held
+module _ (rate : Rate) where
+  -- ---- what is held
 
--- what is held is a tail, and something is held beside each tail
-pub held_tail : (t : List LineByte) (o : Option Command) → IsHeld t o → IsTail t
-held_tail t None (inl e) = nothing e
-held_tail t None (inr h) = in_command h
-held_tail t (Some c) (inl (b, h)) = after_command b c h
-held_tail t (Some c) (inr (reply, is)) = in_reply is.command reply is.block c is.split is.is_command is.begun is.in_time
+  -- what is held is a tail, and something is held beside each tail
+  pub held_tail : (t : List LineByte) (o : Option Command) → IsHeld rate t o → IsTail rate t
+  held_tail t None (inl e) = nothing e
+  held_tail t None (inr h) = in_command h
+  held_tail t (Some c) (inl (b, h)) = after_command b c h
+  held_tail t (Some c) (inr (reply, is)) = in_reply is.command reply is.block c is.split is.is_command is.begun is.in_time
 
-pub tail_held : (t : List LineByte) → IsTail t → (o : Option Command) × IsHeld t o
-tail_held t (nothing e) = (None, inl e)
-tail_held t (in_command h) = (None, inr h)
-tail_held t (after_command b c h) = (Some c, inl (b, h))
-tail_held t (in_reply command reply b c e hc hd soon) =
-    (Some c, inr (reply, record { command = command; block = b; split = e; is_command = hc; begun = hd; in_time = soon }))
+  pub tail_held : (t : List LineByte) → IsTail rate t → (o : Option Command) × IsHeld rate t o
+  tail_held t (nothing e) = (None, inl e)
+  tail_held t (in_command h) = (None, inr h)
+  tail_held t (after_command b c h) = (Some c, inl (b, h))
+  tail_held t (in_reply command reply b c e hc hd soon) =
+      (Some c, inr (reply, record { command = command; block = b; split = e; is_command = hc; begun = hd; in_time = soon }))
 
--- where the last record of a block is to come and no command is held, a command is begun
-pub begun_now : (t : List LineByte) → IsHeld t None → ends_block (open_at (place_of t) t) ≡ true → IsBegun Controller t
-begun_now t h ends = grind arith
+  -- where the last record of a block is to come and no command is held, a command is begun
+  pub begun_now : (t : List LineByte) → IsHeld rate t None → ends_block (open_at (place_of t) t) ≡ true → IsBegun Controller t
+  begun_now t h ends = grind arith
 
--- and where one is held, its reply is begun
-pub reply_now : (t : List LineByte) (c : Command) → IsHeld t (Some c) → ends_block (open_at (place_of t) t) ≡ true
-    → (reply : List LineByte) × IsAnswered t c reply
-reply_now t c (inl (b, h)) ends = absurd (let place = place_of_command Controller t b h.whole in cc)
-reply_now t c (inr parts) ends = parts
+  -- and where one is held, its reply is begun
+  pub reply_now : (t : List LineByte) (c : Command) → IsHeld rate t (Some c) → ends_block (open_at (place_of t) t) ≡ true
+      → (reply : List LineByte) × IsAnswered rate t c reply
+  reply_now t c (inl (b, h)) ends = absurd (let place = place_of_command rate Controller t b h.whole in cc)
+  reply_now t c (inr parts) ends = parts
 
--- the reply begins in the tail after a command's length
-pub reply_begin : (t : List LineByte) (c : Command) → IsHeld t (Some c) → ends_block (open_at (place_of t) t) ≡ true
-    → (2 < block_len t) × (block_len t < length t) × (place_of t ≡ InReply)
-reply_begin t c held ends =
-    let now = reply_now t c held ends in
-    let parts = answered t now.0 c now.1 in
-    let long = whole_long Controller now.1.command now.1.block now.1.is_command.whole in
-    let rest : length (drop (block_len t) t) ≡ length now.0 = ap length parts.current in
-    let front : length (take (block_len t) t) ≡ length now.1.command = ap length parts.first in
-    let some = now.1.begun.begun in
-    (grind (arith, common_steps), grind (arith, common_steps), parts.place)
+  -- the reply begins in the tail after a command's length
+  pub reply_begin : (t : List LineByte) (c : Command) → IsHeld rate t (Some c) → ends_block (open_at (place_of t) t) ≡ true
+      → (2 < block_len t) × (block_len t < length t) × (place_of t ≡ InReply)
+  reply_begin t c held ends =
+      let now = reply_now t c held ends in
+      let parts = answered rate t now.0 c now.1 in
+      let long = whole_long Controller now.1.command now.1.block now.1.is_command.whole in
+      let rest : length (drop (block_len t) t) ≡ length now.0 = ap length parts.current in
+      let front : length (take (block_len t) t) ≡ length now.1.command = ap length parts.first in
+      let some = now.1.begun.begun in
+      (grind (arith, common_steps), grind (arith, common_steps), parts.place)
 
--- the reply's first record is not before the command's last one
-pub delay_fits : (t reply : List LineByte) (c : Command) → IsAnswered t c reply → last_time (take (block_len t) t) ≤ first_time (drop (block_len t) t)
-delay_fits t reply c is = let parts = answered t reply c is in rw (parts.first, parts.current) is.in_time.later
+  -- the reply's first record is not before the command's last one
+  pub delay_fits : (t reply : List LineByte) (c : Command) → IsAnswered rate t c reply → last_time (take (block_len t) t) ≤ first_time (drop (block_len t) t)
+  delay_fits t reply c is = let parts = answered rate t reply c is in rw (parts.first, parts.current) is.in_time.later
 
--- ---- one more record
+  -- ---- one more record
 
--- what is held inside a block, which is no command: a begun command, or one whose reply is begun
-still_begun : (t : List LineByte) → IsBegun Controller t → IsHeld t None × (place_of t ≢ AfterCommand)
-still_begun t h = (inr h, let place = place_in_command Controller t h in λ p. cc)
+  -- what is held inside a block, which is no command: a begun command, or one whose reply is begun
+  still_begun : (t : List LineByte) → IsBegun Controller t → IsHeld rate t None × (place_of t ≢ AfterCommand)
+  still_begun t h = (inr h, let place = place_in_command rate Controller t h in λ p. cc)
 
-still_answered : (t reply : List LineByte) (c : Command) → IsAnswered t c reply → IsHeld t (Some c) × (place_of t ≢ AfterCommand)
-still_answered t reply c is = (inr (reply, is), let place = (answered t reply c is).place in λ p. cc)
+  still_answered : (t reply : List LineByte) (c : Command) → IsAnswered rate t c reply → IsHeld rate t (Some c) × (place_of t ≢ AfterCommand)
+  still_answered t reply c is = (inr (reply, is), let place = (answered rate t reply c is).place in λ p. cc)
 
--- a record that does not end its block
-pub waits : (t : List LineByte) (o : Option Command) (r : LineByte) → IsHeld t o → last_time t ≤ r.time_us → pairing t r ≡ None
-    → ends_block (open_at (place_of t) t) ≡ false
-    → IsHeld (t ++ r ∷ []) o × (place_of (t ++ r ∷ []) ≢ AfterCommand)
-waits t None r (inl e) later quiet ends = rw e (still_begun (r ∷ []) ((idle_quiet r).0 (rw e at quiet)))
-waits t None r (inr h) later quiet ends =
-    let goes_on = ((in_command_quiet t r h later).0 quiet).0 in
-    still_begun (t ++ r ∷ []) ((begun_push Controller t r h.begun).1 (h, goes_on, rw (place_in_command Controller t h) at ends))
-waits t (Some c) r (inl (b, h)) later quiet ends =
-    let next = (after_command_quiet t r b h.whole later).0 quiet in
-    still_answered (t ++ r ∷ []) (r ∷ []) c (record { command = t; block = b; split = refl; is_command = h; begun = next.0; in_time = next.1 })
-waits t (Some c) r (inr (reply, is)) later quiet ends =
-    let parts = answered t reply c is in
-    let goes_on = ((in_reply_quiet is.command reply t c r parts later).0 quiet).0 in
-    let first = first_time-push_any reply r is.begun.begun in
-    still_answered (t ++ r ∷ []) (reply ++ r ∷ []) c (record {
-      command = is.command;
-      block = is.block;
-      split = ap (λ l. l ++ r ∷ []) is.split ∙ append_assoc is.command reply (r ∷ []);
-      is_command = is.is_command;
-      begun = (begun_push Deck reply r is.begun.begun).1 (is.begun, goes_on, rw (parts.place, parts.current) at ends);
-      in_time = omega arith;
-    })
+  -- a record that does not end its block
+  pub waits : (t : List LineByte) (o : Option Command) (r : LineByte) → IsHeld rate t o → last_time t ≤ r.time_us → pairing rate t r ≡ None
+      → ends_block (open_at (place_of t) t) ≡ false
+      → IsHeld rate (t ++ r ∷ []) o × (place_of (t ++ r ∷ []) ≢ AfterCommand)
+  waits t None r (inl e) later quiet ends = rw e (still_begun (r ∷ []) ((idle_quiet rate r).0 (rw e at quiet)))
+  waits t None r (inr h) later quiet ends =
+      let goes_on = ((in_command_quiet rate t r h later).0 quiet).0 in
+      still_begun (t ++ r ∷ []) ((begun_push Controller t r h.begun).1 (h, goes_on, rw (place_in_command rate Controller t h) at ends))
+  waits t (Some c) r (inl (b, h)) later quiet ends =
+      let next = (after_command_quiet rate t r b h.whole later).0 quiet in
+      still_answered (t ++ r ∷ []) (r ∷ []) c (record { command = t; block = b; split = refl; is_command = h; begun = next.0; in_time = next.1 })
+  waits t (Some c) r (inr (reply, is)) later quiet ends =
+      let parts = answered rate t reply c is in
+      let goes_on = ((in_reply_quiet rate is.command reply t c r parts later).0 quiet).0 in
+      let first = first_time-push_any reply r is.begun.begun in
+      still_answered (t ++ r ∷ []) (reply ++ r ∷ []) c (record {
+        command = is.command;
+        block = is.block;
+        split = ap (λ l. l ++ r ∷ []) is.split ∙ append_assoc is.command reply (r ∷ []);
+        is_command = is.is_command;
+        begun = (begun_push Deck reply r is.begun.begun).1 (is.begun, goes_on, rw (parts.place, parts.current) at ends);
+        in_time = omega arith;
+      })
 
--- a record that ends a command
-pub commands : (t : List LineByte) (r : LineByte) → IsHeld t None → last_time t ≤ r.time_us → pairing t r ≡ None → ends_block (open_at (place_of t) t) ≡ true
-    → (c : Command) × IsCommand (t ++ r ∷ []) (block_of (bytes_of t)) c
-commands t r held later quiet ends =
-    let h = begun_now t held ends in
-    let same : ends_block t ≡ true = rw (place_in_command Controller t h) at ends in
-    let next = (in_command_quiet t r h later).0 quiet in
-    let right = next.1 same in
-    (right.1, record { whole = whole_now Controller t r h next.0 same right.0; meaning = right.2 })
+  -- a record that ends a command
+  pub commands : (t : List LineByte) (r : LineByte) → IsHeld rate t None → last_time t ≤ r.time_us → pairing rate t r ≡ None → ends_block (open_at (place_of t) t) ≡ true
+      → (c : Command) × IsCommand rate (t ++ r ∷ []) (block_of (bytes_of t)) c
+  commands t r held later quiet ends =
+      let h = begun_now t held ends in
+      let same : ends_block t ≡ true = rw (place_in_command rate Controller t h) at ends in
+      let next = (in_command_quiet rate t r h later).0 quiet in
+      let right = next.1 same in
+      (right.1, record { whole = whole_now Controller t r h next.0 same right.0; meaning = right.2 })
 
--- a record that ends a reply
-pub closes : (t reply : List LineByte) (c : Command) (r : LineByte) (is : IsAnswered t c reply) → last_time t ≤ r.time_us
-    → pairing t r ≡ None → ends_block (open_at (place_of t) t) ≡ true → IsExchange (t ++ r ∷ []) (closed_of t c)
-closes t reply c r is later quiet ends =
-    let parts = answered t reply c is in
-    let asked : block_of (bytes_of (take (block_len t - 1) t)) ≡ is.block = rw is.split (asked_block is.command reply is.block is.is_command.whole) in
-    let now : ends_block reply ≡ true = rw (parts.place, parts.current) at ends in
-    let next = (in_reply_quiet is.command reply t c r parts later).0 quiet in
-    let right = next.1 now in
-    let first = first_time-push_any reply r is.begun.begun in
-    let place = parts.place in
-    record {
-      asked = is.command;
-      answered = reply ++ r ∷ [];
-      split = ap (λ l. l ++ r ∷ []) is.split ∙ append_assoc is.command reply (r ∷ []);
-      command = rw asked is.is_command;
-      reply = rw (parts.place, parts.current) (whole_now Deck reply r is.begun next.0 now right.0);
-      in_time = omega arith;
-      time = grind arith;
-      delay = rw (parts.first, parts.current) (omega arith);
-      kind = rw (parts.place, parts.current) right.1;
-      valid_time = rw (parts.place, parts.current) right.2;
-    }
+  -- a record that ends a reply
+  pub closes : (t reply : List LineByte) (c : Command) (r : LineByte) (is : IsAnswered rate t c reply) → last_time t ≤ r.time_us
+      → pairing rate t r ≡ None → ends_block (open_at (place_of t) t) ≡ true → IsExchange rate (t ++ r ∷ []) (closed_of t c)
+  closes t reply c r is later quiet ends =
+      let parts = answered rate t reply c is in
+      let asked : block_of (bytes_of (take (block_len t - 1) t)) ≡ is.block = rw is.split (asked_block rate is.command reply is.block is.is_command.whole) in
+      let now : ends_block reply ≡ true = rw (parts.place, parts.current) at ends in
+      let next = (in_reply_quiet rate is.command reply t c r parts later).0 quiet in
+      let right = next.1 now in
+      let first = first_time-push_any reply r is.begun.begun in
+      let place = parts.place in
+      record {
+        asked = is.command;
+        answered = reply ++ r ∷ [];
+        split = ap (λ l. l ++ r ∷ []) is.split ∙ append_assoc is.command reply (r ∷ []);
+        command = rw asked is.is_command;
+        reply = rw (parts.place, parts.current) (whole_now Deck reply r is.begun next.0 now right.0);
+        in_time = omega arith;
+        time = grind arith;
+        delay = rw (parts.first, parts.current) (omega arith);
+        kind = rw (parts.place, parts.current) right.1;
+        valid_time = rw (parts.place, parts.current) right.2;
+      }
 
--- a tail has at most 35 records: a command of 18 and all but the last of a reply
-pub block_len_low : (t : List LineByte) → block_len t ≤ 18
-block_len_low t = grind arith
+  -- a tail has at most 35 records: a command of 18 and all but the last of a reply
+  pub block_len_low : (t : List LineByte) → block_len t ≤ 18
+  block_len_low t = grind arith
 
-pub tail_short : (t : List LineByte) → IsTail t → length t ≤ 35
-tail_short t h = grind (arith, whole_len, block_len_low, length-append)
+  pub tail_short : (t : List LineByte) → IsTail rate t → length t ≤ 35
+  tail_short t h = grind (arith, whole_len, block_len_low, length-append)
 
--- what it leaves is a tail, with no record after the one that was fed
-pub still_tail : (t : List LineByte) (r : LineByte) (s : Step) → IsStep t r s → IsTail (tail_after t r s)
-still_tail t r Step.Waiting h = h.0
-still_tail t r Step.Command h = after_command h.0 h.1 h.2
-still_tail t r (Step.Exchange e) h = nothing refl
+  -- what it leaves is a tail, with no record after the one that was fed
+  pub still_tail : (t : List LineByte) (r : LineByte) (s : Step) → IsStep rate t r s → IsTail rate (tail_after t r s)
+  still_tail t r Step.Waiting h = h.0
+  still_tail t r Step.Command h = after_command h.0 h.1 h.2
+  still_tail t r (Step.Exchange e) h = nothing refl
 
-pub last_time-tail_after : (t : List LineByte) (r : LineByte) (s : Step) → last_time (tail_after t r s) ≤ r.time_us
-last_time-tail_after t r s = let e = last_time-append t (r ∷ []) (omega arith) in grind arith
+  pub last_time-tail_after : (t : List LineByte) (r : LineByte) (s : Step) → last_time (tail_after t r s) ≤ r.time_us
+  last_time-tail_after t r s = let e = last_time-append rate t (r ∷ []) (omega arith) in grind arith

@@ -2,6 +2,7 @@
 use Rattle.std.specs.Prelude.{ℕ, ◌%◌, ◌==◌, ◌&&◌, ◌||◌, nat_le, if◌then◌else◌, Bool, true, Option, Some, None, option_map, List, [], ◌∷◌, length, codes}
 use Rattle.std.specs.List.{list_any}
 use Rattle.tc25.specs.Day.{time_of, is_valid_time}
+use Rattle.tc25.specs.declared.rate.Rate.{Rate}
 use Rattle.block9.specs.declared.block.Block.{Block}
 use Rattle.block9.specs.declared.command.Command.{Command}
 use Rattle.block9.specs.declared.command.Command.TheVariants.{LocalDisable, DeviceType, LocalEnable, Stop, Play, Record, StandbyOff, StandbyOn, Eject, FastForward, JogForward, VarForward, ShuttleForward, Rewind, JogReverse, VarReverse, ShuttleReverse, Preroll, CueUpWithData, SyncPlay, InEntry, OutEntry, AudioInEntry, AudioOutEntry, InDataPreset, OutDataPreset, AudioInDataPreset, AudioOutDataPreset, InShiftPlus, InShiftMinus, OutShiftPlus, OutShiftMinus, AudioInShiftPlus, AudioInShiftMinus, AudioOutShiftPlus, AudioOutShiftMinus, InFlagReset, OutFlagReset, AudioInFlagReset, AudioOutFlagReset, InRecall, OutRecall, AudioInRecall, AudioOutRecall, EditPreset, PrerollPreset, TimerModeSelect, AutoModeOff, AutoModeOn, CurrentTimeSense, InDataSense, OutDataSense, AudioInDataSense, AudioOutDataSense, StatusSense, Unlisted}
@@ -19,8 +20,8 @@ abbrev pub row : ℕ → Command → Row
 row head c = record { head = head; meaning = λ b. Some c }
 
 -- a command with a time, its four data bytes; a block whose time is not valid is no command
-abbrev pub timed : ℕ → (ℕ → Command) → Row
-timed head c = record { head = head; meaning = λ b. option_map c (time_of b.bytes.items) }
+abbrev pub timed : Rate → ℕ → (ℕ → Command) → Row
+timed rate head c = record { head = head; meaning = λ b. option_map c (time_of rate b.bytes.items) }
 
 -- a command with one data byte, which may be any
 abbrev pub with_byte : ℕ → (ℕ → Command) → Row
@@ -47,8 +48,8 @@ system_control =
     ∷ []
 
 -- group 2; where a command has speed bytes there may be one or two
-abbrev pub transport_control : List Row
-transport_control =
+abbrev pub transport_control : Rate → List Row
+transport_control rate =
     row 0x20_00 Stop
     ∷ row 0x20_01 Play
     ∷ row 0x20_02 Record
@@ -70,21 +71,21 @@ transport_control =
     ∷ row 0x21_23 ShuttleReverse
     ∷ row 0x22_23 ShuttleReverse
     ∷ row 0x20_30 Preroll
-    ∷ timed 0x24_31 CueUpWithData
+    ∷ timed rate 0x24_31 CueUpWithData
     ∷ row 0x20_34 SyncPlay
     ∷ []
 
 -- group 4
-abbrev pub preset_control : List Row
-preset_control =
+abbrev pub preset_control : Rate → List Row
+preset_control rate =
     row 0x40_10 InEntry
     ∷ row 0x40_11 OutEntry
     ∷ row 0x40_12 AudioInEntry
     ∷ row 0x40_13 AudioOutEntry
-    ∷ timed 0x44_14 InDataPreset
-    ∷ timed 0x44_15 OutDataPreset
-    ∷ timed 0x44_16 AudioInDataPreset
-    ∷ timed 0x44_17 AudioOutDataPreset
+    ∷ timed rate 0x44_14 InDataPreset
+    ∷ timed rate 0x44_15 OutDataPreset
+    ∷ timed rate 0x44_16 AudioInDataPreset
+    ∷ timed rate 0x44_17 AudioOutDataPreset
     ∷ row 0x40_18 InShiftPlus
     ∷ row 0x40_19 InShiftMinus
     ∷ row 0x40_1A OutShiftPlus
@@ -121,11 +122,11 @@ sense_requests =
     ∷ []
 
 -- the table of a group
-abbrev pub table_of : ℕ → List Row
-table_of group =
+abbrev pub table_of : Rate → ℕ → List Row
+table_of rate group =
     if group == 0 then system_control
-    else (if group == 2 then transport_control
-    else (if group == 4 then preset_control
+    else (if group == 2 then transport_control rate
+    else (if group == 4 then preset_control rate
     else (if group == 6 then sense_requests else [])))
 
 -- what a table says of a block with these first two bytes: a block that it has no row for is a command that is not listed
@@ -134,8 +135,8 @@ meaning_in [] head b = Some (Unlisted b.group)
 meaning_in (r ∷ rows) head b = if r.head == head then r.meaning b else meaning_in rows head b
 
 -- the command that a block is: none where a time that has to be valid is not
-unfoldable pub command_of : Block → Option Command
-command_of b = meaning_in (table_of b.group) (head_of b) b
+unfoldable pub command_of : Rate → Block → Option Command
+command_of rate b = meaning_in (table_of rate b.group) (head_of b) b
 
 -- the time that is in a command
 unfoldable pub time_in : Command → Option ℕ
@@ -255,6 +256,6 @@ unfoldable pub fits : Command → Block → Bool
 fits c reply = is_nak reply || (listing c).answer reply
 
 -- whether the time in a reply is valid, where it has to be
-unfoldable pub is_reply_time_valid : Command → Block → Bool
-is_reply_time_valid (CurrentTimeSense selector) reply = if is_one_of time_code_heads (head_of reply) then is_valid_time reply.bytes.items else true
-is_reply_time_valid _ reply = true
+unfoldable pub is_reply_time_valid : Rate → Command → Block → Bool
+is_reply_time_valid rate (CurrentTimeSense selector) reply = if is_one_of time_code_heads (head_of reply) then is_valid_time rate reply.bytes.items else true
+is_reply_time_valid rate _ reply = true

@@ -1,4 +1,5 @@
 -- Exchanges, tails, and how a list of records is cut into them.
+use Rattle.tc25.specs.declared.rate.Rate.{Rate}
 use Rattle.std.specs.Prelude.{ℕ, ◌+◌, ◌≤◌, ◌≡◌, true, Some, List, [], ◌∷◌, ◌++◌, length}
 use Rattle.capture9.specs.declared.line_byte.LineByte.{LineByte}
 use Rattle.capture9.specs.declared.line_byte.Wire.TheVariants.{Controller, Deck}
@@ -12,9 +13,9 @@ use Rattle.block9.specs.Command.{command_of, fits, is_reply_time_valid}
 use Rattle.block9.specs.Line.{IsWhole, IsBegun, first_time, last_time, reply_limit}
 
 -- a complete command: a block on the controller's wire, with what it means
-pub record IsCommand (records : List LineByte) (b : Block) (c : Command) : Type 0 where
+pub record IsCommand (rate : Rate) (records : List LineByte) (b : Block) (c : Command) : Type 0 where
   pub whole : IsWhole Controller records b
-  pub meaning : command_of b ≡ Some c
+  pub meaning : command_of rate b ≡ Some c
 
 -- the reply's first record comes neither before the command's last one nor too late after it
 pub record IsInTime (command reply : List LineByte) : Type 0 where
@@ -22,40 +23,40 @@ pub record IsInTime (command reply : List LineByte) : Type 0 where
   pub soon : first_time reply ≤ last_time command + reply_limit
 
 -- the records are a command and its reply
-pub record IsExchange (records : List LineByte) (e : Exchange) : Type 0 where
+pub record IsExchange (rate : Rate) (records : List LineByte) (e : Exchange) : Type 0 where
   pub asked : List LineByte
   pub answered : List LineByte
   pub split : records ≡ asked ++ answered
-  pub command : IsCommand asked e.block e.command
+  pub command : IsCommand rate asked e.block e.command
   pub reply : IsWhole Deck answered e.reply
   pub in_time : IsInTime asked answered
   pub time : e.time_us ≡ first_time records
   pub delay : last_time asked + e.delay_us ≡ first_time answered
   pub kind : fits e.command e.reply ≡ true
-  pub valid_time : is_reply_time_valid e.command e.reply ≡ true
+  pub valid_time : is_reply_time_valid rate e.command e.reply ≡ true
 
 -- how many records an exchange has
 abbrev pub records_of : Exchange → ℕ
 records_of e = length (spelling e.block) + length (spelling e.reply)
 
 -- what may be open at the end: nothing, a command that is begun or complete, or a command and the beginning of its reply
-pub data IsTail (records : List LineByte) : Type 0 where
-  nothing : records ≡ [] → IsTail records
-  in_command : IsBegun Controller records → IsTail records
-  after_command : (b : Block) (c : Command) → IsCommand records b c → IsTail records
-  in_reply : (command reply : List LineByte) (b : Block) (c : Command) → records ≡ command ++ reply → IsCommand command b c → IsBegun Deck reply
-      → IsInTime command reply → IsTail records
+pub data IsTail (rate : Rate) (records : List LineByte) : Type 0 where
+  nothing : records ≡ [] → IsTail rate records
+  in_command : IsBegun Controller records → IsTail rate records
+  after_command : (b : Block) (c : Command) → IsCommand rate records b c → IsTail rate records
+  in_reply : (command reply : List LineByte) (b : Block) (c : Command) → records ≡ command ++ reply → IsCommand rate command b c → IsBegun Deck reply
+      → IsInTime command reply → IsTail rate records
 
 -- the records are those of the exchanges, in order, and then the tail
-abbrev pub Cut : List LineByte → List Exchange → List LineByte → Type 0
-Cut records [] tail = (records ≡ tail) × IsTail tail
-Cut records (e ∷ es) tail = (front : List LineByte) × (rest : List LineByte) × (records ≡ front ++ rest) × IsExchange front e × Cut rest es tail
+abbrev pub Cut : Rate → List LineByte → List Exchange → List LineByte → Type 0
+Cut rate records [] tail = (records ≡ tail) × IsTail rate tail
+Cut rate records (e ∷ es) tail = (front : List LineByte) × (rest : List LineByte) × (records ≡ front ++ rest) × IsExchange rate front e × Cut rate rest es tail
 
 -- the records keep the rules of blocks, pairing and timing: they can be cut
-pub record IsKept (records : List LineByte) : Type 0 where
+pub record IsKept (rate : Rate) (records : List LineByte) : Type 0 where
   pub exchanges : List Exchange
   pub tail : List LineByte
-  pub cut : Cut records exchanges tail
+  pub cut : Cut rate records exchanges tail
 
 -- the tail that a step leaves: it grows by the record, and a complete exchange leaves nothing open
 abbrev pub tail_after : List LineByte → LineByte → Step → List LineByte
@@ -64,7 +65,7 @@ tail_after tail r step.Command = tail ++ r ∷ []
 tail_after tail r (step.Exchange e) = []
 
 -- what a record does that keeps the rules after a tail
-abbrev pub IsStep : List LineByte → LineByte → Step → Type 0
-IsStep tail r step.Waiting = IsTail (tail ++ r ∷ []) × ((b : Block) (c : Command) → ¬ IsCommand (tail ++ r ∷ []) b c)
-IsStep tail r step.Command = (b : Block) × (c : Command) × IsCommand (tail ++ r ∷ []) b c
-IsStep tail r (step.Exchange e) = IsExchange (tail ++ r ∷ []) e
+abbrev pub IsStep : Rate → List LineByte → LineByte → Step → Type 0
+IsStep rate tail r step.Waiting = IsTail rate (tail ++ r ∷ []) × ((b : Block) (c : Command) → ¬ IsCommand rate (tail ++ r ∷ []) b c)
+IsStep rate tail r step.Command = (b : Block) × (c : Command) × IsCommand rate (tail ++ r ∷ []) b c
+IsStep rate tail r (step.Exchange e) = IsExchange rate (tail ++ r ∷ []) e

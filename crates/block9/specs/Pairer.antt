@@ -7,9 +7,12 @@ use Rattle.block9.specs.declared.block.Block.{Block}
 use Rattle.block9.specs.declared.command.Command.{Command}
 use Rattle.block9.specs.Exchange.{IsStep, IsCommand, IsKept, tail_after}
 use Rattle.block9.specs.Reason.{IsReason}
+use Rattle.tc25.specs.declared.rate.Rate.{Rate}
 
 -- a `Pairer` as its callers see it
 pub record Paired : Type 0 where
+  -- the rate at which its times are read
+  pub rate : Rate
   -- the records since the last complete exchange, without the one that broke a rule
   pub tail : List LineByte
   -- the time of the last record that it was fed
@@ -19,23 +22,25 @@ pub record Paired : Type 0 where
 
 -- a record that keeps the rules was taken
 pub record Takes (old : Paired) (r : LineByte) (step : Step) (new : Paired) : Type 0 where
-  pub does : IsStep old.tail r step
+  pub rate : new.rate ≡ old.rate
+  pub does : IsStep old.rate old.tail r step
   pub tail : new.tail ≡ tail_after old.tail r step
   pub last_time : new.last_time ≡ Some r.time_us
   pub reason : new.reason ≡ None
 
 -- a record that breaks a rule was refused: the records with it are not kept, and this is the reason
 pub record Refuses (old : Paired) (r : LineByte) (reason : Reason) (new : Paired) : Type 0 where
-  pub is_reason : IsReason old.tail r reason
-  pub not_kept : ¬ IsKept (old.tail ++ r ∷ [])
+  pub rate : new.rate ≡ old.rate
+  pub is_reason : IsReason old.rate old.tail r reason
+  pub not_kept : ¬ IsKept old.rate (old.tail ++ r ∷ [])
   pub tail : new.tail ≡ old.tail
   pub last_time : new.last_time ≡ Some r.time_us
   pub known : new.reason ≡ Some reason
 
 -- a tail begins with a complete command, and this is what it means
-pub record BeginsWith (tail : List LineByte) (c : Command) : Type 0 where
+pub record BeginsWith (rate : Rate) (tail : List LineByte) (c : Command) : Type 0 where
   pub records : List LineByte
   pub reply : List LineByte
   pub split : tail ≡ records ++ reply
   pub block : Block
-  pub command : IsCommand records block c
+  pub command : IsCommand rate records block c

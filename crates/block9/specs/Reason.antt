@@ -1,5 +1,6 @@
 -- Which rule a record breaks after a tail: a line for each reason, the order in which they count, their limits, their
 -- names and their texts.
+use Rattle.tc25.specs.declared.rate.Rate.{Rate}
 use Rattle.std.specs.Prelude.{ℕ, ◌+◌, ◌%◌, ◌<◌, ◌≤◌, ◌≡◌, ◌≢◌, ◌⊎◌, false, Option, Some, None, List, [], ◌∷◌, ◌++◌, length, codes}
 use Rattle.std.specs.List.{sum}
 use Rattle.capture9.specs.declared.line_byte.LineByte.{LineByte}
@@ -15,53 +16,53 @@ use Rattle.block9.specs.Exchange.{IsCommand, IsInTime}
 -- ---- what a tail is, besides nothing and a begun command
 
 -- a complete command
-abbrev pub IsWholeCommand : List LineByte → Type 0
-IsWholeCommand tail = (b : Block) × (c : Command) × IsCommand tail b c
+abbrev pub IsWholeCommand : Rate → List LineByte → Type 0
+IsWholeCommand rate tail = (b : Block) × (c : Command) × IsCommand rate tail b c
 
 -- a complete command, and after it, in time, the first records of its reply
-pub record IsAnswered (tail : List LineByte) (c : Command) (reply : List LineByte) : Type 0 where
+pub record IsAnswered (rate : Rate) (tail : List LineByte) (c : Command) (reply : List LineByte) : Type 0 where
   pub command : List LineByte
   pub block : Block
   pub split : tail ≡ command ++ reply
-  pub is_command : IsCommand command block c
+  pub is_command : IsCommand rate command block c
   pub begun : IsBegun Deck reply
   pub in_time : IsInTime command reply
 
 -- these are the records of the block that is begun at the end of a tail: a command, or the reply to one
-abbrev pub IsOpen : List LineByte → List LineByte → Type 0
-IsOpen tail records = ((tail ≡ records) × IsBegun Controller records) ⊎ ((c : Command) × IsAnswered tail c records)
+abbrev pub IsOpen : Rate → List LineByte → List LineByte → Type 0
+IsOpen rate tail records = ((tail ≡ records) × IsBegun Controller records) ⊎ ((c : Command) × IsAnswered rate tail c records)
 
 -- the record ends this reply to this command
-abbrev pub EndsReply : List LineByte → LineByte → Command → Block → Type 0
-EndsReply tail r c reply = (records : List LineByte) × IsAnswered tail c records × IsWhole Deck (records ++ r ∷ []) reply
+abbrev pub EndsReply : Rate → List LineByte → LineByte → Command → Block → Type 0
+EndsReply rate tail r c reply = (records : List LineByte) × IsAnswered rate tail c records × IsWhole Deck (records ++ r ∷ []) reply
 
 -- ---- the reasons
 
 -- what a reason says of a tail and of the record after it; of several that hold, the order below tells which counts
-abbrev pub Holds : Reason → List LineByte → LineByte → Type 0
+abbrev pub Holds : Rate → Reason → List LineByte → LineByte → Type 0
 -- the deck sends where nothing is open, or inside a command
-Holds ReplyWithoutCommand tail r = (tail ≡ []) × (r.wire ≡ Deck)
-Holds ReplyInsideCommand tail r = IsBegun Controller tail × (r.wire ≡ Deck)
+Holds rate ReplyWithoutCommand tail r = (tail ≡ []) × (r.wire ≡ Deck)
+Holds rate ReplyInsideCommand tail r = IsBegun Controller tail × (r.wire ≡ Deck)
 -- the controller sends where a reply is to come, within the reply limit or after it, or inside a reply
-Holds CommandBeforeReply tail r = IsWholeCommand tail × (r.wire ≡ Controller) × (r.time_us ≤ last_time tail + reply_limit)
-Holds NoReply tail r = IsWholeCommand tail × (r.wire ≡ Controller) × (last_time tail + reply_limit < r.time_us)
-Holds CommandInsideReply tail r = ((c : Command) × (reply : List LineByte) × IsAnswered tail c reply) × (r.wire ≡ Controller)
+Holds rate CommandBeforeReply tail r = IsWholeCommand rate tail × (r.wire ≡ Controller) × (r.time_us ≤ last_time tail + reply_limit)
+Holds rate NoReply tail r = IsWholeCommand rate tail × (r.wire ≡ Controller) × (last_time tail + reply_limit < r.time_us)
+Holds rate CommandInsideReply tail r = ((c : Command) × (reply : List LineByte) × IsAnswered rate tail c reply) × (r.wire ≡ Controller)
 -- the reply begins after the reply limit
-Holds LateReply tail r = IsWholeCommand tail × (r.wire ≡ Deck) × (last_time tail + reply_limit < r.time_us)
+Holds rate LateReply tail r = IsWholeCommand rate tail × (r.wire ≡ Deck) × (last_time tail + reply_limit < r.time_us)
 -- a block is begun, and the record comes after the byte gap
-Holds ByteGap tail r = ((records : List LineByte) × IsOpen tail records) × (last_time tail + byte_gap < r.time_us)
+Holds rate ByteGap tail r = ((records : List LineByte) × IsOpen rate tail records) × (last_time tail + byte_gap < r.time_us)
 -- the first record of a block has a group that its wire does not allow
-Holds WrongGroup tail r = ((tail ≡ []) ⊎ IsWholeCommand tail) × (allows r.wire (group_in r.byte) ≡ false)
+Holds rate WrongGroup tail r = ((tail ≡ []) ⊎ IsWholeCommand rate tail) × (allows r.wire (group_in r.byte) ≡ false)
 -- a block is begun, and the record is in the place of its checksum and is not the sum of the bytes before it
-Holds WrongSum tail r =
-    (records : List LineByte) × IsOpen tail records × (length records + 1 ≡ block_len records) × (r.byte ≢ sum (bytes_of records) % 256)
+Holds rate WrongSum tail r =
+    (records : List LineByte) × IsOpen rate tail records × (length records + 1 ≡ block_len records) × (r.byte ≢ sum (bytes_of records) % 256)
 -- a command that ends has no meaning, since its time is not valid
-Holds InvalidCommandTime tail r = (b : Block) × IsWhole Controller (tail ++ r ∷ []) b × (command_of b ≡ None)
+Holds rate InvalidCommandTime tail r = (b : Block) × IsWhole Controller (tail ++ r ∷ []) b × (command_of rate b ≡ None)
 -- a reply that ends is of no kind that its command may have, or has a time that should be valid and is not
-Holds WrongReply tail r = (c : Command) × (reply : Block) × EndsReply tail r c reply × (fits c reply ≡ false)
-Holds InvalidReplyTime tail r = (c : Command) × (reply : Block) × EndsReply tail r c reply × (is_reply_time_valid c reply ≡ false)
+Holds rate WrongReply tail r = (c : Command) × (reply : Block) × EndsReply rate tail r c reply × (fits c reply ≡ false)
+Holds rate InvalidReplyTime tail r = (c : Command) × (reply : Block) × EndsReply rate tail r c reply × (is_reply_time_valid rate c reply ≡ false)
 -- this needs a deck to be followed, so it never holds here
-Holds NoRun tail r = ⊥
+Holds rate NoRun tail r = ⊥
 
 -- the order in which the reasons count: the wire, the time, the group, the sum, what the block means, the deck
 abbrev pub order : List Reason
@@ -80,8 +81,8 @@ IsFirst holds [] reason = ⊥
 IsFirst holds (x ∷ more) reason = ((reason ≡ x) × holds x) ⊎ ((¬ holds x) × IsFirst holds more reason)
 
 -- the reason why a record breaks the rules after a tail: the first one in the order that holds
-abbrev pub IsReason : List LineByte → LineByte → Reason → Type 0
-IsReason tail r reason = IsFirst (λ x. Holds x tail r) order reason
+abbrev pub IsReason : Rate → List LineByte → LineByte → Reason → Type 0
+IsReason rate tail r reason = IsFirst (λ x. Holds rate x tail r) order reason
 
 -- ---- the limits, the names and the texts
 

@@ -5,7 +5,7 @@ ghost use Rattle.std.specs.List.{sum};
 use crate::reply::{ACK, NAK};
 use arrayvec::ArrayVec;
 use capture9::LineByte;
-use tc25::TimeCode;
+use tc25::{Rate, TimeCode};
 
 /// The most data bytes of a block.
 const MOST_DATA: usize = 15;
@@ -97,13 +97,20 @@ impl Block {
         self.bytes.as_slice().first().copied().unwrap_or(0)
     }
 
-    /// The time that the data are, as the protocol manual spells times: `None` exactly where they are not the four
+    /// The time that the data are at a rate, as the protocol manual spells times: `None` exactly where they are not the four
     /// bytes of a valid one.
-    pub fn time(&self) -> Option<TimeCode>
-        ensures { result ≡ time_of self.now.bytes.items }
+    pub fn time_at(&self, rate: Rate) -> Option<TimeCode>
+        ensures { result ≡ time_of rate self.now.bytes.items }
     {
         let bytes = self.bytes.as_slice().as_array()?;
-        TimeCode::from_bytes(*bytes)
+        TimeCode::from_bytes_at(rate, *bytes)
+    }
+
+    /// The time that the data are at 25 frames a second: [`Block::time_at`].
+    pub fn time(&self) -> Option<TimeCode>
+        ensures { result ≡ time_of Rate.Fps25 self.now.bytes.items }
+    {
+        self.time_at(Rate::Fps25)
     }
 
     /// The block with this body: the bytes before the checksum.

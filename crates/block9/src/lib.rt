@@ -24,7 +24,7 @@ pub use line::byte_sum;
 pub use nak::NakBits;
 pub use pairer::{Exchange, Pairer, Step};
 pub use reason::Reason;
-pub use reply::reply_time_valid;
+pub use reply::{reply_time_valid, reply_time_valid_at};
 
 /// The time that a byte takes on the line, in microseconds: eleven bits at 38,400 a second, rounded up.
 pub const BYTE_TIME_US: u64 = 287;

@@ -1,6 +1,7 @@
 //! Pairs commands with replies, one record at a time.
 ghost use Rattle.std.specs.List.{sum};
 ghost use Rattle.std.specs.Prelude.{◌≡◌, ◌≤◌, ◌%◌, ◌++◌, ◌∷◌, true, [], IfOk, IfErr, OnErr, OnOk, None, Some};
+ghost use Rattle.tc25.specs.declared.rate.Rate.{Rate as ARate};
 ghost use Rattle.block9.specs.Exchange.{IsStep, tail_after};
 ghost use Rattle.block9.specs.declared.place.Place.TheVariants.{InReply};
 ghost use Rattle.block9.specs.Line.{bytes_of, last_time};
@@ -14,11 +15,12 @@ use crate::line::{block_len, last_time};
 use crate::open_block::OpenBlock;
 use crate::place::Place;
 use crate::reason::Reason;
-use crate::reply::reply_time_valid;
+use crate::reply::reply_time_valid_at;
 use crate::tail::Tail;
 use crate::{BYTE_GAP_US, REPLY_LIMIT_US, rules};
 use capture9::{LineByte, Wire};
 use std::marker::Model;
+use tc25::Rate;
 
 /// A complete command and its complete reply.
 #[derive(Debug, Drop, PartialEq, Eq)]
@@ -126,13 +128,13 @@ fn refuse(kept: &mut Option<Reason>, reason: Reason) -> Result<Step, Reason>
 
 /// The rule that this reply to the command breaks, by its kind or its time.
 #[inline(always)]
-fn reply_fault(command: &Command, reply: &Block) -> Option<Reason>
-    ensures { result ≡ reply_fault (Some command.now) reply.now }
+fn reply_fault(rate: Rate, command: &Command, reply: &Block) -> Option<Reason>
+    ensures { result ≡ reply_fault rate (Some command.now) reply.now }
 {
     if !command.fits(reply) {
         return Some(Reason::WrongReply);
     }
-    if !reply_time_valid(command, reply) {
+    if !reply_time_valid_at(rate, command, reply) {
         return Some(Reason::InvalidReplyTime);
     }
     None
@@ -149,7 +151,7 @@ fn reply_in<'a>(tail: &'a [LineByte]) -> &'a [LineByte]
 /// The exchange that the tail and a complete reply to its command are.
 #[inline(always)] // else an exchange is handed on through memory
 fn exchange_of(tail: &[LineByte], command: Command, reply: Block) -> Exchange
-    requires held { IsHeld tail.now (Some command) }
+    requires held { (rate : ARate) × IsHeld rate tail.now (Some command) }
     requires ends { ends_block (open_at (place_of tail.now) tail.now) ≡ true }
     requires reply { reply ≡ block_of (bytes_of (open_at (place_of tail.now) tail.now)) }
     ensures { Closes tail.now command result }
@@ -167,22 +169,23 @@ fn exchange_of(tail: &[LineByte], command: Command, reply: Block) -> Exchange
 /// Takes the last record of a command, whose meaning is kept; or the rule that the command breaks, and then all stays.
 #[inline(always)]
 fn end_command(
+    rate: Rate,
     tail: &mut Tail,
     block: &mut OpenBlock,
     open_command: &mut Option<Command>,
     line_byte: LineByte,
 ) -> Result<(), Reason>
-    requires held { IsHeld tail.old None }
+    requires held { IsHeld rate tail.old None }
     requires none { open_command.old ≡ None }
     requires later { last_time tail.old ≤ line_byte.time_us }
     requires ends { IsTurn tail.old line_byte true }
     requires right_sum { line_byte.byte ≡ sum (bytes_of (open_at (place_of tail.old) tail.old)) % 256 }
-    ensures ok { OnOk result (IsStep tail.old line_byte Step.Command × (tail.new ≡ tail.old ++ line_byte ∷ []) × HoldsInPairer tail.new open_command.new block.new) }
-    ensures err { IfErr result (λ reason. pairing tail.old line_byte ≡ Some reason) }
+    ensures ok { OnOk result (IsStep rate tail.old line_byte Step.Command × (tail.new ≡ tail.old ++ line_byte ∷ []) × HoldsInPairer rate tail.new open_command.new block.new) }
+    ensures err { IfErr result (λ reason. pairing rate tail.old line_byte ≡ Some reason) }
     ensures same { OnErr result ((tail.new ≡ tail.old) × (block.new ≡ block.old) × (open_command.new ≡ open_command.old)) }
 {
     let sent = Block::of_records(tail.as_slice());
-    let Some(command) = Command::of(&sent) else {
+    let Some(command) = Command::of_at(rate, &sent) else {
         return Err(Reason::InvalidCommandTime);
     };
     *open_command = Some(command);
@@ -195,31 +198,32 @@ fn end_command(
 /// breaks a rule leaves all as it is.
 #[inline(always)] // as above
 fn end(
+    rate: Rate,
     tail: &mut Tail,
     block: &mut OpenBlock,
     open_command: &mut Option<Command>,
     kept: &mut Option<Reason>,
     line_byte: LineByte,
 ) -> Result<Step, Reason>
-    requires held { HoldsInPairer tail.old open_command.old block.old }
+    requires held { HoldsInPairer rate tail.old open_command.old block.old }
     requires later { last_time tail.old ≤ line_byte.time_us }
     requires ends { IsTurn tail.old line_byte true }
-    ensures ok { IfOk result (λ step. IsStep tail.old line_byte step × (tail.new ≡ tail_after tail.old line_byte step) × HoldsInPairer tail.new open_command.new block.new × (kept.new ≡ kept.old)) }
-    ensures err { IfErr result (λ reason. (pairing tail.old line_byte ≡ Some reason) × (kept.new ≡ Some reason) × (tail.new ≡ tail.old)) }
+    ensures ok { IfOk result (λ step. IsStep rate tail.old line_byte step × (tail.new ≡ tail_after tail.old line_byte step) × HoldsInPairer rate tail.new open_command.new block.new × (kept.new ≡ kept.old)) }
+    ensures err { IfErr result (λ reason. (pairing rate tail.old line_byte ≡ Some reason) × (kept.new ≡ Some reason) × (tail.new ≡ tail.old)) }
     ensures same { OnErr result ((tail.new ≡ tail.old) × (block.new ≡ block.old) × (open_command.new ≡ open_command.old)) }
 {
     if block.sum != line_byte.byte {
         return refuse(kept, Reason::WrongSum);
     }
     let Some(command) = *open_command else {
-        if let Err(reason) = end_command(tail, block, open_command, line_byte) {
+        if let Err(reason) = end_command(rate, tail, block, open_command, line_byte) {
             return refuse(kept, reason);
         }
         return Ok(Step::Command);
     };
     let records = tail.as_slice();
     let reply = Block::of_records(reply_in(records));
-    if let Some(reason) = reply_fault(&command, &reply) {
+    if let Some(reason) = reply_fault(rate, &command, &reply) {
         return refuse(kept, reason);
     }
     let exchange = exchange_of(records, command, reply);
@@ -236,6 +240,8 @@ fn end(
 /// takes memory.
 #[derive(Drop)]
 pub struct Pairer {
+    /// The rate at which times are read.
+    rate: Rate,
     tail: Tail,
     /// The block that is open at the tail's end.
     block: OpenBlock,
@@ -253,9 +259,9 @@ impl Model for Pairer {
 
     ghost Value = { Paired };
 
-    ghost view = { λ p. record { tail = p.tail; last_time = last_fed p.tail p.reason p.passed_us; reason = p.reason } };
+    ghost view = { λ p. record { rate = p.rate; tail = p.tail; last_time = last_fed p.tail p.reason p.passed_us; reason = p.reason } };
 
-    ghost invariant = { λ p. HoldsInPairer p.tail p.open_command p.block };
+    ghost invariant = { λ p. HoldsInPairer p.rate p.tail p.open_command p.block };
 }
 
 impl Pairer {
@@ -263,11 +269,19 @@ impl Pairer {
     ghost use Rattle.std.specs.Option.{ForSome};
     ghost use Rattle.block9.specs.Pairer.{BeginsWith, Takes, Refuses};
 
-    /// A pairer that was fed nothing: it has no tail, no last time and no reason.
+    /// A pairer that was fed nothing, of a deck of 25 frames a second: it has no tail, no last time and no reason.
     pub fn new() -> Pairer
-        ensures { result ≡ record { tail = []; last_time = None; reason = None } }
+        ensures { result ≡ record { rate = Rate.Fps25; tail = []; last_time = None; reason = None } }
+    {
+        Pairer::at(Rate::Fps25)
+    }
+
+    /// A pairer that was fed nothing, and reads times at this rate: it has no tail, no last time and no reason.
+    pub fn at(rate: Rate) -> Pairer
+        ensures { result ≡ record { rate = rate; tail = []; last_time = None; reason = None } }
     {
         Pairer {
+            rate,
             tail: Tail::new(),
             block: OpenBlock::to_come(Wire::Controller),
             open_command: None,
@@ -312,6 +326,7 @@ impl Pairer {
         }
         self.passed_us = Some(line_byte.time_us);
         end(
+            self.rate,
             &mut self.tail,
             &mut self.block,
             &mut self.open_command,
@@ -344,7 +359,7 @@ impl Pairer {
     /// What the command means with which the tail begins, once that is complete. After a reason it is that of the tail before
     /// the record which broke the rule.
     pub fn open_command(&self) -> Option<Command>
-        ensures { (c : Command) → (result ≡ Some c) ↔ BeginsWith self.now.tail c }
+        ensures { (c : Command) → (result ≡ Some c) ↔ BeginsWith self.now.rate self.now.tail c }
     {
         self.open_command
     }
@@ -361,9 +376,9 @@ impl Pairer {
 impl Default for Pairer {
     ghost use Rattle.std.specs.Prelude.{◌≡◌, None, []};
 
-    /// A pairer that was fed nothing.
+    /// A pairer that was fed nothing, of a deck of 25 frames a second.
     fn default() -> Pairer
-        ensures { result ≡ record { tail = []; last_time = None; reason = None } }
+        ensures { result ≡ record { rate = Rate.Fps25; tail = []; last_time = None; reason = None } }
     {
         Pairer::new()
     }

@@ -4,6 +4,7 @@ ghost use Rattle.block9.specs.Command.{is_one_of, is_reply_time_valid, is_status
 
 use crate::block::Block;
 use crate::command::Command;
+use tc25::Rate;
 
 /// The first two bytes of an acknowledgement.
 pub(crate) const ACK: u32 = 0x10_01;
@@ -40,15 +41,24 @@ pub(crate) fn is_status(reply: &Block, most: u8) -> bool
     reply.group == 7 && reply.code == 0x20 && reply.bytes.len() <= usize::from(most)
 }
 
-/// Whether the time in a reply is valid, where it has to be; true where there is none to judge.
+/// Whether the time in a reply is valid at a rate, where it has to be; true where there is none to judge.
 ///
 /// It has to be in the replies to CURRENT TIME SENSE, but for a timer's.
 #[tactic(auto, unfolding(crate::specs::Command::is_reply_time_valid))]
-pub fn reply_time_valid(command: &Command, reply: &Block) -> bool
-    ensures { result ≡ is_reply_time_valid command.now reply.now }
+pub fn reply_time_valid_at(rate: Rate, command: &Command, reply: &Block) -> bool
+    ensures { result ≡ is_reply_time_valid rate command.now reply.now }
 {
     match command {
-        Command::CurrentTimeSense { .. } if is_time_code(reply.head()) => reply.time().is_some(),
+        Command::CurrentTimeSense { .. } if is_time_code(reply.head()) => {
+            reply.time_at(rate).is_some()
+        }
         _ => true,
     }
+}
+
+/// Whether the time in a reply is valid at 25 frames a second, where it has to be: [`reply_time_valid_at`].
+pub fn reply_time_valid(command: &Command, reply: &Block) -> bool
+    ensures { result ≡ is_reply_time_valid Rate.Fps25 command.now reply.now }
+{
+    reply_time_valid_at(Rate::Fps25, command, reply)
 }

@@ -4,6 +4,7 @@ mod command;
 mod nak;
 mod pairer;
 mod rows;
+mod set_rates;
 mod shared_sets;
 mod time_sets;
 mod times;

@@ -4,17 +4,18 @@ use Rattle.deck9.proofs.Words.{inr, IsEntry, IsRunFrom, IsState, List, may_ignor
 use Rattle.std.specs.Prelude.{None, true, ◌≢◌}
 use Rattle.deck9.proofs.Words.{name_of}
 use Rattle.deck9.proofs.Words.{subst, sym, with_entry, ◌++◌, ◌∷◌, ◌≡◌}
+use Rattle.deck9.proofs.Words.{Profile, Rate}
 use Rattle.deck9.proofs.DriftLemmas.{drift_from_pairs, pairs_from_drift}
 use Rattle.deck9.proofs.RunSearch.{read_panel}
 
 -- ---- drifts
 
-moves_join : (h : Hands) (us vs : List State) (s t u : State) → Moves h s us t → Moves h t vs u → Moves h s (us ++ vs) u
-moves_join h [] vs s t u m n = subst (λ x. Moves h x vs u) m n
-moves_join h (v ∷ us) vs s t u m n = (m.0, moves_join h us vs v t u m.1 n)
+moves_join : (profile : Profile) (us vs : List State) (s t u : State) → Moves profile s us t → Moves profile t vs u → Moves profile s (us ++ vs) u
+moves_join profile [] vs s t u m n = subst (λ x. Moves profile x vs u) m n
+moves_join profile (v ∷ us) vs s t u m n = (m.0, moves_join profile us vs v t u m.1 n)
 
-pub drift_join : (h : Hands) (s t u : State) → Drift h s t → Drift h t u → Drift h s u
-drift_join h s t u d e = (d.0 ++ e.0, moves_join h d.0 e.0 s t u d.1 e.1)
+pub drift_join : (profile : Profile) (s t u : State) → Drift profile s t → Drift profile t u → Drift profile s u
+drift_join profile s t u d e = (d.0 ++ e.0, moves_join profile d.0 e.0 s t u d.1 e.1)
 
 -- ---- hands: the same states with the panel on or off, as LOCAL ENABLE and DISABLE leave it
 
@@ -24,48 +25,53 @@ with_panel on s = record s { panel = on }
 put_beside : (r : Register) (e : Entry) (on : Bool) (s : State) → with_panel on (with_entry r e s) ≡ with_entry r e (with_panel on s)
 put_beside r e on s = grind arith
 
-pub valid_beside : (on : Bool) (s : State) → IsState s → IsState (with_panel on s)
-valid_beside on s valid = λ r. subst IsEntry (sym (read_panel r s on)) (valid r)
+pub valid_beside : (rate : Rate) (on : Bool) (s : State) → IsState rate s → IsState rate (with_panel on s)
+valid_beside rate on s valid = λ r. subst (IsEntry rate) (sym (read_panel r s on)) (valid r)
 
-does_beside : (f : Effect) (on : Bool) (s t : State) → Does Hands.None f s t → (off : Bool) × Does Hands.Allowed f (with_panel on s) (with_panel off t)
-does_beside (Effect.Panel new) on s t same = (new, ap (with_panel new) same)
-does_beside f on s t does = (on, grind (arith, read_panel, put_beside, valid_beside))
+module _ (rate : Rate) where
+  -- a deck at this rate
+  abbrev by_hand : Hands → Profile
+  by_hand h = record { rate = rate; hands = h }
 
-agrees_beside : (asked : Sense) (on : Bool) (s : State) (reply : Block) → Agrees asked s reply → Agrees asked (with_panel on s) reply
-agrees_beside asked on s reply shows = grind (arith, read_panel)
+  does_beside : (f : Effect) (on : Bool) (s t : State) → Does (by_hand Hands.None) f s t → (off : Bool) × Does (by_hand Hands.Allowed) f (with_panel on s) (with_panel off t)
+  does_beside (Effect.Panel new) on s t same = (new, ap (with_panel new) same)
+  does_beside f on s t does = (on, grind (arith, read_panel, put_beside, valid_beside rate))
 
-step_beside : (c : Command) (reply : Block) (on : Bool) (s t : State) → DeckStep Hands.None c reply s t
-    → (off : Bool) × DeckStep Hands.Allowed c reply (with_panel on s) (with_panel off t)
-step_beside c reply on s t (refused nak same) = (on, refused nak (ap (with_panel on) same))
-step_beside c reply on s t (ignored other shown may local same) =
-    (on, ignored other (agrees_beside (sense_of c) on s reply shown) may local (ap (with_panel on) same))
-step_beside c reply on s t (done other shown does) =
-    let w = does_beside (effect_of c) on s t does in
-    (w.0, done other (agrees_beside (sense_of c) on s reply shown) w.1)
+  agrees_beside : (asked : Sense) (on : Bool) (s : State) (reply : Block) → Agrees rate asked s reply → Agrees rate asked (with_panel on s) reply
+  agrees_beside asked on s reply shows = grind (arith, read_panel)
 
-exchange_beside : (c : Command) (reply : Block) (on : Bool) (s t : State) → Exchanges Hands.None c reply s t
-    → (off : Bool) × Exchanges Hands.Allowed c reply (with_panel on s) (with_panel off t)
-exchange_beside c reply on s t (d, drift, step) =
-    elim (pairs_from_drift Hands.None s d drift) [
-      | inl w ↦
-          let more = step_beside c reply on d t step in
-          (more.0, (with_panel on d, drift_from_pairs Hands.Allowed (with_panel on s) (with_panel on d) (inl (ap (with_panel on) w.0, w.1)), more.1))
-      | inr w ↦ absurd (let never = w.0 in cc)
-    ]
+  step_beside : (c : Command) (reply : Block) (on : Bool) (s t : State) → DeckStep (by_hand Hands.None) c reply s t
+      → (off : Bool) × DeckStep (by_hand Hands.Allowed) c reply (with_panel on s) (with_panel off t)
+  step_beside c reply on s t (refused nak same) = (on, refused nak (ap (with_panel on) same))
+  step_beside c reply on s t (ignored other shown may local same) =
+      (on, ignored other (agrees_beside (sense_of c) on s reply shown) may local (ap (with_panel on) same))
+  step_beside c reply on s t (done other shown does) =
+      let w = does_beside (effect_of c) on s t does in
+      (w.0, done other (agrees_beside (sense_of c) on s reply shown) w.1)
 
-run_beside : (es : List Exchange) (on : Bool) (s : State) (ts : List State) → IsRunFrom Hands.None s es ts
-    → (us : List State) × IsRunFrom Hands.Allowed (with_panel on s) es us
-run_beside [] on s [] r = ([], tt)
-run_beside (e ∷ es) on s (t ∷ ts) r =
-    let first = exchange_beside e.command e.reply on s t r.0 in
-    let rest = run_beside es first.0 t ts r.1 in
-    (with_panel first.0 t ∷ rest.0, (first.1, rest.1))
-run_beside es on s ts r = absurd r
+  exchange_beside : (c : Command) (reply : Block) (on : Bool) (s t : State) → Exchanges (by_hand Hands.None) c reply s t
+      → (off : Bool) × Exchanges (by_hand Hands.Allowed) c reply (with_panel on s) (with_panel off t)
+  exchange_beside c reply on s t (d, drift, step) =
+      elim (pairs_from_drift (by_hand Hands.None) s d drift) [
+        | inl w ↦
+            let more = step_beside c reply on d t step in
+            (more.0, (with_panel on d, drift_from_pairs (by_hand Hands.Allowed) (with_panel on s) (with_panel on d) (inl (ap (with_panel on) w.0, w.1)), more.1))
+        | inr w ↦ absurd (let never = w.0 in cc)
+      ]
 
-pub run_with_hands : (es : List Exchange) → HasRun Hands.None es → HasRun Hands.Allowed es
-run_with_hands es r =
-    let w = run_beside es false r.first r.after r.is_run in
-    record { first = with_panel false r.first; is_first = valid_beside false r.first r.is_first.0; after = w.0; is_run = w.1 }
+  run_beside : (es : List Exchange) (on : Bool) (s : State) (ts : List State) → IsRunFrom (by_hand Hands.None) s es ts
+      → (us : List State) × IsRunFrom (by_hand Hands.Allowed) (with_panel on s) es us
+  run_beside [] on s [] r = ([], tt)
+  run_beside (e ∷ es) on s (t ∷ ts) r =
+      let first = exchange_beside e.command e.reply on s t r.0 in
+      let rest = run_beside es first.0 t ts r.1 in
+      (with_panel first.0 t ∷ rest.0, (first.1, rest.1))
+  run_beside es on s ts r = absurd r
+
+  pub run_with_hands : (es : List Exchange) → HasRun (by_hand Hands.None) es → HasRun (by_hand Hands.Allowed) es
+  run_with_hands es r =
+      let w = run_beside es false r.first r.after r.is_run in
+      record { first = with_panel false r.first; is_first = (valid_beside rate false r.first r.is_first.0, tt); after = w.0; is_run = w.1 }
 
 -- ---- local
 

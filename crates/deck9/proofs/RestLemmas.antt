@@ -1,35 +1,53 @@
 -- What is left of a run without its first exchanges is a run.
 use Rattle.deck9.proofs.Words.{[], All, All-head, All-tail, ap, arith, Becomes, Change, day, Does, Effect, effect_of, Entry, entry_of, Exchange, Hands, HasRun, IsEntry, IsFirst}
 use Rattle.deck9.proofs.Words.{IsRunFrom, IsState, List, nat_tests, Register, SetAt, SetsInDay, State, DeckStep, subst, sym, with_entry, ℕ, ◌++◌, ◌<◌, ◌∷◌, ◌≡◌}
-use Rattle.deck9.proofs.RunSearch.{first_drifts, put_panel}
+use Rattle.deck9.proofs.Words.{before_shift, Bool, MayBeOn, moved_entry, Next, next_frame, Prev, prev_frame, Profile, Rate}
+use Rattle.deck9.proofs.RunSearch.{first_drifts, put_panel, read_panel}
 
 -- ---- steps lead from states to states
 
-becomes_valid : (c : Change) (old new : Entry) → ((t : ℕ) → c ≡ SetAt t → t < day) → IsEntry old → Becomes c old new → IsEntry new
-becomes_valid c old new sets valid becomes = grind (arith, nat_tests)
+becomes_valid : (rate : Rate) (c : Change) (old new : Entry) → IsEntry rate old → Becomes rate c old new → IsEntry rate new
+becomes_valid rate c old new valid becomes = grind (arith, nat_tests)
 
-put_valid : (r q : Register) (e : Entry) (s : State) → IsEntry e → IsState s → IsEntry (entry_of q (with_entry r e s))
-put_valid r q e s is_entry valid = let other = valid q in grind arith
+put_valid : (rate : Rate) (r q : Register) (e : Entry) (s : State) → IsEntry rate e → IsState rate s → IsEntry rate (entry_of q (with_entry r e s))
+put_valid rate r q e s is_entry valid = let other = valid q in grind arith
 
-does_valid : (h : Hands) (f : Effect) (s t : State) → ((r : Register) (u : ℕ) → f ≡ Effect.Change r (SetAt u) → u < day) → IsState s → Does h f s t → IsState t
-does_valid h (Effect.Change r c) s t sets valid (e, becomes, put) =
-    subst IsState (sym put) (λ q. put_valid r q e s (becomes_valid c (entry_of r s) e (λ u same. sets r u (ap (Effect.Change r) same)) (valid r) becomes) valid)
-does_valid h f s t sets valid does = λ r. let before = valid r in grind arith
+does_valid : (profile : Profile) (f : Effect) (s t : State) → IsState profile.rate s → Does profile f s t → IsState profile.rate t
+does_valid profile (Effect.Change r c) s t valid (e, becomes, put) =
+    subst (IsState profile.rate) (sym put)
+    (λ q. put_valid profile.rate r q e s (becomes_valid profile.rate c (entry_of r s) e (valid r) becomes) valid)
+does_valid profile f s t valid does = λ r. let before = valid r in grind arith
+
+pub step_valid : (profile : Profile) (e : Exchange) (s t : State) → IsState profile.rate s → DeckStep profile e.command e.reply s t → IsState profile.rate t
+step_valid profile e s t valid step = let does = does_valid profile (effect_of e.command) s t valid in grind arith
+
+-- the states that stand for all before a step
+pub same_valid : (rate : Rate) (t : State) (on : Bool) → IsState rate t → IsState rate (record t { panel = on })
+same_valid rate t on valid = λ r. rw (read_panel r t on) (valid r)
+
+moved_valid : (rate : Rate) (x : Entry) → IsEntry rate x → IsEntry rate (moved_entry (next_frame rate) x) × IsEntry rate (moved_entry (prev_frame rate) x)
+moved_valid rate x valid = (grind (arith, nat_tests), grind (arith, nat_tests))
+
+pub back_valid : (rate : Rate) (f : Effect) (t : State) → IsState rate t → IsState rate (before_shift rate f t)
+back_valid rate (Effect.Change r Next) t valid = λ q. put_valid rate r q _ t (moved_valid rate (entry_of r t) (valid r)).1 valid
+back_valid rate (Effect.Change r Prev) t valid = λ q. put_valid rate r q _ t (moved_valid rate (entry_of r t) (valid r)).0 valid
+back_valid rate f t valid = λ q. let before = valid q in grind arith
 
 -- where hands are not allowed no effect switches the panel
-pub first_does : (h : Hands) (f : Effect) (s t : State) → ((r : Register) (u : ℕ) → f ≡ Effect.Change r (SetAt u) → u < day) → IsFirst h s → Does h f s t
-    → IsFirst h t
-first_does Hands.None f s t sets first does = (does_valid Hands.None f s t sets first.0 does, let off = first.1 in grind (arith, put_panel))
-first_does Hands.Allowed f s t sets first does = does_valid Hands.Allowed f s t sets first does
+does_panel : (profile : Profile) (f : Effect) (s t : State) → MayBeOn profile.hands s.panel → Does profile f s t → MayBeOn profile.hands t.panel
+does_panel profile f s t may does = grind (arith, put_panel)
+
+pub first_does : (profile : Profile) (f : Effect) (s t : State) → IsFirst profile s → Does profile f s t → IsFirst profile t
+first_does profile f s t first does = (does_valid profile f s t first.0 does, does_panel profile f s t first.1 does)
 
 -- no step leads out of the first states
-first_steps : (h : Hands) (e : Exchange) (s t : State) → SetsInDay e → IsFirst h s → DeckStep h e.command e.reply s t → IsFirst h t
-first_steps h e s t sets first step = let does = first_does h (effect_of e.command) s t sets first in grind arith
+first_steps : (profile : Profile) (e : Exchange) (s t : State) → IsFirst profile s → DeckStep profile e.command e.reply s t → IsFirst profile t
+first_steps profile e s t first step = let does = first_does profile (effect_of e.command) s t first in grind arith
 
 -- ---- runs
 
-pub rest_runs : (h : Hands) (es fs : List Exchange) (s : State) (ts : List State) → All SetsInDay es → IsFirst h s → IsRunFrom h s (es ++ fs) ts → HasRun h fs
-rest_runs h [] fs s ts sets first run = record { first = s; is_first = first; after = ts; is_run = run }
-rest_runs h (e ∷ es) fs s [] sets first run = absurd run
-rest_runs h (e ∷ es) fs s (t ∷ ts) sets first ((d, drift, step), run) =
-    rest_runs h es fs t ts (All-tail SetsInDay e es sets) (first_steps h e d t (All-head SetsInDay e es sets) (first_drifts h s d first drift) step) run
+pub rest_runs : (profile : Profile) (es fs : List Exchange) (s : State) (ts : List State) → IsFirst profile s → IsRunFrom profile s (es ++ fs) ts → HasRun profile fs
+rest_runs profile [] fs s ts first run = record { first = s; is_first = first; after = ts; is_run = run }
+rest_runs profile (e ∷ es) fs s [] first run = absurd run
+rest_runs profile (e ∷ es) fs s (t ∷ ts) first ((d, drift, step), run) =
+    rest_runs profile es fs t ts (first_steps profile e d t (first_drifts profile s d first drift) step) run

@@ -6,7 +6,7 @@ pub use Rattle.block9.specs.declared.command.Command.{Command}
 pub use Rattle.block9.specs.declared.pairer.Exchange.{Exchange}
 pub use Rattle.deck9.specs.Contradict.{behind_first, CanPass, HasBelieving, IsBelievingFrom, MayDo}
 pub use Rattle.deck9.specs.Drift.{arrives, Drift, DriftsTo, halts, handled, Move, Moves, PairReaches, passes}
-pub use Rattle.deck9.specs.Effect.{Becomes, Does, effect_of, moved_entry}
+pub use Rattle.deck9.specs.Effect.{Becomes, Does, effect_of, KeepsPanel, moved_entry, switched}
 pub use Rattle.deck9.specs.Laws.{AreAnswered, IsRightReply, MayReply, SetsInDay, ShowJust}
 pub use Rattle.deck9.specs.Local.{is_of_goal_or_register, may_ignore}
 pub use Rattle.deck9.specs.Mode.{every_mode, index_of, is_mode, is_one_of, on_the_way}
@@ -14,7 +14,7 @@ pub use Rattle.deck9.specs.ModeCalls.{is_some}
 pub use Rattle.deck9.specs.ModeSet.{bit_of, either, has, modes, of_modes}
 pub use Rattle.deck9.specs.Run.{Ends, HasRun, IsRun, IsRunFrom, last_state}
 pub use Rattle.deck9.specs.Shows.{Agrees, sense_of, Shows, ShowsStatus, Tells}
-pub use Rattle.deck9.specs.State.{entry_of, IsEntry, IsFirst, IsState, with_entry}
+pub use Rattle.deck9.specs.State.{entry_of, IsEntry, IsFirst, IsState, MayBeOn, with_entry}
 pub use Rattle.deck9.specs.Status.{datum, may_show, status_of}
 pub use Rattle.deck9.specs.Step.{AreReached, done, Exchanges, ignored, refused, DeckStep}
 pub use Rattle.deck9.specs.Working.{before_shift, Begins, DriftsAndSteps, PassesOne, Steps, StepsFromSome}
@@ -46,6 +46,8 @@ pub use Rattle.std.specs.Int.{bit_at}
 pub use Rattle.std.specs.Iterator.Adapters.{zip_first, zip_second}
 pub use Rattle.std.specs.List.{All, filter, list_any}
 pub use Rattle.std.specs.Slice.Iter.{iter_rest}
-pub use Rattle.tc25.proofs.DayLemmas.{ReadsAs-from_time_of, time_of-from_ReadsAs}
-pub use Rattle.tc25.specs.Day.{bcd, bytes_of, day, frames_of, hours_of, minutes_of, next_frame, prev_frame, seconds_of}
+pub use Rattle.tc25.proofs.DayLemmas.{bytes_read, given_reads, read_given}
+pub use Rattle.tc25.specs.Day.{bcd, bytes_of, day, frames_of, hours_of, label_of, minutes_of, next_frame, prev_frame, seconds_of}
 unfoldable pub use Rattle.tc25.specs.Day.{time_of}
+pub use Rattle.deck9.specs.declared.profile.Profile.{Profile}
+pub use Rattle.tc25.specs.declared.rate.Rate.{Rate}

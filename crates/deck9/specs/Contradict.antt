@@ -2,7 +2,7 @@
 use Rattle.std.specs.Prelude.{ℕ, ◌≡◌, ◌+◌, ◌⊎◌, Bool, true, false, ⊤, List, [], ◌∷◌}
 use Rattle.block9.specs.declared.command.Command.{Command}
 use Rattle.block9.specs.declared.pairer.Exchange.{Exchange}
-use Rattle.deck9.specs.declared.state.Hands.{Hands}
+use Rattle.deck9.specs.declared.profile.Profile.{Profile}
 use Rattle.deck9.specs.declared.state.State.{State}
 use Rattle.deck9.specs.Drift.{Drift}
 use Rattle.deck9.specs.Effect.{Does, effect_of}
@@ -10,36 +10,36 @@ use Rattle.deck9.specs.State.{IsFirst}
 use Rattle.deck9.specs.Step.{DeckStep}
 
 -- what a command may do to a state where its reply is not known: nothing, or its effect
-abbrev pub CanPass : Hands → Command → State → State → Type 0
-CanPass h command s t = (t ≡ s) ⊎ Does h (effect_of command) s t
+abbrev pub CanPass : Profile → Command → State → State → Type 0
+CanPass p command s t = (t ≡ s) ⊎ Does p (effect_of command) s t
 
 -- the deck drifts, and then takes a command whose reply is not known
-abbrev pub Passes : Hands → Command → State → State → Type 0
-Passes h command s t = (d : State) × Drift h s d × CanPass h command d t
+abbrev pub Passes : Profile → Command → State → State → Type 0
+Passes p command s t = (d : State) × Drift p s d × CanPass p command d t
 
 -- what an exchange may do after the drift: a step with its reply where that is believed, and else what its command may do
-abbrev pub MayDo : Hands → Bool → Exchange → State → State → Type 0
-MayDo h true e s t = DeckStep h e.command e.reply s t
-MayDo h false e s t = CanPass h e.command s t
+abbrev pub MayDo : Profile → Bool → Exchange → State → State → Type 0
+MayDo p true e s t = DeckStep p e.command e.reply s t
+MayDo p false e s t = CanPass p e.command s t
 
 -- the places of a list's rest, of which the first is the list's second
 abbrev pub behind_first : (ℕ → Bool) → ℕ → Bool
 behind_first is_believed k = is_believed (k + 1)
 
 -- from s, these are the states after each of the exchanges in a run that believes the replies at these places
-abbrev pub IsBelievingFrom : Hands → (ℕ → Bool) → State → List Exchange → List State → Type 0
-IsBelievingFrom h is_believed s [] [] = ⊤
-IsBelievingFrom h is_believed s (e ∷ es) (t ∷ ts) =
-    (d : State) × Drift h s d × MayDo h (is_believed 0) e d t × IsBelievingFrom h (behind_first is_believed) t es ts
-IsBelievingFrom h is_believed s _ _ = ⊥
+abbrev pub IsBelievingFrom : Profile → (ℕ → Bool) → State → List Exchange → List State → Type 0
+IsBelievingFrom p is_believed s [] [] = ⊤
+IsBelievingFrom p is_believed s (e ∷ es) (t ∷ ts) =
+    (d : State) × Drift p s d × MayDo p (is_believed 0) e d t × IsBelievingFrom p (behind_first is_believed) t es ts
+IsBelievingFrom p is_believed s _ _ = ⊥
 
 -- there is a run of these exchanges that believes the replies at these places, counted from 0
-pub record HasBelieving (h : Hands) (is_believed : ℕ → Bool) (es : List Exchange) : Type 0 where
+pub record HasBelieving (p : Profile) (is_believed : ℕ → Bool) (es : List Exchange) : Type 0 where
   pub first : State
-  pub is_first : IsFirst h first
+  pub is_first : IsFirst p first
   pub after : List State
-  pub is_run : IsBelievingFrom h is_believed first es after
+  pub is_run : IsBelievingFrom p is_believed first es after
 
 -- the replies at these places contradict one another: no run believes all of them
-abbrev pub Contradict : Hands → (ℕ → Bool) → List Exchange → Type 0
-Contradict h is_believed es = ¬ HasBelieving h is_believed es
+abbrev pub Contradict : Profile → (ℕ → Bool) → List Exchange → Type 0
+Contradict p is_believed es = ¬ HasBelieving p is_believed es

@@ -2,31 +2,31 @@
 use Rattle.std.specs.Prelude.{◌≡◌, ◌⊎◌, true, List, [], ◌∷◌}
 use Rattle.deck9.specs.declared.mode.Mode.{Mode}
 use Rattle.deck9.specs.declared.mode.Mode.TheVariants.{Stop}
-use Rattle.deck9.specs.declared.state.Hands.{Hands}
+use Rattle.deck9.specs.declared.profile.Profile.{Profile}
 use Rattle.deck9.specs.declared.state.Hands.TheVariants as hands
 use Rattle.deck9.specs.declared.state.State.{State}
 use Rattle.deck9.specs.Mode.{is_one_of, on_the_way}
 use Rattle.deck9.specs.State.{IsState}
 
 -- one move of the mechanics, or of a hand on the panel
-pub data Move (h : Hands) (s t : State) : Type 0 where
+pub data Move (p : Profile) (s t : State) : Type 0 where
   -- the shown mode becomes the goal
-  arrives : t ≡ record s { shown = s.goal } → Move h s t
+  arrives : t ≡ record s { shown = s.goal } → Move p s t
   -- the shown mode becomes one on the way to the goal, also after the goal was shown
-  passes : (m : Mode) → is_one_of (on_the_way s.goal) m ≡ true → t ≡ record s { shown = m } → Move h s t
+  passes : (m : Mode) → is_one_of (on_the_way s.goal) m ≡ true → t ≡ record s { shown = m } → Move p s t
   -- where the goal is shown, both become STOP: the end of the tape, or a cassette put in
-  halts : s.shown ≡ s.goal → t ≡ record s { goal = Stop; shown = Stop } → Move h s t
+  halts : s.shown ≡ s.goal → t ≡ record s { goal = Stop; shown = Stop } → Move p s t
   -- where hands are allowed and the panel is on, a hand does anything but switch the panel off
-  handled : h ≡ hands.Allowed → s.panel ≡ true → t.panel ≡ true → IsState t → Move h s t
+  handled : p.hands ≡ hands.Allowed → s.panel ≡ true → t.panel ≡ true → IsState p.rate t → Move p s t
 
 -- from s to t by way of these states, each by a move from the one before
-abbrev pub Moves : Hands → State → List State → State → Type 0
-Moves h s [] t = t ≡ s
-Moves h s (u ∷ us) t = Move h s u × Moves h u us t
+abbrev pub Moves : Profile → State → List State → State → Type 0
+Moves p s [] t = t ≡ s
+Moves p s (u ∷ us) t = Move p s u × Moves p u us t
 
 -- any finite number of moves, none included
-abbrev pub Drift : Hands → State → State → Type 0
-Drift h s t = (us : List State) × Moves h s us t
+abbrev pub Drift : Profile → State → State → Type 0
+Drift p s t = (us : List State) × Moves p s us t
 
 -- ---- what a drift comes to: a law, and no further rule
 
@@ -39,5 +39,6 @@ abbrev pub KeepsRest : State → State → Type 0
 KeepsRest s t = t ≡ record s { goal = t.goal; shown = t.shown }
 
 -- one of four pairs, or what a hand did
-abbrev pub DriftsTo : Hands → State → State → Type 0
-DriftsTo h s t = (KeepsRest s t × PairReaches s.goal s.shown t.goal t.shown) ⊎ ((h ≡ hands.Allowed) × (s.panel ≡ true) × (t.panel ≡ true) × IsState t)
+abbrev pub DriftsTo : Profile → State → State → Type 0
+DriftsTo p s t =
+    (KeepsRest s t × PairReaches s.goal s.shown t.goal t.shown) ⊎ ((p.hands ≡ hands.Allowed) × (s.panel ≡ true) × (t.panel ≡ true) × IsState p.rate t)

@@ -1,5 +1,5 @@
 -- What each command does to the deck.
-use Rattle.std.specs.Prelude.{ℕ, ◌≡◌, ◌<◌, ◌⊎◌, ◌==◌, if◌then◌else◌, true, false}
+use Rattle.std.specs.Prelude.{ℕ, ◌≡◌, ◌<◌, ◌⊎◌, ◌==◌, if◌then◌else◌, Bool, true, false, ⊤}
 use Rattle.tc25.specs.Day.{day, next_frame, prev_frame}
 use Rattle.block9.specs.declared.command.Command.{Command}
 use Rattle.block9.specs.declared.command.Command.TheVariants as command
@@ -10,6 +10,8 @@ use Rattle.deck9.specs.declared.state.Hands.{Hands}
 use Rattle.deck9.specs.declared.state.Hands.TheVariants as hands
 use Rattle.deck9.specs.declared.state.Register.TheVariants.{RegIn, RegOut, RegAudioIn, RegAudioOut}
 use Rattle.deck9.specs.declared.state.State.{State}
+use Rattle.deck9.specs.declared.profile.Profile.{Profile}
+use Rattle.tc25.specs.declared.rate.Rate.{Rate}
 use Rattle.deck9.specs.declared.effect.Effect.{Effect}
 use Rattle.deck9.specs.declared.effect.Effect.TheVariants as effect
 use Rattle.deck9.specs.declared.effect.Change.{Change}
@@ -79,23 +81,31 @@ moved_entry move Clear = Clear
 moved_entry move (At t) = At (move t)
 
 -- what may become of a register's entry
-abbrev pub Becomes : Change → Entry → Entry → Type 0
-Becomes SetSomewhere old new = (t : ℕ) × (t < day) × (new ≡ At t)
-Becomes (SetAt t) old new = new ≡ At t
-Becomes Next old new = new ≡ moved_entry next_frame old
-Becomes Prev old new = new ≡ moved_entry prev_frame old
-Becomes Reset old new = new ≡ Clear
-Becomes Recall old new = IsEntry new
+abbrev pub Becomes : Rate → Change → Entry → Entry → Type 0
+Becomes rate SetSomewhere old new = (t : ℕ) × (t < day rate) × (new ≡ At t)
+Becomes rate (SetAt t) old new = (t < day rate) × (new ≡ At t)
+Becomes rate Next old new = new ≡ moved_entry (next_frame rate) old
+Becomes rate Prev old new = new ≡ moved_entry (prev_frame rate) old
+Becomes rate Reset old new = new ≡ Clear
+Becomes rate Recall old new = IsEntry rate new
+
+-- the state with the panel switched on or off, where hands are allowed
+abbrev pub switched : Hands → Bool → State → State
+switched hands.None on s = s
+switched hands.Allowed on s = record s { panel = on }
+
+-- the panel stays, where nobody touches it
+abbrev pub KeepsPanel : Hands → State → State → Type 0
+KeepsPanel hands.None s t = t.panel ≡ s.panel
+KeepsPanel hands.Allowed s t = ⊤
 
 -- what may become of a state; fields that are not named stay
-abbrev pub Does : Hands → Effect → State → State → Type 0
-Does h effect.Nothing s t = t ≡ s
-Does h (effect.Go g) s t = t ≡ record s { goal = g }
-Does h effect.KeepOrStop s t = (t ≡ s) ⊎ (t ≡ record s { goal = mode.Stop })
-Does h (effect.Change r c) s t = (e : Entry) × Becomes c (entry_of r s) e × (t ≡ with_entry r e s)
-Does hands.None (effect.Panel on) s t = t ≡ s
-Does hands.Allowed (effect.Panel on) s t = t ≡ record s { panel = on }
-Does h effect.ForgetTape s t = IsState t × (t.local ≡ s.local) × (t.panel ≡ s.panel)
-Does h effect.ForgetRegisters s t = IsState t × (t.goal ≡ s.goal) × (t.shown ≡ s.shown) × (t.local ≡ s.local) × (t.panel ≡ s.panel)
-Does hands.None effect.ForgetAll s t = IsState t × (t.panel ≡ s.panel)
-Does hands.Allowed effect.ForgetAll s t = IsState t
+abbrev pub Does : Profile → Effect → State → State → Type 0
+Does p effect.Nothing s t = t ≡ s
+Does p (effect.Go g) s t = t ≡ record s { goal = g }
+Does p effect.KeepOrStop s t = (t ≡ s) ⊎ (t ≡ record s { goal = mode.Stop })
+Does p (effect.Change r c) s t = (e : Entry) × Becomes p.rate c (entry_of r s) e × (t ≡ with_entry r e s)
+Does p (effect.Panel on) s t = t ≡ switched p.hands on s
+Does p effect.ForgetTape s t = IsState p.rate t × (t.local ≡ s.local) × (t.panel ≡ s.panel)
+Does p effect.ForgetRegisters s t = IsState p.rate t × (t.goal ≡ s.goal) × (t.shown ≡ s.shown) × (t.local ≡ s.local) × (t.panel ≡ s.panel)
+Does p effect.ForgetAll s t = IsState p.rate t × KeepsPanel p.hands s t

@@ -2,6 +2,7 @@
 use Rattle.std.specs.Prelude.{ℕ, ◌≡◌, ◌<◌, Bool, true, false, ⊤, List, [], ◌∷◌, Some}
 use Rattle.std.specs.List.{All}
 use Rattle.tc25.specs.Day.{day}
+use Rattle.tc25.specs.declared.rate.Rate.{Rate}
 use Rattle.block9.specs.declared.block.Block.{Block}
 use Rattle.block9.specs.declared.command.Command.{Command}
 use Rattle.block9.specs.declared.pairer.Exchange.{Exchange}
@@ -15,29 +16,29 @@ use Rattle.deck9.specs.Contradict.{behind_first}
 use Rattle.deck9.specs.Effect.{effect_of}
 use Rattle.deck9.specs.Status.{may_show}
 
--- where the exchange's command sets a register at a time, that is a time of the day
-abbrev pub SetsInDay : Exchange → Type 0
-SetsInDay e = (r : Register) (t : ℕ) → effect_of e.command ≡ effect.Change r (SetAt t) → t < day
+-- where the command sets a register at a time, that is a time of the day
+abbrev pub SetsInDay : Rate → Command → Type 0
+SetsInDay rate command = (r : Register) (t : ℕ) → effect_of command ≡ effect.Change r (SetAt t) → t < day rate
 
 -- a right reply to the command: a block of bytes, of a kind that the command may have, whose time is valid where it has to be
-pub record IsRightReply (command : Command) (reply : Block) : Type 0 where
+pub record IsRightReply (rate : Rate) (command : Command) (reply : Block) : Type 0 where
   pub block : IsBlock reply
   pub code_byte : reply.code < 256
   pub data_bytes : All (λ byte. byte < 256) reply.bytes.items
   pub kind : fits command reply ≡ true
-  pub valid_time : is_reply_time_valid command reply ≡ true
+  pub valid_time : is_reply_time_valid rate command reply ≡ true
 
 -- the same reply where it is believed, and else any right one
-abbrev pub MayReply : Bool → Exchange → Block → Type 0
-MayReply true e reply = reply ≡ e.reply
-MayReply false e reply = IsRightReply e.command reply
+abbrev pub MayReply : Rate → Bool → Exchange → Block → Type 0
+MayReply rate true e reply = reply ≡ e.reply
+MayReply rate false e reply = IsRightReply rate e.command reply
 
 -- the same exchanges, with other right replies at the places where they are not believed
-abbrev pub AreAnswered : (ℕ → Bool) → List Exchange → List Exchange → Type 0
-AreAnswered is_believed [] [] = ⊤
-AreAnswered is_believed (e ∷ es) (f ∷ fs) =
-    (reply : Block) × MayReply (is_believed 0) e reply × (f ≡ record e { reply = reply }) × AreAnswered (behind_first is_believed) es fs
-AreAnswered is_believed _ _ = ⊥
+abbrev pub AreAnswered : Rate → (ℕ → Bool) → List Exchange → List Exchange → Type 0
+AreAnswered rate is_believed [] [] = ⊤
+AreAnswered rate is_believed (e ∷ es) (f ∷ fs) =
+    (reply : Block) × MayReply rate (is_believed 0) e reply × (f ≡ record e { reply = reply }) × AreAnswered rate (behind_first is_believed) es fs
+AreAnswered rate is_believed _ _ = ⊥
 
 -- status data 1 and 2, bytes, that fit just the modes of which this is true
 pub record ShowJust (is_shown : Mode → Bool) : Type 0 where

@@ -14,6 +14,7 @@ use Rattle.deck9.specs.declared.state.State.{State}
 use Rattle.deck9.specs.declared.status.RegistersSet.{RegistersSet}
 use Rattle.deck9.specs.declared.status.Status.{Status}
 use Rattle.deck9.specs.ModeSet.{has}
+use Rattle.tc25.specs.declared.rate.Rate.{Rate}
 use Rattle.deck9.specs.State.{entry_of, is_set}
 use Rattle.deck9.specs.Status.{status_of}
 
@@ -29,9 +30,9 @@ sense_of _ = sense.Nothing
 -- ---- registers
 
 -- a Set register gives its time, but for flag bits; a Clear one gives any bytes
-abbrev pub Tells : Entry → List ℕ → Type 0
-Tells Clear bytes = ⊤
-Tells (At t) bytes = ReadsAs bytes t
+abbrev pub Tells : Rate → Entry → List ℕ → Type 0
+Tells rate Clear bytes = ⊤
+Tells rate (At t) bytes = ReadsAs rate bytes t
 
 -- ---- status
 
@@ -51,11 +52,11 @@ pub record ShowsStatus (s : State) (status : Status) : Type 0 where
 -- ---- both
 
 -- a reply to what was asked for agrees with the state
-abbrev pub Agrees : Sense → State → Block → Type 0
-Agrees (sense.Register r) s reply = Tells (entry_of r s) reply.bytes.items
-Agrees (sense.Status asked) s reply = ShowsStatus s (status_of asked reply)
-Agrees sense.Nothing s reply = ⊤
+abbrev pub Agrees : Rate → Sense → State → Block → Type 0
+Agrees rate (sense.Register r) s reply = Tells rate (entry_of r s) reply.bytes.items
+Agrees rate (sense.Status asked) s reply = ShowsStatus s (status_of asked reply)
+Agrees rate sense.Nothing s reply = ⊤
 
 -- a reply to a command agrees with the state
-abbrev pub Shows : State → Command → Block → Type 0
-Shows s command reply = Agrees (sense_of command) s reply
+abbrev pub Shows : Rate → State → Command → Block → Type 0
+Shows rate s command reply = Agrees rate (sense_of command) s reply

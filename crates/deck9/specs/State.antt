@@ -1,6 +1,8 @@
 -- The states of a deck.
 use Rattle.std.specs.Prelude.{◌≡◌, ◌<◌, Bool, true, false, ⊤}
 use Rattle.tc25.specs.Day.{day}
+use Rattle.tc25.specs.declared.rate.Rate.{Rate}
+use Rattle.deck9.specs.declared.profile.Profile.{Profile}
 use Rattle.deck9.specs.declared.state.Entry.{Entry}
 use Rattle.deck9.specs.declared.state.Entry.TheVariants.{Clear, At}
 use Rattle.deck9.specs.declared.state.Hands.{Hands}
@@ -24,9 +26,9 @@ with_entry RegAudioIn e s = record s { ains = e }
 with_entry RegAudioOut e s = record s { aouts = e }
 
 -- a register is Clear, or Set at a time of the day
-abbrev pub IsEntry : Entry → Type 0
-IsEntry Clear = ⊤
-IsEntry (At t) = t < day
+abbrev pub IsEntry : Rate → Entry → Type 0
+IsEntry rate Clear = ⊤
+IsEntry rate (At t) = t < day rate
 
 -- a register that is not Clear is called Set
 abbrev pub is_set : Entry → Bool
@@ -34,10 +36,14 @@ is_set Clear = false
 is_set (At t) = true
 
 -- a state: any two modes, any entries, local or not, panel or not
-abbrev pub IsState : State → Type 0
-IsState s = (r : Register) → IsEntry (entry_of r s)
+abbrev pub IsState : Rate → State → Type 0
+IsState rate s = (r : Register) → IsEntry rate (entry_of r s)
+
+-- the panel is on only where hands are allowed
+abbrev pub MayBeOn : Hands → Bool → Type 0
+MayBeOn hands.None panel = panel ≡ false
+MayBeOn hands.Allowed panel = ⊤
 
 -- the states in which a deck may be before a capture: any, but for the panel where nobody touches it
-abbrev pub IsFirst : Hands → State → Type 0
-IsFirst hands.None s = IsState s × (s.panel ≡ false)
-IsFirst hands.Allowed s = IsState s
+abbrev pub IsFirst : Profile → State → Type 0
+IsFirst p s = IsState p.rate s × MayBeOn p.hands s.panel

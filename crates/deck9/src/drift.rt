@@ -2,62 +2,65 @@
 ghost use Rattle.std.specs.Prelude.{◌≡◌, ◌↔◌, IsTrue};
 ghost use Rattle.deck9.specs.Working.{DriftsAndSteps, PassesOne, Steps, StepsFromSome, before_shift};
 ghost use Rattle.deck9.specs.Mode.{on_the_way};
+ghost use Rattle.deck9.specs.State.{IsState};
 
 use crate::effect::{Change, Effect};
 use crate::mode::Mode;
-use crate::state::{Hands, State};
+use crate::profile::Profile;
+use crate::state::State;
 use crate::step::steps;
 use block9::Exchange;
+use tc25::Rate;
 
 /// Whether a drift of the mechanics, and then the step of an exchange, can take the deck from a state to another.
 ///
 /// However long it is, such a drift keeps goal and shown mode, or shows the goal, or a mode on the way to it, or stops.
 pub(crate) fn drifts_and_steps(
-    hands: Hands,
+    profile: Profile,
     exchange: &Exchange,
     before: &State,
     after: &State,
 ) -> bool
-    ensures { IsTrue result ↔ DriftsAndSteps hands exchange.now before.now after.now }
+    ensures { IsTrue result ↔ DriftsAndSteps profile exchange.now before.now after.now }
 {
-    if steps(hands, exchange, before, after) {
+    if steps(profile, exchange, before, after) {
         return true;
     }
-    if shows_and_steps(hands, exchange, before, before.goal, after) {
+    if shows_and_steps(profile, exchange, before, before.goal, after) {
         return true;
     }
-    if passes_and_steps(hands, exchange, before, on_the_way(before.goal), after) {
+    if passes_and_steps(profile, exchange, before, on_the_way(before.goal), after) {
         return true;
     }
     let stopped = before.with_goal(Mode::Stop);
-    shows_and_steps(hands, exchange, &stopped, Mode::Stop, after)
+    shows_and_steps(profile, exchange, &stopped, Mode::Stop, after)
 }
 
 /// Whether the step can lead on from the state that shows this mode.
 fn shows_and_steps(
-    hands: Hands,
+    profile: Profile,
     exchange: &Exchange,
     before: &State,
     shown: Mode,
     after: &State,
 ) -> bool
-    ensures { IsTrue result ↔ Steps hands exchange.now (record before.now { shown = shown }) after.now }
+    ensures { IsTrue result ↔ Steps profile exchange.now (record before.now { shown = shown }) after.now }
 {
-    steps(hands, exchange, &before.with_shown(shown), after)
+    steps(profile, exchange, &before.with_shown(shown), after)
 }
 
 /// Whether the step can lead on from a state that shows one of these modes.
 fn passes_and_steps(
-    hands: Hands,
+    profile: Profile,
     exchange: &Exchange,
     before: &State,
     modes: &[Mode],
     after: &State,
 ) -> bool
-    ensures { IsTrue result ↔ PassesOne hands exchange.now before.now after.now modes.now }
+    ensures { IsTrue result ↔ PassesOne profile exchange.now before.now after.now modes.now }
 {
     for mode in modes {
-        if shows_and_steps(hands, exchange, before, *mode, after) {
+        if shows_and_steps(profile, exchange, before, *mode, after) {
             return true;
         }
     }
@@ -93,27 +96,39 @@ fn on_the_way<'a>(goal: Mode) -> &'a [Mode]
 /// Whether the step of an exchange can take the deck to a state from any state at all with the panel so.
 ///
 /// Where it can, it can do so from the state itself, or from the one before a shift.
-pub(crate) fn steps_from_some(hands: Hands, exchange: &Exchange, panel: bool, after: &State) -> bool
-    ensures { IsTrue result ↔ StepsFromSome hands exchange.now panel after.now }
+pub(crate) fn steps_from_some(
+    profile: Profile,
+    exchange: &Exchange,
+    panel: bool,
+    after: &State,
+) -> bool
+    ensures { IsTrue result ↔ StepsFromSome profile exchange.now panel after.now }
+{
+    after.is_of(profile.rate) && steps_from_two(profile, exchange, panel, after)
+}
+
+/// Whether the step of an exchange can take the deck to a state of the day from that state itself, with the panel so, or from
+/// the one before a shift.
+fn steps_from_two(profile: Profile, exchange: &Exchange, panel: bool, after: &State) -> bool
+    requires { IsState profile.rate after.now }
+    ensures { IsTrue result ↔ StepsFromSome profile exchange.now panel after.now }
 {
     let same = after.with_panel(panel);
-    let back = before_shift(&Effect::of(&exchange.command), &same);
-    same.is_valid();
-    back.is_valid();
-    let steps_from_same = steps(hands, exchange, &same, after);
-    steps_from_same || steps(hands, exchange, &back, after)
+    let back = before_shift(profile.rate, &Effect::of(&exchange.command), &same);
+    let steps_from_same = steps(profile, exchange, &same, after);
+    steps_from_same || steps(profile, exchange, &back, after)
 }
 
 /// The state from which a shift leads to this one; the state itself where the effect is no shift.
-fn before_shift(effect: &Effect, after: &State) -> State
-    ensures { result ≡ before_shift effect.now after.now }
+fn before_shift(rate: Rate, effect: &Effect, after: &State) -> State
+    ensures { result ≡ before_shift rate effect.now after.now }
 {
     match effect {
         Effect::Change(register, Change::Next) => {
-            after.with_entry(*register, after.entry(*register).prev())
+            after.with_entry(*register, after.entry(*register).prev(rate))
         }
         Effect::Change(register, Change::Prev) => {
-            after.with_entry(*register, after.entry(*register).next())
+            after.with_entry(*register, after.entry(*register).next(rate))
         }
         _ => *after,
     }

@@ -17,7 +17,9 @@ ghost use Rattle.deck9.specs.Status.{may_show};
 ghost use Rattle.deck9.specs.Step.{AreReached, Exchanges, DeckStep};
 
 use crate::mode::Mode;
+use crate::profile::Profile;
 use crate::state::{Hands, State};
+use tc25::Rate;
 
 /// All modes are the ten, each at its place.
 pub fn modes_in_their_order()
@@ -27,19 +29,19 @@ pub fn modes_in_their_order()
 
 /// A deck need not drift, and a drift after a drift is one.
 pub fn drifts_join()
-    ensures none { (h : Hands) (s : State) → Drift h s s }
-    ensures more { (h : Hands) (s t u : State) → Drift h s t → Drift h t u → Drift h s u }
+    ensures none { (p : Profile) (s : State) → Drift p s s }
+    ensures more { (p : Profile) (s t u : State) → Drift p s t → Drift p t u → Drift p s u }
 {}
 
 /// A drift, any finite number of moves, comes to one of four pairs of goal and shown mode, or where hands are
 /// allowed and the panel is on, to any state with the panel on.
 pub fn drift_is_four_pairs()
-    ensures { (h : Hands) (s t : State) → Drift h s t ↔ DriftsTo h s t }
+    ensures { (p : Profile) (s t : State) → Drift p s t ↔ DriftsTo p s t }
 {}
 
 /// A NAK, whatever its reasons and whatever was asked, leaves the state as it is, and nothing else does it leave.
 pub fn a_nak_changes_nothing()
-    ensures { (h : Hands) (command : Command) (reply : Block) (s t : State) → is_nak reply ≡ true → (DeckStep h command reply s t ↔ (t ≡ s)) }
+    ensures { (p : Profile) (command : Command) (reply : Block) (s t : State) → is_nak reply ≡ true → (DeckStep p command reply s t ↔ (t ≡ s)) }
 {}
 
 /// A deck in LOCAL may ignore listed commands alone.
@@ -49,62 +51,62 @@ pub fn local_ignores_listed_commands()
 
 /// Replies that a deck can give that nobody touches, a deck can give too that somebody may touch.
 pub fn hands_explain_no_less()
-    ensures { (es : List Exchange) → HasRun Hands.None es → HasRun Hands.Allowed es }
+    ensures { (rate : Rate) (es : List Exchange) → HasRun (record { rate = rate; hands = Hands.None }) es → HasRun (record { rate = rate; hands = Hands.Allowed }) es }
 {}
 
 /// The states that the runs of no exchange end in are the first states; and those of one exchange more are
 /// exactly the ones that it leads to from the states before.
 pub fn states_after_one_more()
-    ensures none { (h : Hands) (s : State) → Ends h [] s ↔ IsFirst h s }
-    ensures more { (h : Hands) (es : List Exchange) (e : Exchange)
-        → AreReached (Ends h es) (Exchanges h e.command e.reply) (Ends h (es ++ e ∷ [])) }
+    ensures none { (p : Profile) (s : State) → Ends p [] s ↔ IsFirst p s }
+    ensures more { (p : Profile) (es : List Exchange) (e : Exchange)
+        → AreReached (Ends p es) (Exchanges p e.command e.reply) (Ends p (es ++ e ∷ [])) }
 {}
 
 /// There is a state that runs end in exactly where there is a run.
 pub fn no_state_without_a_run()
-    ensures { (h : Hands) (es : List Exchange) → ((s : State) × Ends h es s) ↔ HasRun h es }
+    ensures { (p : Profile) (es : List Exchange) → ((s : State) × Ends p es s) ↔ HasRun p es }
 {}
 
-/// What is left of an explainable capture without its first exchanges is explainable. (The presets among these carry times
-/// of the day, as each `Command` does: a definition takes any number for one.)
+/// What is left of an explainable capture without its first exchanges is explainable.
 pub fn rest_has_a_run()
-    ensures { (h : Hands) (es fs : List Exchange) → All SetsInDay es → HasRun h (es ++ fs) → HasRun h fs }
+    ensures { (p : Profile) (es fs : List Exchange) → HasRun p (es ++ fs) → HasRun p fs }
 {}
 
-/// A deck is never stuck: in each state each command has a right reply that is no NAK, and a step with it.
+/// A deck is never stuck: in each state each command has a right reply that is no NAK, and a step with it. (A preset carries
+/// a time of the day, as each does that is read at the deck's rate: a definition takes any number for one.)
 pub fn never_stuck()
-    ensures { (h : Hands) (command : Command) (s : State) → IsState s
-        → (reply : Block) × IsRightReply command reply × (is_nak reply ≡ false) × (t : State) × DeckStep h command reply s t }
+    ensures { (p : Profile) (command : Command) (s : State) → SetsInDay p.rate command → IsState p.rate s
+        → (reply : Block) × IsRightReply p.rate command reply × (is_nak reply ≡ false) × (t : State) × DeckStep p command reply s t }
 {}
 
 /// Where its reply is not known, a command may do what it may do with some right reply: nothing, or its effect.
 pub fn some_reply_passes()
-    ensures { (h : Hands) (command : Command) (s t : State)
-        → CanPass h command s t ↔ ((reply : Block) × IsRightReply command reply × DeckStep h command reply s t) }
+    ensures { (p : Profile) (command : Command) (s t : State)
+        → CanPass p command s t ↔ ((reply : Block) × IsRightReply p.rate command reply × DeckStep p command reply s t) }
 {}
 
 /// Replies contradict one another exactly where no deck can have given them, whatever it answered to everything else.
 pub fn whatever_else_was_answered()
-    ensures { (h : Hands) (is_believed : ℕ → Bool) (es : List Exchange)
-        → HasBelieving h is_believed es ↔ ((fs : List Exchange) × AreAnswered is_believed es fs × HasRun h fs) }
+    ensures { (p : Profile) (is_believed : ℕ → Bool) (es : List Exchange)
+        → HasBelieving p is_believed es ↔ ((fs : List Exchange) × AreAnswered p.rate is_believed es fs × HasRun p fs) }
 {}
 
 /// A run that believes all replies is a run as ever.
 pub fn believing_all_is_a_run()
-    ensures { (h : Hands) (es : List Exchange) → HasBelieving h (λ k. true) es ↔ HasRun h es }
+    ensures { (p : Profile) (es : List Exchange) → HasBelieving p (λ k. true) es ↔ HasRun p es }
 {}
 
 /// Who believes fewer replies has every run that he had.
 pub fn believing_fewer_is_no_harder()
-    ensures { (h : Hands) (more fewer : ℕ → Bool) (es : List Exchange) → ((k : ℕ) → fewer k ≡ true → more k ≡ true)
-        → HasBelieving h more es → HasBelieving h fewer es }
+    ensures { (p : Profile) (more fewer : ℕ → Bool) (es : List Exchange) → ((k : ℕ) → fewer k ≡ true → more k ≡ true)
+        → HasBelieving p more es → HasBelieving p fewer es }
 {}
 
-/// What comes before the first reply that is believed may be left out. (Its presets carry times of the day.)
+/// What comes before the first reply that is believed may be left out.
 pub fn before_the_first_believed()
-    ensures { (h : Hands) (is_believed : ℕ → Bool) (es fs : List Exchange) → All SetsInDay es
+    ensures { (p : Profile) (is_believed : ℕ → Bool) (es fs : List Exchange)
         → ((k : ℕ) → k < length es → is_believed k ≡ false)
-        → (HasBelieving h is_believed (es ++ fs) ↔ HasBelieving h (λ k. is_believed (length es + k)) fs) }
+        → (HasBelieving p is_believed (es ++ fs) ↔ HasBelieving p (λ k. is_believed (length es + k)) fs) }
 {}
 
 /// A mode that a status shows can be told, but for CUED: for each other mode there are two data that fit it alone. What fits

@@ -6,16 +6,17 @@ use crate::sense::Sense;
 use crate::state::{Entry, State};
 use crate::status::{RegistersSet, Status};
 use block9::{Block, Command};
+use tc25::Rate;
 
 impl State {
     ghost use Rattle.deck9.specs.Shows.{Shows};
 
-    /// Whether a reply to a command agrees with the state.
-    pub fn shows(&self, command: &Command, reply: &Block) -> bool
-        ensures { IsTrue result ↔ Shows self.now command.now reply.now }
+    /// Whether a reply to a command agrees with the state, where times are counted at a rate.
+    pub fn shows(&self, rate: Rate, command: &Command, reply: &Block) -> bool
+        ensures { IsTrue result ↔ Shows rate self.now command.now reply.now }
     {
         match Sense::of(command) {
-            Sense::Register(register) => tells(self.entry(register), reply),
+            Sense::Register(register) => tells(rate, self.entry(register), reply),
             Sense::Status(asked) => shows_status(self, &Status::of(asked, reply)),
             Sense::Nothing => true,
         }
@@ -23,12 +24,12 @@ impl State {
 }
 
 /// Whether a register with this entry may give these data: a Clear one gives any.
-fn tells(entry: &Entry, reply: &Block) -> bool
-    ensures { IsTrue result ↔ Tells entry.now reply.now.bytes.items }
+fn tells(rate: Rate, entry: &Entry, reply: &Block) -> bool
+    ensures { IsTrue result ↔ Tells rate entry.now reply.now.bytes.items }
 {
     match entry {
         Entry::Clear => true,
-        Entry::At(time) => reply.time() == Some(*time),
+        Entry::At(time) => reply.time_at(rate) == Some(*time),
     }
 }
 

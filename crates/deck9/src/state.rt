@@ -1,7 +1,7 @@
 //! The states of a deck.
 
 use crate::mode::Mode;
-use tc25::TimeCode;
+use tc25::{Rate, TimeCode};
 
 /// A register of the deck.
 #[derive(Clone, Copy, Debug, PartialEq, Eq)]
@@ -56,7 +56,7 @@ pub struct State {
 }
 
 impl Entry {
-    ghost use Rattle.std.specs.Prelude.{◌≡◌};
+    ghost use Rattle.std.specs.Prelude.{◌≡◌, ◌↔◌, IsTrue};
     ghost use Rattle.deck9.specs.State.{IsEntry, is_set};
     ghost use Rattle.deck9.specs.Effect.{moved_entry};
     ghost use Rattle.tc25.specs.Day.{next_frame, prev_frame};
@@ -72,31 +72,32 @@ impl Entry {
     }
 
     /// The entry one frame later, round the day; a Clear one stays.
-    pub(crate) fn next(&self) -> Entry
-        ensures { result ≡ moved_entry next_frame self.now }
+    pub(crate) fn next(&self, rate: Rate) -> Entry
+        ensures { result ≡ moved_entry (next_frame rate) self.now }
     {
         match self {
             Entry::Clear => Entry::Clear,
-            Entry::At(time) => Entry::At(time.next()),
+            Entry::At(time) => Entry::At(time.next_at(rate)),
         }
     }
 
     /// The entry one frame earlier, round the day; a Clear one stays.
-    pub(crate) fn prev(&self) -> Entry
-        ensures { result ≡ moved_entry prev_frame self.now }
+    pub(crate) fn prev(&self, rate: Rate) -> Entry
+        ensures { result ≡ moved_entry (prev_frame rate) self.now }
     {
         match self {
             Entry::Clear => Entry::Clear,
-            Entry::At(time) => Entry::At(time.prev()),
+            Entry::At(time) => Entry::At(time.prev_at(rate)),
         }
     }
 
-    /// Does nothing. Its contract says that a register which is Set holds a time of the day.
-    pub(crate) fn is_valid(&self)
-        ensures { IsEntry self.now }
+    /// Whether a register with this entry is Clear, or holds a time of the day at a rate.
+    pub(crate) fn is_of(&self, rate: Rate) -> bool
+        ensures { IsTrue result ↔ IsEntry rate self.now }
     {
-        if let Entry::At(time) = self {
-            let _ = time.frames();
+        match self {
+            Entry::Clear => true,
+            Entry::At(time) => time.frames() < rate.frames_in_day(),
         }
     }
 }
@@ -172,13 +173,12 @@ impl State {
         keeps_modes && keeps_switches
     }
 
-    /// Does nothing. Its contract says that the registers of a state hold times of the day.
-    pub fn is_valid(&self)
-        ensures { IsState self.now }
+    /// Whether the registers hold times of the day at a rate.
+    pub fn is_of(&self, rate: Rate) -> bool
+        ensures { IsTrue result ↔ IsState rate self.now }
     {
-        self.ins.is_valid();
-        self.outs.is_valid();
-        self.ains.is_valid();
-        self.aouts.is_valid();
+        let is_edit_of_day = self.ins.is_of(rate) && self.outs.is_of(rate);
+        let is_sound_of_day = self.ains.is_of(rate) && self.aouts.is_of(rate);
+        is_edit_of_day && is_sound_of_day
     }
 }

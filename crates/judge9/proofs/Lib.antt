@@ -1,5 +1,4 @@
 pub mod CutSteps
-pub mod DayLemmas
 pub mod EndSteps
 pub mod LawLemmas
 pub mod LineSteps

@@ -1,12 +1,12 @@
 -- The lines of one exchange more.
-use Rattle.judge9.proofs.Words.{records_in, [], ap, append-nil, append_assoc, append_known, Appends, Appends-trans, AreLines, arith, Cut, Ends, Exchange, KeepsEnds, Hands, IsExchange}
+use Rattle.judge9.proofs.Words.{Rate, records_in, [], ap, append-nil, append_assoc, append_known, Appends, Appends-trans, AreLines, arith, Cut, Ends, Exchange, KeepsEnds, Profile, IsExchange}
 use Rattle.judge9.proofs.Words.{IsExplained, IsKnowledge, IsKnown, IsKnownEntry, IsLineOf, Knowledge, Known, KnownEntry, length, length-append, length-map, line_of_exchange}
 use Rattle.judge9.proofs.Words.{LineByte, List, None, Option, Possible, records_of, refl, Register, Some, State, subst, sym, Tracked, View, ℕ, ◌++◌, ◌+◌, ◌↔◌, ◌∙◌, ◌∷◌, ◌≡◌}
 
 -- ---- how many records exchanges have
 
-pub exchange_len : (front : List LineByte) (e : Exchange) → IsExchange front e → length front ≡ records_of e
-exchange_len front e h =
+pub exchange_len : (rate : Rate) (front : List LineByte) (e : Exchange) → IsExchange rate front e → length front ≡ records_of e
+exchange_len rate front e h =
     omega (
       arith,
       ap length h.split,
@@ -16,9 +16,9 @@ exchange_len front e h =
           (ap length h.reply.spelled.spelled),
     )
 
-pub cut_len : (p : List LineByte) (es : List Exchange) (t : List LineByte) → Cut p es t → length p ≡ records_in es + length t
-cut_len p [] t h = omega (arith, ap length h.0)
-cut_len p (e ∷ es) t h = omega (arith, ap length h.2, length-append h.0 h.1, exchange_len h.0 e h.3, cut_len h.1 es t h.4)
+pub cut_len : (rate : Rate) (p : List LineByte) (es : List Exchange) (t : List LineByte) → Cut rate p es t → length p ≡ records_in es + length t
+cut_len rate p [] t h = omega (arith, ap length h.0)
+cut_len rate p (e ∷ es) t h = omega (arith, ap length h.2, length-append h.0 h.1, exchange_len rate h.0 e h.3, cut_len rate h.1 es t h.4)
 
 -- ---- the same states, the same knowledge
 
@@ -36,24 +36,24 @@ knowledge_same X Y k same h = search (known_same, entry_same)
 
 -- ---- a line more
 
-lines_more : (h : Hands) (before : List Exchange) (at : ℕ) (es : List Exchange) (e : Exchange) (k : Knowledge) (n : ℕ) (text : List ℕ)
-    → AreLines h before at es text → IsKnowledge (Ends h ((before ++ es) ++ e ∷ [])) k → n ≡ at + records_in (es ++ e ∷ [])
-    → AreLines h before at (es ++ e ∷ []) (text ++ line_of_exchange h n e k)
-lines_more h before at [] e k n text lines knows number =
+lines_more : (profile : Profile) (before : List Exchange) (at : ℕ) (es : List Exchange) (e : Exchange) (k : Knowledge) (n : ℕ) (text : List ℕ)
+    → AreLines profile before at es text → IsKnowledge (Ends profile ((before ++ es) ++ e ∷ [])) k → n ≡ at + records_in (es ++ e ∷ [])
+    → AreLines profile before at (es ++ e ∷ []) (text ++ line_of_exchange profile n e k)
+lines_more profile before at [] e k n text lines knows number =
     let last : n ≡ at + records_of e = omega arith in
-    (k, [], rw append-nil at knows, refl, ap (λ t. t ++ line_of_exchange h n e k) lines ∙ ap (λ m. line_of_exchange h m e k) last ∙ sym (append-nil _))
-lines_more h before at (f ∷ es) e k n text lines knows number =
-    let knows_on = subst (λ (l : List Exchange). IsKnowledge (Ends h (l ++ e ∷ [])) k) (sym (append_assoc before (f ∷ []) es)) knows in
-    let rest = lines_more h (before ++ f ∷ []) (at + records_of f) es e k n lines.1 lines.3 knows_on (omega arith) in
-    let line = line_of_exchange h n e k in
+    (k, [], rw append-nil at knows, refl, ap (λ t. t ++ line_of_exchange profile n e k) lines ∙ ap (λ m. line_of_exchange profile m e k) last ∙ sym (append-nil _))
+lines_more profile before at (f ∷ es) e k n text lines knows number =
+    let knows_on = subst (λ (l : List Exchange). IsKnowledge (Ends profile (l ++ e ∷ [])) k) (sym (append_assoc before (f ∷ []) es)) knows in
+    let rest = lines_more profile (before ++ f ∷ []) (at + records_of f) es e k n lines.1 lines.3 knows_on (omega arith) in
+    let line = line_of_exchange profile n e k in
     (lines.0, lines.1 ++ line, lines.2, rest, ap (λ t. t ++ line) lines.4 ∙ append_assoc _ lines.1 line)
 
-pub explained_more : (which : View) (h : Hands) (past : ℕ) (es : List Exchange) (e : Exchange) (n : ℕ) (text line : List ℕ) (t : Tracked)
-    → KeepsEnds h (es ++ e ∷ []) t → IsExplained which h past es text → IsLineOf which h n e (Possible t.states) line → n ≡ past + records_in (es ++ e ∷ [])
-    → IsExplained which h past (es ++ e ∷ []) (text ++ line)
-explained_more View.Verdict h past es e n text line t follows is more number = ap (λ t. t ++ line) is ∙ more
-explained_more View.Explain h past es e n text line t follows is more number =
-    rw more.2 (lines_more h [] past es e more.0 n text is (knowledge_same (Possible t.states) (Ends h (es ++ e ∷ [])) more.0 follows.states more.1) number)
+pub explained_more : (which : View) (profile : Profile) (past : ℕ) (es : List Exchange) (e : Exchange) (n : ℕ) (text line : List ℕ) (t : Tracked)
+    → KeepsEnds profile (es ++ e ∷ []) t → IsExplained which profile past es text → IsLineOf which profile n e (Possible t.states) line → n ≡ past + records_in (es ++ e ∷ [])
+    → IsExplained which profile past (es ++ e ∷ []) (text ++ line)
+explained_more View.Verdict profile past es e n text line t follows is more number = ap (λ t. t ++ line) is ∙ more
+explained_more View.Explain profile past es e n text line t follows is more number =
+    rw more.2 (lines_more profile [] past es e more.0 n text is (knowledge_same (Possible t.states) (Ends profile (es ++ e ∷ [])) more.0 follows.states more.1) number)
 
 -- ---- what is written after other bytes
 

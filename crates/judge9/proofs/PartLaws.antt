@@ -1,5 +1,5 @@
 -- What the parts of a capture are to the capture that begins with each.
-use Rattle.judge9.proofs.Words.{[], All, All-cons, All-nil, ap, AreCounts, AreParts, AreTotals, arith, begins_next_part, Bool, BrokenPart, drop, false, from_command, Hands, IsFirstBreak, IsPart, length, LineByte}
+use Rattle.judge9.proofs.Words.{[], All, All-cons, All-nil, ap, AreCounts, AreParts, AreTotals, arith, begins_next_part, Bool, BrokenPart, drop, false, from_command, Profile, IsFirstBreak, IsPart, length, LineByte}
 use Rattle.judge9.proofs.Words.{List, may_begin, number_of, Part, Reason, refl, Rest, rest_after, subst, sym, true, ℕ, ◌++◌, ◌+◌, ◌∙◌, ◌∷◌, ◌≡◌}
 use Rattle.std.proofs.lemmas.List.{drop-drop}
 use Rattle.std.proofs.Math.Seq.{drop-append_seam}
@@ -37,24 +37,24 @@ rest_after_rest items n reason breaking after is next = by (begins_next_part rea
     by false none = rw none (from_command_rest items (n + 1) breaking after next)
 
 -- a part is the no of the capture that begins with it
-abbrev pub IsOwnNo : Hands → List LineByte → BrokenPart → Type 0
-IsOwnNo hands items b = IsFirstBreak hands (drop b.part.past items) (length b.part.records + 1) b.reason
+abbrev pub IsOwnNo : Profile → List LineByte → BrokenPart → Type 0
+IsOwnNo profile items b = IsFirstBreak profile (drop b.part.past items) (length b.part.records + 1) b.reason
 
-pub each_is_a_no : (hands : Hands) (items : List LineByte) (rest : Rest) (broken : List BrokenPart) (left : Rest) → IsRestOf items rest
-    → AreParts hands rest broken left → All (IsOwnNo hands items) broken
-each_is_a_no hands items rest [] left is parts = All-nil (IsOwnNo hands items)
-each_is_a_no hands items rest (b ∷ broken) left is (after, same, part, breaks, others) =
+pub each_is_a_no : (profile : Profile) (items : List LineByte) (rest : Rest) (broken : List BrokenPart) (left : Rest) → IsRestOf items rest
+    → AreParts profile rest broken left → All (IsOwnNo profile items) broken
+each_is_a_no profile items rest [] left is parts = All-nil (IsOwnNo profile items)
+each_is_a_no profile items rest (b ∷ broken) left is (after, same, part, breaks, others) =
     let records : b.part.records ++ b.breaking ∷ after ≡ drop b.part.past items = rw same at is in
     let next = behind items b.part.past b.part.records b.breaking after records in
     let on = rest_after_rest items (b.part.past + length b.part.records) b.reason b.breaking after next.0 next.1 in
-    let no : IsOwnNo hands items b =
+    let no : IsOwnNo profile items b =
     record { before = b.part.records; next = b.breaking; after = after; split = sym records; number = refl; breaks = breaks } in
-    All-cons (IsOwnNo hands items) b broken no
-    (each_is_a_no hands items (rest_after (b.part.past + length b.part.records) b.reason b.breaking after) broken left on others)
+    All-cons (IsOwnNo profile items) b broken no
+    (each_is_a_no profile items (rest_after (b.part.past + length b.part.records) b.reason b.breaking after) broken left on others)
 
-pub first_is_a_no : (hands : Hands) (items : List LineByte) (b : BrokenPart) (broken : List BrokenPart) (left : Rest)
-    → AreParts hands (record { past = 0; records = items }) (b ∷ broken) left → IsFirstBreak hands items (number_of b) b.reason
-first_is_a_no hands items b broken left (after, same, part, breaks, others) = record {
+pub first_is_a_no : (profile : Profile) (items : List LineByte) (b : BrokenPart) (broken : List BrokenPart) (left : Rest)
+    → AreParts profile (record { past = 0; records = items }) (b ∷ broken) left → IsFirstBreak profile items (number_of b) b.reason
+first_is_a_no profile items b broken left (after, same, part, breaks, others) = record {
   before = b.part.records;
   next = b.breaking;
   after = after;
@@ -63,12 +63,12 @@ first_is_a_no hands items b broken left (after, same, part, breaks, others) = re
   breaks = breaks;
 }
 
-pub counts_of_a_yes : (hands : Hands) (items : List LineByte) (left : Rest) (last : Part) (totals : Totals)
-    → AreParts hands (record { past = 0; records = items }) [] left → IsPart hands last → last.records ≡ left.records → AreTotals (length items) [] last totals
-    → (totals.breaks ≡ 0) × AreCounts hands items totals.records totals.exchanges totals.tail × (totals.passed_over ≡ 0)
-counts_of_a_yes hands items left last totals parts part all are =
+pub counts_of_a_yes : (profile : Profile) (items : List LineByte) (left : Rest) (last : Part) (totals : Totals)
+    → AreParts profile (record { past = 0; records = items }) [] left → IsPart profile last → last.records ≡ left.records → AreTotals (length items) [] last totals
+    → (totals.breaks ≡ 0) × AreCounts profile items totals.records totals.exchanges totals.tail × (totals.passed_over ≡ 0)
+counts_of_a_yes profile items left last totals parts part all are =
     let same : last.records ≡ items = all ∙ ap (λ (x : Rest). x.records) parts in
-    let size = cut_len last.records last.exchanges last.tail part.cut in (
+    let size = cut_len profile.rate last.records last.exchanges last.tail part.cut in (
       are.breaks,
       record {
         cut_exchanges = last.exchanges;

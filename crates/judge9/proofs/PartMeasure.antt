@@ -1,5 +1,5 @@
 -- Each turn of a judging of all parts leaves less to do: rows that are still to come, or the same record in a part of its own.
-use Rattle.judge9.proofs.Words.{[], ap, arith, Begins, begins_next_part, BeginsWith, Bool, CaptureError, Command, ComesTo, Err, false, first_holds, GivesEnd, GivesRecord, GivesRefusal, Hands, if◌then◌else◌, inl, inr}
+use Rattle.judge9.proofs.Words.{Rate, [], ap, arith, Begins, begins_next_part, BeginsWith, Bool, CaptureError, Command, ComesTo, Err, false, first_holds, GivesEnd, GivesRecord, GivesRefusal, Profile, if◌then◌else◌, inl, inr}
 use Rattle.judge9.proofs.Words.{IsTaken, JudgeError, Judging, last_of, length, length-append, LineByte, List, may_begin, Ok, Paired, Progress, Reason, refl, refusal_of, Result, Resumes, ResumesAfter, Some, subst}
 use Rattle.judge9.proofs.Words.{TakesUp, takes_up_at, true, Turn, Turned, Waits, ℕ, ◌*◌, ◌+◌, ◌-◌, ◌<◌, ◌≡◌, ◌≤◌, ◌⊎◌}
 use Rattle.std.proofs.Common.{◌&&◌}
@@ -31,19 +31,19 @@ first_true true b both = refl
 first_true false b both = both
 
 -- the first record of a part breaks by none of the reasons for which it would be taken up again
-none_answered : (c : Command) (reply : List LineByte) → IsAnswered [] c reply → ⊥
-none_answered c reply h = omega (arith, ap length h.split, length-append h.command reply, h.begun.begun)
+none_answered : (rate : Rate) (c : Command) (reply : List LineByte) → IsAnswered rate [] c reply → ⊥
+none_answered rate c reply h = omega (arith, ap length h.split, length-append h.command reply, h.begun.begun)
 
-none_begun : (records : List LineByte) → IsOpenBlock [] records → ⊥
-none_begun records (inl (same, begun)) = omega (arith, ap length same, begun.begun)
-none_begun records (inr (c, answered)) = none_answered c records answered
+none_begun : (rate : Rate) (records : List LineByte) → IsOpenBlock rate [] records → ⊥
+none_begun rate records (inl (same, begun)) = omega (arith, ap length same, begun.begun)
+none_begun rate records (inr (c, answered)) = none_answered rate c records answered
 
-none_open : (reason : Reason) (r : LineByte) → Holds reason [] r → takes_up_at reason ≡ false
-none_open Reason.CommandBeforeReply r h = absurd (cc h.0.2.whole.spelled.spelled)
-none_open Reason.NoReply r h = absurd (cc h.0.2.whole.spelled.spelled)
-none_open Reason.CommandInsideReply r h = absurd (none_answered h.0.0 h.0.1 h.0.2)
-none_open Reason.ByteGap r h = absurd (none_begun h.0.0 h.0.1)
-none_open reason r h = refl
+none_open : (rate : Rate) (reason : Reason) (r : LineByte) → Holds rate reason [] r → takes_up_at reason ≡ false
+none_open rate Reason.CommandBeforeReply r h = absurd (cc h.0.2.whole.spelled.spelled)
+none_open rate Reason.NoReply r h = absurd (cc h.0.2.whole.spelled.spelled)
+none_open rate Reason.CommandInsideReply r h = absurd (none_answered rate h.0.0 h.0.1 h.0.2)
+none_open rate Reason.ByteGap r h = absurd (none_begun rate h.0.0 h.0.1)
+none_open rate reason r h = refl
 
 -- ---- a turn after rows
 
@@ -76,9 +76,9 @@ less-come j k turn c =
 -- ---- a turn after a break
 
 -- with the first record of the next part
-less-first : {R : Type 0} (hands : Hands) (before : Progress R) (first : LineByte) (turn : Turn) (k : Judging R) → Resumes hands before first (Ok turn) k
+less-first : {R : Type 0} (profile : Profile) (before : Progress R) (first : LineByte) (turn : Turn) (k : Judging R) → Resumes profile before first (Ok turn) k
     → left_to_do turn k + 2 ≤ 3 * (4000000 - before.given)
-less-first hands before first turn k h = by h.with_first
+less-first profile before first turn k h = by h.with_first
   where
     given : h.new.rows.given ≡ before.given
     given = ap (λ p. p.given) h.rows
@@ -88,8 +88,8 @@ less-first hands before first turn k h = by h.with_first
     at_once (Turn.Exchange e) t = omega (arith, given, less-taken h.new k first (Turn.Exchange e) t)
     at_once (Turn.NoRun e r) t = omega (arith, given, less-taken h.new k first (Turn.NoRun e r) t)
     at_once (Turn.Break reason r) t =
-        let is : IsReason [] first reason = subst (λ (p : Paired). IsReason p.tail first reason) h.begins.fed_nothing t.1.refuses.is_reason in
-        let none = none_open reason first (first_holds (λ x. Holds x [] first) order reason is) in
+        let is : IsReason profile.rate [] first reason = subst (λ (p : Paired). IsReason p.rate p.tail first reason) h.begins.fed_nothing t.1.refuses.is_reason in
+        let none = none_open profile.rate reason first (first_holds (λ x. Holds profile.rate x [] first) order reason is) in
         rw none (omega (arith, given, less-taken h.new k first (Turn.Break reason r) t))
 
     by : BeginsWith h.new first (Ok turn) k → left_to_do turn k + 2 ≤ 3 * (4000000 - before.given)
@@ -98,29 +98,29 @@ less-first hands before first turn k h = by h.with_first
     by (inr (inr (mid, waits, come))) = omega (arith, given, waits.feeds.gives.given, waits.feeds.gives.within, less-come mid k turn come)
 
 -- after records were passed over
-less-passed : {R : Type 0} (hands : Hands) (last : LineByte) (old : Progress R) (turn : Turn) (k : Judging R) → ResumesAfter hands last old (Ok turn) k
+less-passed : {R : Type 0} (profile : Profile) (last : LineByte) (old : Progress R) (turn : Turn) (k : Judging R) → ResumesAfter profile last old (Ok turn) k
     → left_to_do turn k ≤ 3 * (4000000 - old.given)
-less-passed hands last old turn k h = by h.goes_on
+less-passed profile last old turn k h = by h.goes_on
   where
     more : old.given ≤ h.mid.given
     more = none_fewer old h.mid h.passed h.gives
 
-    by : ((first : LineByte) × (may_begin (last_of last h.passed) first ≡ true) × Resumes hands h.mid first (Ok turn) k)
-        ⊎ ((let r : Result Turn JudgeError = Ok turn in r) ≡ Ok Turn.End) × GivesEnd h.mid k.rows × Begins hands k
+    by : ((first : LineByte) × (may_begin (last_of last h.passed) first ≡ true) × Resumes profile h.mid first (Ok turn) k)
+        ⊎ ((let r : Result Turn JudgeError = Ok turn in r) ≡ Ok Turn.End) × GivesEnd h.mid k.rows × Begins profile k
         ⊎ ((e : CaptureError) × GivesRefusal h.mid e k.rows × ((let r : Result Turn JudgeError = Ok turn in r) ≡ Err (refusal_of e)))
         → left_to_do turn k ≤ 3 * (4000000 - old.given)
-    by (inl (first, may, new)) = omega (arith, more, less-first hands h.mid first turn k new)
+    by (inl (first, may, new)) = omega (arith, more, less-first profile h.mid first turn k new)
     by (inr (inl (is, ends, begins))) = let same : turn ≡ Turn.End = cc in rw same (omega (arith, more, ends.given))
     by (inr (inr (e, refusal, is))) = absurd (cc is)
 
-pub less-up : {R : Type 0} (hands : Hands) (before : Progress R) (reason : Reason) (last : LineByte) (j : Judging R) (turn : Turn) (k : Judging R)
-    → GivesRecord before last j.rows → TakesUp hands reason last j (Ok turn) k
+pub less-up : {R : Type 0} (profile : Profile) (before : Progress R) (reason : Reason) (last : LineByte) (j : Judging R) (turn : Turn) (k : Judging R)
+    → GivesRecord before last j.rows → TakesUp profile reason last j (Ok turn) k
     → left_to_do turn k < 3 * (4000000 - j.rows.given) + (if takes_up_at reason then 2 else 1)
-less-up hands before reason last j turn k gives (inl (is, rest)) = absurd (cc is)
-less-up hands before reason last j turn k gives (inr taken) = by (begins_next_part reason last) refl taken
+less-up profile before reason last j turn k gives (inl (is, rest)) = absurd (cc is)
+less-up profile before reason last j turn k gives (inr taken) = by (begins_next_part reason last) refl taken
   where
-    by : (b : Bool) → begins_next_part reason last ≡ b → MatchBool b ((p : Progress _) → GivesRecord p last j.rows → Resumes hands p last (Ok turn) k)
-        (ResumesAfter hands last j.rows (Ok turn) k) → left_to_do turn k < 3 * (4000000 - j.rows.given) + (if takes_up_at reason then 2 else 1)
+    by : (b : Bool) → begins_next_part reason last ≡ b → MatchBool b ((p : Progress _) → GivesRecord p last j.rows → Resumes profile p last (Ok turn) k)
+        (ResumesAfter profile last j.rows (Ok turn) k) → left_to_do turn k < 3 * (4000000 - j.rows.given) + (if takes_up_at reason then 2 else 1)
     by true is up =
-        rw (first_true (takes_up_at reason) _ is) (omega (arith, gives.given, gives.within, less-first hands before last turn k (up before gives)))
-    by false is up = omega (arith, at_least_one (takes_up_at reason), less-passed hands last j.rows turn k up)
+        rw (first_true (takes_up_at reason) _ is) (omega (arith, gives.given, gives.within, less-first profile before last turn k (up before gives)))
+    by false is up = omega (arith, at_least_one (takes_up_at reason), less-passed profile last j.rows turn k up)

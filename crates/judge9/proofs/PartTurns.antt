@@ -1,5 +1,5 @@
 -- Where the judging of all parts stands at each turn, and what takes it to the next.
-use Rattle.judge9.proofs.Words.{[], ap, append-nil, Appends, Appends-trans, AreTextsOf, Begins, BeginsWith, BrokenPart, ComesTo, Err, Exchange, exchanges_of, Hands, inl, inr, IsTaken, JudgeError}
+use Rattle.judge9.proofs.Words.{[], ap, append-nil, Appends, Appends-trans, AreTextsOf, Begins, BeginsWith, BrokenPart, ComesTo, Err, Exchange, exchanges_of, Profile, inl, inr, IsTaken, JudgeError}
 use Rattle.judge9.proofs.Words.{JudgesParts, Judging, length, LineByte, List, None, Ok, Option, records_in, refl, Result, Rows, Some, subst, sym, Turn, Turned, View, ℕ, ◌++◌, ◌∙◌, ◌∷◌, ◌≡◌, ◌≤◌}
 use Rattle.judge9.proofs.PartLemmas.{Onward, onward-more, OnwardAll, parts-memory, parts-refusal}
 use Rattle.judge9.proofs.PartSteps.{AreRead}
@@ -7,12 +7,12 @@ use Rattle.judge9.proofs.SoFar.{seen_now, seen_on, so_far-begin, so_far-open, so
 use Rattle.judge9.proofs.TurnSteps.{comes_with, ended-more, IsEnded}
 
 -- what is ahead of the records that were judged, where this turn came
-abbrev pub Ahead : {R : Type 0} (front j : Judging R) → Hands → List BrokenPart → List LineByte → List LineByte → (turn : Turn) → Turned front (Ok turn) j
+abbrev pub Ahead : {R : Type 0} (front j : Judging R) → Profile → List BrokenPart → List LineByte → List LineByte → (turn : Turn) → Turned front (Ok turn) j
     → Type 0
-Ahead front j hands broken past items Turn.End t = Onward hands broken past items
-Ahead front j hands broken past items (Turn.Exchange e) t = (more : List LineByte) → Onward hands broken past (items ++ t.0 ∷ more)
-Ahead front j hands broken past items (Turn.NoRun e r) t = (more : List LineByte) → Onward hands broken past (items ++ t.0 ∷ more)
-Ahead front j hands broken past items (Turn.Break reason r) t = (more : List LineByte) → Onward hands broken past (items ++ t.0 ∷ more)
+Ahead front j profile broken past items Turn.End t = Onward profile broken past items
+Ahead front j profile broken past items (Turn.Exchange e) t = (more : List LineByte) → Onward profile broken past (items ++ t.0 ∷ more)
+Ahead front j profile broken past items (Turn.NoRun e r) t = (more : List LineByte) → Onward profile broken past (items ++ t.0 ∷ more)
+Ahead front j profile broken past items (Turn.Break reason r) t = (more : List LineByte) → Onward profile broken past (items ++ t.0 ∷ more)
 
 -- the parts before this one, which break, and what was written of them
 pub record Before (T : BrokenPart → List ℕ → Type 0) (broken : List BrokenPart) (past : List LineByte) (old now : Option (List ℕ)) : Type 0 where
@@ -23,40 +23,40 @@ pub record Before (T : BrokenPart → List ℕ → Type 0) (broken : List Broken
   pub fits : records_in (exchanges_of broken) ≤ length past
 
 -- a turn came in a part that has these exchanges
-pub record AtTurn {R : Type 0} (T : BrokenPart → List ℕ → Type 0) (view : View) (hands : Hands) (rows : Option Rows) (turn : Turn) (j : Judging R)
+pub record AtTurn {R : Type 0} (T : BrokenPart → List ℕ → Type 0) (view : View) (profile : Profile) (rows : Option Rows) (turn : Turn) (j : Judging R)
     (old now : Option (List ℕ))
     (broken : List BrokenPart) (es : List Exchange) (end_us : Option ℕ) : Type 0 where
   pub past : List LineByte
   pub begun : Option (List ℕ)
   pub before : Before T broken past old begun
   pub front : Judging R
-  pub so_far : SoFar view hands rows past front begun now es
+  pub so_far : SoFar view profile rows past front begun now es
   pub turned : Turned front (Ok turn) j
-  pub ahead : Ahead front j hands broken past so_far.items turn turned
+  pub ahead : Ahead front j profile broken past so_far.items turn turned
   pub ended : IsEnded es end_us front so_far.items
 
 -- or the judging stopped
-abbrev pub Arrives : {R : Type 0} → (BrokenPart → List ℕ → Type 0) → View → Hands → Option Rows → Option (List ℕ) → Option (List ℕ) → List BrokenPart
+abbrev pub Arrives : {R : Type 0} → (BrokenPart → List ℕ → Type 0) → View → Profile → Option Rows → Option (List ℕ) → Option (List ℕ) → List BrokenPart
     → List Exchange → Option ℕ → Result Turn JudgeError → Judging R → Type 0
-Arrives T view hands rows old now broken es end_us (Ok turn) j = AtTurn T view hands rows turn j old now broken es end_us
-Arrives T view hands rows old now broken es end_us (Err x) j = JudgesParts T view hands rows (Err x) old now
+Arrives T view profile rows old now broken es end_us (Ok turn) j = AtTurn T view profile rows turn j old now broken es end_us
+Arrives T view profile rows old now broken es end_us (Err x) j = JudgesParts T view profile rows (Err x) old now
 
 -- what is ahead is so whatever it is
-all_ahead : {R : Type 0} (front j : Judging R) (hands : Hands) (broken : List BrokenPart) (past items : List LineByte) (turn : Turn)
-    (t : Turned front (Ok turn) j) → OnwardAll hands broken past items → Ahead front j hands broken past items turn t
-all_ahead front j hands broken past items Turn.End t all = subst (Onward hands broken past) (append-nil items) (all [])
-all_ahead front j hands broken past items (Turn.Exchange e) t all = λ more. all (t.0 ∷ more)
-all_ahead front j hands broken past items (Turn.NoRun e r) t all = λ more. all (t.0 ∷ more)
-all_ahead front j hands broken past items (Turn.Break reason r) t all = λ more. all (t.0 ∷ more)
+all_ahead : {R : Type 0} (front j : Judging R) (profile : Profile) (broken : List BrokenPart) (past items : List LineByte) (turn : Turn)
+    (t : Turned front (Ok turn) j) → OnwardAll profile broken past items → Ahead front j profile broken past items turn t
+all_ahead front j profile broken past items Turn.End t all = subst (Onward profile broken past) (append-nil items) (all [])
+all_ahead front j profile broken past items (Turn.Exchange e) t all = λ more. all (t.0 ∷ more)
+all_ahead front j profile broken past items (Turn.NoRun e r) t all = λ more. all (t.0 ∷ more)
+all_ahead front j profile broken past items (Turn.Break reason r) t all = λ more. all (t.0 ∷ more)
 
 -- with the first record of a part
-first_ahead : {R : Type 0} (j k : Judging R) (hands : Hands) (broken : List BrokenPart) (past : List LineByte) (first : LineByte) (turn : Turn)
-    → IsTaken j first (Ok (Some turn)) k → ((more : List LineByte) → Onward hands broken past (first ∷ more))
-    → (t : Turned j (Ok turn) k) × Ahead j k hands broken past [] turn t
-first_ahead j k hands broken past first Turn.End taken on = absurd taken
-first_ahead j k hands broken past first (Turn.Exchange e) taken on = ((first, taken), on)
-first_ahead j k hands broken past first (Turn.NoRun e r) taken on = ((first, taken), on)
-first_ahead j k hands broken past first (Turn.Break reason r) taken on = ((first, taken), on)
+first_ahead : {R : Type 0} (j k : Judging R) (profile : Profile) (broken : List BrokenPart) (past : List LineByte) (first : LineByte) (turn : Turn)
+    → IsTaken j first (Ok (Some turn)) k → ((more : List LineByte) → Onward profile broken past (first ∷ more))
+    → (t : Turned j (Ok turn) k) × Ahead j k profile broken past [] turn t
+first_ahead j k profile broken past first Turn.End taken on = absurd taken
+first_ahead j k profile broken past first (Turn.Exchange e) taken on = ((first, taken), on)
+first_ahead j k profile broken past first (Turn.NoRun e r) taken on = ((first, taken), on)
+first_ahead j k profile broken past first (Turn.Break reason r) taken on = ((first, taken), on)
 
 -- what was written, with that of this part
 pub wrote_all : {T : BrokenPart → List ℕ → Type 0} {broken : List BrokenPart} {past : List LineByte} {old begun : Option (List ℕ)}
@@ -64,22 +64,22 @@ pub wrote_all : {T : BrokenPart → List ℕ → Type 0} {broken : List BrokenPa
     → Appends old new (before.texts ++ text)
 wrote_all {old = old} {begun = begun} before new text wrote = Appends-trans old begun new before.texts text before.wrote wrote
 
-module _ {R : Type 0} {T : BrokenPart → List ℕ → Type 0} {view : View} {hands : Hands} {rows : Option Rows} {old begun now : Option (List ℕ)}
+module _ {R : Type 0} {T : BrokenPart → List ℕ → Type 0} {view : View} {profile : Profile} {rows : Option Rows} {old begun now : Option (List ℕ)}
     {broken : List BrokenPart} {past : List LineByte}
     (before : Before T broken past old begun) where
   -- the next turn comes
-  pub arrive : {j k : Judging R} {es : List Exchange} {r : Result Turn JudgeError} (end_us : Option ℕ) (h : SoFar view hands rows past j begun now es)
-      → OnwardAll hands broken past h.items → IsEnded es end_us j h.items → ComesTo j r k → Arrives T view hands rows old now broken es end_us r k
+  pub arrive : {j k : Judging R} {es : List Exchange} {r : Result Turn JudgeError} (end_us : Option ℕ) (h : SoFar view profile rows past j begun now es)
+      → OnwardAll profile broken past h.items → IsEnded es end_us j h.items → ComesTo j r k → Arrives T view profile rows old now broken es end_us r k
   arrive {k = k} {es = es} {r = r} end_us h all ended come =
       comes_with Kept (λ i k items r kept waits.
-      (onward-more hands broken past items r (λ more. kept.0 (r ∷ more)), ended-more es end_us i k items r kept.1 waits)) h
+      (onward-more profile broken past items r (λ more. kept.0 (r ∷ more)), ended-more es end_us i k items r kept.1 waits)) h
       (all, ended) come (by r)
     where
       Kept : Judging R → List LineByte → Type 0
-      Kept i items = OnwardAll hands broken past items × IsEnded es end_us i items
+      Kept i items = OnwardAll profile broken past items × IsEnded es end_us i items
 
-      by : (r : Result Turn JudgeError) (front : Judging R) (f : SoFar view hands rows past front begun now es) → Kept front f.items
-          → Turned front r k → Arrives T view hands rows old now broken es end_us r k
+      by : (r : Result Turn JudgeError) (front : Judging R) (f : SoFar view profile rows past front begun now es) → Kept front f.items
+          → Turned front r k → Arrives T view profile rows old now broken es end_us r k
       by (Ok turn) front f (all, ended) t = record {
         past = past;
         begun = begun;
@@ -87,7 +87,7 @@ module _ {R : Type 0} {T : BrokenPart → List ℕ → Type 0} {view : View} {ha
         front = front;
         so_far = f;
         turned = t;
-        ahead = all_ahead front k hands broken past f.items turn t all;
+        ahead = all_ahead front k profile broken past f.items turn t all;
         ended = ended;
       }
       by (Err x) front f (all, ended) (inl memory) =
@@ -95,26 +95,26 @@ module _ {R : Type 0} {T : BrokenPart → List ℕ → Type 0} {view : View} {ha
           (wrote_all before now f.text f.wrote))
       by (Err x) front f (all, ended) (inr refused) =
           parts-refusal broken before.texts before.are_texts f.keeps (record { is_reading = f.is_reading; read = f.read; are_given = f.are_given })
-          (subst (Onward hands broken past) (append-nil f.items) (all [])) refused.1 refused.2 (wrote_all before now f.text f.wrote)
+          (subst (Onward profile broken past) (append-nil f.items) (all [])) refused.1 refused.2 (wrote_all before now f.text f.wrote)
 
 -- the first record of a part comes
-pub arrive_first : {R : Type 0} (view : View) {T : BrokenPart → List ℕ → Type 0} {hands : Hands} {rows : Option Rows} {old now : Option (List ℕ)}
+pub arrive_first : {R : Type 0} (view : View) {T : BrokenPart → List ℕ → Type 0} {profile : Profile} {rows : Option Rows} {old now : Option (List ℕ)}
     {broken : List BrokenPart}
-    {past : List LineByte} {j k : Judging R} {first : LineByte} {r : Result Turn JudgeError} → Before T broken past old now → Begins hands j
-    → AreRead rows past j.rows → ((more : List LineByte) → Onward hands broken past (first ∷ more)) → BeginsWith j first r k
-    → Arrives T view hands rows old now broken [] None r k
-arrive_first view {T = T} {hands = hands} {rows = rows} {old = old} {now = now} {broken = broken} {past = past} {j = j} {k = k} {first = first} {r = r}
+    {past : List LineByte} {j k : Judging R} {first : LineByte} {r : Result Turn JudgeError} → Before T broken past old now → Begins profile j
+    → AreRead rows past j.rows → ((more : List LineByte) → Onward profile broken past (first ∷ more)) → BeginsWith j first r k
+    → Arrives T view profile rows old now broken [] None r k
+arrive_first view {T = T} {profile = profile} {rows = rows} {old = old} {now = now} {broken = broken} {past = past} {j = j} {k = k} {first = first} {r = r}
     before begins read on with_first = by (so_far-begin begins read.is_reading read.read read.are_given) refl with_first
   where
-    by : (h : SoFar view hands rows past j now now []) → h.items ≡ [] → BeginsWith j first r k → Arrives T view hands rows old now broken [] None r k
+    by : (h : SoFar view profile rows past j now now []) → h.items ≡ [] → BeginsWith j first r k → Arrives T view profile rows old now broken [] None r k
     by h nil (inl (x, is, (memory, gives))) =
         rw (is, memory) (parts-memory broken before.texts before.are_texts h.keeps {left = k.rows.rows} (first ∷ []) (rw nil (on [])) (seen_on h gives)
         (wrote_all before now h.text h.wrote))
     by h nil (inr (inl (turn, is, taken))) =
-        let at = first_ahead j k hands broken past first turn taken on in
+        let at = first_ahead j k profile broken past first turn taken on in
         rw is (record { past = past; begun = now; before = before; front = j; so_far = h; turned = at.0; ahead = rw nil at.1; ended = λ none. refl })
     by h nil (inr (inr (mid, waits, come))) =
-        let all = subst (OnwardAll hands broken past) (sym (so_far-open_items h waits ∙ ap (λ l. l ++ first ∷ []) nil))
-        (onward-more hands broken past [] first on)
+        let all = subst (OnwardAll profile broken past) (sym (so_far-open_items h waits ∙ ap (λ l. l ++ first ∷ []) nil))
+        (onward-more profile broken past [] first on)
         in
         arrive before None (so_far-open h waits) all (λ none. refl) come

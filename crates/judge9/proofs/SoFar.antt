@@ -1,7 +1,7 @@
 -- Where the judging of a text stands: the invariant of its loop, the rows that it speaks of, and what a row more does.
-use Rattle.judge9.proofs.Words.{length-append, records_in, Begins, IsEnd, last_time, last_time-append}
+use Rattle.judge9.proofs.Words.{IsKept, IsReason, IsStep, Rate, Reason, Spoils, length-append, records_in, Begins, IsEnd, last_time, last_time-append}
 use Rattle.judge9.proofs.Words.{[], ap, append-nil, append_assoc, Appends, Appends-nil, Appends-trans, AreGiven, arith, Bool, CanBeRows, CaptureError, Cut, Exchange, Feeds}
-use Rattle.judge9.proofs.Words.{KeepsEnds, ForSome, given-more, given-none, GivesRecord, Hands, HasRun, IfNone, IfSome, IsExplained, IsFresh, IsLineOf, IsOfSomeText, IsOk, IsOpen}
+use Rattle.judge9.proofs.Words.{KeepsEnds, ForSome, given-more, given-none, GivesRecord, Profile, HasRun, IfNone, IfSome, IsExplained, IsFresh, IsLineOf, IsOfSomeText, IsOk, IsOpen}
 use Rattle.judge9.proofs.Words.{IsStartOf, IsTail, Judging, length, length_push, LineByte, List, None, Observes, Option, Paired, Possible, Progress, refl, Rows, run_start, Some}
 use Rattle.judge9.proofs.Words.{some-text, some_end, Standing, Step, subst, sym, Takes, TakesRecord, Tracked, true, View, Waits, ℕ, ⊤, ◌++◌, ◌+◌, ◌∙◌, ◌∷◌, ◌≡◌, ◌≤◌}
 use Rattle.judge9.proofs.RunSteps.{follows-more, follows-start}
@@ -14,37 +14,38 @@ WereRead None items left = ⊤
 WereRead (Some rows) items left = (rest : Rows) × (left ≡ Some rest) × (rows ≡ record { records = items ++ rest.records; fault = rest.fault })
 
 -- these records keep the rules and are cut into the exchanges and the tail, and the text is what the view shows of them
-pub record Keeps (view : View) (hands : Hands) (past : List LineByte) (es : List Exchange) (tail : List LineByte) : Type 0 where
+pub record Keeps (view : View) (profile : Profile) (past : List LineByte) (es : List Exchange) (tail : List LineByte) : Type 0 where
   pub items : List LineByte
-  pub cut : Cut items es tail
-  pub run : HasRun hands es
+  pub cut : Cut profile.rate items es tail
+  pub run : HasRun profile es
   pub text : List ℕ
-  pub explained : IsExplained view hands (length past) es text
+  pub explained : IsExplained view profile (length past) es text
 
 -- before the first record
-pub explained-start : (which : View) (hands : Hands) (n : ℕ) → IsExplained which hands n [] []
-explained-start which hands n = grind arith
+pub explained-start : (which : View) (profile : Profile) (n : ℕ) → IsExplained which profile n [] []
+explained-start which profile n = grind arith
 
-abbrev pub keeps-none : {tail : List LineByte} (which : View) (hands : Hands) (past : List LineByte) → tail ≡ [] → Keeps which hands past [] tail
-keeps-none which hands past e = record {
+abbrev pub keeps-none : {tail : List LineByte} (which : View) (profile : Profile) (past : List LineByte) → tail ≡ [] → Keeps which profile past [] tail
+keeps-none which profile past e = record {
   items = [];
   cut = (sym e, IsTail.nothing e);
-  run = run_start hands;
+  run = run_start profile;
   text = [];
-  explained = explained-start which hands (length past);
+  explained = explained-start which profile (length past);
 }
 
 -- the records so far of a part, before which the capture has those of `past`, keep the rules and have these exchanges; the pairer
 -- has their tail, the tracker keeps the states that the runs of their exchanges end in, and what the view shows of these was written
-pub record SoFar {R : Type 0} (view : View) (hands : Hands) (rows : Option Rows) (past : List LineByte) (j : Judging R) (old now : Option (List ℕ))
+pub record SoFar {R : Type 0} (view : View) (profile : Profile) (rows : Option Rows) (past : List LineByte) (j : Judging R) (old now : Option (List ℕ))
     (es : List Exchange) : Type 0 where
-  pub keeps : Keeps view hands past es j.pairer.tail
+  pub keeps : Keeps view profile past es j.pairer.tail
   pub open keeps use {items, cut, run, text, explained}
-  pub follows : KeepsEnds hands es j.tracker
+  pub follows : KeepsEnds profile es j.tracker
   pub wrote : Appends old now text
   pub few : length es ≤ j.rows.given
   pub is_reading : j.rows.standing ≡ Standing.Reading
   pub no_reason : j.pairer.reason ≡ None
+  pub same_rate : j.pairer.rate ≡ profile.rate
   pub in_order : ForSome j.pairer.last_time (λ time. time ≤ j.rows.last_time)
   pub read : WereRead rows (past ++ items) j.rows.rows
   pub are_given : AreGiven (past ++ items) j.rows
@@ -102,23 +103,24 @@ later {r = r} given takes x e =
     let t : x ≡ r.time_us = cc in omega arith
 
 -- before the first row of a part
-abbrev pub so_far-begin : {R : Type 0} {which : View} {hands : Hands} {rows : Option Rows} {past : List LineByte} {j : Judging R} {now : Option (List ℕ)}
-    → Begins hands j → j.rows.standing ≡ Standing.Reading → WereRead rows past j.rows.rows → AreGiven past j.rows → SoFar which hands rows past j now now []
-so_far-begin {which = which} {hands = hands} {past = past} {j = j} {now = now} begins is_reading read are_given = record {
-  keeps = keeps-none which hands past (ap (λ (p : Paired). p.tail) begins.fed_nothing);
-  follows = follows-start hands j.tracker begins.states begins.hands;
+abbrev pub so_far-begin : {R : Type 0} {which : View} {profile : Profile} {rows : Option Rows} {past : List LineByte} {j : Judging R} {now : Option (List ℕ)}
+    → Begins profile j → j.rows.standing ≡ Standing.Reading → WereRead rows past j.rows.rows → AreGiven past j.rows → SoFar which profile rows past j now now []
+so_far-begin {which = which} {profile = profile} {past = past} {j = j} {now = now} begins is_reading read are_given = record {
+  keeps = keeps-none which profile past (ap (λ (p : Paired). p.tail) begins.fed_nothing);
+  follows = follows-start profile j.tracker begins.states begins.profile;
   wrote = Appends-nil now;
   few = omega arith;
   is_reading = is_reading;
   no_reason = rw begins.fed_nothing;
+  same_rate = rw begins.fed_nothing;
   in_order = rw begins.fed_nothing (λ x e. cc);
   read = rw append-nil read;
   are_given = rw append-nil are_given;
 }
 
 -- before the first row
-abbrev pub so_far-start : {R : Type 0} {which : View} {hands : Hands} {j : Judging R} {now : Option (List ℕ)} → IsFresh hands j
-    → SoFar which hands j.rows.rows [] j now now []
+abbrev pub so_far-start : {R : Type 0} {which : View} {profile : Profile} {j : Judging R} {now : Option (List ℕ)} → IsFresh profile j
+    → SoFar which profile j.rows.rows [] j now now []
 so_far-start {j = j} fresh = so_far-begin fresh.begins fresh.is_reading (unread j.rows.rows) (given-none j.rows fresh.none_given fresh.no_time)
 
 -- the time at which exchanges end, one of them last
@@ -127,13 +129,13 @@ ends-more : (records : List LineByte) (es : List Exchange) (e : Exchange) (end_u
 ends-more records [] e end_us is = is
 ends-more records (x ∷ es) e end_us is = is
 
-module _ {R : Type 0} {which : View} {hands : Hands} {rows : Option Rows} {past : List LineByte} {j : Judging R} {old now : Option (List ℕ)}
-    {es : List Exchange} (h : SoFar which hands rows past j old now es) where
+module _ {R : Type 0} {which : View} {profile : Profile} {rows : Option Rows} {past : List LineByte} {j : Judging R} {old now : Option (List ℕ)}
+    {es : List Exchange} (h : SoFar which profile rows past j old now es) where
   -- the rows that it speaks of, where it ends here with no fault
   pub seen_now : Seen rows j.rows.rows (past ++ h.items) None
   seen_now = seen rows j.rows.rows (past ++ h.items) None h.read h.are_given.can_be
 
-  pub so_far-ok : IsOk hands h.items
+  pub so_far-ok : IsOk profile h.items
   so_far-ok = record { exchanges = es; tail = j.pairer.tail; cut = h.cut; run = h.run }
 
   -- a record more was read
@@ -149,15 +151,26 @@ module _ {R : Type 0} {which : View} {hands : Hands} {rows : Option Rows} {past 
   pub seen_on : {after : Progress R} {r : LineByte} → GivesRecord j.rows r after → Seen rows after.rows (past ++ (h.items ++ r ∷ [])) None
   seen_on {after = after} {r = r} gives = seen rows after.rows (past ++ (h.items ++ r ∷ [])) None (read_on gives) (given_on gives).can_be
 
+  -- what a record more does, at the rate of the deck
+  pub step_on : {k : Judging R} {r : LineByte} {s : Step} → Feeds j k r s → IsStep profile.rate j.pairer.tail r s
+  step_on {r = r} {s = s} feeds = subst (λ (rate : Rate). IsStep rate j.pairer.tail r s) h.same_rate feeds.takes.does
+
+  -- and which rule it breaks
+  pub reason_of : {k : Judging R} {r : LineByte} {x : Reason} → Spoils j k x r → IsReason profile.rate j.pairer.tail r x
+  reason_of {r = r} {x = x} spoils = subst (λ (rate : Rate). IsReason rate j.pairer.tail r x) h.same_rate spoils.refuses.is_reason
+
+  pub not_kept : {k : Judging R} {r : LineByte} {x : Reason} → Spoils j k x r → ¬ IsKept profile.rate (j.pairer.tail ++ r ∷ [])
+  not_kept {r = r} spoils = subst (λ (rate : Rate). ¬ IsKept rate (j.pairer.tail ++ r ∷ [])) h.same_rate spoils.refuses.not_kept
+
   -- after a row, after which the exchanges have a run and this line was written
   unfoldable pub so_far-more : {k : Judging R} {new : Option (List ℕ)} {r : LineByte} {s : Step} (line : List ℕ) → Feeds j k r s
-      → HasRun hands (exchanges_after es s) → KeepsEnds hands (exchanges_after es s) k.tracker
-      → IsExplained which hands (length past) (exchanges_after es s) (h.text ++ line) → Appends now new line
-      → length (exchanges_after es s) ≤ length es + 1 → SoFar which hands rows past k old new (exchanges_after es s)
+      → HasRun profile (exchanges_after es s) → KeepsEnds profile (exchanges_after es s) k.tracker
+      → IsExplained which profile (length past) (exchanges_after es s) (h.text ++ line) → Appends now new line
+      → length (exchanges_after es s) ≤ length es + 1 → SoFar which profile rows past k old new (exchanges_after es s)
   so_far-more {k = k} {new = new} {r = r} {s = s} line feeds run follows explained wrote few = record {
     keeps = record {
       items = h.items ++ r ∷ [];
-      cut = rw feeds.takes.tail (cut-step h.items es j.pairer.tail r s h.cut feeds.takes.does);
+      cut = rw feeds.takes.tail (cut-step profile.rate h.items es j.pairer.tail r s h.cut (step_on feeds));
       run = run;
       text = h.text ++ line;
       explained = explained;
@@ -167,20 +180,21 @@ module _ {R : Type 0} {which : View} {hands : Hands} {rows : Option Rows} {past 
     few = omega arith;
     is_reading = feeds.gives.is_reading;
     no_reason = feeds.takes.reason;
+    same_rate = feeds.takes.rate ∙ h.same_rate;
     in_order = λ x e. later feeds.gives feeds.takes x e;
     read = read_on feeds.gives;
     are_given = given_on feeds.gives;
   }
 
   -- one that ends no exchange
-  so_far-by : {k : Judging R} {r : LineByte} (s : Step) → Feeds j k r s → IsOpen s → k.tracker ≡ j.tracker → (f : SoFar which hands rows past k old now es)
+  so_far-by : {k : Judging R} {r : LineByte} (s : Step) → Feeds j k r s → IsOpen s → k.tracker ≡ j.tracker → (f : SoFar which profile rows past k old now es)
       × (f.items ≡ h.items ++ r ∷ [])
   unfolding so_far-more
   so_far-by (Step.Exchange e) feeds is_open same = absurd is_open
   so_far-by s feeds is_open same =
       (so_far-more [] feeds h.run (rw same h.follows) (rw append-nil h.explained) (Appends-nil now) (omega arith), refl)
 
-  pub so_far-open : {k : Judging R} {r : LineByte} → Waits j k r → SoFar which hands rows past k old now es
+  pub so_far-open : {k : Judging R} {r : LineByte} → Waits j k r → SoFar which profile rows past k old now es
   so_far-open w = (so_far-by w.step w.feeds w.is_open w.same_tracker).0
 
   pub so_far-open_items : {k : Judging R} {r : LineByte} (w : Waits j k r) → (so_far-open w).items ≡ h.items ++ r ∷ []
@@ -188,26 +202,26 @@ module _ {R : Type 0} {which : View} {hands : Hands} {rows : Option Rows} {past 
   so_far-open_items w = (so_far-by w.step w.feeds w.is_open w.same_tracker).1
 
   -- the tracker has observed one exchange more
-  pub observed_more : {k : Tracked} {e : Exchange} {b : Bool} → Observes j.tracker k e b → KeepsEnds hands (es ++ e ∷ []) k
-  observed_more {k = k} {e = e} o = follows-more hands es e j.tracker k h.follows o.reached o.hands
+  pub observed_more : {k : Tracked} {e : Exchange} {b : Bool} → Observes j.tracker k e b → KeepsEnds profile (es ++ e ∷ []) k
+  observed_more {k = k} {e = e} o = follows-more profile es e j.tracker k h.follows o.reached o.profile
 
   -- one that ends an exchange, which the tracker has seen and whose line was written
   unfoldable pub so_far-exchange : {k : Judging R} {new : Option (List ℕ)} {r : LineByte} {e : Exchange} (line : List ℕ) → Feeds j k r (Step.Exchange e)
       → Observes j.tracker k.tracker e true
-      → IsLineOf which hands k.rows.given e (Possible k.tracker.states) line → Appends now new line → SoFar which hands rows past k old new (es ++ e ∷ [])
+      → IsLineOf which profile k.rows.given e (Possible k.tracker.states) line → Appends now new line → SoFar which profile rows past k old new (es ++ e ∷ [])
   so_far-exchange {k = k} {r = r} {e = e} line feeds observes is wrote =
       let follows = observed_more observes in
-      let cut = cut-step h.items es j.pairer.tail r (Step.Exchange e) h.cut feeds.takes.does in
+      let cut = cut-step profile.rate h.items es j.pairer.tail r (Step.Exchange e) h.cut (step_on feeds) in
       let number : k.rows.given ≡ length past + records_in (es ++ e ∷ []) = omega
-      (arith, length-append past (h.items ++ r ∷ []), cut_len (h.items ++ r ∷ []) (es ++ e ∷ []) [] cut, given_on feeds.gives) in
+      (arith, length-append past (h.items ++ r ∷ []), cut_len profile.rate (h.items ++ r ∷ []) (es ++ e ∷ []) [] cut, given_on feeds.gives) in
       let end = observes.remains.0 refl in
-      so_far-more line feeds ((some_end hands (es ++ e ∷ [])).0 (end.0, (follows.states end.0).0 end.1)) follows
-      (explained_more which hands (length past) es e k.rows.given h.text line k.tracker follows h.explained is number) wrote
+      so_far-more line feeds ((some_end profile (es ++ e ∷ [])).0 (end.0, (follows.states end.0).0 end.1)) follows
+      (explained_more which profile (length past) es e k.rows.given h.text line k.tracker follows h.explained is number) wrote
       (omega (arith, length_push es e))
 
   pub so_far-exchange_items : {k : Judging R} (new : Option (List ℕ)) {r : LineByte} {e : Exchange} (line : List ℕ) (feeds : Feeds j k r (Step.Exchange e))
       (observes : Observes j.tracker k.tracker e true)
-      (is : IsLineOf which hands k.rows.given e (Possible k.tracker.states) line) (wrote : Appends now new line)
+      (is : IsLineOf which profile k.rows.given e (Possible k.tracker.states) line) (wrote : Appends now new line)
       → (so_far-exchange {new = new} line feeds observes is wrote).items ≡ h.items ++ r ∷ []
   unfolding so_far-exchange so_far-more
   so_far-exchange_items new line feeds observes is wrote = refl
@@ -215,9 +229,9 @@ module _ {R : Type 0} {which : View} {hands : Hands} {rows : Option Rows} {past 
   -- so its last record's time is that at which the exchanges end
   pub exchange_ended : {k : Judging R} (new : Option (List ℕ)) {r : LineByte} {e : Exchange} (line : List ℕ) (feeds : Feeds j k r (Step.Exchange e))
       (observes : Observes j.tracker k.tracker e true)
-      (is : IsLineOf which hands k.rows.given e (Possible k.tracker.states) line) (wrote : Appends now new line)
+      (is : IsLineOf which profile k.rows.given e (Possible k.tracker.states) line) (wrote : Appends now new line)
       → IsEnd (so_far-exchange {new = new} line feeds observes is wrote).items (es ++ e ∷ []) k.pairer.last_time
   exchange_ended {k = k} new {r = r} {e = e} line feeds observes is wrote =
       ends-more (so_far-exchange {new = new} line feeds observes is wrote).items es e k.pairer.last_time
       (feeds.takes.last_time ∙ ap Some (sym (ap last_time (so_far-exchange_items new line feeds observes is wrote)
-      ∙ last_time-append h.items (r ∷ []) (omega arith))))
+      ∙ last_time-append profile.rate h.items (r ∷ []) (omega arith))))

@@ -1,7 +1,7 @@
 -- What the result of a judging tells at each of its ends, and what it can bring whatever the reader tells of its bytes.
-use Rattle.judge9.proofs.Words.{[], Answer, answer_of, ap, append_assoc, Appends, Appends-nil, Appends-trans, AreCounts, arith, Bool, Breaks, CanBeResult}
+use Rattle.judge9.proofs.Words.{Rate, [], Answer, answer_of, ap, append_assoc, Appends, Appends-nil, Appends-trans, AreCounts, arith, Bool, Breaks, CanBeResult}
 use Rattle.judge9.proofs.Words.{CanBeVerdict, CaptureError, CaptureKind, Cut, cut_once, EndsRows, Err, Exchange, exchange_less, Explains, false, false≢true, Feeds, given-more}
-use Rattle.judge9.proofs.Words.{given-refused, GivesRecord, GivesRefusal, Hands, HasHeader, HasRun, IfErr, IfSome, if◌then◌else◌, inl, inr, is_of_text, IsAfter, IsAnswer}
+use Rattle.judge9.proofs.Words.{given-refused, GivesRecord, GivesRefusal, Profile, HasHeader, HasRun, IfErr, IfSome, if◌then◌else◌, inl, inr, is_of_text, IsAfter, IsAnswer}
 use Rattle.judge9.proofs.Words.{IsFirstBreak, IsOk, IsOkBefore, IsPlaced, IsSame, IsStartOf, IsTheAnswer, IsVerdictAfter, JudgeError, Judges, Judging, length, length_push}
 use Rattle.judge9.proofs.Words.{length-append, line_of, LineByte, List, no_rows-can_be, None, Observes, Ok, Option, option_map, part_after, Possible, Progress, Puts, Reason}
 use Rattle.judge9.proofs.Words.{refl, refusal_by, refusal_of, refused-after, Result, Rows, rows_of, Some, some_end, Spoils, Step, StoppedBefore, subst, tail_by_kept, tail_short}
@@ -10,27 +10,27 @@ use Rattle.std.specs.Result.{result_map_both}
 use Rattle.judge9.proofs.CutSteps.{cut-exchange}
 use Rattle.judge9.proofs.LineSteps.{appended, exchange_len, none_after}
 use Rattle.judge9.proofs.LawLemmas.{answer_once, cut_tail, no_run_first, tail_breaks}
-use Rattle.judge9.proofs.SoFar.{Keeps, keeps-none, observed_more, of_known, read-more, Seen, seen, seen_now, so_far-exchange, so_far-more, so_far-ok, SoFar, unread, WereRead}
+use Rattle.judge9.proofs.SoFar.{Keeps, keeps-none, not_kept, observed_more, of_known, read-more, reason_of, Seen, seen, seen_now, so_far-exchange, so_far-more, so_far-ok, SoFar, step_on, unread, WereRead}
 
 -- the only answer, of an answer
-the_answer : (hands : Hands) (rows : Rows) (answer : Answer) → IsAnswer hands rows answer → IsTheAnswer hands rows answer
-the_answer hands rows answer h = record { is_answer = h; only = λ other k. answer_once hands rows other answer k h }
+the_answer : (profile : Profile) (rows : Rows) (answer : Answer) → IsAnswer profile rows answer → IsTheAnswer profile rows answer
+the_answer profile rows answer h = record { is_answer = h; only = λ other k. answer_once profile rows other answer k h }
 
 -- what is told of the rows of a text is told of the text
 pub of_text : (text : Option (List ℕ)) (P : Rows → Type 0) → IfSome (option_map rows_of text) P → IfSome text (λ t. P (rows_of t))
 of_text None P k = tt
 of_text (Some t) P k = k
 
-pub answer_of_text : {which : View} {hands : Hands} {result : Result Verdict JudgeError} {old new : Option (List ℕ)} (text : Option (List ℕ))
-    → Judges which hands (option_map rows_of text) result old new → IfSome text (λ t. IfSome (answer_of result) (IsTheAnswer hands (rows_of t)))
-answer_of_text {hands = hands} {result = result} text j =
-    let Answered : Rows → Type 0 = λ rows. IfSome (answer_of result) (IsTheAnswer hands rows) in
+pub answer_of_text : {which : View} {profile : Profile} {result : Result Verdict JudgeError} {old new : Option (List ℕ)} (text : Option (List ℕ))
+    → Judges which profile (option_map rows_of text) result old new → IfSome text (λ t. IfSome (answer_of result) (IsTheAnswer profile (rows_of t)))
+answer_of_text {profile = profile} {result = result} text j =
+    let Answered : Rows → Type 0 = λ rows. IfSome (answer_of result) (IsTheAnswer profile rows) in
     of_text text Answered (of_known (option_map rows_of text) j.told.rows Answered j.told.is_known j.told.answer)
 
-pub stopped_of_text : {A : Type 0} {which : View} {hands : Hands} {old new : Option (List ℕ)} (verdict_of : A → Verdict) (result : Result A JudgeError)
+pub stopped_of_text : {A : Type 0} {which : View} {profile : Profile} {old new : Option (List ℕ)} (verdict_of : A → Verdict) (result : Result A JudgeError)
     (text : Option (List ℕ))
-    → Judges which hands (option_map rows_of text) (result_map_both verdict_of (λ e. e) result) old new
-    → IfSome text (λ t. IfErr result (StoppedBefore hands (rows_of t)))
+    → Judges which profile (option_map rows_of text) (result_map_both verdict_of (λ e. e) result) old new
+    → IfSome text (λ t. IfErr result (StoppedBefore profile (rows_of t)))
 stopped_of_text verdict_of result None j = tt
 stopped_of_text verdict_of (Ok v) (Some t) j = tt
 stopped_of_text verdict_of (Err e) (Some t) j = j.stopped
@@ -42,11 +42,11 @@ refusal_cases P CaptureKind.OutOfMemory e whole memory = memory
 refusal_cases P k e whole memory = whole (λ same. cc)
 
 -- what is told after these records, of these rows
-unfoldable pub told_after : {which : View} {hands : Hands} {es : List Exchange} {tail items : List LineByte} {rows left : Option Rows}
-    {fault : Option CaptureError} {old new : Option (List ℕ)} (keeps : Keeps which hands [] es tail) (s : Seen rows left items fault)
+unfoldable pub told_after : {which : View} {profile : Profile} {es : List Exchange} {tail items : List LineByte} {rows left : Option Rows}
+    {fault : Option CaptureError} {old new : Option (List ℕ)} (keeps : Keeps which profile [] es tail) (s : Seen rows left items fault)
     (r : Result Verdict JudgeError)
-    → IsStartOf keeps.items s.all.records → IfSome (answer_of r) (IsTheAnswer hands s.all) → Written hands s.all keeps.items keeps.text r old new
-    → Told which hands rows r old new
+    → IsStartOf keeps.items s.all.records → IfSome (answer_of r) (IsTheAnswer profile s.all) → Written profile s.all keeps.items keeps.text r old new
+    → Told which profile rows r old new
 told_after {es = es} {tail = tail} keeps s r start answer written = record {
   rows = s.all;
   is_known = s.is_known;
@@ -64,30 +64,30 @@ told_after {es = es} {tail = tail} keeps s r start answer written = record {
 }
 
 -- where there was no memory for the tracker, and nothing was read
-pub told-nothing : (which : View) (hands : Hands) (rows : Option Rows) (old : Option (List ℕ)) → Told which hands rows (Err JudgeError.OutOfMemory) old old
-told-nothing which hands rows old =
+pub told-nothing : (which : View) (profile : Profile) (rows : Option Rows) (old : Option (List ℕ)) → Told which profile rows (Err JudgeError.OutOfMemory) old old
+told-nothing which profile rows old =
     let s = seen rows rows [] None (unread rows) no_rows-can_be in
-    told_after (keeps-none which hands [] refl) s (Err JudgeError.OutOfMemory) s.start tt (Appends-nil old)
+    told_after (keeps-none which profile [] refl) s (Err JudgeError.OutOfMemory) s.start tt (Appends-nil old)
 
 -- ---- what a judging can bring, whatever the reader tells of its bytes
 
 -- the records of a cut, of which each exchange has 6 to 36
-pub cut_counts : (p : List LineByte) (es : List Exchange) (t : List LineByte) → Cut p es t
+pub cut_counts : (rate : Rate) (p : List LineByte) (es : List Exchange) (t : List LineByte) → Cut rate p es t
     → (length es * 6 + length t ≤ length p) × (length p ≤ length es * 36 + length t)
-cut_counts p [] t h = (omega (arith, ap length h.0), omega (arith, ap length h.0))
-cut_counts p (e ∷ es) t h =
-    let more = cut_counts h.1 es t h.4 in
+cut_counts rate p [] t h = (omega (arith, ap length h.0), omega (arith, ap length h.0))
+cut_counts rate p (e ∷ es) t h =
+    let more = cut_counts rate h.1 es t h.4 in
     let parts = length-append h.0 h.1 in
     let asked = h.3.command.whole.spelled.block.data_bytes in
     let answered = h.3.reply.spelled.block.data_bytes in
-    let count = simp length_push at (exchange_len h.0 e h.3) in
+    let count = simp length_push at (exchange_len rate h.0 e h.3) in
     (omega (arith, ap length h.2), omega (arith, ap length h.2))
 
 -- ---- all that the result tells, at each end
 
 -- a result that is no refusal of the capture, by what was written with it
-pub judges-told : {which : View} {hands : Hands} {rows : Option Rows} {old new : Option (List ℕ)} (now : Option (List ℕ)) (line : List ℕ)
-    (r : Result Verdict JudgeError) → Told which hands rows r old new → CanBeResult r → Puts line r now new → Judges which hands rows r old new
+pub judges-told : {which : View} {profile : Profile} {rows : Option Rows} {old new : Option (List ℕ)} (now : Option (List ℕ)) (line : List ℕ)
+    (r : Result Verdict JudgeError) → Told which profile rows r old new → CanBeResult r → Puts line r now new → Judges which profile rows r old new
 judges-told now line (Err (JudgeError.Capture e)) told can puts = absurd puts
 judges-told {rows = rows} now line r told can puts = record {
   told = told;
@@ -99,48 +99,49 @@ judges-told {rows = rows} now line r told can puts = record {
 
 -- ---- what a record breaks
 
-module _ {R : Type 0} {which : View} {hands : Hands} {rows : Option Rows} {past : List LineByte} {j : Judging R} {old now : Option (List ℕ)}
-    {es : List Exchange} (h : SoFar which hands rows past j old now es) where
+module _ {R : Type 0} {which : View} {profile : Profile} {rows : Option Rows} {past : List LineByte} {j : Judging R} {old now : Option (List ℕ)}
+    {es : List Exchange} (h : SoFar which profile rows past j old now es) where
   -- of pairing
-  pub breaks-pairing : {k : Judging R} {next : LineByte} {reason : Reason} → Spoils j k reason next → Breaks hands h.items next reason
+  pub breaks-pairing : {k : Judging R} {next : LineByte} {reason : Reason} → Spoils j k reason next → Breaks profile h.items next reason
   breaks-pairing {next = next} {reason = reason} spoils =
-      tail_breaks hands h.items es j.pairer.tail next reason h.cut h.run
-      (λ kept. spoils.refuses.not_kept (tail_by_kept h.items es j.pairer.tail (next ∷ []) h.cut kept)) spoils.refuses.is_reason
+      tail_breaks profile h.items es j.pairer.tail next reason h.cut h.run
+      (λ kept. not_kept h spoils (tail_by_kept profile.rate h.items es j.pairer.tail (next ∷ []) h.cut kept)) (reason_of h spoils)
 
   -- or it ends an exchange with which no run remains
-  pub none_observed : {k : Tracked} {e : Exchange} → Observes j.tracker k e false → ¬ HasRun hands (es ++ e ∷ [])
+  pub none_observed : {k : Tracked} {e : Exchange} → Observes j.tracker k e false → ¬ HasRun profile (es ++ e ∷ [])
   none_observed {e = e} o run =
-      let end = (some_end hands (es ++ e ∷ [])).1 run in
+      let end = (some_end profile (es ++ e ∷ [])).1 run in
       false≢true (o.remains.1 (end.0, ((observed_more h o).states end.0).1 end.1))
 
   pub breaks-run : {k : Judging R} {r : LineByte} {e : Exchange} (feeds : Feeds j k r (Step.Exchange e)) → Observes j.tracker k.tracker e false
-      → Breaks hands h.items r Reason.NoRun
+      → Breaks profile h.items r Reason.NoRun
   breaks-run {r = r} {e = e} feeds observes =
-      let cut = cut-exchange h.items es j.pairer.tail r e h.cut feeds.takes.does in
-      let first = no_run_first hands es j.pairer.tail r e (exchange_less j.pairer.tail r e feeds.takes.does).1 feeds.takes.does
+      let whole = step_on h feeds in
+      let cut = cut-exchange profile.rate h.items es j.pairer.tail r e h.cut whole in
+      let first = no_run_first profile es j.pairer.tail r e (exchange_less profile.rate j.pairer.tail r e whole).1 whole
       (none_observed observes) in
-      let not_ok : ¬ IsOk hands (h.items ++ r ∷ []) =
-      λ ok. none_observed observes (subst (HasRun hands) (cut_once (h.items ++ r ∷ []) ok.exchanges (es ++ e ∷ []) ok.tail [] ok.cut cut).0
+      let not_ok : ¬ IsOk profile (h.items ++ r ∷ []) =
+      λ ok. none_observed observes (subst (HasRun profile) (cut_once profile.rate (h.items ++ r ∷ []) ok.exchanges (es ++ e ∷ []) ok.tail [] ok.cut cut).0
       ok.run) in
       record { exchanges = es; tail = j.pairer.tail; cut = h.cut; run = h.run; not_ok = not_ok; is_reason = first }
 
-module _ {R : Type 0} {which : View} {hands : Hands} {rows : Option Rows} {j : Judging R} {old now : Option (List ℕ)} {es : List Exchange}
-    (h : SoFar which hands rows [] j old now es) where
+module _ {R : Type 0} {which : View} {profile : Profile} {rows : Option Rows} {j : Judging R} {old now : Option (List ℕ)} {es : List Exchange}
+    (h : SoFar which profile rows [] j old now es) where
   -- memory was refused
-  pub judges-memory : {new : Option (List ℕ)} → Appends now new [] → Judges which hands rows (Err JudgeError.OutOfMemory) old new
+  pub judges-memory : {new : Option (List ℕ)} → Appends now new [] → Judges which profile rows (Err JudgeError.OutOfMemory) old new
   judges-memory {new = new} none =
       let s = seen_now h in judges-told now [] (Err JudgeError.OutOfMemory)
       (told_after h.keeps s (Err JudgeError.OutOfMemory) s.start tt (none_after old now new h.text h.wrote none)) tt none
 
   -- a verdict is told, or its line was not written whole
   judges-verdict : {new : Option (List ℕ)} {items : List LineByte} {left : Option Rows} {fault : Option CaptureError} (s : Seen rows left items fault)
-      (v : Verdict) (r : Result Verdict JudgeError) → IsStartOf h.items s.all.records → IsAnswer hands s.all (Answer.judged v) → IsVerdictAfter h.items v
+      (v : Verdict) (r : Result Verdict JudgeError) → IsStartOf h.items s.all.records → IsAnswer profile s.all (Answer.judged v) → IsVerdictAfter h.items v
       → CanBeVerdict v
-      → IsSame v r → Puts (line_of v) r now new → (judges : Judges which hands rows r old new) × (judges.told.rows ≡ s.all)
+      → IsSame v r → Puts (line_of v) r now new → (judges : Judges which profile rows r old new) × (judges.told.rows ≡ s.all)
   unfolding told_after judges-told
   judges-verdict {new = new} s v (Ok w) start is after can same puts =
       rw same (
-        judges-told now (line_of v) (Ok v) (told_after h.keeps s (Ok v) start (the_answer hands s.all (Answer.judged v) is)
+        judges-told now (line_of v) (Ok v) (told_after h.keeps s (Ok v) start (the_answer profile s.all (Answer.judged v) is)
             (after, Appends-trans old now new h.text (line_of v) h.wrote puts)) can puts,
         refl,
       )
@@ -159,12 +160,12 @@ module _ {R : Type 0} {which : View} {hands : Hands} {rows : Option Rows} {j : J
   -- there is no row left
   pub judges-end : {k : Judging R} {new : Option (List ℕ)} {n : ℕ} (r : Result Verdict JudgeError) → EndsRows j k → n ≡ length es
       → IsSame (Verdict.Yes k.rows.given n (length k.pairer.tail)) r → Puts (line_of (Verdict.Yes k.rows.given n (length k.pairer.tail))) r now new
-      → (judges : Judges which hands rows r old new) × (judges.told.rows.records ≡ h.items)
+      → (judges : Judges which profile rows r old new) × (judges.told.rows.records ≡ h.items)
   judges-end {k = k} {n = n} r t count same puts =
       let s = seen_now h in
       let whole : s.all ≡ record { records = h.items; fault = None } = s.whole t.ends.none_left in
-      let some = cut_counts h.items es j.pairer.tail h.cut in
-      let counts : AreCounts hands h.items k.rows.given n (length k.pairer.tail) =
+      let some = cut_counts profile.rate h.items es j.pairer.tail h.cut in
+      let counts : AreCounts profile h.items k.rows.given n (length k.pairer.tail) =
       record {
         cut_exchanges = es;
         cut_tail = j.pairer.tail;
@@ -178,7 +179,7 @@ module _ {R : Type 0} {which : View} {hands : Hands} {rows : Option Rows} {j : J
       let can : CanBeVerdict (Verdict.Yes k.rows.given n (length k.pairer.tail)) =
       rw t.same_pairer (record {
         few = omega arith;
-        short = tail_short j.pairer.tail (cut_tail h.items es j.pairer.tail h.cut);
+        short = tail_short profile.rate j.pairer.tail (cut_tail profile.rate h.items es j.pairer.tail h.cut);
         enough = omega arith;
         no_more =
             omega arith;
@@ -189,14 +190,14 @@ module _ {R : Type 0} {which : View} {hands : Hands} {rows : Option Rows} {j : J
 
   -- a record breaks a rule
   pub judges-no : {new : Option (List ℕ)} {given : Progress R} {next : LineByte} {reason : Reason} (r : Result Verdict JudgeError)
-      → GivesRecord j.rows next given → Breaks hands h.items next reason → IsSame (Verdict.No given.given reason) r
+      → GivesRecord j.rows next given → Breaks profile h.items next reason → IsSame (Verdict.No given.given reason) r
       → Puts (line_of (Verdict.No given.given reason)) r now new
-      → (judges : Judges which hands rows r old new) × IsStartOf (h.items ++ next ∷ []) judges.told.rows.records
+      → (judges : Judges which profile rows r old new) × IsStartOf (h.items ++ next ∷ []) judges.told.rows.records
   judges-no {given = given} {next = next} {reason = reason} r gives breaks same puts =
       let after = given-more h.items j.rows given next h.are_given gives in
       let s = seen rows given.rows (h.items ++ next ∷ []) None (read-more rows j.rows.rows given.rows h.items next h.read gives.rows) after.can_be in
       let split : s.all.records ≡ h.items ++ next ∷ s.start.0 = rw append_assoc at s.start.1 in
-      let is : IsFirstBreak hands s.all.records given.given reason =
+      let is : IsFirstBreak profile s.all.records given.given reason =
       record { before = h.items; next = next; after = s.start.0; split = split; number = omega arith; breaks = breaks } in
       let both = judges-verdict s (Verdict.No given.given reason) r (next ∷ s.start.0, split) is (omega arith)
       (record { counted = omega arith; few = gives.within }) same puts in
@@ -204,27 +205,27 @@ module _ {R : Type 0} {which : View} {hands : Hands} {rows : Option Rows} {j : J
 
   -- the capture is refused
   pub judges-refusal : {given : Progress R} {e : CaptureError} {x : JudgeError} → GivesRefusal j.rows e given → x ≡ refusal_of e
-      → Judges which hands rows (Err x) old now
+      → Judges which profile rows (Err x) old now
   judges-refusal {given = given} {e = e} {x = x} refusal same =
-      rw same (refusal_cases (λ y. Judges which hands rows (Err y) old now) e.kind e whole (judges-memory (Appends-nil now)))
+      rw same (refusal_cases (λ y. Judges which profile rows (Err y) old now) e.kind e whole (judges-memory (Appends-nil now)))
     where
       place : IsAfter h.items e
       place = refused-after j.rows given e h.items refusal h.are_given.given
 
       -- where nothing is known of the rows, a refusal leaves the bad row, where it is a fault of the text
       told_rows : (b : Bool) → is_of_text e.kind ≡ b → (s : Seen rows j.rows.rows h.items (if b then Some e else None))
-          × IfSome (if b then Some (Answer.unreadable e) else None) (IsTheAnswer hands s.all)
+          × IfSome (if b then Some (Answer.unreadable e) else None) (IsTheAnswer profile s.all)
       told_rows true t =
           let s = seen rows j.rows.rows h.items (Some e) h.read (given-refused h.items j.rows given e h.are_given h.is_reading refusal t) in
           let all = s.whole (refusal.fault t) in
-          (s, the_answer hands s.all (Answer.unreadable e) (ap (λ (x : Rows). x.fault) all, rw all (so_far-ok h)))
+          (s, the_answer profile s.all (Answer.unreadable e) (ap (λ (x : Rows). x.fault) all, rw all (so_far-ok h)))
       told_rows false t = (seen_now h, tt)
 
       headed : (b : Bool) → IsPlaced b given.given e → e.row ≢ 0 → b ≡ true
       headed true placed low = refl
       headed false placed low = absurd (low placed.row)
 
-      before : (o : Option Rows) → WereRead o h.items j.rows.rows → IfSome o (λ all. e.kind ≡ CaptureKind.Read → IsOkBefore hands all e)
+      before : (o : Option Rows) → WereRead o h.items j.rows.rows → IfSome o (λ all. e.kind ≡ CaptureKind.Read → IsOkBefore profile all e)
       before None read = tt
       before (Some all) read = λ _.
           let has : e.row ≢ 0 → HasHeader read.0 = λ low. rw read.1 at (refusal.has_header (headed given.is_headed refusal.place low)) in
@@ -237,7 +238,7 @@ module _ {R : Type 0} {which : View} {hands : Hands} {rows : Option Rows} {j : J
             is_ok = so_far-ok h;
           }
 
-      whole : e.kind ≢ CaptureKind.OutOfMemory → Judges which hands rows (Err (JudgeError.Capture e)) old now
+      whole : e.kind ≢ CaptureKind.OutOfMemory → Judges which profile rows (Err (JudgeError.Capture e)) old now
       whole other =
           let known = told_rows (is_of_text e.kind) refl in record {
             told = told_after h.keeps known.0 (Err (JudgeError.Capture e)) known.0.start known.1 (place, h.wrote);
@@ -248,7 +249,7 @@ module _ {R : Type 0} {which : View} {hands : Hands} {rows : Option Rows} {j : J
 
   -- an exchange, whose line was not written whole
   pub judges-explained : {k : Judging R} {new : Option (List ℕ)} {e : Exchange} (x : JudgeError) → Turned j (Ok (Turn.Exchange e)) k
-      → Explains which hands k.rows.given e (Possible k.tracker.states) (Err x) now new → Judges which hands rows (Err x) old new
+      → Explains which profile k.rows.given e (Possible k.tracker.states) (Err x) now new → Judges which profile rows (Err x) old new
   unfolding so_far-exchange so_far-more
   judges-explained (JudgeError.Capture c) t line = absurd line.puts
   judges-explained {new = new} JudgeError.Write t line =
@@ -259,6 +260,6 @@ module _ {R : Type 0} {which : View} {hands : Hands} {rows : Option Rows} {j : J
   judges-explained JudgeError.OutOfMemory t line = judges-memory line.puts
 
   -- the rows were refused, or memory was
-  pub judges-stopped : (k : Judging R) (x : JudgeError) → Turned j (Err x) k → Judges which hands rows (Err x) old now
+  pub judges-stopped : (k : Judging R) (x : JudgeError) → Turned j (Err x) k → Judges which profile rows (Err x) old now
   judges-stopped k x (inl memory) = rw memory (judges-memory (Appends-nil now))
   judges-stopped k x (inr refused) = judges-refusal refused.1 refused.2

@@ -1,6 +1,6 @@
 -- What the rows do that end no exchange, and what a turn of a judging brings.
 use Rattle.judge9.proofs.Words.{inr, refl, BeginsWith, Some, IsTaken, [], IsEnd, ◌++◌, ◌∙◌, ◌∷◌}
-use Rattle.judge9.proofs.Words.{ap, AreOpen, arith, ComesTo, Err, Exchange, false, Feeds, ForSome, GivesRecord, Hands, inl, IsErrAnd, IsObserved, IsOpen, JudgeError, Judging}
+use Rattle.judge9.proofs.Words.{ap, AreOpen, arith, ComesTo, Err, Exchange, false, Feeds, ForSome, GivesRecord, Profile, inl, IsErrAnd, IsObserved, IsOpen, JudgeError, Judging}
 use Rattle.judge9.proofs.Words.{LineByte, List, None, Observes, Ok, Option, Paired, Progress, Result, Rows, Step, subst, suc, sym, Takes, true, Turn, Turned, View, Waits, zero}
 use Rattle.judge9.proofs.Words.{ℕ, ◌-◌, ◌<◌, ◌≡◌, ◌≤◌}
 use Rattle.judge9.proofs.SoFar.{so_far-open_items, later, so_far-open, SoFar}
@@ -19,11 +19,11 @@ opened P keeps zero front h o = subst P (sym o) h
 opened P keeps (suc n) front h o = keeps o.0 front o.2 (opened P keeps n o.0 h o.1) o.3
 
 -- what holds of what is so far before the row at which something comes
-pub comes : {R : Type 0} {which : View} {hands : Hands} {rows : Option Rows} {past : List LineByte} {j k : Judging R} {old now : Option (List ℕ)}
-    {es : List Exchange} {r : Result Turn JudgeError} {P : Type 0} → SoFar which hands rows past j old now es → ComesTo j r k
-    → ((front : Judging R) → SoFar which hands rows past front old now es → Turned front r k → P) → P
-comes {which = which} {hands = hands} {rows = rows} {past = past} {old = old} {now = now} {es = es} h c at =
-    at c.front (opened (λ k. SoFar which hands rows past k old now es) (λ i k r far waits. so_far-open far waits) c.are_open.0 c.front h c.are_open.1) c.turned
+pub comes : {R : Type 0} {which : View} {profile : Profile} {rows : Option Rows} {past : List LineByte} {j k : Judging R} {old now : Option (List ℕ)}
+    {es : List Exchange} {r : Result Turn JudgeError} {P : Type 0} → SoFar which profile rows past j old now es → ComesTo j r k
+    → ((front : Judging R) → SoFar which profile rows past front old now es → Turned front r k → P) → P
+comes {which = which} {profile = profile} {rows = rows} {past = past} {old = old} {now = now} {es = es} h c at =
+    at c.front (opened (λ k. SoFar which profile rows past k old now es) (λ i k r far waits. so_far-open far waits) c.are_open.0 c.front h c.are_open.1) c.turned
 
 -- such a row leaves a record open
 filled : {P : Type 0} (t : List LineByte) (r : LineByte) → t ++ r ∷ [] ≡ [] → P
@@ -35,13 +35,13 @@ left_open (Step.Exchange e) feeds is_open nil = absurd is_open
 left_open {j = j} {r = r} s feeds is_open nil = filled j.pairer.tail r (sym feeds.takes.tail ∙ nil)
 
 -- and what holds of its records, where one more keeps it
-pub comes_with : {R : Type 0} {which : View} {hands : Hands} {rows : Option Rows} {past : List LineByte} {j k : Judging R} {old now : Option (List ℕ)}
+pub comes_with : {R : Type 0} {which : View} {profile : Profile} {rows : Option Rows} {past : List LineByte} {j k : Judging R} {old now : Option (List ℕ)}
     {es : List Exchange} {r : Result Turn JudgeError} {P : Type 0} (Q : Judging R → List LineByte → Type 0)
     → ((i k : Judging R) (items : List LineByte) (r : LineByte) → Q i items → Waits i k r → Q k (items ++ r ∷ []))
-    → (h : SoFar which hands rows past j old now es) → Q j h.items → ComesTo j r k
-    → ((front : Judging R) (f : SoFar which hands rows past front old now es) → Q front f.items → Turned front r k → P) → P
-comes_with {which = which} {hands = hands} {rows = rows} {past = past} {old = old} {now = now} {es = es} Q more h q c at =
-    let w = opened (λ i. (f : SoFar which hands rows past i old now es) × Q i f.items)
+    → (h : SoFar which profile rows past j old now es) → Q j h.items → ComesTo j r k
+    → ((front : Judging R) (f : SoFar which profile rows past front old now es) → Q front f.items → Turned front r k → P) → P
+comes_with {which = which} {profile = profile} {rows = rows} {past = past} {old = old} {now = now} {es = es} Q more h q c at =
+    let w = opened (λ i. (f : SoFar which profile rows past i old now es) × Q i f.items)
     (λ i k r far waits. (
       so_far-open far.0 waits,
       subst (Q k) (sym (so_far-open_items far.0 waits))
@@ -58,9 +58,9 @@ pub ended-more : {R : Type 0} (es : List Exchange) (end_us : Option ℕ) (i k : 
     → Waits i k r → IsEnded es end_us k (items ++ r ∷ [])
 ended-more es end_us i k items r ended waits = λ nil. left_open waits.step waits.feeds waits.is_open nil
 
-pub comes_ended : {R : Type 0} {which : View} {hands : Hands} {rows : Option Rows} {past : List LineByte} {j k : Judging R} {old now : Option (List ℕ)}
-    {es : List Exchange} {r : Result Turn JudgeError} (end_us : Option ℕ) {P : Type 0} (h : SoFar which hands rows past j old now es)
-    → IsEnd h.items es end_us → ComesTo j r k → ((front : Judging R) (f : SoFar which hands rows past front old now es)
+pub comes_ended : {R : Type 0} {which : View} {profile : Profile} {rows : Option Rows} {past : List LineByte} {j k : Judging R} {old now : Option (List ℕ)}
+    {es : List Exchange} {r : Result Turn JudgeError} (end_us : Option ℕ) {P : Type 0} (h : SoFar which profile rows past j old now es)
+    → IsEnd h.items es end_us → ComesTo j r k → ((front : Judging R) (f : SoFar which profile rows past front old now es)
     → (front.pairer.tail ≡ [] → IsEnd f.items es end_us) → Turned front r k → P) → P
 comes_ended {es = es} end_us h ended c at = comes_with (IsEnded es end_us) (ended-more es end_us) h (λ nil. ended) c at
 

@@ -1,6 +1,6 @@
 -- The way back from the end of a capture to a run of the deck: where exchanges lead, the trackers at marks, and one exchange back.
 use Rattle.judge9.proofs.Words.{[], All, ap, append-nil, append_assoc, AreMarks, AreReached, arith, drop, Ends, ends_more, ends_none, Exchange, Exchanges, FollowsFrom, get_or}
-use Rattle.judge9.proofs.Words.{GoesBack, Hands, inl, inr, IsNextMark, IsRun, KeepsEnds, last_mark, Leads, LeadsFrom, length, length_push, List, Mark, None, Option, place_of, Possible, refl}
+use Rattle.judge9.proofs.Words.{GoesBack, Profile, inl, inr, IsNextMark, IsRun, KeepsEnds, last_mark, Leads, LeadsFrom, length, length_push, List, Mark, None, Option, place_of, Possible, refl}
 use Rattle.judge9.proofs.Words.{reverse, reverse-append, reverse-reverse, slice_get, slice_range, Some, State, subst, suc, sym, take, take-add, take_all, take_more, Tracked, tracked_by, ℕ}
 use Rattle.judge9.proofs.Words.{◌++◌, ◌+◌, ◌-◌, ◌<◌, ◌↔◌, ◌∙◌, ◌∷◌, ◌≡◌, ◌≤◌, ◌⊎◌}
 use Rattle.judge9.specs.Working.WayBack.{GoesOn}
@@ -18,61 +18,61 @@ use Rattle.std.specs.Option.{IsSome, option_to_list}
 
 -- ---- where exchanges lead
 
-pub leads_on : (h : Hands) (es : List Exchange) (X Y : State → Type 0) (t : State) → ((s : State) → X s → Y s) → Leads h X es t → Leads h Y es t
-leads_on h [] X Y t f l = f t l
-leads_on h (e ∷ es) X Y t f l =
-    leads_on h es (λ u. (s : State) × X s × Exchanges h e.command e.reply s u) (λ u. (s : State) × Y s × Exchanges h e.command e.reply s u) t
+pub leads_on : (profile : Profile) (es : List Exchange) (X Y : State → Type 0) (t : State) → ((s : State) → X s → Y s) → Leads profile X es t → Leads profile Y es t
+leads_on profile [] X Y t f l = f t l
+leads_on profile (e ∷ es) X Y t f l =
+    leads_on profile es (λ u. (s : State) × X s × Exchanges profile e.command e.reply s u) (λ u. (s : State) × Y s × Exchanges profile e.command e.reply s u) t
     (λ u w. (w.0, f w.0 w.1, w.2)) l
 
 -- from where runs end, the exchanges that follow lead to where the runs of all end
-ends_lead : (h : Hands) (es fs : List Exchange) (t : State) → Ends h (es ++ fs) t → Leads h (Ends h es) fs t
-ends_lead h es [] t l = subst (λ (x : List Exchange). Ends h x t) (append-nil es) l
-ends_lead h es (f ∷ fs) t l =
-    let more = ends_lead h (es ++ f ∷ []) fs t (subst (λ (x : List Exchange). Ends h x t) (sym (append_assoc es (f ∷ []) fs)) l) in
-    leads_on h fs (Ends h (es ++ f ∷ [])) (λ u. (s : State) × Ends h es s × Exchanges h f.command f.reply s u) t (λ u w. (ends_more h es f).0 u w) more
+ends_lead : (profile : Profile) (es fs : List Exchange) (t : State) → Ends profile (es ++ fs) t → Leads profile (Ends profile es) fs t
+ends_lead profile es [] t l = subst (λ (x : List Exchange). Ends profile x t) (append-nil es) l
+ends_lead profile es (f ∷ fs) t l =
+    let more = ends_lead profile (es ++ f ∷ []) fs t (subst (λ (x : List Exchange). Ends profile x t) (sym (append_assoc es (f ∷ []) fs)) l) in
+    leads_on profile fs (Ends profile (es ++ f ∷ [])) (λ u. (s : State) × Ends profile es s × Exchanges profile f.command f.reply s u) t (λ u w. (ends_more profile es f).0 u w) more
 
-lead_ends : (h : Hands) (es fs : List Exchange) (t : State) → Leads h (Ends h es) fs t → Ends h (es ++ fs) t
-lead_ends h es [] t l = subst (λ (x : List Exchange). Ends h x t) (sym (append-nil es)) l
-lead_ends h es (f ∷ fs) t l =
-    let more = leads_on h fs (λ u. (s : State) × Ends h es s × Exchanges h f.command f.reply s u) (Ends h (es ++ f ∷ [])) t
-    (λ u w. (ends_more h es f).1 w.0 u w.1 w.2) l in
-    subst (λ (x : List Exchange). Ends h x t) (append_assoc es (f ∷ []) fs) (lead_ends h (es ++ f ∷ []) fs t more)
+lead_ends : (profile : Profile) (es fs : List Exchange) (t : State) → Leads profile (Ends profile es) fs t → Ends profile (es ++ fs) t
+lead_ends profile es [] t l = subst (λ (x : List Exchange). Ends profile x t) (sym (append-nil es)) l
+lead_ends profile es (f ∷ fs) t l =
+    let more = leads_on profile fs (λ u. (s : State) × Ends profile es s × Exchanges profile f.command f.reply s u) (Ends profile (es ++ f ∷ [])) t
+    (λ u w. (ends_more profile es f).1 w.0 u w.1 w.2) l in
+    subst (λ (x : List Exchange). Ends profile x t) (append_assoc es (f ∷ []) fs) (lead_ends profile (es ++ f ∷ []) fs t more)
 
 -- the same from one exchange to the next, and through some and then others
-leads_more : (h : Hands) (X : State → Type 0) (es : List Exchange) (e : Exchange) (t : State)
-    → Leads h X (es ++ e ∷ []) t ↔ ((s : State) × Leads h X es s × Exchanges h e.command e.reply s t)
-leads_more h X [] e t = (λ l. l, λ l. l)
-leads_more h X (f ∷ fs) e t = leads_more h (λ u. (s : State) × X s × Exchanges h f.command f.reply s u) fs e t
+leads_more : (profile : Profile) (X : State → Type 0) (es : List Exchange) (e : Exchange) (t : State)
+    → Leads profile X (es ++ e ∷ []) t ↔ ((s : State) × Leads profile X es s × Exchanges profile e.command e.reply s t)
+leads_more profile X [] e t = (λ l. l, λ l. l)
+leads_more profile X (f ∷ fs) e t = leads_more profile (λ u. (s : State) × X s × Exchanges profile f.command f.reply s u) fs e t
 
-leads_then : (h : Hands) (X : State → Type 0) (es fs : List Exchange) (t : State) → Leads h X (es ++ fs) t → Leads h (Leads h X es) fs t
-leads_then h X [] fs t l = leads_on h fs X (Leads h X []) t (λ s x. x) l
-leads_then h X (e ∷ es) fs t l = leads_on h fs (Leads h (λ u. (s : State) × X s × Exchanges h e.command e.reply s u) es) (Leads h X (e ∷ es)) t (λ s x. x)
-    (leads_then h (λ u. (s : State) × X s × Exchanges h e.command e.reply s u) es fs t l)
+leads_then : (profile : Profile) (X : State → Type 0) (es fs : List Exchange) (t : State) → Leads profile X (es ++ fs) t → Leads profile (Leads profile X es) fs t
+leads_then profile X [] fs t l = leads_on profile fs X (Leads profile X []) t (λ s x. x) l
+leads_then profile X (e ∷ es) fs t l = leads_on profile fs (Leads profile (λ u. (s : State) × X s × Exchanges profile e.command e.reply s u) es) (Leads profile X (e ∷ es)) t (λ s x. x)
+    (leads_then profile (λ u. (s : State) × X s × Exchanges profile e.command e.reply s u) es fs t l)
 
-leads_join : (h : Hands) (X : State → Type 0) (es fs : List Exchange) (t : State) → Leads h (Leads h X es) fs t → Leads h X (es ++ fs) t
-leads_join h X [] fs t l = leads_on h fs (Leads h X []) X t (λ s x. x) l
-leads_join h X (e ∷ es) fs t l = leads_join h (λ u. (s : State) × X s × Exchanges h e.command e.reply s u) es fs t
-    (leads_on h fs (Leads h X (e ∷ es)) (Leads h (λ u. (s : State) × X s × Exchanges h e.command e.reply s u) es) t (λ s x. x) l)
+leads_join : (profile : Profile) (X : State → Type 0) (es fs : List Exchange) (t : State) → Leads profile (Leads profile X es) fs t → Leads profile X (es ++ fs) t
+leads_join profile X [] fs t l = leads_on profile fs (Leads profile X []) X t (λ s x. x) l
+leads_join profile X (e ∷ es) fs t l = leads_join profile (λ u. (s : State) × X s × Exchanges profile e.command e.reply s u) es fs t
+    (leads_on profile fs (Leads profile X (e ∷ es)) (Leads profile (λ u. (s : State) × X s × Exchanges profile e.command e.reply s u) es) t (λ s x. x) l)
 
 -- ---- a tracker that follows another one
 
 pub from-start : (t : Tracked) → FollowsFrom t [] t
-from-start t = record { states = λ s. (λ p. p, λ p. p); hands = refl }
+from-start t = record { states = λ s. (λ p. p, λ p. p); profile = refl }
 
 -- the same of the first exchanges of some
 pub from-next : (first : Tracked) (es : List Exchange) (k : ℕ) (e : Exchange) (old new : Tracked) → k < length es → e ≡ get_or es k e
     → FollowsFrom first (take k es) old
-    → AreReached (Possible old.states) (Exchanges old.hands e.command e.reply) (Possible new.states) → new.hands ≡ old.hands
+    → AreReached (Possible old.states) (Exchanges old.profile e.command e.reply) (Possible new.states) → new.profile ≡ old.profile
     → (take (k + 1) es ≡ take k es ++ e ∷ []) × FollowsFrom first (take (k + 1) es) new
 from-next first es k e old new low is f reached kept =
     let more = take_more es k e low ∙ ap (λ (x : Exchange). take k es ++ x ∷ []) (sym is) in
-    let same = rw f.hands at reached in
+    let same = rw f.profile at reached in
     let next : FollowsFrom first (take k es ++ e ∷ []) new = record {
       states = λ t. (
-        λ p. let s = same.0 t p in (leads_more first.hands (Possible first.states) (take k es) e t).1 (s.0, (f.states s.0).0 s.1, s.2),
-        λ p. let s = (leads_more first.hands (Possible first.states) (take k es) e t).0 p in same.1 s.0 t ((f.states s.0).1 s.1) s.2,
+        λ p. let s = same.0 t p in (leads_more first.profile (Possible first.states) (take k es) e t).1 (s.0, (f.states s.0).0 s.1, s.2),
+        λ p. let s = (leads_more first.profile (Possible first.states) (take k es) e t).0 p in same.1 s.0 t ((f.states s.0).1 s.1) s.2,
       );
-      hands = kept ∙ f.hands;
+      profile = kept ∙ f.profile;
     } in
     (more, rw more next)
 
@@ -80,12 +80,12 @@ from-next first es k e old new low is f reached kept =
 follows-then : {first t u : Tracked} (es fs : List Exchange) → FollowsFrom first es t → FollowsFrom t fs u → FollowsFrom first (es ++ fs) u
 follows-then {first = first} {t = t} es fs f g = record {
   states = λ s. (
-    λ p. leads_join first.hands (Possible first.states) es fs s
-        (leads_on first.hands fs (Possible t.states) (LeadsFrom first es) s (λ v. (f.states v).0) (rw f.hands at ((g.states s).0 p))),
-    λ l. (g.states s).1 (rw f.hands (leads_on first.hands fs (LeadsFrom first es) (Possible t.states) s (λ v. (f.states v).1)
-        (leads_then first.hands (Possible first.states) es fs s l))),
+    λ p. leads_join first.profile (Possible first.states) es fs s
+        (leads_on first.profile fs (Possible t.states) (LeadsFrom first es) s (λ v. (f.states v).0) (rw f.profile at ((g.states s).0 p))),
+    λ l. (g.states s).1 (rw f.profile (leads_on first.profile fs (LeadsFrom first es) (Possible t.states) s (λ v. (f.states v).1)
+        (leads_then first.profile (Possible first.states) es fs s l))),
   );
-  hands = g.hands ∙ f.hands;
+  profile = g.profile ∙ f.profile;
 }
 
 -- the first exchanges, cut at a place
@@ -97,35 +97,35 @@ parts es first at low =
 -- ---- from the states before a capture
 
 -- a state in which runs end is one to which the exchanges lead
-ends_from : (h : Hands) (first : Tracked) (es : List Exchange) (t : State) → ((s : State) → Possible first.states s ↔ IsFirst h s) → first.hands ≡ h
-    → Ends h es t → LeadsFrom first es t
-ends_from h first es t states hands ends = rw hands
-    (leads_on h es (Ends h []) (Possible first.states) t (λ u w. (states u).1 ((ends_none h u).0 w)) (ends_lead h [] es t ends))
+ends_from : (profile : Profile) (first : Tracked) (es : List Exchange) (t : State) → ((s : State) → Possible first.states s ↔ IsFirst profile s) → first.profile ≡ profile
+    → Ends profile es t → LeadsFrom first es t
+ends_from profile first es t states same ends = rw same
+    (leads_on profile es (Ends profile []) (Possible first.states) t (λ u w. (states u).1 ((ends_none profile u).0 w)) (ends_lead profile [] es t ends))
 
-from_leads : (h : Hands) (first : Tracked) (es : List Exchange) (t : State) → ((s : State) → Possible first.states s ↔ IsFirst h s) → first.hands ≡ h
-    → LeadsFrom first es t → Ends h es t
-from_leads h first es t states hands leads = lead_ends h [] es t
-    (leads_on h es (Possible first.states) (Ends h []) t (λ u w. (ends_none h u).1 ((states u).0 w)) (rw hands at leads))
+from_leads : (profile : Profile) (first : Tracked) (es : List Exchange) (t : State) → ((s : State) → Possible first.states s ↔ IsFirst profile s) → first.profile ≡ profile
+    → LeadsFrom first es t → Ends profile es t
+from_leads profile first es t states same leads = lead_ends profile [] es t
+    (leads_on profile es (Possible first.states) (Ends profile []) t (λ u w. (ends_none profile u).1 ((states u).0 w)) (rw same at leads))
 
 -- so a tracker that keeps the states in which runs end follows them, and the other way round
-pub follows_ends : (h : Hands) (first : Tracked) (es : List Exchange) (t : Tracked) → ((s : State) → Possible first.states s ↔ IsFirst h s) → first.hands ≡ h
-    → KeepsEnds h es t → FollowsFrom first es t
-follows_ends h first es t states hands f = record {
-  states = λ s. (λ p. ends_from h first es s states hands ((f.states s).0 p), λ l. (f.states s).1 (from_leads h first es s states hands l));
-  hands = f.hands ∙ sym hands;
+pub follows_ends : (profile : Profile) (first : Tracked) (es : List Exchange) (t : Tracked) → ((s : State) → Possible first.states s ↔ IsFirst profile s) → first.profile ≡ profile
+    → KeepsEnds profile es t → FollowsFrom first es t
+follows_ends profile first es t states same f = record {
+  states = λ s. (λ p. ends_from profile first es s states same ((f.states s).0 p), λ l. (f.states s).1 (from_leads profile first es s states same l));
+  profile = f.profile ∙ sym same;
 }
 
-pub keeps_ends : (h : Hands) (first : Tracked) (es : List Exchange) (t : Tracked) → ((s : State) → Possible first.states s ↔ IsFirst h s) → first.hands ≡ h
-    → FollowsFrom first es t → KeepsEnds h es t
-keeps_ends h first es t states hands f = record {
-  states = λ s. (λ p. from_leads h first es s states hands ((f.states s).0 p), λ e. (f.states s).1 (ends_from h first es s states hands e));
-  hands = f.hands ∙ hands;
+pub keeps_ends : (profile : Profile) (first : Tracked) (es : List Exchange) (t : Tracked) → ((s : State) → Possible first.states s ↔ IsFirst profile s) → first.profile ≡ profile
+    → FollowsFrom first es t → KeepsEnds profile es t
+keeps_ends profile first es t states same f = record {
+  states = λ s. (λ p. from_leads profile first es s states same ((f.states s).0 p), λ e. (f.states s).1 (ends_from profile first es s states same e));
+  profile = f.profile ∙ same;
 }
 
 -- and going back from one of them finds a run
-pub back_run : (h : Hands) (first : Tracked) (es : List Exchange) (t u : State) (new : List State) → ((s : State) → Possible first.states s ↔ IsFirst h s)
-    → first.hands ≡ h → GoesBack first.hands (Possible first.states) es t [] new u → IsRun h es (reverse new)
-back_run h first es t u new states hands g = rw (g.put, reverse-reverse g.after) (u, (states u).0 g.from, rw hands at g.is_run)
+pub back_run : (profile : Profile) (first : Tracked) (es : List Exchange) (t u : State) (new : List State) → ((s : State) → Possible first.states s ↔ IsFirst profile s)
+    → first.profile ≡ profile → GoesBack first.profile (Possible first.states) es t [] new u → IsRun profile es (reverse new)
+back_run profile first es t u new states same g = rw (g.put, reverse-reverse g.after) (u, (states u).0 g.from, rw same at g.is_run)
 
 -- ---- marks
 
@@ -232,7 +232,7 @@ unmarked {first = first} {es = es} {at = at} {marks = marks} {rest = rest} (Some
 -- ---- going back
 
 pub back-start : (first : Tracked) (es : List Exchange) (end : State) (old : List State) → LeadsFrom first es end
-    → GoesBack first.hands (LeadsFrom first (take (length es) es)) (drop (length es) es) end old old end
+    → GoesBack first.profile (LeadsFrom first (take (length es) es)) (drop (length es) es) end old old end
 back-start first es end old leads = rw (take_all (length es) es (omega arith), drop_all (length es) es (omega arith))
     (record { from = leads; after = []; is_run = tt; is_end = refl; put = sym (append-nil old) })
 
@@ -243,20 +243,20 @@ module _ {first before : Tracked} (es : List Exchange) (at : ℕ) (e : Exchange)
 
   -- a state to which the exchanges lead comes from one before the last of them
   pub step_from : (state : State) → LeadsFrom first (take (at + 1) es) state
-      → (s : State) × Possible before.states s × Exchanges before.hands e.command e.reply s state
+      → (s : State) × Possible before.states s × Exchanges before.profile e.command e.reply s state
   step_from state leads =
-      let l = (leads_more first.hands (Possible first.states) (take at es) e state).0 (rw one_more at leads) in
-      (l.0, (follows.states l.0).1 l.1, subst (λ h. Exchanges h e.command e.reply l.0 state) (sym follows.hands) l.2)
+      let l = (leads_more first.profile (Possible first.states) (take at es) e state).0 (rw one_more at leads) in
+      (l.0, (follows.states l.0).1 l.1, subst (λ h. Exchanges h e.command e.reply l.0 state) (sym follows.profile) l.2)
 
   -- through one exchange more
   pub back-more : (end state earlier : State) (old mid new : List State)
-      → GoesBack first.hands (LeadsFrom first (take (at + 1) es)) (drop (at + 1) es) end old mid state
-      → Possible before.states earlier × Exchanges before.hands e.command e.reply earlier state → new ≡ mid ++ state ∷ []
-      → GoesBack first.hands (LeadsFrom first (take at es)) (drop at es) end old new earlier
+      → GoesBack first.profile (LeadsFrom first (take (at + 1) es)) (drop (at + 1) es) end old mid state
+      → Possible before.states earlier × Exchanges before.profile e.command e.reply earlier state → new ≡ mid ++ state ∷ []
+      → GoesBack first.profile (LeadsFrom first (take at es)) (drop at es) end old new earlier
   back-more end state earlier old mid new g from put = rw split (record {
     from = (follows.states earlier).0 from.0;
     after = state ∷ g.after;
-    is_run = (subst (λ h. Exchanges h e.command e.reply earlier state) follows.hands from.1, g.is_run);
+    is_run = (subst (λ h. Exchanges h e.command e.reply earlier state) follows.profile from.1, g.is_run);
     is_end = g.is_end;
     put = put ∙ ap (λ (l : List State). l ++ state ∷ []) g.put ∙ append_assoc old (reverse g.after) (state ∷ [])
         ∙ ap (λ (l : List State). old ++ l) (sym (reverse-append (state ∷ []) g.after));

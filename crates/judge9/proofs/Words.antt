@@ -34,15 +34,16 @@ pub use Rattle.deck9.specs.Run.{HasRun, IsRun}
 pub use Rattle.deck9.specs.declared.effect.Change.TheVariants.{SetAt}
 pub use Rattle.deck9.specs.declared.effect.Effect.TheVariants.{the_data as Effect}
 pub use Rattle.deck9.specs.declared.mode.Mode.{Mode}
+pub use Rattle.deck9.specs.declared.state.Hands.TheVariants.{the_data as Hands}
 pub use Rattle.deck9.specs.declared.state.Register.TheVariants.{the_data as Register}
 pub use Rattle.judge9.specs.Judging.{Answer, answer_of, IsAnswer, IsOkBefore, IsTheAnswer}
 pub use Rattle.judge9.specs.Report.{AreLines, explained_of, IsExplained, IsText, IsVerdictAfter, last_line, Written}
 pub use Rattle.judge9.specs.Verdict.{Applies, AreCounts, Breaks, CanBeVerdict, IsFirstBreak, IsOk}
 pub use Rattle.judge9.specs.WhyVerdict.{CouldBe, CouldShow}
 pub use Rattle.judge9.specs.Working.{[], All, Appends, AppendsPart, AreReached, Bool, BreaksAtLast, CanBeResult, CaptureError, CaptureKind, Cut, Ending, Ends, Err, Exchange}
-pub use Rattle.judge9.specs.Working.{Exchanges, Explains, false, GivesEnd, GivesRecord, GivesRefusal, Hands, IfErr, IfOk, IfSome, IsBreakAfter, IsKnowledge, IsLineOf, IsSame}
+pub use Rattle.judge9.specs.Working.{Exchanges, Explains, false, GivesEnd, GivesRecord, GivesRefusal, Profile, IfErr, IfOk, IfSome, IsBreakAfter, IsKnowledge, IsLineOf, IsSame}
 pub use Rattle.judge9.specs.Working.{JudgeError, Judges, Judging, Knowledge, last_state, length, line_of_exchange, LineByte, List, None, Ok, Option, Possible, Puts, Reason}
-pub use Rattle.judge9.specs.Working.{refusal_of, Result, reverse, Rows, SetsInDay, slice_get, Some, Standing, State, Step, StoppedBefore, suc, take, Takes, Told, Tracked, true}
+pub use Rattle.judge9.specs.Working.{refusal_of, Result, reverse, Rows, slice_get, Some, Standing, State, Step, StoppedBefore, suc, take, Takes, Told, Tracked, true}
 pub use Rattle.judge9.specs.Working.{HasItsWhy, IsTrue, Verdict, WhyVerdict, View, zero, ℕ, ⊤}
 pub use Rattle.block9.proofs.TailLemmas.{last_time-append}
 pub use Rattle.block9.specs.Line.{last_time}
@@ -67,8 +68,8 @@ pub use Rattle.std.proofs.lemmas.Option.{slice_get_read}
 pub use Rattle.std.specs.Io.KnownBytes.{append_known}
 pub use Rattle.std.specs.Option.{ForSome, IfNone}
 pub use Rattle.std.specs.Result.{IsErrAnd}
-pub use Rattle.tc25.proofs.DayLemmas.{ReadsAs-from_time_of}
 pub use Rattle.tc25.specs.Day.{day, time_of}
+pub use Rattle.tc25.specs.declared.rate.Rate.{Rate}
 pub use Rattle.text9.proofs.WriteLemmas.{first_part, part_after}
 pub use Rattle.track9.proofs.OneKnowledge.{known_of_ends}
 pub use Rattle.deck9.specs.Knowledge.{IsKnown, IsKnownEntry}

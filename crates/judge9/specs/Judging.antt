@@ -8,7 +8,7 @@ use Rattle.capture9.specs.Capture.{IsStartOf}
 use Rattle.capture9.specs.Error.{IsAfter, IsAtItsRow, is_of_text}
 use Rattle.capture9.specs.Fields.{most_rows}
 use Rattle.capture9.specs.Rows.{HasHeader, Rows}
-use Rattle.deck9.specs.declared.state.Hands.{Hands}
+use Rattle.deck9.specs.declared.profile.Profile.{Profile}
 use Rattle.verdict9.specs.declared.error.JudgeError.{JudgeError}
 use Rattle.verdict9.specs.declared.error.JudgeError.TheVariants as error
 use Rattle.verdict9.specs.declared.verdict.Verdict.{Verdict}
@@ -23,15 +23,15 @@ pub data Answer : Type 0 where
 -- the answer is right for a text with these rows: yes where no row is bad and all the records keep the rules,
 -- no where a record is the first that breaks one, and else the fault of the first bad row, which needs that
 -- all the records before it keep the rules
-abbrev pub IsAnswer : Hands → Rows → Answer → Type 0
-IsAnswer hands rows (judged (verdict.Yes records exchanges tail)) = (rows.fault ≡ None) × AreCounts hands rows.records records exchanges tail
-IsAnswer hands rows (judged (verdict.No at reason)) = IsFirstBreak hands rows.records at reason
-IsAnswer hands rows (unreadable e) = (rows.fault ≡ Some e) × IsOk hands rows.records
+abbrev pub IsAnswer : Profile → Rows → Answer → Type 0
+IsAnswer profile rows (judged (verdict.Yes records exchanges tail)) = (rows.fault ≡ None) × AreCounts profile rows.records records exchanges tail
+IsAnswer profile rows (judged (verdict.No at reason)) = IsFirstBreak profile rows.records at reason
+IsAnswer profile rows (unreadable e) = (rows.fault ≡ Some e) × IsOk profile rows.records
 
 -- the answer is right for a text with these rows, and no other one is
-pub record IsTheAnswer (hands : Hands) (rows : Rows) (answer : Answer) : Type 0 where
-  pub is_answer : IsAnswer hands rows answer
-  pub only : (other : Answer) → IsAnswer hands rows other → other ≡ answer
+pub record IsTheAnswer (profile : Profile) (rows : Rows) (answer : Answer) : Type 0 where
+  pub is_answer : IsAnswer profile rows answer
+  pub only : (other : Answer) → IsAnswer profile rows other → other ≡ answer
 
 -- the answer that a result of `judge` tells: none where the reader, the writer or the memory failed
 abbrev pub answer_of : Result Verdict JudgeError → Option Answer
@@ -42,18 +42,18 @@ answer_of (Err error.OutOfMemory) = None
 
 -- all the records before the row of this refusal keep the rules; before row 0, the header, there are none, and
 -- after it the text has its header
-pub record IsOkBefore (hands : Hands) (rows : Rows) (e : CaptureError) : Type 0 where
+pub record IsOkBefore (profile : Profile) (rows : Rows) (e : CaptureError) : Type 0 where
   pub items : List LineByte
   pub start : IsStartOf items rows.records
   pub place : IsAfter items e
   pub has_header : e.row ≢ 0 → HasHeader rows
-  pub is_ok : IsOk hands items
+  pub is_ok : IsOk profile items
 
 -- where the reader failed at a row, all the records before it keep the rules
-abbrev pub StoppedBefore : Hands → Rows → JudgeError → Type 0
-StoppedBefore hands rows (error.Capture e) = e.kind ≡ kind.Read → IsOkBefore hands rows e
-StoppedBefore hands rows error.Write = ⊤
-StoppedBefore hands rows error.OutOfMemory = ⊤
+abbrev pub StoppedBefore : Profile → Rows → JudgeError → Type 0
+StoppedBefore profile rows (error.Capture e) = e.kind ≡ kind.Read → IsOkBefore profile rows e
+StoppedBefore profile rows error.Write = ⊤
+StoppedBefore profile rows error.OutOfMemory = ⊤
 
 -- a row that a refusal of a capture can name
 pub record CanBeRefusal (e : CaptureError) : Type 0 where

@@ -7,7 +7,7 @@ use Rattle.block9.specs.declared.reason.Reason.{Reason}
 use Rattle.block9.specs.declared.reason.Reason.TheVariants.{ByteGap, CommandBeforeReply, CommandInsideReply, NoReply}
 use Rattle.block9.specs.Exchange.{Cut}
 use Rattle.block9.specs.Line.{byte_gap}
-use Rattle.deck9.specs.declared.state.Hands.{Hands}
+use Rattle.deck9.specs.declared.profile.Profile.{Profile}
 use Rattle.deck9.specs.Run.{HasRun}
 use Rattle.verdict9.specs.declared.totals.Totals.{Totals}
 use Rattle.report9.specs.WhyText.{records_in}
@@ -62,9 +62,9 @@ pub record Part : Type 0 where
   pub tail : List LineByte
 
 -- they keep the rules
-pub record IsPart (hands : Hands) (part : Part) : Type 0 where
-  pub cut : Cut part.records part.exchanges part.tail
-  pub run : HasRun hands part.exchanges
+pub record IsPart (profile : Profile) (part : Part) : Type 0 where
+  pub cut : Cut profile.rate part.records part.exchanges part.tail
+  pub run : HasRun profile part.exchanges
 
 -- a part that breaks: the records before the one that breaks a rule, this record, and the reason
 pub record BrokenPart : Type 0 where
@@ -77,12 +77,12 @@ abbrev pub number_of : BrokenPart → ℕ
 number_of broken = broken.part.past + length broken.part.records + 1
 
 -- from the first of these records on the parts that break, one after another, and what is left after them
-abbrev pub AreParts : Hands → Rest → List BrokenPart → Rest → Type 0
-AreParts hands rest [] left = left ≡ rest
-AreParts hands rest (b ∷ broken) left =
-    (after : List LineByte) × (rest ≡ record { past = b.part.past; records = b.part.records ++ b.breaking ∷ after }) × IsPart hands b.part
-    × Breaks hands b.part.records b.breaking b.reason
-    × AreParts hands (rest_after (b.part.past + length b.part.records) b.reason b.breaking after) broken left
+abbrev pub AreParts : Profile → Rest → List BrokenPart → Rest → Type 0
+AreParts profile rest [] left = left ≡ rest
+AreParts profile rest (b ∷ broken) left =
+    (after : List LineByte) × (rest ≡ record { past = b.part.past; records = b.part.records ++ b.breaking ∷ after }) × IsPart profile b.part
+    × Breaks profile b.part.records b.breaking b.reason
+    × AreParts profile (rest_after (b.part.past + length b.part.records) b.reason b.breaking after) broken left
 
 -- ---- what is counted
 

@@ -8,7 +8,7 @@ use Rattle.capture9.specs.Capture.{IsStartOf}
 use Rattle.capture9.specs.Error.{IsAfter, is_of_text}
 use Rattle.capture9.specs.Rows.{Rows}
 use Rattle.capture9.specs.SomeText.{IsOfSomeText}
-use Rattle.deck9.specs.declared.state.Hands.{Hands}
+use Rattle.deck9.specs.declared.profile.Profile.{Profile}
 use Rattle.verdict9.specs.Lines.{line_of, line_of_totals}
 use Rattle.verdict9.specs.declared.error.JudgeError.{JudgeError}
 use Rattle.verdict9.specs.declared.error.JudgeError.TheVariants as error
@@ -27,12 +27,12 @@ use Rattle.judge9.specs.WhyVerdict.{HasItsWhy, moved, verdict_of}
 
 -- what is told of a part that breaks: what the view shows of its exchanges, and the line of its break; or why it breaks, as of a
 -- capture that ends with the record that breaks, with the numbers that its records have in the whole capture
-abbrev pub IsTextOf : Telling → Hands → BrokenPart → List ℕ → Type 0
-IsTextOf (Shown view) hands b text =
-    (lines : List ℕ) × IsExplained view hands b.part.past b.part.exchanges lines × (text ≡ lines ++ line_of (No (number_of b) b.reason))
-IsTextOf Why hands b text =
+abbrev pub IsTextOf : Telling → Profile → BrokenPart → List ℕ → Type 0
+IsTextOf (Shown view) profile b text =
+    (lines : List ℕ) × IsExplained view profile b.part.past b.part.exchanges lines × (text ≡ lines ++ line_of (No (number_of b) b.reason))
+IsTextOf Why profile b text =
     (why : WhyVerdict) × (verdict_of why ≡ No (length b.part.records + 1) b.reason)
-    × HasItsWhy hands (record { records = b.part.records ++ b.breaking ∷ []; fault = None }) why × (text ≡ text_of_why hands (moved b.part.past why))
+    × HasItsWhy profile (record { records = b.part.records ++ b.breaking ∷ []; fault = None }) why × (text ≡ text_of_why profile (moved b.part.past why))
 
 -- the texts of all these parts, one after another, where this is the text of each
 abbrev pub AreTextsOf : (BrokenPart → List ℕ → Type 0) → List BrokenPart → List ℕ → Type 0
@@ -42,18 +42,18 @@ AreTextsOf IsText (b ∷ broken) text =
 
 -- what came of these rows is told of the first of their records, `items`: they have these parts that break, and what is left
 -- of them begins with the last part, which keeps the rules; `text` is that of the parts that break, and what the view shows of the last
-pub record InParts (IsText : BrokenPart → List ℕ → Type 0) (view : View) (hands : Hands) (rows : Rows) (items : List LineByte) (broken : List BrokenPart)
+pub record InParts (IsText : BrokenPart → List ℕ → Type 0) (view : View) (profile : Profile) (rows : Rows) (items : List LineByte) (broken : List BrokenPart)
     (left : Rest) (last : Part)
     (text : List ℕ) : Type 0 where
   pub start : IsStartOf items rows.records
-  pub parts : AreParts hands (record { past = 0; records = items }) broken left
-  pub is_part : IsPart hands last
+  pub parts : AreParts profile (record { past = 0; records = items }) broken left
+  pub is_part : IsPart profile last
   pub past : last.past ≡ left.past
   pub begins : IsStartOf last.records left.records
   pub texts : List ℕ
   pub are_texts : AreTextsOf IsText broken texts
   pub lines : List ℕ
-  pub explained : IsExplained view hands last.past last.exchanges lines
+  pub explained : IsExplained view profile last.past last.exchanges lines
   pub whole : text ≡ texts ++ lines
 
 -- the last part has all the records that are left
@@ -86,7 +86,7 @@ WrittenInParts rows items broken left last text (Err error.OutOfMemory) old new 
 
 -- the rows that a judging of all parts speaks of, their parts, and what was written. The rows are those of the text, where the
 -- reader tells its bytes; else they are what it gave, and are those of some text
-pub record PartsTold (IsText : BrokenPart → List ℕ → Type 0) (view : View) (hands : Hands) (known : Option Rows) (result : Result Totals JudgeError)
+pub record PartsTold (IsText : BrokenPart → List ℕ → Type 0) (view : View) (profile : Profile) (known : Option Rows) (result : Result Totals JudgeError)
     (old new : Option (List ℕ)) : Type 0 where
   pub rows : Rows
   pub is_known : IfSome known (λ all. rows ≡ all)
@@ -96,9 +96,9 @@ pub record PartsTold (IsText : BrokenPart → List ℕ → Type 0) (view : View)
   pub left : Rest
   pub last : Part
   pub text : List ℕ
-  pub in_parts : InParts IsText view hands rows items broken left last text
+  pub in_parts : InParts IsText view profile rows items broken left last text
   pub written : WrittenInParts rows items broken left last text result old new
 
 -- with what is told of each part, and what is shown of the last, which does not break
-abbrev pub ToldInParts : Telling → Hands → Option Rows → Result Totals JudgeError → Option (List ℕ) → Option (List ℕ) → Type 0
-ToldInParts telling hands known result old new = PartsTold (IsTextOf telling hands) (view_of telling) hands known result old new
+abbrev pub ToldInParts : Telling → Profile → Option Rows → Result Totals JudgeError → Option (List ℕ) → Option (List ℕ) → Type 0
+ToldInParts telling profile known result old new = PartsTold (IsTextOf telling profile) (view_of telling) profile known result old new

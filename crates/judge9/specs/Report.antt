@@ -10,7 +10,7 @@ use Rattle.capture9.specs.SomeText.{IsOfSomeText}
 use Rattle.block9.specs.declared.pairer.Exchange.{Exchange}
 use Rattle.block9.specs.Exchange.{Cut}
 use Rattle.deck9.specs.declared.knowledge.Knowledge.{Knowledge}
-use Rattle.deck9.specs.declared.state.Hands.{Hands}
+use Rattle.deck9.specs.declared.profile.Profile.{Profile}
 use Rattle.deck9.specs.Knowledge.{IsKnowledge}
 use Rattle.deck9.specs.Run.{Ends, HasRun}
 use Rattle.block9.specs.Exchange.{records_of}
@@ -28,17 +28,17 @@ use Rattle.judge9.specs.Judging.Answer.{judged, unreadable}
 
 -- the lines of exchanges: `before` are those that come before them, and end with the record of this number; each
 -- line names the exchange's last record, and shows what is known of all states that the runs up to it end in
-abbrev pub AreLines : Hands → List Exchange → ℕ → List Exchange → List ℕ → Type 0
-AreLines hands before at [] text = text ≡ []
-AreLines hands before at (e ∷ es) text =
-    (known : Knowledge) × (rest : List ℕ) × IsKnowledge (Ends hands (before ++ e ∷ [])) known
-    × AreLines hands (before ++ e ∷ []) (at + records_of e) es rest
-    × (text ≡ line_of_exchange hands (at + records_of e) e known ++ rest)
+abbrev pub AreLines : Profile → List Exchange → ℕ → List Exchange → List ℕ → Type 0
+AreLines profile before at [] text = text ≡ []
+AreLines profile before at (e ∷ es) text =
+    (known : Knowledge) × (rest : List ℕ) × IsKnowledge (Ends profile (before ++ e ∷ [])) known
+    × AreLines profile (before ++ e ∷ []) (at + records_of e) es rest
+    × (text ≡ line_of_exchange profile (at + records_of e) e known ++ rest)
 
 -- what a view shows of exchanges, before the verdict; so many records of the capture come before them
-abbrev pub IsExplained : View → Hands → ℕ → List Exchange → List ℕ → Type 0
-IsExplained view.Verdict hands past exchanges text = text ≡ []
-IsExplained view.Explain hands past exchanges text = AreLines hands [] past exchanges text
+abbrev pub IsExplained : View → Profile → ℕ → List Exchange → List ℕ → Type 0
+IsExplained view.Verdict profile past exchanges text = text ≡ []
+IsExplained view.Explain profile past exchanges text = AreLines profile [] past exchanges text
 
 -- the records whose exchanges a report explains: those before the break, and all where there is none
 abbrev pub explained_of : Rows → Answer → List LineByte
@@ -52,12 +52,12 @@ last_line (judged v) = line_of v
 last_line (unreadable e) = []
 
 -- the whole text of a report on a text with these rows, of which this is the answer
-pub record IsText (which : View) (hands : Hands) (rows : Rows) (answer : Answer) (whole : List ℕ) : Type 0 where
+pub record IsText (which : View) (profile : Profile) (rows : Rows) (answer : Answer) (whole : List ℕ) : Type 0 where
   pub exchanges : List Exchange
   pub tail : List LineByte
-  pub cut : Cut (explained_of rows answer) exchanges tail
+  pub cut : Cut profile.rate (explained_of rows answer) exchanges tail
   pub text : List ℕ
-  pub explained : IsExplained which hands 0 exchanges text
+  pub explained : IsExplained which profile 0 exchanges text
   pub is_whole : whole ≡ text ++ last_line answer
 
 -- a verdict for which these records are the ones that keep the rules: all of them, or those before the break
@@ -69,27 +69,27 @@ IsVerdictAfter items (No at reason) = at ≡ length items + 1
 -- of their exchanges: with a verdict the text and the verdict's line; at a refusal of the capture the text, and these
 -- records are all those before its row; where the writer failed a first part of the text, or of the text and the right
 -- verdict's line; where memory ran out the text
-abbrev pub Written : Hands → Rows → List LineByte → List ℕ → Result Verdict JudgeError → Option (List ℕ) → Option (List ℕ) → Type 0
-Written hands rows items text (Ok v) old new = IsVerdictAfter items v × Appends old new (text ++ line_of v)
-Written hands rows items text (Err (error.Capture e)) old new = IsAfter items e × Appends old new text
-Written hands rows items text (Err error.Write) old new =
-    AppendsPart old new text ⊎ ((v : Verdict) × IsAnswer hands rows (judged v) × IsVerdictAfter items v × AppendsPart old new (text ++ line_of v))
-Written hands rows items text (Err error.OutOfMemory) old new = Appends old new text
+abbrev pub Written : Profile → Rows → List LineByte → List ℕ → Result Verdict JudgeError → Option (List ℕ) → Option (List ℕ) → Type 0
+Written profile rows items text (Ok v) old new = IsVerdictAfter items v × Appends old new (text ++ line_of v)
+Written profile rows items text (Err (error.Capture e)) old new = IsAfter items e × Appends old new text
+Written profile rows items text (Err error.Write) old new =
+    AppendsPart old new text ⊎ ((v : Verdict) × IsAnswer profile rows (judged v) × IsVerdictAfter items v × AppendsPart old new (text ++ line_of v))
+Written profile rows items text (Err error.OutOfMemory) old new = Appends old new text
 
 -- the rows that a judging speaks of, its answer for them, the first of their records, which it found to keep the rules,
 -- and what it wrote. The rows are those of the text, where the reader tells its bytes; else they are what it gave, and
 -- are those of some text
-pub record Told (which : View) (hands : Hands) (known : Option Rows) (result : Result Verdict JudgeError) (old new : Option (List ℕ)) : Type 0 where
+pub record Told (which : View) (profile : Profile) (known : Option Rows) (result : Result Verdict JudgeError) (old new : Option (List ℕ)) : Type 0 where
   pub rows : Rows
   pub is_known : IfSome known (λ all. rows ≡ all)
   pub of_a_text : IfNone known (IsOfSomeText rows)
-  pub answer : IfSome (answer_of result) (IsTheAnswer hands rows)
+  pub answer : IfSome (answer_of result) (IsTheAnswer profile rows)
   pub items : List LineByte
   pub start : IsStartOf items rows.records
   pub exchanges : List Exchange
   pub tail : List LineByte
-  pub cut : Cut items exchanges tail
-  pub run : HasRun hands exchanges
+  pub cut : Cut profile.rate items exchanges tail
+  pub run : HasRun profile exchanges
   pub text : List ℕ
-  pub explained : IsExplained which hands 0 exchanges text
-  pub written : Written hands rows items text result old new
+  pub explained : IsExplained which profile 0 exchanges text
+  pub written : Written profile rows items text result old new

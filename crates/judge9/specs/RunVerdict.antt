@@ -6,7 +6,7 @@ use Rattle.capture9.specs.declared.line_byte.LineByte.{LineByte}
 use Rattle.capture9.specs.Rows.{Rows}
 use Rattle.capture9.specs.SomeText.{IsOfSomeText}
 use Rattle.block9.specs.Exchange.{Cut}
-use Rattle.deck9.specs.declared.state.Hands.{Hands}
+use Rattle.deck9.specs.declared.profile.Profile.{Profile}
 use Rattle.verdict9.specs.declared.error.JudgeError.{JudgeError}
 use Rattle.verdict9.specs.declared.run_verdict.RunVerdict.{RunVerdict}
 use Rattle.verdict9.specs.declared.run_verdict.RunVerdict.TheVariants as run
@@ -27,16 +27,16 @@ judged_of (Err e) = Err e
 
 -- on a yes the exchanges are those that the records are cut into, and the states are those after each of them in some
 -- run of the deck
-abbrev pub HasItsRun : Hands → Rows → RunVerdict → Type 0
-HasItsRun hands rows (run.Yes records tail exchanges states) =
-    ((left : List LineByte) × Cut rows.records exchanges.items left) × IsRun hands exchanges.items states.items
-HasItsRun hands rows (run.No at reason) = ⊤
+abbrev pub HasItsRun : Profile → Rows → RunVerdict → Type 0
+HasItsRun profile rows (run.Yes records tail exchanges states) =
+    ((left : List LineByte) × Cut profile.rate rows.records exchanges.items left) × IsRun profile exchanges.items states.items
+HasItsRun profile rows (run.No at reason) = ⊤
 
 -- the rows that a judging speaks of, with its answer for them and its run. The rows are those of the text, where the
 -- reader tells its bytes; else they are what it gave, and are those of some text
-pub record IsJudgedRun (hands : Hands) (known : Option Rows) (result : Result RunVerdict JudgeError) : Type 0 where
+pub record IsJudgedRun (profile : Profile) (known : Option Rows) (result : Result RunVerdict JudgeError) : Type 0 where
   pub rows : Rows
   pub is_known : IfSome known (λ all. rows ≡ all)
   pub of_a_text : IfNone known (IsOfSomeText rows)
-  pub answer : IfSome (answer_of (judged_of result)) (IsTheAnswer hands rows)
-  pub run : IfOk result (HasItsRun hands rows)
+  pub answer : IfSome (answer_of (judged_of result)) (IsTheAnswer profile rows)
+  pub run : IfOk result (HasItsRun profile rows)

@@ -10,7 +10,7 @@ use Rattle.block9.specs.Exchange.{Cut}
 use Rattle.block9.specs.Pairer.{BeginsWith}
 use Rattle.block9.specs.declared.command.Command.{Command}
 use Rattle.deck9.specs.declared.mode.Mode.{Mode}
-use Rattle.deck9.specs.declared.state.Hands.{Hands}
+use Rattle.deck9.specs.declared.profile.Profile.{Profile}
 use Rattle.deck9.specs.declared.state.State.{State}
 use Rattle.deck9.specs.Drift.{Drift}
 use Rattle.deck9.specs.Run.{Ends}
@@ -45,36 +45,36 @@ judged_of (Ok v) = Ok (verdict_of v)
 judged_of (Err e) = Err e
 
 -- after these exchanges and a drift the deck could be in this state
-abbrev pub CouldBe : Hands → List Exchange → State → Type 0
-CouldBe hands exchanges t = (s : State) × Ends hands exchanges s × Drift hands s t
+abbrev pub CouldBe : Profile → List Exchange → State → Type 0
+CouldBe profile exchanges t = (s : State) × Ends profile exchanges s × Drift profile s t
 
 -- what was known of the deck when it gave the last of these replies, and the modes that it could then show, the ten alone
-pub record CouldShow (hands : Hands) (exchanges : List Exchange) (known : Knowledge) (shown : ModeSet) : Type 0 where
+pub record CouldShow (profile : Profile) (exchanges : List Exchange) (known : Knowledge) (shown : ModeSet) : Type 0 where
   pub before : List Exchange
   pub last : Exchange
   pub split : exchanges ≡ before ++ last ∷ []
-  pub knows : IsKnowledge (CouldBe hands before) known
+  pub knows : IsKnowledge (CouldBe profile before) known
   pub ten : shown.0 < 2 ^ 10
-  pub shows : (m : Mode) → (has shown.0 m ≡ true) ↔ ((s : State) × CouldBe hands before s × (s.shown ≡ m))
+  pub shows : (m : Mode) → (has shown.0 m ≡ true) ↔ ((s : State) × CouldBe profile before s × (s.shown ≡ m))
 
 -- where a rule of pairing is broken, the record is the one that breaks it, with the records that are open before it, the
 -- command that these begin with, if it is complete, and the exchange before it, where none is open; where no run
 -- remains, the exchanges are those that the records up to
 -- the break are cut into, the replies at these places contradict one another, and this is what the deck could show before
 -- the last of them
-abbrev pub HasItsWhy : Hands → Rows → WhyVerdict → Type 0
-HasItsWhy hands rows (why.Yes records exchanges tail) = ⊤
-HasItsWhy hands rows (why.Break at reason tail command before r) =
-    (reason ≢ NoRun) × ((c : Command) → (command ≡ Some c) ↔ BeginsWith tail.items c)
-    × (broken : IsBreakAfter rows.records at tail.items r) × IsBefore broken.before broken.exchanges tail.items before
-HasItsWhy hands rows (why.Contradiction at exchanges places known shown) =
-    Cut (take at rows.records) exchanges.items [] × IsContradiction hands exchanges.items places.items × CouldShow hands exchanges.items known shown
+abbrev pub HasItsWhy : Profile → Rows → WhyVerdict → Type 0
+HasItsWhy profile rows (why.Yes records exchanges tail) = ⊤
+HasItsWhy profile rows (why.Break at reason tail command before r) =
+    (reason ≢ NoRun) × ((c : Command) → (command ≡ Some c) ↔ BeginsWith profile.rate tail.items c)
+    × (broken : IsBreakAfter profile.rate rows.records at tail.items r) × IsBefore broken.before broken.exchanges tail.items before
+HasItsWhy profile rows (why.Contradiction at exchanges places known shown) =
+    Cut profile.rate (take at rows.records) exchanges.items [] × IsContradiction profile exchanges.items places.items × CouldShow profile exchanges.items known shown
 
 -- the rows that a judging speaks of, with its answer for them and why it is a no. The rows are those of the text, where
 -- the reader tells its bytes; else they are what it gave, and are those of some text
-pub record IsJudgedWhy (hands : Hands) (known : Option Rows) (result : Result WhyVerdict JudgeError) : Type 0 where
+pub record IsJudgedWhy (profile : Profile) (known : Option Rows) (result : Result WhyVerdict JudgeError) : Type 0 where
   pub rows : Rows
   pub is_known : IfSome known (λ all. rows ≡ all)
   pub of_a_text : IfNone known (IsOfSomeText rows)
-  pub answer : IfSome (answer_of (judged_of result)) (IsTheAnswer hands rows)
-  pub why : IfOk result (HasItsWhy hands rows)
+  pub answer : IfSome (answer_of (judged_of result)) (IsTheAnswer profile rows)
+  pub why : IfOk result (HasItsWhy profile rows)

@@ -15,11 +15,10 @@ pub use Rattle.capture9.specs.declared.error.CaptureError.{CaptureError}
 pub use Rattle.capture9.specs.declared.error.CaptureKind.TheVariants.{the_data as CaptureKind}
 pub use Rattle.capture9.specs.declared.line_byte.LineByte.{LineByte}
 pub use Rattle.capture9.specs.declared.records.Standing.TheVariants.{the_data as Standing}
-pub use Rattle.deck9.specs.Laws.{SetsInDay}
 pub use Rattle.deck9.specs.Run.{Ends, IsRunFrom, last_state}
 pub use Rattle.deck9.specs.State.{IsFirst}
 pub use Rattle.deck9.specs.Step.{AreReached, Exchanges}
-pub use Rattle.deck9.specs.declared.state.Hands.TheVariants.{the_data as Hands}
+pub use Rattle.deck9.specs.declared.profile.Profile.{Profile}
 pub use Rattle.deck9.specs.declared.state.State.{State}
 pub use Rattle.judge9.specs.Judging.{CanBeResult, StoppedBefore}
 pub use Rattle.judge9.specs.Report.{Told}
@@ -61,20 +60,20 @@ IsSame v (Ok w) = w ≡ v
 IsSame v (Err e) = ⊤
 
 -- what a view shows of one exchange after which the deck can be in these states
-abbrev pub IsLineOf : View → Hands → ℕ → Exchange → (State → Type 0) → List ℕ → Type 0
-IsLineOf View.Verdict hands at e states line = line ≡ []
-IsLineOf View.Explain hands at e states line = (known : Knowledge) × IsKnowledge states known × (line ≡ line_of_exchange hands at e known)
+abbrev pub IsLineOf : View → Profile → ℕ → Exchange → (State → Type 0) → List ℕ → Type 0
+IsLineOf View.Verdict profile at e states line = line ≡ []
+IsLineOf View.Explain profile at e states line = (known : Knowledge) × IsKnowledge states known × (line ≡ line_of_exchange profile at e known)
 
 -- the result of writing what a view shows of one exchange
-pub record Explains (which : View) (hands : Hands) (at : ℕ) (e : Exchange) (states : State → Type 0) (result : Result Unit JudgeError)
+pub record Explains (which : View) (profile : Profile) (at : ℕ) (e : Exchange) (states : State → Type 0) (result : Result Unit JudgeError)
     (old new : Option (List ℕ)) : Type 0 where
   pub line : List ℕ
-  pub is_line : IsLineOf which hands at e states line
+  pub is_line : IsLineOf which profile at e states line
   pub puts : Puts line result old new
 
 -- all that the result of a judging tells
-pub record Judges (which : View) (hands : Hands) (rows : Option Rows) (result : Result Verdict JudgeError) (old new : Option (List ℕ)) : Type 0 where
-  pub told : Told which hands rows result old new
-  pub stopped : IfSome rows (λ all. IfErr result (StoppedBefore hands all))
+pub record Judges (which : View) (profile : Profile) (rows : Option Rows) (result : Result Verdict JudgeError) (old new : Option (List ℕ)) : Type 0 where
+  pub told : Told which profile rows result old new
+  pub stopped : IfSome rows (λ all. IfErr result (StoppedBefore profile all))
   pub is_kind : (e : CaptureError) → result ≡ Err (JudgeError.Capture e) → e.kind ≢ CaptureKind.OutOfMemory
   pub can_be : CanBeResult result

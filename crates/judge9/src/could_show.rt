@@ -8,7 +8,7 @@ ghost use Rattle.judge9.specs.WhyVerdict.{CouldShow};
 
 use crate::following::follow;
 use block9::Exchange;
-use deck9::{Hands, Knowledge, ModeSet};
+use deck9::{Knowledge, ModeSet, Profile};
 use sets25::SpanSet;
 use std::alloc::{AllocError, Global};
 use track9::Tracker;
@@ -17,14 +17,14 @@ use track9::Tracker;
 /// exchanges before it, and a drift.
 pub(crate) fn could_show(
     alloc: Global,
-    hands: Hands,
+    profile: Profile,
     exchanges: &[Exchange],
 ) -> Result<(Knowledge, ModeSet), AllocError>
-    requires breaks { BreaksAtLast hands exchanges.now }
-    ensures { IfOk result (λ told. CouldShow hands exchanges.now told.0 told.1) }
+    requires breaks { BreaksAtLast profile exchanges.now }
+    ensures { IfOk result (λ told. CouldShow profile exchanges.now told.0 told.1) }
 {
-    let mut tracker = Tracker::new(alloc, hands)?;
-    let told = shown_after(&mut tracker, hands, exchanges);
+    let mut tracker = Tracker::of(alloc, profile)?;
+    let told = shown_after(&mut tracker, profile, exchanges);
     drop(tracker);
     told
 }
@@ -32,13 +32,13 @@ pub(crate) fn could_show(
 /// What was known of the deck, and which modes it could show, by a tracker that has taken nothing yet.
 fn shown_after(
     tracker: &mut Tracker<SpanSet>,
-    hands: Hands,
+    profile: Profile,
     exchanges: &[Exchange],
 ) -> Result<(Knowledge, ModeSet), AllocError>
-    requires breaks { BreaksAtLast hands exchanges.now }
-    requires states { (s : AState) → Possible tracker.old.states s ↔ IsFirst hands s }
-    requires hands { tracker.old.hands ≡ hands }
-    ensures { IfOk result (λ told. CouldShow hands exchanges.now told.0 told.1) }
+    requires breaks { BreaksAtLast profile exchanges.now }
+    requires states { (s : AState) → Possible tracker.old.states s ↔ IsFirst profile s }
+    requires profile { tracker.old.profile ≡ profile }
+    ensures { IfOk result (λ told. CouldShow profile exchanges.now told.0 told.1) }
 {
     follow(tracker, &exchanges[..exchanges.len() - 1])?;
     tracker.drift()?;

@@ -6,7 +6,7 @@ ghost use Rattle.judge9.specs.Working.Turn.{IsFresh};
 use crate::ending::Ending;
 use crate::judging::{Judging, Turn};
 use block9::Exchange;
-use deck9::{Hands, Register};
+use deck9::{Profile, Register};
 use sets25::SpanSet;
 use std::alloc::AllocError;
 use std::io::Read;
@@ -18,11 +18,11 @@ use verdict9::JudgeError;
 pub(crate) fn keep_exchanges<R: Read + Drop>(
     judging: &mut Judging<R>,
     exchanges: &mut Vec<Exchange>,
-    hands: Hands,
+    profile: Profile,
 ) -> Result<Ending, JudgeError>
-    requires fresh { IsFresh hands judging.old }
+    requires fresh { IsFresh profile judging.old }
     requires none { exchanges.old.items ≡ [] }
-    ensures { KeepsExchanges hands judging.old.rows.rows result judging.new.pairer.tail exchanges.new.items judging.new.tracker }
+    ensures { KeepsExchanges profile judging.old.rows.rows result judging.new.pairer exchanges.new.items judging.new.tracker }
 {
     let mut spans = 0;
     let mut end_us = None;

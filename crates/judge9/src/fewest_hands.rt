@@ -6,7 +6,7 @@
 //! any more at which the panel may be on. The states of a stretch are found before those of the next, which begins with
 //! what a hand keeps of the last of them.
 //!
-//! The search is not proved to find such a run. What it finds is asked of `is_run`, and is handed out where that says that
+//! The search is not proved to find such a run. What it finds is asked of `is_run_of`, and is handed out where that says that
 //! it is a run.
 ghost use Rattle.std.specs.Prelude.{◌≡◌, ◌≤◌, IfOk, IfSome, length};
 ghost use Rattle.deck9.specs.Run.{IsRun};
@@ -19,38 +19,39 @@ use crate::kept_by_hand::{NOTHING, keep_modes, kept_by_hand};
 use crate::panel::{may_be_on_after, switch_on_for_hand, switch_panels};
 use crate::way_back::{Pace, go_back, states_to};
 use block9::Exchange;
-use deck9::{Hands, State, is_run};
+use deck9::{Hands, Profile, State, is_run_of};
 use sets25::{SharedSet, SpanSet};
 use std::alloc::{AllocError, Global};
+use tc25::Rate;
 use track9::{Start, Tracker};
 
 /// The states after each of these exchanges in a run that ends in a state of this tracker, or, where hands are allowed,
 /// in one with the fewest moves of a hand, which keeps what it can.
 pub(crate) fn states_of_run(
     alloc: Global,
-    hands: Hands,
+    profile: Profile,
     exchanges: &[Exchange],
     end: &Tracker<SpanSet>,
     pace: Pace,
 ) -> Result<Vec<State>, AllocError>
-    requires keeps { KeepsEnds hands exchanges.now end.now }
+    requires keeps { KeepsEnds profile exchanges.now end.now }
     requires some { (s : AState) × Possible end.now.states s }
-    ensures { IfOk result (λ states. IsRun hands exchanges.now states.items) }
+    ensures { IfOk result (λ states. IsRun profile exchanges.now states.items) }
 {
-    if hands == Hands::Allowed {
-        let states = states_with_fewest_moves(alloc, exchanges, pace)?;
-        if let Some(states) = if_a_run(hands, exchanges, states) {
+    if profile.hands == Hands::Allowed {
+        let states = states_with_fewest_moves(alloc, profile.rate, exchanges, pace)?;
+        if let Some(states) = if_a_run(profile, exchanges, states) {
             return Ok(states);
         }
     }
-    states_to(alloc, hands, exchanges, end, pace)
+    states_to(alloc, profile, exchanges, end, pace)
 }
 
 /// These states, where they are those after each of the exchanges in some run, and else `None`.
-fn if_a_run(hands: Hands, exchanges: &[Exchange], states: Vec<State>) -> Option<Vec<State>>
-    ensures { IfSome result (λ states. IsRun hands exchanges.now states.items) }
+fn if_a_run(profile: Profile, exchanges: &[Exchange], states: Vec<State>) -> Option<Vec<State>>
+    ensures { IfSome result (λ states. IsRun profile exchanges.now states.items) }
 {
-    if is_run(exchanges, &states, hands) {
+    if is_run_of(profile, exchanges, &states) {
         Some(states)
     } else {
         None
@@ -60,21 +61,26 @@ fn if_a_run(hands: Hands, exchanges: &[Exchange], states: Vec<State>) -> Option<
 /// The states after each exchange in a run with the fewest moves of a hand, as the search finds them.
 fn states_with_fewest_moves(
     alloc: Global,
+    rate: Rate,
     exchanges: &[Exchange],
     pace: Pace,
 ) -> Result<Vec<State>, AllocError> {
-    let starts = starts_of_stretches(alloc, exchanges)?;
-    let states = states_of_stretches(alloc, exchanges, &starts, pace);
+    let starts = starts_of_stretches(alloc, rate, exchanges)?;
+    let states = states_of_stretches(alloc, rate, exchanges, &starts, pace);
     drop(starts);
     states
 }
 
 /// The places at which the stretches begin, the first of them 0: a hand moves before the exchange at each other one.
-fn starts_of_stretches(alloc: Global, exchanges: &[Exchange]) -> Result<Vec<usize>, AllocError> {
+fn starts_of_stretches(
+    alloc: Global,
+    rate: Rate,
+    exchanges: &[Exchange],
+) -> Result<Vec<usize>, AllocError> {
     let mut starts = Vec::new(alloc);
     let mut start = 0;
     starts.push(start)?;
-    while let Some(length) = length_before_hand(alloc, &exchanges[start..])? {
+    while let Some(length) = length_before_hand(alloc, rate, &exchanges[start..])? {
         if length == 0 {
             break;
         }
@@ -86,10 +92,14 @@ fn starts_of_stretches(alloc: Global, exchanges: &[Exchange]) -> Result<Vec<usiz
 
 /// How many of these exchanges come before a hand has to move, or `None` where none has to. It is 0 where none could help:
 /// such exchanges have no run.
-fn length_before_hand(alloc: Global, exchanges: &[Exchange]) -> Result<Option<usize>, AllocError>
+fn length_before_hand(
+    alloc: Global,
+    rate: Rate,
+    exchanges: &[Exchange],
+) -> Result<Option<usize>, AllocError>
     ensures { IfOk result (λ o. IfSome o (λ at. at ≤ length exchanges.now)) }
 {
-    let mut tracker = Tracker::<SpanSet>::new(alloc, Hands::None)?;
+    let mut tracker = Tracker::<SpanSet>::starting(alloc, rate, &NOTHING)?;
     let length = last_moment(&mut tracker, exchanges);
     drop(tracker);
     length
@@ -120,12 +130,13 @@ fn last_moment(
 /// The states after each exchange in such a run, where its stretches begin at these places.
 fn states_of_stretches(
     alloc: Global,
+    rate: Rate,
     exchanges: &[Exchange],
     starts: &[usize],
     pace: Pace,
 ) -> Result<Vec<State>, AllocError> {
     let mut states = Vec::new(alloc);
-    match put_states(alloc, exchanges, starts, pace, &mut states) {
+    match put_states(alloc, rate, exchanges, starts, pace, &mut states) {
         Ok(()) => Ok(states),
         Err(error) => {
             drop(states);
@@ -138,12 +149,13 @@ fn states_of_stretches(
 /// switched afterwards.
 fn put_states(
     alloc: Global,
+    rate: Rate,
     exchanges: &[Exchange],
     starts: &[usize],
     pace: Pace,
     states: &mut Vec<State>,
 ) -> Result<(), AllocError> {
-    go_through_stretches(alloc, exchanges, starts, pace, states)?;
+    go_through_stretches(alloc, rate, exchanges, starts, pace, states)?;
     for start in starts {
         switch_on_for_hand(between(exchanges, 0, *start), states);
     }
@@ -154,6 +166,7 @@ fn put_states(
 /// Puts the states after each exchange after `states`, one stretch after the other.
 fn go_through_stretches(
     alloc: Global,
+    rate: Rate,
     exchanges: &[Exchange],
     starts: &[usize],
     pace: Pace,
@@ -161,11 +174,12 @@ fn go_through_stretches(
 ) -> Result<(), AllocError> {
     let mut start = 0;
     for next in starts {
-        put_stretch(alloc, between(exchanges, start, *next), pace, states)?;
+        put_stretch(alloc, rate, between(exchanges, start, *next), pace, states)?;
         start = *next;
     }
     put_stretch(
         alloc,
+        rate,
         between(exchanges, start, exchanges.len()),
         pace,
         states,
@@ -184,20 +198,21 @@ fn between(exchanges: &[Exchange], start: usize, end: usize) -> &[Exchange] {
 /// state before it.
 fn put_stretch(
     alloc: Global,
+    rate: Rate,
     exchanges: &[Exchange],
     pace: Pace,
     states: &mut Vec<State>,
 ) -> Result<(), AllocError> {
     let found = states.last().copied();
     let kept = match &found {
-        Some(found) => kept_by_hand(alloc, found, exchanges)?,
+        Some(found) => kept_by_hand(alloc, rate, found, exchanges)?,
         None => NOTHING,
     };
     let mut stretch = Vec::new(alloc);
-    go_back_untouched(alloc, &kept, exchanges, pace, &mut stretch)?;
+    go_back_untouched(alloc, rate, &kept, exchanges, pace, &mut stretch)?;
     stretch.reverse();
     if let Some(found) = &found {
-        keep_modes(found, exchanges, stretch.as_mut_slice());
+        keep_modes(rate, found, exchanges, stretch.as_mut_slice());
     }
     states.extend_from_slice(stretch.as_slice())
 }
@@ -206,12 +221,13 @@ fn put_stretch(
 /// each of them into `states`, the last one first. It puts none where they have no such run.
 fn go_back_untouched(
     alloc: Global,
+    rate: Rate,
     kept: &Start,
     exchanges: &[Exchange],
     pace: Pace,
     states: &mut Vec<State>,
 ) -> Result<(), AllocError> {
-    let first = Tracker::starting(alloc, kept)?;
+    let first = Tracker::starting(alloc, rate, kept)?;
     let result = go_back_along(alloc, &first, exchanges, pace, states);
     drop(first);
     result

@@ -5,14 +5,14 @@ ghost use Rattle.std.specs.Prelude.{◌≡◌, ◌≤◌, IfErr, IfOk, None, OnO
 ghost use Rattle.std.specs.Option.{ForSome};
 ghost use Rattle.capture9.specs.Records.{GivesRecord, Progress};
 ghost use Rattle.capture9.specs.Rows.{rows_of};
-ghost use Rattle.deck9.specs.declared.state.Hands.{Hands as AHands};
+ghost use Rattle.deck9.specs.declared.profile.Profile.{Profile as AProfile};
 ghost use Rattle.judge9.specs.Working.Parts.{BeginsWith, TakesUp};
 ghost use Rattle.judge9.specs.Working.Turn.{Begins, ComesTo, IsFresh, IsObserved};
 
 use crate::parts::{begins_next_part, pass_over};
 use block9::{Exchange, Pairer, Reason, Step};
 use capture9::{LineByte, Records};
-use deck9::Hands;
+use deck9::Profile;
 use sets25::SpanSet;
 use std::alloc::{AllocError, Global};
 use std::io::Read;
@@ -46,14 +46,14 @@ pub(crate) struct Judging<R: Read + Drop> {
 
 impl<R: Read + Drop> Judging<R> {
     /// The judging of what the reader gives. It reads nothing yet; an error comes where memory is refused.
-    pub(crate) fn new(alloc: Global, reader: R, hands: Hands) -> Result<Judging<R>, AllocError>
-        ensures fresh { IfOk result (IsFresh hands) }
+    pub(crate) fn new(alloc: Global, reader: R, profile: Profile) -> Result<Judging<R>, AllocError>
+        ensures fresh { IfOk result (IsFresh profile) }
         ensures rows { IfOk result (λ j. j.rows.rows ≡ option_map rows_of (R.remaining reader)) }
     {
-        let tracker = Tracker::new(alloc, hands)?;
+        let tracker = Tracker::of(alloc, profile)?;
         Ok(Judging {
             rows: Records::new(alloc, reader),
-            pairer: Pairer::new(),
+            pairer: Pairer::at(profile.rate),
             tracker,
         })
     }
@@ -101,14 +101,14 @@ impl<R: Read + Drop> Judging<R> {
     pub(crate) fn take_up(
         &mut self,
         alloc: Global,
-        hands: Hands,
+        profile: Profile,
         reason: Reason,
         last: LineByte,
     ) -> Result<Turn, JudgeError>
         requires { (before : Progress R) × GivesRecord before last self.old.rows }
-        ensures { TakesUp hands reason last self.old result self.new }
+        ensures { TakesUp profile reason last self.old result self.new }
     {
-        let Ok(()) = self.forget(alloc, hands) else {
+        let Ok(()) = self.forget(alloc, profile) else {
             return Err(JudgeError::OutOfMemory);
         };
         if begins_next_part(reason, last) {
@@ -121,19 +121,19 @@ impl<R: Read + Drop> Judging<R> {
     }
 
     /// Nothing is open from here on, and nothing is known of the deck. An error comes where memory is refused.
-    fn forget(&mut self, alloc: Global, hands: Hands) -> Result<(), AllocError>
+    fn forget(&mut self, alloc: Global, profile: Profile) -> Result<(), AllocError>
         ensures rows { self.new.rows ≡ self.old.rows }
-        ensures begins { OnOk result (Begins hands self.new) }
+        ensures begins { OnOk result (Begins profile self.new) }
     {
-        let tracker = Tracker::new(alloc, hands)?;
+        let tracker = Tracker::of(alloc, profile)?;
         drop(replace(&mut self.tracker, tracker));
-        self.pairer = Pairer::new();
+        self.pairer = Pairer::at(profile.rate);
         Ok(())
     }
 
     /// What the first record of a part comes to, the one that was read last, with those after it.
     fn begin(&mut self, first: LineByte) -> Result<Turn, JudgeError>
-        requires begins { (hands : AHands) × Begins hands self.old }
+        requires begins { (profile : AProfile) × Begins profile self.old }
         requires read { (before : Progress R) × GivesRecord before first self.old.rows }
         ensures { (before : Progress R) → GivesRecord before first self.old.rows
             → BeginsWith (record { rows = before; pairer = self.old.pairer; tracker = self.old.tracker }) first result self.new }

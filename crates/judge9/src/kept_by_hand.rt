@@ -3,9 +3,10 @@
 //! The search is not proved: what is found with it is asked of `is_run`.
 
 use block9::Exchange;
-use deck9::{Hands, State, is_run};
+use deck9::{Hands, Profile, State, is_run_of};
 use sets25::SpanSet;
 use std::alloc::{AllocError, Global};
+use tc25::Rate;
 use track9::{Start, Tracker};
 
 /// A field of a state that a hand may keep or change.
@@ -46,13 +47,14 @@ pub(crate) const NOTHING: Start = Start {
 /// a run of a deck that nobody touches, together with the fields kept before it.
 pub(crate) fn kept_by_hand(
     alloc: Global,
+    rate: Rate,
     found: &State,
     exchanges: &[Exchange],
 ) -> Result<Start, AllocError> {
     let mut kept = NOTHING;
     for field in FIELDS {
         let tried = with_field(&kept, field, found);
-        if has_run(alloc, &tried, exchanges)? {
+        if has_run(alloc, rate, &tried, exchanges)? {
             kept = tried;
         }
     }
@@ -75,8 +77,13 @@ fn with_field(kept: &Start, field: Field, found: &State) -> Start {
 }
 
 /// Whether the exchanges have a run of a deck that nobody touches and of which this is known before them.
-fn has_run(alloc: Global, start: &Start, exchanges: &[Exchange]) -> Result<bool, AllocError> {
-    let mut tracker = Tracker::<SpanSet>::starting(alloc, start)?;
+fn has_run(
+    alloc: Global,
+    rate: Rate,
+    start: &Start,
+    exchanges: &[Exchange],
+) -> Result<bool, AllocError> {
+    let mut tracker = Tracker::<SpanSet>::starting(alloc, rate, start)?;
     let has_run = goes_on(&mut tracker, exchanges);
     drop(tracker);
     has_run
@@ -94,7 +101,7 @@ fn goes_on(tracker: &mut Tracker<SpanSet>, exchanges: &[Exchange]) -> Result<boo
 
 /// Lets the deck go on from the hand's move as late as it can: the first of the states after it keeps the goal and the shown
 /// mode that the hand found, or one of them, where the next state may come from it as well.
-pub(crate) fn keep_modes(found: &State, exchanges: &[Exchange], states: &mut [State]) {
+pub(crate) fn keep_modes(rate: Rate, found: &State, exchanges: &[Exchange], states: &mut [State]) {
     let Some(first) = states.first().copied() else {
         return;
     };
@@ -109,7 +116,7 @@ pub(crate) fn keep_modes(found: &State, exchanges: &[Exchange], states: &mut [St
             shown,
             ..first
         };
-        if may_come_first(&kept, exchanges, states) {
+        if may_come_first(rate, &kept, exchanges, states) {
             put_first(states, kept);
             return;
         }
@@ -117,10 +124,14 @@ pub(crate) fn keep_modes(found: &State, exchanges: &[Exchange], states: &mut [St
 }
 
 /// Whether the first exchange can leave an untouched deck in this state, and the next one then in the second of the states.
-fn may_come_first(first: &State, exchanges: &[Exchange], states: &[State]) -> bool {
+fn may_come_first(rate: Rate, first: &State, exchanges: &[Exchange], states: &[State]) -> bool {
+    let untouched = Profile {
+        rate,
+        hands: Hands::None,
+    };
     match (exchanges.get(..2), states.get(1)) {
-        (Some(two), Some(second)) => is_run(two, &[*first, *second], Hands::None),
-        _ => is_run(exchanges, &[*first], Hands::None),
+        (Some(two), Some(second)) => is_run_of(untouched, two, &[*first, *second]),
+        _ => is_run_of(untouched, exchanges, &[*first]),
     }
 }
 

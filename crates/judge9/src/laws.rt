@@ -17,74 +17,75 @@ ghost use Rattle.deck9.specs.Run.{HasRun};
 
 use block9::Reason;
 use capture9::LineByte;
-use deck9::Hands;
+use deck9::{Hands, Profile};
+use tc25::Rate;
 use verdict9::{JudgeError, Totals, Verdict, View};
 
 /// A list of records has at most one cut into exchanges and a tail.
 pub fn one_cut()
-    ensures { (records : List LineByte) (some others : List Exchange) (tail rest : List LineByte)
-        → Cut records some tail → Cut records others rest → (some ≡ others) × (tail ≡ rest) }
+    ensures { (rate : Rate) (records : List LineByte) (some others : List Exchange) (tail rest : List LineByte)
+        → Cut rate records some tail → Cut rate records others rest → (some ≡ others) × (tail ≡ rest) }
 {}
 
 /// Records that keep the rules together with a next one keep them without it.
 pub fn prefix_is_ok()
-    ensures { (hands : Hands) (records : List LineByte) (next : LineByte) → IsOk hands (records ++ next ∷ []) → IsOk hands records }
+    ensures { (profile : Profile) (records : List LineByte) (next : LineByte) → IsOk profile (records ++ next ∷ []) → IsOk profile records }
 {}
 
 /// Whether the next record breaks a rule of blocks, pairing or timing depends on the tail of the records alone, and
 /// where it does, so does the reason.
 pub fn tail_decides()
-    ensures kept { (records : List LineByte) (exchanges : List Exchange) (tail : List LineByte) (next : LineByte)
-        → Cut records exchanges tail → (IsKept (records ++ next ∷ []) ↔ IsKept (tail ++ next ∷ [])) }
-    ensures reason { (hands : Hands) (records : List LineByte) (exchanges : List Exchange) (tail : List LineByte)
-        → Cut records exchanges tail → HasRun hands exchanges → (next : LineByte) → ¬ IsKept (records ++ next ∷ [])
-        → (reason : Reason) → (Breaks hands records next reason ↔ IsReason tail next reason) }
+    ensures kept { (rate : Rate) (records : List LineByte) (exchanges : List Exchange) (tail : List LineByte) (next : LineByte)
+        → Cut rate records exchanges tail → (IsKept rate (records ++ next ∷ []) ↔ IsKept rate (tail ++ next ∷ [])) }
+    ensures reason { (profile : Profile) (records : List LineByte) (exchanges : List Exchange) (tail : List LineByte)
+        → Cut profile.rate records exchanges tail → HasRun profile exchanges → (next : LineByte) → ¬ IsKept profile.rate (records ++ next ∷ [])
+        → (reason : Reason) → (Breaks profile records next reason ↔ IsReason profile.rate tail next reason) }
 {}
 
 /// Where records keep the rules, and with a next one that is not earlier they do not, some reason applies; and
 /// never more than one does.
 pub fn some_reason_applies()
-    ensures some { (hands : Hands) (records : List LineByte) (next : LineByte) → IsOk hands records → last_time records ≤ next.time_us
-        → ¬ IsOk hands (records ++ next ∷ []) → (reason : Reason) × Breaks hands records next reason }
-    ensures one { (hands : Hands) (records : List LineByte) (next : LineByte) (reason other : Reason)
-        → Breaks hands records next reason → Breaks hands records next other → reason ≡ other }
+    ensures some { (profile : Profile) (records : List LineByte) (next : LineByte) → IsOk profile records → last_time records ≤ next.time_us
+        → ¬ IsOk profile (records ++ next ∷ []) → (reason : Reason) × Breaks profile records next reason }
+    ensures one { (profile : Profile) (records : List LineByte) (next : LineByte) (reason other : Reason)
+        → Breaks profile records next reason → Breaks profile records next other → reason ≡ other }
 {}
 
 /// At most one answer is right for a text.
 pub fn one_answer()
-    ensures { (hands : Hands) (rows : Rows) (answer other : Answer) → IsAnswer hands rows answer → IsAnswer hands rows other → answer ≡ other }
+    ensures { (profile : Profile) (rows : Rows) (answer other : Answer) → IsAnswer profile rows answer → IsAnswer profile rows other → answer ≡ other }
 {}
 
 /// Whatever the result, what was written is a first part of the whole text of the report.
 pub fn first_part_of_the_text()
-    ensures { (view : View) (hands : Hands) (rows : Rows) (result : Result Verdict JudgeError) (old new : Option (List ℕ))
-        (answer : Answer) (whole : List ℕ) → Told view hands (Some rows) result old new
-        → IsAnswer hands rows answer → IsText view hands rows answer whole → AppendsPart old new whole }
+    ensures { (view : View) (profile : Profile) (rows : Rows) (result : Result Verdict JudgeError) (old new : Option (List ℕ))
+        (answer : Answer) (whole : List ℕ) → Told view profile (Some rows) result old new
+        → IsAnswer profile rows answer → IsText view profile rows answer whole → AppendsPart old new whole }
 {}
 
 /// Who may touch the deck explains no less: a yes without hands is the same yes with them, and where both are a no, that
 /// with hands is at no earlier record.
 pub fn hands_judge_no_harder()
-    ensures yes { (rows : Rows) (records exchanges tail : ℕ) → IsAnswer Hands.None rows (judged (Verdict.Yes records exchanges tail))
-        → IsAnswer Hands.Allowed rows (judged (Verdict.Yes records exchanges tail)) }
-    ensures no { (rows : Rows) (at other : ℕ) (reason another : Reason) → IsAnswer Hands.None rows (judged (Verdict.No at reason))
-        → IsAnswer Hands.Allowed rows (judged (Verdict.No other another)) → at ≤ other }
+    ensures yes { (rate : Rate) (rows : Rows) (records exchanges tail : ℕ) → IsAnswer (record { rate = rate; hands = Hands.None }) rows (judged (Verdict.Yes records exchanges tail))
+        → IsAnswer (record { rate = rate; hands = Hands.Allowed }) rows (judged (Verdict.Yes records exchanges tail)) }
+    ensures no { (rate : Rate) (rows : Rows) (at other : ℕ) (reason another : Reason) → IsAnswer (record { rate = rate; hands = Hands.None }) rows (judged (Verdict.No at reason))
+        → IsAnswer (record { rate = rate; hands = Hands.Allowed }) rows (judged (Verdict.No other another)) → at ≤ other }
 {}
 
 /// Where no part breaks, the totals are the counts of a yes, and no record is passed over.
 pub fn parts_without_a_break()
-    ensures { (hands : Hands) (items : List LineByte) (left : Rest) (last : Part) (totals : Totals)
-        → AreParts hands (record { past = 0; records = items }) [] left → IsPart hands last → last.records ≡ left.records
+    ensures { (profile : Profile) (items : List LineByte) (left : Rest) (last : Part) (totals : Totals)
+        → AreParts profile (record { past = 0; records = items }) [] left → IsPart profile last → last.records ≡ left.records
         → AreTotals (length items) [] last totals
-        → (totals.breaks ≡ 0) × AreCounts hands items totals.records totals.exchanges totals.tail × (totals.passed_over ≡ 0) }
+        → (totals.breaks ≡ 0) × AreCounts profile items totals.records totals.exchanges totals.tail × (totals.passed_over ≡ 0) }
 {}
 
 /// Each part that breaks is the no of a capture that begins with its first record, its number moved by how many come before it;
 /// the first is the no of the whole capture.
 pub fn each_part_is_a_no()
-    ensures each { (hands : Hands) (items : List LineByte) (broken : List BrokenPart) (left : Rest)
-        → AreParts hands (record { past = 0; records = items }) broken left
-        → All (λ b. IsFirstBreak hands (drop b.part.past items) (length b.part.records + 1) b.reason) broken }
-    ensures first { (hands : Hands) (items : List LineByte) (b : BrokenPart) (broken : List BrokenPart) (left : Rest)
-        → AreParts hands (record { past = 0; records = items }) (b ∷ broken) left → IsFirstBreak hands items (number_of b) b.reason }
+    ensures each { (profile : Profile) (items : List LineByte) (broken : List BrokenPart) (left : Rest)
+        → AreParts profile (record { past = 0; records = items }) broken left
+        → All (λ b. IsFirstBreak profile (drop b.part.past items) (length b.part.records + 1) b.reason) broken }
+    ensures first { (profile : Profile) (items : List LineByte) (b : BrokenPart) (broken : List BrokenPart) (left : Rest)
+        → AreParts profile (record { past = 0; records = items }) (b ∷ broken) left → IsFirstBreak profile items (number_of b) b.reason }
 {}

@@ -25,9 +25,9 @@ mod verdict_judging;
 mod way_back;
 mod why_judging;
 
-pub use deck9::is_run;
-pub use parts_judging::judge_parts;
-pub use run_judging::judge_with_run;
-pub use verdict_judging::judge;
+pub use deck9::{is_run, is_run_of};
+pub use parts_judging::{judge_parts, judge_parts_for};
+pub use run_judging::{judge_with_run, judge_with_run_for};
+pub use verdict_judging::{judge, judge_for};
 pub use verdict9::{JudgeError, RunVerdict, Telling, Totals, Verdict, View, WhyVerdict};
-pub use why_judging::judge_with_contradiction;
+pub use why_judging::{judge_with_contradiction, judge_with_contradiction_for};

@@ -4,8 +4,6 @@ ghost use Rattle.capture9.specs.Rows.{HasHeader, rows_of};
 ghost use Rattle.judge9.specs.PartsReport.{IsTextOf, ToldInParts};
 ghost use Rattle.verdict9.specs.Lines.{line_of_totals};
 ghost use Rattle.verdict9.specs.Telling.{view_of};
-ghost use Rattle.deck9.specs.Laws.{SetsInDay};
-ghost use Rattle.std.specs.List.{All};
 ghost use Rattle.why9.specs.Contradiction.{BreaksAtLast};
 ghost use Rattle.judge9.specs.Working.{Puts};
 ghost use Rattle.capture9.specs.Records.{GivesRecord, Progress};
@@ -18,11 +16,12 @@ use crate::verdict_judging::explain;
 use crate::why_judging::{why_broken, why_no_run};
 use block9::Reason;
 use capture9::{CaptureError, CaptureKind, LineByte};
-use deck9::Hands;
-use report9::put_why;
+use deck9::{Hands, Profile};
+use report9::put_why_for;
 use std::alloc::Global;
 use std::io::{Read, Write};
 use std::mem::replace;
+use tc25::Rate;
 use text9::put_all;
 use verdict9::{JudgeError, Telling, Totals, Verdict, put_totals_line, put_verdict_line};
 
@@ -54,18 +53,36 @@ pub fn judge_parts<R: Read + Drop, W: Write>(
     telling: Telling,
     hands: Hands,
 ) -> Result<Totals, JudgeError>
-    ensures told { ToldInParts telling hands (option_map rows_of (R.remaining reader)) result
+    ensures told { ToldInParts telling (record { rate = Rate.Fps25; hands = hands }) (option_map rows_of (R.remaining reader)) result
         (W.contents writer.old) (W.contents writer.new) }
     ensures kind { (e : CaptureError) → result ≡ Err (JudgeError.Capture e)
         → e.kind ≢ CaptureKind.OutOfMemory }
     ensures header { IfSome (R.remaining reader) (λ text. (e : CaptureError)
         → result ≡ Err (JudgeError.Capture e) → e.row ≢ 0 → HasHeader (rows_of text)) }
 {
-    let Ok(mut judging) = Judging::new(alloc, reader, hands) else {
+    judge_parts_for(alloc, reader, writer, telling, Profile::of(hands))
+}
+
+/// Judges the whole capture of a deck that is taken for this, part by part: [`judge_parts`] at any rate.
+pub fn judge_parts_for<R: Read + Drop, W: Write>(
+    alloc: Global,
+    reader: R,
+    writer: &mut W,
+    telling: Telling,
+    profile: Profile,
+) -> Result<Totals, JudgeError>
+    ensures told { ToldInParts telling profile (option_map rows_of (R.remaining reader)) result
+        (W.contents writer.old) (W.contents writer.new) }
+    ensures kind { (e : CaptureError) → result ≡ Err (JudgeError.Capture e)
+        → e.kind ≢ CaptureKind.OutOfMemory }
+    ensures header { IfSome (R.remaining reader) (λ text. (e : CaptureError)
+        → result ≡ Err (JudgeError.Capture e) → e.row ≢ 0 → HasHeader (rows_of text)) }
+{
+    let Ok(mut judging) = Judging::new(alloc, reader, profile) else {
         return Err(JudgeError::OutOfMemory);
     };
     let mut line = Vec::new(alloc);
-    let totals = judge_rows(alloc, &mut judging, &mut line, writer, telling, hands);
+    let totals = judge_rows(alloc, &mut judging, &mut line, writer, telling, profile);
     drop(judging);
     totals
 }
@@ -77,10 +94,10 @@ fn judge_rows<R: Read + Drop, W: Write>(
     line: &mut Vec<u8>,
     writer: &mut W,
     telling: Telling,
-    hands: Hands,
+    profile: Profile,
 ) -> Result<Totals, JudgeError>
-    requires { IsFresh hands judging.old }
-    ensures { JudgesParts (IsTextOf telling hands) (view_of telling) hands judging.old.rows.rows result (W.contents writer.old) (W.contents writer.new) }
+    requires { IsFresh profile judging.old }
+    ensures { JudgesParts (IsTextOf telling profile) (view_of telling) profile judging.old.rows.rows result (W.contents writer.old) (W.contents writer.new) }
 {
     let mut breaks = 0u32;
     let mut exchanges = 0u32;
@@ -96,7 +113,7 @@ fn judge_rows<R: Read + Drop, W: Write>(
                     line,
                     writer,
                     telling.view(),
-                    hands,
+                    profile,
                     judging.rows.given(),
                     &exchange,
                     &judging.tracker,
@@ -109,14 +126,30 @@ fn judge_rows<R: Read + Drop, W: Write>(
                 kept.keep(telling, exchange, None)?;
                 let part = replace(&mut kept, Kept::new(alloc));
                 let reason = Reason::NoRun;
-                put_break(alloc, line, judging, telling, hands, reason, last, part)?;
-                end_part(alloc, judging, line.as_slice(), writer, hands, reason, last)?
+                put_break(alloc, line, judging, telling, profile, reason, last, part)?;
+                end_part(
+                    alloc,
+                    judging,
+                    line.as_slice(),
+                    writer,
+                    profile,
+                    reason,
+                    last,
+                )?
             }
             Turn::Break(reason, last) => {
                 breaks += 1;
                 let part = replace(&mut kept, Kept::new(alloc));
-                put_break(alloc, line, judging, telling, hands, reason, last, part)?;
-                end_part(alloc, judging, line.as_slice(), writer, hands, reason, last)?
+                put_break(alloc, line, judging, telling, profile, reason, last, part)?;
+                end_part(
+                    alloc,
+                    judging,
+                    line.as_slice(),
+                    writer,
+                    profile,
+                    reason,
+                    last,
+                )?
             }
             Turn::End => break 'rows,
         };
@@ -143,13 +176,14 @@ fn put_break<R: Read + Drop>(
     line: &mut Vec<u8>,
     judging: &Judging<R>,
     telling: Telling,
-    hands: Hands,
+    profile: Profile,
     reason: Reason,
     last: LineByte,
     kept: Kept,
 ) -> Result<(), JudgeError>
-    requires { telling ≡ Telling.Why → reason ≡ Reason.NoRun → BreaksAtLast hands kept.exchanges.items × All SetsInDay kept.exchanges.items }
-    ensures ok { OnOk result (IsBreakText telling hands judging.now.rows.given reason last judging.now.pairer.tail kept.exchanges.items kept.end_us line.new.items) }
+    requires rate { judging.now.pairer.rate ≡ profile.rate }
+    requires breaks { telling ≡ Telling.Why → reason ≡ Reason.NoRun → BreaksAtLast profile kept.exchanges.items }
+    ensures ok { OnOk result (IsBreakText telling profile judging.now.rows.given reason last judging.now.pairer.tail kept.exchanges.items kept.end_us line.new.items) }
     ensures err { IfErr result (λ e. e ≡ JudgeError.OutOfMemory) }
 {
     line.clear();
@@ -157,8 +191,8 @@ fn put_break<R: Read + Drop>(
     match (telling, reason) {
         (Telling::Shown(_), _) => put_verdict_line(line, Verdict::No { at, reason })?,
         (Telling::Why, Reason::NoRun) => {
-            let why = why_no_run(alloc, hands, at, kept.exchanges)?;
-            put_why(line, hands, &why)?;
+            let why = why_no_run(alloc, profile, at, kept.exchanges)?;
+            put_why_for(line, profile, &why)?;
         }
         (Telling::Why, _) => {
             let why = why_broken(
@@ -170,7 +204,7 @@ fn put_break<R: Read + Drop>(
                 kept.exchanges,
                 kept.end_us,
             )?;
-            put_why(line, hands, &why)?;
+            put_why_for(line, profile, &why)?;
         }
     }
     Ok(())
@@ -182,17 +216,17 @@ fn end_part<R: Read + Drop, W: Write>(
     judging: &mut Judging<R>,
     text: &[u8],
     writer: &mut W,
-    hands: Hands,
+    profile: Profile,
     reason: Reason,
     last: LineByte,
 ) -> Result<Turn, JudgeError>
     requires { (before : Progress R) × GivesRecord before last judging.old.rows }
-    ensures { EndsPart text.now hands reason last judging.old result judging.new (W.contents writer.old) (W.contents writer.new) }
+    ensures { EndsPart text.now profile reason last judging.old result judging.new (W.contents writer.old) (W.contents writer.new) }
 {
     let Ok(()) = put_all(writer, text) else {
         return Err(JudgeError::Write);
     };
-    judging.take_up(alloc, hands, reason, last)
+    judging.take_up(alloc, profile, reason, last)
 }
 
 /// Writes the line of the totals and answers them, or why the line was not written whole.

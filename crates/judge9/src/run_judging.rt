@@ -13,9 +13,10 @@ use crate::judging::Judging;
 use crate::way_back::Pace;
 use block9::Reason;
 use capture9::{CaptureError, CaptureKind};
-use deck9::Hands;
+use deck9::{Hands, Profile};
 use std::alloc::Global;
 use std::io::Read;
+use tc25::Rate;
 use verdict9::{JudgeError, RunVerdict};
 
 /// Judges the capture that the reader gives, as [`judge`](crate::judge) does, and gives a yes with a run of the
@@ -43,19 +44,38 @@ pub fn judge_with_run<R: Read + Drop>(
     hands: Hands,
 ) -> Result<RunVerdict, JudgeError>
     ensures answer { IfSome (R.remaining reader)
-        (λ text. IfSome (answer_of (judged_of result)) (IsTheAnswer hands (rows_of text))) }
-    ensures run { IsJudgedRun hands (option_map rows_of (R.remaining reader)) result }
+        (λ text. IfSome (answer_of (judged_of result)) (IsTheAnswer (record { rate = Rate.Fps25; hands = hands }) (rows_of text))) }
+    ensures run { IsJudgedRun (record { rate = Rate.Fps25; hands = hands }) (option_map rows_of (R.remaining reader)) result }
     ensures stopped { IfSome (R.remaining reader)
-        (λ text. IfErr result (StoppedBefore hands (rows_of text))) }
+        (λ text. IfErr result (StoppedBefore (record { rate = Rate.Fps25; hands = hands }) (rows_of text))) }
     ensures kind { (e : CaptureError) → result ≡ Err (JudgeError.Capture e)
         → e.kind ≢ CaptureKind.OutOfMemory }
     ensures write { result ≢ Err JudgeError.Write }
     ensures can_be { CanBeResult (judged_of result) }
 {
-    let Ok(mut judging) = Judging::new(alloc, reader, hands) else {
+    judge_with_run_for(alloc, reader, Profile::of(hands))
+}
+
+/// Judges the capture of a deck that is taken for this, and gives a yes with a run: [`judge_with_run`] at any rate.
+pub fn judge_with_run_for<R: Read + Drop>(
+    alloc: Global,
+    reader: R,
+    profile: Profile,
+) -> Result<RunVerdict, JudgeError>
+    ensures answer { IfSome (R.remaining reader)
+        (λ text. IfSome (answer_of (judged_of result)) (IsTheAnswer profile (rows_of text))) }
+    ensures run { IsJudgedRun profile (option_map rows_of (R.remaining reader)) result }
+    ensures stopped { IfSome (R.remaining reader)
+        (λ text. IfErr result (StoppedBefore profile (rows_of text))) }
+    ensures kind { (e : CaptureError) → result ≡ Err (JudgeError.Capture e)
+        → e.kind ≢ CaptureKind.OutOfMemory }
+    ensures write { result ≢ Err JudgeError.Write }
+    ensures can_be { CanBeResult (judged_of result) }
+{
+    let Ok(mut judging) = Judging::new(alloc, reader, profile) else {
         return Err(JudgeError::OutOfMemory);
     };
-    let verdict = judge_rows(alloc, &mut judging, hands);
+    let verdict = judge_rows(alloc, &mut judging, profile);
     drop(judging);
     verdict
 }
@@ -64,13 +84,13 @@ pub fn judge_with_run<R: Read + Drop>(
 fn judge_rows<R: Read + Drop>(
     alloc: Global,
     judging: &mut Judging<R>,
-    hands: Hands,
+    profile: Profile,
 ) -> Result<RunVerdict, JudgeError>
-    requires { IsFresh hands judging.old }
-    ensures { JudgesRun hands judging.old.rows.rows result }
+    requires { IsFresh profile judging.old }
+    ensures { JudgesRun profile judging.old.rows.rows result }
 {
     let mut exchanges = Vec::new(alloc);
-    match keep_exchanges(judging, &mut exchanges, hands) {
+    match keep_exchanges(judging, &mut exchanges, profile) {
         Ok(
             Ending::End {
                 records,
@@ -79,7 +99,8 @@ fn judge_rows<R: Read + Drop>(
             },
         ) => {
             let pace = Pace::of(exchanges.len(), spans);
-            let Ok(states) = states_of_run(alloc, hands, &exchanges, &judging.tracker, pace) else {
+            let Ok(states) = states_of_run(alloc, profile, &exchanges, &judging.tracker, pace)
+            else {
                 return Err(JudgeError::OutOfMemory);
             };
             Ok(RunVerdict::Yes {

@@ -13,11 +13,12 @@ ghost use Rattle.track9.specs.Tracker.{Possible};
 use crate::judging::{Judging, Turn};
 use block9::{Exchange, Reason};
 use capture9::{CaptureError, CaptureKind};
-use deck9::Hands;
+use deck9::{Hands, Profile};
 use sets25::SpanSet;
 use std::alloc::Global;
 use std::io::{Read, Write};
-use text9::{put_all, put_exchange_line};
+use tc25::Rate;
+use text9::{put_all, put_exchange_line_for};
 use track9::Tracker;
 use verdict9::{JudgeError, Verdict, View, put_verdict_line};
 
@@ -73,20 +74,41 @@ pub fn judge<R: Read + Drop, W: Write>(
     hands: Hands,
 ) -> Result<Verdict, JudgeError>
     ensures answer { IfSome (R.remaining reader)
-        (λ text. IfSome (answer_of result) (IsTheAnswer hands (rows_of text))) }
-    ensures told { Told view hands (option_map rows_of (R.remaining reader)) result
+        (λ text. IfSome (answer_of result) (IsTheAnswer (record { rate = Rate.Fps25; hands = hands }) (rows_of text))) }
+    ensures told { Told view (record { rate = Rate.Fps25; hands = hands }) (option_map rows_of (R.remaining reader)) result
         (W.contents writer.old) (W.contents writer.new) }
     ensures stopped { IfSome (R.remaining reader)
-        (λ text. IfErr result (StoppedBefore hands (rows_of text))) }
+        (λ text. IfErr result (StoppedBefore (record { rate = Rate.Fps25; hands = hands }) (rows_of text))) }
     ensures kind { (e : CaptureError) → result ≡ Err (JudgeError.Capture e)
         → e.kind ≢ CaptureKind.OutOfMemory }
     ensures can_be { CanBeResult result }
 {
-    let Ok(mut judging) = Judging::new(alloc, reader, hands) else {
+    judge_for(alloc, reader, writer, view, Profile::of(hands))
+}
+
+/// Judges the capture of a deck that is taken for this: [`judge`] at any rate.
+pub fn judge_for<R: Read + Drop, W: Write>(
+    alloc: Global,
+    reader: R,
+    writer: &mut W,
+    view: View,
+    profile: Profile,
+) -> Result<Verdict, JudgeError>
+    ensures answer { IfSome (R.remaining reader)
+        (λ text. IfSome (answer_of result) (IsTheAnswer profile (rows_of text))) }
+    ensures told { Told view profile (option_map rows_of (R.remaining reader)) result
+        (W.contents writer.old) (W.contents writer.new) }
+    ensures stopped { IfSome (R.remaining reader)
+        (λ text. IfErr result (StoppedBefore profile (rows_of text))) }
+    ensures kind { (e : CaptureError) → result ≡ Err (JudgeError.Capture e)
+        → e.kind ≢ CaptureKind.OutOfMemory }
+    ensures can_be { CanBeResult result }
+{
+    let Ok(mut judging) = Judging::new(alloc, reader, profile) else {
         return Err(JudgeError::OutOfMemory);
     };
     let mut line = Vec::new(alloc);
-    let verdict = judge_rows(&mut judging, &mut line, writer, view, hands);
+    let verdict = judge_rows(&mut judging, &mut line, writer, view, profile);
     drop(judging);
     verdict
 }
@@ -97,10 +119,10 @@ fn judge_rows<R: Read + Drop, W: Write>(
     line: &mut Vec<u8>,
     writer: &mut W,
     view: View,
-    hands: Hands,
+    profile: Profile,
 ) -> Result<Verdict, JudgeError>
-    requires { IsFresh hands judging.old }
-    ensures { Judges view hands judging.old.rows.rows result (W.contents writer.old) (W.contents writer.new) }
+    requires { IsFresh profile judging.old }
+    ensures { Judges view profile judging.old.rows.rows result (W.contents writer.old) (W.contents writer.new) }
 {
     let mut exchanges = 0u32;
     'rows: loop {
@@ -111,7 +133,7 @@ fn judge_rows<R: Read + Drop, W: Write>(
                     line,
                     writer,
                     view,
-                    hands,
+                    profile,
                     judging.rows.given(),
                     &exchange,
                     &judging.tracker,
@@ -168,30 +190,44 @@ pub(crate) fn tell_no<W: Write>(
 
 /// Writes what the view shows of an exchange, whose reply ends with the record of this number, after the tracker
 /// observed it: for a verdict alone nothing, else its line.
+#[inline(always)] // asks for the view where the exchange is at hand: most captures are judged for a verdict alone
 pub(crate) fn explain<W: Write>(
     line: &mut Vec<u8>,
     writer: &mut W,
     view: View,
-    hands: Hands,
+    profile: Profile,
     number: u32,
     exchange: &Exchange,
     tracker: &Tracker<SpanSet>,
 ) -> Result<(), JudgeError>
     requires { (s : AState) × Possible tracker.now.states s }
-    ensures { Explains view hands number exchange.now (Possible tracker.now.states) result (W.contents writer.old) (W.contents writer.new) }
+    ensures { Explains view profile number exchange.now (Possible tracker.now.states) result (W.contents writer.old) (W.contents writer.new) }
 {
     match view {
         View::Verdict => Ok(()),
-        View::Explain => {
-            let knowledge = tracker.knowledge();
-            line.clear();
-            let Ok(()) = put_exchange_line(line, hands, number, exchange, &knowledge) else {
-                return Err(JudgeError::OutOfMemory);
-            };
-            let Ok(()) = put_all(writer, line.as_slice()) else {
-                return Err(JudgeError::Write);
-            };
-            Ok(())
-        }
+        View::Explain => write_line(line, writer, profile, number, exchange, tracker),
     }
+}
+
+/// Writes the line of an exchange, as `explain` does.
+fn write_line<W: Write>(
+    line: &mut Vec<u8>,
+    writer: &mut W,
+    profile: Profile,
+    number: u32,
+    exchange: &Exchange,
+    tracker: &Tracker<SpanSet>,
+) -> Result<(), JudgeError>
+    requires { (s : AState) × Possible tracker.now.states s }
+    ensures { Explains View.Explain profile number exchange.now (Possible tracker.now.states) result (W.contents writer.old) (W.contents writer.new) }
+{
+    let knowledge = tracker.knowledge();
+    line.clear();
+    let Ok(()) = put_exchange_line_for(line, profile, number, exchange, &knowledge) else {
+        return Err(JudgeError::OutOfMemory);
+    };
+    let Ok(()) = put_all(writer, line.as_slice()) else {
+        return Err(JudgeError::Write);
+    };
+    Ok(())
 }

@@ -14,7 +14,7 @@ ghost use Rattle.track9.specs.Tracker.{Possible};
 
 use crate::following::follow;
 use block9::Exchange;
-use deck9::{Hands, State};
+use deck9::{Profile, State};
 use sets25::{SharedSet, SpanSet, TimeSet};
 use std::alloc::{AllocError, Global};
 use track9::Tracker;
@@ -70,16 +70,16 @@ impl Pace {
 /// The states after each of these exchanges in a run that ends in a state of this tracker.
 pub(crate) fn states_to(
     alloc: Global,
-    hands: Hands,
+    profile: Profile,
     exchanges: &[Exchange],
     end: &Tracker<SpanSet>,
     pace: Pace,
 ) -> Result<Vec<State>, AllocError>
-    requires keeps { KeepsEnds hands exchanges.now end.now }
+    requires keeps { KeepsEnds profile exchanges.now end.now }
     requires some { (s : AState) × Possible end.now.states s }
-    ensures { IfOk result (λ states. IsRun hands exchanges.now states.items) }
+    ensures { IfOk result (λ states. IsRun profile exchanges.now states.items) }
 {
-    let first = Tracker::new(alloc, hands)?;
+    let first = Tracker::of(alloc, profile)?;
     let mut states = Vec::new(alloc);
     let found = go_back(alloc, &first, exchanges, end, pace, &mut states);
     drop(first);
@@ -103,7 +103,7 @@ pub(crate) fn go_back<S: TimeSet>(
 ) -> Result<State, AllocError>
     requires follows { FollowsFrom first.now exchanges.now end.now }
     requires some { (s : AState) × Possible end.now.states s }
-    ensures { IfOk result (λ s. (t : AState) × GoesBack first.now.hands (Possible first.now.states) exchanges.now t states.old.items states.new.items s) }
+    ensures { IfOk result (λ s. (t : AState) × GoesBack first.now.profile (Possible first.now.states) exchanges.now t states.old.items states.new.items s) }
 {
     let Some(state) = end.member() else {
         unreachable!();
@@ -121,7 +121,7 @@ fn go_back_to(
     states: &mut Vec<State>,
 ) -> Result<State, AllocError>
     requires { LeadsFrom first.now exchanges.now end }
-    ensures { IfOk result (GoesBack first.now.hands (Possible first.now.states) exchanges.now end states.old.items states.new.items) }
+    ensures { IfOk result (GoesBack first.now.profile (Possible first.now.states) exchanges.now end states.old.items states.new.items) }
 {
     let mut marks = Vec::new(alloc);
     let mut state = end;
@@ -192,8 +192,8 @@ fn step_back(
     state: State,
     states: &mut Vec<State>,
 ) -> Result<State, AllocError>
-    requires { (s : AState) × Possible before.now.states s × Exchanges before.now.hands exchange.now.command exchange.now.reply s state }
-    ensures from { IfOk result (λ s. Possible before.now.states s × Exchanges before.now.hands exchange.now.command exchange.now.reply s state) }
+    requires { (s : AState) × Possible before.now.states s × Exchanges before.now.profile exchange.now.command exchange.now.reply s state }
+    ensures from { IfOk result (λ s. Possible before.now.states s × Exchanges before.now.profile exchange.now.command exchange.now.reply s state) }
     ensures put { OnOk result (states.new.items ≡ states.old.items ++ state ∷ []) }
 {
     let Some(earlier) = before.before(&exchange.command, &exchange.reply, &state) else {

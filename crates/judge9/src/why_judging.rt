@@ -5,9 +5,7 @@ ghost use Rattle.capture9.specs.Rows.{rows_of};
 ghost use Rattle.judge9.specs.Judging.{CanBeResult, IsTheAnswer, StoppedBefore, answer_of};
 ghost use Rattle.verdict9.specs.OpenRecords.{IsBefore};
 ghost use Rattle.judge9.specs.WhyVerdict.{IsJudgedWhy, judged_of};
-ghost use Rattle.deck9.specs.Laws.{SetsInDay};
-ghost use Rattle.deck9.specs.declared.state.Hands.{Hands as AHands};
-ghost use Rattle.std.specs.List.{All};
+ghost use Rattle.deck9.specs.declared.profile.Profile.{Profile as AProfile};
 ghost use Rattle.why9.specs.Contradiction.{BreaksAtLast};
 ghost use Rattle.judge9.specs.Working.Parts.{SaysWhy};
 ghost use Rattle.judge9.specs.Working.Endings.{IsEnd, JudgesWhy};
@@ -20,11 +18,12 @@ use crate::exchanges_judging::keep_exchanges;
 use crate::judging::Judging;
 use block9::{Exchange, Pairer, Reason};
 use capture9::{CaptureError, CaptureKind, LineByte};
-use deck9::Hands;
+use deck9::{Hands, Profile};
 use std::alloc::{AllocError, Global};
 use std::io::Read;
+use tc25::Rate;
 use verdict9::{EndedExchange, JudgeError, WhyVerdict};
-use why9::contradicting;
+use why9::contradicting_for;
 
 /// Judges the capture that the reader gives, as [`judge`](crate::judge) does, and says why a no is one.
 ///
@@ -55,19 +54,38 @@ pub fn judge_with_contradiction<R: Read + Drop>(
     hands: Hands,
 ) -> Result<WhyVerdict, JudgeError>
     ensures answer { IfSome (R.remaining reader)
-        (λ text. IfSome (answer_of (judged_of result)) (IsTheAnswer hands (rows_of text))) }
-    ensures why { IsJudgedWhy hands (option_map rows_of (R.remaining reader)) result }
+        (λ text. IfSome (answer_of (judged_of result)) (IsTheAnswer (record { rate = Rate.Fps25; hands = hands }) (rows_of text))) }
+    ensures why { IsJudgedWhy (record { rate = Rate.Fps25; hands = hands }) (option_map rows_of (R.remaining reader)) result }
     ensures stopped { IfSome (R.remaining reader)
-        (λ text. IfErr result (StoppedBefore hands (rows_of text))) }
+        (λ text. IfErr result (StoppedBefore (record { rate = Rate.Fps25; hands = hands }) (rows_of text))) }
     ensures kind { (e : CaptureError) → result ≡ Err (JudgeError.Capture e)
         → e.kind ≢ CaptureKind.OutOfMemory }
     ensures write { result ≢ Err JudgeError.Write }
     ensures can_be { CanBeResult (judged_of result) }
 {
-    let Ok(mut judging) = Judging::new(alloc, reader, hands) else {
+    judge_with_contradiction_for(alloc, reader, Profile::of(hands))
+}
+
+/// Judges the capture of a deck that is taken for this, and says why a no is one: [`judge_with_contradiction`] at any rate.
+pub fn judge_with_contradiction_for<R: Read + Drop>(
+    alloc: Global,
+    reader: R,
+    profile: Profile,
+) -> Result<WhyVerdict, JudgeError>
+    ensures answer { IfSome (R.remaining reader)
+        (λ text. IfSome (answer_of (judged_of result)) (IsTheAnswer profile (rows_of text))) }
+    ensures why { IsJudgedWhy profile (option_map rows_of (R.remaining reader)) result }
+    ensures stopped { IfSome (R.remaining reader)
+        (λ text. IfErr result (StoppedBefore profile (rows_of text))) }
+    ensures kind { (e : CaptureError) → result ≡ Err (JudgeError.Capture e)
+        → e.kind ≢ CaptureKind.OutOfMemory }
+    ensures write { result ≢ Err JudgeError.Write }
+    ensures can_be { CanBeResult (judged_of result) }
+{
+    let Ok(mut judging) = Judging::new(alloc, reader, profile) else {
         return Err(JudgeError::OutOfMemory);
     };
-    let verdict = judge_rows(alloc, &mut judging, hands);
+    let verdict = judge_rows(alloc, &mut judging, profile);
     drop(judging);
     verdict
 }
@@ -76,13 +94,13 @@ pub fn judge_with_contradiction<R: Read + Drop>(
 fn judge_rows<R: Read + Drop>(
     alloc: Global,
     judging: &mut Judging<R>,
-    hands: Hands,
+    profile: Profile,
 ) -> Result<WhyVerdict, JudgeError>
-    requires { IsFresh hands judging.old }
-    ensures { JudgesWhy hands judging.old.rows.rows result }
+    requires { IsFresh profile judging.old }
+    ensures { JudgesWhy profile judging.old.rows.rows result }
 {
     let mut exchanges = Vec::new(alloc);
-    match keep_exchanges(judging, &mut exchanges, hands) {
+    match keep_exchanges(judging, &mut exchanges, profile) {
         Ok(Ending::End { records, tail, .. }) => Ok(WhyVerdict::Yes {
             records,
             exchanges: exchanges.len() as u32,
@@ -110,7 +128,7 @@ fn judge_rows<R: Read + Drop>(
             Ok(why)
         }
         Ok(Ending::NoRun { at }) => {
-            let Ok(why) = why_no_run(alloc, hands, at, exchanges) else {
+            let Ok(why) = why_no_run(alloc, profile, at, exchanges) else {
                 return Err(JudgeError::OutOfMemory);
             };
             Ok(why)
@@ -131,7 +149,8 @@ pub(crate) fn why_broken(
     end_us: Option<u64>,
 ) -> Result<WhyVerdict, JudgeError>
     requires { reason ≢ Reason.NoRun }
-    ensures ok { (hands : AHands) → IfOk result (SaysWhy hands at reason breaking pairer.now.tail exchanges.items end_us) }
+    ensures ok { (profile : AProfile) → pairer.now.rate ≡ profile.rate
+        → IfOk result (SaysWhy profile at reason breaking pairer.now.tail exchanges.items end_us) }
     ensures err { IfErr result (λ e. e ≡ JudgeError.OutOfMemory) }
 {
     let Ok(tail) = open_records(alloc, pairer) else {
@@ -153,20 +172,19 @@ pub(crate) fn why_broken(
 /// another, and what the deck could show. An error comes where memory is refused.
 pub(crate) fn why_no_run(
     alloc: Global,
-    hands: Hands,
+    profile: Profile,
     at: u32,
     exchanges: Vec<Exchange>,
 ) -> Result<WhyVerdict, JudgeError>
-    requires breaks { BreaksAtLast hands exchanges.items }
-    requires presets { All SetsInDay exchanges.items }
+    requires { BreaksAtLast profile exchanges.items }
     ensures ok { (r : ALineByte) (left : List ALineByte) (end_us : Option ℕ)
-        → IfOk result (SaysWhy hands at Reason.NoRun r left exchanges.items end_us) }
+        → IfOk result (SaysWhy profile at Reason.NoRun r left exchanges.items end_us) }
     ensures err { IfErr result (λ e. e ≡ JudgeError.OutOfMemory) }
 {
-    let Ok(places) = contradicting(alloc, hands, &exchanges) else {
+    let Ok(places) = contradicting_for(alloc, profile, &exchanges) else {
         return Err(JudgeError::OutOfMemory);
     };
-    let Ok((known, shown)) = could_show(alloc, hands, &exchanges) else {
+    let Ok((known, shown)) = could_show(alloc, profile, &exchanges) else {
         return Err(JudgeError::OutOfMemory);
     };
     Ok(WhyVerdict::Contradiction {

@@ -3,7 +3,7 @@ use Rattle.std.proofs.Common.{inl, inr, ℕ, List, Option, Some, None, Result, O
 use Rattle.std.specs.Option.{IfSome}
 use Rattle.std.specs.Result.{IfErr}
 use Rattle.capture9.specs.Rows.{rows_of}
-use Rattle.deck9.specs.declared.state.Hands.{Hands}
+use Rattle.deck9.specs.declared.profile.Profile.{Profile}
 use Rattle.verdict9.specs.declared.error.JudgeError.{JudgeError}
 use Rattle.verdict9.specs.declared.error.JudgeError.TheVariants as error
 use Rattle.verdict9.specs.declared.verdict.Verdict.{Verdict}
@@ -13,32 +13,32 @@ use Rattle.judge9.specs.WhyVerdict.{judged_of}
 use Rattle.program9.specs.Judging.{WritesWhy}
 
 -- what holds of the answer, of a write fault and of out of memory holds of what is told
-handed : (P : Result Verdict JudgeError → Type 0) (hands : Hands) (found : Result WhyVerdict JudgeError) (judged : Result Verdict JudgeError)
+handed : (P : Result Verdict JudgeError → Type 0) (profile : Profile) (found : Result WhyVerdict JudgeError) (judged : Result Verdict JudgeError)
     (old all : Option (List ℕ))
-    → P (judged_of found) → P (Err error.Write) → P (Err error.OutOfMemory) → WritesWhy hands found judged old all → P judged
-handed P hands (Err e) judged old all is write memory written = subst P (sym written.0) is
-handed P hands (Ok why) judged old all is write memory (inl told) = subst P (sym told.0) is
-handed P hands (Ok why) judged old all is write memory (inr (inl fault)) = subst P (sym fault.0) write
-handed P hands (Ok why) judged old all is write memory (inr (inr want)) = subst P (sym want.0) memory
+    → P (judged_of found) → P (Err error.Write) → P (Err error.OutOfMemory) → WritesWhy profile found judged old all → P judged
+handed P profile (Err e) judged old all is write memory written = subst P (sym written.0) is
+handed P profile (Ok why) judged old all is write memory (inl told) = subst P (sym told.0) is
+handed P profile (Ok why) judged old all is write memory (inr (inl fault)) = subst P (sym fault.0) write
+handed P profile (Ok why) judged old all is write memory (inr (inr want)) = subst P (sym want.0) memory
 
 -- the one answer of the text
-pub answer_handed : (hands : Hands) (text : Option (List ℕ)) (found : Result WhyVerdict JudgeError) (judged : Result Verdict JudgeError)
+pub answer_handed : (profile : Profile) (text : Option (List ℕ)) (found : Result WhyVerdict JudgeError) (judged : Result Verdict JudgeError)
     (old all : Option (List ℕ))
-    → IfSome text (λ t. IfSome (answer_of (judged_of found)) (IsTheAnswer hands (rows_of t))) → WritesWhy hands found judged old all
-    → IfSome text (λ t. IfSome (answer_of judged) (IsTheAnswer hands (rows_of t)))
-answer_handed hands None found judged old all is written = tt
-answer_handed hands (Some t) found judged old all is written =
-    handed (λ r. IfSome (answer_of r) (IsTheAnswer hands (rows_of t))) hands found judged old all is tt tt written
+    → IfSome text (λ t. IfSome (answer_of (judged_of found)) (IsTheAnswer profile (rows_of t))) → WritesWhy profile found judged old all
+    → IfSome text (λ t. IfSome (answer_of judged) (IsTheAnswer profile (rows_of t)))
+answer_handed profile None found judged old all is written = tt
+answer_handed profile (Some t) found judged old all is written =
+    handed (λ r. IfSome (answer_of r) (IsTheAnswer profile (rows_of t))) profile found judged old all is tt tt written
 
 -- what a refusal says of the rows before it
-pub stopped_handed : (hands : Hands) (text : Option (List ℕ)) (found : Result WhyVerdict JudgeError) (judged : Result Verdict JudgeError)
+pub stopped_handed : (profile : Profile) (text : Option (List ℕ)) (found : Result WhyVerdict JudgeError) (judged : Result Verdict JudgeError)
     (old all : Option (List ℕ))
-    → IfSome text (λ t. IfErr found (StoppedBefore hands (rows_of t))) → WritesWhy hands found judged old all
-    → IfSome text (λ t. IfErr judged (StoppedBefore hands (rows_of t)))
-stopped_handed hands None found judged old all is written = tt
-stopped_handed hands (Some t) found judged old all is written =
-    handed (λ r. IfErr r (StoppedBefore hands (rows_of t))) hands found judged old all (same found is) tt tt written
+    → IfSome text (λ t. IfErr found (StoppedBefore profile (rows_of t))) → WritesWhy profile found judged old all
+    → IfSome text (λ t. IfErr judged (StoppedBefore profile (rows_of t)))
+stopped_handed profile None found judged old all is written = tt
+stopped_handed profile (Some t) found judged old all is written =
+    handed (λ r. IfErr r (StoppedBefore profile (rows_of t))) profile found judged old all (same found is) tt tt written
   where
-    same : (r : Result WhyVerdict JudgeError) → IfErr r (StoppedBefore hands (rows_of t)) → IfErr (judged_of r) (StoppedBefore hands (rows_of t))
+    same : (r : Result WhyVerdict JudgeError) → IfErr r (StoppedBefore profile (rows_of t)) → IfErr (judged_of r) (StoppedBefore profile (rows_of t))
     same (Ok why) h = tt
     same (Err e) h = h

@@ -2,7 +2,7 @@
 use Rattle.std.specs.Prelude.{◌≡◌, ◌⊎◌, ℕ, List, Option, Result, Ok, Err}
 use Rattle.std.specs.Io.KnownBytes.{Appends, Keeps}
 use Rattle.capture9.specs.Rows.{Rows}
-use Rattle.deck9.specs.declared.state.Hands.{Hands}
+use Rattle.deck9.specs.declared.profile.Profile.{Profile}
 use Rattle.verdict9.specs.declared.error.JudgeError.{JudgeError}
 use Rattle.verdict9.specs.declared.error.JudgeError.TheVariants as error
 use Rattle.verdict9.specs.declared.run_verdict.RunVerdict.{RunVerdict}
@@ -22,26 +22,26 @@ HandsOn judged all result now = ((result ≡ judged) × Keeps all now) ⊎ ((res
 
 -- what writing the text of a run answers: where there is none the refusal, and nothing was written; else the verdict, and
 -- the text was written, or a write fault, and a first part of it was
-abbrev pub WritesRun : Hands → Result RunVerdict JudgeError → Result Verdict JudgeError → Option (List ℕ) → Option (List ℕ) → Type 0
-WritesRun hands (Err e) result old new = (result ≡ Err e) × Keeps old new
-WritesRun hands (Ok run) result old new =
-    ((result ≡ Ok (verdict_of run)) × Appends old new (text_of_run hands run)) ⊎ ((result ≡ Err error.Write) × AppendsPart old new (text_of_run hands run))
+abbrev pub WritesRun : Profile → Result RunVerdict JudgeError → Result Verdict JudgeError → Option (List ℕ) → Option (List ℕ) → Type 0
+WritesRun profile (Err e) result old new = (result ≡ Err e) × Keeps old new
+WritesRun profile (Ok run) result old new =
+    ((result ≡ Ok (verdict_of run)) × Appends old new (text_of_run profile run)) ⊎ ((result ≡ Err error.Write) × AppendsPart old new (text_of_run profile run))
 
 -- a judging with a run, of these rows where they are known, and the writing of its text
-abbrev pub TellsRun : Hands → Option Rows → Option (List ℕ) → Result Verdict JudgeError → Option (List ℕ) → Type 0
-TellsRun hands known old judged all = (found : Result RunVerdict JudgeError) × IsJudgedRun hands known found × WritesRun hands found judged old all
+abbrev pub TellsRun : Profile → Option Rows → Option (List ℕ) → Result Verdict JudgeError → Option (List ℕ) → Type 0
+TellsRun profile known old judged all = (found : Result RunVerdict JudgeError) × IsJudgedRun profile known found × WritesRun profile found judged old all
 
 -- what writing the text of why a capture is a no answers: where there is none the refusal, and nothing was written; else
 -- the verdict, and the text was written, or a write fault, and a first part of it was, or memory ran out, and nothing was
-abbrev pub WritesWhy : Hands → Result WhyVerdict JudgeError → Result Verdict JudgeError → Option (List ℕ) → Option (List ℕ) → Type 0
-WritesWhy hands (Err e) result old new = (result ≡ Err e) × Keeps old new
-WritesWhy hands (Ok why) result old new =
-    ((result ≡ Ok (verdict_of_why why)) × Appends old new (text_of_why hands why))
-    ⊎ (((result ≡ Err error.Write) × AppendsPart old new (text_of_why hands why)) ⊎ ((result ≡ Err error.OutOfMemory) × Keeps old new))
+abbrev pub WritesWhy : Profile → Result WhyVerdict JudgeError → Result Verdict JudgeError → Option (List ℕ) → Option (List ℕ) → Type 0
+WritesWhy profile (Err e) result old new = (result ≡ Err e) × Keeps old new
+WritesWhy profile (Ok why) result old new =
+    ((result ≡ Ok (verdict_of_why why)) × Appends old new (text_of_why profile why))
+    ⊎ (((result ≡ Err error.Write) × AppendsPart old new (text_of_why profile why)) ⊎ ((result ≡ Err error.OutOfMemory) × Keeps old new))
 
 -- a judging that says why no run remains, of these rows where they are known, and the writing of its text
-abbrev pub TellsWhy : Hands → Option Rows → Option (List ℕ) → Result Verdict JudgeError → Option (List ℕ) → Type 0
-TellsWhy hands known old judged all = (found : Result WhyVerdict JudgeError) × IsJudgedWhy hands known found × WritesWhy hands found judged old all
+abbrev pub TellsWhy : Profile → Option Rows → Option (List ℕ) → Result Verdict JudgeError → Option (List ℕ) → Type 0
+TellsWhy profile known old judged all = (found : Result WhyVerdict JudgeError) × IsJudgedWhy profile known found × WritesWhy profile found judged old all
 
 -- some judging of this kind, with this kind of answer, ended with this result, and the writer holds this now
 pub record EndsAs {A : Type 0} (Kind : Result A JudgeError → Option (List ℕ) → Type 0) (result : Result A JudgeError) (now : Option (List ℕ)) : Type 0 where

@@ -10,7 +10,7 @@ use Rattle.std.specs.declared.io.ErrorKind.TheVariants.{FilesystemLoop, IsADirec
 use Rattle.capture9.specs.declared.error.CaptureError.{CaptureError}
 use Rattle.capture9.specs.declared.error.CaptureKind.TheVariants as kind
 use Rattle.capture9.specs.Rows.{HasHeader, Rows, rows_of}
-use Rattle.deck9.specs.declared.state.Hands.{Hands}
+use Rattle.deck9.specs.declared.profile.Profile.{Profile}
 use Rattle.verdict9.specs.declared.error.JudgeError.{JudgeError}
 use Rattle.verdict9.specs.declared.error.JudgeError.TheVariants as error
 use Rattle.verdict9.specs.declared.totals.Totals.{Totals}
@@ -59,19 +59,19 @@ outcome_unopened file e = outcome_of_kind file (error_kind e)
 
 -- what a judging with this verb tells: `check` the verdict, `explain` each exchange before it, `run` a run of the deck,
 -- `why` the replies that contradict one another
-abbrev pub TellsFor : Verb → Hands → Option Rows → Option (List ℕ) → Result Verdict JudgeError → Option (List ℕ) → Type 0
-TellsFor verb.Check hands known old judged all = Told view.Verdict hands known judged old all
-TellsFor verb.Explain hands known old judged all = Told view.Explain hands known judged old all
-TellsFor verb.Run hands known old judged all = TellsRun hands known old judged all
-TellsFor verb.Why hands known old judged all = TellsWhy hands known old judged all
+abbrev pub TellsFor : Verb → Profile → Option Rows → Option (List ℕ) → Result Verdict JudgeError → Option (List ℕ) → Type 0
+TellsFor verb.Check profile known old judged all = Told view.Verdict profile known judged old all
+TellsFor verb.Explain profile known old judged all = Told view.Explain profile known judged old all
+TellsFor verb.Run profile known old judged all = TellsRun profile known old judged all
+TellsFor verb.Why profile known old judged all = TellsWhy profile known old judged all
 
--- a capture, whose text is given where it is known, was judged with this verb and these hands: the result, and what the
+-- a capture, whose text is given where it is known, was judged with this verb, for a deck that is taken for this: the result, and what the
 -- writer holds before and after
-pub record IsJudgedFor (verb : Verb) (hands : Hands) (capture : Option (List ℕ)) (old : Option (List ℕ)) (result : Result Verdict JudgeError)
+pub record IsJudgedFor (verb : Verb) (profile : Profile) (capture : Option (List ℕ)) (old : Option (List ℕ)) (result : Result Verdict JudgeError)
     (now : Option (List ℕ)) : Type 0 where
-  pub answer : IfSome capture (λ text. IfSome (answer_of result) (IsTheAnswer hands (rows_of text)))
-  pub told : EndsAs (TellsFor verb hands (option_map rows_of capture) old) result now
-  pub stopped : IfSome capture (λ text. IfErr result (StoppedBefore hands (rows_of text)))
+  pub answer : IfSome capture (λ text. IfSome (answer_of result) (IsTheAnswer profile (rows_of text)))
+  pub told : EndsAs (TellsFor verb profile (option_map rows_of capture) old) result now
+  pub stopped : IfSome capture (λ text. IfErr result (StoppedBefore profile (rows_of text)))
   pub kind : (e : CaptureError) → result ≡ Err (error.Capture e) → e.kind ≢ kind.OutOfMemory
   pub can_be : CanBeResult result
 
@@ -83,33 +83,33 @@ goes_on verb.Run all = false
 goes_on verb.Why all = all
 
 -- what a judging part by part with this verb tells of each part; one with another verb never goes on
-abbrev pub TellsInParts : Verb → Hands → Option Rows → Option (List ℕ) → Result Totals JudgeError → Option (List ℕ) → Type 0
-TellsInParts verb.Check hands known old judged all = ToldInParts (telling.Shown view.Verdict) hands known judged old all
-TellsInParts verb.Explain hands known old judged all = ToldInParts (telling.Shown view.Explain) hands known judged old all
-TellsInParts verb.Run hands known old judged all = ⊥
-TellsInParts verb.Why hands known old judged all = ToldInParts telling.Why hands known judged old all
+abbrev pub TellsInParts : Verb → Profile → Option Rows → Option (List ℕ) → Result Totals JudgeError → Option (List ℕ) → Type 0
+TellsInParts verb.Check profile known old judged all = ToldInParts (telling.Shown view.Verdict) profile known judged old all
+TellsInParts verb.Explain profile known old judged all = ToldInParts (telling.Shown view.Explain) profile known judged old all
+TellsInParts verb.Run profile known old judged all = ⊥
+TellsInParts verb.Why profile known old judged all = ToldInParts telling.Why profile known judged old all
 
--- a capture, whose text is given where it is known, was judged part by part with this verb and these hands: the result, and
+-- a capture, whose text is given where it is known, was judged part by part with this verb, for a deck that is taken for this: the result, and
 -- what the writer holds before and after
-pub record IsJudgedInParts (verb : Verb) (hands : Hands) (capture : Option (List ℕ)) (old : Option (List ℕ)) (result : Result Totals JudgeError)
+pub record IsJudgedInParts (verb : Verb) (profile : Profile) (capture : Option (List ℕ)) (old : Option (List ℕ)) (result : Result Totals JudgeError)
     (now : Option (List ℕ)) : Type 0 where
-  pub told : EndsAs (TellsInParts verb hands (option_map rows_of capture) old) result now
+  pub told : EndsAs (TellsInParts verb profile (option_map rows_of capture) old) result now
   pub kind : (e : CaptureError) → result ≡ Err (error.Capture e) → e.kind ≢ kind.OutOfMemory
   pub header : IfSome capture (λ text. (e : CaptureError) → result ≡ Err (error.Capture e) → e.row ≢ 0 → HasHeader (rows_of text))
 
--- a capture was judged with this verb and these hands, and this is the end: it was judged part by part, or to its first break
-abbrev pub EndsJudged : Bool → Verb → Hands → Option (List ℕ) → Option (List ℕ) → Outcome → Option (List ℕ) → Type 0
-EndsJudged true verb hands capture old end now =
-    (result : Result Totals JudgeError) × IsJudgedInParts verb hands capture old result now × (end ≡ outcome_in_parts result)
-EndsJudged false verb hands capture old end now =
-    (result : Result Verdict JudgeError) × IsJudgedFor verb hands capture old result now × (end ≡ outcome_of result)
+-- a capture was judged with this verb, for a deck that is taken for this, and this is the end: it was judged part by part, or to its first break
+abbrev pub EndsJudged : Bool → Verb → Profile → Option (List ℕ) → Option (List ℕ) → Outcome → Option (List ℕ) → Type 0
+EndsJudged true verb profile capture old end now =
+    (result : Result Totals JudgeError) × IsJudgedInParts verb profile capture old result now × (end ≡ outcome_in_parts result)
+EndsJudged false verb profile capture old end now =
+    (result : Result Verdict JudgeError) × IsJudgedFor verb profile capture old result now × (end ≡ outcome_of result)
 
 -- a task's capture was opened so, and this is the end: it was not opened, and nothing is written; or it was judged as
 -- the task says; or memory for the buffer was refused, and nothing is written
 abbrev pub EndsOpened : {R : Type 0} → (R → Option (List ℕ)) → Task → Result R Error → Option (List ℕ) → Outcome → Option (List ℕ) → Type 0
 EndsOpened coming task (Err e) old end now = (end ≡ outcome_unopened task.file e) × Keeps old now
 EndsOpened coming task (Ok reader) old end now =
-    ((end ≡ no_memory) × Keeps old now) ⊎ EndsJudged (goes_on task.verb task.all) task.verb task.hands (coming reader) old end now
+    ((end ≡ no_memory) × Keeps old now) ⊎ EndsJudged (goes_on task.verb task.all) task.verb task.profile (coming reader) old end now
 
 -- the task was carried out: its file was opened, or standard input where it names none, and this is the end
 pub record EndsTask {R : Type 0} (opens : Option (String Global) → Result R Error → Type 0) (coming : R → Option (List ℕ)) (task : Task) (old : Option (List ℕ))

@@ -13,14 +13,15 @@ ghost use Rattle.program9.specs.Program.{TellsFor};
 use crate::buffered::Buffered;
 use block9::Reason;
 use capture9::{CaptureError, CaptureKind};
-use deck9::Hands;
+use deck9::{Hands, Profile};
 use judge9::{
-    JudgeError, RunVerdict, Telling, Totals, Verdict, View, WhyVerdict, judge, judge_parts,
-    judge_with_contradiction, judge_with_run,
+    JudgeError, RunVerdict, Telling, Totals, Verdict, View, WhyVerdict, judge_for, judge_parts_for,
+    judge_with_contradiction_for, judge_with_run_for,
 };
-use report9::{write_run, write_why};
+use report9::{write_run_for, write_why_for};
 use std::alloc::Global;
 use std::io::{Read, Write};
+use tc25::Rate;
 use words9::Verb;
 
 /// Judges the capture that the reader gives as the verb says, and passes the whole report on to the writer behind the buffer.
@@ -39,22 +40,44 @@ pub fn judge_and_flush<R: Read + Drop, W: Write + Drop>(
     hands: Hands,
 ) -> Result<Verdict, JudgeError>
     ensures answer { IfSome (R.remaining reader)
-        (λ text. IfSome (answer_of result) (IsTheAnswer hands (rows_of text))) }
-    ensures told { EndsAs (TellsFor verb hands (option_map rows_of (R.remaining reader))
+        (λ text. IfSome (answer_of result) (IsTheAnswer (record { rate = Rate.Fps25; hands = hands }) (rows_of text))) }
+    ensures told { EndsAs (TellsFor verb (record { rate = Rate.Fps25; hands = hands }) (option_map rows_of (R.remaining reader))
         (held_contents W.contents out.old))
         result (contents_behind W.contents out.new) }
     ensures stopped { IfSome (R.remaining reader)
-        (λ text. IfErr result (StoppedBefore hands (rows_of text))) }
+        (λ text. IfErr result (StoppedBefore (record { rate = Rate.Fps25; hands = hands }) (rows_of text))) }
     ensures kind { (e : CaptureError) → result ≡ Err (JudgeError.Capture e)
         → e.kind ≢ CaptureKind.OutOfMemory }
     ensures can_be { CanBeResult result }
 {
-    let judged = tell(alloc, reader, out, verb, hands);
+    judge_and_flush_for(alloc, reader, out, verb, Profile::of(hands))
+}
+
+/// Judges the capture of a deck that is taken for this, and passes the whole report on: [`judge_and_flush`] at any rate.
+pub fn judge_and_flush_for<R: Read + Drop, W: Write + Drop>(
+    alloc: Global,
+    reader: R,
+    out: &mut Buffered<W>,
+    verb: Verb,
+    profile: Profile,
+) -> Result<Verdict, JudgeError>
+    ensures answer { IfSome (R.remaining reader)
+        (λ text. IfSome (answer_of result) (IsTheAnswer profile (rows_of text))) }
+    ensures told { EndsAs (TellsFor verb profile (option_map rows_of (R.remaining reader))
+        (held_contents W.contents out.old))
+        result (contents_behind W.contents out.new) }
+    ensures stopped { IfSome (R.remaining reader)
+        (λ text. IfErr result (StoppedBefore profile (rows_of text))) }
+    ensures kind { (e : CaptureError) → result ≡ Err (JudgeError.Capture e)
+        → e.kind ≢ CaptureKind.OutOfMemory }
+    ensures can_be { CanBeResult result }
+{
+    let judged = tell(alloc, reader, out, verb, profile);
     ended(out, judged)
 }
 
-/// Judges the whole capture that the reader gives, part by part, tells what is asked for of each part, and passes the whole report on to the writer
-/// behind the buffer.
+/// Judges the whole capture that the reader gives, part by part, tells what is asked for of each part, and passes the whole report
+/// on to the writer behind the buffer.
 ///
 /// The report is that of `judge_parts`. The result is what that answers where the writer took the whole report. Else it is
 /// `Err(Write)`, and the writer has a first part of the report; what the buffer still holds is not written. After a write that
@@ -67,7 +90,7 @@ pub fn judge_parts_and_flush<R: Read + Drop, W: Write + Drop>(
     hands: Hands,
 ) -> Result<Totals, JudgeError>
     ensures told { EndsAs
-        (λ judged all. ToldInParts telling hands (option_map rows_of (R.remaining reader)) judged
+        (λ judged all. ToldInParts telling (record { rate = Rate.Fps25; hands = hands }) (option_map rows_of (R.remaining reader)) judged
         (held_contents W.contents out.old) all)
         result (contents_behind W.contents out.new) }
     ensures kind { (e : CaptureError) → result ≡ Err (JudgeError.Capture e)
@@ -75,7 +98,28 @@ pub fn judge_parts_and_flush<R: Read + Drop, W: Write + Drop>(
     ensures header { IfSome (R.remaining reader) (λ text. (e : CaptureError)
         → result ≡ Err (JudgeError.Capture e) → e.row ≢ 0 → HasHeader (rows_of text)) }
 {
-    let judged = judge_parts(alloc, reader, out, telling, hands);
+    judge_parts_and_flush_for(alloc, reader, out, telling, Profile::of(hands))
+}
+
+/// Judges the whole capture of a deck that is taken for this, part by part, and passes the whole report on:
+/// [`judge_parts_and_flush`] at any rate.
+pub fn judge_parts_and_flush_for<R: Read + Drop, W: Write + Drop>(
+    alloc: Global,
+    reader: R,
+    out: &mut Buffered<W>,
+    telling: Telling,
+    profile: Profile,
+) -> Result<Totals, JudgeError>
+    ensures told { EndsAs
+        (λ judged all. ToldInParts telling profile (option_map rows_of (R.remaining reader)) judged
+        (held_contents W.contents out.old) all)
+        result (contents_behind W.contents out.new) }
+    ensures kind { (e : CaptureError) → result ≡ Err (JudgeError.Capture e)
+        → e.kind ≢ CaptureKind.OutOfMemory }
+    ensures header { IfSome (R.remaining reader) (λ text. (e : CaptureError)
+        → result ≡ Err (JudgeError.Capture e) → e.row ≢ 0 → HasHeader (rows_of text)) }
+{
+    let judged = judge_parts_for(alloc, reader, out, telling, profile);
     ended(out, judged)
 }
 
@@ -85,14 +129,14 @@ fn tell<R: Read + Drop, W: Write>(
     reader: R,
     writer: &mut W,
     verb: Verb,
-    hands: Hands,
+    profile: Profile,
 ) -> Result<Verdict, JudgeError>
     ensures answer { IfSome (R.remaining reader)
-        (λ text. IfSome (answer_of result) (IsTheAnswer hands (rows_of text))) }
-    ensures told { TellsFor verb hands (option_map rows_of (R.remaining reader))
+        (λ text. IfSome (answer_of result) (IsTheAnswer profile (rows_of text))) }
+    ensures told { TellsFor verb profile (option_map rows_of (R.remaining reader))
         (W.contents writer.old) result (W.contents writer.new) }
     ensures stopped { IfSome (R.remaining reader)
-        (λ text. IfErr result (StoppedBefore hands (rows_of text))) }
+        (λ text. IfErr result (StoppedBefore profile (rows_of text))) }
     ensures kind { (e : CaptureError) → result ≡ Err (JudgeError.Capture e)
         → e.kind ≢ CaptureKind.OutOfMemory }
     ensures can_be { CanBeResult result }
@@ -101,28 +145,28 @@ fn tell<R: Read + Drop, W: Write>(
         Verb::Check => View::Verdict,
         Verb::Explain => View::Explain,
         Verb::Run => {
-            let found = judge_with_run(alloc, reader, hands);
-            return tell_run(writer, found, hands);
+            let found = judge_with_run_for(alloc, reader, profile);
+            return tell_run(writer, found, profile);
         }
         Verb::Why => {
-            let found = judge_with_contradiction(alloc, reader, hands);
-            return tell_why(alloc, writer, found, hands);
+            let found = judge_with_contradiction_for(alloc, reader, profile);
+            return tell_why(alloc, writer, found, profile);
         }
     };
-    judge(alloc, reader, writer, view, hands)
+    judge_for(alloc, reader, writer, view, profile)
 }
 
 /// Writes the text of a run where there is one, and answers its verdict.
 fn tell_run<W: Write>(
     writer: &mut W,
     found: Result<RunVerdict, JudgeError>,
-    hands: Hands,
+    profile: Profile,
 ) -> Result<Verdict, JudgeError>
     requires { CanBeResult (judged_of found) }
-    ensures { WritesRun hands found result (W.contents writer.old) (W.contents writer.new) }
+    ensures { WritesRun profile found result (W.contents writer.old) (W.contents writer.new) }
 {
     let run = found?;
-    write_run(writer, &run, hands)?;
+    write_run_for(writer, &run, profile)?;
     Ok(verdict_of(&run))
 }
 
@@ -154,12 +198,12 @@ fn tell_why<W: Write>(
     alloc: Global,
     writer: &mut W,
     found: Result<WhyVerdict, JudgeError>,
-    hands: Hands,
+    profile: Profile,
 ) -> Result<Verdict, JudgeError>
-    ensures { WritesWhy hands found result (W.contents writer.old) (W.contents writer.new) }
+    ensures { WritesWhy profile found result (W.contents writer.old) (W.contents writer.new) }
 {
     let why = found?;
-    write_why(alloc, writer, &why, hands)?;
+    write_why_for(alloc, writer, &why, profile)?;
     Ok(verdict_of_why(&why))
 }
 

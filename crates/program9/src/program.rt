@@ -6,10 +6,10 @@ ghost use Rattle.program9.specs.Program.{EndsJudged, EndsProgram, EndsTask, Ends
 
 use crate::buffered::Buffered;
 use crate::ending::{End, Message, Outcome, Unopened, WhyUnopened};
-use crate::judging::{judge_and_flush, judge_parts_and_flush};
+use crate::judging::{judge_and_flush_for, judge_parts_and_flush_for};
 use crate::status::{outcome, outcome_in_parts};
 use crate::version::tell_version;
-use deck9::Hands;
+use deck9::Profile;
 use judge9::{Telling, View};
 use std::alloc::Global;
 use std::io::{self, Read, Write};
@@ -22,7 +22,7 @@ use words9::{Task, Verb, WordsFault, read_words};
 /// `opener` is asked once, for the task's file, where there is a task. The end is
 ///
 /// * `Usage` only where the words are no command, or could not be fetched as text: nothing is written;
-/// * the `Outcome` of the judging that the words ask for: with their verb, with hands where they say so, and with `check`,
+/// * the `Outcome` of the judging that the words ask for: with their verb, at their rate, with hands where they say so, and with `check`,
 ///   `explain` and `why` part by part where they say `--all`;
 /// * status 4 with `CannotOpen`, the file and the reason where `opener` failed: nothing is written;
 /// * status 0 where the words ask for the version: its line is written; or status 4 with `WriteFault`, and a first part of
@@ -77,7 +77,7 @@ fn carry_out<F: FnOnce(&Option<String>) -> io::Result<R>, R: Read + Drop, W: Wri
     let Task {
         verb,
         file,
-        hands,
+        profile,
         all,
     } = task;
     let reader = match opener(&file) {
@@ -88,36 +88,36 @@ fn carry_out<F: FnOnce(&Option<String>) -> io::Result<R>, R: Read + Drop, W: Wri
         Ok(out) => out,
         Err(out) => return (Outcome::new(5, Message::NoMemory), out),
     };
-    let end = judge_for(alloc, reader, &mut out, verb, hands, all);
+    let end = judge_task(alloc, reader, &mut out, verb, profile, all);
     (end, out.into_writer())
 }
 
 /// Judges the capture with the verb, part by part where it goes on after a break, and hands the report on: the end.
-fn judge_for<R: Read + Drop, W: Write + Drop>(
+fn judge_task<R: Read + Drop, W: Write + Drop>(
     alloc: Global,
     reader: R,
     out: &mut Buffered<W>,
     verb: Verb,
-    hands: Hands,
+    profile: Profile,
     all: bool,
 ) -> Outcome
-    ensures { EndsJudged (goes_on verb all) verb hands (R.remaining reader)
+    ensures { EndsJudged (goes_on verb all) verb profile (R.remaining reader)
         (held_contents W.contents out.old) result (contents_behind W.contents out.new) }
 {
     match verb {
         Verb::Check if all => {
             let telling = Telling::Shown(View::Verdict);
-            outcome_in_parts(&judge_parts_and_flush(alloc, reader, out, telling, hands))
+            outcome_in_parts(&judge_parts_and_flush_for(alloc, reader, out, telling, profile))
         }
         Verb::Explain if all => {
             let telling = Telling::Shown(View::Explain);
-            outcome_in_parts(&judge_parts_and_flush(alloc, reader, out, telling, hands))
+            outcome_in_parts(&judge_parts_and_flush_for(alloc, reader, out, telling, profile))
         }
         Verb::Why if all => {
-            outcome_in_parts(&judge_parts_and_flush(alloc, reader, out, Telling::Why, hands))
+            outcome_in_parts(&judge_parts_and_flush_for(alloc, reader, out, Telling::Why, profile))
         }
         Verb::Check | Verb::Explain | Verb::Run | Verb::Why => {
-            let judged = judge_and_flush(alloc, reader, out, verb, hands);
+            let judged = judge_and_flush_for(alloc, reader, out, verb, profile);
             outcome(&judged)
         }
     }

@@ -1,47 +1,47 @@
 -- The lines of a run, and those of a record that breaks a rule of pairing, one after another.
 use Rattle.report9.proofs.Words.{ap, Controller, Deck, end_before, EndedExchange, line_if_ended, progress_told, Wire}
 use Rattle.report9.proofs.Words.{[], reply_records, append-nil, append_assoc, Appends, Appends-trans, AppendsPart, command_records, begins, bytes_of, codes, Command, Exchange}
-use Rattle.report9.proofs.Words.{failed, first_part, Hands, hex_bytes, inl, inr, IsErr, joined, last_time-last, length, line_of_breaking, line_of_open, line_of_state, LineByte}
+use Rattle.report9.proofs.Words.{failed, first_part, Profile, hex_bytes, inl, inr, IsErr, joined, last_time-last, length, line_of_breaking, line_of_open, line_of_state, LineByte}
 use Rattle.report9.proofs.Words.{lines_of_break, lines_of_run, List, Option, part_after, Reason, records_of, refl, Result, slice_get, Some, State, sym}
-use Rattle.report9.proofs.Words.{text_of_records, words_if_whole, Writes, ℕ, ◌++◌, ◌+◌, ◌-◌, ◌∷◌, ◌≡◌, ◌⊎◌}
+use Rattle.report9.proofs.Words.{Rate, text_of_records, words_if_whole, Writes, ℕ, ◌++◌, ◌+◌, ◌-◌, ◌∷◌, ◌≡◌, ◌⊎◌}
 
 -- all the lines were written but those of these exchanges and states, which are left
-pub record LinesSoFar (hands : Hands) (exchanges : List Exchange) (states : List State) (es : List Exchange) (ss : List State) (at : ℕ)
+pub record LinesSoFar (profile : Profile) (exchanges : List Exchange) (states : List State) (es : List Exchange) (ss : List State) (at : ℕ)
     (old now : Option (List ℕ)) : Type 0 where
   pub text : List ℕ
   pub written : Appends old now text
-  pub rest : lines_of_run hands 0 exchanges states ≡ text ++ lines_of_run hands at es ss
+  pub rest : lines_of_run profile 0 exchanges states ≡ text ++ lines_of_run profile at es ss
 
-module _ {hands : Hands} {exchanges left es : List Exchange} {states later ss : List State} {e : Exchange} {s : State} {at n : ℕ} {old now : Option (List ℕ)}
-    (h : LinesSoFar hands exchanges states left later at old now) (first : left ≡ e ∷ es) (second : later ≡ s ∷ ss) (number : n ≡ records_of e) where
+module _ {profile : Profile} {exchanges left es : List Exchange} {states later ss : List State} {e : Exchange} {s : State} {at n : ℕ} {old now : Option (List ℕ)}
+    (h : LinesSoFar profile exchanges states left later at old now) (first : left ≡ e ∷ es) (second : later ≡ s ∷ ss) (number : n ≡ records_of e) where
   -- the text is what was written, the next line and what comes after it
-  split-next : lines_of_run hands 0 exchanges states ≡ (h.text ++ line_of_state hands (at + n) s) ++ lines_of_run hands (at + n) es ss
+  split-next : lines_of_run profile 0 exchanges states ≡ (h.text ++ line_of_state profile (at + n) s) ++ lines_of_run profile (at + n) es ss
   split-next = rw (append_assoc, number) (rw (first, second) at h.rest)
 
   -- one line more
-  pub lines-more : {new : Option (List ℕ)} → Appends now new (line_of_state hands (at + n) s) → LinesSoFar hands exchanges states es ss (at + n) old new
+  pub lines-more : {new : Option (List ℕ)} → Appends now new (line_of_state profile (at + n) s) → LinesSoFar profile exchanges states es ss (at + n) old new
   lines-more {new = new} line = record {
-    text = h.text ++ line_of_state hands (at + n) s;
+    text = h.text ++ line_of_state profile (at + n) s;
     written =
-        Appends-trans old now new h.text (line_of_state hands (at + n) s) h.written line;
+        Appends-trans old now new h.text (line_of_state profile (at + n) s) h.written line;
     rest = split-next;
   }
 
   -- a first part of one line more
-  pub lines-part : (new : Option (List ℕ)) → AppendsPart now new (line_of_state hands (at + n) s) → AppendsPart old new (lines_of_run hands 0 exchanges states)
-  lines-part new part = rw split-next (first_part old new (h.text ++ line_of_state hands (at + n) s) (lines_of_run hands (at + n) es ss)
-      (part_after old now new h.text (line_of_state hands (at + n) s) h.written part))
+  pub lines-part : (new : Option (List ℕ)) → AppendsPart now new (line_of_state profile (at + n) s) → AppendsPart old new (lines_of_run profile 0 exchanges states)
+  lines-part new part = rw split-next (first_part old new (h.text ++ line_of_state profile (at + n) s) (lines_of_run profile (at + n) es ss)
+      (part_after old now new h.text (line_of_state profile (at + n) s) h.written part))
 
 -- no exchange is left, or no state
-no-more : (hands : Hands) (at : ℕ) (es : List Exchange) (ss : List State) → (es ≡ []) ⊎ (ss ≡ []) → lines_of_run hands at es ss ≡ []
-no-more hands at [] ss none = refl
-no-more hands at (e ∷ es) [] none = refl
-no-more hands at (e ∷ es) (s ∷ ss) none = elim none [ inl f ↦ cc | inr f ↦ cc ]
+no-more : (profile : Profile) (at : ℕ) (es : List Exchange) (ss : List State) → (es ≡ []) ⊎ (ss ≡ []) → lines_of_run profile at es ss ≡ []
+no-more profile at [] ss none = refl
+no-more profile at (e ∷ es) [] none = refl
+no-more profile at (e ∷ es) (s ∷ ss) none = elim none [ inl f ↦ cc | inr f ↦ cc ]
 
 -- all lines
-pub lines-end : {hands : Hands} {exchanges es : List Exchange} {states ss : List State} {at : ℕ} {old now : Option (List ℕ)}
-    → LinesSoFar hands exchanges states es ss at old now → (es ≡ []) ⊎ (ss ≡ []) → Appends old now (lines_of_run hands 0 exchanges states)
-lines-end {hands = hands} {es = es} {ss = ss} {at = at} h none = rw (h.rest, no-more hands at es ss none, append-nil) h.written
+pub lines-end : {profile : Profile} {exchanges es : List Exchange} {states ss : List State} {at : ℕ} {old now : Option (List ℕ)}
+    → LinesSoFar profile exchanges states es ss at old now → (es ≡ []) ⊎ (ss ≡ []) → Appends old now (lines_of_run profile 0 exchanges states)
+lines-end {profile = profile} {es = es} {ss = ss} {at = at} h none = rw (h.rest, no-more profile at es ss none, append-nil) h.written
 
 -- ---- a text that is written piece by piece
 
@@ -72,14 +72,14 @@ open_line before words wire breaking records first rest l u v w x z split p q s 
     (progress_told wire (first ∷ rest) breaking) (codes "\n") u v w x z
     (rw split at p) q s (rw split at t) last)
 
-pub break_lines : (at n count : ℕ) (reason : Reason) (tail asked answered : List LineByte) (command : Option Command) (before : Option EndedExchange)
+pub break_lines : (rate : Rate) (at n count : ℕ) (reason : Reason) (tail asked answered : List LineByte) (command : Option Command) (before : Option EndedExchange)
     (r : LineByte) (l u v w z : List ℕ) → count ≡ at - (length tail + 1) → n ≡ length asked
-    → asked ≡ command_records tail → answered ≡ reply_records tail → u ≡ l ++ line_if_ended count before
-    → v ≡ u ++ line_of_open count (words_if_whole command) Controller r.wire asked
+    → asked ≡ command_records tail → answered ≡ reply_records tail → u ≡ l ++ line_if_ended rate count before
+    → v ≡ u ++ line_of_open count (words_if_whole rate command) Controller r.wire asked
     → w ≡ v ++ line_of_open (count + n) (codes "-> ") Deck r.wire answered → z ≡ w ++ line_of_breaking at reason tail before r
-    → z ≡ l ++ lines_of_break (at - (length tail + 1)) at reason tail command before r
+    → z ≡ l ++ lines_of_break rate (at - (length tail + 1)) at reason tail command before r
 unfolding lines_of_break
-break_lines at n count reason tail asked answered command before r l u v w z number len is_asked is_answered o p q s =
+break_lines rate at n count reason tail asked answered command before r l u v w z number len is_asked is_answered o p q s =
     rw (s, q, p, o, len, is_asked, is_answered, number) (simp append_assoc)
 
 -- a label and a text, with more after it

@@ -9,7 +9,7 @@ pub use Rattle.deck9.proofs.ModeSetLemmas.{some_any}
 pub use Rattle.deck9.specs.Mode.{every_mode, name_of}
 pub use Rattle.deck9.specs.ModeSet.{has}
 pub use Rattle.deck9.specs.declared.mode.Mode.{Mode}
-pub use Rattle.deck9.specs.declared.state.Hands.{Hands}
+pub use Rattle.deck9.specs.declared.profile.Profile.{Profile}
 pub use Rattle.deck9.specs.declared.state.State.{State}
 pub use Rattle.report9.specs.RunText.{known_entry, known_state, lines_of_run}
 unfoldable pub use Rattle.report9.specs.RunText.{line_of_state}
@@ -33,6 +33,7 @@ pub use Rattle.std.specs.Io.KnownBytes.{Appends}
 pub use Rattle.std.specs.List.{list_all, list_any, sum}
 pub use Rattle.std.specs.Result.{IsErr}
 pub use Rattle.tc25.specs.Day.{text_of}
+pub use Rattle.tc25.specs.declared.rate.Rate.{Rate}
 pub use Rattle.text9.proofs.PieceLemmas.{pieces2, pieces3, pieces4, pieces6, pieces_after, pieces_after2}
 pub use Rattle.text9.proofs.WriteLemmas.{begins, failed, first_part, in_pairs, joined, part_after, piece_after, writes}
 pub use Rattle.text9.specs.Explanation.{hex_byte, text_of_fields, text_of_local, text_of_mode, text_of_panel}

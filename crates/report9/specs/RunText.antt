@@ -8,7 +8,7 @@ use Rattle.deck9.specs.declared.knowledge.KnownEntry.TheVariants as entry
 use Rattle.deck9.specs.declared.knowledge.Knowledge.{Knowledge}
 use Rattle.deck9.specs.declared.state.Entry.{Entry}
 use Rattle.deck9.specs.declared.state.Entry.TheVariants.{Clear, At}
-use Rattle.deck9.specs.declared.state.Hands.{Hands}
+use Rattle.deck9.specs.declared.profile.Profile.{Profile}
 use Rattle.deck9.specs.declared.state.State.{State}
 use Rattle.verdict9.specs.declared.run_verdict.RunVerdict.{RunVerdict}
 use Rattle.verdict9.specs.declared.run_verdict.RunVerdict.TheVariants as run
@@ -37,17 +37,17 @@ known_state s = record {
 
 -- the line of an exchange, by the number of its reply's last record and the state after it, told field by field as an
 -- explanation tells what is known
-unfoldable pub line_of_state : Hands → ℕ → State → List ℕ
-line_of_state hands at s = (codes "record " ++ decimal at) ++ codes ": " ++ text_of_knowledge hands (known_state s) ++ codes "\n"
+unfoldable pub line_of_state : Profile → ℕ → State → List ℕ
+line_of_state profile at s = (codes "record " ++ decimal at) ++ codes ": " ++ text_of_knowledge profile (known_state s) ++ codes "\n"
 
 -- the lines of exchanges with the states after them, as far as both go; the record of this number is the last before them
-abbrev pub lines_of_run : Hands → ℕ → List Exchange → List State → List ℕ
-lines_of_run hands at [] states = []
-lines_of_run hands at (e ∷ es) [] = []
-lines_of_run hands at (e ∷ es) (s ∷ ss) = line_of_state hands (at + records_of e) s ++ lines_of_run hands (at + records_of e) es ss
+abbrev pub lines_of_run : Profile → ℕ → List Exchange → List State → List ℕ
+lines_of_run profile at [] states = []
+lines_of_run profile at (e ∷ es) [] = []
+lines_of_run profile at (e ∷ es) (s ∷ ss) = line_of_state profile (at + records_of e) s ++ lines_of_run profile (at + records_of e) es ss
 
 -- the whole text: the lines of a yes, and the line of the verdict
-abbrev pub text_of_run : Hands → RunVerdict → List ℕ
-text_of_run hands (run.Yes records tail exchanges states) =
-    lines_of_run hands 0 exchanges.items states.items ++ line_of (verdict.Yes records (length exchanges.items) tail)
-text_of_run hands (run.No at reason) = line_of (verdict.No at reason)
+abbrev pub text_of_run : Profile → RunVerdict → List ℕ
+text_of_run profile (run.Yes records tail exchanges states) =
+    lines_of_run profile 0 exchanges.items states.items ++ line_of (verdict.Yes records (length exchanges.items) tail)
+text_of_run profile (run.No at reason) = line_of (verdict.No at reason)

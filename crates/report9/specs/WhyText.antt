@@ -24,7 +24,8 @@ use Rattle.deck9.specs.ModeSet.{has}
 use Rattle.deck9.specs.declared.mode.Mode.{Mode}
 use Rattle.deck9.specs.declared.sense.Sense.{Sense}
 use Rattle.deck9.specs.declared.sense.Sense.TheVariants as sense
-use Rattle.deck9.specs.declared.state.Hands.{Hands}
+use Rattle.deck9.specs.declared.profile.Profile.{Profile}
+use Rattle.tc25.specs.declared.rate.Rate.{Rate}
 use Rattle.deck9.specs.declared.status.RegistersSet.{RegistersSet}
 use Rattle.deck9.specs.declared.status.Status.{Status}
 use Rattle.deck9.specs.Mode.{every_mode, name_of as name_of_mode}
@@ -61,9 +62,9 @@ with_space None = []
 with_space (Some word) = word ++ codes " "
 
 -- a time and a space, where there is a time
-abbrev pub time_with_space : Option ℕ → List ℕ
-time_with_space None = []
-time_with_space (Some time) = text_of time ++ codes " "
+abbrev pub time_with_space : Rate → Option ℕ → List ℕ
+time_with_space rate None = []
+time_with_space rate (Some time) = text_of rate time ++ codes " "
 
 -- the names of those of some modes that are chosen
 abbrev pub names_of : (Mode → Bool) → List Mode → List (List ℕ)
@@ -77,12 +78,12 @@ text_of_modes set = if list_any (has set.0) every_mode then in_a_row [] (codes "
 -- ---- what was asked, and what was answered
 
 -- the name of a command that is listed, and its time
-unfoldable pub words_of : Command → List ℕ
-words_of c = with_space (name_of c) ++ time_with_space (time_in c)
+unfoldable pub words_of : Rate → Command → List ℕ
+words_of rate c = with_space (name_of c) ++ time_with_space rate (time_in c)
 
 -- these, and the bytes of its block
-unfoldable pub text_of_command_sent : Exchange → List ℕ
-text_of_command_sent e = words_of e.command ++ text_of_block e.block
+unfoldable pub text_of_command_sent : Rate → Exchange → List ℕ
+text_of_command_sent rate e = words_of rate e.command ++ text_of_block e.block
 
 -- what a status says by itself, each part where it is reported: LOCAL; the modes that may be shown; the registers
 abbrev pub local_said : Option Bool → List (List ℕ)
@@ -106,10 +107,10 @@ abbrev pub said_by_status : Status → List (List ℕ)
 said_by_status status = local_said status.local ++ shown_said status.shown ++ registers_said status.registers
 
 -- the time before a reply's bytes: the valid one of a register
-abbrev pub time_told : Sense → Block → Option ℕ
-time_told (sense.Register r) reply = time_of reply.bytes.items
-time_told (sense.Status asked) reply = None
-time_told sense.Nothing reply = None
+abbrev pub time_told : Rate → Sense → Block → Option ℕ
+time_told rate (sense.Register r) reply = time_of rate reply.bytes.items
+time_told rate (sense.Status asked) reply = None
+time_told rate sense.Nothing reply = None
 
 -- the words after them: those of status data
 abbrev pub said : Sense → Block → List (List ℕ)
@@ -118,12 +119,12 @@ said (sense.Status asked) reply = if is_nak reply then [] else said_by_status (s
 said sense.Nothing reply = []
 
 -- the time of a register, and the bytes of the reply's block
-unfoldable pub text_of_reply : Exchange → List ℕ
-text_of_reply e = time_with_space (time_told (sense_of e.command) e.reply) ++ text_of_block e.reply
+unfoldable pub text_of_reply : Rate → Exchange → List ℕ
+text_of_reply rate e = time_with_space rate (time_told rate (sense_of e.command) e.reply) ++ text_of_block e.reply
 
 -- these, and what status data say
-unfoldable pub text_of_reply_given : Exchange → List ℕ
-text_of_reply_given e = text_of_reply e ++ in_a_row (codes ", says ") (codes ", ") (said (sense_of e.command) e.reply)
+unfoldable pub text_of_reply_given : Rate → Exchange → List ℕ
+text_of_reply_given rate e = text_of_reply rate e ++ in_a_row (codes ", says ") (codes ", ") (said (sense_of e.command) e.reply)
 
 -- ---- lines
 
@@ -133,18 +134,18 @@ unfoldable pub text_of_records : ℕ → ℕ → ℕ → List ℕ
 text_of_records at n time = (codes "records " ++ decimal (at + 1)) ++ (codes " to " ++ decimal (at + n)) ++ (codes " at " ++ decimal time)
 
 -- the line of an exchange whose reply is one of those that contradict; the record of this number is the last before it
-unfoldable pub line_of_contradicting : ℕ → Exchange → List ℕ
-line_of_contradicting at e =
+unfoldable pub line_of_contradicting : Rate → ℕ → Exchange → List ℕ
+line_of_contradicting rate at e =
     text_of_records at (records_of e) e.time_us
-    ++ (codes ": " ++ text_of_command_sent e)
-    ++ (codes " -> " ++ text_of_reply_given e)
+    ++ (codes ": " ++ text_of_command_sent rate e)
+    ++ (codes " -> " ++ text_of_reply_given rate e)
     ++ codes "\n"
 
 -- the lines of those exchanges that are at one of the places; the first of these exchanges is at `place`
-abbrev pub lines_at : List ℕ → ℕ → ℕ → List Exchange → List ℕ
-lines_at places place at [] = []
-lines_at places place at (e ∷ es) =
-    (if is_among places place then line_of_contradicting at e else []) ++ lines_at places (place + 1) (at + records_of e) es
+abbrev pub lines_at : Rate → List ℕ → ℕ → ℕ → List Exchange → List ℕ
+lines_at rate places place at [] = []
+lines_at rate places place at (e ∷ es) =
+    (if is_among places place then line_of_contradicting rate at e else []) ++ lines_at rate places (place + 1) (at + records_of e) es
 
 -- how many records exchanges have
 abbrev pub records_in : List Exchange → ℕ
@@ -156,23 +157,23 @@ unfoldable pub text_of_shown : ModeSet → List ℕ
 text_of_shown set = if list_all (has set.0) every_mode then codes "any" else text_of_modes set
 
 -- the line of what the deck could show
-unfoldable pub line_of_could_show : Hands → Knowledge → ModeSet → List ℕ
-line_of_could_show hands known shown = codes "could show: shown " ++ text_of_shown shown ++ text_of_fields hands known ++ codes "\n"
+unfoldable pub line_of_could_show : Profile → Knowledge → ModeSet → List ℕ
+line_of_could_show profile known shown = codes "could show: shown " ++ text_of_shown shown ++ text_of_fields profile known ++ codes "\n"
 
 -- ---- the lines of a record that breaks a rule of pairing
 
 -- the line of the exchange before, where no record is open: as that of one that contradicts, without what status data say;
 -- the record of this number is its last
-unfoldable pub line_of_before : ℕ → Exchange → List ℕ
-line_of_before at e =
+unfoldable pub line_of_before : Rate → ℕ → Exchange → List ℕ
+line_of_before rate at e =
     text_of_records (at - records_of e) (records_of e) e.time_us
-    ++ (codes ": " ++ text_of_command_sent e)
-    ++ (codes " -> " ++ text_of_reply e)
+    ++ (codes ": " ++ text_of_command_sent rate e)
+    ++ (codes " -> " ++ text_of_reply rate e)
     ++ codes "\n"
 
-abbrev pub line_if_ended : ℕ → Option EndedExchange → List ℕ
-line_if_ended at None = []
-line_if_ended at (Some ended) = line_of_before at ended.exchange
+abbrev pub line_if_ended : Rate → ℕ → Option EndedExchange → List ℕ
+line_if_ended rate at None = []
+line_if_ended rate at (Some ended) = line_of_before rate at ended.exchange
 
 -- a record is on a wire, as a number of records
 abbrev pub own : Wire → Wire → ℕ
@@ -196,9 +197,9 @@ line_of_open at words wire breaking (r ∷ records) =
     ++ progress_told wire (r ∷ records) breaking ++ codes "\n"
 
 -- what comes before the bytes of a command: its words, where it is complete
-abbrev pub words_if_whole : Option Command → List ℕ
-words_if_whole None = []
-words_if_whole (Some c) = words_of c
+abbrev pub words_if_whole : Rate → Option Command → List ℕ
+words_if_whole rate None = []
+words_if_whole rate (Some c) = words_of rate c
 
 abbrev pub letter_of : Wire → List ℕ
 letter_of Controller = codes "C "
@@ -236,18 +237,18 @@ line_of_breaking at reason tail before r =
     ++ since_told (end_before tail before) r ++ limit_told (limit_of reason) ++ sum_told reason tail r.wire ++ codes "\n"
 
 -- these lines; so many records come before the open ones
-unfoldable pub lines_of_break : ℕ → ℕ → Reason → List LineByte → Option Command → Option EndedExchange → LineByte → List ℕ
-lines_of_break count at reason tail command before r =
-    line_if_ended count before
-    ++ line_of_open count (words_if_whole command) Controller r.wire (command_records tail)
+unfoldable pub lines_of_break : Rate → ℕ → ℕ → Reason → List LineByte → Option Command → Option EndedExchange → LineByte → List ℕ
+lines_of_break rate count at reason tail command before r =
+    line_if_ended rate count before
+    ++ line_of_open count (words_if_whole rate command) Controller r.wire (command_records tail)
     ++ line_of_open (count + length (command_records tail)) (codes "-> ") Deck r.wire (reply_records tail)
     ++ line_of_breaking at reason tail before r
 
 -- ---- the whole text
 
-abbrev pub text_of_why : Hands → WhyVerdict → List ℕ
-text_of_why hands (why.Yes records exchanges tail) = line_of (verdict.Yes records exchanges tail)
-text_of_why hands (why.Break at reason tail command before r) =
-    lines_of_break (at - (length tail.items + 1)) at reason tail.items command before r ++ line_of (verdict.No at reason)
-text_of_why hands (why.Contradiction at exchanges places known shown) =
-    lines_at places.items 0 (at - records_in exchanges.items) exchanges.items ++ line_of_could_show hands known shown ++ line_of (verdict.No at NoRun)
+abbrev pub text_of_why : Profile → WhyVerdict → List ℕ
+text_of_why profile (why.Yes records exchanges tail) = line_of (verdict.Yes records exchanges tail)
+text_of_why profile (why.Break at reason tail command before r) =
+    lines_of_break profile.rate (at - (length tail.items + 1)) at reason tail.items command before r ++ line_of (verdict.No at reason)
+text_of_why profile (why.Contradiction at exchanges places known shown) =
+    lines_at profile.rate places.items 0 (at - records_in exchanges.items) exchanges.items ++ line_of_could_show profile known shown ++ line_of (verdict.No at NoRun)

@@ -4,5 +4,5 @@
 mod run_text;
 mod why_text;
 
-pub use run_text::write_run;
-pub use why_text::{put_why, write_why};
+pub use run_text::{write_run, write_run_for};
+pub use why_text::{put_why, put_why_for, write_why, write_why_for};

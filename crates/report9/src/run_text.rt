@@ -9,9 +9,10 @@ ghost use Rattle.report9.specs.RunText.{lines_of_run, text_of_run};
 ghost use Rattle.verdict9.specs.declared.verdict.Verdict.TheVariants as verdict;
 
 use block9::{Exchange, Reason};
-use deck9::{Hands, State};
+use deck9::{Hands, Profile, State};
 use state_line::write_state_line;
 use std::io::Write;
+use tc25::Rate;
 use text9::{WriteFault, write_count, write_text, write_word};
 use verdict9::{JudgeError, RunVerdict};
 
@@ -25,12 +26,27 @@ use verdict9::{JudgeError, RunVerdict};
 /// taken until then is a first part of the text.
 pub fn write_run<W: Write>(writer: &mut W, run: &RunVerdict, hands: Hands) -> Result<(), JudgeError>
     ensures ok { OnOk result
-        (Appends (W.contents writer.old) (W.contents writer.new) (text_of_run hands run.now)) }
+        (Appends (W.contents writer.old) (W.contents writer.new) (text_of_run (record { rate = Rate.Fps25; hands = hands }) run.now)) }
     ensures err { OnErr result
-        (AppendsPart (W.contents writer.old) (W.contents writer.new) (text_of_run hands run.now)) }
+        (AppendsPart (W.contents writer.old) (W.contents writer.new) (text_of_run (record { rate = Rate.Fps25; hands = hands }) run.now)) }
     ensures write { IfErr result (λ e. e ≡ JudgeError.Write) }
 {
-    match write_lines_and_verdict(writer, run, hands) {
+    write_run_for(writer, run, Profile::of(hands))
+}
+
+/// Writes the text of a run of a deck that is taken for this: [`write_run`] at any rate.
+pub fn write_run_for<W: Write>(
+    writer: &mut W,
+    run: &RunVerdict,
+    profile: Profile,
+) -> Result<(), JudgeError>
+    ensures ok { OnOk result
+        (Appends (W.contents writer.old) (W.contents writer.new) (text_of_run profile run.now)) }
+    ensures err { OnErr result
+        (AppendsPart (W.contents writer.old) (W.contents writer.new) (text_of_run profile run.now)) }
+    ensures write { IfErr result (λ e. e ≡ JudgeError.Write) }
+{
+    match write_lines_and_verdict(writer, run, profile) {
         Ok(()) => Ok(()),
         Err(WriteFault) => Err(JudgeError::Write),
     }
@@ -40,9 +56,9 @@ pub fn write_run<W: Write>(writer: &mut W, run: &RunVerdict, hands: Hands) -> Re
 fn write_lines_and_verdict<W: Write>(
     writer: &mut W,
     run: &RunVerdict,
-    hands: Hands,
+    profile: Profile,
 ) -> Result<(), WriteFault>
-    ensures { Writes (text_of_run hands run.now) result (W.contents writer.old) (W.contents writer.new) }
+    ensures { Writes (text_of_run profile run.now) result (W.contents writer.old) (W.contents writer.new) }
 {
     match run {
         RunVerdict::Yes {
@@ -51,7 +67,7 @@ fn write_lines_and_verdict<W: Write>(
             exchanges,
             states,
         } => {
-            write_lines(writer, exchanges.as_slice(), states.as_slice(), hands)?;
+            write_lines(writer, exchanges.as_slice(), states.as_slice(), profile)?;
             write_yes(writer, *records, exchanges.len(), *tail)
         }
         RunVerdict::No { at, reason } => write_no(writer, *at, *reason),
@@ -63,14 +79,14 @@ fn write_lines<W: Write>(
     writer: &mut W,
     exchanges: &[Exchange],
     states: &[State],
-    hands: Hands,
+    profile: Profile,
 ) -> Result<(), WriteFault>
-    ensures { Writes (lines_of_run hands 0 exchanges.now states.now) result (W.contents writer.old) (W.contents writer.new) }
+    ensures { Writes (lines_of_run profile 0 exchanges.now states.now) result (W.contents writer.old) (W.contents writer.new) }
 {
     let mut at = 0u128;
     for (exchange, state) in exchanges.iter().zip(states) {
         at += exchange.records() as u128;
-        write_state_line(writer, hands, at, state)?;
+        write_state_line(writer, profile, at, state)?;
     }
     Ok(())
 }

@@ -15,12 +15,13 @@ ghost use Rattle.report9.specs.WhyText.{line_of_could_show, lines_at, records_in
 
 use block9::{Exchange, Reason};
 use break_lines::put_break;
-use deck9::{Hands, Knowledge, ModeSet};
+use deck9::{Hands, Knowledge, ModeSet, Profile};
 use exchange_line::put_contradicting;
 use modes::{is_every, put_modes};
 use std::alloc::{AllocError, Global};
 use std::io::Write;
-use text9::{WriteFault, put_all, put_fields, put_text};
+use tc25::Rate;
+use text9::{WriteFault, put_all, put_fields_for, put_text};
 use verdict9::{JudgeError, Verdict, WhyVerdict, put_verdict_line};
 
 /// Writes why a capture is a no: where no run of the deck remains a line for each of the replies that contradict one
@@ -48,14 +49,31 @@ pub fn write_why<W: Write>(
     hands: Hands,
 ) -> Result<(), JudgeError>
     ensures ok { OnOk result
-        (Appends (W.contents writer.old) (W.contents writer.new) (text_of_why hands verdict.now)) }
+        (Appends (W.contents writer.old) (W.contents writer.new) (text_of_why (record { rate = Rate.Fps25; hands = hands }) verdict.now)) }
     ensures write { result ≡ Err JudgeError.Write
-        → AppendsPart (W.contents writer.old) (W.contents writer.new) (text_of_why hands verdict.now) }
+        → AppendsPart (W.contents writer.old) (W.contents writer.new) (text_of_why (record { rate = Rate.Fps25; hands = hands }) verdict.now) }
+    ensures memory { result ≡ Err JudgeError.OutOfMemory → writer.new ≡ writer.old }
+    ensures kinds { IfErr result (λ e. (e ≡ JudgeError.Write) ⊎ (e ≡ JudgeError.OutOfMemory)) }
+{
+    write_why_for(alloc, writer, verdict, Profile::of(hands))
+}
+
+/// Writes the text of a deck that is taken for this: [`write_why`] at any rate.
+pub fn write_why_for<W: Write>(
+    alloc: Global,
+    writer: &mut W,
+    verdict: &WhyVerdict,
+    profile: Profile,
+) -> Result<(), JudgeError>
+    ensures ok { OnOk result
+        (Appends (W.contents writer.old) (W.contents writer.new) (text_of_why profile verdict.now)) }
+    ensures write { result ≡ Err JudgeError.Write
+        → AppendsPart (W.contents writer.old) (W.contents writer.new) (text_of_why profile verdict.now) }
     ensures memory { result ≡ Err JudgeError.OutOfMemory → writer.new ≡ writer.old }
     ensures kinds { IfErr result (λ e. (e ≡ JudgeError.Write) ⊎ (e ≡ JudgeError.OutOfMemory)) }
 {
     let mut text = Vec::new(alloc);
-    if put_why(&mut text, hands, verdict).is_err() {
+    if put_why_for(&mut text, profile, verdict).is_err() {
         return Err(JudgeError::OutOfMemory);
     }
     match put_all(writer, text.as_slice()) {
@@ -68,7 +86,20 @@ pub fn write_why<W: Write>(
 ///
 /// An error comes where the buffer has to grow and is refused; then a part of the text may be there.
 pub fn put_why(text: &mut Vec<u8>, hands: Hands, verdict: &WhyVerdict) -> Result<(), AllocError>
-    ensures { OnOk result (text.new.items ≡ text.old.items ++ text_of_why hands verdict.now) }
+    ensures { OnOk result (text.new.items ≡ text.old.items ++ text_of_why (record { rate = Rate.Fps25; hands = hands }) verdict.now) }
+{
+    put_why_for(text, Profile::of(hands), verdict)
+}
+
+/// Puts the text that [`write_why_for`] writes to the end of a buffer.
+///
+/// An error comes where the buffer has to grow and is refused; then a part of the text may be there.
+pub fn put_why_for(
+    text: &mut Vec<u8>,
+    profile: Profile,
+    verdict: &WhyVerdict,
+) -> Result<(), AllocError>
+    ensures { OnOk result (text.new.items ≡ text.old.items ++ text_of_why profile verdict.now) }
 {
     match verdict {
         WhyVerdict::Yes {
@@ -93,6 +124,7 @@ pub fn put_why(text: &mut Vec<u8>, hands: Hands, verdict: &WhyVerdict) -> Result
         } => {
             put_break(
                 text,
+                profile.rate,
                 *at,
                 *reason,
                 tail.as_slice(),
@@ -109,8 +141,14 @@ pub fn put_why(text: &mut Vec<u8>, hands: Hands, verdict: &WhyVerdict) -> Result
             known,
             shown,
         } => {
-            put_lines(text, *at, places.as_slice(), exchanges.as_slice())?;
-            put_could_show(text, hands, known, *shown)?;
+            put_lines(
+                text,
+                profile.rate,
+                *at,
+                places.as_slice(),
+                exchanges.as_slice(),
+            )?;
+            put_could_show(text, profile, known, *shown)?;
             put_no(text, *at, Reason::NoRun)
         }
     }
@@ -126,17 +164,18 @@ fn put_no(text: &mut Vec<u8>, at: u32, reason: Reason) -> Result<(), AllocError>
 /// Puts the lines of the exchanges at these places, the last of which ends with the record of this number.
 fn put_lines(
     text: &mut Vec<u8>,
+    rate: Rate,
     last: u32,
     places: &[usize],
     exchanges: &[Exchange],
 ) -> Result<(), AllocError>
     ensures { OnOk result (text.new.items ≡ text.old.items
-        ++ lines_at places.now 0 (last - records_in exchanges.now) exchanges.now) }
+        ++ lines_at rate places.now 0 (last - records_in exchanges.now) exchanges.now) }
 {
     let mut at = u128::from(last).saturating_sub(records_in(exchanges));
     for (place, exchange) in exchanges.iter().enumerate() {
         if places.contains(&place) {
-            put_contradicting(text, at, exchange)?;
+            put_contradicting(text, rate, at, exchange)?;
         }
         at += exchange.records() as u128;
     }
@@ -157,15 +196,15 @@ fn records_in(exchanges: &[Exchange]) -> u128
 /// Puts the line of what the deck could show.
 fn put_could_show(
     text: &mut Vec<u8>,
-    hands: Hands,
+    profile: Profile,
     known: &Knowledge,
     shown: ModeSet,
 ) -> Result<(), AllocError>
-    ensures { OnOk result (text.new.items ≡ text.old.items ++ line_of_could_show hands known.now shown) }
+    ensures { OnOk result (text.new.items ≡ text.old.items ++ line_of_could_show profile known.now shown) }
 {
     put_text(text, "could show: shown ")?;
     put_shown(text, shown)?;
-    put_fields(text, hands, known)?;
+    put_fields_for(text, profile, known)?;
     put_text(text, "\n")
 }
 

@@ -3,7 +3,8 @@ use Rattle.sets25.proofs.Words.{[], ap, arith, begin_count, BelowDay, cond, cont
 use Rattle.sets25.proofs.Words.{frames_below, image, just, List, lt-ltb, moved, moved_from, nat_cmp, nat_cmp_total, nat_tests, Next, next_frame, not, Prev, prev_frame, refl}
 use Rattle.sets25.proofs.Words.{span_count, suc, sym, Times, true, unsigned_tied, zero, ℕ, ◌&&◌, ◌*◌, ◌+◌, ◌-◌, ◌/◌, ◌<◌, ◌||◌, ◌∙◌, ◌∷◌, ◌≡◌, ◌≤◌}
 use Rattle.std.specs.FinSet as set
-use Rattle.sets25.proofs.TimesLemmas.{contains-insert_nat, contains-items_nat, contains-moved, moved_back, same_times}
+use Rattle.tc25.specs.declared.rate.Rate.{Rate}
+use Rattle.sets25.proofs.TimesLemmas.{contains-insert_nat, contains-items_nat, contains-moved, even_day, moved_back, same_times}
 
 -- ---- the size of sets
 
@@ -45,107 +46,108 @@ len_within s t within = len_from (λ f. f) t s (λ f there. (f, within f there, 
 len_within_insert : (s t : Times) (k : ℕ) → Within s (set.insert t k) → set.len s ≤ set.len t + 1
 len_within_insert s t k within = let most = len_within s (set.insert t k) within in grind (arith, set.len-insert nat_cmp_total)
 
--- ---- where a set begins
+module _ (rate : Rate) where
+  -- ---- where a set begins
 
-abbrev begins : Times → Times
-begins s = set.retain s (λ t. not (set.contains s (prev_frame t)))
+  abbrev begins : Times → Times
+  begins s = set.retain s (λ t. not (set.contains s (prev_frame rate t)))
 
-abbrev pub span_firsts : Times → Times
-span_firsts s = set.retain s (λ t. eqb t 0 || not (set.contains s (t - 1)))
+  abbrev pub span_firsts : Times → Times
+  span_firsts s = set.retain s (λ t. eqb t 0 || not (set.contains s (t - 1)))
 
--- ---- under each call
+  -- ---- under each call
 
--- a shift keeps the number of beginnings
-pub begin_count-moved : (d : Direction) (s : Times) → BelowDay s → begin_count (image (moved d) s) ≡ begin_count s
-unfolding begin_count
-begin_count-moved d s below =
-    let lower = len_from (moved d) (begins s) (begins (image (moved d) s)) (λ f there.
-    let in_day : f < day = grind (arith, nat_tests, contains-retain_nat, contains-moved d s below) in
-    (moved_from d f, grind (arith, nat_tests, contains-retain_nat, contains-moved d s below, moved_back Prev f), (moved_back d f in_day).3)) in
-    let upper = len_from (moved_from d) (begins (image (moved d) s)) (begins s) (λ f there.
-    let in_day = below f (grind (arith, contains-retain_nat)) in
-    (moved d f, grind (arith, nat_tests, contains-retain_nat, contains-moved d s below, moved_back Prev f), (moved_back d f in_day).2)) in
-    omega arith
+  -- a shift keeps the number of beginnings
+  pub begin_count-moved : (d : Direction) (s : Times) → BelowDay rate s → begin_count rate (image (moved rate d) s) ≡ begin_count rate s
+  unfolding begin_count
+  begin_count-moved d s below =
+      let lower = len_from (moved rate d) (begins s) (begins (image (moved rate d) s)) (λ f there.
+      let in_day : f < day rate = grind (arith, nat_tests, contains-retain_nat, contains-moved rate d s below) in
+      (moved_from rate d f, grind (arith, nat_tests, contains-retain_nat, contains-moved rate d s below, moved_back rate Prev f), (moved_back rate d f in_day).3)) in
+      let upper = len_from (moved_from rate d) (begins (image (moved rate d) s)) (begins s) (λ f there.
+      let in_day = below f (grind (arith, contains-retain_nat)) in
+      (moved rate d f, grind (arith, nat_tests, contains-retain_nat, contains-moved rate d s below, moved_back rate Prev f), (moved_back rate d f in_day).2)) in
+      omega arith
 
-pub begin_count-next : (s : Times) → BelowDay s → begin_count (image next_frame s) ≡ begin_count s
-begin_count-next = begin_count-moved Next
+  pub begin_count-next : (s : Times) → BelowDay rate s → begin_count rate (image (next_frame rate) s) ≡ begin_count rate s
+  begin_count-next = begin_count-moved Next
 
-pub begin_count-prev : (s : Times) → BelowDay s → begin_count (image prev_frame s) ≡ begin_count s
-begin_count-prev = begin_count-moved Prev
+  pub begin_count-prev : (s : Times) → BelowDay rate s → begin_count rate (image (prev_frame rate) s) ≡ begin_count rate s
+  begin_count-prev = begin_count-moved Prev
 
--- a widening does not raise it
-pub begin_count-widened_next : (s : Times) → BelowDay s → begin_count (set.union s (image next_frame s)) ≤ begin_count s
-unfolding begin_count
-begin_count-widened_next s below =
-    len_within (begins (set.union s (image next_frame s))) (begins s)
-    (λ f there. grind (arith, nat_tests, contains-retain_nat, set.contains-union nat_cmp_total, contains-moved Next s below))
+  -- a widening does not raise it
+  pub begin_count-widened_next : (s : Times) → BelowDay rate s → begin_count rate (set.union s (image (next_frame rate) s)) ≤ begin_count rate s
+  unfolding begin_count
+  begin_count-widened_next s below =
+      len_within (begins (set.union s (image (next_frame rate) s))) (begins s)
+      (λ f there. grind (arith, nat_tests, contains-retain_nat, set.contains-union nat_cmp_total, contains-moved rate Next s below))
 
-pub begin_count-widened_prev : (s : Times) → BelowDay s → begin_count (set.union s (image prev_frame s)) ≤ begin_count s
-unfolding begin_count
-begin_count-widened_prev s below =
-    len_from prev_frame (begins s) (begins (set.union s (image prev_frame s))) (λ f there.
-    let known = simp (contains-retain_nat, set.contains-union nat_cmp_total, contains-moved Prev s below) at there in
-    let in_day : f < day = grind (arith, nat_tests, below f) in
-    (next_frame f, grind (arith, nat_tests, contains-retain_nat, moved_back Prev f), (moved_back Prev f in_day).3))
+  pub begin_count-widened_prev : (s : Times) → BelowDay rate s → begin_count rate (set.union s (image (prev_frame rate) s)) ≤ begin_count rate s
+  unfolding begin_count
+  begin_count-widened_prev s below =
+      len_from (prev_frame rate) (begins s) (begins (set.union s (image (prev_frame rate) s))) (λ f there.
+      let known = simp (contains-retain_nat, set.contains-union nat_cmp_total, contains-moved rate Prev s below) at there in
+      let in_day : f < day rate = grind (arith, nat_tests, below f) in
+      (next_frame rate f, grind (arith, nat_tests, contains-retain_nat, moved_back rate Prev f), (moved_back rate Prev f in_day).3))
 
--- a time that is added raises it by one at most
-pub begin_count-insert : (s : Times) (t : ℕ) → begin_count (set.insert s t) ≤ begin_count s + 1
-unfolding begin_count
-begin_count-insert s t = len_within_insert (begins (set.insert s t)) (begins s) t
-    (λ f there. grind (arith, nat_tests, contains-retain_nat, contains-insert_nat))
+  -- a time that is added raises it by one at most
+  pub begin_count-insert : (s : Times) (t : ℕ) → begin_count rate (set.insert s t) ≤ begin_count rate s + 1
+  unfolding begin_count
+  begin_count-insert s t = len_within_insert (begins (set.insert s t)) (begins s) t
+      (λ f there. grind (arith, nat_tests, contains-retain_nat, contains-insert_nat))
 
--- a set has one span more than beginnings at most
-pub span_count-begin_count : (s : Times) → span_count s ≤ begin_count s + 1
-unfolding span_count begin_count
-span_count-begin_count s = len_within_insert (span_firsts s) (begins s) 0 (λ f there. grind (arith, nat_tests, contains-retain_nat, contains-insert_nat))
+  -- a set has one span more than beginnings at most
+  pub span_count-begin_count : (s : Times) → span_count s ≤ begin_count rate s + 1
+  unfolding span_count begin_count
+  span_count-begin_count s = len_within_insert (span_firsts s) (begins s) 0 (λ f there. grind (arith, nat_tests, contains-retain_nat, contains-insert_nat))
 
--- a set has no more beginnings than spans
-pub begin_count-span_count : (s : Times) → begin_count s ≤ span_count s
-unfolding begin_count span_count
-begin_count-span_count s = len_within (begins s) (span_firsts s) (λ f there. grind (arith, nat_tests, contains-retain_nat))
+  -- a set has no more beginnings than spans
+  pub begin_count-span_count : (s : Times) → begin_count rate s ≤ span_count s
+  unfolding begin_count span_count
+  begin_count-span_count s = len_within (begins s) (span_firsts s) (λ f there. grind (arith, nat_tests, contains-retain_nat))
 
--- ---- small sets, and the greatest number
+  -- ---- small sets, and the greatest number
 
--- a set has no more beginnings than a set with each of them
-few_begins : (s t : Times) → ((f : ℕ) → set.contains s f ≡ true → set.contains s (prev_frame f) ≡ false → set.contains t f ≡ true) → begin_count s ≤ set.len t
-unfolding begin_count
-few_begins s t goes = len_within (begins s) t (λ f there. goes f (grind (arith, contains-retain_nat)) (grind (arith, contains-retain_nat)))
+  -- a set has no more beginnings than a set with each of them
+  few_begins : (s t : Times) → ((f : ℕ) → set.contains s f ≡ true → set.contains s (prev_frame rate f) ≡ false → set.contains t f ≡ true) → begin_count rate s ≤ set.len t
+  unfolding begin_count
+  few_begins s t goes = len_within (begins s) t (λ f there. goes f (grind (arith, contains-retain_nat)) (grind (arith, contains-retain_nat)))
 
-pub begin_count-empty : begin_count set.empty ≡ 0
-begin_count-empty = omega (arith, set.len-empty nat_cmp, few_begins set.empty set.empty (λ f there _. there))
+  pub begin_count-empty : begin_count rate set.empty ≡ 0
+  begin_count-empty = omega (arith, set.len-empty nat_cmp, few_begins set.empty set.empty (λ f there _. there))
 
-pub begin_count-every_time : begin_count every_time ≡ 0
-begin_count-every_time =
-    omega (arith, set.len-empty nat_cmp, few_begins every_time set.empty (λ f there gone. grind (arith, nat_tests, contains-every_time, moved_back Prev f)))
+  pub begin_count-every_time : begin_count rate (every_time rate) ≡ 0
+  begin_count-every_time =
+      omega (arith, set.len-empty nat_cmp, few_begins (every_time rate) set.empty (λ f there gone. grind (arith, nat_tests, contains-every_time rate, moved_back rate Prev f)))
 
-len_just : (t : ℕ) → set.len (just t) ≤ 1
-unfolding just
-len_just t = grind (arith, set.len-insert nat_cmp_total, set.len-empty nat_cmp)
+  len_just : (t : ℕ) → set.len (just t) ≤ 1
+  unfolding just
+  len_just t = grind (arith, set.len-insert nat_cmp_total, set.len-empty nat_cmp)
 
-pub begin_count-just : (t : ℕ) → begin_count (just t) ≤ 1
-begin_count-just t = omega (arith, len_just t, few_begins (just t) (just t) (λ f there _. there))
+  pub begin_count-just : (t : ℕ) → begin_count rate (just t) ≤ 1
+  begin_count-just t = omega (arith, len_just t, few_begins (just t) (just t) (λ f there _. there))
 
-pub begin_count-kept : (s : Times) (t : ℕ) → begin_count (set.intersection s (just t)) ≤ 1
-begin_count-kept s t =
-    omega (arith, len_just t, few_begins (set.intersection s (just t)) (just t) (λ f there _. grind (arith, set.contains-intersection nat_cmp_total)))
+  pub begin_count-kept : (s : Times) (t : ℕ) → begin_count rate (set.intersection s (just t)) ≤ 1
+  begin_count-kept s t =
+      omega (arith, len_just t, few_begins (set.intersection s (just t)) (just t) (λ f there _. grind (arith, set.contains-intersection nat_cmp_total)))
 
-len_frames_below : (n : ℕ) → set.len (frames_below n) ≡ n
-unfolding frames_below
-len_frames_below zero = set.len-empty nat_cmp
-len_frames_below (suc n) = grind (arith, nat_tests, set.len-insert nat_cmp_total, contains-frames_below n n, len_frames_below n)
+  len_frames_below : (n : ℕ) → set.len (frames_below n) ≡ n
+  unfolding frames_below
+  len_frames_below zero = set.len-empty nat_cmp
+  len_frames_below (suc n) = grind (arith, nat_tests, set.len-insert nat_cmp_total, contains-frames_below n n, len_frames_below n)
 
--- of two neighbours one at most begins a span: the one of a pair that does
-abbrev of_pair : Times → ℕ → ℕ
-of_pair s k = cond (set.contains (span_firsts s) (2 * k)) (2 * k) (2 * k + 1)
+  -- of two neighbours one at most begins a span: the one of a pair that does
+  abbrev of_pair : Times → ℕ → ℕ
+  of_pair s k = cond (set.contains (span_firsts s) (2 * k)) (2 * k) (2 * k + 1)
 
-picked : (s : Times) (f : ℕ) → set.contains (span_firsts s) f ≡ true → f ≡ of_pair s (f / 2)
-picked s f there = grind (arith, nat_tests, contains-retain_nat)
+  picked : (s : Times) (f : ℕ) → set.contains (span_firsts s) f ≡ true → f ≡ of_pair s (f / 2)
+  picked s f there = grind (arith, nat_tests, contains-retain_nat)
 
--- a set of times of the day has half as many spans as the day has frames, at most
-pub span_count-in_day : (s : Times) → BelowDay s → span_count s ≤ 1080000
-unfolding span_count
-span_count-in_day s below =
-    let half = len_from (of_pair s) (frames_below 1080000) (span_firsts s) (λ f there.
-    let bound = below f (grind (arith, contains-retain_nat)) in
-    (f / 2, contains-frames_below 1080000 (f / 2) ∙ lt-ltb (f / 2) 1080000 (omega arith), picked s f there)) in
-    omega (arith, len_frames_below 1080000)
+  -- a set of times of the day has half as many spans as the day has frames, at most
+  pub span_count-in_day : (s : Times) → BelowDay rate s → span_count s ≤ (day rate / 2)
+  unfolding span_count
+  span_count-in_day s below =
+      let half = len_from (of_pair s) (frames_below (day rate / 2)) (span_firsts s) (λ f there.
+      let bound = below f (grind (arith, contains-retain_nat)) in
+      (f / 2, contains-frames_below (day rate / 2) (f / 2) ∙ lt-ltb (f / 2) (day rate / 2) (omega (arith, even_day rate)), picked s f there)) in
+      omega (arith, len_frames_below (day rate / 2))

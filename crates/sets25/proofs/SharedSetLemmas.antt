@@ -2,6 +2,8 @@
 use Rattle.sets25.proofs.Words.{ap, arith, Bool, false, false≢true, IsLeast, just, nat_cmp, nat_cmp_total, nat_tests, None, Option, Some, sym, Times, true, true_from_ne_false, ℕ}
 use Rattle.sets25.proofs.Words.{◌↔◌, ◌∙◌, ◌≡◌, ◌≤◌}
 use Rattle.std.specs.FinSet as set
+use Rattle.tc25.specs.declared.rate.Rate.{Rate}
+use Rattle.sets25.specs.Times.{with_time}
 use Rattle.sets25.specs.SharedSet.{members_of, shared_members}
 use Rattle.sets25.specs.SpanSet as spans
 use Rattle.sets25.specs.declared.shared_set.SharedSet.{SharedSet}
@@ -17,17 +19,19 @@ pub union-empty_right : (s : Times) → set.union s set.empty ≡ s
 union-empty_right s = same_times _ _ (λ f. grind (arith, set.contains-union nat_cmp_total, set.contains-empty nat_cmp))
 
 -- what is done to a set with no base is done to all members
-pub changed_alone : (change : Times → Times) (old new : SharedSet) (own : SpanSet) → members_of new ≡ members_of old → new.base ≡ None
-    → spans.members_of own ≡ change (spans.members_of new.own) → set.union (shared_members new.base) (spans.members_of own) ≡ change (members_of old)
-changed_alone change old new own same alone told = rw (alone, union-empty) (told ∙ ap change (rw (alone, union-empty) at same))
+pub changed_alone : (change : Rate → Times → Times) (old new : SharedSet) (own : SpanSet) → members_of new ≡ members_of old → new.own.rate ≡ old.own.rate
+    → new.base ≡ None → spans.members_of own ≡ change new.own.rate (spans.members_of new.own)
+    → set.union (shared_members new.base) (spans.members_of own) ≡ change old.own.rate (members_of old)
+changed_alone change old new own same rate alone told = rw (alone, union-empty) (told ∙ ap (change new.own.rate) (rw (alone, union-empty) at same)
+    ∙ ap (λ r. change r (members_of old)) rate)
 
 -- a time that one of them gets is one that both together get
-pub union-insert : (s t : Times) (k : ℕ) → set.union s (set.insert t k) ≡ set.insert (set.union s t) k
-union-insert s t k = same_times _ _ (λ f. grind (arith, set.contains-union nat_cmp_total, contains-insert_nat))
+pub with_time-union : (rate : Rate) (s t : Times) (k : ℕ) → set.union s (with_time rate t k) ≡ with_time rate (set.union s t) k
+with_time-union rate s t k = same_times _ _ (λ f. grind (arith, nat_tests, set.contains-union nat_cmp_total, contains-insert_nat))
 
 -- a member that is added changes nothing
-pub insert-member : (s t : Times) (k : ℕ) → set.contains s k ≡ true → set.union s t ≡ set.insert (set.union s t) k
-insert-member s t k there = same_times _ _ (λ f. grind (arith, nat_tests, set.contains-union nat_cmp_total, contains-insert_nat))
+pub with_time-member : (rate : Rate) (s t : Times) (k : ℕ) → set.contains s k ≡ true → set.union s t ≡ with_time rate (set.union s t) k
+with_time-member rate s t k there = same_times _ _ (λ f. grind (arith, nat_tests, set.contains-union nat_cmp_total, contains-insert_nat))
 
 -- a set with no members is empty
 no_member : (s : Times) → ((f : ℕ) → set.contains s f ≡ false) → s ≡ set.empty

@@ -1,5 +1,5 @@
 -- Spans in several lists: where a frame goes, and what becomes of the whole where one list changes.
-use Rattle.sets25.proofs.Words.{[], add-one, All, All-append, All-cons, All-drop, All-nil, All-set, All-take, AllFilled, ap, append_assoc, arith, begin_of, Bool, cond, day, drop}
+use Rattle.sets25.proofs.Words.{[], add-one, All, All-append, All-cons, All-drop, All-nil, All-set, All-take, AllFilled, ap, append_assoc, arith, begin_of, Bool, cond, longest_day, drop}
 use Rattle.sets25.proofs.Words.{drop-append-le, drop-map, drop-set-lt, drop_more, end_to_end, ended_at, EndsBefore, get_or, get_or-map, get_or-set_same, Global, glue, in_span}
 use Rattle.sets25.proofs.Words.{insert, is_covered, IsCanonical, IsListPlace, leb, length, length-append, length-map, List, list_any-append, lists_in, lt-leb, map-append, map-set}
 use Rattle.sets25.proofs.Words.{meet, nat_tests, None, only_span, refl, remove, set, Span, suc, sym, take, take-append-drop, take-map, take-set, take_more, Vec, with_frame, zero, ℕ, ◌*◌}
@@ -167,7 +167,7 @@ meets ps ns spans n d some more = absurd (omega arith)
 
 -- ---- how many spans there can be
 
-pub spans_fit : (low : ℕ) (xs : List Span) → IsCanonical low xs → low ≤ day + 2 → low + 2 * length xs ≤ day + 2
+pub spans_fit : (low : ℕ) (xs : List Span) → IsCanonical low xs → low ≤ longest_day + 2 → low + 2 * length xs ≤ longest_day + 2
 spans_fit low [] c le = omega arith
 spans_fit low (s ∷ xs) c le = let later = spans_fit (s.last + 2) xs c.2 (omega arith) in omega arith
 
@@ -215,7 +215,7 @@ dropped first vs ws i v left h at some is gone =
 
 module _ (f : ℕ) (ls changed : List (List Span)) (p : ℕ) (c : IsCanonical 0 (end_to_end ls)) (place : IsListPlace f ls p)
     (is : changed ≡ set ls p (with_frame f (get_or ls p []))) where
-  pub canonical_changed : f < day → IsCanonical 0 (get_or changed p [])
+  pub canonical_changed : f < longest_day → IsCanonical 0 (get_or changed p [])
   canonical_changed h = rw (is, get_or-set_same ls p _ [] place.fits) (canonical_with 0 f _ (canonical_list ls p place.fits c) (omega arith) h)
 
   pub some_changed : 0 < length (get_or changed p [])

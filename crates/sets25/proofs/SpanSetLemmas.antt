@@ -3,47 +3,55 @@ use Rattle.sets25.proofs.Words.{[], ap, arith, Bool, contains-retain_nat, contai
 use Rattle.sets25.proofs.Words.{list_any, map, MatchOption, nat_cmp, nat_cmp_total, nat_eq, nat_tests, None, not, only_span, Option, refl, slice_get, Some, SomeIff, Span}
 use Rattle.sets25.proofs.Words.{span_count, sym, times_where, true, ℕ, ◌&&◌, ◌+◌, ◌-◌, ◌<◌, ◌||◌, ◌↔◌, ◌∙◌, ◌∷◌, ◌≡◌}
 use Rattle.std.specs.FinSet as set
+use Rattle.tc25.specs.declared.rate.Rate.{Rate}
+use Rattle.sets25.specs.Spans.{AreSpansOfDay}
 use Rattle.sets25.proofs.TimesLemmas.{empty_iff, just_iff, least_from, none_iff, same_times, two_iff}
 use Rattle.sets25.proofs.CountLemmas.{span_firsts}
-use Rattle.sets25.proofs.SpansLemmas.{uncovered_below}
+use Rattle.sets25.proofs.SpansLemmas.{covered_in_day, uncovered_below}
 
 -- the test of a list of spans
 abbrev pub in_spans : List Span → ℕ → Bool
 in_spans xs f = is_covered f xs
 
-pub is_empty_iff-spans : (xs : List Span) → IsCanonical 0 xs → (eqb (length xs) 0 ≡ true) ↔ (times_where (in_spans xs) ≡ set.empty)
-is_empty_iff-spans [] c = empty_iff (in_spans []) true (λ _ f h. refl) (λ is. absurd (false≢true (sym is)))
-is_empty_iff-spans (s ∷ xs) c = empty_iff (in_spans (s ∷ xs)) _ (λ is f h. grind (arith, nat_tests)) (λ _. (s.last, c.1.1, grind (arith, nat_tests)))
+module _ (rate : Rate) where
+  pub is_empty_iff-spans : (xs : List Span) → IsCanonical 0 xs → AreSpansOfDay rate xs → (eqb (length xs) 0 ≡ true) ↔ (times_where rate (in_spans xs) ≡ set.empty)
+  is_empty_iff-spans [] c of = empty_iff rate (in_spans []) true (λ _ f h. refl) (λ is. absurd (false≢true (sym is)))
+  is_empty_iff-spans (s ∷ xs) c of =
+      empty_iff rate (in_spans (s ∷ xs)) _ (λ is f h. grind (arith, nat_tests)) (λ _. (s.last, of.0, grind (arith, nat_tests)))
 
--- whether there is one member
-pub only_one-spans : (xs : List Span) (s : Span) (r : Option ℕ) → IsCanonical 0 xs → Some s ≡ only_span xs → s.first ≡ s.last
-    → SomeIff r (s.first < day) s.first
-    → (t : ℕ) → (r ≡ Some t) ↔ (times_where (in_spans xs) ≡ just t)
-only_one-spans (x ∷ []) s r c at same given = let e : s ≡ x = cc in just_iff (in_spans (x ∷ [])) x.first r (rw e at given) (omega arith)
-    (λ f h. let same = rw e at same in grind (arith, nat_tests))
-only_one-spans xs s r c at same given = absurd (cc)
+  -- whether there is one member
+  pub only_one-spans : (xs : List Span) (s : Span) (r : Option ℕ) → IsCanonical 0 xs → AreSpansOfDay rate xs → Some s ≡ only_span xs → s.first ≡ s.last
+      → SomeIff r (s.first < day rate) s.first
+      → (t : ℕ) → (r ≡ Some t) ↔ (times_where rate (in_spans xs) ≡ just t)
+  only_one-spans (x ∷ []) s r c of at same given =
+      let e : s ≡ x = cc in
+      let one : x.first ≡ x.last = rw e at same in
+      just_iff rate (in_spans (x ∷ [])) x.first r (rw e at given) (omega (arith, of.0)) (λ f h. grind (arith, nat_tests))
+  only_one-spans xs s r c of at same given = absurd (cc)
 
-pub only_wide : (xs : List Span) (s : Span) → IsCanonical 0 xs → Some s ≡ only_span xs → (s.first ≡ s.last → ⊥) → (t : ℕ)
-    → (None ≡ Some t) ↔ (times_where (in_spans xs) ≡ just t)
-only_wide (x ∷ []) s c at other =
-    let e : s ≡ x = cc in
-    two_iff (in_spans (x ∷ [])) x.first x.last (omega arith) c.1.1 (rw e at other) (grind (arith, nat_tests)) (grind (arith, nat_tests))
-only_wide xs s c at other = absurd (cc)
+  pub only_wide : (xs : List Span) (s : Span) → IsCanonical 0 xs → AreSpansOfDay rate xs → Some s ≡ only_span xs → (s.first ≡ s.last → ⊥) → (t : ℕ)
+      → (None ≡ Some t) ↔ (times_where rate (in_spans xs) ≡ just t)
+  only_wide (x ∷ []) s c of at other =
+      let e : s ≡ x = cc in
+      two_iff rate (in_spans (x ∷ [])) x.first x.last (omega (arith, of.0)) of.0 (rw e at other) (grind (arith, nat_tests)) (grind (arith, nat_tests))
+  only_wide xs s c of at other = absurd (cc)
 
-pub only_other-spans : (xs : List Span) → IsCanonical 0 xs → None ≡ only_span xs → (t : ℕ) → (None ≡ Some t) ↔ (times_where (in_spans xs) ≡ just t)
-only_other-spans [] c none = none_iff (in_spans []) (λ f h. refl)
-only_other-spans (s ∷ []) c none = absurd (cc)
-only_other-spans (s ∷ t ∷ xs) c none =
-    two_iff (in_spans (s ∷ t ∷ xs)) s.last t.last c.1.1 c.2.1.1 (λ e. omega arith) (grind (arith, nat_tests)) (grind (arith, nat_tests))
+  pub only_other-spans : (xs : List Span) → IsCanonical 0 xs → AreSpansOfDay rate xs → None ≡ only_span xs → (t : ℕ)
+      → (None ≡ Some t) ↔ (times_where rate (in_spans xs) ≡ just t)
+  only_other-spans [] c of none = none_iff rate (in_spans []) (λ f h. refl)
+  only_other-spans (s ∷ []) c of none = absurd (cc)
+  only_other-spans (s ∷ t ∷ xs) c of none =
+      two_iff rate (in_spans (s ∷ t ∷ xs)) s.last t.last of.0 of.1.0 (λ e. omega arith) (grind (arith, nat_tests)) (grind (arith, nat_tests))
 
--- the first member, if there is one
-pub least_some-spans : (xs : List Span) (s : Span) (r : Option ℕ) → IsCanonical 0 xs → Some s ≡ slice_get xs 0 → SomeIff r (s.first < day) s.first
-    → MatchOption r (times_where (in_spans xs) ≡ set.empty) (IsLeast (times_where (in_spans xs)))
-least_some-spans [] s r c at given = absurd (cc)
-least_some-spans (x ∷ xs) s r c at given =
-    let e : s ≡ x = cc in
-    least_from (in_spans (x ∷ xs)) x.first r (rw e at given) (omega arith) (grind (arith, nat_tests))
-    (λ f h there. let above = uncovered_below x.first (x ∷ xs) (omega arith, c.1, c.2) f in grind arith)
+  -- the first member, if there is one
+  pub least_some-spans : (xs : List Span) (s : Span) (r : Option ℕ) → IsCanonical 0 xs → AreSpansOfDay rate xs → Some s ≡ slice_get xs 0
+      → SomeIff r (s.first < day rate) s.first
+      → MatchOption r (times_where rate (in_spans xs) ≡ set.empty) (IsLeast (times_where rate (in_spans xs)))
+  least_some-spans [] s r c of at given = absurd (cc)
+  least_some-spans (x ∷ xs) s r c of at given =
+      let e : s ≡ x = cc in
+      least_from rate (in_spans (x ∷ xs)) x.first r (rw e at given) (omega (arith, of.0)) (grind (arith, nat_tests))
+      (λ f h there. let above = uncovered_below x.first (x ∷ xs) (omega arith, c.1, c.2) f in grind arith)
 
 -- ---- the number of spans
 
@@ -84,16 +92,13 @@ len_firsts low (s ∷ xs) c =
           (s.last + 2) xs c.2,
     )
 
-covered_in_day : (low : ℕ) (xs : List Span) → IsCanonical low xs → (f : ℕ) → is_covered f xs ≡ true → f < day
-covered_in_day low [] c f there = absurd (false≢true there)
-covered_in_day low (s ∷ xs) c f there = let later = covered_in_day (s.last + 2) xs c.2 f in grind (arith, nat_tests)
+module _ (rate : Rate) where
+  contains-spans : (xs : List Span) → AreSpansOfDay rate xs → (f : ℕ) → set.contains (times_where rate (in_spans xs)) f ≡ is_covered f xs
+  contains-spans xs of f = contains-times_where rate (in_spans xs) f ∙ (let in_day = covered_in_day rate xs of f in grind (arith, nat_tests))
 
-contains-spans : (xs : List Span) → IsCanonical 0 xs → (f : ℕ) → set.contains (times_where (in_spans xs)) f ≡ is_covered f xs
-contains-spans xs c f = contains-times_where (in_spans xs) f ∙ (let in_day = covered_in_day 0 xs c f in grind (arith, nat_tests))
-
-pub span_count-spans : (xs : List Span) → IsCanonical 0 xs → span_count (times_where (in_spans xs)) ≡ length xs
-unfolding span_count
-span_count-spans xs c =
-    ap set.len (same_times (span_firsts (times_where (in_spans xs))) (set.from_list (firsts xs)) (λ f.
-    grind (arith, contains-retain_nat, contains-spans xs c, begins_is 0 xs c f, set.contains-from_list_nat (firsts xs))))
-    ∙ len_firsts 0 xs c
+  pub span_count-spans : (xs : List Span) → IsCanonical 0 xs → AreSpansOfDay rate xs → span_count (times_where rate (in_spans xs)) ≡ length xs
+  unfolding span_count
+  span_count-spans xs c of =
+      ap set.len (same_times (span_firsts rate (times_where rate (in_spans xs))) (set.from_list (firsts xs)) (λ f.
+      grind (arith, contains-retain_nat, contains-spans xs of, begins_is 0 xs c f, set.contains-from_list_nat (firsts xs))))
+      ∙ len_firsts 0 xs c

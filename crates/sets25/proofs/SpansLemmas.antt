@@ -1,9 +1,14 @@
 -- Lists of spans in canonical form: what they cover, and what keeps their form.
-use Rattle.sets25.proofs.Words.{[], add-one, All, and_right, ap, append_assoc, arith, Bool, cond, day, Direction, drop, drop_more, EndsBefore, eqb, false, far_edge_of, get_or}
+use Rattle.sets25.proofs.Words.{[], add-one, All, and_right, ap, append_assoc, arith, Bool, cond, day, Direction, drop, drop_more, EndsBefore, eqb, false, false≢true, far_edge_of, get_or}
 use Rattle.sets25.proofs.Words.{glue, in_span, insert, is_covered, IsCanonical, IsNonDecreasingBy, IsPlace, IsSpan, joined, le-leb, leb, length, length-drop, length-take-le, List}
 use Rattle.sets25.proofs.Words.{list_any-append, list_any_none, map, max, min, moved, moved_from, nat_tests, Next, not, point, Prev, refl, remove, set, set_at, shifted_span, Span}
 use Rattle.sets25.proofs.Words.{stays, suc, sym, take, take-append-drop, take_more, true, widened_span, with_frame, without_edge, zero, ℕ, ◌&&◌, ◌++◌, ◌+◌, ◌-◌, ◌<◌, ◌||◌, ◌∙◌}
 use Rattle.sets25.proofs.Words.{◌∷◌, ◌≡◌, ◌≤◌}
+use Rattle.tc25.specs.Day.{last_frame, longest_day}
+use Rattle.tc25.specs.declared.rate.Rate.{Rate}
+use Rattle.std.specs.Prelude.{Err, Ok, OnErr, OnOk, Result}
+use Rattle.sets25.specs.Spans.{AreSpansOfDay}
+use Rattle.sets25.proofs.TimesLemmas.{even_day, some_day, within_longest}
 
 -- ---- order
 
@@ -68,14 +73,14 @@ covered_glue f s (t ∷ xs) span c = grind (arith, nat_tests)
 abbrev pub grown : ℕ → Span → Span
 grown f s = record { first = min s.first f; last = max s.last f }
 
-pub canonical_with : (low f : ℕ) (xs : List Span) → IsCanonical low xs → low ≤ f → f < day → IsCanonical low (with_frame f xs)
+pub canonical_with : (low f : ℕ) (xs : List Span) → IsCanonical low xs → low ≤ f → f < longest_day → IsCanonical low (with_frame f xs)
 canonical_with low f [] c le in_day = (le, (omega arith, in_day), tt)
 canonical_with low f (s ∷ xs) c le in_day =
     let glued = λ (touch : f ≤ s.last + 1). canonical_glue low (grown f s) xs (omega arith) (omega arith) (canonical_from _ (s.last + 2) xs (omega arith) c.2)
     in
     grind (arith, nat_tests, canonical_with (s.last + 2) f xs c.2)
 
-pub covered_with : (g low f : ℕ) (xs : List Span) → IsCanonical low xs → f < day → is_covered g (with_frame f xs) ≡ (eqb g f || is_covered g xs)
+pub covered_with : (g low f : ℕ) (xs : List Span) → IsCanonical low xs → f < longest_day → is_covered g (with_frame f xs) ≡ (eqb g f || is_covered g xs)
 covered_with g low f [] c in_day = grind (arith, nat_tests)
 covered_with g low f (s ∷ xs) c in_day =
     let glued = λ (touch : f ≤ s.last + 1). covered_glue g (grown f s) xs (omega arith) (canonical_from _ (s.last + 2) xs (omega arith) c.2) in
@@ -139,59 +144,117 @@ pub glue-glue : (s t : Span) (ys : List Span) → glue s (glue t ys)
 glue-glue s t [] = grind (arith, nat_tests)
 glue-glue s t (u ∷ ys) = grind (arith, nat_tests)
 
--- ---- a shift within the day
+-- ---- the day of the spans
 
--- a list from `high` on is then from where that frame is moved to on
-pub canonical_shift : (d : Direction) (low high : ℕ) (xs : List Span) → low ≤ (shifted_span d (point high)).first → IsCanonical high xs
-    → IsCanonical low (map (shifted_span d) (without_edge d xs))
-canonical_shift d low high [] le c = tt
-canonical_shift d low high (s ∷ xs) le c =
-    let later = λ (kept : stays d s ≡ true). canonical_shift d ((shifted_span d s).last + 2) (s.last + 2) xs (grind arith) c.2 in
-    grind (arith, nat_tests, canonical_shift d low (s.last + 2) xs (grind arith) c.2)
+module _ (rate : Rate) where
+  -- a span with a frame of the day more
+  pub of_day-glue : (s : Span) (xs : List Span) → s.last < day rate → AreSpansOfDay rate xs → AreSpansOfDay rate (glue s xs)
+  of_day-glue s [] in_day of = (in_day, tt)
+  of_day-glue s (t ∷ xs) in_day of = grind (arith, nat_tests)
 
-pub covered_shift : (d : Direction) (f low : ℕ) (xs : List Span) → f < day → IsCanonical low xs
-    → is_covered f (map (shifted_span d) (without_edge d xs)) ≡ (not (eqb f (far_edge_of d)) && is_covered (moved_from d f) xs)
-covered_shift d f low [] h c = sym (and_right _ _ refl)
-covered_shift d f low (s ∷ xs) h c =
-    let one : (stays d s && in_span f (shifted_span d s)) ≡ (not (eqb f (far_edge_of d)) && in_span (moved_from d f) s) = grind (arith, nat_tests) in
-    grind (arith, covered_shift d f (s.last + 2) xs h c.2)
+  pub of_day-with : (f : ℕ) (xs : List Span) → f < day rate → AreSpansOfDay rate xs → AreSpansOfDay rate (with_frame f xs)
+  of_day-with f [] in_day of = (in_day, tt)
+  of_day-with f (s ∷ xs) in_day of =
+      let glued = of_day-glue (grown f s) xs (omega (arith, of.0)) of.1 in
+      grind (arith, nat_tests, of_day-with f xs in_day of.1)
 
--- ---- a widening within the day
+  -- a frame of the day added, or not
+  pub of_day-added : {T E : Type 0} (r : Result T E) (f : ℕ) (old new : List Span) → f < day rate → AreSpansOfDay rate old → OnOk r (new ≡ with_frame f old)
+      → OnErr r (new ≡ old) → AreSpansOfDay rate new
+  of_day-added (Ok t) f old new in_day of ok err = rw ok (of_day-with f old in_day of)
+  of_day-added (Err e) f old new in_day of ok err = rw err of
 
-pub canonical_widen : (d : Direction) (low high : ℕ) (xs : List Span) → low ≤ (widened_span d (point high)).first → IsCanonical high xs
-    → IsCanonical low (joined (map (widened_span d) xs))
-canonical_widen d low high [] le c = tt
-canonical_widen d low high (s ∷ xs) le c = canonical_glue low (widened_span d s) _ (grind arith) (grind arith)
-    (canonical_widen d ((widened_span d s).last + 1) (s.last + 2) xs (grind arith) c.2)
+  -- spans whose frames are of the day
+  pub of_day-from_covered : (low : ℕ) (xs : List Span) → IsCanonical low xs → ((f : ℕ) → is_covered f xs ≡ true → f < day rate) → AreSpansOfDay rate xs
+  of_day-from_covered low [] c in_day = tt
+  of_day-from_covered low (s ∷ xs) c in_day =
+      (in_day s.last (grind (arith, nat_tests)), of_day-from_covered (s.last + 2) xs c.2 (λ f there. in_day f (grind (arith, nat_tests))))
 
-in_widened : (d : Direction) (f : ℕ) (s : Span) → f < day → IsSpan s
-    → in_span f (widened_span d s) ≡ (in_span f s || (not (eqb f (far_edge_of d)) && in_span (moved_from d f) s))
-in_widened d f s h span = grind (arith, nat_tests)
+  pub covered_in_day : (xs : List Span) → AreSpansOfDay rate xs → (f : ℕ) → is_covered f xs ≡ true → f < day rate
+  covered_in_day [] of f there = absurd (false≢true there)
+  covered_in_day (s ∷ xs) of f there = let later = covered_in_day xs of.1 f in grind (arith, nat_tests)
 
-pub covered_widened : (d : Direction) (f low : ℕ) (xs : List Span) → f < day → IsCanonical low xs
-    → is_covered f (joined (map (widened_span d) xs)) ≡ (is_covered f xs || (not (eqb f (far_edge_of d)) && is_covered (moved_from d f) xs))
-covered_widened d f low [] h c = sym (and_right _ _ refl)
-covered_widened d f low (s ∷ xs) h c =
-    let glued = covered_glue f (widened_span d s) _ (grind arith) (canonical_widen d _ (s.last + 2) xs (grind arith) c.2) in
-    grind (arith, in_widened d f s h c.1, covered_widened d f (s.last + 2) xs h c.2)
+  -- spans of which one is kept, or nothing
+  pub of_day-kept : (f : ℕ) (xs : List Span) → AreSpansOfDay rate xs → AreSpansOfDay rate (cond (is_covered f xs) (point f ∷ []) [])
+  of_day-kept f xs of = by (is_covered f xs) (covered_in_day xs of f)
+    where
+      by : (b : Bool) → (b ≡ true → f < day rate) → AreSpansOfDay rate (cond b (point f ∷ []) [])
+      by true in_day = (in_day refl, tt)
+      by false in_day = tt
 
--- ---- the span that would leave the day
+  pub shifted_of_day : (d : Direction) (xs : List Span) → AreSpansOfDay rate xs → AreSpansOfDay rate (map (shifted_span rate d) (without_edge rate d xs))
+  shifted_of_day d [] of = tt
+  shifted_of_day d (s ∷ xs) of = let later = shifted_of_day d xs of.1 in let some = some_day rate in grind (arith, nat_tests)
 
-pub edge_at_end : (low : ℕ) (xs : List Span) (n : ℕ) (d : Span) → IsCanonical low xs → length xs ≡ suc n
-    → without_edge Next xs ≡ cond (eqb (get_or xs n d).first 2159999) (take n xs) xs
-edge_at_end low (x ∷ []) zero d c e = grind arith
-edge_at_end low (x ∷ t ∷ xs) (suc n) d c e = let later = edge_at_end (x.last + 2) (t ∷ xs) n d c.2 (omega arith) in grind (arith, nat_tests)
-edge_at_end low xs n d c e = absurd (omega arith)
+  pub widened_of_day : (d : Direction) (xs : List Span) → AreSpansOfDay rate xs → AreSpansOfDay rate (joined (map (widened_span rate d) xs))
+  widened_of_day d [] of = tt
+  widened_of_day d (s ∷ xs) of =
+      let some = some_day rate in
+      of_day-glue (widened_span rate d s) (joined (map (widened_span rate d) xs)) (grind (arith, nat_tests)) (widened_of_day d xs of.1)
 
-pub edge_at_start : (low : ℕ) (xs : List Span) (d : Span) → IsCanonical low xs → 0 < length xs
-    → without_edge Prev xs ≡ cond (eqb (get_or xs 0 d).last 0) (drop 1 xs) xs
-edge_at_start low [] d c some = absurd (omega arith)
-edge_at_start low (s ∷ []) d c some = grind arith
-edge_at_start low (s ∷ t ∷ xs) d c some = let later = edge_at_start (s.last + 2) (t ∷ xs) d c.2 (omega arith) in grind (arith, nat_tests)
+  -- ---- a shift within the day
 
--- ---- round the day
+  -- a list from `high` on is then from where that frame is moved to on
+  pub canonical_shift : (d : Direction) (low high : ℕ) (xs : List Span) → low ≤ (shifted_span rate d (point high)).first → IsCanonical high xs → AreSpansOfDay rate xs
+      → IsCanonical low (map (shifted_span rate d) (without_edge rate d xs))
+  canonical_shift d low high [] le c of = tt
+  canonical_shift d low high (s ∷ xs) le c of =
+      let short = within_longest rate in
+      let later = λ (kept : stays rate d s ≡ true). canonical_shift d ((shifted_span rate d s).last + 2) (s.last + 2) xs (grind arith) c.2 of.1 in
+      grind (arith, nat_tests, canonical_shift d low (s.last + 2) xs (grind arith) c.2 of.1)
 
--- where the frame at which a shift comes in was covered, its neighbour is covered afterwards
-pub neighbour_covered : (d : Direction) (xs : List Span) → IsCanonical 0 xs → is_covered (far_edge_of d) xs ≡ true
-    → ((f : ℕ) → far_edge_of d ≤ f + 1 → f ≤ far_edge_of d + 1 → is_covered f (map (shifted_span d) (without_edge d xs)) ≡ false) → ⊥
-neighbour_covered d xs c there none = grind (arith, nat_tests, none (moved d (far_edge_of d)), covered_shift d (moved d (far_edge_of d)) 0 xs)
+  pub covered_shift : (d : Direction) (f low : ℕ) (xs : List Span) → f < day rate → IsCanonical low xs → AreSpansOfDay rate xs
+      → is_covered f (map (shifted_span rate d) (without_edge rate d xs)) ≡ (not (eqb f (far_edge_of rate d)) && is_covered (moved_from rate d f) xs)
+  covered_shift d f low [] h c of = sym (and_right _ _ refl)
+  covered_shift d f low (s ∷ xs) h c of =
+      let one : (stays rate d s && in_span f (shifted_span rate d s)) ≡ (not (eqb f (far_edge_of rate d)) && in_span (moved_from rate d f) s) =
+      grind (arith, nat_tests) in
+      grind (arith, covered_shift d f (s.last + 2) xs h c.2 of.1)
+
+  -- ---- a widening within the day
+
+  pub canonical_widen : (d : Direction) (low high : ℕ) (xs : List Span) → low ≤ (widened_span rate d (point high)).first → IsCanonical high xs → AreSpansOfDay rate xs
+      → IsCanonical low (joined (map (widened_span rate d) xs))
+  canonical_widen d low high [] le c of = tt
+  canonical_widen d low high (s ∷ xs) le c of =
+      let short = within_longest rate in
+      canonical_glue low (widened_span rate d s) _ (grind arith) (grind arith)
+      (canonical_widen d ((widened_span rate d s).last + 1) (s.last + 2) xs (grind arith) c.2 of.1)
+
+  in_widened : (d : Direction) (f : ℕ) (s : Span) → f < day rate → IsSpan s → s.last < day rate
+      → in_span f (widened_span rate d s) ≡ (in_span f s || (not (eqb f (far_edge_of rate d)) && in_span (moved_from rate d f) s))
+  in_widened d f s h span in_day = grind (arith, nat_tests)
+
+  pub covered_widened : (d : Direction) (f low : ℕ) (xs : List Span) → f < day rate → IsCanonical low xs → AreSpansOfDay rate xs
+      → is_covered f (joined (map (widened_span rate d) xs)) ≡ (is_covered f xs || (not (eqb f (far_edge_of rate d)) && is_covered (moved_from rate d f) xs))
+  covered_widened d f low [] h c of = sym (and_right _ _ refl)
+  covered_widened d f low (s ∷ xs) h c of =
+      let short = within_longest rate in
+      let glued = covered_glue f (widened_span rate d s) _ (grind arith) (canonical_widen d _ (s.last + 2) xs (grind arith) c.2 of.1) in
+      grind (arith, in_widened d f s h c.1 of.0, covered_widened d f (s.last + 2) xs h c.2 of.1)
+
+  -- ---- the span that would leave the day
+
+  pub edge_at_end : (low : ℕ) (xs : List Span) (n : ℕ) (d : Span) → IsCanonical low xs → AreSpansOfDay rate xs → length xs ≡ suc n
+      → without_edge rate Next xs ≡ cond (eqb (get_or xs n d).first (last_frame rate)) (take n xs) xs
+  edge_at_end low (x ∷ []) zero d c of e = grind arith
+  edge_at_end low (x ∷ t ∷ xs) (suc n) d c of e = let later = edge_at_end (x.last + 2) (t ∷ xs) n d c.2 of.1 (omega arith) in grind (arith, nat_tests)
+  edge_at_end low xs n d c of e = absurd (omega arith)
+
+  pub edge_at_start : (low : ℕ) (xs : List Span) (d : Span) → IsCanonical low xs → 0 < length xs
+      → without_edge rate Prev xs ≡ cond (eqb (get_or xs 0 d).last 0) (drop 1 xs) xs
+  edge_at_start low [] d c some = absurd (omega arith)
+  edge_at_start low (s ∷ []) d c some = grind arith
+  edge_at_start low (s ∷ t ∷ xs) d c some = let later = edge_at_start (s.last + 2) (t ∷ xs) d c.2 (omega arith) in grind (arith, nat_tests)
+
+  -- ---- round the day
+
+  -- where the frame at which a shift comes in was covered, its neighbour is covered afterwards
+  pub neighbour_covered : (d : Direction) (xs : List Span) → IsCanonical 0 xs → AreSpansOfDay rate xs → is_covered (far_edge_of rate d) xs ≡ true
+      → ((f : ℕ) → far_edge_of rate d ≤ f + 1 → f ≤ far_edge_of rate d + 1 → is_covered f (map (shifted_span rate d) (without_edge rate d xs)) ≡ false) → ⊥
+  neighbour_covered d xs c of there none =
+      let some = two_days in
+      grind (arith, nat_tests, none (moved rate d (far_edge_of rate d)), covered_shift d (moved rate d (far_edge_of rate d)) 0 xs)
+    where
+      two_days : 1 < day rate
+      two_days = omega (arith, some_day rate, even_day rate)

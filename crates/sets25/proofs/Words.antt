@@ -16,12 +16,12 @@ pub use Rattle.std.proofs.lemmas.Result.{on_err_weaker, on_ok_weaker}
 pub use Rattle.std.specs.Cmp.{nat_cmp_total, unsigned_tied}
 pub use Rattle.std.specs.List.{list_any}
 pub use Rattle.std.specs.List.Sorted.{IsNonDecreasingBy}
-pub use Rattle.tc25.specs.Day.{day, next_frame, prev_frame}
-pub use Rattle.sets25.specs.Frames.{Ascending, is_listed}
+pub use Rattle.tc25.specs.Day.{day, last_frame, longest_day, next_frame, prev_frame}
+pub use Rattle.sets25.specs.Frames.{AreFramesOfDay, Ascending, is_listed}
 pub use Rattle.sets25.specs.ListSet.{members_of}
 pub use Rattle.sets25.specs.ShortLists.{AllFilled, end_to_end, lists_in}
 pub use Rattle.sets25.specs.SpanList.{lists_of, spans_of}
-pub use Rattle.sets25.specs.Spans.{in_span, is_covered, IsCanonical, IsSpan}
+pub use Rattle.sets25.specs.Spans.{AreSpansOfDay, in_span, is_covered, IsCanonical, IsSpan}
 pub use Rattle.sets25.specs.Times.{BelowDay, every_time, IsLeast, Times, times_where}
 unfoldable pub use Rattle.sets25.specs.Times.{begin_count, frames_below, image, just, span_count}
 pub use Rattle.sets25.specs.Working.Moves.{far_edge_of, moved, moved_from}
@@ -32,3 +32,4 @@ pub use Rattle.sets25.specs.Working.TimesWhere.{contains-every_time, contains-fr
 pub use Rattle.sets25.specs.declared.direction.Direction.{Direction}
 pub use Rattle.sets25.specs.declared.direction.Direction.TheVariants.{Next, Prev}
 pub use Rattle.sets25.specs.declared.span.Span.{Span}
+pub use Rattle.tc25.specs.declared.rate.Rate.{Rate}

@@ -1,5 +1,6 @@
 pub mod Frames
 pub mod ListSet
+pub mod SharedDay
 pub mod SharedSet
 pub mod ShortLists
 pub mod SpanList

@@ -6,4 +6,4 @@ use Rattle.sets25.specs.declared.list_set.ListSet.{ListSet}
 
 -- every time of the day, or the listed ones
 abbrev pub members_of : ListSet → Times
-members_of s = times_where (λ f. s.is_everything || is_listed f s.frames.items)
+members_of s = times_where s.rate (λ f. s.is_everything || is_listed f s.frames.items)

@@ -6,4 +6,4 @@ use Rattle.sets25.specs.declared.span_set.SpanSet.{SpanSet}
 
 -- the times in its spans
 abbrev pub members_of : SpanSet → Times
-members_of s = times_where (λ f. is_covered f (spans_of s.spans))
+members_of s = times_where s.rate (λ f. is_covered f (spans_of s.spans))

@@ -1,4 +1,4 @@
-//! Sets of times of day, at 25 frames a second.
+//! Sets of times of day, at each frame rate.
 #![tactic(auto)]
 
 mod direction;

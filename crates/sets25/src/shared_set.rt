@@ -3,12 +3,13 @@
 ghost use Rattle.std.specs.FinSet as set;
 ghost use Rattle.std.specs.Prelude.{◌≡◌, ◌↔◌, ℕ, MatchOption, Some};
 ghost use Rattle.sets25.specs.Times.{Times, IsLeast};
+ghost use Rattle.sets25.specs.SharedDay.{SharesDay, SharesDay-prop};
 
 use crate::span_set::SpanSet;
 use crate::time_set::TimeSet;
 use std::alloc::{AllocError, Global};
 use std::rc::Rc;
-use tc25::TimeCode;
+use tc25::{Rate, TimeCode};
 
 /// Up to so many spans beside a base are copied. Where there are more, a copy gets a new base, which has all
 /// members.
@@ -23,6 +24,7 @@ const MOST_COPIED: usize = 512;
 pub struct SharedSet {
     base: Option<Rc<SpanSet, Global>>,
     own: SpanSet,
+    ghost same_day: { SharesDay own.rate base } by { SharesDay-prop own.rate base },
 }
 
 impl SharedSet {
@@ -34,6 +36,7 @@ impl SharedSet {
     /// The set of these members, which it shares with no other.
     fn alone(own: SpanSet) -> SharedSet
         ensures base { result.base ≡ None }
+        ensures rate { result.own.rate ≡ own.rate }
         ensures members { members_of result ≡ spans.members_of own }
     {
         SharedSet { base: None, own }
@@ -59,19 +62,19 @@ impl SharedSet {
 
     /// All members, in a set of spans of their own.
     fn gathered(&self) -> Result<SpanSet, AllocError>
-        ensures { IfOk result (λ s. spans.members_of s ≡ members_of self.now) }
+        ensures members { IfOk result (λ s. spans.members_of s ≡ members_of self.now) }
+        ensures rate { IfOk result (λ s. s.rate ≡ self.now.own.rate) }
     {
         let Some(base) = &self.base else {
             return self.own.copy();
         };
-        let mut all = base.copy()?;
-        all.add_all(&self.own)?;
-        Ok(all)
+        base.copy()?.with_all(&self.own)
     }
 
     /// Makes all members its own.
     fn gather(&mut self) -> Result<(), AllocError>
         ensures same { members_of self.new ≡ members_of self.old }
+        ensures rate { self.new.own.rate ≡ self.old.own.rate }
         ensures alone { OnOk result (self.new.base ≡ None) }
     {
         if self.base.is_some() {
@@ -90,16 +93,22 @@ impl TimeSet for SharedSet {
 
     ghost members = { members_of };
 
-    fn none(alloc: Global) -> Self {
-        SharedSet::alone(SpanSet::none(alloc))
+    ghost own_rate = { λ s. s.own.rate };
+
+    fn none_at(alloc: Global, rate: Rate) -> Self {
+        SharedSet::alone(SpanSet::none_at(alloc, rate))
     }
 
-    fn all(alloc: Global) -> Result<Self, AllocError> {
-        Ok(SharedSet::alone(SpanSet::all(alloc)?))
+    fn all_at(alloc: Global, rate: Rate) -> Result<Self, AllocError> {
+        Ok(SharedSet::alone(SpanSet::all_at(alloc, rate)?))
     }
 
-    fn one(alloc: Global, time: TimeCode) -> Result<Self, AllocError> {
-        Ok(SharedSet::alone(SpanSet::one(alloc, time)?))
+    fn one_at(alloc: Global, rate: Rate, time: TimeCode) -> Result<Self, AllocError> {
+        Ok(SharedSet::alone(SpanSet::one_at(alloc, rate, time)?))
+    }
+
+    fn rate(&self) -> Rate {
+        self.own.rate()
     }
 
     fn contains(&self, time: TimeCode) -> bool {
@@ -162,10 +171,11 @@ impl TimeSet for SharedSet {
 
     fn keep_only(&mut self, time: TimeCode) -> Result<(), AllocError> {
         let alloc = self.own.allocator();
+        let rate = self.own.rate();
         *self = if self.contains(time) {
-            SharedSet::one(alloc, time)?
+            SharedSet::one_at(alloc, rate, time)?
         } else {
-            SharedSet::none(alloc)
+            SharedSet::none_at(alloc, rate)
         };
         Ok(())
     }
@@ -178,7 +188,7 @@ impl TimeSet for SharedSet {
             };
             return Ok(SharedSet {
                 base: Some(base),
-                own: SpanSet::none(alloc),
+                own: SpanSet::none_at(alloc, self.own.rate()),
             });
         }
         let base = match &self.base {

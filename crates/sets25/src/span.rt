@@ -1,10 +1,11 @@
 //! A span: the frames from a first to a last one, within a day.
 
 ghost use Rattle.std.specs.Prelude.{◌≡◌, ◌≤◌, ◌<◌};
-ghost use Rattle.tc25.specs.Day.{day};
+ghost use Rattle.tc25.specs.Day.{longest_day};
 ghost use Rattle.sets25.specs.Working.SpanMoves.{point, shifted_span, widened_span};
 
-use crate::direction::{Direction, LAST_FRAME};
+use crate::direction::Direction;
+use tc25::Rate;
 
 /// The frames from `first` to `last`, both included.
 #[derive(Clone, Copy, Debug, PartialEq, Eq)]
@@ -25,15 +26,15 @@ impl Span {
     }
 
     /// The span one frame on or back. What leaves the day is cut off.
-    pub(crate) fn shifted(self, direction: Direction) -> Span
+    pub(crate) fn shifted(self, direction: Direction, rate: Rate) -> Span
         requires ordered { self.first ≤ self.last }
-        requires in_day { self.last < day }
-        ensures { result ≡ shifted_span direction self }
+        requires in_day { self.last < longest_day }
+        ensures { result ≡ shifted_span rate direction self }
     {
         match direction {
             Direction::Next => Span {
                 first: self.first + 1,
-                last: (self.last + 1).min(LAST_FRAME),
+                last: (self.last + 1).min(rate.last_frame()),
             },
             Direction::Prev => Span {
                 first: self.first.saturating_sub(1),
@@ -43,14 +44,14 @@ impl Span {
     }
 
     /// The span with the neighbour on one side, where that is in the day.
-    pub(crate) fn widened(self, direction: Direction) -> Span
-        requires { self.last < day }
-        ensures { result ≡ widened_span direction self }
+    pub(crate) fn widened(self, direction: Direction, rate: Rate) -> Span
+        requires { self.last < longest_day }
+        ensures { result ≡ widened_span rate direction self }
     {
         match direction {
             Direction::Next => Span {
                 first: self.first,
-                last: (self.last + 1).min(LAST_FRAME),
+                last: (self.last + 1).min(rate.last_frame()),
             },
             Direction::Prev => Span {
                 first: self.first.saturating_sub(1),

@@ -1,9 +1,9 @@
 //! A list of spans, kept in short lists, so that a span is put among many others by a move of few.
 
 ghost use Rattle.std.specs.Prelude.{◌≡◌, ◌≤◌, ◌<◌, ◌+◌, ◌++◌, ◌==◌, ◌||◌, ℕ, [], ◌∷◌, if◌then◌else◌, length, take, drop, slice_get, slice_index_or, slice_set, IfOk, OnOk, OnErr, List, MatchOption};
-ghost use Rattle.tc25.specs.Day.{day};
+ghost use Rattle.tc25.specs.Day.{day, longest_day};
 ghost use Rattle.sets25.specs.ShortLists.{end_to_end, lists_in, AllFilled, AllFilled-prop};
-ghost use Rattle.sets25.specs.Spans.{in_span, is_covered, IsCanonical, IsSpan};
+ghost use Rattle.sets25.specs.Spans.{AreSpansOfDay, in_span, is_covered, IsCanonical, IsSpan};
 ghost use Rattle.sets25.specs.Working.Moves.{moved_from};
 ghost use Rattle.sets25.specs.Working.ShortLists.{begin_of, ended_at, meet, only_span, IsListPlace};
 ghost use Rattle.sets25.specs.Working.SpanLists.{with_frame};
@@ -14,6 +14,7 @@ use crate::direction::Direction;
 use crate::span::Span;
 use crate::spans;
 use std::alloc::{AllocError, Global};
+use tc25::Rate;
 
 /// A list of so many spans is cut in halves before one more is added to it.
 ///
@@ -112,7 +113,7 @@ impl SpanList {
     /// Adds a frame: to a span that it touches, or as a span of its own.
     pub(crate) fn add(&mut self, frame: u32) -> Result<(), AllocError>
         requires canonical { IsCanonical 0 (spans_of self.old) }
-        requires in_day { frame < day }
+        requires in_day { frame < longest_day }
         ensures canonical { IsCanonical 0 (spans_of self.new) }
         ensures ok { OnOk result (spans_of self.new ≡ with_frame frame (spans_of self.old)) }
         ensures err { OnErr result (spans_of self.new ≡ spans_of self.old) }
@@ -154,7 +155,7 @@ impl SpanList {
     /// Keeps one frame alone, where it is in a span, and else nothing. Takes no memory.
     pub(crate) fn keep_only(&mut self, frame: u32)
         requires canonical { IsCanonical 0 (spans_of self.old) }
-        requires in_day { frame < day }
+        requires in_day { frame < longest_day }
         ensures { spans_of self.new ≡ (if is_covered frame (spans_of self.old) then point frame ∷ [] else []) }
     {
         let place = self.place_of(frame);
@@ -164,26 +165,30 @@ impl SpanList {
 
     /// Moves each frame by one, round the day.
     #[inline(always)] // the loop over the spans is then one for each direction
-    pub(crate) fn shift(&mut self, direction: Direction) -> Result<(), AllocError>
-        requires { IsCanonical 0 (spans_of self.old) }
+    pub(crate) fn shift(&mut self, direction: Direction, rate: Rate) -> Result<(), AllocError>
+        requires canonical { IsCanonical 0 (spans_of self.old) }
+        requires of_day { AreSpansOfDay rate (spans_of self.old) }
         ensures canonical { IsCanonical 0 (spans_of self.new) }
-        ensures ok { OnOk result ((f : ℕ) → f < day → is_covered f (spans_of self.new) ≡ is_covered (moved_from direction f) (spans_of self.old)) }
+        ensures of_day { AreSpansOfDay rate (spans_of self.new) }
+        ensures ok { OnOk result ((f : ℕ) → f < day rate → is_covered f (spans_of self.new) ≡ is_covered (moved_from rate direction f) (spans_of self.old)) }
         ensures err { OnErr result (spans_of self.new ≡ spans_of self.old) }
     {
         self.gather()?;
-        spans::shift(&mut self.first, direction)
+        spans::shift(&mut self.first, direction, rate)
     }
 
     /// Adds the neighbour of each frame, round the day.
     #[inline(always)] // the loop over the spans is then one for each direction
-    pub(crate) fn widen(&mut self, direction: Direction) -> Result<(), AllocError>
-        requires { IsCanonical 0 (spans_of self.old) }
+    pub(crate) fn widen(&mut self, direction: Direction, rate: Rate) -> Result<(), AllocError>
+        requires canonical { IsCanonical 0 (spans_of self.old) }
+        requires of_day { AreSpansOfDay rate (spans_of self.old) }
         ensures canonical { IsCanonical 0 (spans_of self.new) }
-        ensures ok { OnOk result ((f : ℕ) → f < day → is_covered f (spans_of self.new) ≡ (is_covered f (spans_of self.old) || is_covered (moved_from direction f) (spans_of self.old))) }
+        ensures of_day { AreSpansOfDay rate (spans_of self.new) }
+        ensures ok { OnOk result ((f : ℕ) → f < day rate → is_covered f (spans_of self.new) ≡ (is_covered f (spans_of self.old) || is_covered (moved_from rate direction f) (spans_of self.old))) }
         ensures err { OnErr result (spans_of self.new ≡ spans_of self.old) }
     {
         self.gather()?;
-        spans::widen(&mut self.first, direction)
+        spans::widen(&mut self.first, direction, rate)
     }
 
     /// The place of the list that a frame goes into: of the last that begins at the frame or before,
@@ -277,7 +282,7 @@ impl SpanList {
     fn add_at(&mut self, place: usize, frame: u32) -> Result<(), AllocError>
         requires at { place ≤ length self.old.rest.items }
         requires canonical { IsCanonical 0 (slice_index_or (lists_of self.old) place []) }
-        requires in_day { frame < day }
+        requires in_day { frame < longest_day }
         ensures ok { OnOk result (lists_of self.new ≡ slice_set (lists_of self.old) place (with_frame frame (slice_index_or (lists_of self.old) place []))) }
         ensures err { OnErr result (lists_of self.new ≡ lists_of self.old) }
     {

@@ -1,14 +1,14 @@
 //! The set of times that a tracker keeps: a sorted list of spans.
 
 ghost use Rattle.sets25.specs.SpanList.{spans_of};
-ghost use Rattle.sets25.specs.Spans.{IsCanonical, IsCanonical-prop};
+ghost use Rattle.sets25.specs.Spans.{AreSpansOfDay, AreSpansOfDay-prop, IsCanonical, IsCanonical-prop};
 
-use crate::direction::{Direction, LAST_FRAME};
+use crate::direction::Direction;
 use crate::span::Span;
 use crate::span_list::SpanList;
 use crate::time_set::TimeSet;
 use std::alloc::{AllocError, Global};
-use tc25::TimeCode;
+use tc25::{Rate, TimeCode};
 
 /// A set of times as the list of its spans, in ascending order.
 ///
@@ -17,11 +17,13 @@ use tc25::TimeCode;
 #[derive(Drop)]
 pub struct SpanSet {
     spans: SpanList,
+    rate: Rate,
     ghost canonical: { IsCanonical 0 (spans_of spans) } by { IsCanonical-prop 0 (spans_of spans) },
+    ghost of_day: { AreSpansOfDay rate (spans_of spans) } by { AreSpansOfDay-prop rate (spans_of spans) },
 }
 
 impl SpanSet {
-    ghost use Rattle.std.specs.Prelude.{◌≡◌, OnOk};
+    ghost use Rattle.std.specs.Prelude.{◌≡◌, IfOk};
     ghost use Rattle.std.specs.FinSet as set;
     ghost use Rattle.sets25.specs.SpanSet.{members_of};
     ghost use Rattle.sets25.specs.Times.{span_count};
@@ -40,11 +42,15 @@ impl SpanSet {
         self.spans.allocator()
     }
 
-    /// Adds the members of another set. Where memory is refused, it may have added some of them.
-    pub(crate) fn add_all(&mut self, other: &SpanSet) -> Result<(), AllocError>
-        ensures { OnOk result (members_of self.new ≡ set.union (members_of self.old) (members_of other.now)) }
+    /// The set with the members of another one, of times of the same day.
+    pub(crate) fn with_all(self, other: &SpanSet) -> Result<SpanSet, AllocError>
+        requires { other.now.rate ≡ self.rate }
+        ensures members { IfOk result (λ s. members_of s ≡ set.union (members_of self) (members_of other.now)) }
+        ensures rate { IfOk result (λ s. s.rate ≡ self.rate) }
     {
-        self.spans.add_all(&other.spans)
+        let SpanSet { mut spans, rate } = self;
+        spans.add_all(&other.spans)?;
+        Ok(SpanSet { spans, rate })
     }
 }
 
@@ -57,27 +63,34 @@ impl TimeSet for SpanSet {
 
     ghost members = { members_of };
 
-    fn none(alloc: Global) -> Self {
+    ghost own_rate = { λ s. s.rate };
+
+    fn none_at(alloc: Global, rate: Rate) -> Self {
         SpanSet {
             spans: SpanList::from_spans(Vec::new(alloc)),
+            rate,
         }
     }
 
-    fn all(alloc: Global) -> Result<Self, AllocError> {
+    fn all_at(alloc: Global, rate: Rate) -> Result<Self, AllocError> {
         let day = Span {
             first: 0,
-            last: LAST_FRAME,
+            last: rate.last_frame(),
         };
         Ok(SpanSet {
             spans: SpanList::from_spans(Vec::from_slice(alloc, &[day])?),
+            rate,
         })
     }
 
-    fn one(alloc: Global, time: TimeCode) -> Result<Self, AllocError> {
-        let frame = time.frames();
-        Ok(SpanSet {
-            spans: SpanList::from_spans(Vec::from_slice(alloc, &[Span::of(frame)])?),
-        })
+    fn one_at(alloc: Global, rate: Rate, time: TimeCode) -> Result<Self, AllocError> {
+        let mut set = SpanSet::none_at(alloc, rate);
+        set.add(time)?;
+        Ok(set)
+    }
+
+    fn rate(&self) -> Rate {
+        self.rate
     }
 
     fn contains(&self, time: TimeCode) -> bool {
@@ -93,7 +106,7 @@ impl TimeSet for SpanSet {
             return None;
         };
         if span.first == span.last {
-            TimeCode::from_frames(span.first)
+            TimeCode::from_frames_at(self.rate, span.first)
         } else {
             None
         }
@@ -101,29 +114,33 @@ impl TimeSet for SpanSet {
 
     fn least(&self) -> Option<TimeCode> {
         match self.spans.first() {
-            Some(span) => TimeCode::from_frames(span.first),
+            Some(span) => TimeCode::from_frames_at(self.rate, span.first),
             None => None,
         }
     }
 
     fn shift_next(&mut self) -> Result<(), AllocError> {
-        self.spans.shift(Direction::Next)
+        self.spans.shift(Direction::Next, self.rate)
     }
 
     fn shift_prev(&mut self) -> Result<(), AllocError> {
-        self.spans.shift(Direction::Prev)
+        self.spans.shift(Direction::Prev, self.rate)
     }
 
     fn widen_next(&mut self) -> Result<(), AllocError> {
-        self.spans.widen(Direction::Next)
+        self.spans.widen(Direction::Next, self.rate)
     }
 
     fn widen_prev(&mut self) -> Result<(), AllocError> {
-        self.spans.widen(Direction::Prev)
+        self.spans.widen(Direction::Prev, self.rate)
     }
 
     fn add(&mut self, time: TimeCode) -> Result<(), AllocError> {
-        self.spans.add(time.frames())
+        let frame = time.frames();
+        if frame >= self.rate.frames_in_day() {
+            return Ok(());
+        }
+        self.spans.add(frame)
     }
 
     fn keep_only(&mut self, time: TimeCode) -> Result<(), AllocError> {
@@ -134,8 +151,9 @@ impl TimeSet for SpanSet {
     fn copy(&self) -> Result<Self, AllocError> {
         Ok(SpanSet {
             spans: self.spans.copy()?,
+            rate: self.rate,
         })
     }
 
-    ghost below_day = { λ s. times_where_below _ };
+    ghost below_day = { λ s. times_where_below _ _ };
 }

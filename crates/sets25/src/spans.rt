@@ -1,15 +1,16 @@
 //! Lists of spans in canonical form: the work of a `SpanSet`, in place.
 
 ghost use Rattle.std.specs.Prelude.{◌≡◌, ◌≤◌, ◌<◌, ◌+◌, ◌++◌, ◌||◌, ℕ, false, [], ◌∷◌, if◌then◌else◌, length, map, take, drop, vec_len, vec_capacity, OnOk, OnErr};
-ghost use Rattle.tc25.specs.Day.{day};
+ghost use Rattle.tc25.specs.Day.{day, longest_day};
 ghost use Rattle.sets25.specs.Working.Moves.{moved_from};
 ghost use Rattle.sets25.specs.Working.SpanMoves.{point, shifted_span, widened_span};
-ghost use Rattle.sets25.specs.Spans.{is_covered, IsSpan, IsCanonical};
+ghost use Rattle.sets25.specs.Spans.{AreSpansOfDay, is_covered, IsSpan, IsCanonical};
 ghost use Rattle.sets25.specs.Working.SpanLists.{IsPlace, glue, joined, with_frame, without_edge};
 
-use crate::direction::{Direction, LAST_FRAME};
+use crate::direction::Direction;
 use crate::span::Span;
 use std::alloc::AllocError;
+use tc25::Rate;
 
 /// Whether a frame is in a span of the list.
 pub(crate) fn contains(spans: &[Span], frame: u32) -> bool
@@ -23,7 +24,7 @@ pub(crate) fn contains(spans: &[Span], frame: u32) -> bool
 /// Adds a frame: to a span that it touches, or as a span of its own.
 pub(crate) fn add(spans: &mut Vec<Span>, frame: u32) -> Result<(), AllocError>
     requires canonical { IsCanonical 0 spans.old.items }
-    requires in_day { frame < day }
+    requires in_day { frame < longest_day }
     ensures canonical { IsCanonical 0 spans.new.items }
     ensures ok { OnOk result (spans.new.items ≡ with_frame frame spans.old.items) }
     ensures err { OnErr result (spans.new.items ≡ spans.old.items) }
@@ -47,7 +48,7 @@ pub(crate) fn add(spans: &mut Vec<Span>, frame: u32) -> Result<(), AllocError>
 /// Keeps one frame alone, where it is in a span, and else nothing. Takes no memory.
 pub(crate) fn keep_only(spans: &mut Vec<Span>, frame: u32)
     requires canonical { IsCanonical 0 spans.old.items }
-    requires in_day { frame < day }
+    requires in_day { frame < longest_day }
     ensures { spans.new.items ≡ (if is_covered frame spans.old.items then point frame ∷ [] else []) }
 {
     if contains(spans, frame) && !spans.is_empty() {
@@ -69,7 +70,7 @@ fn place_of(spans: &[Span], frame: u32) -> usize
 /// Replaces a span, and joins it to the one after it where they touch.
 fn put_joined(spans: &mut Vec<Span>, index: usize, span: Span)
     requires in_list { index < length spans.old.items }
-    requires in_day { span.last < day }
+    requires in_day { span.last < longest_day }
     ensures { spans.new.items ≡ take index spans.old.items ++ glue span (drop (index + 1) spans.old.items) }
 {
     if index + 1 < spans.len() && spans[index + 1].first <= span.last + 1 {
@@ -84,66 +85,83 @@ fn put_joined(spans: &mut Vec<Span>, index: usize, span: Span)
 }
 
 /// Moves each frame by one, round the day.
-pub(crate) fn shift(spans: &mut Vec<Span>, direction: Direction) -> Result<(), AllocError>
-    requires { IsCanonical 0 spans.old.items }
+pub(crate) fn shift(
+    spans: &mut Vec<Span>,
+    direction: Direction,
+    rate: Rate,
+) -> Result<(), AllocError>
+    requires canonical { IsCanonical 0 spans.old.items }
+    requires of_day { AreSpansOfDay rate spans.old.items }
     ensures canonical { IsCanonical 0 spans.new.items }
-    ensures ok { OnOk result ((f : ℕ) → f < day → is_covered f spans.new.items ≡ is_covered (moved_from direction f) spans.old.items) }
+    ensures of_day { AreSpansOfDay rate spans.new.items }
+    ensures ok { OnOk result ((f : ℕ) → f < day rate → is_covered f spans.new.items ≡ is_covered (moved_from rate direction f) spans.old.items) }
     ensures err { OnErr result (spans.new.items ≡ spans.old.items) }
 {
-    if !contains(spans, direction.edge()) {
-        shift_within(spans, direction);
+    if !contains(spans, direction.edge(rate)) {
+        shift_within(spans, direction, rate);
         return Ok(());
     }
-    let far_edge = direction.far_edge();
+    let far_edge = direction.far_edge(rate);
     if !contains(spans, far_edge) {
         spans.reserve(1)?;
     }
-    shift_within(spans, direction);
+    shift_within(spans, direction, rate);
     add(spans, far_edge)
 }
 
 /// Adds the neighbour of each frame, round the day.
-pub(crate) fn widen(spans: &mut Vec<Span>, direction: Direction) -> Result<(), AllocError>
-    requires { IsCanonical 0 spans.old.items }
+pub(crate) fn widen(
+    spans: &mut Vec<Span>,
+    direction: Direction,
+    rate: Rate,
+) -> Result<(), AllocError>
+    requires canonical { IsCanonical 0 spans.old.items }
+    requires of_day { AreSpansOfDay rate spans.old.items }
     ensures canonical { IsCanonical 0 spans.new.items }
-    ensures ok { OnOk result ((f : ℕ) → f < day → is_covered f spans.new.items ≡ (is_covered f spans.old.items || is_covered (moved_from direction f) spans.old.items)) }
+    ensures of_day { AreSpansOfDay rate spans.new.items }
+    ensures ok { OnOk result ((f : ℕ) → f < day rate → is_covered f spans.new.items ≡ (is_covered f spans.old.items || is_covered (moved_from rate direction f) spans.old.items)) }
     ensures err { OnErr result (spans.new.items ≡ spans.old.items) }
 {
-    if !contains(spans, direction.edge()) || contains(spans, direction.far_edge()) {
-        widen_within(spans, direction);
+    if !contains(spans, direction.edge(rate)) || contains(spans, direction.far_edge(rate)) {
+        widen_within(spans, direction, rate);
         return Ok(());
     }
     spans.reserve(1)?;
-    widen_within(spans, direction);
-    add(spans, direction.far_edge())
+    widen_within(spans, direction, rate);
+    add(spans, direction.far_edge(rate))
 }
 
 /// Moves each frame by one. A frame that would leave the day is let go.
-fn shift_within(spans: &mut Vec<Span>, direction: Direction)
-    requires { IsCanonical 0 spans.old.items }
-    ensures shifted { spans.new.items ≡ map (shifted_span direction) (without_edge direction spans.old.items) }
+fn shift_within(spans: &mut Vec<Span>, direction: Direction, rate: Rate)
+    requires canonical { IsCanonical 0 spans.old.items }
+    requires of_day { AreSpansOfDay rate spans.old.items }
+    ensures shifted { spans.new.items ≡ map (shifted_span rate direction) (without_edge rate direction spans.old.items) }
+    ensures of_day { AreSpansOfDay rate spans.new.items }
     ensures len { vec_len spans.new ≤ vec_len spans.old }
     ensures capacity { vec_capacity spans.new ≡ vec_capacity spans.old }
 {
-    drop_edge(spans, direction);
-    shift_all(spans.as_mut_slice(), direction);
+    drop_edge(spans, direction, rate);
+    shift_all(spans.as_mut_slice(), direction, rate);
 }
 
 /// Adds the neighbour of each frame, where that is within the day.
-fn widen_within(spans: &mut Vec<Span>, direction: Direction)
-    requires { IsCanonical 0 spans.old.items }
-    ensures widened { spans.new.items ≡ joined (map (widened_span direction) spans.old.items) }
+fn widen_within(spans: &mut Vec<Span>, direction: Direction, rate: Rate)
+    requires canonical { IsCanonical 0 spans.old.items }
+    requires of_day { AreSpansOfDay rate spans.old.items }
+    ensures widened { spans.new.items ≡ joined (map (widened_span rate direction) spans.old.items) }
+    ensures of_day { AreSpansOfDay rate spans.new.items }
     ensures len { vec_len spans.new ≤ vec_len spans.old }
     ensures capacity { vec_capacity spans.new ≡ vec_capacity spans.old }
 {
-    let kept = widen_all(spans.as_mut_slice(), direction);
+    let kept = widen_all(spans.as_mut_slice(), direction, rate);
     spans.truncate(kept);
 }
 
 /// Drops the span, if there is one, that would wholly leave the day.
-fn drop_edge(spans: &mut Vec<Span>, direction: Direction)
-    requires { IsCanonical 0 spans.old.items }
-    ensures dropped { spans.new.items ≡ without_edge direction spans.old.items }
+fn drop_edge(spans: &mut Vec<Span>, direction: Direction, rate: Rate)
+    requires canonical { IsCanonical 0 spans.old.items }
+    requires of_day { AreSpansOfDay rate spans.old.items }
+    ensures dropped { spans.new.items ≡ without_edge rate direction spans.old.items }
     ensures canonical { IsCanonical 0 spans.new.items }
     ensures len { vec_len spans.new ≤ vec_len spans.old }
     ensures capacity { vec_capacity spans.new ≡ vec_capacity spans.old }
@@ -154,7 +172,7 @@ fn drop_edge(spans: &mut Vec<Span>, direction: Direction)
     }
     match direction {
         Direction::Next => {
-            if spans[count - 1].first == LAST_FRAME {
+            if spans[count - 1].first == rate.last_frame() {
                 spans.truncate(count - 1);
             }
         }
@@ -167,30 +185,30 @@ fn drop_edge(spans: &mut Vec<Span>, direction: Direction)
 }
 
 /// Moves each span by one frame.
-fn shift_all(spans: &mut [Span], direction: Direction)
+fn shift_all(spans: &mut [Span], direction: Direction, rate: Rate)
     requires { IsCanonical 0 spans.old }
-    ensures { spans.new ≡ map (shifted_span direction) spans.old }
+    ensures { spans.new ≡ map (shifted_span rate direction) spans.old }
 {
     for span in spans.iter_mut() {
-        *span = span.shifted(direction);
+        *span = span.shifted(direction, rate);
     }
 }
 
 /// Widens each span by one frame and joins those that then touch.
 ///
 /// Answers how many spans are left, at the front of the slice.
-fn widen_all(spans: &mut [Span], direction: Direction) -> usize
+fn widen_all(spans: &mut [Span], direction: Direction, rate: Rate) -> usize
     requires { IsCanonical 0 spans.old }
     ensures fits { result ≤ length spans.new }
-    ensures widened { take result spans.new ≡ joined (map (widened_span direction) spans.old) }
+    ensures widened { take result spans.new ≡ joined (map (widened_span rate direction) spans.old) }
 {
     if spans.is_empty() {
         return 0;
     }
-    let mut current = spans[0].widened(direction);
+    let mut current = spans[0].widened(direction, rate);
     let mut kept = 0;
     for index in 1..spans.len() {
-        let span = spans[index].widened(direction);
+        let span = spans[index].widened(direction, rate);
         if span.first <= current.last + 1 {
             current.last = span.last;
         } else {

@@ -1,8 +1,10 @@
-//! Times of day in frames at 25 frames a second.
+//! Times of day in frames, at each frame rate.
 #![tactic(auto)]
 
 mod laws;
+mod rate;
 mod time_code;
 
-pub use laws::{neighbours, readings};
+pub use laws::{labels, neighbours, readings};
+pub use rate::Rate;
 pub use time_code::TimeCode;

@@ -1,16 +1,16 @@
 //! A time of day as a number of frames, its four BCD bytes and its text.
 
 ghost use Rattle.std.specs.Prelude.{◌≡◌, ℕ, ◌+◌, ◌<◌, IfSome, IfNone, SomeIff, Some, [], ◌∷◌};
-ghost use Rattle.tc25.specs.Day.{day, next_frame, prev_frame, bytes_of, ReadsAs, time_of, text_of, ascii_digits, bcd, digits_of, hours_of, minutes_of, seconds_of, frames_of};
+ghost use Rattle.tc25.specs.Day.{day, next_frame, prev_frame, bytes_of, ReadsAs, time_of, text_of, ascii_digits, bcd, digits_of, hours_of, label_of, label_spelled, labels_in_day, longest_day, masked, minutes_of, seconds_of, frames_of};
 
+use crate::rate::Rate;
 use std::marker::Model;
 
-/// The last frame of the day.
-const LAST_FRAME: u32 = TimeCode::FRAMES_IN_DAY - 1;
-
-/// A time of day at 25 frames a second: the number of frames since midnight, below 2,160,000.
+/// A time of day: the number of frames since midnight, below that of a day. At which rate they are counted is not kept: a
+/// call that needs the rate is given it, and one that is given none takes 25 frames a second.
 ///
-/// A contract sees a `TimeCode` as that number.
+/// A contract sees a `TimeCode` as that number. It is below 2,592,000, the frames of the longest day, that of 30 frames a second;
+/// a time of 25 frames a second is below 2,160,000.
 #[derive(Clone, Copy, Debug, Default, PartialEq, Eq, PartialOrd, Ord, Hash)]
 pub struct TimeCode {
     frame: u32,
@@ -18,68 +18,114 @@ pub struct TimeCode {
 
 impl Model for TimeCode {
     ghost use Rattle.std.specs.Prelude.{ℕ, ◌<◌};
-    ghost use Rattle.tc25.specs.Day.{day};
+    ghost use Rattle.tc25.specs.Day.{longest_day};
 
     ghost Value = { ℕ };
 
     ghost view = { λ t. t.frame };
 
-    ghost invariant = { λ t. t.frame < day };
+    ghost invariant = { λ t. t.frame < longest_day };
 
     ghost inverse = { λ n. record { frame = n } };
 }
 
+/// The calls at 25 frames a second.
 impl TimeCode {
     /// The frames of a day: 25 a second, 24 hours.
     pub const FRAMES_IN_DAY: u32 = 2_160_000;
 
     /// The time that many frames after midnight, or `None` from 2,160,000 on.
     pub fn from_frames(frames: u32) -> Option<TimeCode>
-        ensures { SomeIff result (frames < day) frames }
+        ensures { SomeIff result (frames < day Rate.Fps25) frames }
     {
-        if frames < TimeCode::FRAMES_IN_DAY {
+        TimeCode::from_frames_at(Rate::Fps25, frames)
+    }
+
+    /// The time that four BCD bytes read as: [`TimeCode::from_bytes_at`] at 25 frames a second.
+    pub fn from_bytes(bytes: [u8; 4]) -> Option<TimeCode>
+        ensures value { result ≡ time_of Rate.Fps25 bytes }
+        ensures reads { IfSome result (ReadsAs Rate.Fps25 bytes) }
+        ensures unread { IfNone result ((t : ℕ) → ¬ ReadsAs Rate.Fps25 bytes t) }
+    {
+        TimeCode::from_bytes_at(Rate::Fps25, bytes)
+    }
+
+    /// The four BCD bytes of the time: frames, seconds, minutes and hours, with no flag set.
+    pub fn to_bytes(self) -> [u8; 4]
+        ensures value { result ≡ bytes_of Rate.Fps25 self }
+        ensures reads_back { self < day Rate.Fps25 → time_of Rate.Fps25 result ≡ Some self }
+    {
+        self.to_bytes_at(Rate::Fps25)
+    }
+
+    /// The time one frame later. After the last frame of the day comes frame 0.
+    pub fn next(self) -> TimeCode
+        ensures value { result ≡ next_frame Rate.Fps25 self }
+        ensures below_day { result < day Rate.Fps25 }
+    {
+        self.next_at(Rate::Fps25)
+    }
+
+    /// The time one frame earlier. Before frame 0 comes the last frame of the day.
+    pub fn prev(self) -> TimeCode
+        ensures value { result ≡ prev_frame Rate.Fps25 self }
+        ensures below_day { self < day Rate.Fps25 → result < day Rate.Fps25 }
+    {
+        self.prev_at(Rate::Fps25)
+    }
+
+    /// The time as the ASCII text `hh:mm:ss:ff`.
+    pub fn text(self) -> [u8; 11]
+        ensures { result ≡ text_of Rate.Fps25 self }
+    {
+        self.text_at(Rate::Fps25)
+    }
+}
+
+/// The calls at each rate.
+impl TimeCode {
+    /// The number of frames since midnight.
+    pub fn frames(self) -> u32
+        ensures value { result ≡ self }
+        ensures below_day { result < longest_day }
+    {
+        self.frame
+    }
+
+    /// The time that many frames after midnight, or `None` from the number of frames in a day on.
+    pub fn from_frames_at(rate: Rate, frames: u32) -> Option<TimeCode>
+        ensures { SomeIff result (frames < day rate) frames }
+    {
+        if frames < rate.frames_in_day() {
             Some(TimeCode { frame: frames })
         } else {
             None
         }
     }
 
-    /// The number of frames since midnight, below 2,160,000.
-    pub fn frames(self) -> u32
-        ensures value { result ≡ self }
-        ensures below_day { result < day }
-    {
-        self.frame
-    }
-
     /// The time that four BCD bytes read as: frames, seconds, minutes and hours, in this order.
     ///
-    /// As in the protocol manual, the two high bits of the frames and of the hours and the high bit
-    /// of the seconds and of the minutes are flags, which are ignored. `None` where a digit is above
-    /// 9, the frames are above 24, the seconds or the minutes above 59, or the hours above 23.
-    #[tactic(auto, unfolding(crate::specs::Day::time_of))]
-    pub fn from_bytes(bytes: [u8; 4]) -> Option<TimeCode>
-        ensures value { result ≡ time_of bytes }
-        ensures reads { IfSome result (ReadsAs bytes) }
-        ensures unread { IfNone result ((t : ℕ) → ¬ ReadsAs bytes t) }
+    /// As in the protocol manual, the two high bits of the frames and of the hours and the high bit of the seconds and of the
+    /// minutes are flags, which are ignored, that for drop frame too. `None` where a digit is above 9, the frames are as many
+    /// as the rate has in a second or more, the seconds or the minutes above 59, or the hours above 23; and in drop frame where
+    /// they are frame 00 or 01 of second 00 of a minute that is no multiple of ten.
+    #[tactic(auto, unfolding(crate::specs::Day::time_of), using(crate::proofs::DayLemmas::given_reads, crate::proofs::DayLemmas::none_reads, crate::proofs::DayLemmas::given_below))]
+    pub fn from_bytes_at(rate: Rate, bytes: [u8; 4]) -> Option<TimeCode>
+        ensures value { result ≡ time_of rate bytes }
+        ensures reads { IfSome result (ReadsAs rate bytes) }
+        ensures unread { IfNone result ((t : ℕ) → ¬ ReadsAs rate bytes t) }
     {
-        let [frames, seconds, minutes, hours] = bytes;
-        let frames = number_of(frames & 0x3F, 24)?;
-        let seconds = number_of(seconds & 0x7F, 59)?;
-        let minutes = number_of(minutes & 0x7F, 59)?;
-        let hours = number_of(hours & 0x3F, 23)?;
-        Some(TimeCode {
-            frame: ((hours * 60 + minutes) * 60 + seconds) * 25 + frames,
-        })
+        let frame = rate.frame_named(label_spelled(rate, bytes)?)?;
+        Some(TimeCode { frame })
     }
 
     /// The four BCD bytes of the time: frames, seconds, minutes and hours, with no flag set.
-    #[tactic(auto, unfolding(crate::specs::Day::time_of))]
-    pub fn to_bytes(self) -> [u8; 4]
-        ensures value { result ≡ bytes_of self }
-        ensures reads_back { time_of result ≡ Some self }
+    #[tactic(auto, using(crate::proofs::DayLemmas::bytes_read))]
+    pub fn to_bytes_at(self, rate: Rate) -> [u8; 4]
+        ensures value { result ≡ bytes_of rate self }
+        ensures reads_back { self < day rate → time_of rate result ≡ Some self }
     {
-        let [hours, minutes, seconds, frames] = self.parts();
+        let [hours, minutes, seconds, frames] = self.parts(rate);
         [
             bcd_byte(frames),
             bcd_byte(seconds),
@@ -89,31 +135,32 @@ impl TimeCode {
     }
 
     /// The time one frame later. After the last frame of the day comes frame 0.
-    pub fn next(self) -> TimeCode
-        ensures value { result ≡ next_frame self }
-        ensures below_day { result < day }
+    pub fn next_at(self, rate: Rate) -> TimeCode
+        ensures value { result ≡ next_frame rate self }
+        ensures below_day { result < day rate }
     {
-        let frame = (self.frame + 1) % TimeCode::FRAMES_IN_DAY;
+        let next = self.frame + 1;
+        let frame = if next < rate.frames_in_day() { next } else { 0 };
         TimeCode { frame }
     }
 
     /// The time one frame earlier. Before frame 0 comes the last frame of the day.
-    pub fn prev(self) -> TimeCode
-        ensures value { result ≡ prev_frame self }
-        ensures below_day { result < day }
+    pub fn prev_at(self, rate: Rate) -> TimeCode
+        ensures value { result ≡ prev_frame rate self }
+        ensures below_day { self < day rate → result < day rate }
     {
         let before = self.frame.checked_sub(1);
         TimeCode {
-            frame: before.unwrap_or(LAST_FRAME),
+            frame: before.unwrap_or(rate.last_frame()),
         }
     }
 
-    /// The time as the ASCII text `hh:mm:ss:ff`.
+    /// The time as the ASCII text `hh:mm:ss:ff`, and in drop frame `hh:mm:ss;ff`.
     #[tactic(auto, unfolding(crate::specs::Day::text_of))]
-    pub fn text(self) -> [u8; 11]
-        ensures { result ≡ text_of self }
+    pub fn text_at(self, rate: Rate) -> [u8; 11]
+        ensures { result ≡ text_of rate self }
     {
-        let [hours, minutes, seconds, frames] = self.parts();
+        let [hours, minutes, seconds, frames] = self.parts(rate);
         let [hours_tens, hours_ones] = digits(hours);
         let [minutes_tens, minutes_ones] = digits(minutes);
         let [seconds_tens, seconds_ones] = digits(seconds);
@@ -127,21 +174,37 @@ impl TimeCode {
             b':',
             seconds_tens,
             seconds_ones,
-            b':',
+            rate.before_frames(),
             frames_tens,
             frames_ones,
         ]
     }
 
-    /// The hours, minutes, seconds and frames.
-    fn parts(self) -> [u32; 4]
-        ensures parts { result ≡ hours_of self ∷ minutes_of self ∷ seconds_of self ∷ frames_of self ∷ [] }
-        ensures below_day { self < day }
+    /// The hours, minutes, seconds and frames of its label.
+    fn parts(self, rate: Rate) -> [u32; 4]
+        ensures parts { result ≡ hours_of rate (label_of rate self) ∷ minutes_of rate (label_of rate self) ∷ seconds_of rate (label_of rate self) ∷ frames_of rate (label_of rate self) ∷ [] }
+        ensures below_day { self < longest_day }
     {
-        let seconds = self.frame / 25;
+        let in_second = rate.in_second();
+        let label = rate.label_of(self.frame);
+        let seconds = label / in_second;
         let minutes = seconds / 60;
-        [minutes / 60, minutes % 60, seconds % 60, self.frame % 25]
+        [minutes / 60, minutes % 60, seconds % 60, label % in_second]
     }
+}
+
+/// The label that four BCD bytes spell, where they spell one of the day.
+fn label_spelled(rate: Rate, bytes: [u8; 4]) -> Option<u32>
+    ensures spelled { result ≡ label_spelled rate (masked bytes) }
+    ensures in_day { IfSome result (λ label. label < labels_in_day rate) }
+{
+    let in_second = rate.in_second();
+    let [frames, seconds, minutes, hours] = bytes;
+    let frames = number_of(frames & 0x3F, in_second - 1)?;
+    let seconds = number_of(seconds & 0x7F, 59)?;
+    let minutes = number_of(minutes & 0x7F, 59)?;
+    let hours = number_of(hours & 0x3F, 23)?;
+    Some(((hours * 60 + minutes) * 60 + seconds) * in_second + frames)
 }
 
 /// The number that a byte of two BCD digits spells, where it is at most `greatest`.

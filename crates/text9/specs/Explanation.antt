@@ -2,6 +2,7 @@
 use Rattle.std.specs.Prelude.{ℕ, ◌/◌, ◌%◌, ◌==◌, if◌then◌else◌, Bool, true, false, List, [], ◌∷◌, ◌++◌, unwrap_or, slice_index, bit_and, codes}
 use Rattle.std.specs.Fmt.{decimal}
 use Rattle.tc25.specs.Day.{text_of}
+use Rattle.tc25.specs.declared.rate.Rate.{Rate}
 use Rattle.block9.specs.declared.block.Block.{Block}
 use Rattle.block9.specs.declared.pairer.Exchange.{Exchange}
 use Rattle.block9.specs.Block.{first_datum, head_of}
@@ -13,6 +14,7 @@ use Rattle.deck9.specs.declared.knowledge.KnownEntry.{KnownEntry}
 use Rattle.deck9.specs.declared.knowledge.KnownEntry.TheVariants as entry
 use Rattle.deck9.specs.declared.knowledge.Knowledge.{Knowledge}
 use Rattle.deck9.specs.declared.mode.Mode.{Mode}
+use Rattle.deck9.specs.declared.profile.Profile.{Profile}
 use Rattle.deck9.specs.declared.state.Hands.{Hands}
 use Rattle.deck9.specs.declared.state.Hands.TheVariants as hands
 use Rattle.deck9.specs.Mode.{name_of as name_of_mode}
@@ -65,11 +67,11 @@ text_of_mode (known.Is mode) = name_of_mode mode
 text_of_mode known.Unknown = codes "unknown"
 
 -- a register: clear, set at a time on which all possible states agree, set at one that is not known
-unfoldable pub text_of_register : KnownEntry → List ℕ
-text_of_register entry.Clear = codes "clear"
-text_of_register (entry.At time) = text_of time
-text_of_register entry.SetSomewhere = codes "set"
-text_of_register entry.Unknown = codes "unknown"
+unfoldable pub text_of_register : Rate → KnownEntry → List ℕ
+text_of_register rate entry.Clear = codes "clear"
+text_of_register rate (entry.At time) = text_of rate time
+text_of_register rate entry.SetSomewhere = codes "set"
+text_of_register rate entry.Unknown = codes "unknown"
 
 -- one of two words, by a fact on which all possible states agree
 abbrev pub word_of : List ℕ → List ℕ → Known Bool → List ℕ
@@ -87,30 +89,30 @@ text_of_panel hands.None panel = []
 text_of_panel hands.Allowed panel = codes ", panel " ++ word_of (codes "on") (codes "off") panel
 
 -- what is known of the registers, of local and of the panel, field by field
-abbrev pub text_of_fields : Hands → Knowledge → List ℕ
-text_of_fields h k =
-    (codes ", in " ++ text_of_register k.ins)
-    ++ (codes ", out " ++ text_of_register k.outs)
+abbrev pub text_of_fields : Profile → Knowledge → List ℕ
+text_of_fields p k =
+    (codes ", in " ++ text_of_register p.rate k.ins)
+    ++ (codes ", out " ++ text_of_register p.rate k.outs)
     ++ (codes ", local " ++ text_of_local k.local)
-    ++ (codes ", ain " ++ text_of_register k.ains)
-    ++ (codes ", aout " ++ text_of_register k.aouts)
-    ++ text_of_panel h k.panel
+    ++ (codes ", ain " ++ text_of_register p.rate k.ains)
+    ++ (codes ", aout " ++ text_of_register p.rate k.aouts)
+    ++ text_of_panel p.hands k.panel
 
 -- what is known, field by field
-unfoldable pub text_of_knowledge : Hands → Knowledge → List ℕ
-text_of_knowledge h k =
+unfoldable pub text_of_knowledge : Profile → Knowledge → List ℕ
+text_of_knowledge p k =
     (codes "goal " ++ text_of_mode k.goal)
     ++ (codes ", shown " ++ text_of_mode k.shown)
-    ++ text_of_fields h k
+    ++ text_of_fields p k
 
 -- ---- the line
 
 -- the line of an exchange, by the number of its reply's last record and what is known after it
-unfoldable pub line_of_exchange : Hands → ℕ → Exchange → Knowledge → List ℕ
-line_of_exchange h at e k =
+unfoldable pub line_of_exchange : Profile → ℕ → Exchange → Knowledge → List ℕ
+line_of_exchange p at e k =
     (codes "record " ++ decimal at)
     ++ (codes ": " ++ text_of_command e)
     ++ (codes " -> " ++ text_of_reply e.reply)
     ++ (codes ", delay " ++ decimal e.delay_us)
-    ++ (codes ", " ++ text_of_knowledge h k)
+    ++ (codes ", " ++ text_of_knowledge p k)
     ++ codes "\n"

@@ -8,9 +8,10 @@ ghost use Rattle.text9.specs.Explanation.{line_of_exchange};
 use crate::pieces::{put_count, put_text};
 use asked::{put_command, put_reply};
 use block9::Exchange;
-use deck9::{Hands, Knowledge};
+use deck9::{Hands, Knowledge, Profile};
 use known::put_knowledge;
 use std::alloc::AllocError;
+use tc25::Rate;
 
 /// Puts the line of an exchange to the end of the buffer: what was asked, what was answered and after how long,
 /// and what is known of the deck after it. `at` is the number of the reply's last record, counted from 1.
@@ -25,12 +26,26 @@ pub fn put_exchange_line(
     knowledge: &Knowledge,
 ) -> Result<(), AllocError>
     ensures { OnOk result (line.new.items ≡ line.old.items
-        ++ line_of_exchange hands at exchange.now knowledge.now) }
+        ++ line_of_exchange (record { rate = Rate.Fps25; hands = hands }) at exchange.now knowledge.now) }
+{
+    put_exchange_line_for(line, Profile::of(hands), at, exchange, knowledge)
+}
+
+/// Puts the line of an exchange with a deck that is taken for this: [`put_exchange_line`] at any rate.
+pub fn put_exchange_line_for(
+    line: &mut Vec<u8>,
+    profile: Profile,
+    at: u32,
+    exchange: &Exchange,
+    knowledge: &Knowledge,
+) -> Result<(), AllocError>
+    ensures { OnOk result (line.new.items ≡ line.old.items
+        ++ line_of_exchange profile at exchange.now knowledge.now) }
 {
     put_count(line, "record ", u64::from(at))?;
     put_command(line, ": ", exchange)?;
     put_reply(line, " -> ", &exchange.reply)?;
     put_count(line, ", delay ", exchange.delay_us)?;
-    put_knowledge(line, ", ", hands, knowledge)?;
+    put_knowledge(line, ", ", profile, knowledge)?;
     put_text(line, "\n")
 }

@@ -12,8 +12,8 @@ mod pieces;
 mod straight;
 mod writing;
 
-pub use explanation::known::put_fields;
-pub use explanation::put_exchange_line;
+pub use explanation::known::{put_fields, put_fields_for};
+pub use explanation::{put_exchange_line, put_exchange_line_for};
 pub use pieces::{put_count, put_hex, put_text, put_wide, put_word};
 pub use straight::{write_count, write_text, write_word};
 pub use writing::{WriteFault, put_all, put_some};

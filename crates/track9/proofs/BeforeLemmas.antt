@@ -8,11 +8,13 @@ use Rattle.track9.proofs.Words.{is_some, IsPattern, IsEntry, IsState, IsUndone, 
 use Rattle.track9.proofs.Words.{moved_entry, nat_tests, Next, next_frame, no_entries, no_states, None, on_the_way, on_two, Option, option_map, PairRunsTo, Part, Possible}
 use Rattle.track9.proofs.Words.{Prev, prev_frame, Recall, refl, refused, RegAudioIn, RegAudioOut, RegIn, Register, RegOut, Reset, rules, RunsTo, same_fact, SetAt, SetSomewhere}
 use Rattle.track9.proofs.Words.{shown_with, Shows, Some, some_entry, some_mode, some_pair, State, States, DeckStep, Stop, subst, sym, true, true_from_ne_false, two_of, way}
-use Rattle.track9.proofs.Words.{with_wanted, with_entry, ℕ, ◌&&◌, ◌<◌, ◌==◌, ◌||◌, ◌↔◌, ◌∙◌, ◌≡◌, ◌⊎◌}
+use Rattle.track9.proofs.Words.{any_panel, AreWhole, KeepsPanel, panel_before, panel_switched, Profile, profile_of, Rate, rate_for, with_wanted, with_entry, ℕ, ◌&&◌, ◌<◌, ◌==◌, ◌||◌, ◌↔◌, ◌∙◌, ◌≡◌, ◌⊎◌}
 use Rattle.deck9.specs.declared.effect.Effect.TheVariants as effect
 use Rattle.deck9.specs.declared.mode.Mode.TheVariants as mode
 use Rattle.deck9.specs.declared.state.Hands.TheVariants as hands
 use Rattle.std.specs.FinSet as set
+use Rattle.track9.specs.Working.Pattern.{any_tape}
+use Rattle.deck9.proofs.RestLemmas.{step_valid}
 use Rattle.track9.proofs.EffectLemmas.{asks_or_acts, masked_has}
 use Rattle.track9.proofs.EntryLemmas.{drifted_has, drifted_to, goals_has, goes_from, no_entry, pair_by_goal}
 use Rattle.track9.proofs.KnownLemmas.{at_same, goal_to}
@@ -39,14 +41,15 @@ fits_just t d f = same_state t d (just_mode t.goal d.goal f.goal) (just_mode t.s
 -- ---- one entry
 
 -- a shift one way and back
-shifts : (t : ℕ) → t < day → (next_frame (prev_frame t) ≡ t) × (prev_frame (next_frame t) ≡ t) × (prev_frame t < day) × (next_frame t < day)
-shifts t h = (grind (arith, nat_tests), grind (arith, nat_tests), grind (arith, nat_tests), grind (arith, nat_tests))
+shifts : (rate : Rate) (t : ℕ) → t < day rate
+    → (next_frame rate (prev_frame rate t) ≡ t) × (prev_frame rate (next_frame rate t) ≡ t) × (prev_frame rate t < day rate) × (next_frame rate t < day rate)
+shifts rate t h = (grind (arith, nat_tests), grind (arith, nat_tests), grind (arith, nat_tests), grind (arith, nat_tests))
 
-shifted : (e : Entry) → IsEntry e
-    → (moved_entry next_frame (moved_entry prev_frame e) ≡ e) × (moved_entry prev_frame (moved_entry next_frame e) ≡ e) × IsEntry (moved_entry prev_frame e)
-    × IsEntry (moved_entry next_frame e)
-shifted Clear h = (refl, refl, tt, tt)
-shifted (At t) h = let s = shifts t h in (ap At s.0, ap At s.1, s.2, s.3)
+shifted : (rate : Rate) (e : Entry) → IsEntry rate e
+    → (moved_entry (next_frame rate) (moved_entry (prev_frame rate) e) ≡ e) × (moved_entry (prev_frame rate) (moved_entry (next_frame rate) e) ≡ e)
+    × IsEntry rate (moved_entry (prev_frame rate) e) × IsEntry rate (moved_entry (next_frame rate) e)
+shifted rate Clear h = (refl, refl, tt, tt)
+shifted rate (At t) h = let s = shifts rate t h in (ap At s.0, ap At s.1, s.2, s.3)
 
 -- an entry is the one that is wanted, or one of any
 abbrev IsBefore : Option (Option Entry) → Entry → Type 0
@@ -54,37 +57,37 @@ IsBefore None e = ⊥
 IsBefore (Some o) e = Is o e
 
 -- an entry that was is wanted exactly where it can become the new one
-becomes_exactly : (c : Change) (old new : Entry) → IsEntry old → IsEntry new → IsBefore (entry_before c new) old ↔ Becomes c old new
-becomes_exactly SetSomewhere old (At t) was is = (λ i. (t, is, refl), λ b. tt)
-becomes_exactly SetSomewhere old Clear was is = (λ i. absurd i, λ b. cc b.2)
-becomes_exactly (SetAt u) old (At t) was is = cond_both (t == u) (Some None) None (λ o. IsBefore o old ↔ (At t ≡ At u))
-    (λ e. (λ i. ap At (eqb-true t u e), λ b. tt))
-    (λ e. (λ i. absurd i, λ b. absurd (false≢true (sym e ∙ eq-eqb t u (at_same t u b)))))
-becomes_exactly (SetAt u) old Clear was is = (λ i. absurd i, λ b. cc)
-becomes_exactly Next old new was is = (
-  λ i. sym (ap (moved_entry next_frame) i ∙ (shifted new is).0),
+becomes_exactly : (rate : Rate) (c : Change) (old new : Entry) → IsEntry rate old → IsEntry rate new → IsBefore (entry_before rate c new) old ↔ Becomes rate c old new
+becomes_exactly rate SetSomewhere old (At t) was is = (λ i. (t, is, refl), λ b. tt)
+becomes_exactly rate SetSomewhere old Clear was is = (λ i. absurd i, λ b. cc b.2)
+becomes_exactly rate (SetAt u) old (At t) was is = cond_both (t == u) (Some None) None (λ o. IsBefore o old ↔ ((u < day rate) × (At t ≡ At u)))
+    (λ e. (λ i. (subst (λ x. x < day rate) (eqb-true t u e) is, ap At (eqb-true t u e)), λ b. tt))
+    (λ e. (λ i. absurd i, λ b. absurd (false≢true (sym e ∙ eq-eqb t u (at_same t u b.1)))))
+becomes_exactly rate (SetAt u) old Clear was is = (λ i. absurd i, λ b. cc b.1)
+becomes_exactly rate Next old new was is = (
+  λ i. sym (ap (moved_entry (next_frame rate)) i ∙ (shifted rate new is).0),
   λ b. sym
-      (ap (moved_entry prev_frame) b ∙ (shifted old was).1),
+      (ap (moved_entry (prev_frame rate)) b ∙ (shifted rate old was).1),
 )
-becomes_exactly Prev old new was is = (
-  λ i. sym (ap (moved_entry prev_frame) i ∙ (shifted new is).1),
+becomes_exactly rate Prev old new was is = (
+  λ i. sym (ap (moved_entry (prev_frame rate)) i ∙ (shifted rate new is).1),
   λ b. sym
-      (ap (moved_entry next_frame) b ∙ (shifted old was).0),
+      (ap (moved_entry (next_frame rate)) b ∙ (shifted rate old was).0),
 )
-becomes_exactly Reset old Clear was is = (λ i. refl, λ b. tt)
-becomes_exactly Reset old (At t) was is = (λ i. absurd i, λ b. cc)
-becomes_exactly Recall old new was is = (λ i. is, λ b. tt)
+becomes_exactly rate Reset old Clear was is = (λ i. refl, λ b. tt)
+becomes_exactly rate Reset old (At t) was is = (λ i. absurd i, λ b. cc)
+becomes_exactly rate Recall old new was is = (λ i. is, λ b. tt)
 
 -- there is one that was, where there can be
-entry_was : (c : Change) (new : Entry) → IsEntry new → IfSome (entry_before c new) (λ o. (x : Entry) × IsEntry x × Is o x)
-entry_was SetSomewhere (At t) h = (Clear, tt, tt)
-entry_was (SetAt u) (At t) h = elim (t == u) as (λ b. IfSome (if b then Some None else None) (λ (o : Option Entry). (x : Entry) × IsEntry x × Is o x))
+entry_was : (rate : Rate) (c : Change) (new : Entry) → IsEntry rate new → IfSome (entry_before rate c new) (λ o. (x : Entry) × IsEntry rate x × Is o x)
+entry_was rate SetSomewhere (At t) h = (Clear, tt, tt)
+entry_was rate (SetAt u) (At t) h = elim (t == u) as (λ b. IfSome (if b then Some None else None) (λ (o : Option Entry). (x : Entry) × IsEntry rate x × Is o x))
     [ true ↦ (Clear, tt, tt) | false ↦ tt ]
-entry_was Next new h = (moved_entry prev_frame new, (shifted new h).2, refl)
-entry_was Prev new h = (moved_entry next_frame new, (shifted new h).3, refl)
-entry_was Reset Clear h = (Clear, tt, tt)
-entry_was Recall new h = (Clear, tt, tt)
-entry_was _ _ h = tt
+entry_was rate Next new h = (moved_entry (prev_frame rate) new, (shifted rate new h).2, refl)
+entry_was rate Prev new h = (moved_entry (next_frame rate) new, (shifted rate new h).3, refl)
+entry_was rate Reset Clear h = (Clear, tt, tt)
+entry_was rate Recall new h = (Clear, tt, tt)
+entry_was rate _ _ h = tt
 
 -- ---- what an effect may have led from
 
@@ -111,11 +114,11 @@ same_facts false false = (λ h. refl, λ e. refl)
 same_facts _ _ = (λ h. absurd (false≢true h), λ e. cc)
 
 -- a state is one of the pattern exactly where the effect leads from it to t
-wanted_exactly : (h : Hands) (e : Effect) (t d : State) → IsState t → IsState d → FitsSome (pattern_before h e t) d ↔ Does h e d t
-wanted_exactly h (effect.Go g) t d after before = cond_both (is_mode t.goal g) (Some (any_goal t)) None (λ o. FitsSome o d ↔ (t ≡ record d { goal = g }))
+wanted_exactly : (p : Profile) (e : Effect) (t d : State) → IsState p.rate t → IsState p.rate d → FitsSome (pattern_before p e t) d ↔ Does p e d t
+wanted_exactly p (effect.Go g) t d after before = cond_both (is_mode t.goal g) (Some (any_goal t)) None (λ o. FitsSome o d ↔ (t ≡ record d { goal = g }))
     (λ e. (goal_state t d g (is_mode-same t.goal g e), λ goes. rw goes (fits_goal d g)))
     (λ e. (λ f. absurd f, λ goes. absurd (false≢true (sym e ∙ rw goes (mode_self g)))))
-wanted_exactly h effect.KeepOrStop t d after before = cond_both (is_mode t.goal mode.Stop) (any_goal t) (just_state t)
+wanted_exactly p effect.KeepOrStop t d after before = cond_both (is_mode t.goal mode.Stop) (any_goal t) (just_state t)
     (λ a. Fits a d ↔ ((t ≡ d) ⊎ (t ≡ record d { goal = mode.Stop })))
     (λ e. (
       λ f. inr (goal_state t d mode.Stop (is_mode-same t.goal mode.Stop e) f),
@@ -123,51 +126,65 @@ wanted_exactly h effect.KeepOrStop t d after before = cond_both (is_mode t.goal 
           [ inl keeps ↦ rw keeps (fits_goal d d.goal) | inr stops ↦ rw stops (fits_goal d mode.Stop) ],
     ))
     (λ e. (λ f. inl (fits_just t d f), λ w. elim w [ inl keeps ↦ rw keeps (fits_self d) | inr stops ↦ absurd (false≢true (sym e ∙ rw stops refl)) ]))
-wanted_exactly h (effect.Change r c) t d after before =
-    let change = change_exactly r (entry_before c (entry_of r t)) t d in let becomes = becomes_exactly c (entry_of r d) (entry_of r t) (before r) (after r) in (
+wanted_exactly p (effect.Change r c) t d after before =
+    let change = change_exactly r (entry_before p.rate c (entry_of r t)) t d in let becomes = becomes_exactly p.rate c (entry_of r d) (entry_of r t) (before r) (after r) in (
       λ f. let w = change.0 f in (entry_of r t, becomes.0 w.0, w.1),
       λ (e, b, same). let at : entry_of r t ≡ e = ap (entry_of r) same ∙ (put r e d).entry in change.1 (becomes.1 (rw at b), rw at same),
     )
-wanted_exactly hands.Allowed (effect.Panel on) t d after before = cond_both (same_fact t.panel on) (Some (record (just_state t) { panel = None })) None
-    (λ o. FitsSome o d ↔ (t ≡ record d { panel = on }))
-    (λ e. (λ f. let same = sym ((same_facts t.panel on).0 e) in search (rules, same_state, just_mode), λ same. rw same (search (rules, mode_just))))
-    (λ e. (λ f. absurd f, λ same. absurd (false≢true (sym e ∙ (same_facts t.panel on).1 (rw same refl)))))
-wanted_exactly h effect.ForgetTape t d after before = (
+wanted_exactly p (effect.Panel on) t d after before = by p.hands
+  where
+    by : (h : Hands) → FitsSome (panel_before h on t) d ↔ (t ≡ panel_switched h on d)
+    by hands.None = (fits_just t d, λ same. rw same (fits_self d))
+    by hands.Allowed = cond_both (same_fact t.panel on) (Some (record (just_state t) { panel = None })) None (λ o. FitsSome o d ↔ (t ≡ record d { panel = on }))
+        (λ e. (λ f. let same = sym ((same_facts t.panel on).0 e) in search (rules, same_state, just_mode), λ same. rw same (search (rules, mode_just))))
+        (λ e. (λ f. absurd f, λ same. absurd (false≢true (sym e ∙ (same_facts t.panel on).1 (rw same refl)))))
+wanted_exactly p effect.ForgetTape t d after before = (
   λ f. (after, sym f.local, sym f.panel),
   λ (valid, local, panel). rw (local, panel)
       (search (rules, all_has)),
 )
-wanted_exactly h effect.ForgetRegisters t d after before = (
+wanted_exactly p effect.ForgetRegisters t d after before = (
   λ f. (after, sym (just_mode t.goal d.goal f.goal), sym (just_mode t.shown d.shown f.shown), sym f.local, sym f.panel),
   λ (valid, goal, shown, local, panel). rw (goal, shown, local, panel) (search (rules, mode_just)),
 )
-wanted_exactly hands.None effect.ForgetAll t d after before = (λ f. (after, sym f.panel), λ (valid, panel). rw panel (search (rules, all_has)))
-wanted_exactly hands.Allowed effect.ForgetAll t d after before = (λ f. after, λ valid. search (rules, all_has))
-wanted_exactly h _ t d after before = (fits_just t d, λ same. rw same (fits_self d))
+wanted_exactly p effect.ForgetAll t d after before = by p.hands
+  where
+    by : (h : Hands) → Fits (any_panel h (record (any_tape (just_state t)) { local = None })) d ↔ (IsState p.rate t × KeepsPanel h d t)
+    by hands.None = (λ f. (after, sym f.panel), λ (valid, panel). rw panel (search (rules, all_has)))
+    by hands.Allowed = (λ f. (after, tt), λ valid. search (rules, all_has))
+wanted_exactly p _ t d after before = (fits_just t d, λ same. rw same (fits_self d))
 
 -- a state of the day that is one of a pattern is wanted
-is_wanted : (o : Option Pattern) (d : State) → IsState d → FitsSome o d → IfSome o IsPattern
-is_wanted None d valid f = tt
-is_wanted (Some a) d valid f = (d, valid, f)
+is_wanted : (rate : Rate) (o : Option Pattern) (d : State) → IsState rate d → FitsSome o d → IfSome o (IsPattern rate)
+is_wanted rate None d valid f = tt
+is_wanted rate (Some a) d valid f = (d, valid, f)
 
 -- a state of the day is among them
-pub wanted_state : (h : Hands) (e : Effect) (t : State) → IsState t → IfSome (pattern_before h e t) IsPattern
-wanted_state h (effect.Go g) t valid = cond_both (is_mode t.goal g) (Some (any_goal t)) None (λ o. IfSome o IsPattern) (λ e. (t, valid, fits_goal t t.goal))
+pub wanted_state : (p : Profile) (e : Effect) (t : State) → IsState p.rate t → IfSome (pattern_before p e t) (IsPattern p.rate)
+wanted_state p (effect.Go g) t valid = cond_both (is_mode t.goal g) (Some (any_goal t)) None (λ o. IfSome o (IsPattern p.rate)) (λ e. (t, valid, fits_goal t t.goal))
     (λ e. tt)
-wanted_state h (effect.Change r c) t valid = by (entry_before c (entry_of r t)) (entry_was c (entry_of r t) (valid r))
+wanted_state p (effect.Change r c) t valid = by (entry_before p.rate c (entry_of r t)) (entry_was p.rate c (entry_of r t) (valid r))
   where
-    by : (o : Option (Option Entry)) → IfSome o (λ o. (x : Entry) × IsEntry x × Is o x) → IfSome (option_map (λ o. with_wanted r o (just_state t)) o) IsPattern
+    by : (o : Option (Option Entry)) → IfSome o (λ o. (x : Entry) × IsEntry p.rate x × Is o x) → IfSome (option_map (λ o. with_wanted r o (just_state t)) o) (IsPattern p.rate)
     by None w = tt
     by (Some o) w = let at = put r w.0 t in (
       with_entry r w.0 t,
-      put_each (λ q es. IsEntry) r no_entries no_states w.0 t valid w.1,
+      put_each (λ q es. IsEntry p.rate) r (no_entries p.rate) (no_states p.rate) w.0 t valid w.1,
       (change_exactly r (Some o) t (with_entry r w.0 t)).1
           (rw at.entry w.2, sym at.again),
     )
-wanted_state hands.Allowed (effect.Panel on) t valid =
-    cond_both (same_fact t.panel on) (Some (record (just_state t) { panel = None })) None (λ o. IfSome o IsPattern) (λ e. (t, valid, search (rules, mode_just)))
-    (λ e. tt)
-wanted_state h e t valid = is_wanted (pattern_before h e t) t valid ((wanted_exactly h e t t valid valid).1 (search rules))
+wanted_state p (effect.Panel on) t valid = by p.hands
+  where
+    by : (h : Hands) → IfSome (panel_before h on t) (IsPattern p.rate)
+    by hands.None = (t, valid, fits_self t)
+    by hands.Allowed = cond_both (same_fact t.panel on) (Some (record (just_state t) { panel = None })) None (λ o. IfSome o (IsPattern p.rate))
+        (λ e. (t, valid, search (rules, mode_just))) (λ e. tt)
+wanted_state p effect.ForgetAll t valid = by p.hands
+  where
+    by : (h : Hands) → IsPattern p.rate (any_panel h (record (any_tape (just_state t)) { local = None }))
+    by hands.None = (t, valid, search (rules, all_has))
+    by hands.Allowed = (t, valid, search (rules, all_has))
+wanted_state p e t valid = is_wanted p.rate (pattern_before p e t) t valid ((wanted_exactly p e t t valid valid).1 (search rules))
 
 -- ---- some state of a set
 
@@ -181,7 +198,7 @@ some_shown p g h = sym (goals_has p g) ∙ h
 
 -- entries without a time are Clear
 pub clear_alone : (es : Entries) → some_entry es ≡ true → es.times ≡ set.empty → es.may_clear ≡ true
-clear_alone es some none = true_from_ne_false _ (λ e. let dead : some_entry es ≡ false = rw (e, none) no_entry in false≢true (sym dead ∙ some))
+clear_alone es some none = true_from_ne_false _ (λ e. let dead : some_entry es ≡ false = rw (e, none) (no_entry es.rate) in false≢true (sym dead ∙ some))
 
 pub if_none : {A : Type 0} {P Q : Type 0} (o : Option A) → IfNone o P → (P → Q) → IfNone o Q
 if_none None h f = f h
@@ -233,73 +250,77 @@ no_entry_runs r p a l pn none (s, there, (d, kept, reaches, fits)) =
 -- ---- a set of states
 
 -- where there is a state with the panel on hands are allowed
-pub panel_hands : (v : States) (s : State) → InPart (in_local (on_two v.on) s.local) s → hands_of v ≡ hands.Allowed
-panel_hands v s i = (elim v.on as (λ o. InPart (in_local (on_two o) s.local) s → hands_by o ≡ hands.Allowed) [ None ↦ λ i. two_none s i | Some h ↦ λ i. refl ])
+pub panel_hands : (v : States) (s : State) → InPart (in_local (on_two (rate_for v) v.on) s.local) s → hands_of v ≡ hands.Allowed
+panel_hands v s i = (elim v.on as (λ o. InPart (in_local (on_two (rate_for v) o) s.local) s → hands_by o ≡ hands.Allowed) [ None ↦ λ i. two_none (rate_for v) s i | Some h ↦ λ i. refl ])
     i
 
 -- a hand makes any state with the panel on
-pub hand_leads : (h : Hands) (a : Pattern) (s : State) → h ≡ hands.Allowed → IsPattern a → Is a.panel true → s.panel ≡ true → LeadsTo h a s
-hand_leads h a s allowed (d, valid, fits) wanted on =
+pub hand_leads : (p : Profile) (a : Pattern) (s : State) → p.hands ≡ hands.Allowed → IsPattern p.rate a → Is a.panel true → s.panel ≡ true → LeadsTo p a s
+hand_leads p a s allowed (d, valid, fits) wanted on =
     let e : State = record d { panel = true } in
-    let there : IsState e = each_register _ (valid RegIn) (valid RegOut) (valid RegAudioIn) (valid RegAudioOut) in
-    (e, drift_from_pairs h s e (inr (allowed, on, refl, there)), search)
+    let there : IsState p.rate e = each_register _ (valid RegIn) (valid RegOut) (valid RegAudioIn) (valid RegAudioOut) in
+    (e, drift_from_pairs p s e (inr (allowed, on, refl, there)), search)
 
-pub no_origin : (h : Hands) (v : States) (a : Pattern) → (Is a.panel true → is_panel_live v ≡ false) → (((s : State) × InTwo false v.off s × RunsTo a s) → ⊥)
-    → ((s : State) × Possible v s × LeadsTo h a s) → ⊥
-no_origin h v a dead off (s, there, (d, drift, fits)) = by s.panel refl
+pub no_origin : (p : Profile) (v : States) (a : Pattern) → (Is a.panel true → is_panel_live v ≡ false) → (((s : State) × InTwo false v.off s × RunsTo a s) → ⊥)
+    → ((s : State) × Possible v s × LeadsTo p a s) → ⊥
+no_origin p v a dead off (s, there, (d, drift, fits)) = by s.panel refl
   where
     by : (pn : Bool) → s.panel ≡ pn → ⊥
-    by true e = false≢true (sym (dead (subst (Is a.panel) (drift_panel h s d drift ∙ e) fits.panel)) ∙ two_live (two_of v true) s (to_two v s true e there).1)
-    by false e = let m = mechanics s d (off_drift h s d e drift) in off (s, to_two v s false e there, (d, m.0, m.1, fits))
+    by true e = false≢true (sym (dead (subst (Is a.panel) (drift_panel p s d drift ∙ e) fits.panel)) ∙ two_live (two_of v true) s (to_two v s true e there).1)
+    by false e = let m = mechanics p.rate s d (off_drift p s d e drift) in off (s, to_two v s false e there, (d, m.0, m.1, fits))
 
 -- ---- steps
 
 -- a reply that agrees with the state before agrees with the one after, and the other way round
-shows_same : (h : Hands) (c : Command) (reply : Block) (d t : State) → Does h (effect_of c) d t → Shows d c reply ↔ Shows t c reply
-shows_same h c reply d t does = elim (asks_or_acts c) [
+shows_same : (p : Profile) (c : Command) (reply : Block) (d t : State) → Does p (effect_of c) d t → Shows p.rate d c reply ↔ Shows p.rate t c reply
+shows_same p c reply d t does = elim (asks_or_acts c) [
   | inl asks ↦ rw asks (λ a. tt, λ a. tt)
-  | inr none ↦ let same : t ≡ d = subst (λ e. Does h e d t) none does in rw same (λ a. a, λ a. a)
+  | inr none ↦ let same : t ≡ d = subst (λ e. Does p e d t) none does in rw same (λ a. a, λ a. a)
 ]
 
 -- ---- complete exchanges
 
-pub nak_exactly : (h : Hands) (c : Command) (reply : Block) (t : State) → is_nak reply ≡ true → (s : State)
-    → LeadsTo h (just_state t) s ↔ Exchanges h c reply s t
-nak_exactly h c reply t nak s = (λ (d, drift, fits). (d, drift, refused nak (fits_just t d fits)), λ (d, drift, step). (d, drift, by d step))
+-- an exchange leads from states of the day to such states
+pub exchanged_state : (p : Profile) (c : Command) (reply : Block) (s t : State) → IsState p.rate s → Exchanges p c reply s t → IsState p.rate t
+exchanged_state p c reply s t valid (d, drift, step) = step_valid p (record { block = reply; command = c; reply = reply; time_us = 0; delay_us = 0 }) d t (drift_state p s d valid drift) step
+
+pub nak_exactly : (p : Profile) (c : Command) (reply : Block) (t : State) → is_nak reply ≡ true → (s : State)
+    → LeadsTo p (just_state t) s ↔ Exchanges p c reply s t
+nak_exactly p c reply t nak s = (λ (d, drift, fits). (d, drift, refused nak (fits_just t d fits)), λ (d, drift, step). (d, drift, by d step))
   where
-    by : (d : State) → DeckStep h c reply d t → Fits (just_state t) d
+    by : (d : State) → DeckStep p c reply d t → Fits (just_state t) d
     by d (refused was e) = rw e (fits_self d)
     by d (done was shows does) = absurd (false≢true (sym was ∙ nak))
     by d (ignored was shows may local e) = absurd (false≢true (sym was ∙ nak))
 
 -- a drift leads from the state to one of a pattern, if there is a pattern
-abbrev pub LeadsSome : Hands → Option Pattern → State → Type 0
-LeadsSome h o s = (d : State) × Drift h s d × FitsSome o d
+abbrev pub LeadsSome : Profile → Option Pattern → State → Type 0
+LeadsSome p o s = (d : State) × Drift p s d × FitsSome o d
 
 -- an exchange with no NAK: the reply agrees with the state after, and the command was left undone or had its effect
-pub exchange_exactly : {h : Hands} {e : Effect} {o : Option Pattern} (v : States) (c : Command) (reply : Block) (t : State) → is_nak reply ≡ false → AreBelow v
-    → IsState t
-    → h ≡ hands_of v → e ≡ effect_of c → o ≡ pattern_before h e t
-    → (s : State) → Possible v s → Exchanges (hands_of v) c reply s t
-    ↔ (Shows t c reply × ((IsUndone c t × LeadsTo (hands_of v) (just_state t) s) ⊎ LeadsSome (hands_of v) o s))
-exchange_exactly {o = o} v c reply t nak below after allowed effect wanted s i = (λ (d, drift, step). there d drift step, λ (shows, w). back shows w)
+pub exchange_exactly : {p : Profile} {e : Effect} {o : Option Pattern} (v : States) (c : Command) (reply : Block) (t : State) → is_nak reply ≡ false
+    → AreWhole (rate_for v) v → AreBelow v → IsState (rate_for v) t
+    → p ≡ profile_of v → e ≡ effect_of c → o ≡ pattern_before p e t
+    → (s : State) → Possible v s → Exchanges (profile_of v) c reply s t
+    ↔ (Shows (rate_for v) t c reply × ((IsUndone c t × LeadsTo (profile_of v) (just_state t) s) ⊎ LeadsSome (profile_of v) o s))
+exchange_exactly {o = o} v c reply t nak whole below after allowed effect wanted s i = (λ (d, drift, step). there d drift step, λ (shows, w). back shows w)
   where
-    found : pattern_before (hands_of v) (effect_of c) t ≡ o
+    found : pattern_before (profile_of v) (effect_of c) t ≡ o
     found = rw (← allowed, ← effect) (sym wanted)
 
-    there : (d : State) → Drift (hands_of v) s d → DeckStep (hands_of v) c reply d t
-        → Shows t c reply × ((IsUndone c t × LeadsTo (hands_of v) (just_state t) s) ⊎ LeadsSome (hands_of v) o s)
+    there : (d : State) → Drift (profile_of v) s d → DeckStep (profile_of v) c reply d t
+        → Shows (rate_for v) t c reply × ((IsUndone c t × LeadsTo (profile_of v) (just_state t) s) ⊎ LeadsSome (profile_of v) o s)
     there d drift (refused was e) = absurd (false≢true (sym nak ∙ was))
-    there d drift (done was shows does) = let valid = drift_state (hands_of v) s d (possible_state v s below i) drift in (
-      (shows_same (hands_of v) c reply d t does).0 shows,
+    there d drift (done was shows does) = let valid = drift_state (profile_of v) s d (possible_state (rate_for v) v s whole below i) drift in (
+      (shows_same (profile_of v) c reply d t does).0 shows,
       inr
-          (d, drift, subst (λ o. FitsSome o d) found ((wanted_exactly (hands_of v) (effect_of c) t d after valid).1 does)),
+          (d, drift, subst (λ o. FitsSome o d) found ((wanted_exactly (profile_of v) (effect_of c) t d after valid).1 does)),
     )
     there d drift (ignored was shows may local e) = (rw e shows, inl ((may, rw e local), (d, drift, rw e (fits_self d))))
 
-    back : Shows t c reply → (IsUndone c t × LeadsTo (hands_of v) (just_state t) s) ⊎ LeadsSome (hands_of v) o s → Exchanges (hands_of v) c reply s t
+    back : Shows (rate_for v) t c reply → (IsUndone c t × LeadsTo (profile_of v) (just_state t) s) ⊎ LeadsSome (profile_of v) o s → Exchanges (profile_of v) c reply s t
     back shows (inl ((may, local), (d, drift, fits))) = let e = fits_just t d fits in (d, drift, ignored nak (rw (← e) shows) may (rw (← e) local) e)
     back shows (inr (d, drift, fits)) =
-        let valid = drift_state (hands_of v) s d (possible_state v s below i) drift in
-        let does = (wanted_exactly (hands_of v) (effect_of c) t d after valid).0 (subst (λ o. FitsSome o d) (sym found) fits) in
-        (d, drift, done nak ((shows_same (hands_of v) c reply d t does).1 shows) does)
+        let valid = drift_state (profile_of v) s d (possible_state (rate_for v) v s whole below i) drift in
+        let does = (wanted_exactly (profile_of v) (effect_of c) t d after valid).0 (subst (λ o. FitsSome o d) (sym found) fits) in
+        (d, drift, done nak ((shows_same (profile_of v) c reply d t does).1 shows) does)

@@ -5,29 +5,28 @@ use Rattle.track9.proofs.Words.{both, Change, changed_entries, changed_part, Com
 use Rattle.track9.proofs.Words.{drifted_part, drifted_with, Effect, effect_of, either, Entries, entries_of, entry_of, false, false≢true, forgotten_part, goes, gone}
 use Rattle.track9.proofs.Words.{gone_pairs, gone_part, gone_with, has, has-and, has-or, has_pair, HasEffect, if◌then◌else◌, IfSome, ignored, in_local, inl, InPart}
 use Rattle.track9.proofs.Words.{inr, InTwo, is_as_wanted, is_live, is_mode, is_mode-same, is_nak, LeadsOn, List, map_two, masked, masked_part, Mode, mode_self, modes, ModeSet}
-use Rattle.track9.proofs.Words.{no_states, None, nothing_has, Option, or-false, or-true, or_cases, Part, Presets, presets_after, put_aside, put_settled}
+use Rattle.track9.proofs.Words.{no_states, None, nothing_has, Option, or-false, or-true, or_cases, Part, Presets, presets_after, put_settled}
 use Rattle.track9.proofs.Words.{refl, refused, RegAudioIn, RegAudioOut, RegIn, Register, RegistersSet, RegOut, reported_part, rules, Sense, sense_of, sensed_part, set_where, settled}
 use Rattle.track9.proofs.Words.{shown_with, ShowsStatus, Some, some_entry, some_mode, some_pair, some_two, State, Status, status_of, status_part, DeckStep, Stop, subst, sym, Taken, Tells, time_of, true}
 use Rattle.track9.proofs.Words.{two_changed, two_drifted, two_gone, two_sensed, two_status, TwoBelow, TwoFew, Halves, TwoWhole, where_live, Whole, with_command, with_entries, with_entry}
-use Rattle.track9.proofs.Words.{ℕ, ◌&&◌, ◌==◌, ◌||◌, ◌↔◌, ◌∙◌, ◌≡◌, ◌⊎◌}
+use Rattle.track9.proofs.Words.{Next, Prev, Rate, Recall, Reset, SetAt, SetSomewhere, rate_in, rate_of, set_entries, untouched, with_pairs, ℕ, ◌&&◌, ◌==◌, ◌||◌, ◌↔◌, ◌∙◌, ◌≡◌, ◌⊎◌}
 use Rattle.deck9.specs.declared.effect.Effect.TheVariants as effect
-use Rattle.deck9.specs.declared.state.Hands.TheVariants as hands
 use Rattle.block9.specs.declared.command.Command.TheVariants as command
 use Rattle.deck9.specs.declared.sense.Sense.TheVariants as sense
-use Rattle.track9.proofs.EntryLemmas.{allowed_some, becomes_some, drifted_from, drifted_to, entry_from, entry_stays, entry_to, goes_from, goes_to, pair_by_goal, pairs_some}
+use Rattle.track9.proofs.EntryLemmas.{allowed_some, drifted_from, drifted_to, entry_from, entry_stays, entry_to, goes_from, goes_to, pair_by_goal, pairs_some}
 use Rattle.track9.proofs.EntryLemmas.{set_exactly, some_allowed, tells_exactly}
 use Rattle.track9.proofs.PartLemmas.{a_state, all_exactly, any_entries, Below, drift_below, drift_some, drift_whole, each_register, every_state, few_agreeing, few_all_states}
 use Rattle.track9.proofs.PartLemmas.{few_changed_part, few_counted, few_no_states, few_pairs, few_put, few_set, few_settled, few_two, FewIn, in_none, in_pairs, mechanics}
 use Rattle.track9.proofs.PartLemmas.{not_live, pairs_registers, put, put_in, read_put, settled_exactly, take_out, two_live, two_state, whole_all, whole_drift, whole_in}
-use Rattle.track9.proofs.PartLemmas.{whole_none, whole_pairs, whole_put, whole_settled, whole_two}
+use Rattle.track9.proofs.PartLemmas.{each_put, of_rate, OfRate, PartBelow, two_rate, whole_none, whole_pairs, whole_put, whole_settled, whole_two}
 
 -- ---- part by part
 
 -- a step leads from the states of a part exactly to those of another part, which may depend on their local
-pub record PartLeads (Goes : State → State → Type 0) (count : Presets → Presets) (p : Part) (q : Bool → Part) : Type 0 where
+pub record PartLeads (rate : Rate) (Goes : State → State → Type 0) (count : Presets → Presets) (p : Part) (q : Bool → Part) : Type 0 where
   pub from : (t : State) → InPart (q t.local) t → (s : State) × InPart p s × (s.local ≡ t.local) × (s.panel ≡ t.panel) × Goes s t
   pub to : (s t : State) → InPart p s → Goes s t → InPart (q s.local) t
-  pub whole : (l : Bool) → Whole (q l)
+  pub whole : (l : Bool) → Whole rate (q l)
   pub few : (l : Bool) (n : Presets) → FewIn n p → FewIn (count n) (q l)
 
 -- a step leaves local and panel as they are
@@ -39,10 +38,10 @@ mapped : (f : Bool → Part → Part) (h : Halves) (l : Bool) → in_local (map_
 mapped f h false = refl
 mapped f h true = refl
 
-leads_by : (Goes : State → State → Type 0) (count : Presets → Presets) → Keeps Goes → (f : Bool → Part → Part) (h : Halves)
-    → ((l : Bool) → PartLeads Goes count (in_local h l) (λ b. f b (in_local h l)))
-    → LeadsOn Goes count h (map_two f h)
-leads_by Goes count keeps f h each = record {
+leads_by : (rate : Rate) (Goes : State → State → Type 0) (count : Presets → Presets) → Keeps Goes → (f : Bool → Part → Part) (h : Halves)
+    → ((l : Bool) → PartLeads rate Goes count (in_local h l) (λ b. f b (in_local h l)))
+    → LeadsOn rate Goes count h (map_two f h)
+leads_by rate Goes count keeps f h each = record {
   reached = λ pn. (
     λ t i. let a = (each t.local).from t (subst (λ q. InPart q t) (mapped f h t.local) i.1) in
         (a.0, (a.3 ∙ i.0, subst (λ b. InPart (in_local h b) a.0) (sym a.2) a.1), a.4),
@@ -57,38 +56,38 @@ leads_by Goes count keeps f h each = record {
 }
 
 -- a part that has no states stays
-leads : (Goes : State → State → Type 0) (count : Presets → Presets) → Keeps Goes → (f : Bool → Part → Part) (h : Halves) → TwoWhole h
+leads : (rate : Rate) (Goes : State → State → Type 0) (count : Presets → Presets) → Keeps Goes → (f : Bool → Part → Part) (h : Halves) → TwoWhole rate h
     → ((l : Bool) (n : Presets) → FewIn n (in_local h l) → FewIn (count n) (in_local h l))
-    → ((l : Bool) → is_live (in_local h l) ≡ true → PartLeads Goes count (in_local h l) (λ b. f b (in_local h l)))
-    → LeadsOn Goes count h (map_two (λ l. where_live (f l)) h)
-leads Goes count keeps f h whole few each = leads_by Goes count keeps (λ l. where_live (f l)) h (λ l. by l (is_live (in_local h l)) refl)
+    → ((l : Bool) → is_live (in_local h l) ≡ true → PartLeads rate Goes count (in_local h l) (λ b. f b (in_local h l)))
+    → LeadsOn rate Goes count h (map_two (λ l. where_live (f l)) h)
+leads rate Goes count keeps f h whole few each = leads_by rate Goes count keeps (λ l. where_live (f l)) h (λ l. by l (is_live (in_local h l)) refl)
   where
-    by : (l b : Bool) → is_live (in_local h l) ≡ b → PartLeads Goes count (in_local h l) (λ k. if b then f k (in_local h l) else in_local h l)
+    by : (l b : Bool) → is_live (in_local h l) ≡ b → PartLeads rate Goes count (in_local h l) (λ k. if b then f k (in_local h l) else in_local h l)
     by l true live = each l live
     by l false dead = record {
       from = λ t i. not_live _ t dead i;
       to = λ s t i goes. not_live _ s dead i;
-      whole = λ k. whole_in h whole l;
+      whole = λ k. whole_in rate h whole l;
       few =
           λ k n. few l n;
     }
 
 -- what is read leaves the states of which it is true
-reads : (P : State → Type 0) (f : Bool → Part → Part) (h : Halves) → TwoWhole h → ((p : Part) (t : State) → InPart (f t.local p) t ↔ (InPart p t × P t))
-    → ((l : Bool) (p : Part) → Whole (f l p)) → ((l : Bool) (n : Presets) (p : Part) → FewIn n p → FewIn n (f l p))
-    → LeadsOn (λ s t. P s × (t ≡ s)) (λ n. n) h (map_two (λ l. where_live (f l)) h)
-reads P f h whole exactly wholes few = leads (λ s t. P s × (t ≡ s)) (λ n. n) (record { local = λ s t d. rw d.1; panel = λ s t d. rw d.1 }) f h whole
-    (λ l n h. h) (λ l live. let p = in_local h l in record {
-      from = λ t i. let w = (exactly p t).0 i in (t, w.0, refl, refl, (w.1, refl));
-      to = λ s t i d. subst (InPart (f s.local p)) (sym d.1) ((exactly p s).1 (i, d.0));
-      whole = λ b. wholes b p;
+reads : (rate : Rate) (P : State → Type 0) (f : Bool → Part → Part) (h : Halves) → TwoWhole rate h → ((p : Part) (t : State) → OfRate rate p → InPart (f t.local p) t ↔ (InPart p t × P t))
+    → ((l : Bool) (p : Part) → OfRate rate p → Whole rate (f l p)) → ((l : Bool) (n : Presets) (p : Part) → FewIn n p → FewIn n (f l p))
+    → LeadsOn rate (λ s t. P s × (t ≡ s)) (λ n. n) h (map_two (λ l. where_live (f l)) h)
+reads rate P f h whole exactly wholes few = leads rate (λ s t. P s × (t ≡ s)) (λ n. n) (record { local = λ s t d. rw d.1; panel = λ s t d. rw d.1 }) f h whole
+    (λ l n h. h) (λ l live. let p = in_local h l in let same = of_rate rate p (whole_in rate h whole l) in record {
+      from = λ t i. let w = (exactly p t same).0 i in (t, w.0, refl, refl, (w.1, refl));
+      to = λ s t i d. subst (InPart (f s.local p)) (sym d.1) ((exactly p s same).1 (i, d.0));
+      whole = λ b. wholes b p same;
       few = λ b n h. few b n p h;
     })
 
 -- ---- a drift
 
-pub drift_leads : (h : Halves) → TwoWhole h → LeadsOn (Drift hands.None) (λ n. n) h (two_drifted h)
-drift_leads h whole = leads_by (Drift hands.None) (λ n. n) (record { local = λ s t d. rw (mechanics s t d).0; panel = λ s t d. rw (mechanics s t d).0 })
+pub drift_leads : (rate : Rate) (h : Halves) → TwoWhole rate h → LeadsOn rate (Drift (untouched rate)) (λ n. n) h (two_drifted h)
+drift_leads rate h whole = leads_by rate (Drift (untouched rate)) (λ n. n) (record { local = λ s t d. rw (mechanics rate s t d).0; panel = λ s t d. rw (mechanics rate s t d).0 })
     (λ l. drifted_part) h (λ l. let p = in_local h l in record {
       from = λ t i.
           let w = drifted_from p.pairs t.goal t.shown (sym (pair_by_goal (drifted_with p.pairs) t.goal t.shown) ∙ i.pair) in
@@ -97,13 +96,13 @@ drift_leads h whole = leads_by (Drift hands.None) (λ n. n) (record { local = λ
             in_pairs p p.pairs t w.0 w.1 (pairs_registers p (drifted p.pairs) t i) w.2,
             refl,
             refl,
-            drift_from_pairs hands.None s t (inl (refl, w.3)),
+            drift_from_pairs (untouched rate) s t (inl (refl, w.3)),
           );
-      to = λ s t i d. let m = mechanics s t d in
+      to = λ s t i d. let m = mechanics rate s t d in
           subst (InPart (drifted_part p)) (sym m.0)
           (in_pairs p (drifted p.pairs) s t.goal t.shown i.registers
           (pair_by_goal (drifted_with p.pairs) t.goal t.shown ∙ drifted_to p.pairs s.goal s.shown t.goal t.shown i.pair m.1));
-      whole = λ b. whole_drift p (whole_in h whole l);
+      whole = λ b. whole_drift rate p (whole_in rate h whole l);
       few = λ b n few. few_pairs n (drifted p.pairs) p few;
     })
 
@@ -138,10 +137,10 @@ two_live_gone m goal h = ap (λ b. b || is_live (where_live (gone_part true goal
     ∙ ap (λ b. is_live h.remote || b) (live_gone true goal h.local)
 
 -- the states with this goal, and those that may stay as they are
-goal_leads : (Goes : State → State → Type 0) (may_stay : Bool → Bool) (goal : Mode) (p : Part)
+goal_leads : (rate : Rate) (Goes : State → State → Type 0) (may_stay : Bool → Bool) (goal : Mode) (p : Part)
     → ((s t : State) → Goes s t ↔ ((t ≡ record s { goal = goal }) ⊎ ((may_stay s.local ≡ true) × (t ≡ s))))
-    → Whole p → is_live p ≡ true → PartLeads Goes (λ n. n) p (λ l. gone_part (may_stay l) goal p)
-goal_leads Goes may_stay goal p steps whole live = record {
+    → Whole rate p → is_live p ≡ true → PartLeads rate Goes (λ n. n) p (λ l. gone_part (may_stay l) goal p)
+goal_leads rate Goes may_stay goal p steps whole live = record {
   from = λ t i.
       let b = may_stay t.local in let old = pairs_registers p (gone_pairs b goal p.pairs) t i in
       elim (or_cases _ _ (sym (goal_has b goal p.pairs t.goal t.shown) ∙ i.pair)) [
@@ -161,20 +160,51 @@ goal_leads Goes may_stay goal p steps whole live = record {
     | inr (stays, e) ↦ rw e (in_pairs p (gone_pairs b goal p.pairs) s s.goal s.shown i.registers
         (goal_has b goal p.pairs s.goal s.shown ∙ rw (stays, i.pair) refl))
   ];
-  whole = λ l. whole_pairs (gone_pairs (may_stay l) goal p.pairs) p whole (gone_some (may_stay l) goal p.pairs live ∙ sym live);
+  whole = λ l. whole_pairs rate (gone_pairs (may_stay l) goal p.pairs) p whole (gone_some (may_stay l) goal p.pairs live ∙ sym live);
   few = λ l n few. few_pairs n _ p few;
 }
 
 -- ---- effects
 
+-- a part that may have lost its last entry, unless it may also stay
+abbrev pub kept_if : Bool → Part → Part
+kept_if true p = p
+kept_if false p = settled p
+
+kept_exactly : (l : Bool) (p : Part) (t : State) → InPart (kept_if l p) t ↔ InPart p t
+kept_exactly false p t = settled_exactly p t
+kept_exactly true p t = (λ i. i, λ i. i)
+
 -- what an effect makes of a part with states
 abbrev pub part_effect : Bool → Effect → Bool → Part → Part
 part_effect may_stay (effect.Go g) l p = gone_part (l || may_stay) g p
 part_effect may_stay effect.KeepOrStop l p = gone_part (l || true) Stop p
-part_effect may_stay (effect.Change r c) l p = changed_part (l || may_stay) r c p
-part_effect may_stay effect.ForgetTape l p = all_states
+part_effect may_stay (effect.Change r c) l p = kept_if l (changed_part (l || may_stay) r c p)
+part_effect may_stay effect.ForgetTape l p = all_states (rate_of p)
 part_effect may_stay effect.ForgetRegisters l p = forgotten_part p
 part_effect may_stay _ l p = p
+
+-- entries keep their rate
+changed_rate : (may_stay : Bool) (c : Change) (es : Entries) → (changed_entries may_stay c es).rate ≡ es.rate
+changed_rate false SetSomewhere es = refl
+changed_rate false (SetAt t) es = refl
+changed_rate false Next es = refl
+changed_rate false Prev es = refl
+changed_rate false Reset es = refl
+changed_rate false Recall es = refl
+changed_rate true SetSomewhere es = refl
+changed_rate true (SetAt t) es = refl
+changed_rate true Next es = refl
+changed_rate true Prev es = refl
+changed_rate true Reset es = refl
+changed_rate true Recall es = refl
+
+agreeing_rate : (o : Option ℕ) (es : Entries) → (agreeing o es).rate ≡ es.rate
+agreeing_rate None es = refl
+agreeing_rate (Some t) es = refl
+
+put_rate : (rate : Rate) (r : Register) (es : Entries) (p : Part) → OfRate rate p → es.rate ≡ (entries_of r p).rate → OfRate rate (with_entries r es p)
+put_rate rate r es p old same = each_put (λ q es. es.rate ≡ rate) r es p old (same ∙ old r)
 
 -- it goes part by part
 abbrev pub is_by_part : Effect → Bool
@@ -183,80 +213,111 @@ is_by_part (effect.Panel on) = false
 is_by_part effect.ForgetAll = false
 is_by_part _ = true
 
-part_leads : (may_stay : Bool) (e : Effect) (p : Part) → is_by_part e ≡ true → Whole p → is_live p ≡ true → Below e p
-    → PartLeads (DoesOrNot may_stay e) (counted e) p (λ l. part_effect may_stay e l p)
-part_leads m (effect.Go g) p by whole live below = goal_leads (DoesOrNot m (effect.Go g)) (λ l. l || m) g p
+kept_few : (l : Bool) (n : Presets) (p : Part) → FewIn n p → FewIn n (kept_if l p)
+kept_few true n p few = few
+kept_few false n p few = few_settled n p few
+
+changed_whole : (rate : Rate) (may_stay : Bool) (r : Register) (c : Change) (p : Part) → Whole rate p → is_live p ≡ true → PartBelow p → (l : Bool)
+    → Whole rate (kept_if l (changed_part (l || may_stay) r c p))
+changed_whole rate m r c p whole live below true =
+    let es = entries_of r p in
+    let some = some_allowed es ((whole r).0 ∙ live) in
+    let new = changed_entries true c es in
+    whole_put rate r new p whole (allowed_some new some.0 (entry_stays true c es some.0 refl (below r) some.1) ∙ sym live)
+    (changed_rate true c es ∙ (whole r).1)
+changed_whole rate m r c p whole live below false = whole_settled rate (changed_part m r c p)
+    (put_rate rate r (changed_entries m c (entries_of r p)) p (of_rate rate p whole) (changed_rate m c (entries_of r p)))
+
+part_leads : (rate : Rate) (may_stay : Bool) (e : Effect) (p : Part) → is_by_part e ≡ true → Whole rate p → is_live p ≡ true → Below e p
+    → PartLeads rate (DoesOrNot rate may_stay e) (counted e) p (λ l. part_effect may_stay e l p)
+part_leads rate m (effect.Go g) p by whole live below = goal_leads rate (DoesOrNot rate m (effect.Go g)) (λ l. l || m) g p
     (λ s t. (λ d. elim d [ inl e ↦ inl e | inr (may, stays, e) ↦ inr (stays, e) ], λ d. elim d [ inl e ↦ inl e | inr (stays, e) ↦ inr (refl, stays, e) ])) whole
     live
-part_leads m effect.KeepOrStop p by whole live below = goal_leads (DoesOrNot m effect.KeepOrStop) (λ l. l || true) Stop p (λ s t. (
+part_leads rate m effect.KeepOrStop p by whole live below = goal_leads rate (DoesOrNot rate m effect.KeepOrStop) (λ l. l || true) Stop p (λ s t. (
   λ d. elim d [ inl (inl e) ↦ inr (or-true s.local, e) | inl (inr e) ↦ inl e | inr (may, stays, e) ↦ inr (or-true s.local, e) ],
   λ d. elim d [ inl e ↦ inl (inr e) | inr (stays, e) ↦ inl (inl e) ],
 )) whole live
-part_leads m (effect.Change r c) p by whole live below = let es = entries_of r p in let some = some_allowed es (whole r ∙ live) in record {
-  from = λ t i.
-      let b = t.local || m in let new = changed_entries b c es in let e = entry_of r t in
-      elim (entry_from b c es some.0 e some.1 (subst (λ es. Allows es e) (read_put r new p) (i.registers r))) [
-        | inl (f, a, becomes) ↦ let at = put r f t in
-            (with_entry r f t, take_out r new p f t i a, at.local, at.panel, inl (e, subst (λ d. Becomes c d e) (sym at.entry) becomes, sym at.again))
-        | inr (stays, same) ↦ (t, subst (InPart p) (put r e t).own (take_out r new p e t i same), refl, refl, inr (refl, stays, refl))
+part_leads rate m (effect.Change r c) p by whole live below =
+    let es = entries_of r p in let some = some_allowed es ((whole r).0 ∙ live) in let is : es.rate ≡ rate = (whole r).1 in record {
+      from = λ t i.
+          let b = t.local || m in let new = changed_entries b c es in let e = entry_of r t in
+          let j = (kept_exactly t.local (changed_part b r c p) t).0 i in
+          elim (entry_from b c es some.0 e some.1 (subst (λ es. Allows es e) (read_put r new p) (j.registers r))) [
+            | inl (f, a, becomes) ↦ let at = put r f t in (
+              with_entry r f t,
+              take_out r new p f t j a,
+              at.local,
+              at.panel,
+              inl (
+                e,
+                subst (λ other. Becomes other c (entry_of r (with_entry r f t)) e) is
+                    (subst (λ d. Becomes es.rate c d e) (sym at.entry) becomes),
+                sym at.again,
+              ),
+            )
+            | inr (stays, same) ↦ (t, subst (InPart p) (put r e t).own (take_out r new p e t j same), refl, refl, inr (refl, stays, refl))
+          ];
+      to = λ s t i d. let e = entry_of r s in let b = s.local || m in elim d [
+        | inl (f, becomes, same) ↦ rw same ((kept_exactly s.local (changed_part b r c p) (with_entry r f s)).1
+            (put_in r _ p f s i (entry_to b c es e f (i.registers r) (subst (λ other. Becomes other c e f) (sym is) becomes))))
+        | inr (may, stays, same) ↦ (kept_exactly s.local (changed_part b r c p) t).1
+            (subst (InPart (changed_part b r c p)) ((put r e s).own ∙ sym same)
+            (put_in r _ p e s i (entry_stays b c es e stays (below r) (i.registers r))))
       ];
-  to = λ s t i d. let e = entry_of r s in elim d [
-    | inl (f, becomes, same) ↦ rw same (put_in r _ p f s i (entry_to (s.local || m) c es e f (i.registers r) becomes))
-    | inr (may, stays, same) ↦ subst (InPart (changed_part (s.local || m) r c p)) ((put r e s).own ∙ sym same)
-        (put_in r _ p e s i (entry_stays (s.local || m) c es e stays (below r) (i.registers r)))
-  ];
-  whole = λ l. let new = changed_entries (l || m) c es in let e = becomes_some c some.0 in
-      whole_put r new p whole (allowed_some new e.0 (entry_to (l || m) c es some.0 e.0 some.1 e.1) ∙ sym live);
-  few = λ l n few. few_changed_part (l || m) r c n p below few;
-}
-part_leads m effect.ForgetTape p by whole live below = record {
-  from = λ t i. let w = a_state p t.local t.panel whole live in (w.0, w.1, w.2, w.3, inl ((every_state t).0 i, sym w.2, sym w.3));
-  to = λ s t i d. elim d [ inl e ↦ (every_state t).1 e.0 | inr w ↦ absurd (false≢true w.0) ];
-  whole = λ l. whole_all;
-  few = λ l n few. few_all_states n;
-}
-part_leads m effect.ForgetRegisters p by whole live below = record {
-  from = λ t i.
-      let w = a_state p t.local t.panel whole live in
-      let s : State = record w.0 { goal = t.goal; shown = t.shown } in
-      (s, in_pairs p p.pairs w.0 t.goal t.shown w.1.registers i.pair, w.2, w.3, inl (((any_entries p.pairs t).0 i).0, refl, refl, sym w.2, sym w.3));
-  to = λ s t i d. elim d [ inl e ↦ (any_entries p.pairs t).1 (e.0, rw (e.1, e.2) i.pair) | inr w ↦ absurd (false≢true w.0) ];
-  whole = λ l. whole_pairs p.pairs all_states whole_all (live ∙ sym (whole_all RegIn));
-  few = λ l n few. few_pairs n p.pairs all_states (few_all_states n);
-}
-part_leads m _ p by whole live below = absurd (false≢true by)
+      whole = changed_whole rate m r c p whole live below;
+      few = λ l n few. kept_few l (counted (effect.Change r c) n) (changed_part (l || m) r c p) (few_changed_part (l || m) r c n p below few);
+    }
+part_leads rate m effect.ForgetTape p by whole live below =
+    subst (λ other. PartLeads rate (DoesOrNot rate m effect.ForgetTape) (λ n. n) p (λ l. all_states other)) (sym (whole RegIn).1) (record {
+      from = λ t i. let w = a_state rate p t.local t.panel whole live in (w.0, w.1, w.2, w.3, inl ((every_state rate t).0 i, sym w.2, sym w.3));
+      to = λ s t i d. elim d [ inl e ↦ (every_state rate t).1 e.0 | inr w ↦ absurd (false≢true w.0) ];
+      whole = λ l. whole_all rate;
+      few = λ l n few. few_all_states rate n;
+    })
+part_leads rate m effect.ForgetRegisters p by whole live below =
+    subst (λ other. PartLeads rate (DoesOrNot rate m effect.ForgetRegisters) (λ n. n) p (λ l. with_pairs p.pairs (all_states other))) (sym (whole RegIn).1) (record {
+      from = λ t i.
+          let w = a_state rate p t.local t.panel whole live in
+          let s : State = record w.0 { goal = t.goal; shown = t.shown } in
+          (s, in_pairs p p.pairs w.0 t.goal t.shown w.1.registers i.pair, w.2, w.3, inl (((any_entries rate p.pairs t).0 i).0, refl, refl, sym w.2, sym w.3));
+      to = λ s t i d. elim d [ inl e ↦ (any_entries rate p.pairs t).1 (e.0, rw (e.1, e.2) i.pair) | inr w ↦ absurd (false≢true w.0) ];
+      whole = λ l. whole_pairs rate p.pairs (all_states rate) (whole_all rate) (live ∙ sym (whole_all rate RegIn).0);
+      few = λ l n few. few_pairs n p.pairs (all_states rate) (few_all_states rate n);
+    })
+part_leads rate m _ p by whole live below = absurd (false≢true by)
 
 -- where nobody touches the panel no effect changes it, and none but the one that forgets all changes local
-pub does_keep : (may_stay : Bool) (e : Effect) (s t : State) → DoesOrNot may_stay e s t → (t.panel ≡ s.panel) × ((e ≡ effect.ForgetAll) ⊎ (t.local ≡ s.local))
-does_keep m e s t (inr (may, local, d)) = (rw d, inr (rw d))
-does_keep m effect.KeepOrStop s t (inl (inl d)) = (rw d, inr (rw d))
-does_keep m effect.KeepOrStop s t (inl (inr d)) = (rw d, inr (rw d))
-does_keep m (effect.Change r c) s t (inl (e, becomes, d)) = (rw d (put r e s).panel, inr (rw d (put r e s).local))
-does_keep m effect.ForgetTape s t (inl d) = (d.2, inr d.1)
-does_keep m effect.ForgetRegisters s t (inl d) = (d.4, inr d.3)
-does_keep m effect.ForgetAll s t (inl d) = (d.1, inl refl)
-does_keep m _ s t (inl d) = (rw d, inr (rw d))
+pub does_keep : (rate : Rate) (may_stay : Bool) (e : Effect) (s t : State) → DoesOrNot rate may_stay e s t → (t.panel ≡ s.panel) × ((e ≡ effect.ForgetAll) ⊎ (t.local ≡ s.local))
+does_keep rate m e s t (inr (may, local, d)) = (rw d, inr (rw d))
+does_keep rate m effect.KeepOrStop s t (inl (inl d)) = (rw d, inr (rw d))
+does_keep rate m effect.KeepOrStop s t (inl (inr d)) = (rw d, inr (rw d))
+does_keep rate m (effect.Change r c) s t (inl (e, becomes, d)) = (rw d (put r e s).panel, inr (rw d (put r e s).local))
+does_keep rate m effect.ForgetTape s t (inl d) = (d.2, inr d.1)
+does_keep rate m effect.ForgetRegisters s t (inl d) = (d.4, inr d.3)
+does_keep rate m effect.ForgetAll s t (inl d) = (d.1, inl refl)
+does_keep rate m _ s t (inl d) = (rw d, inr (rw d))
 
-pub has_effect : (may_stay : Bool) (e : Effect) (h : Halves) → is_by_part e ≡ true → TwoWhole h → ((l : Bool) → Below e (in_local h l))
-    → HasEffect may_stay e h (map_two (λ l. where_live (part_effect may_stay e l)) h)
-has_effect m e h by whole below = leads (DoesOrNot m e) (counted e) (record { local = local; panel = λ s t d. (does_keep m e s t d).0 }) (part_effect m e) h
+pub has_effect : (rate : Rate) (may_stay : Bool) (e : Effect) (h : Halves) → is_by_part e ≡ true → TwoWhole rate h → ((l : Bool) → Below e (in_local h l))
+    → HasEffect rate may_stay e h (map_two (λ l. where_live (part_effect may_stay e l)) h)
+has_effect rate m e h by whole below = leads rate (DoesOrNot rate m e) (counted e) (record { local = local; panel = λ s t d. (does_keep rate m e s t d).0 }) (part_effect m e) h
     whole
-    (λ l n few. few_counted e n (in_local h l) (below l) few) (λ l live. part_leads m e (in_local h l) by (whole_in h whole l) live (below l))
+    (λ l n few. few_counted e n (in_local h l) (below l) few) (λ l live. part_leads rate m e (in_local h l) by (whole_in rate h whole l) live (below l))
   where
-    local : (s t : State) → DoesOrNot m e s t → t.local ≡ s.local
-    local s t d = elim (does_keep m e s t d).1 [ inl all ↦ absurd (false≢true (sym (ap is_by_part all) ∙ by)) | inr same ↦ same ]
+    local : (s t : State) → DoesOrNot rate m e s t → t.local ≡ s.local
+    local s t d = elim (does_keep rate m e s t d).1 [ inl all ↦ absurd (false≢true (sym (ap is_by_part all) ∙ by)) | inr same ↦ same ]
 
-has_forgotten_all : (may_stay : Bool) (h : Halves) → TwoWhole h → HasEffect may_stay effect.ForgetAll h (all_forgotten h)
-has_forgotten_all m h whole = record {
-  reached = λ pn. (
-    λ t i. cond_both (some_two h) (all_or_none true) h (λ g. InTwo pn g t → (s : State) × InTwo pn h s × DoesOrNot m effect.ForgetAll s t)
-        (λ live i. let w = two_state h pn whole live in (w.0, w.1, inl (((all_exactly true t).0 i.1).1, i.0 ∙ sym w.1.0)))
-        (λ dead i. absurd (false≢true (sym dead ∙ two_live h t i.1))) i,
-    λ s t i does. elim does [ inl d ↦ (d.1 ∙ i.0, rw (two_live h s i.1) ((all_exactly true t).1 (refl, d.0))) | inr w ↦ absurd (false≢true w.0) ],
-  );
-  whole = cond_both (some_two h) (all_or_none true) h TwoWhole (λ live. whole_two true) (λ dead. whole);
-  few = λ n few. cond_both (some_two h) (all_or_none true) h (TwoFew n) (λ live. few_two n true) (λ dead. few);
-}
+has_forgotten_all : (rate : Rate) (may_stay : Bool) (h : Halves) → TwoWhole rate h → HasEffect rate may_stay effect.ForgetAll h (all_forgotten h)
+has_forgotten_all rate m h whole = subst (λ other. HasEffect rate m effect.ForgetAll h (if some_two h then all_or_none other true else h))
+    (sym (two_rate rate h whole)) (record {
+      reached = λ pn. (
+        λ t i. cond_both (some_two h) (all_or_none rate true) h (λ g. InTwo pn g t → (s : State) × InTwo pn h s × DoesOrNot rate m effect.ForgetAll s t)
+            (λ live i. let w = two_state rate h pn whole live in (w.0, w.1, inl (((all_exactly rate true t).0 i.1).1, i.0 ∙ sym w.1.0)))
+            (λ dead i. absurd (false≢true (sym dead ∙ two_live h t i.1))) i,
+        λ s t i does. elim does [ inl d ↦ (d.1 ∙ i.0, rw (two_live h s i.1) ((all_exactly rate true t).1 (refl, d.0))) | inr w ↦ absurd (false≢true w.0) ],
+      );
+      whole = cond_both (some_two h) (all_or_none rate true) h (TwoWhole rate) (λ live. whole_two rate true) (λ dead. whole);
+      few = λ n few. cond_both (some_two h) (all_or_none rate true) h (TwoFew n) (λ live. few_two rate n true) (λ dead. few);
+    })
 
 -- ---- a drift after what becomes of the registers
 
@@ -278,6 +339,14 @@ pub drift_put : (r : Register) (f : Entries → Entries) (p : Part) → drifted_
 drift_put RegIn f p = refl
 drift_put _ f p = refl
 
+drift_settled : (p : Part) → drifted_part (settled p) ≡ settled (drifted_part p)
+drift_settled p = rw (drift_some p.pairs) (elim (is_live p && some_entry p.ins && some_entry p.outs && some_entry p.ains && some_entry p.aouts)
+    as (λ b. drifted_part (if b then p else no_states (rate_of p)) ≡ (if b then drifted_part p else no_states (rate_of p))) [ true ↦ refl | false ↦ refl ])
+
+drift_kept : (l : Bool) (p : Part) → drifted_part (kept_if l p) ≡ kept_if l (drifted_part p)
+drift_kept true p = refl
+drift_kept false p = drift_settled p
+
 -- what is made aside where there is a state, and then put in place
 changed_is : (may_stay : Bool) (r : Register) (c : Change) (h : Halves)
     → two_changed may_stay r c h ≡ map_two (λ l. where_live (part_effect may_stay (effect.Change r c) l)) h
@@ -286,40 +355,40 @@ changed_is m r c h = two_same (two_changed m r c h) (map_two (λ l. where_live (
     es : Entries
     es = changed_entries m c (entries_of r h.remote)
 
-    by : (b : Bool) → put_aside r (if b then Some es else None) h.remote ≡ (if b then with_entries r es h.remote else h.remote)
+    by : (b : Bool) → put_settled r (if b then Some es else None) h.remote ≡ (if b then settled (with_entries r es h.remote) else h.remote)
     by true = refl
     by false = refl
 
 -- what becomes of the registers, and then a drift
-pub after_effect : (may_stay : Bool) (e : Effect) (h : Halves) → is_by_part e ≡ true
-    → ((l : Bool) (p : Part) → drifted_part (part_effect may_stay e l p) ≡ part_effect may_stay e l (drifted_part p)) → TwoWhole h
-    → ((l : Bool) → Below e (in_local (two_drifted h) l)) → HasEffect may_stay e (two_drifted h)
+pub after_effect : (rate : Rate) (may_stay : Bool) (e : Effect) (h : Halves) → is_by_part e ≡ true
+    → ((l : Bool) (p : Part) → drifted_part (part_effect may_stay e l p) ≡ part_effect may_stay e l (drifted_part p)) → TwoWhole rate h
+    → ((l : Bool) → Below e (in_local (two_drifted h) l)) → HasEffect rate may_stay e (two_drifted h)
     (two_drifted (map_two (λ l. where_live (part_effect may_stay e l)) h))
-after_effect m e h by same whole below = rw (drift_two (part_effect m e) h same) (has_effect m e (two_drifted h) by (drift_whole h whole) below)
+after_effect rate m e h by same whole below = rw (drift_two (part_effect m e) h same) (has_effect rate m e (two_drifted h) by (drift_whole rate h whole) below)
 
-pub after_change : (may_stay : Bool) (r : Register) (c : Change) (h : Halves) → TwoWhole h → TwoBelow h
-    → HasEffect may_stay (effect.Change r c) (two_drifted h) (two_drifted (two_changed may_stay r c h))
-after_change m r c h whole below = subst (λ g. HasEffect m (effect.Change r c) (two_drifted h) (two_drifted g)) (sym (changed_is m r c h))
-    (after_effect m (effect.Change r c) h refl (λ l. drift_put r (changed_entries (l || m) c)) whole (drift_below h below))
+pub after_change : (rate : Rate) (may_stay : Bool) (r : Register) (c : Change) (h : Halves) → TwoWhole rate h → TwoBelow h
+    → HasEffect rate may_stay (effect.Change r c) (two_drifted h) (two_drifted (two_changed may_stay r c h))
+after_change rate m r c h whole below = subst (λ g. HasEffect rate m (effect.Change r c) (two_drifted h) (two_drifted g)) (sym (changed_is m r c h))
+    (after_effect rate m (effect.Change r c) h refl (λ l p. drift_kept l (changed_part (l || m) r c p) ∙ ap (kept_if l) (drift_put r (changed_entries (l || m) c) p)) whole (drift_below h below))
 
-pub after_all : (may_stay : Bool) (h : Halves) → TwoWhole h → HasEffect may_stay effect.ForgetAll (two_drifted h) (two_drifted (all_forgotten h))
-after_all m h whole = subst (HasEffect m effect.ForgetAll (two_drifted h))
-    (sym (by (some_two h) ∙ ap (λ (b : Bool). if b then all_or_none true else two_drifted h)
-    (sym same))) (has_forgotten_all m (two_drifted h) (drift_whole h whole))
+pub after_all : (rate : Rate) (may_stay : Bool) (h : Halves) → TwoWhole rate h → HasEffect rate may_stay effect.ForgetAll (two_drifted h) (two_drifted (all_forgotten h))
+after_all rate m h whole = subst (HasEffect rate m effect.ForgetAll (two_drifted h))
+    (sym (by (some_two h) ∙ ap (λ (b : Bool). if b then all_or_none (rate_in h) true else two_drifted h)
+    (sym same))) (has_forgotten_all rate m (two_drifted h) (drift_whole rate h whole))
   where
     same : some_two (two_drifted h) ≡ some_two h
     same = ap (λ b. b || is_live (drifted_part h.local)) (drift_some h.remote.pairs) ∙ ap (λ b. is_live h.remote || b) (drift_some h.local.pairs)
 
-    by : (b : Bool) → two_drifted (if b then all_or_none true else h) ≡ (if b then all_or_none true else two_drifted h)
+    by : (b : Bool) → two_drifted (if b then all_or_none (rate_in h) true else h) ≡ (if b then all_or_none (rate_in h) true else two_drifted h)
     by true = refl
     by false = refl
 
 -- ---- one after another
 
 -- what leads on in one step after another
-pub leads_then : (Goes Then : State → State → Type 0) (first second : Presets → Presets) (h g k : Halves) → LeadsOn Goes first h g → LeadsOn Then second g k
-    → LeadsOn (λ s t. (d : State) × Goes s d × Then d t) (λ n. second (first n)) h k
-leads_then Goes Then first second h g k a b = record {
+pub leads_then : (rate : Rate) (Goes Then : State → State → Type 0) (first second : Presets → Presets) (h g k : Halves) → LeadsOn rate Goes first h g → LeadsOn rate Then second g k
+    → LeadsOn rate (λ s t. (d : State) × Goes s d × Then d t) (λ n. second (first n)) h k
+leads_then rate Goes Then first second h g k a b = record {
   reached = λ pn. (
     λ t i. let d = (b.reached pn).0 t i in let s = (a.reached pn).0 d.0 d.1 in (s.0, s.1, (d.0, s.2, d.2)),
     λ s t i w. (b.reached pn).1 w.0 t ((a.reached pn).1 s w.0 i w.1) w.2,
@@ -329,39 +398,42 @@ leads_then Goes Then first second h g k a b = record {
 }
 
 -- and in another step to the same states
-pub leads_as : (Goes Other : State → State → Type 0) (count counts : Presets → Presets) (h g : Halves) → ((s t : State) → Goes s t → Other s t)
+pub leads_as : (rate : Rate) (Goes Other : State → State → Type 0) (count counts : Presets → Presets) (h g : Halves) → ((s t : State) → Goes s t → Other s t)
     → ((s t : State) → InPart (in_local h s.local) s → Other s t → Goes s t)
-    → ((n : Presets) → counts n ≡ count n) → LeadsOn Goes count h g → LeadsOn Other counts h g
-leads_as Goes Other count counts h g there back same leads = record {
-  reached = λ pn. (λ t i. let a = (leads.reached pn).0 t i in (a.0, a.1, there a.0 t a.2), λ s t i other. (leads.reached pn).1 s t i (back s t i.1 other));
-  whole = leads.whole;
-  few = λ n few. subst (λ m. TwoFew m g) (sym (same n)) (leads.few n few);
+    → ((n : Presets) → counts n ≡ count n) → LeadsOn rate Goes count h g → LeadsOn rate Other counts h g
+leads_as rate Goes Other count counts h g there back same led = record {
+  reached = λ pn. (λ t i. let a = (led.reached pn).0 t i in (a.0, a.1, there a.0 t a.2), λ s t i other. (led.reached pn).1 s t i (back s t i.1 other));
+  whole = led.whole;
+  few = λ n few. subst (λ m. TwoFew m g) (sym (same n)) (led.few n few);
 }
 
-pub leads_same : (h : Halves) → TwoWhole h → LeadsOn (λ s t. t ≡ s) (λ n. n) h h
-leads_same h whole = record { reached = λ pn. (λ t i. (t, i, refl), λ s t i e. subst (InTwo pn h) (sym e) i); whole = whole; few = λ n few. few }
+pub leads_same : (rate : Rate) (h : Halves) → TwoWhole rate h → LeadsOn rate (λ s t. t ≡ s) (λ n. n) h h
+leads_same rate h whole = record { reached = λ pn. (λ t i. (t, i, refl), λ s t i e. subst (InTwo pn h) (sym e) i); whole = whole; few = λ n few. few }
 
 -- nothing but a drift
-pub after_drift : (may_stay : Bool) (e : Effect) (h : Halves) → ((s t : State) → (t ≡ s) → Does hands.None e s t)
-    → ((s t : State) → Does hands.None e s t → t ≡ s)
-    → ((n : Presets) → counted e n ≡ n) → TwoWhole h → HasEffect may_stay e (two_drifted h) (two_drifted h)
-after_drift m e h there back same whole = leads_as (λ s t. t ≡ s) (DoesOrNot m e) (λ n. n) (counted e) (two_drifted h) (two_drifted h)
+pub after_drift : (rate : Rate) (may_stay : Bool) (e : Effect) (h : Halves) → ((s t : State) → (t ≡ s) → Does (untouched rate) e s t)
+    → ((s t : State) → Does (untouched rate) e s t → t ≡ s)
+    → ((n : Presets) → counted e n ≡ n) → TwoWhole rate h → HasEffect rate may_stay e (two_drifted h) (two_drifted h)
+after_drift rate m e h there back same whole = leads_as rate (λ s t. t ≡ s) (DoesOrNot rate m e) (λ n. n) (counted e) (two_drifted h) (two_drifted h)
     (λ s t e. inl (there s t e)) (λ s t i d. elim d [ inl does ↦ back s t does | inr (may, stays, e) ↦ e ]) same
-    (leads_same (two_drifted h) (drift_whole h whole))
+    (leads_same rate (two_drifted h) (drift_whole rate h whole))
 
 -- ---- a register's time
 
 -- exactly the states whose register tells these bytes
-sense_exactly : (r : Register) (bytes : List ℕ) (p : Part) (t : State) → InPart (sensed_part r (time_of bytes) p) t ↔ (InPart p t × Tells (entry_of r t) bytes)
-sense_exactly r bytes p t =
-    let new = agreeing (time_of bytes) (entries_of r p) in
-    let e = entry_of r t in (
+sense_exactly : (rate : Rate) (r : Register) (bytes : List ℕ) (p : Part) (t : State) → OfRate rate p
+    → InPart (sensed_part r (time_of rate bytes) p) t ↔ (InPart p t × Tells rate (entry_of r t) bytes)
+sense_exactly rate r bytes p t same =
+    let es = entries_of r p in
+    let new = agreeing (time_of rate bytes) es in
+    let e = entry_of r t in
+    let tells = subst (λ other. Allows (agreeing (time_of other bytes) es) e ↔ (Allows es e × Tells other e bytes)) (same r) (tells_exactly bytes es e) in (
       λ i.
           let there = (settled_exactly (with_entries r new p) t).0 i in
-          let w = (tells_exactly bytes (entries_of r p) e).0 (subst (λ es. Allows es e) (read_put r new p) (there.registers r)) in
+          let w = tells.0 (subst (λ es. Allows es e) (read_put r new p) (there.registers r)) in
           (subst (InPart p) (put r e t).own (take_out r new p e t there w.0), w.1),
       λ (i, told). (settled_exactly (with_entries r new p) t).1 (subst (InPart (with_entries r new p)) (put r e t).own
-          (put_in r new p e t i ((tells_exactly bytes (entries_of r p) e).1 (i.registers r, told)))),
+          (put_in r new p e t i (tells.1 (i.registers r, told)))),
     )
 
 -- ---- status
@@ -407,14 +479,30 @@ set_exactly_where (Some set) p t = (
 -- exactly the states with which a status agrees
 status_exactly : (status : Status) (p : Part) (t : State) → InPart (status_part t.local status p) t ↔ (InPart p t × ShowsStatus t status)
 status_exactly status p t = let q = masked_part status.shown p in (
-  λ i. cond_both (is_as_wanted status.local t.local) (reported_part status p) no_states (λ q. InPart q t → InPart p t × ShowsStatus t status) (λ here i.
+  λ i. cond_both (is_as_wanted status.local t.local) (reported_part status p) (no_states (rate_of p)) (λ q. InPart q t → InPart p t × ShowsStatus t status) (λ here i.
       let a = (set_exactly_where status.registers q t).0 ((settled_exactly (set_where status.registers q) t).0 i) in let b =
       (masked_exactly status.shown p t).0 a.0 in
-      (b.0, record { local = (local_exactly status.local t.local).0 here; shown = b.1; registers = a.1 })) (λ e i. in_none t i) i,
+      (b.0, record { local = (local_exactly status.local t.local).0 here; shown = b.1; registers = a.1 })) (λ e i. in_none (rate_of p) t i) i,
   λ (i, h). rw ((local_exactly status.local t.local).1 h.local)
       ((settled_exactly (set_where status.registers q) t).1 ((set_exactly_where status.registers q t).1
       ((masked_exactly status.shown p t).1 (i, h.shown), h.registers))),
 )
+
+set_rate : (b : Bool) (es : Entries) → (set_entries b es).rate ≡ es.rate
+set_rate true es = refl
+set_rate false es = refl
+
+masked_rate : (rate : Rate) (o : Option ModeSet) (p : Part) → OfRate rate p → OfRate rate (masked_part o p)
+masked_rate rate None p same = same
+masked_rate rate (Some mask) p same = each_register _ (same RegIn) (same RegOut) (same RegAudioIn) (same RegAudioOut)
+
+where_rate : (rate : Rate) (o : Option RegistersSet) (p : Part) → OfRate rate p → OfRate rate (set_where o p)
+where_rate rate None p same = same
+where_rate rate (Some set) p same = each_register _ (set_rate set.ins p.ins ∙ same RegIn) (set_rate set.outs p.outs ∙ same RegOut)
+    (set_rate set.ains p.ains ∙ same RegAudioIn) (set_rate set.aouts p.aouts ∙ same RegAudioOut)
+
+reported_rate : (rate : Rate) (status : Status) (p : Part) → OfRate rate p → OfRate rate (set_where status.registers (masked_part status.shown p))
+reported_rate rate status p same = where_rate rate status.registers (masked_part status.shown p) (masked_rate rate status.shown p same)
 
 few_masked : (n : Presets) (o : Option ModeSet) (p : Part) → FewIn n p → FewIn n (masked_part o p)
 few_masked n None p few = few
@@ -425,13 +513,14 @@ few_where n None p few = few
 few_where n (Some set) p few = each_register _ (few_set n.ins set.ins p.ins (few RegIn)) (few_set n.outs set.outs p.outs (few RegOut))
     (few_set n.ains set.ains p.ains (few RegAudioIn)) (few_set n.aouts set.aouts p.aouts (few RegAudioOut))
 
-reads_status : (status : Status) (h : Halves) → TwoWhole h → LeadsOn (λ s t. ShowsStatus s status × (t ≡ s)) (λ n. n) h (two_status status h)
-reads_status status h whole = reads (λ s. ShowsStatus s status) (λ l. status_part l status) h whole (status_exactly status)
-    (λ l p. cond_both (is_as_wanted status.local l) (reported_part status p) no_states Whole
-    (λ e. whole_settled (set_where status.registers (masked_part status.shown p))) (λ e. whole_none))
-    (λ l n p few. cond_both (is_as_wanted status.local l) (reported_part status p) no_states (FewIn n)
+reads_status : (rate : Rate) (status : Status) (h : Halves) → TwoWhole rate h → LeadsOn rate (λ s t. ShowsStatus s status × (t ≡ s)) (λ n. n) h (two_status status h)
+reads_status rate status h whole = reads rate (λ s. ShowsStatus s status) (λ l. status_part l status) h whole (λ p t same. status_exactly status p t)
+    (λ l p same. cond_both (is_as_wanted status.local l) (reported_part status p) (no_states (rate_of p)) (Whole rate)
+    (λ e. whole_settled rate (set_where status.registers (masked_part status.shown p)) (reported_rate rate status p same))
+    (λ e. subst (λ other. Whole rate (no_states other)) (sym (same RegIn)) (whole_none rate)))
+    (λ l n p few. cond_both (is_as_wanted status.local l) (reported_part status p) (no_states (rate_of p)) (FewIn n)
     (λ e. few_settled n (set_where status.registers (masked_part status.shown p))
-    (few_where n status.registers (masked_part status.shown p) (few_masked n status.shown p few))) (λ e. few_no_states n))
+    (few_where n status.registers (masked_part status.shown p) (few_masked n status.shown p few))) (λ e. few_no_states (rate_of p) n))
 
 -- ---- complete exchanges
 
@@ -450,36 +539,32 @@ pub presets_of : (c : Command) (reply : Block) (n : Presets) → is_nak reply �
 presets_of c reply n nak = rw nak (command_counts c n)
 
 -- a drift, and then a step
-exchanged_by : (c : Command) (reply : Block) (Goes : State → State → Type 0) (count : Presets → Presets) (h g : Halves) → TwoWhole h
-    → ((s t : State) → Goes s t ↔ DeckStep hands.None c reply s t)
-    → ((n : Presets) → presets_after c reply true n ≡ count n) → LeadsOn Goes count (two_drifted h) g → Taken c (Some reply) h g
-exchanged_by c reply Goes count h g whole steps same leads = leads_then (Drift hands.None) (DeckStep hands.None c reply) (λ n. n) (presets_after c reply true) h
-    (two_drifted h) g (drift_leads h whole)
-    (leads_as Goes (DeckStep hands.None c reply) count (presets_after c reply true) (two_drifted h) g (λ s t. (steps s t).0) (λ s t i. (steps s t).1) same
-    leads)
+exchanged_by : (rate : Rate) (c : Command) (reply : Block) (Goes : State → State → Type 0) (count : Presets → Presets) (h g : Halves) → TwoWhole rate h
+    → ((s t : State) → Goes s t ↔ DeckStep (untouched rate) c reply s t)
+    → ((n : Presets) → presets_after c reply true n ≡ count n) → LeadsOn rate Goes count (two_drifted h) g → Taken rate c (Some reply) h g
+exchanged_by rate c reply Goes count h g whole steps same led = leads_then rate (Drift (untouched rate)) (DeckStep (untouched rate) c reply) (λ n. n) (presets_after c reply true) h
+    (two_drifted h) g (drift_leads rate h whole)
+    (leads_as rate Goes (DeckStep (untouched rate) c reply) count (presets_after c reply true) (two_drifted h) g (λ s t. (steps s t).0) (λ s t i. (steps s t).1) same
+    led)
 
-pub exchanged_nak : (c : Command) (reply : Block) (h : Halves) → is_nak reply ≡ true → TwoWhole h → Taken c (Some reply) h (two_drifted h)
-exchanged_nak c reply h nak whole = exchanged_by c reply (λ s t. t ≡ s) (λ n. n) h (two_drifted h) whole (λ s t. (λ e. refused nak e, back s t))
-    (λ n. rw nak refl) (leads_same (two_drifted h) (drift_whole h whole))
+pub exchanged_nak : (rate : Rate) (c : Command) (reply : Block) (h : Halves) → is_nak reply ≡ true → TwoWhole rate h → Taken rate c (Some reply) h (two_drifted h)
+exchanged_nak rate c reply h nak whole = exchanged_by rate c reply (λ s t. t ≡ s) (λ n. n) h (two_drifted h) whole (λ s t. (λ e. refused nak e, back s t))
+    (λ n. rw nak refl) (leads_same rate (two_drifted h) (drift_whole rate h whole))
   where
-    back : (s t : State) → DeckStep hands.None c reply s t → t ≡ s
+    back : (s t : State) → DeckStep (untouched rate) c reply s t → t ≡ s
     back s t (refused was e) = e
     back s t (done was shows does) = absurd (false≢true (sym was ∙ nak))
     back s t (ignored was shows may local e) = e
 
 -- a step of a command that asks for something is what its reply shows
-asks : (c : Command) (reply : Block) (q : Sense) → is_nak reply ≡ false → sense_of c ≡ q → effect_of c ≡ effect.Nothing → (s t : State)
-    → (Agrees q s reply × (t ≡ s)) ↔ DeckStep hands.None c reply s t
-asks c reply q nak sensed none s t = (λ w. done nak (rw sensed w.0) (rw none w.1), back)
+asks : (rate : Rate) (c : Command) (reply : Block) (q : Sense) → is_nak reply ≡ false → sense_of c ≡ q → effect_of c ≡ effect.Nothing → (s t : State)
+    → (Agrees rate q s reply × (t ≡ s)) ↔ DeckStep (untouched rate) c reply s t
+asks rate c reply q nak sensed none s t = (λ w. done nak (rw sensed w.0) (rw none w.1), back)
   where
-    back : DeckStep hands.None c reply s t → Agrees q s reply × (t ≡ s)
+    back : DeckStep (untouched rate) c reply s t → Agrees rate q s reply × (t ≡ s)
     back (refused was e) = absurd (false≢true (sym nak ∙ was))
     back (done was shows does) = (rw sensed at shows, rw none at does)
     back (ignored was shows may local e) = (rw sensed at shows, e)
-
-drift_settled : (p : Part) → drifted_part (settled p) ≡ settled (drifted_part p)
-drift_settled p = rw (drift_some p.pairs) (elim (is_live p && some_entry p.ins && some_entry p.outs && some_entry p.ains && some_entry p.aouts)
-    as (λ b. drifted_part (if b then p else no_states) ≡ (if b then drifted_part p else no_states)) [ true ↦ refl | false ↦ refl ])
 
 drift_sensed : (r : Register) (time : Option ℕ) (h : Halves)
     → two_drifted (two_sensed r time h) ≡ map_two (λ l. where_live (sensed_part r time)) (two_drifted h)
@@ -492,38 +577,39 @@ drift_sensed r time h = ap two_drifted (two_same _ (map_two (λ l. where_live (s
     by p true = refl
     by p false = refl
 
-pub exchanged_sense : (c : Command) (reply : Block) (r : Register) (h : Halves) → is_nak reply ≡ false → sense_of c ≡ sense.Register r → TwoWhole h
-    → Taken c (Some reply) h (two_drifted (two_sensed r (time_of reply.bytes.items) h))
-exchanged_sense c reply r h nak wanted whole =
+pub exchanged_sense : (rate : Rate) (c : Command) (reply : Block) (r : Register) (h : Halves) → is_nak reply ≡ false → sense_of c ≡ sense.Register r → TwoWhole rate h
+    → Taken rate c (Some reply) h (two_drifted (two_sensed r (time_of rate reply.bytes.items) h))
+exchanged_sense rate c reply r h nak wanted whole =
     let bytes = reply.bytes.items in
-    let at = time_of bytes in
+    let at = time_of rate bytes in
     let none : effect_of c ≡ effect.Nothing = elim (asks_or_acts c) [ inl e ↦ cc | inr none ↦ none ] in
-    rw (drift_sensed r at h) (exchanged_by c reply (λ s t. Tells (entry_of r s) bytes × (t ≡ s)) (λ n. n) h
+    rw (drift_sensed r at h) (exchanged_by rate c reply (λ s t. Tells rate (entry_of r s) bytes × (t ≡ s)) (λ n. n) h
     (map_two (λ l. where_live (sensed_part r at)) (two_drifted h)) whole
-    (asks c reply (sense.Register r) nak wanted none) (λ n. presets_of c reply n nak ∙ ap (λ e. counted e n) none)
-    (reads (λ s. Tells (entry_of r s) bytes) (λ l. sensed_part r at) (two_drifted h) (drift_whole h whole) (sense_exactly r bytes)
-    (λ l p. whole_settled (with_entries r (agreeing at (entries_of r p)) p))
+    (asks rate c reply (sense.Register r) nak wanted none) (λ n. presets_of c reply n nak ∙ ap (λ e. counted e n) none)
+    (reads rate (λ s. Tells rate (entry_of r s) bytes) (λ l. sensed_part r at) (two_drifted h) (drift_whole rate h whole) (sense_exactly rate r bytes)
+    (λ l p same. whole_settled rate (with_entries r (agreeing at (entries_of r p)) p)
+    (put_rate rate r (agreeing at (entries_of r p)) p same (agreeing_rate at (entries_of r p))))
     (λ l n p few. few_settled n _ (few_put n r (agreeing at (entries_of r p)) p few (few_agreeing _ at (entries_of r p))))))
 
-pub exchanged_status : (c : Command) (reply : Block) (asked : ℕ) (h : Halves) → is_nak reply ≡ false → sense_of c ≡ sense.Status asked → TwoWhole h
-    → Taken c (Some reply) h (two_status (status_of asked reply) (two_drifted h))
-exchanged_status c reply asked h nak asks_for whole =
+pub exchanged_status : (rate : Rate) (c : Command) (reply : Block) (asked : ℕ) (h : Halves) → is_nak reply ≡ false → sense_of c ≡ sense.Status asked → TwoWhole rate h
+    → Taken rate c (Some reply) h (two_status (status_of asked reply) (two_drifted h))
+exchanged_status rate c reply asked h nak asks_for whole =
     let status = status_of asked reply in
     let none : effect_of c ≡ effect.Nothing = elim (asks_or_acts c) [ inl e ↦ cc | inr none ↦ none ] in
-    exchanged_by c reply (λ s t. ShowsStatus s status × (t ≡ s)) (λ n. n) h (two_status status (two_drifted h)) whole
-    (asks c reply (sense.Status asked) nak asks_for none)
-    (λ n. presets_of c reply n nak ∙ ap (λ e. counted e n) none) (reads_status status (two_drifted h) (drift_whole h whole))
+    exchanged_by rate c reply (λ s t. ShowsStatus s status × (t ≡ s)) (λ n. n) h (two_status status (two_drifted h)) whole
+    (asks rate c reply (sense.Status asked) nak asks_for none)
+    (λ n. presets_of c reply n nak ∙ ap (λ e. counted e n) none) (reads_status rate status (two_drifted h) (drift_whole rate h whole))
 
-pub exchanged_effect : (c : Command) (reply : Block) (h g : Halves) → is_nak reply ≡ false → sense_of c ≡ sense.Nothing → TwoWhole h
-    → HasEffect false (effect_of c) (two_drifted h) g → Taken c (Some reply) h g
-exchanged_effect c reply h g nak sensed whole =
-    exchanged_by c reply (DoesOrNot false (effect_of c)) (counted (effect_of c)) h g whole (λ s t. (there s t, back s t)) (λ n. presets_of c reply n nak)
+pub exchanged_effect : (rate : Rate) (c : Command) (reply : Block) (h g : Halves) → is_nak reply ≡ false → sense_of c ≡ sense.Nothing → TwoWhole rate h
+    → HasEffect rate false (effect_of c) (two_drifted h) g → Taken rate c (Some reply) h g
+exchanged_effect rate c reply h g nak sensed whole =
+    exchanged_by rate c reply (DoesOrNot rate false (effect_of c)) (counted (effect_of c)) h g whole (λ s t. (there s t, back s t)) (λ n. presets_of c reply n nak)
   where
-    there : (s t : State) → DoesOrNot false (effect_of c) s t → DeckStep hands.None c reply s t
+    there : (s t : State) → DoesOrNot rate false (effect_of c) s t → DeckStep (untouched rate) c reply s t
     there s t (inl does) = done nak (rw sensed tt) does
     there s t (inr (may, stays, e)) = ignored nak (rw sensed tt) may (sym (or-false s.local) ∙ stays) e
 
-    back : (s t : State) → DeckStep hands.None c reply s t → DoesOrNot false (effect_of c) s t
+    back : (s t : State) → DeckStep (untouched rate) c reply s t → DoesOrNot rate false (effect_of c) s t
     back s t (refused was e) = absurd (false≢true (sym nak ∙ was))
     back s t (done was shows does) = inl does
     back s t (ignored was shows may local e) = inr (may, or-false s.local ∙ local, e)

@@ -1,13 +1,13 @@
 -- Single things that a tracker keeps: sets of modes, one bit at a time; a drift of pairs of goal and shown mode; and
 -- what becomes of a set of entries, one entry at a time.
 use Rattle.track9.proofs.Words.{[], agreeing, Allows, and-false, and-true, and_parts, any_mode, ap, arith, At, Becomes, BelowDay, bit_of, Bool}
-use Rattle.track9.proofs.Words.{both_ways, by_goal, Change, changed_entries, Clear, cond_both, contains-every_time, contains-insert_nat, contains-items_nat, contains-just, day}
+use Rattle.track9.proofs.Words.{just_of, nat_lt, Rate, with_time, both_ways, by_goal, Change, changed_entries, Clear, cond_both, contains-every_time, contains-insert_nat, contains-items_nat, contains-just, day}
 use Rattle.track9.proofs.Words.{drifted_with, Entries, Entry, eqb, eqb-true, every_mode, every_time, false, false_from_ne_true, false≢true, find_mode, goal_if_shown, goals_of, goes, halted}
 use Rattle.track9.proofs.Words.{has, has-or, has_pair, if◌then◌else◌, image_from, image_to, inl, inr, is_mode, is_mode-same, is_nil, is_one_of, is_set, is_some, just, just_has}
-use Rattle.track9.proofs.Words.{kept_goal, List, list_any, ltb-true, Mode, mode_self, mode_some, modes, ModeSet, moved_entry, nat_cmp, nat_cmp_total, nat_eq, nat_tests, Next}
+use Rattle.track9.proofs.Words.{kept_goal, List, list_any, ltb-true, Mode, mode_self, mode_some, modes, ModeSet, nat_cmp, nat_cmp_total, nat_eq, nat_tests, Next}
 use Rattle.track9.proofs.Words.{next_frame, no_entries, None, not, not-true, nothing_has, of_modes_has, on_the_way, Option, or-false, or-true, or_assoc, or_cases, or_left}
-use Rattle.track9.proofs.Words.{or_right, PairReaches, Prev, prev_frame, ReadsAs-from_time_of, Recall, refl, Reset, same_test, same_times, set_entries, SetAt, SetSomewhere}
-use Rattle.track9.proofs.Words.{shown_with, Some, some_entry, some_mode, some_pair, Stop, subst, sym, Tells, time_of, time_of-from_ReadsAs, Times, true, true_from_ne_false, ℕ}
+use Rattle.track9.proofs.Words.{or_right, PairReaches, Prev, prev_frame, read_given, Recall, refl, Reset, same_test, same_times, set_entries, SetAt, SetSomewhere}
+use Rattle.track9.proofs.Words.{shown_with, Some, some_entry, some_mode, some_pair, Stop, subst, sym, Tells, time_of, given_reads, Times, true, true_from_ne_false, ℕ}
 use Rattle.track9.proofs.Words.{◌&&◌, ◌<◌, ◌||◌, ◌↔◌, ◌∙◌, ◌∷◌, ◌≡◌, ◌⊎◌}
 use Rattle.std.specs.FinSet as set
 
@@ -75,85 +75,100 @@ drifted_to p f n g m h (inl (same, inr (inl at_goal))) = drifted_has p g m ∙ r
 drifted_to p f n g m h (inl (same, inr (inr on_way))) = drifted_has p g m ∙ rw (same, mode_some (shown_with p f) n h, on_way) (simp or-true)
 drifted_to p f n g m h (inr (stop, shown)) = drifted_has p g m ∙ rw (stop, shown, pairs_some p f n h) (simp or-true)
 
-pub in_day : (t : ℕ) → set.contains every_time t ≡ true → t < day
-in_day t h = ltb-true t day (sym (contains-every_time t) ∙ h)
+pub in_day : (rate : Rate) (t : ℕ) → set.contains (every_time rate) t ≡ true → t < day rate
+in_day rate t h = ltb-true t (day rate) (sym (contains-every_time rate t) ∙ h)
 
-pub day_in : (t : ℕ) → t < day → set.contains every_time t ≡ true
-day_in t h = contains-every_time t ∙ grind (arith, nat_tests)
-
-pub just_is : (t f : ℕ) → set.contains (just t) f ≡ true → f ≡ t
-just_is t f h = let e : eqb f t ≡ true = sym (contains-just t f) ∙ h in grind (arith, nat_tests)
-
-pub just_self : (t : ℕ) → set.contains (just t) t ≡ true
-just_self t = contains-just t t ∙ grind (arith, nat_tests)
+pub day_in : (rate : Rate) (t : ℕ) → t < day rate → set.contains (every_time rate) t ≡ true
+day_in rate t h = contains-every_time rate t ∙ grind (arith, nat_tests)
 
 pub from_empty : {P : Type 0} (t : ℕ) → set.contains {R = nat_cmp} set.empty t ≡ true → P
 from_empty t h = absurd (false≢true (sym (set.contains-empty nat_cmp t) ∙ h))
+
+-- one time of the day alone, and with others
+pub just_is : (rate : Rate) (t f : ℕ) → set.contains (just_of rate t) f ≡ true → (t < day rate) × (f ≡ t)
+just_is rate t f = cond_both (nat_lt t (day rate)) (just t) set.empty (λ s. set.contains s f ≡ true → (t < day rate) × (f ≡ t))
+    (λ low h. (grind (arith, nat_tests), eqb-true f t (sym (contains-just t f) ∙ h))) (λ high h. from_empty f h)
+
+pub just_self : (rate : Rate) (t : ℕ) → t < day rate → set.contains (just_of rate t) t ≡ true
+just_self rate t low = cond_both (nat_lt t (day rate)) (just t) set.empty (λ s. set.contains s t ≡ true)
+    (λ e. contains-just t t ∙ grind (arith, nat_tests)) (λ e. grind (arith, nat_tests))
+
+with_from : (rate : Rate) (s : Times) (u t : ℕ) → set.contains (with_time rate s u) t ≡ true → ((u < day rate) × (t ≡ u)) ⊎ (set.contains s t ≡ true)
+with_from rate s u t = cond_both (nat_lt u (day rate)) (set.insert s u) s (λ w. set.contains w t ≡ true → ((u < day rate) × (t ≡ u)) ⊎ (set.contains s t ≡ true))
+    (λ low h. elim (or_cases (eqb t u) (set.contains s t) (sym (contains-insert_nat s u t) ∙ h))
+    [ inl e ↦ inl (grind (arith, nat_tests), eqb-true t u e) | inr e ↦ inr e ])
+    (λ high h. inr h)
+
+with_self : (rate : Rate) (s : Times) (t : ℕ) → t < day rate → set.contains (with_time rate s t) t ≡ true
+with_self rate s t low = cond_both (nat_lt t (day rate)) (set.insert s t) s (λ w. set.contains w t ≡ true)
+    (λ e. contains-insert_nat s t t ∙ grind (arith, nat_tests)) (λ e. grind (arith, nat_tests))
+
+with_old : (rate : Rate) (s : Times) (u t : ℕ) → set.contains s t ≡ true → set.contains (with_time rate s u) t ≡ true
+with_old rate s u t a = cond_both (nat_lt u (day rate)) (set.insert s u) s (λ w. set.contains w t ≡ true)
+    (λ low. contains-insert_nat s u t ∙ or_right (eqb t u) _ a) (λ high. a)
 
 in_union : (s t : Times) (f : ℕ) → set.contains (set.union s t) f ≡ true → (set.contains s f ≡ true) ⊎ (set.contains t f ≡ true)
 in_union s t f h = or_cases (set.contains s f) (set.contains t f) (sym (set.contains-union nat_cmp_total s t f) ∙ h)
 
 -- where an entry came from that became one of these, or stayed where it may
 pub entry_from : (may_stay : Bool) (c : Change) (es : Entries) (d e : Entry) → Allows es d → Allows (changed_entries may_stay c es) e
-    → ((f : Entry) × Allows es f × Becomes c f e) ⊎ ((may_stay ≡ true) × Allows es e)
+    → ((f : Entry) × Allows es f × Becomes es.rate c f e) ⊎ ((may_stay ≡ true) × Allows es e)
 entry_from false (SetAt u) es d Clear a h = cc
 entry_from b Recall es d Clear a h = inl (d, a, tt)
-entry_from b Recall es d (At t) a h = inl (d, a, in_day t h)
-entry_from b SetSomewhere es d (At t) a h = inl (d, a, (t, in_day t h, refl))
+entry_from b Recall es d (At t) a h = inl (d, a, in_day es.rate t h)
+entry_from b SetSomewhere es d (At t) a h = inl (d, a, (t, in_day es.rate t h, refl))
 entry_from b Reset es d Clear a h = inl (d, a, refl)
 entry_from false Reset es d (At t) a h = from_empty t h
 entry_from false SetSomewhere es d Clear a h = cc
-entry_from false (SetAt u) es d (At t) a h = inl (d, a, ap At (just_is u t h))
+entry_from false (SetAt u) es d (At t) a h = let w = just_is es.rate u t h in inl (d, a, (w.0, ap At w.1))
 entry_from false _ es d Clear a h = inl (Clear, h, refl)
 entry_from false _ es d (At t) a h = let w = image_from _ es.times t h in inl (At w.0, w.1, ap At w.2)
-entry_from true (SetAt u) es d (At t) a h =
-    elim (or_cases (eqb t u) (set.contains es.times t) (sym (contains-insert_nat es.times u t) ∙ h))
-    [ inl e ↦ inl (d, a, ap At (eqb-true t u e)) | inr e ↦ inr (refl, e) ]
+entry_from true (SetAt u) es d (At t) a h = elim (with_from es.rate es.times u t h) [ inl w ↦ inl (d, a, (w.0, ap At w.1)) | inr e ↦ inr (refl, e) ]
 entry_from true Next es d (At t) a h = elim (in_union es.times _ t h)
-    [ inl e ↦ inr (refl, e) | inr e ↦ let w = image_from next_frame es.times t e in inl (At w.0, w.1, ap At w.2) ]
+    [ inl e ↦ inr (refl, e) | inr e ↦ let w = image_from (next_frame es.rate) es.times t e in inl (At w.0, w.1, ap At w.2) ]
 entry_from true Prev es d (At t) a h = elim (in_union es.times _ t h)
-    [ inl e ↦ inr (refl, e) | inr e ↦ let w = image_from prev_frame es.times t e in inl (At w.0, w.1, ap At w.2) ]
+    [ inl e ↦ inr (refl, e) | inr e ↦ let w = image_from (prev_frame es.rate) es.times t e in inl (At w.0, w.1, ap At w.2) ]
 entry_from true _ es d e a h = inr (refl, h)
 
 -- where an entry goes to
-pub entry_to : (may_stay : Bool) (c : Change) (es : Entries) (d e : Entry) → Allows es d → Becomes c d e → Allows (changed_entries may_stay c es) e
-entry_to false (SetAt u) es d e a w = rw w (just_self u)
-entry_to b SetSomewhere es d e a w = rw w.2 (day_in w.0 w.1)
+pub entry_to : (may_stay : Bool) (c : Change) (es : Entries) (d e : Entry) → Allows es d → Becomes es.rate c d e → Allows (changed_entries may_stay c es) e
+entry_to false (SetAt u) es d e a w = rw w.1 (just_self es.rate u w.0)
+entry_to b SetSomewhere es d e a w = rw w.2 (day_in es.rate w.0 w.1)
 entry_to b Reset es d e a w = rw w refl
 entry_to b Recall es d Clear a w = refl
-entry_to b Recall es d (At t) a w = day_in t w
-entry_to true (SetAt u) es d e a w = rw w (contains-insert_nat es.times u u ∙ grind (arith, nat_tests))
+entry_to b Recall es d (At t) a w = day_in es.rate t w
+entry_to true (SetAt u) es d e a w = rw w.1 (with_self es.rate es.times u w.0)
 entry_to b _ es Clear e a w = rw w a
 entry_to false _ es (At t) e a w = rw w (image_to _ es.times t a)
 entry_to true _ es (At t) e a w = rw w (set.contains-union nat_cmp_total es.times _ _ ∙ or_right (set.contains es.times _) _ (image_to _ es.times t a))
 
 -- where it may stay it does, since the times are times of the day
-pub entry_stays : (may_stay : Bool) (c : Change) (es : Entries) (e : Entry) → may_stay ≡ true → BelowDay es.times → Allows es e
+pub entry_stays : (may_stay : Bool) (c : Change) (es : Entries) (e : Entry) → may_stay ≡ true → BelowDay es.rate es.times → Allows es e
     → Allows (changed_entries may_stay c es) e
 entry_stays false c es e stays below a = absurd (false≢true stays)
 entry_stays true Reset es Clear stays below a = refl
 entry_stays true Recall es Clear stays below a = refl
-entry_stays true (SetAt u) es (At t) stays below a = contains-insert_nat es.times u t ∙ or_right (eqb t u) _ a
+entry_stays true (SetAt u) es (At t) stays below a = with_old es.rate es.times u t a
 entry_stays true Next es (At t) stays below a = set.contains-union nat_cmp_total es.times _ t ∙ rw a refl
 entry_stays true Prev es (At t) stays below a = set.contains-union nat_cmp_total es.times _ t ∙ rw a refl
-entry_stays true SetSomewhere es (At t) stays below a = day_in t (below t a)
-entry_stays true Recall es (At t) stays below a = day_in t (below t a)
+entry_stays true SetSomewhere es (At t) stays below a = day_in es.rate t (below t a)
+entry_stays true Recall es (At t) stays below a = day_in es.rate t (below t a)
 entry_stays true _ es e stays below a = a
 
 -- ---- entries that agree with a reply
 
 -- exactly the entries that tell these bytes
-pub tells_exactly : (bytes : List ℕ) (es : Entries) (e : Entry) → Allows (agreeing (time_of bytes) es) e ↔ (Allows es e × Tells e bytes)
-tells_exactly bytes es e = by (time_of bytes) refl e
+pub tells_exactly : (bytes : List ℕ) (es : Entries) (e : Entry) → Allows (agreeing (time_of es.rate bytes) es) e ↔ (Allows es e × Tells es.rate e bytes)
+tells_exactly bytes es e = by (time_of es.rate bytes) refl e
   where
-    by : (o : Option ℕ) → time_of bytes ≡ o → (e : Entry) → Allows (agreeing o es) e ↔ (Allows es e × Tells e bytes)
+    by : (o : Option ℕ) → time_of es.rate bytes ≡ o → (e : Entry) → Allows (agreeing o es) e ↔ (Allows es e × Tells es.rate e bytes)
     by None read Clear = (λ h. (h, tt), λ w. w.0)
-    by None read (At u) = (λ h. from_empty u h, λ w. cc (read, time_of-from_ReadsAs bytes u w.1))
+    by None read (At u) = (λ h. from_empty u h, λ w. cc (read, read_given es.rate bytes u w.1))
     by (Some t) read Clear = (λ h. (h, tt), λ w. w.0)
     by (Some t) read (At u) = (
-      cond_both (set.contains es.times t) (just t) set.empty (λ s. set.contains s u ≡ true → (set.contains es.times u ≡ true) × Tells (At u) bytes)
-          (λ e there. let same = just_is t u there in (rw same e, rw same (ReadsAs-from_time_of bytes t read))) (λ e there. from_empty u there),
-      λ w. let same : t ≡ u = cc (read, time_of-from_ReadsAs bytes u w.1) in rw (same, w.0) (just_self u),
+      cond_both (set.contains es.times t) (just_of es.rate t) set.empty (λ s. set.contains s u ≡ true → (set.contains es.times u ≡ true) × Tells es.rate (At u) bytes)
+          (λ e there. let same = (just_is es.rate t u there).1 in (rw same e, rw same (given_reads es.rate bytes t read))) (λ e there. from_empty u there),
+      λ w. let same : t ≡ u = cc (read, read_given es.rate bytes u w.1) in rw (same, w.0) (just_self es.rate u (w.1.0)),
     )
 
 -- exactly the entries that are Set, or are Clear
@@ -193,14 +208,6 @@ some_allowed es h = elim (or_cases es.may_clear (not (is_nil (set.items es.times
 pub nothing_allowed : (es : Entries) → some_entry es ≡ false → (e : Entry) → Allows es e → ⊥
 nothing_allowed es none e a = false≢true (sym none ∙ allowed_some es e a)
 
-pub becomes_some : (c : Change) (d : Entry) → (e : Entry) × Becomes c d e
-becomes_some SetSomewhere d = (At 0, (0, omega arith, refl))
-becomes_some (SetAt t) d = (At t, refl)
-becomes_some Next d = (moved_entry next_frame d, refl)
-becomes_some Prev d = (moved_entry prev_frame d, refl)
-becomes_some Reset d = (Clear, refl)
-becomes_some Recall d = (Clear, tt)
-
 -- nothing is in no entries
 pub empty_nil : is_nil (set.items {R = nat_cmp} set.empty) ≡ true
 empty_nil = true_from_ne_false _ (λ e. let w = there_time set.empty e in from_empty w.0 w.1)
@@ -210,8 +217,8 @@ some_by b es clear to from =
     ap not (same_test b (is_nil (set.items es.times)) (λ e. ap (λ s. is_nil (set.items s)) (to e) ∙ empty_nil) (λ e. from (nil_empty es.times e)))
     ∙ sym (ap (λ x. x || not (is_nil (set.items es.times))) clear)
 
-pub no_entry : some_entry no_entries ≡ false
-no_entry = ap not empty_nil
+pub no_entry : (rate : Rate) → some_entry (no_entries rate) ≡ false
+no_entry rate = ap not empty_nil
 
 -- a register without entries has no times
 pub no_times : (es : Entries) → some_entry es ≡ false → es.times ≡ set.empty

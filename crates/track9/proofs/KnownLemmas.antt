@@ -1,7 +1,7 @@
 -- What is known of modes, of facts and of a register; and what a tracker keeps, remains and counts.
 use Rattle.track9.proofs.Words.{Allows, and_parts, ap, AreFew, AreTimes, AreWhole, arith, At, begin_count-empty, Block, Bool, Clear, Command, cond_both, contains-just}
 use Rattle.track9.proofs.Words.{contains-remove_nat, count_of, either, Entries, entries_of, Entry, entry_of, eqb, eqb-true, false, false_from_ne_true, false≢true, Follows}
-use Rattle.track9.proofs.Words.{goals_in, goals_of, goes, Hands, has, has-or, has_pair, if◌then◌else◌, in_local, inl, InPart, inr, is_live, is_nak, is_nil, is_panel_live, is_set}
+use Rattle.track9.proofs.Words.{Profile, profile_of, Rate, rate_for, rate_in, goals_in, goals_of, goes, Hands, has, has-or, has_pair, if◌then◌else◌, in_local, inl, InPart, inr, is_live, is_nak, is_nil, is_panel_live, is_set}
 use Rattle.track9.proofs.Words.{is_some, IsKept, IsKnown, IsKnownEntry, IsSpanCount, IsTrue, join_options, joined, joined_known, just, Known, known_fact, KnownEntry, KnowsModes}
 use Rattle.track9.proofs.Words.{KnowsOf, List, max, max-zero, Mode, mode_some, ModeSet, nat_cmp, nat_tests, no_states, None, not, on_two, Option, part_of, PartKnows, Part}
 use Rattle.track9.proofs.Words.{Possible, Presets, presets_after, refl, RegIn, Register, same_test, same_times, shown_in, shown_with, Some, some_entry, some_mode, some_state}
@@ -10,7 +10,7 @@ use Rattle.track9.proofs.Words.{Whole, with_command, with_entry, ℕ, ◌&&◌, 
 use Rattle.deck9.specs.declared.knowledge.Known.TheVariants as known
 use Rattle.std.specs.FinSet as set
 use Rattle.deck9.specs.declared.knowledge.KnownEntry.TheVariants as entry
-use Rattle.track9.proofs.EntryLemmas.{allowed_some, from_empty, goals_has, goes_from, goes_to, just_is, nil_empty, no_times, nothing_allowed, some_allowed, there_time}
+use Rattle.track9.proofs.EntryLemmas.{allowed_some, from_empty, goals_has, goes_from, goes_to, nil_empty, no_times, nothing_allowed, some_allowed, there_time}
 use Rattle.track9.proofs.PanelLemmas.{panel_off}
 use Rattle.track9.proofs.PartLemmas.{a_state, any_way, impossible, in_pairs, live_some, part_whole, possible, put, put_in, put_same, some_live, some_way, state_live}
 
@@ -34,11 +34,11 @@ some_part f v m =
     )
 
 -- a pair of a part is one of a state
-pair_state : (v : States) (l pn : Bool) (g m : Mode) → AreWhole v → has_pair (part_of v l pn).pairs g m ≡ true
+pair_state : (v : States) (l pn : Bool) (g m : Mode) → AreWhole (rate_for v) v → has_pair (part_of v l pn).pairs g m ≡ true
     → (s : State) × Possible v s × (s.goal ≡ g) × (s.shown ≡ m)
 pair_state v l pn g m whole pair =
     let p = part_of v l pn in
-    let w = a_state p l pn (part_whole v whole l pn) (mode_some (goes p.pairs) m (goes_to p.pairs g m pair)) in
+    let w = a_state (rate_for v) p l pn (part_whole (rate_for v) v whole l pn) (mode_some (goes p.pairs) m (goes_to p.pairs g m pair)) in
     let s : State = record w.0 { goal = g; shown = m } in (s, possible v s l pn w.2 w.3 (in_pairs p p.pairs w.0 g m w.1.registers pair), refl, refl)
 
 -- the set has exactly the modes that the states have
@@ -49,7 +49,7 @@ pub record HasModes (X : State → Type 0) (field : State → Mode) (set : ModeS
 -- goals, or shown modes
 has_modes : (pick : Mode → Mode → Mode) (f : List ModeSet → ModeSet) (v : States)
     → ((p : List ModeSet) (n : Mode) → has (f p).0 n ≡ true ↔ ((g m : Mode) × (has_pair p g m ≡ true) × (pick g m ≡ n)))
-    → AreWhole v → HasModes (Possible v) (λ (s : State). pick s.goal s.shown) (all_of f v)
+    → AreWhole (rate_for v) v → HasModes (Possible v) (λ (s : State). pick s.goal s.shown) (all_of f v)
 has_modes pick f v exactly whole = record {
   there = λ s i. (some_part f v _).1 (
     s.local,
@@ -62,15 +62,15 @@ has_modes pick f v exactly whole = record {
       let w = pair_state v a.0 a.1 p.0 p.1 whole p.2 in (w.0, w.1, rw (w.2, w.3) p.3);
 }
 
-pub has_goals : (v : States) → AreWhole v → HasModes (Possible v) (λ (s : State). s.goal) (goals_in v)
+pub has_goals : (v : States) → AreWhole (rate_for v) v → HasModes (Possible v) (λ (s : State). s.goal) (goals_in v)
 has_goals v = has_modes (λ g m. g) goals_of v
     (λ p n. (λ h. let m = some_mode (shown_with p n) (sym (goals_has p n) ∙ h) in (n, m.0, m.1, refl), λ (g, m, pair, e). rw (← e) (goal_to p g m pair)))
 
-pub has_shown : (v : States) → AreWhole v → HasModes (Possible v) (λ (s : State). s.shown) (shown_in v)
+pub has_shown : (v : States) → AreWhole (rate_for v) v → HasModes (Possible v) (λ (s : State). s.shown) (shown_in v)
 has_shown v = has_modes (λ g m. m) goes v (λ p n. (λ h. let g = goes_from p n h in (g.0, n, g.1, refl), λ (g, m, pair, e). rw (← e) (goes_to p g m pair)))
 
-pub modes_some : (v : States) (field : State → Mode) (set : ModeSet) → HasModes (Possible v) field set → AreWhole v → some_state v ≡ true → is_some set ≡ true
-modes_some v field set h whole live = let w = live_some v whole live in mode_some set (field w.0) (h.there w.0 w.1)
+pub modes_some : (v : States) (field : State → Mode) (set : ModeSet) → HasModes (Possible v) field set → AreWhole (rate_for v) v → some_state v ≡ true → is_some set ≡ true
+modes_some v field set h whole live = let w = live_some (rate_for v) v whole live in mode_some set (field w.0) (h.there w.0 w.1)
 
 -- what is known of a mode of all states, by the set of these modes
 pub modes_known : (X : State → Type 0) (field : State → Mode) (set : ModeSet) (k : Known Mode) → HasModes X field set → KnowsModes set k → IsKnown X field k
@@ -97,21 +97,21 @@ fact_known X field is_there there back some = by (is_there false) (is_there true
 live_part : (v : States) (s : State) → Possible v s → is_live (part_of v s.local s.panel) ≡ true
 live_part v s i = state_live (part_of v s.local s.panel) s (impossible v s s.local s.panel refl refl i)
 
-live_state : (v : States) (l pn : Bool) → AreWhole v → is_live (part_of v l pn) ≡ true → (s : State) × Possible v s × (s.local ≡ l) × (s.panel ≡ pn)
-live_state v l pn whole live = let w = a_state (part_of v l pn) l pn (part_whole v whole l pn) live in (w.0, possible v w.0 l pn w.2 w.3 w.1, w.2, w.3)
+live_state : (v : States) (l pn : Bool) → AreWhole (rate_for v) v → is_live (part_of v l pn) ≡ true → (s : State) × Possible v s × (s.local ≡ l) × (s.panel ≡ pn)
+live_state v l pn whole live = let w = a_state (rate_for v) (part_of v l pn) l pn (part_whole (rate_for v) v whole l pn) live in (w.0, possible v w.0 l pn w.2 w.3 w.1, w.2, w.3)
 
-pub local_known : (v : States) → AreWhole v → some_state v ≡ true
+pub local_known : (v : States) → AreWhole (rate_for v) v → some_state v ≡ true
     → IsKnown (Possible v) (λ (s : State). s.local) (known_fact (is_live (part_of v false false) || is_live (part_of v false true))
     (is_live (part_of v true false) || is_live (part_of v true true)))
 local_known v whole live = fact_known (Possible v) (λ (s : State). s.local) (λ l. is_live (part_of v l false) || is_live (part_of v l true))
     (λ s i. any_way (λ pn. is_live (part_of v s.local pn)) s.panel (live_part v s i))
-    (λ l h. let pn = some_way (λ pn. is_live (part_of v l pn)) h in let w = live_state v l pn.0 whole pn.1 in (w.0, w.1, w.2)) (live_some v whole live)
+    (λ l h. let pn = some_way (λ pn. is_live (part_of v l pn)) h in let w = live_state v l pn.0 whole pn.1 in (w.0, w.1, w.2)) (live_some (rate_for v) v whole live)
 
-pub panel_known : (v : States) → AreWhole v → some_state v ≡ true
+pub panel_known : (v : States) → AreWhole (rate_for v) v → some_state v ≡ true
     → IsKnown (Possible v) (λ (s : State). s.panel) (known_fact (some_two v.off) (is_panel_live v))
 panel_known v whole live = fact_known (Possible v) (λ (s : State). s.panel) (λ pn. some_two (two_of v pn))
     (λ s i. any_way (λ l. is_live (part_of v l s.panel)) s.local (live_part v s i))
-    (λ pn h. let l = some_way (λ l. is_live (part_of v l pn)) h in let w = live_state v l.0 pn whole l.1 in (w.0, w.1, w.3)) (live_some v whole live)
+    (λ pn h. let l = some_way (λ l. is_live (part_of v l pn)) h in let w = live_state v l.0 pn whole l.1 in (w.0, w.1, w.3)) (live_some (rate_for v) v whole live)
 
 -- ---- one set of entries
 
@@ -126,7 +126,7 @@ knows_clear es none (At t) a = from_empty t (subst (λ s. set.contains s t ≡ t
 -- one time and not Clear
 pub knows_at : (es : Entries) (t : ℕ) → es.may_clear ≡ false → es.times ≡ just t → KnowsOf (Allows es) (entry.At t)
 knows_at es t clear one Clear a = absurd (false≢true (sym clear ∙ a))
-knows_at es t clear one (At u) a = ap At (just_is t u (subst (λ s. set.contains s u ≡ true) one a))
+knows_at es t clear one (At u) a = ap At (eqb-true u t (sym (contains-just t u) ∙ subst (λ s. set.contains s u ≡ true) one a))
 
 -- ---- a time beside another
 
@@ -237,27 +237,27 @@ knows_either E (Some m) (Some l) h k = ((h.0.0, (false, h.0.1)), knows_joined E 
 
 -- ---- all parts
 
-part_knows : (p : Part) (r : Register) (o : Option KnownEntry) → Whole p → PartKnows p r o → Knows (Allows (entries_of r p)) o
+part_knows : (rate : Rate) (p : Part) (r : Register) (o : Option KnownEntry) → Whole rate p → PartKnows p r o → Knows (Allows (entries_of r p)) o
 unfolding Knows
-part_knows p r None whole dead = nothing_allowed (entries_of r p) (whole r ∙ dead)
-part_knows p r (Some k) whole h = (some_allowed (entries_of r p) (whole r ∙ h.0), h.1)
+part_knows rate p r None whole dead = nothing_allowed (entries_of r p) ((whole r).0 ∙ dead)
+part_knows rate p r (Some k) whole h = (some_allowed (entries_of r p) ((whole r).0 ∙ h.0), h.1)
 
 -- the entries of a register in either part
 abbrev InEither : Halves → Register → Entry → Type 0
 InEither h r = Either (λ l. Allows (entries_of r (in_local h l)))
 
-two_know : (h : Halves) (r : Register) (o : Option KnownEntry) → TwoWhole h → TwoKnow h r o → Knows (InEither h r) o
-two_know h r o whole (a, b, remote, local, e) =
-    subst (Knows (InEither h r)) (sym e) (knows_either (λ l. Allows (entries_of r (in_local h l))) a b (part_knows h.remote r a whole.remote remote)
-    (part_knows h.local r b whole.local local))
+two_know : (rate : Rate) (h : Halves) (r : Register) (o : Option KnownEntry) → TwoWhole rate h → TwoKnow h r o → Knows (InEither h r) o
+two_know rate h r o whole (a, b, remote, local, e) =
+    subst (Knows (InEither h r)) (sym e) (knows_either (λ l. Allows (entries_of r (in_local h l))) a b (part_knows rate h.remote r a whole.remote remote)
+    (part_knows rate h.local r b whole.local local))
 
 -- an entry of a part is one of a state
-pub part_of_entry : (v : States) (r : Register) (l pn : Bool) (e : Entry) → AreWhole v → Allows (entries_of r (part_of v l pn)) e
+pub part_of_entry : (v : States) (r : Register) (l pn : Bool) (e : Entry) → AreWhole (rate_for v) v → Allows (entries_of r (part_of v l pn)) e
     → (s : State) × Possible v s × (s.local ≡ l) × (s.panel ≡ pn) × (entry_of r s ≡ e)
 part_of_entry v r l pn e all a =
     let p = part_of v l pn in
-    let whole = part_whole v all l pn in
-    let w = a_state p l pn whole (sym (whole r) ∙ allowed_some (entries_of r p) e a) in
+    let whole = part_whole (rate_for v) v all l pn in
+    let w = a_state (rate_for v) p l pn whole (sym (whole r).0 ∙ allowed_some (entries_of r p) e a) in
     let at = put r e w.0 in
     let inside : InPart p (with_entry r e w.0) = subst (λ q. InPart q (with_entry r e w.0)) (put_same r p) (put_in r (entries_of r p) p e w.0 w.1 a) in
     (with_entry r e w.0, possible v (with_entry r e w.0) l pn (at.local ∙ w.2) (at.panel ∙ w.3) inside, at.local ∙ w.2, at.panel ∙ w.3, at.entry)
@@ -270,7 +270,7 @@ known_of X r E entry.SetSomewhere there back h =
 known_of X r E entry.Unknown there back h = let a = back Clear h.0 in let b = back h.1.0 h.1.1 in (a.0, b.0, a.1, b.1, a.2, ap is_set b.2 ∙ h.1.2)
 known_of X r E _ there back h = λ s i. h (entry_of r s) (there s i)
 
-pub entry_known : (v : States) (r : Register) (off on all : Option KnownEntry) (k : KnownEntry) → AreWhole v → TwoKnow (two_of v false) r off
+pub entry_known : (v : States) (r : Register) (off on all : Option KnownEntry) (k : KnownEntry) → AreWhole (rate_for v) v → TwoKnow (two_of v false) r off
     → TwoKnow (two_of v true) r on → all ≡ join_options off on → all ≡ Some k
     → IsKnownEntry (Possible v) r k
 unfolding Knows
@@ -278,28 +278,34 @@ entry_known v r off on all k whole h i joined found =
     let E : Bool → Entry → Type 0 = λ pn. InEither (two_of v pn) r in
     known_of (Possible v) r (Either E) k (λ s i. (s.panel, (s.local, (impossible v s s.local s.panel refl refl i).registers r)))
     (λ e (pn, (l, a)). let w = part_of_entry v r l pn e whole a in (w.0, w.1, w.4))
-    (subst (Knows (Either E)) (sym joined ∙ found) (knows_either E off on (two_know v.off r off whole.off h) (two_know (on_two v.on) r on whole.on i))).1
+    (subst (Knows (Either E)) (sym joined ∙ found) (knows_either E off on (two_know (rate_for v) v.off r off whole.off h) (two_know (rate_for v) (on_two (rate_for v) v.on) r on whole.on i))).1
 
 -- ---- whether a state remains
 
-pub remains_where : (v : States) → AreWhole v → IsTrue (some_state v) ↔ ((s : State) × Possible v s)
-remains_where v whole = (λ h. live_some v whole h, λ w. some_live v w.0 w.1)
+pub remains_where : (v : States) → AreWhole (rate_for v) v → IsTrue (some_state v) ↔ ((s : State) × Possible v s)
+remains_where v whole = (λ h. live_some (rate_for v) v whole h, λ w. some_live v w.0 w.1)
 
 -- ---- after an exchange
 
-dead_few : (n : Presets) (v : States) → AreWhole v → some_state v ≡ false → AreFew n v
+dead_few : (n : Presets) (v : States) → AreWhole (rate_for v) v → some_state v ≡ false → AreFew n v
 dead_few n v whole dead pn l r =
     let dead_in : is_live (part_of v l pn) ≡ false = false_from_ne_true _ (λ live.
     let w = live_state v l pn whole live in false≢true (sym dead ∙ some_live v w.0 w.1)) in
-    rw (no_times (entries_of r (part_of v l pn)) (part_whole v whole l pn r ∙ dead_in)) (omega (arith, begin_count-empty))
+    rw (no_times (entries_of r (part_of v l pn)) ((part_whole (rate_for v) v whole l pn r).0 ∙ dead_in)) (omega (arith, begin_count-empty (entries_of r (part_of v l pn)).rate))
 
-pub kept_after : (c : Command) (reply : Block) (v w : States) (h : Hands) (n : Presets) → IsKept n v → Follows h c (Some reply) v w
+pub own_whole : (p : Profile) (w : States) → profile_of w ≡ p → AreWhole p.rate w → AreWhole (rate_for w) w
+own_whole p w same whole = subst (λ rate. AreWhole rate w) (sym (ap (λ (p : Profile). p.rate) same)) whole
+
+pub kept_after : (c : Command) (reply : Block) (v w : States) (p : Profile) (n : Presets) → IsKept n v → Follows p c (Some reply) v w
     → IsKept (presets_after c reply (some_state w) n) w
-kept_after c reply v w h n kept follows = record { whole = follows.whole; few = by (some_state w) refl }
+kept_after c reply v w p n kept follows = record { whole = whole; few = by (some_state w) refl }
   where
+    whole : AreWhole (rate_for w) w
+    whole = own_whole p w follows.profile follows.whole
+
     by : (b : Bool) → some_state w ≡ b → AreFew (presets_after c reply b n) w
     by true live = follows.few n kept.few
-    by false dead = let none : AreFew n w = dead_few n w follows.whole dead in
+    by false dead = let none : AreFew n w = dead_few n w whole dead in
         elim (is_nak reply) as (λ nak. AreFew (if not nak && false then with_command c n else n) w) [ true ↦ none | false ↦ none ]
 
 -- ---- spans
@@ -311,7 +317,7 @@ abbrev pub most_spans : States → Register → ℕ
 most_spans v r = max (max (spans_in v r false false) (spans_in v r true false)) (max (spans_in v r false true) (spans_in v r true true))
 
 -- the times of a register in a part are those of its states
-are_times : (v : States) (r : Register) (l pn : Bool) → AreWhole v → AreTimes (Possible v) r l pn (entries_of r (part_of v l pn)).times
+are_times : (v : States) (r : Register) (l pn : Bool) → AreWhole (rate_for v) v → AreTimes (Possible v) r l pn (entries_of r (part_of v l pn)).times
 are_times v r l pn whole t = (
   λ there. part_of_entry v r l pn (At t) whole there,
   λ w. subst (λ e. Allows (entries_of r (part_of v l pn)) e) w.4 ((impossible v w.0 l pn w.2 w.3 w.1).registers r),
@@ -324,7 +330,7 @@ most_of f n e = let w : (f false ≡ n) ⊎ (f true ≡ n) = grind arith in elim
 is_one : (f : Bool → Bool → ℕ) (n : ℕ) → n ≡ max (max (f false false) (f true false)) (max (f false true) (f true true)) → (l pn : Bool) × (f l pn ≡ n)
 is_one f n e = let pn = most_of (λ pn. max (f false pn) (f true pn)) n e in let l = most_of (λ l. f l pn.0) n (sym pn.1) in (l.0, pn.0, l.1)
 
-pub span_count_is : (v : States) (r : Register) (n : ℕ) → AreWhole v → n ≡ most_spans v r → IsSpanCount (Possible v) r n
+pub span_count_is : (v : States) (r : Register) (n : ℕ) → AreWhole (rate_for v) v → n ≡ most_spans v r → IsSpanCount (Possible v) r n
 span_count_is v r n whole e = record {
   most = λ l pn times h. subst (λ s. span_count s ≤ n) (let here = are_times v r l pn whole in
       same_times _ times (λ t. same_test _ _ (λ x. (h t).1 ((here t).0 x)) (λ x. (here t).1 ((h t).0 x)))) (each l pn);
@@ -352,12 +358,12 @@ pub spans_off : (h : Halves) (r : Register) → max (span_count (entries_of r h.
     ≡ most_spans (panel_off h) r
 spans_off h r = sym (rw (dead r) (max-zero _))
   where
-    dead : (r : Register) → span_count (entries_of r no_states).times ≡ 0
+    dead : (r : Register) → span_count (entries_of r (no_states (rate_in h))).times ≡ 0
     dead RegIn = span_none
     dead _ = span_none
 
 pub spans_few : (v : States) (r : Register) (n : ℕ) (m : Presets) → AreFew m v → n ≡ most_spans v r → n ≤ count_of r m + 2
 spans_few v r n m few e =
     let each : (l pn : Bool) → spans_in v r l pn ≤ count_of r m + 2 =
-    λ l pn. omega (arith, span_count-begin_count (entries_of r (part_of v l pn)).times, few pn l r) in
+    λ l pn. omega (arith, span_count-begin_count (entries_of r (part_of v l pn)).rate (entries_of r (part_of v l pn)).times, few pn l r) in
     omega (arith, each false false, each true false, each false true, each true true)

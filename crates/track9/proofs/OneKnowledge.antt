@@ -1,5 +1,5 @@
 -- At most one thing is known of states, of which there is one.
-use Rattle.track9.proofs.Words.{ap, Bool, Ends, Exchange, Hands, HasRun, IsKnowledge, IsKnown, IsKnownEntry, Knowledge, Known, KnownEntry, List, Mode, refl, RegAudioIn}
+use Rattle.track9.proofs.Words.{ap, Bool, Ends, Exchange, Profile, HasRun, IsKnowledge, IsKnown, IsKnownEntry, Knowledge, Known, KnownEntry, List, Mode, refl, RegAudioIn}
 use Rattle.track9.proofs.Words.{RegAudioOut, RegIn, Register, RegOut, some_end, State, sym, ◌∙◌, ◌≡◌}
 use Rattle.deck9.specs.declared.knowledge.Known.TheVariants as known
 use Rattle.deck9.specs.declared.knowledge.KnownEntry.TheVariants as entry
@@ -25,14 +25,14 @@ entry_once X r entry.Clear entry.Unknown some h k = cc (h k.1 k.3, k.5)
 entry_once X r entry.Unknown entry.Clear some h k = cc (k h.1 h.3, h.5)
 entry_once X r _ _ some h k = cc (h some.0 some.1, k some.0 some.1)
 
-pub known_of_ends : (h : Hands) (es : List Exchange) (k l : Knowledge) → HasRun h es → IsKnowledge (Ends h es) k → IsKnowledge (Ends h es) l → k ≡ l
-known_of_ends h es k l run a b = by (λ q r s t u v w x. record { goal = q; shown = r; ins = s; outs = t; ains = u; aouts = v; local = w; panel = x })
+pub known_of_ends : (p : Profile) (es : List Exchange) (k l : Knowledge) → HasRun p es → IsKnowledge (Ends p es) k → IsKnowledge (Ends p es) l → k ≡ l
+known_of_ends p es k l run a b = by (λ q r s t u v w x. record { goal = q; shown = r; ins = s; outs = t; ains = u; aouts = v; local = w; panel = x })
   where
     X : State → Type 0
-    X = Ends h es
+    X = Ends p es
 
     some : (s : State) × X s
-    some = (some_end h es).1 run
+    some = (some_end p es).1 run
 
     by : (make : Known Mode → Known Mode → KnownEntry → KnownEntry → KnownEntry → KnownEntry → Known Bool → Known Bool → Knowledge)
         → make k.goal k.shown k.ins k.outs k.ains k.aouts k.local k.panel ≡ make l.goal l.shown l.ins l.outs l.ains l.aouts l.local l.panel

@@ -9,10 +9,12 @@ use Rattle.track9.proofs.Words.{KeepsRest, List, Mode, modes, ModeSet, Next, no_
 use Rattle.track9.proofs.Words.{pairs_from_drift, part_of, Part, Possible, Presets, Prev, refl, RegAudioIn, RegAudioOut, RegIn, Register, RegOut, Reset, same_entries, set_entries}
 use Rattle.track9.proofs.Words.{same_test, SetAt, settled, Some, some_entry, some_mode, some_pair, some_state, some_two, span_count-in_day, State, States, Stop, subst, sym}
 use Rattle.track9.proofs.Words.{Times, true, two_drifted, two_of, TwoBelow, TwoFew, Halves, TwoWhole, Whole, with_entries, with_entry, with_one, with_pairs, ℕ, ◌&&◌, ◌+◌, ◌||◌}
-use Rattle.track9.proofs.Words.{◌↔◌, ◌∙◌, ◌≡◌, ◌≤◌}
+use Rattle.track9.proofs.Words.{day, first_on, just_of, MayBeOn, nat_lt, Profile, Rate, rate_for, rate_in, rate_of, untouched, with_time, ◌<◌, ◌↔◌, ◌∙◌, ◌≡◌, ◌≤◌}
 use Rattle.std.specs.FinSet as set
 use Rattle.deck9.specs.declared.effect.Effect.TheVariants as effect
 use Rattle.deck9.specs.declared.state.Hands.TheVariants as hands
+use Rattle.std.proofs.Common.{◌/◌}
+use Rattle.tc25.specs.declared.rate.Rate.TheVariants.{Fps24, Fps25, Fps30, DropFrame}
 use Rattle.track9.proofs.EntryLemmas.{allowed_some, day_in, drifted_from, drifted_to, goes_from, in_day, no_entry, pair_by_goal, pairs_some, some_allowed}
 
 -- ---- registers
@@ -99,50 +101,50 @@ pub not_live : {P : Type 0} (p : Part) (s : State) → is_live p ≡ false → I
 not_live p s dead h = absurd (false≢true (sym dead ∙ state_live p s h))
 
 -- a live part has a state, whatever its local and panel
-pub a_state : (p : Part) (l pn : Bool) → Whole p → is_live p ≡ true → (s : State) × InPart p s × (s.local ≡ l) × (s.panel ≡ pn)
-a_state p l pn whole live =
+pub a_state : (rate : Rate) (p : Part) (l pn : Bool) → Whole rate p → is_live p ≡ true → (s : State) × InPart p s × (s.local ≡ l) × (s.panel ≡ pn)
+a_state rate p l pn whole live =
     let m = some_mode (goes p.pairs) live in let g = goes_from p.pairs m.0 m.1 in
-    let a = some_allowed p.ins (whole RegIn ∙ live) in let b = some_allowed p.outs (whole RegOut ∙ live) in
-    let c = some_allowed p.ains (whole RegAudioIn ∙ live) in let d = some_allowed p.aouts (whole RegAudioOut ∙ live) in
+    let a = some_allowed p.ins ((whole RegIn).0 ∙ live) in let b = some_allowed p.outs ((whole RegOut).0 ∙ live) in
+    let c = some_allowed p.ains ((whole RegAudioIn).0 ∙ live) in let d = some_allowed p.aouts ((whole RegAudioOut).0 ∙ live) in
     let s : State = record { goal = g.0; shown = m.0; ins = a.0; outs = b.0; ains = c.0; aouts = d.0; local = l; panel = pn } in
     (s, record { pair = g.1; registers = each_register _ a.1 b.1 c.1 d.1 }, refl, refl)
 
 -- ---- every state, and none
 
-pub entry_exactly : (e : Entry) → Allows all_entries e ↔ IsEntry e
-entry_exactly Clear = (λ h. tt, λ h. refl)
-entry_exactly (At t) = (in_day t, day_in t)
+pub entry_exactly : (rate : Rate) (e : Entry) → Allows (all_entries rate) e ↔ IsEntry rate e
+entry_exactly rate Clear = (λ h. tt, λ h. refl)
+entry_exactly rate (At t) = (in_day rate t, day_in rate t)
 
 -- those with these pairs, and all of them
-pub any_entries : (q : List ModeSet) (t : State) → InPart (with_pairs q all_states) t ↔ (IsState t × (has_pair q t.goal t.shown ≡ true))
-any_entries q t = (
+pub any_entries : (rate : Rate) (q : List ModeSet) (t : State) → InPart (with_pairs q (all_states rate)) t ↔ (IsState rate t × (has_pair q t.goal t.shown ≡ true))
+any_entries rate q t = (
   λ i. let r = i.registers in (
-    each_register _ ((entry_exactly t.ins).0 (r RegIn)) ((entry_exactly t.outs).0 (r RegOut))
-        ((entry_exactly t.ains).0 (r RegAudioIn)) ((entry_exactly t.aouts).0 (r RegAudioOut)),
+    each_register _ ((entry_exactly rate t.ins).0 (r RegIn)) ((entry_exactly rate t.outs).0 (r RegOut))
+        ((entry_exactly rate t.ains).0 (r RegAudioIn)) ((entry_exactly rate t.aouts).0 (r RegAudioOut)),
     i.pair,
   ),
   λ (h, pair). record {
     pair = pair;
-    registers = each_register _ ((entry_exactly t.ins).1 (h RegIn)) ((entry_exactly t.outs).1 (h RegOut))
-        ((entry_exactly t.ains).1 (h RegAudioIn)) ((entry_exactly t.aouts).1 (h RegAudioOut));
+    registers = each_register _ ((entry_exactly rate t.ins).1 (h RegIn)) ((entry_exactly rate t.outs).1 (h RegOut))
+        ((entry_exactly rate t.ains).1 (h RegAudioIn)) ((entry_exactly rate t.aouts).1 (h RegAudioOut));
   },
 )
 
-pub every_state : (t : State) → InPart all_states t ↔ IsState t
-every_state t = (
-  λ i. ((any_entries all_pairs t).0 i).0,
-  λ valid. (any_entries all_pairs t).1
+pub every_state : (rate : Rate) (t : State) → InPart (all_states rate) t ↔ IsState rate t
+every_state rate t = (
+  λ i. ((any_entries rate all_pairs t).0 i).0,
+  λ valid. (any_entries rate all_pairs t).1
       (valid, pair_by_goal (λ g. modes 0x3FF) t.goal t.shown ∙ all_has t.shown),
 )
 
-pub in_none : {P : Type 0} (t : State) → InPart no_states t → P
-in_none t h = absurd (false≢true (sym (pair_by_goal (λ g. modes 0) t.goal t.shown ∙ nothing_has t.shown) ∙ h.pair))
+pub in_none : {P : Type 0} (rate : Rate) (t : State) → InPart (no_states rate) t → P
+in_none rate t h = absurd (false≢true (sym (pair_by_goal (λ g. modes 0) t.goal t.shown ∙ nothing_has t.shown) ∙ h.pair))
 
 -- ---- a part without states is let go of
 
 pub settled_exactly : (p : Part) (t : State) → InPart (settled p) t ↔ InPart p t
 settled_exactly p t = (
-  λ i. cond_both _ p no_states (λ q. InPart q t → InPart p t) (λ e i. i) (λ e i. in_none t i) i,
+  λ i. cond_both _ p (no_states (rate_of p)) (λ q. InPart q t → InPart p t) (λ e i. i) (λ e i. in_none (rate_of p) t i) i,
   λ i. let a = i.registers in
       rw (
         state_live p t i,
@@ -156,28 +158,37 @@ settled_exactly p t = (
 
 -- ---- each factor of a part keeps something, or none does
 
-pub whole_put : (r : Register) (es : Entries) (p : Part) → Whole p → some_entry es ≡ is_live p → Whole (with_entries r es p)
-whole_put RegIn es p old new = each_put (λ q es. some_entry es ≡ is_live p) RegIn es p old new
-whole_put r es p old new = each_put (λ q es. some_entry es ≡ is_live p) r es p old new
+pub whole_put : (rate : Rate) (r : Register) (es : Entries) (p : Part) → Whole rate p → some_entry es ≡ is_live p → es.rate ≡ rate
+    → Whole rate (with_entries r es p)
+whole_put rate RegIn es p old new same = each_put (λ q es. (some_entry es ≡ is_live p) × (es.rate ≡ rate)) RegIn es p old (new, same)
+whole_put rate r es p old new same = each_put (λ q es. (some_entry es ≡ is_live p) × (es.rate ≡ rate)) r es p old (new, same)
 
-pub whole_pairs : (q : List ModeSet) (p : Part) → Whole p → some_pair q ≡ is_live p → Whole (with_pairs q p)
-whole_pairs q p old same = rw same (each_register _ (old RegIn) (old RegOut) (old RegAudioIn) (old RegAudioOut))
+pub whole_pairs : (rate : Rate) (q : List ModeSet) (p : Part) → Whole rate p → some_pair q ≡ is_live p → Whole rate (with_pairs q p)
+whole_pairs rate q p old same = rw same (each_register _ (old RegIn) (old RegOut) (old RegAudioIn) (old RegAudioOut))
 
-pub whole_all : Whole all_states
-whole_all RegIn = refl
-whole_all _ = refl
+pub whole_all : (rate : Rate) → Whole rate (all_states rate)
+whole_all rate RegIn = (refl, refl)
+whole_all rate _ = (refl, refl)
 
-pub whole_none : Whole no_states
-whole_none RegIn = no_entry
-whole_none _ = no_entry
+pub whole_none : (rate : Rate) → Whole rate (no_states rate)
+whole_none rate RegIn = (no_entry rate, refl)
+whole_none rate _ = (no_entry rate, refl)
 
-pub whole_settled : (p : Part) → Whole (settled p)
-whole_settled p = cond_both _ p no_states Whole (λ e.
+-- the entries of each register have the times of one rate
+abbrev pub OfRate : Rate → Part → Type 0
+OfRate rate p = (r : Register) → (entries_of r p).rate ≡ rate
+
+pub of_rate : (rate : Rate) (p : Part) → Whole rate p → OfRate rate p
+of_rate rate p whole r = (whole r).1
+
+pub whole_settled : (rate : Rate) (p : Part) → OfRate rate p → Whole rate (settled p)
+whole_settled rate p same = cond_both _ p (no_states (rate_of p)) (Whole rate) (λ e.
     let d = and_parts (is_live p && some_entry p.ins && some_entry p.outs && some_entry p.ains) (some_entry p.aouts) e in
     let c = and_parts (is_live p && some_entry p.ins && some_entry p.outs) (some_entry p.ains) d.0 in
     let b = and_parts (is_live p && some_entry p.ins) (some_entry p.outs) c.0 in
     let a = and_parts (is_live p) (some_entry p.ins) b.0 in
-    each_register _ (a.1 ∙ sym a.0) (b.1 ∙ sym a.0) (c.1 ∙ sym a.0) (d.1 ∙ sym a.0)) (λ e. whole_none)
+    each_register _ (a.1 ∙ sym a.0, same RegIn) (b.1 ∙ sym a.0, same RegOut) (c.1 ∙ sym a.0, same RegAudioIn) (d.1 ∙ sym a.0, same RegAudioOut))
+    (λ e. subst (λ other. Whole rate (no_states other)) (sym (same RegIn)) (whole_none rate))
 
 -- a drift leaves a state, and makes none from nothing
 pub drift_some : (p : List ModeSet) → some_pair (drifted p) ≡ some_pair p
@@ -187,76 +198,112 @@ drift_some p = same_test (some_pair (drifted p)) (some_pair p)
     (λ h. let m = some_mode (goes p) h in let g = goes_from p m.0 m.1 in
     pairs_some (drifted p) g.0 m.0 (pair_by_goal (drifted_with p) g.0 m.0 ∙ drifted_to p g.0 m.0 g.0 m.0 g.1 (inl (refl, inl refl))))
 
-pub whole_drift : (p : Part) → Whole p → Whole (drifted_part p)
-whole_drift p whole = whole_pairs (drifted p.pairs) p whole (drift_some p.pairs)
+pub whole_drift : (rate : Rate) (p : Part) → Whole rate p → Whole rate (drifted_part p)
+whole_drift rate p whole = whole_pairs rate (drifted p.pairs) p whole (drift_some p.pairs)
 
 -- ---- two parts
 
-pub whole_two : (b : Bool) → TwoWhole (all_or_none b)
-whole_two true = record { remote = whole_all; local = whole_all }
-whole_two false = record { remote = whole_none; local = whole_none }
+pub whole_two : (rate : Rate) (b : Bool) → TwoWhole rate (all_or_none rate b)
+whole_two rate true = record { remote = whole_all rate; local = whole_all rate }
+whole_two rate false = record { remote = whole_none rate; local = whole_none rate }
 
-pub whole_in : (h : Halves) → TwoWhole h → (l : Bool) → Whole (in_local h l)
-whole_in h whole false = whole.remote
-whole_in h whole true = whole.local
+pub one_rate : (rate : Rate) (b : Bool) → rate_in (all_or_none rate b) ≡ rate
+one_rate rate true = refl
+one_rate rate false = refl
 
-pub whole_of : (v : States) → AreWhole v → (pn : Bool) → TwoWhole (two_of v pn)
-whole_of v whole false = whole.off
-whole_of v whole true = whole.on
+pub whole_in : (rate : Rate) (h : Halves) → TwoWhole rate h → (l : Bool) → Whole rate (in_local h l)
+whole_in rate h whole false = whole.remote
+whole_in rate h whole true = whole.local
 
-pub part_whole : (v : States) → AreWhole v → (l pn : Bool) → Whole (part_of v l pn)
-part_whole v whole l pn = whole_in (two_of v pn) (whole_of v whole pn) l
+-- the rate of what is whole
+pub two_rate : (rate : Rate) (h : Halves) → TwoWhole rate h → rate_in h ≡ rate
+two_rate rate h whole = (whole.remote RegIn).1
+
+-- by their own rate
+pub own_part : (rate : Rate) (p : Part) → Whole rate p → Whole (rate_of p) p
+own_part rate p whole = subst (λ other. Whole other p) (sym (whole RegIn).1) whole
+
+pub own_two : (rate : Rate) (h : Halves) → TwoWhole rate h → TwoWhole (rate_in h) h
+own_two rate h whole = subst (λ other. TwoWhole other h) (sym (two_rate rate h whole)) whole
+
+pub own_on : (v : States) (h : Halves) → AreWhole (rate_for v) v → v.on ≡ Some h → TwoWhole (rate_in h) h
+own_on v h whole on = own_two (rate_for v) h (subst (λ o. TwoWhole (rate_for v) (on_two (rate_for v) o)) on whole.on)
+
+pub all_rate : (rate : Rate) (v : States) → AreWhole rate v → rate_for v ≡ rate
+all_rate rate v whole = two_rate rate v.off whole.off
+
+pub whole_of : (rate : Rate) (v : States) → AreWhole rate v → (pn : Bool) → TwoWhole rate (two_of v pn)
+whole_of rate v whole false = whole.off
+whole_of rate v whole true = rw (all_rate rate v whole) whole.on
+
+pub part_whole : (rate : Rate) (v : States) → AreWhole rate v → (l pn : Bool) → Whole rate (part_of v l pn)
+part_whole rate v whole l pn = whole_in rate (two_of v pn) (whole_of rate v whole pn) l
 
 -- ---- how often the times of a register begin: at most once more than there were presets to it
 
 -- no more beginnings than this
 abbrev pub FewTimes : ℕ → Entries → Type 0
-FewTimes n es = begin_count es.times ≤ n + 1
+FewTimes n es = begin_count es.rate es.times ≤ n + 1
 
 -- each register of a part, taken in this way
 abbrev pub FewIn : Presets → Part → Type 0
 FewIn n p = (r : Register) → FewTimes (count_of r n) (entries_of r p)
 
-pub few_all_states : (n : Presets) → FewIn n all_states
-few_all_states n RegIn = omega (arith, begin_count-every_time)
-few_all_states n _ = omega (arith, begin_count-every_time)
+pub few_all_states : (rate : Rate) (n : Presets) → FewIn n (all_states rate)
+few_all_states rate n RegIn = omega (arith, begin_count-every_time rate)
+few_all_states rate n _ = omega (arith, begin_count-every_time rate)
 
-pub few_no_states : (n : Presets) → FewIn n no_states
-few_no_states n RegIn = omega (arith, begin_count-empty)
-few_no_states n _ = omega (arith, begin_count-empty)
+pub few_no_states : (rate : Rate) (n : Presets) → FewIn n (no_states rate)
+few_no_states rate n RegIn = omega (arith, begin_count-empty rate)
+few_no_states rate n _ = omega (arith, begin_count-empty rate)
+
+-- one time of the day, and one more
+pub few_just : (rate : Rate) (t : ℕ) → begin_count rate (just_of rate t) ≤ 1
+few_just rate t = cond_both (nat_lt t (day rate)) (just t) set.empty (λ s. begin_count rate s ≤ 1) (λ e. begin_count-just rate t)
+    (λ e. omega (arith, begin_count-empty rate))
+
+few_with : (rate : Rate) (s : Times) (t : ℕ) → begin_count rate (with_time rate s t) ≤ begin_count rate s + 1
+few_with rate s t = cond_both (nat_lt t (day rate)) (set.insert s t) s (λ w. begin_count rate w ≤ begin_count rate s + 1)
+    (λ e. begin_count-insert rate s t) (λ e. omega arith)
 
 pub few_agreeing : (n : ℕ) (o : Option ℕ) (es : Entries) → FewTimes n (agreeing o es)
-few_agreeing n None es = omega (arith, begin_count-empty)
-few_agreeing n (Some t) es = cond_both (set.contains es.times t) (just t) set.empty (λ s. begin_count s ≤ n + 1) (λ e. omega (arith, begin_count-just t))
-    (λ e. omega (arith, begin_count-empty))
+few_agreeing n None es = omega (arith, begin_count-empty es.rate)
+few_agreeing n (Some t) es = cond_both (set.contains es.times t) (just_of es.rate t) set.empty (λ s. begin_count es.rate s ≤ n + 1)
+    (λ e. omega (arith, few_just es.rate t)) (λ e. omega (arith, begin_count-empty es.rate))
 
 pub few_set : (n : ℕ) (b : Bool) (es : Entries) → FewTimes n es → FewTimes n (set_entries b es)
 few_set n true es h = h
-few_set n false es h = omega (arith, begin_count-empty)
+few_set n false es h = omega (arith, begin_count-empty es.rate)
 
 -- the presets to a register after one more change
 abbrev pub counted_to : Change → ℕ → ℕ
 counted_to (SetAt t) n = one_more n
 counted_to _ n = n
 
--- a day has fewer beginnings than can be counted
-few_in_day : (s : Times) → BelowDay s → begin_count s ≤ 1080000
-few_in_day s below = omega (arith, begin_count-span_count s, span_count-in_day s below)
+half_day : (rate : Rate) → day rate / 2 ≤ 1296000
+half_day Fps24 = omega arith
+half_day Fps25 = omega arith
+half_day Fps30 = omega arith
+half_day DropFrame = omega arith
 
-few_changed : (may_stay : Bool) (c : Change) (es : Entries) (n : ℕ) → BelowDay es.times → FewTimes n es
+-- a day has fewer beginnings than can be counted
+few_in_day : (rate : Rate) (s : Times) → BelowDay rate s → begin_count rate s ≤ 1296000
+few_in_day rate s below = omega (arith, begin_count-span_count rate s, span_count-in_day rate s below, half_day rate)
+
+few_changed : (may_stay : Bool) (c : Change) (es : Entries) (n : ℕ) → BelowDay es.rate es.times → FewTimes n es
     → FewTimes (counted_to c n) (changed_entries may_stay c es)
-few_changed false (SetAt t) es n below h = omega (arith, begin_count-just t)
-few_changed true (SetAt t) es n below h = omega (arith, begin_count-insert es.times t, h, few_in_day es.times below)
-few_changed false Next es n below h = omega (arith, begin_count-next es.times below, h)
-few_changed true Next es n below h = omega (arith, begin_count-widened_next es.times below, h)
-few_changed false Prev es n below h = omega (arith, begin_count-prev es.times below, h)
-few_changed true Prev es n below h = omega (arith, begin_count-widened_prev es.times below, h)
-few_changed false Reset es n below h = omega (arith, begin_count-empty)
+few_changed false (SetAt t) es n below h = omega (arith, few_just es.rate t)
+few_changed true (SetAt t) es n below h = omega (arith, few_with es.rate es.times t, h, few_in_day es.rate es.times below)
+few_changed false Next es n below h = omega (arith, begin_count-next es.rate es.times below, h)
+few_changed true Next es n below h = omega (arith, begin_count-widened_next es.rate es.times below, h)
+few_changed false Prev es n below h = omega (arith, begin_count-prev es.rate es.times below, h)
+few_changed true Prev es n below h = omega (arith, begin_count-widened_prev es.rate es.times below, h)
+few_changed false Reset es n below h = omega (arith, begin_count-empty es.rate)
 few_changed true Reset es n below h = h
-few_changed _ _ es n below h = omega (arith, begin_count-every_time)
+few_changed _ _ es n below h = omega (arith, begin_count-every_time es.rate)
 
 pub few_settled : (n : Presets) (p : Part) → FewIn n p → FewIn n (settled p)
-few_settled n p h = cond_both _ p no_states (FewIn n) (λ e. h) (λ e. few_no_states n)
+few_settled n p h = cond_both _ p (no_states (rate_of p)) (FewIn n) (λ e. h) (λ e. few_no_states (rate_of p) n)
 
 pub few_put : (n : Presets) (r : Register) (es : Entries) (p : Part) → FewIn n p → FewTimes (count_of r n) es → FewIn n (with_entries r es p)
 few_put n r es p old new = each_put (λ q es. FewTimes (count_of q n) es) r es p old new
@@ -267,38 +314,41 @@ count_more (SetAt t) RegIn n = refl
 count_more (SetAt t) _ n = refl
 count_more _ r n = refl
 
+-- the times of each register are times of the day
+abbrev pub PartBelow : Part → Type 0
+PartBelow p = (r : Register) → BelowDay (entries_of r p).rate (entries_of r p).times
+
 -- one preset more
-few_one_more : (n : Presets) (r q : Register) (p : Part) → ((q : Register) → BelowDay (entries_of q p).times) → FewIn n p
-    → FewTimes (count_of q (with_one r n)) (entries_of q p)
-few_one_more n RegIn RegIn p below h = omega (arith, h RegIn, few_in_day p.ins.times (below RegIn))
-few_one_more n RegOut RegOut p below h = omega (arith, h RegOut, few_in_day p.outs.times (below RegOut))
-few_one_more n RegAudioIn RegAudioIn p below h = omega (arith, h RegAudioIn, few_in_day p.ains.times (below RegAudioIn))
-few_one_more n RegAudioOut RegAudioOut p below h = omega (arith, h RegAudioOut, few_in_day p.aouts.times (below RegAudioOut))
+few_one_more : (n : Presets) (r q : Register) (p : Part) → PartBelow p → FewIn n p → FewTimes (count_of q (with_one r n)) (entries_of q p)
+few_one_more n RegIn RegIn p below h = omega (arith, h RegIn, few_in_day p.ins.rate p.ins.times (below RegIn))
+few_one_more n RegOut RegOut p below h = omega (arith, h RegOut, few_in_day p.outs.rate p.outs.times (below RegOut))
+few_one_more n RegAudioIn RegAudioIn p below h = omega (arith, h RegAudioIn, few_in_day p.ains.rate p.ains.times (below RegAudioIn))
+few_one_more n RegAudioOut RegAudioOut p below h = omega (arith, h RegAudioOut, few_in_day p.aouts.rate p.aouts.times (below RegAudioOut))
 few_one_more n _ q p below h = h q
 
 -- what has to be known of the times of a part before an effect
 abbrev pub Below : Effect → Part → Type 0
-Below (effect.Change r c) p = (q : Register) → BelowDay (entries_of q p).times
+Below (effect.Change r c) p = PartBelow p
 Below _ p = Unit {0}
 
 pub few_counted : (e : Effect) (n : Presets) (p : Part) → Below e p → FewIn n p → FewIn (counted e n) p
 few_counted (effect.Change r (SetAt t)) n p below h = λ q. few_one_more n r q p below h
 few_counted _ n p below h = h
 
-pub few_changed_part : (may_stay : Bool) (r : Register) (c : Change) (n : Presets) (p : Part) → ((q : Register) → BelowDay (entries_of q p).times)
+pub few_changed_part : (may_stay : Bool) (r : Register) (c : Change) (n : Presets) (p : Part) → PartBelow p
     → FewIn n p → FewIn (counted (effect.Change r c) n) (changed_part may_stay r c p)
 few_changed_part may_stay r c n p below h =
     few_put (counted (effect.Change r c) n) r (changed_entries may_stay c (entries_of r p)) p (few_counted (effect.Change r c) n p below h)
     (subst (λ k. FewTimes k (changed_entries may_stay c (entries_of r p))) (sym (count_more c r n))
     (few_changed may_stay c (entries_of r p) (count_of r n) (below r) (h r)))
 
-pub few_two : (n : Presets) (b : Bool) → TwoFew n (all_or_none b)
-few_two n true false = few_all_states n
-few_two n true true = few_all_states n
-few_two n false false = few_no_states n
-few_two n false true = few_no_states n
+pub few_two : (rate : Rate) (n : Presets) (b : Bool) → TwoFew n (all_or_none rate b)
+few_two rate n true false = few_all_states rate n
+few_two rate n true true = few_all_states rate n
+few_two rate n false false = few_no_states rate n
+few_two rate n false true = few_no_states rate n
 
-pub both_few : (n : Presets) (v : States) → TwoFew n v.off → TwoFew n (on_two v.on) → AreFew n v
+pub both_few : (n : Presets) (v : States) → TwoFew n v.off → TwoFew n (on_two (rate_for v) v.on) → AreFew n v
 both_few n v off on false = off
 both_few n v off on true = on
 
@@ -309,33 +359,33 @@ pub drift_few : (n : Presets) (h : Halves) → TwoFew n h → TwoFew n (two_drif
 drift_few n h few false = few_pairs n (drifted h.remote.pairs) h.remote (few false)
 drift_few n h few true = few_pairs n (drifted h.local.pairs) h.local (few true)
 
-pub drift_whole : (h : Halves) → TwoWhole h → TwoWhole (two_drifted h)
-drift_whole h whole = record { remote = whole_drift h.remote whole.remote; local = whole_drift h.local whole.local }
+pub drift_whole : (rate : Rate) (h : Halves) → TwoWhole rate h → TwoWhole rate (two_drifted h)
+drift_whole rate h whole = record { remote = whole_drift rate h.remote whole.remote; local = whole_drift rate h.local whole.local }
 
 pub drift_below : (h : Halves) → TwoBelow h → TwoBelow (two_drifted h)
 drift_below h below false = let b = below false in each_register _ (b RegIn) (b RegOut) (b RegAudioIn) (b RegAudioOut)
 drift_below h below true = let b = below true in each_register _ (b RegIn) (b RegOut) (b RegAudioIn) (b RegAudioOut)
 
 -- every state is one of all, and none is one of none
-pub all_exactly : (b : Bool) (t : State) → InPart (in_local (all_or_none b) t.local) t ↔ ((b ≡ true) × IsState t)
-all_exactly b t = by b t.local
+pub all_exactly : (rate : Rate) (b : Bool) (t : State) → InPart (in_local (all_or_none rate b) t.local) t ↔ ((b ≡ true) × IsState rate t)
+all_exactly rate b t = by b t.local
   where
-    by : (b l : Bool) → InPart (in_local (all_or_none b) l) t ↔ ((b ≡ true) × IsState t)
-    by true false = (λ i. (refl, (every_state t).0 i), λ w. (every_state t).1 w.1)
-    by true true = (λ i. (refl, (every_state t).0 i), λ w. (every_state t).1 w.1)
-    by false false = (λ i. in_none t i, λ w. absurd (false≢true w.0))
-    by _ _ = (λ i. in_none t i, λ w. absurd (false≢true w.0))
+    by : (b l : Bool) → InPart (in_local (all_or_none rate b) l) t ↔ ((b ≡ true) × IsState rate t)
+    by true false = (λ i. (refl, (every_state rate t).0 i), λ w. (every_state rate t).1 w.1)
+    by true true = (λ i. (refl, (every_state rate t).0 i), λ w. (every_state rate t).1 w.1)
+    by false false = (λ i. in_none rate t i, λ w. absurd (false≢true w.0))
+    by _ _ = (λ i. in_none rate t i, λ w. absurd (false≢true w.0))
 
-pub two_none : {P : Type 0} (t : State) → InPart (in_local (all_or_none false) t.local) t → P
-two_none t i = absurd (false≢true ((all_exactly false t).0 i).0)
+pub two_none : {P : Type 0} (rate : Rate) (t : State) → InPart (in_local (all_or_none rate false) t.local) t → P
+two_none rate t i = absurd (false≢true ((all_exactly rate false t).0 i).0)
 
 -- a state is possible exactly where it is in the part of its local and panel
 possible_part : (v : States) (s : State) (pn : Bool) → IsIn (if pn then v.on else Some v.off) s ↔ InPart (part_of v s.local pn) s
 possible_part v s false = (λ h. h, λ h. h)
 possible_part v s true = by v.on
   where
-    by : (o : Option Halves) → IsIn o s ↔ InPart (in_local (on_two o) s.local) s
-    by None = (λ h. absurd h, two_none s)
+    by : (o : Option Halves) → IsIn o s ↔ InPart (in_local (on_two (rate_for v) o) s.local) s
+    by None = (λ h. absurd h, two_none (rate_for v) s)
     by (Some g) = (λ h. h, λ h. h)
 
 pub possible : (v : States) (s : State) (l pn : Bool) → s.local ≡ l → s.panel ≡ pn → InPart (part_of v l pn) s → Possible v s
@@ -355,7 +405,7 @@ of_two v s pn h = possible v s s.local pn refl h.0 h.1
 -- a step that keeps the panel is one of each value of it
 pub by_panel : (Goes : State → State → Type 0) → ((s t : State) → Goes s t → t.panel ≡ s.panel) → (v w : States)
     → AreReached (InTwo false v.off) Goes (InTwo false w.off)
-    → AreReached (InTwo true (on_two v.on)) Goes (InTwo true (on_two w.on)) → AreReached (Possible v) Goes (Possible w)
+    → AreReached (InTwo true (on_two (rate_for v) v.on)) Goes (InTwo true (on_two (rate_for w) w.on)) → AreReached (Possible v) Goes (Possible w)
 by_panel Goes keeps v w off on = (
   λ t h. let a = (each t.panel).0 t (to_two w t t.panel refl h) in (a.0, of_two v a.0 t.panel a.1, a.2),
   λ s t h goes. of_two w t s.panel ((each s.panel).1 s t (to_two v s s.panel refl h) goes),
@@ -367,43 +417,46 @@ by_panel Goes keeps v w off on = (
 
 -- ---- a drift
 
-entry_is : (es : Entries) (e : Entry) → BelowDay es.times → Allows es e → IsEntry e
-entry_is es Clear below a = tt
-entry_is es (At t) below a = below t a
+entry_is : (rate : Rate) (es : Entries) (e : Entry) → es.rate ≡ rate → BelowDay es.rate es.times → Allows es e → IsEntry rate e
+entry_is rate es Clear same below a = tt
+entry_is rate es (At t) same below a = subst (λ other. t < day other) same (below t a)
 
-pub state_is : (p : Part) (s : State) → ((r : Register) → BelowDay (entries_of r p).times) → InPart p s → IsState s
-state_is p s below i = λ r. entry_is (entries_of r p) (entry_of r s) (below r) (i.registers r)
+pub state_is : (rate : Rate) (p : Part) (s : State) → OfRate rate p → PartBelow p → InPart p s → IsState rate s
+state_is rate p s same below i = λ r. entry_is rate (entries_of r p) (entry_of r s) (same r) (below r) (i.registers r)
 
 -- where nobody touches the panel a drift is one of the mechanics
-pub mechanics : (s t : State) → Drift hands.None s t → KeepsRest s t × PairReaches s.goal s.shown t.goal t.shown
-mechanics s t d = elim (pairs_from_drift hands.None s t d) [ inl kept ↦ kept | inr hand ↦ cc ]
+pub mechanics : (rate : Rate) (s t : State) → Drift (untouched rate) s t → KeepsRest s t × PairReaches s.goal s.shown t.goal t.shown
+mechanics rate s t d = elim (pairs_from_drift (untouched rate) s t d) [ inl kept ↦ kept | inr hand ↦ cc ]
 
 -- and it is one with hands too, unless the panel is on
-pub same_drift : (h : Hands) (s t : State) → Drift hands.None s t → Drift h s t
-same_drift h s t d = drift_from_pairs h s t (inl (mechanics s t d))
+pub same_drift : (p : Profile) (s t : State) → Drift (untouched p.rate) s t → Drift p s t
+same_drift p s t d = drift_from_pairs p s t (inl (mechanics p.rate s t d))
 
-pub off_drift : (h : Hands) (s t : State) → s.panel ≡ false → Drift h s t → Drift hands.None s t
-off_drift h s t off d =
-    elim (pairs_from_drift h s t d) [
-      | inl kept ↦ drift_from_pairs hands.None s t (inl kept)
+pub off_drift : (p : Profile) (s t : State) → s.panel ≡ false → Drift p s t → Drift (untouched p.rate) s t
+off_drift p s t off d =
+    elim (pairs_from_drift p s t d) [
+      | inl kept ↦ drift_from_pairs (untouched p.rate) s t (inl kept)
       | inr (allowed, on, still, valid) ↦ absurd
           (false≢true (sym off ∙ on))
     ]
 
 -- a drift keeps the panel
-pub drift_panel : (h : Hands) (s d : State) → Drift h s d → d.panel ≡ s.panel
-drift_panel h s d drift = elim (pairs_from_drift h s d drift)
+pub drift_panel : (p : Profile) (s d : State) → Drift p s d → d.panel ≡ s.panel
+drift_panel p s d drift = elim (pairs_from_drift p s d drift)
     [ inl kept ↦ ap (λ (u : State). u.panel) kept.0 | inr (allowed, before, after, valid) ↦ after ∙ sym before ]
 
 -- and leads from states of the day to such states
-pub drift_state : (h : Hands) (s d : State) → IsState s → Drift h s d → IsState d
-drift_state h s d valid drift = elim (pairs_from_drift h s d drift) [ inl kept ↦ same_entries s d kept.0 valid | inr (allowed, before, after, there) ↦ there ]
+pub drift_state : (p : Profile) (s d : State) → IsState p.rate s → Drift p s d → IsState p.rate d
+drift_state p s d valid drift = elim (pairs_from_drift p s d drift)
+    [ inl kept ↦ same_entries p.rate s d kept.0 valid | inr (allowed, before, after, there) ↦ there ]
 
 -- a state of a set is one of the day
-pub possible_state : (v : States) (s : State) → AreBelow v → Possible v s → IsState s
-possible_state v s below i = state_is (part_of v s.local s.panel) s (by s.panel s.local) (impossible v s s.local s.panel refl refl i)
+pub possible_state : (rate : Rate) (v : States) (s : State) → AreWhole rate v → AreBelow v → Possible v s → IsState rate s
+possible_state rate v s whole below i =
+    state_is rate (part_of v s.local s.panel) s (of_rate rate (part_of v s.local s.panel) (part_whole rate v whole s.local s.panel))
+    (by s.panel s.local) (impossible v s s.local s.panel refl refl i)
   where
-    by : (pn l : Bool) (r : Register) → BelowDay (entries_of r (part_of v l pn)).times
+    by : (pn l : Bool) → PartBelow (part_of v l pn)
     by false l = below.off l
     by true l = below.on l
 
@@ -421,27 +474,28 @@ some_way f h = elim (or_cases _ _ h) [ inl a ↦ (false, a) | inr a ↦ (true, a
 pub two_live : (h : Halves) (s : State) → InPart (in_local h s.local) s → some_two h ≡ true
 two_live h s i = any_way (λ l. is_live (in_local h l)) s.local (state_live (in_local h s.local) s i)
 
-pub two_state : (h : Halves) (pn : Bool) → TwoWhole h → some_two h ≡ true → (s : State) × InTwo pn h s
-two_state h pn whole live =
+pub two_state : (rate : Rate) (h : Halves) (pn : Bool) → TwoWhole rate h → some_two h ≡ true → (s : State) × InTwo pn h s
+two_state rate h pn whole live =
     let l = some_way (λ l. is_live (in_local h l)) live in
-    let w = a_state (in_local h l.0) l.0 pn (whole_in h whole l.0) l.1 in (w.0, (w.3, subst (λ l. InPart (in_local h l) w.0) (sym w.2) w.1))
+    let w = a_state rate (in_local h l.0) l.0 pn (whole_in rate h whole l.0) l.1 in (w.0, (w.3, subst (λ l. InPart (in_local h l) w.0) (sym w.2) w.1))
 
 -- ---- all states
 
 pub some_live : (v : States) (s : State) → Possible v s → some_state v ≡ true
 some_live v s i = any_way (λ pn. some_two (two_of v pn)) s.panel (two_live (two_of v s.panel) s (impossible v s s.local s.panel refl refl i))
 
-pub live_some : (v : States) → AreWhole v → some_state v ≡ true → (s : State) × Possible v s
-live_some v whole live =
+pub live_some : (rate : Rate) (v : States) → AreWhole rate v → some_state v ≡ true → (s : State) × Possible v s
+live_some rate v whole live =
     let pn = some_way (λ pn. some_two (two_of v pn)) live in
-    let w = two_state (two_of v pn.0) pn.0 (whole_of v whole pn.0) pn.1 in (w.0, of_two v w.0 pn.0 w.1)
+    let w = two_state rate (two_of v pn.0) pn.0 (whole_of rate v whole pn.0) pn.1 in (w.0, of_two v w.0 pn.0 w.1)
 
 -- the first states
-pub first_exactly : (h : Hands) (s : State) → Possible (first_states h) s ↔ IsFirst h s
-first_exactly h s = by h s.panel refl
+pub first_exactly : (p : Profile) (s : State) → Possible (first_states p) s ↔ IsFirst p s
+first_exactly p s = by p.hands s.panel refl
   where
-    by : (h : Hands) (pn : Bool) → s.panel ≡ pn → IsIn (if pn then (first_states h).on else Some (first_states h).off) s ↔ IsFirst h s
-    by hands.None false off = (λ i. (((all_exactly true s).0 i).1, off), λ w. (all_exactly true s).1 (refl, w.0))
+    by : (h : Hands) (pn : Bool) → s.panel ≡ pn
+        → IsIn (if pn then first_on p.rate h else Some (all_or_none p.rate true)) s ↔ (IsState p.rate s × MayBeOn h s.panel)
+    by hands.None false off = (λ i. (((all_exactly p.rate true s).0 i).1, off), λ w. (all_exactly p.rate true s).1 (refl, w.0))
     by hands.None true on = (λ i. absurd i, λ w. absurd (false≢true (sym w.1 ∙ on)))
-    by hands.Allowed false off = (λ i. ((all_exactly true s).0 i).1, λ w. (all_exactly true s).1 (refl, w))
-    by hands.Allowed true on = (λ i. ((all_exactly true s).0 i).1, λ w. (all_exactly true s).1 (refl, w))
+    by hands.Allowed false off = (λ i. (((all_exactly p.rate true s).0 i).1, tt), λ w. (all_exactly p.rate true s).1 (refl, w.0))
+    by hands.Allowed true on = (λ i. (((all_exactly p.rate true s).0 i).1, tt), λ w. (all_exactly p.rate true s).1 (refl, w.0))

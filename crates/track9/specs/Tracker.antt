@@ -8,7 +8,8 @@ use Rattle.deck9.specs.declared.mode_set.ModeSet.{ModeSet}
 use Rattle.track9.specs.Presets.{Presets}
 use Rattle.deck9.specs.declared.state.Entry.{Entry}
 use Rattle.deck9.specs.declared.state.Entry.TheVariants.{Clear, At}
-use Rattle.deck9.specs.declared.state.Hands.{Hands}
+use Rattle.deck9.specs.declared.profile.Profile.{Profile}
+use Rattle.tc25.specs.declared.rate.Rate.{Rate}
 use Rattle.deck9.specs.declared.state.Register.{Register}
 use Rattle.deck9.specs.declared.state.Register.TheVariants.{RegIn, RegOut, RegAudioIn, RegAudioOut}
 use Rattle.deck9.specs.declared.state.State.{State}
@@ -20,6 +21,8 @@ use Rattle.deck9.specs.State.{entry_of}
 pub record Entries : Type 0 where
   pub may_clear : Bool
   pub times : Times
+  -- the rate whose times these are
+  pub rate : Rate
 
 -- one of these entries
 abbrev pub Allows : Entries → Entry → Type 0
@@ -78,8 +81,8 @@ IsIn (Some h) s = InPart (in_local h s.local) s
 abbrev pub Possible : States → State → Type 0
 Possible v s = IsIn (if s.panel then v.on else Some v.off) s
 
--- a tracker: the states that are possible, whether hands are allowed, and the presets that were counted
+-- a tracker: the states that are possible, what the deck is taken for, and the presets that were counted
 pub record Tracked : Type 0 where
   pub states : States
-  pub hands : Hands
+  pub profile : Profile
   pub presets : Presets

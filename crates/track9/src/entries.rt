@@ -12,7 +12,7 @@ use deck9::{Change, Entry, KnownEntry};
 use sets25::{SpanSet, TimeSet};
 use std::alloc::{AllocError, Global};
 use std::marker::Model;
-use tc25::TimeCode;
+use tc25::{Rate, TimeCode};
 
 /// The entries that a register may have.
 #[derive(Drop)]
@@ -31,49 +31,57 @@ impl<S: TimeSet> Model for Entries<S> {
 
     ghost use Rattle.sets25.specs.Times.{BelowDay};
 
-    ghost view = { λ r. record { may_clear = r.may_clear; times = S.members r.times } };
+    ghost view = { λ r. record { may_clear = r.may_clear; times = S.members r.times; rate = S.own_rate r.times } };
 
-    ghost invariant = { λ r. BelowDay (S.members r.times) };
+    ghost invariant = { λ r. BelowDay (S.own_rate r.times) (S.members r.times) };
 }
 
 impl<S: TimeSet> Entries<S> {
     /// No entry. Takes no memory.
-    pub(crate) fn none(alloc: Global) -> Entries<S>
-        ensures { result ≡ no_entries }
+    pub(crate) fn none(alloc: Global, rate: Rate) -> Entries<S>
+        ensures { result ≡ no_entries rate }
     {
         Entries {
             may_clear: false,
-            times: S::none(alloc),
+            times: S::none_at(alloc, rate),
         }
     }
 
     /// Every entry.
-    pub(crate) fn all(alloc: Global) -> Result<Entries<S>, AllocError>
-        ensures { IfOk result (λ r. r ≡ all_entries) }
+    pub(crate) fn all(alloc: Global, rate: Rate) -> Result<Entries<S>, AllocError>
+        ensures { IfOk result (λ r. r ≡ all_entries rate) }
     {
         Ok(Entries {
             may_clear: true,
-            times: S::all(alloc)?,
+            times: S::all_at(alloc, rate)?,
         })
+    }
+
+    /// The rate whose times these are.
+    pub(crate) fn rate(&self) -> Rate
+        ensures { result ≡ self.now.rate }
+    {
+        self.times.rate()
     }
 
     /// The entry that is known, or every one where none is.
     pub(crate) fn known_to_be(
         alloc: Global,
+        rate: Rate,
         known: &Option<Entry>,
     ) -> Result<Entries<S>, AllocError>
-        ensures { IfOk result (λ r. r ≡ entries_known known.now) }
+        ensures { IfOk result (λ r. r ≡ entries_known rate known.now) }
     {
         match known {
             Some(Entry::Clear) => Ok(Entries {
                 may_clear: true,
-                times: S::none(alloc),
+                times: S::none_at(alloc, rate),
             }),
             Some(Entry::At(time)) => Ok(Entries {
                 may_clear: false,
-                times: S::one(alloc, *time)?,
+                times: S::one_at(alloc, rate, *time)?,
             }),
-            None => Entries::all(alloc),
+            None => Entries::all(alloc, rate),
         }
     }
 
@@ -89,7 +97,7 @@ impl<S: TimeSet> Entries<S> {
 
     /// Its times are times of the day. Does nothing.
     pub(crate) fn below_day(&self)
-        ensures { BelowDay self.now.times }
+        ensures { BelowDay self.now.rate self.now.times }
     {
         let _ = &self.times;
     }
@@ -160,14 +168,15 @@ impl<S: TimeSet> Entries<S> {
     pub(crate) fn changed(&self, alloc: Global, change: &Change) -> Result<Entries<S>, AllocError>
         ensures { IfOk result (λ r. r ≡ changed change.now self.now) }
     {
+        let rate = self.rate();
         match change {
             Change::SetSomewhere => Ok(Entries {
                 may_clear: false,
-                times: S::all(alloc)?,
+                times: S::all_at(alloc, rate)?,
             }),
             Change::SetAt(time) => Ok(Entries {
                 may_clear: false,
-                times: S::one(alloc, *time)?,
+                times: S::one_at(alloc, rate, *time)?,
             }),
             Change::Next => {
                 let mut times = self.times.copy()?;
@@ -187,9 +196,9 @@ impl<S: TimeSet> Entries<S> {
             }
             Change::Reset => Ok(Entries {
                 may_clear: true,
-                times: S::none(alloc),
+                times: S::none_at(alloc, rate),
             }),
-            Change::Recall => Entries::all(alloc),
+            Change::Recall => Entries::all(alloc, rate),
         }
     }
 
@@ -199,13 +208,13 @@ impl<S: TimeSet> Entries<S> {
         ensures err { OnErr result (self.new ≡ self.old) }
     {
         match change {
-            Change::SetSomewhere => self.times = S::all(alloc)?,
+            Change::SetSomewhere => self.times = S::all_at(alloc, self.times.rate())?,
             Change::SetAt(time) => self.times.add(*time)?,
             Change::Next => self.times.widen_next()?,
             Change::Prev => self.times.widen_prev()?,
             Change::Reset => self.may_clear = true,
             Change::Recall => {
-                self.times = S::all(alloc)?;
+                self.times = S::all_at(alloc, self.times.rate())?;
                 self.may_clear = true;
             }
         }
@@ -230,9 +239,10 @@ impl<S: TimeSet> Entries<S> {
     ) -> Result<Entries<S>, AllocError>
         ensures { IfOk result (λ r. r ≡ agreeing time.now self.now) }
     {
+        let rate = self.rate();
         let times = match time {
-            Some(time) if self.times.contains(*time) => S::one(alloc, *time)?,
-            _ => S::none(alloc),
+            Some(time) if self.times.contains(*time) => S::one_at(alloc, rate, *time)?,
+            _ => S::none_at(alloc, rate),
         };
         Ok(Entries {
             may_clear: self.may_clear,
@@ -247,7 +257,7 @@ impl<S: TimeSet> Entries<S> {
         if is_set {
             self.may_clear = false;
         } else {
-            self.times = S::none(alloc);
+            self.times = S::none_at(alloc, self.times.rate());
         }
     }
 }

@@ -9,7 +9,7 @@ ghost use Rattle.std.specs.Prelude.{◌≡◌, IfOk, OnErr, OnOk, false, max};
 ghost use Rattle.sets25.specs.Times.{BelowDay, span_count};
 ghost use Rattle.track9.specs.Tracker.{entries_of, in_local};
 ghost use Rattle.track9.specs.Working.Starts.{part_from, two_from};
-ghost use Rattle.track9.specs.Working.States.{TwoBelow, all_forgotten, all_or_none, registers_forgotten, some_two, tape_forgotten, two_changed, two_drifted, two_gone, two_sensed, two_status};
+ghost use Rattle.track9.specs.Working.States.{TwoBelow, all_forgotten, all_or_none, rate_in, registers_forgotten, some_two, tape_forgotten, two_changed, two_drifted, two_gone, two_sensed, two_status};
 
 use crate::part::Part;
 use crate::pattern::is_wanted;
@@ -19,7 +19,7 @@ use sets25::{SpanSet, TimeSet};
 use std::alloc::{AllocError, Global};
 use std::marker::Model;
 use std::mem::replace;
-use tc25::TimeCode;
+use tc25::{Rate, TimeCode};
 
 mod step;
 
@@ -43,36 +43,47 @@ impl<S: TimeSet> Model for Halves<S> {
 
 impl<S: TimeSet> Halves<S> {
     /// No state. Takes no memory.
-    pub(crate) fn none(alloc: Global) -> Halves<S>
-        ensures { result ≡ all_or_none false }
+    pub(crate) fn none(alloc: Global, rate: Rate) -> Halves<S>
+        ensures { result ≡ all_or_none rate false }
     {
         Halves {
-            remote: Part::none(alloc),
-            local: Part::none(alloc),
+            remote: Part::none(alloc, rate),
+            local: Part::none(alloc, rate),
         }
     }
 
     /// Every state, or none.
-    pub(crate) fn all_or_none(alloc: Global, all: bool) -> Result<Halves<S>, AllocError>
-        ensures { IfOk result (λ h. h ≡ all_or_none all) }
+    pub(crate) fn all_or_none(alloc: Global, rate: Rate, all: bool) -> Result<Halves<S>, AllocError>
+        ensures { IfOk result (λ h. h ≡ all_or_none rate all) }
     {
         if !all {
-            return Ok(Halves::none(alloc));
+            return Ok(Halves::none(alloc, rate));
         }
         Ok(Halves {
-            remote: Part::all(alloc)?,
-            local: Part::all(alloc)?,
+            remote: Part::all(alloc, rate)?,
+            local: Part::all(alloc, rate)?,
         })
     }
 
     /// The states with what is known.
-    pub(crate) fn known_to_be(alloc: Global, start: &Start) -> Result<Halves<S>, AllocError>
-        ensures { IfOk result (λ h. h ≡ two_from start.now) }
+    pub(crate) fn known_to_be(
+        alloc: Global,
+        rate: Rate,
+        start: &Start,
+    ) -> Result<Halves<S>, AllocError>
+        ensures { IfOk result (λ h. h ≡ two_from rate start.now) }
     {
         Ok(Halves {
-            remote: part_from(alloc, start, false)?,
-            local: part_from(alloc, start, true)?,
+            remote: part_from(alloc, rate, start, false)?,
+            local: part_from(alloc, rate, start, true)?,
         })
+    }
+
+    /// The rate whose times they have.
+    pub(crate) fn rate(&self) -> Rate
+        ensures { result ≡ rate_in self.now }
+    {
+        self.remote.rate()
     }
 
     /// An equal set.
@@ -137,7 +148,7 @@ impl<S: TimeSet> Halves<S> {
     {
         let remote = self.remote.change_aside(alloc, may_stay, register, change)?;
         self.local.widen(alloc, register, change)?;
-        self.remote.put_aside(register, remote);
+        self.remote.put_settled(alloc, register, remote);
         Ok(())
     }
 
@@ -219,7 +230,7 @@ impl<S: TimeSet> Halves<S> {
         ensures err { OnErr result (self.new ≡ self.old) }
     {
         if self.is_some() {
-            let all = Halves::all_or_none(alloc, true)?;
+            let all = Halves::all_or_none(alloc, self.rate(), true)?;
             drop(replace(self, all));
         }
         Ok(())
@@ -227,13 +238,18 @@ impl<S: TimeSet> Halves<S> {
 }
 
 /// The states with what is known and with this value of local: none where another is known.
-fn part_from<S: TimeSet>(alloc: Global, start: &Start, local: bool) -> Result<Part<S>, AllocError>
-    ensures { IfOk result (λ p. p ≡ part_from start.now local) }
+fn part_from<S: TimeSet>(
+    alloc: Global,
+    rate: Rate,
+    start: &Start,
+    local: bool,
+) -> Result<Part<S>, AllocError>
+    ensures { IfOk result (λ p. p ≡ part_from rate start.now local) }
 {
     if is_wanted(start.local, local) {
-        Part::known_to_be(alloc, start)
+        Part::known_to_be(alloc, rate, start)
     } else {
-        Ok(Part::none(alloc))
+        Ok(Part::none(alloc, rate))
     }
 }
 

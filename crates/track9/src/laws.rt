@@ -4,10 +4,10 @@ ghost use Rattle.block9.specs.declared.pairer.Exchange.{Exchange};
 ghost use Rattle.deck9.specs.Knowledge.{IsKnowledge};
 ghost use Rattle.deck9.specs.Run.{Ends, HasRun};
 
-use deck9::{Hands, Knowledge};
+use deck9::{Knowledge, Profile};
 
 /// Where there is a run, at most one thing is known of the states that runs end in.
 pub fn one_knowledge()
-    ensures { (h : Hands) (es : List Exchange) (k l : Knowledge)
-        → HasRun h es → IsKnowledge (Ends h es) k → IsKnowledge (Ends h es) l → k ≡ l }
+    ensures { (p : Profile) (es : List Exchange) (k l : Knowledge)
+        → HasRun p es → IsKnowledge (Ends p es) k → IsKnowledge (Ends p es) l → k ≡ l }
 {}

@@ -5,8 +5,9 @@ ghost use Rattle.track9.specs.Tracker.{entries_of};
 ghost use Rattle.track9.specs.Working.Entries.{agreeing};
 ghost use Rattle.track9.specs.Working.Knowing.{PartKnows};
 ghost use Rattle.track9.specs.Working.Starts.{modes_known, part_known};
-ghost use Rattle.track9.specs.Working.Parts.{Whole, all_states, aside, changed_entries, changed_part, drifted_part, forgotten_part, gone_part, is_live, no_states, put_aside, put_settled, reported_part, set_part, settled, status_part, where_live, with_entries, with_pairs};
+ghost use Rattle.track9.specs.Working.Parts.{Whole, all_states, aside, changed_entries, changed_part, drifted_part, forgotten_part, gone_part, is_live, no_states, put_settled, rate_of, reported_part, set_part, settled, status_part, where_live, with_entries, with_pairs};
 ghost use Rattle.deck9.specs.declared.state.Register.{Register as ARegister};
+ghost use Rattle.tc25.specs.declared.rate.Rate.{Rate as ARate};
 
 use crate::entries::Entries;
 use crate::pairs::Pairs;
@@ -17,7 +18,7 @@ use sets25::{SpanSet, TimeSet};
 use std::alloc::{AllocError, Global};
 use std::marker::Model;
 use std::mem::replace;
-use tc25::TimeCode;
+use tc25::{Rate, TimeCode};
 
 /// The states with one value of local and one of panel: each pair of modes with any of the entries of each
 /// register. Either every factor has something in it, or none has.
@@ -43,49 +44,62 @@ impl<S: TimeSet> Model for Part<S> {
 
 impl<S: TimeSet> Part<S> {
     /// No state. Takes no memory.
-    pub(crate) fn none(alloc: Global) -> Part<S>
-        ensures { result ≡ no_states }
+    pub(crate) fn none(alloc: Global, rate: Rate) -> Part<S>
+        ensures { result ≡ no_states rate }
     {
         Part {
             pairs: Pairs::none(),
-            ins: Entries::none(alloc),
-            outs: Entries::none(alloc),
-            ains: Entries::none(alloc),
-            aouts: Entries::none(alloc),
+            ins: Entries::none(alloc, rate),
+            outs: Entries::none(alloc, rate),
+            ains: Entries::none(alloc, rate),
+            aouts: Entries::none(alloc, rate),
         }
     }
 
     /// Every state.
-    pub(crate) fn all(alloc: Global) -> Result<Part<S>, AllocError>
-        ensures { IfOk result (λ p. p ≡ all_states) }
+    pub(crate) fn all(alloc: Global, rate: Rate) -> Result<Part<S>, AllocError>
+        ensures { IfOk result (λ p. p ≡ all_states rate) }
     {
-        Part::with_any_entries(alloc, Pairs::all())
+        Part::with_any_entries(alloc, rate, Pairs::all())
     }
 
     /// These pairs, each with any entries.
-    fn with_any_entries(alloc: Global, pairs: Pairs) -> Result<Part<S>, AllocError>
-        ensures { IfOk result (λ p. p ≡ with_pairs pairs.0 all_states) }
+    fn with_any_entries(alloc: Global, rate: Rate, pairs: Pairs) -> Result<Part<S>, AllocError>
+        ensures { IfOk result (λ p. p ≡ with_pairs pairs.0 (all_states rate)) }
     {
         Ok(Part {
             pairs,
-            ins: Entries::all(alloc)?,
-            outs: Entries::all(alloc)?,
-            ains: Entries::all(alloc)?,
-            aouts: Entries::all(alloc)?,
+            ins: Entries::all(alloc, rate)?,
+            outs: Entries::all(alloc, rate)?,
+            ains: Entries::all(alloc, rate)?,
+            aouts: Entries::all(alloc, rate)?,
         })
     }
 
-    /// The states with what is known, whatever their local.
-    pub(crate) fn known_to_be(alloc: Global, start: &Start) -> Result<Part<S>, AllocError>
-        ensures { IfOk result (λ p. p ≡ part_known start.now) }
+    /// The states with what is known, whatever their local: none where a time that is known is none of the day.
+    pub(crate) fn known_to_be(
+        alloc: Global,
+        rate: Rate,
+        start: &Start,
+    ) -> Result<Part<S>, AllocError>
+        ensures { IfOk result (λ p. p ≡ settled (part_known rate start.now)) }
     {
-        Ok(Part {
+        let mut known = Part {
             pairs: Pairs::of(known_modes(start.goal), known_modes(start.shown)),
-            ins: Entries::known_to_be(alloc, &start.ins)?,
-            outs: Entries::known_to_be(alloc, &start.outs)?,
-            ains: Entries::known_to_be(alloc, &start.ains)?,
-            aouts: Entries::known_to_be(alloc, &start.aouts)?,
-        })
+            ins: Entries::known_to_be(alloc, rate, &start.ins)?,
+            outs: Entries::known_to_be(alloc, rate, &start.outs)?,
+            ains: Entries::known_to_be(alloc, rate, &start.ains)?,
+            aouts: Entries::known_to_be(alloc, rate, &start.aouts)?,
+        };
+        known.settle(alloc);
+        Ok(known)
+    }
+
+    /// The rate whose times it has.
+    pub(crate) fn rate(&self) -> Rate
+        ensures { result ≡ rate_of self.now }
+    {
+        self.ins.rate()
     }
 
     /// An equal part.
@@ -103,7 +117,7 @@ impl<S: TimeSet> Part<S> {
 
     /// Its times are times of the day. Does nothing.
     pub(crate) fn below_day(&self)
-        ensures { (r : ARegister) → BelowDay (entries_of r self.now).times }
+        ensures { (r : ARegister) → BelowDay (entries_of r self.now).rate (entries_of r self.now).times }
     {
         self.ins.below_day();
         self.outs.below_day();
@@ -139,7 +153,7 @@ impl<S: TimeSet> Part<S> {
 
     /// What is known of a register: None where there is no state.
     pub(crate) fn known(&self, register: Register) -> Option<KnownEntry>
-        requires { Whole self.now }
+        requires { (rate : ARate) × Whole rate self.now }
         ensures { PartKnows self.now register result }
     {
         if self.is_live() {
@@ -169,7 +183,7 @@ impl<S: TimeSet> Part<S> {
         let (ins, outs) = (self.ins.is_some(), self.outs.is_some());
         let (ains, aouts) = (self.ains.is_some(), self.aouts.is_some());
         if !(modes && ins && outs && ains && aouts) {
-            drop(replace(self, Part::none(alloc)));
+            drop(replace(self, Part::none(alloc, self.rate())));
         }
     }
 
@@ -233,12 +247,12 @@ impl<S: TimeSet> Part<S> {
 
     /// Every state, where there is one.
     pub(crate) fn tape_forgotten(&self, alloc: Global) -> Result<Part<S>, AllocError>
-        ensures { IfOk result (λ p. p ≡ where_live (λ q. all_states) self.now) }
+        ensures { IfOk result (λ p. p ≡ where_live (λ q. all_states (rate_of q)) self.now) }
     {
         if !self.is_live() {
             return self.copy();
         }
-        Part::all(alloc)
+        Part::all(alloc, self.rate())
     }
 
     /// The pairs with any entries, where there is a state.
@@ -248,16 +262,7 @@ impl<S: TimeSet> Part<S> {
         if !self.is_live() {
             return self.copy();
         }
-        Part::with_any_entries(alloc, self.pairs)
-    }
-
-    /// Puts a register's entries in place that were made aside.
-    pub(crate) fn put_aside(&mut self, register: Register, entries: Option<Entries<S>>)
-        ensures { self.new ≡ put_aside register entries self.old }
-    {
-        if let Some(entries) = entries {
-            self.put(register, entries);
-        }
+        Part::with_any_entries(alloc, self.rate(), self.pairs)
     }
 
     /// Puts a register's entries in place that were made aside, and lets go of everything where they are none.
@@ -306,7 +311,7 @@ impl<S: TimeSet> Part<S> {
         if is_wanted(status.local, local) {
             self.keep_reported(alloc, status);
         } else {
-            drop(replace(self, Part::none(alloc)));
+            drop(replace(self, Part::none(alloc, self.rate())));
         }
     }
 

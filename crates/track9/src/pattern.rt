@@ -2,7 +2,8 @@
 ghost use Rattle.std.specs.Prelude.{◌≡◌, ◌↔◌, IsTrue};
 ghost use Rattle.track9.specs.Working.Pattern.{Is, any_registers, any_tape, pattern_before, entry_before, is_as_wanted, just_state, with_wanted};
 
-use deck9::{Change, Effect, Entry, Hands, Mode, ModeSet, Register, State};
+use deck9::{Change, Effect, Entry, Hands, Mode, ModeSet, Profile, Register, State};
+use tc25::Rate;
 
 /// The states with one of these goals, one of these modes shown, and in each other field the value that is wanted, or
 /// any where none is.
@@ -36,8 +37,8 @@ impl Pattern {
     }
 
     /// The states from which an effect, where the deck does it, leads to the target: None where there is none.
-    pub(crate) fn before(hands: Hands, effect: &Effect, target: &State) -> Option<Pattern>
-        ensures { result ≡ pattern_before hands effect.now target.now }
+    pub(crate) fn before(profile: Profile, effect: &Effect, target: &State) -> Option<Pattern>
+        ensures { result ≡ pattern_before profile effect.now target.now }
     {
         let mut wanted = Pattern::just(target);
         match effect {
@@ -54,11 +55,11 @@ impl Pattern {
                 }
             }
             Effect::Change(register, change) => {
-                let entry = entry_before(change, target.entry(*register))?;
+                let entry = entry_before(profile.rate, change, target.entry(*register))?;
                 wanted.put(*register, entry);
             }
             Effect::Panel(on) => {
-                if hands == Hands::Allowed {
+                if profile.hands == Hands::Allowed {
                     if target.panel != *on {
                         return None;
                     }
@@ -70,7 +71,7 @@ impl Pattern {
             Effect::ForgetAll => {
                 wanted.free_tape();
                 wanted.local = None;
-                if hands == Hands::Allowed {
+                if profile.hands == Hands::Allowed {
                     wanted.panel = None;
                 }
             }
@@ -112,14 +113,14 @@ impl Pattern {
 
 /// What an entry was that a change has made this one: None where it makes it of no entry; and else which one, or that
 /// it was any.
-fn entry_before(change: &Change, entry: &Entry) -> Option<Option<Entry>>
-    ensures { result ≡ entry_before change.now entry.now }
+fn entry_before(rate: Rate, change: &Change, entry: &Entry) -> Option<Option<Entry>>
+    ensures { result ≡ entry_before rate change.now entry.now }
 {
     match (change, entry) {
         (Change::SetSomewhere, Entry::At(_)) => Some(None),
         (Change::SetAt(set), Entry::At(time)) if time == set => Some(None),
-        (Change::Next, Entry::At(time)) => Some(Some(Entry::At(time.prev()))),
-        (Change::Prev, Entry::At(time)) => Some(Some(Entry::At(time.next()))),
+        (Change::Next, Entry::At(time)) => Some(Some(Entry::At(time.prev_at(rate)))),
+        (Change::Prev, Entry::At(time)) => Some(Some(Entry::At(time.next_at(rate)))),
         (Change::Next | Change::Prev, Entry::Clear) => Some(Some(Entry::Clear)),
         (Change::Reset, Entry::Clear) => Some(None),
         (Change::Recall, _) => Some(None),

@@ -6,25 +6,25 @@
 //!
 //! What was made aside is handed to `drop` where memory is refused, and so is what it takes the place of. Their end in place,
 //! by `?` or by an assignment, would cost the proof of a function most of its time.
-//!
-//! Those with the panel on are in a box of their own, so that they take no room where hands are not allowed. It is made once:
-//! a command puts new states into it.
 ghost use Rattle.std.specs.Prelude.{◌≡◌, IfOk, IsOk, IsTrue, OnErr, OnOk, Some, false, if◌then◌else◌, max, option_map, true};
 ghost use Rattle.sets25.specs.Times.{span_count};
 ghost use Rattle.track9.specs.Tracker.{entries_of};
 ghost use Rattle.track9.specs.Working.Starts.{states_from};
-ghost use Rattle.track9.specs.Working.States.{AreBelow, AreWhole, Follows, FollowsDrift, Taken, after_panel, all_drifted, all_or_none, effect_taken, either_panel, first_states, hands_of, is_frugal_taken, is_panel_live, is_wide, panel_passed, part_of, some_state};
+ghost use Rattle.track9.specs.Working.States.{AreBelow, AreWhole, Follows, FollowsDrift, Taken, after_panel, all_drifted, all_or_none, effect_taken, either_panel, first_states, hands_of, is_frugal_taken, is_panel_live, is_wide, panel_passed, part_of, profile_of, rate_for, some_state};
 
 use crate::halves::Halves;
 use crate::start::Start;
 use block9::{Block, Command};
-use deck9::{Effect, Hands, Register};
+use boxed::{all_boxed, copy_boxed};
+use deck9::{Effect, Hands, Profile, Register};
 use sets25::{SpanSet, TimeSet};
 use std::alloc::{AllocError, Global};
 use std::marker::Model;
 use std::mem::replace;
+use tc25::Rate;
 
 mod before;
+mod boxed;
 mod knowing;
 mod member;
 
@@ -49,13 +49,13 @@ impl<S: TimeSet> Model for States<S> {
 
 impl<S: TimeSet> States<S> {
     /// The states before a capture: all, but those with the panel on where nobody touches it.
-    pub(crate) fn first(alloc: Global, hands: Hands) -> Result<States<S>, AllocError>
-        ensures { IfOk result (λ v. v ≡ first_states hands) }
+    pub(crate) fn first(alloc: Global, profile: Profile) -> Result<States<S>, AllocError>
+        ensures { IfOk result (λ v. v ≡ first_states profile) }
     {
-        let off = Halves::all_or_none(alloc, true)?;
-        match hands {
+        let off = Halves::all_or_none(alloc, profile.rate, true)?;
+        match profile.hands {
             Hands::None => Ok(States { off, on: None }),
-            Hands::Allowed => match all_boxed(alloc) {
+            Hands::Allowed => match all_boxed(alloc, profile.rate) {
                 Ok(all) => Ok(States { off, on: Some(all) }),
                 Err(error) => {
                     drop(off);
@@ -66,11 +66,15 @@ impl<S: TimeSet> States<S> {
     }
 
     /// The states with what is known before a capture in which nobody touches the panel.
-    pub(crate) fn known_to_be(alloc: Global, start: &Start) -> Result<States<S>, AllocError>
-        ensures { IfOk result (λ v. v ≡ states_from start.now) }
+    pub(crate) fn known_to_be(
+        alloc: Global,
+        rate: Rate,
+        start: &Start,
+    ) -> Result<States<S>, AllocError>
+        ensures { IfOk result (λ v. v ≡ states_from rate start.now) }
     {
         Ok(States {
-            off: Halves::known_to_be(alloc, start)?,
+            off: Halves::known_to_be(alloc, rate, start)?,
             on: None,
         })
     }
@@ -115,6 +119,23 @@ impl<S: TimeSet> States<S> {
         }
     }
 
+    /// The rate whose times they have.
+    pub(crate) fn rate(&self) -> Rate
+        ensures { result ≡ rate_for self.now }
+    {
+        self.off.rate()
+    }
+
+    /// What the deck is taken for.
+    fn profile(&self) -> Profile
+        ensures { result ≡ profile_of self.now }
+    {
+        Profile {
+            rate: self.rate(),
+            hands: self.hands(),
+        }
+    }
+
     /// Whether there is a state.
     pub(crate) fn is_some(&self) -> bool
         ensures { result ≡ some_state self.now }
@@ -141,8 +162,8 @@ impl<S: TimeSet> States<S> {
         command: &Command,
         reply: Option<&Block>,
     ) -> Result<bool, AllocError>
-        requires { AreWhole self.old }
-        ensures ok { OnOk result (Follows (hands_of self.old) command.now (option_map (λ b. b.now) reply.entry) self.old self.new) }
+        requires { AreWhole (rate_for self.old) self.old }
+        ensures ok { OnOk result (Follows (profile_of self.old) command.now (option_map (λ b. b.now) reply.entry) self.old self.new) }
         ensures some { IfOk result (λ b. b ≡ some_state self.new) }
         ensures err { OnErr result (self.new ≡ self.old) }
         ensures frugal { hands_of self.old ≡ Hands.None → IsTrue (is_frugal_taken command.now (option_map (λ b. b.now) reply.entry)) → IsOk result }
@@ -163,9 +184,9 @@ impl<S: TimeSet> States<S> {
         command: &Command,
         reply: Option<&Block>,
     ) -> Result<(), AllocError>
-        requires whole { AreWhole self.old }
+        requires whole { AreWhole (rate_for self.old) self.old }
         requires hands { hands_of self.old ≡ Hands.Allowed }
-        ensures ok { OnOk result (Follows Hands.Allowed command.now (option_map (λ b. b.now) reply.entry) self.old self.new) }
+        ensures ok { OnOk result (Follows (profile_of self.old) command.now (option_map (λ b. b.now) reply.entry) self.old self.new) }
         ensures err { OnErr result (self.new ≡ self.old) }
     {
         self.below_day();
@@ -181,8 +202,8 @@ impl<S: TimeSet> States<S> {
 
     /// The states after a drift alone. Where memory is refused nothing has changed.
     pub(crate) fn drift(&mut self, alloc: Global) -> Result<(), AllocError>
-        requires { AreWhole self.old }
-        ensures ok { OnOk result (FollowsDrift (hands_of self.old) self.old self.new) }
+        requires { AreWhole (rate_for self.old) self.old }
+        ensures ok { OnOk result (FollowsDrift (profile_of self.old) self.old self.new) }
         ensures err { OnErr result (self.new ≡ self.old) }
         ensures frugal { hands_of self.old ≡ Hands.None → IsOk result }
     {
@@ -212,9 +233,9 @@ impl<S: TimeSet> States<S> {
 
     /// What a drift leaves with the panel on: every state, if there was any.
     fn drifted_on(&self, alloc: Global) -> Result<Halves<S>, AllocError>
-        ensures { IfOk result (λ h. h ≡ all_or_none (is_panel_live self.now)) }
+        ensures { IfOk result (λ h. h ≡ all_or_none (rate_for self.now) (is_panel_live self.now)) }
     {
-        Halves::all_or_none(alloc, self.is_panel_live())
+        Halves::all_or_none(alloc, self.rate(), self.is_panel_live())
     }
 
     /// The states after a command to which a hand on the panel makes no difference: those with the panel on are what it makes of
@@ -225,10 +246,10 @@ impl<S: TimeSet> States<S> {
         command: &Command,
         reply: Option<&Block>,
     ) -> Result<(), AllocError>
-        requires whole { AreWhole self.old }
+        requires whole { AreWhole (rate_for self.old) self.old }
         requires hands { hands_of self.old ≡ Hands.Allowed }
         requires narrow { is_wide (effect_taken command.now (option_map (λ b. b.now) reply)) ≡ false }
-        ensures ok { OnOk result (Follows Hands.Allowed command.now (option_map (λ b. b.now) reply.entry) self.old self.new) }
+        ensures ok { OnOk result (Follows (profile_of self.old) command.now (option_map (λ b. b.now) reply.entry) self.old self.new) }
         ensures err { OnErr result (self.new ≡ self.old) }
     {
         self.below_day();
@@ -252,7 +273,7 @@ impl<S: TimeSet> States<S> {
         command: &Command,
         reply: Option<&Block>,
     ) -> Result<Halves<S>, AllocError>
-        ensures { IfOk result (Taken command.now (option_map (λ b. b.now) reply.entry) (all_or_none (is_panel_live self.now))) }
+        ensures { IfOk result (Taken (rate_for self.now) command.now (option_map (λ b. b.now) reply.entry) (all_or_none (rate_for self.now) (is_panel_live self.now))) }
     {
         let mut on = self.drifted_on(alloc)?;
         match on.take(alloc, command, reply) {
@@ -269,7 +290,7 @@ impl<S: TimeSet> States<S> {
         ensures { IfOk result (λ h. h ≡ either_panel self.now) }
     {
         if self.is_panel_live() {
-            return Halves::all_or_none(alloc, true);
+            return Halves::all_or_none(alloc, self.rate(), true);
         }
         let mut off = self.off.copy()?;
         off.drift();
@@ -283,7 +304,7 @@ impl<S: TimeSet> States<S> {
         ensures err { OnErr result (self.new ≡ self.old) }
     {
         let known = self.either_panel(alloc)?;
-        let none = Halves::none(alloc);
+        let none = Halves::none(alloc, self.rate());
         if on {
             self.put(none, known);
         } else {
@@ -338,31 +359,19 @@ impl<S: TimeSet> States<S> {
 
     /// Everything is forgotten, the panel too.
     fn forget_all(&mut self, alloc: Global) -> Result<(), AllocError>
-        ensures ok { OnOk result (self.new ≡ (if some_state self.old then first_states Hands.Allowed else self.old)) }
+        ensures ok { OnOk result (self.new ≡ (if some_state self.old then first_states (record { rate = rate_for self.old; hands = Hands.Allowed }) else self.old)) }
         ensures err { OnErr result (self.new ≡ self.old) }
     {
         if self.is_some() {
-            let first = States::first(alloc, Hands::Allowed)?;
+            let profile = Profile {
+                rate: self.rate(),
+                hands: Hands::Allowed,
+            };
+            let first = States::first(alloc, profile)?;
             drop(replace(self, first));
         }
         Ok(())
     }
-}
-
-/// Every state with one value of the panel, in a box.
-fn all_boxed<S: TimeSet>(alloc: Global) -> Result<Box<Halves<S>>, AllocError>
-    ensures { IfOk result (λ b. b.value ≡ all_or_none true) }
-{
-    let all = Halves::all_or_none(alloc, true)?;
-    Ok(Box::new(alloc, all)?)
-}
-
-/// An equal set, in a box of its own.
-fn copy_boxed<S: TimeSet>(states: &Box<Halves<S>>) -> Result<Box<Halves<S>>, AllocError>
-    ensures { IfOk result (λ b. b.value ≡ states.now.value) }
-{
-    let copy = states.copy()?;
-    Ok(Box::new(*Box::allocator(states), copy)?)
 }
 
 /// The effect that a command may have: none where its reply is a NAK.

@@ -19,16 +19,17 @@ use crate::presets::Presets;
 use crate::start::Start;
 use crate::states::States;
 use block9::{Block, Command};
-use deck9::{Hands, Knowledge, ModeSet, Register, State};
+use deck9::{Hands, Knowledge, ModeSet, Profile, Register, State};
 use sets25::{SpanSet, TimeSet};
 use std::alloc::{AllocError, Global};
 use std::marker::Model;
+use tc25::Rate;
 
 /// All states that the deck could be in after the exchanges of a capture so far.
 ///
 /// A contract sees it as a set of states, by the pairs of modes and the sets of times that it keeps; the states
-/// are never listed. It also knows whether hands are allowed on the panel, and how many data presets to each
-/// register were acknowledged.
+/// are never listed. It also knows what the deck is taken for, its rate and whether hands are allowed on the panel, and how
+/// many data presets to each register were acknowledged.
 #[derive(Drop)]
 pub struct Tracker<S: TimeSet> {
     states: States<S>,
@@ -44,9 +45,9 @@ impl<S: TimeSet> Model for Tracker<S> {
 
     ghost coded = { tracked_code };
 
-    ghost use Rattle.track9.specs.Working.States.{IsKept, hands_of};
+    ghost use Rattle.track9.specs.Working.States.{IsKept, profile_of};
 
-    ghost view = { λ t. record { states = t.states; hands = hands_of t.states; presets = t.presets } };
+    ghost view = { λ t. record { states = t.states; profile = profile_of t.states; presets = t.presets } };
 
     ghost invariant = { λ t. IsKept t.presets t.states };
 }
@@ -57,12 +58,23 @@ impl<S: TimeSet> Tracker<S> {
     ///
     /// An error comes where memory is refused.
     pub fn new(alloc: Global, hands: Hands) -> Result<Self, AllocError>
-        ensures states { IfOk result (λ t. (s : AState) → Possible t.states s ↔ IsFirst hands s) }
-        ensures hands { IfOk result (λ t. t.hands ≡ hands) }
+        ensures states { IfOk result (λ t. (s : AState) → Possible t.states s ↔ IsFirst (record { rate = Rate.Fps25; hands = hands }) s) }
+        ensures profile { IfOk result (λ t. t.profile ≡ record { rate = Rate.Fps25; hands = hands }) }
+        ensures presets { IfOk result (λ t. (r : ARegister) → count_of r t.presets ≡ 0) }
+    {
+        Tracker::of(alloc, Profile::of(hands))
+    }
+
+    /// A tracker before the first exchange of a deck that is taken for this: [`Tracker::new`] at any rate.
+    ///
+    /// An error comes where memory is refused.
+    pub fn of(alloc: Global, profile: Profile) -> Result<Self, AllocError>
+        ensures states { IfOk result (λ t. (s : AState) → Possible t.states s ↔ IsFirst profile s) }
+        ensures profile { IfOk result (λ t. t.profile ≡ profile) }
         ensures presets { IfOk result (λ t. (r : ARegister) → count_of r t.presets ≡ 0) }
     {
         Ok(Tracker {
-            states: States::first(alloc, hands)?,
+            states: States::first(alloc, profile)?,
             presets: Presets::none(),
             alloc,
         })
@@ -72,12 +84,12 @@ impl<S: TimeSet> Tracker<S> {
     /// that has these is possible, with the panel off.
     ///
     /// An error comes where memory is refused.
-    pub fn starting(alloc: Global, start: &Start) -> Result<Self, AllocError>
-        ensures states { IfOk result (λ t. (s : AState) → Possible t.states s ↔ (IsFirst Hands.None s × StartsFrom start.now s)) }
-        ensures hands { IfOk result (λ t. t.hands ≡ Hands.None) }
+    pub fn starting(alloc: Global, rate: Rate, start: &Start) -> Result<Self, AllocError>
+        ensures states { IfOk result (λ t. (s : AState) → Possible t.states s ↔ (IsFirst (record { rate = rate; hands = Hands.None }) s × StartsFrom start.now s)) }
+        ensures profile { IfOk result (λ t. t.profile ≡ record { rate = rate; hands = Hands.None }) }
         ensures presets { IfOk result (λ t. (r : ARegister) → count_of r t.presets ≡ 0) }
     {
-        let states = States::known_to_be(alloc, start)?;
+        let states = States::known_to_be(alloc, rate, start)?;
         states.below_day();
         Ok(Tracker {
             states,
@@ -97,13 +109,13 @@ impl<S: TimeSet> Tracker<S> {
     /// An error comes where memory is refused, and the tracker is then as it was. Where hands are not allowed none
     /// comes for a NAK, nor for a command that asks for no register's time and changes and forgets no register.
     pub fn observe(&mut self, command: &Command, reply: &Block) -> Result<bool, AllocError>
-        ensures reached { IfOk result (λ b. AreReached (Possible self.old.states) (Exchanges self.old.hands command.now reply.now) (Possible self.new.states)) }
+        ensures reached { IfOk result (λ b. AreReached (Possible self.old.states) (Exchanges self.old.profile command.now reply.now) (Possible self.new.states)) }
         ensures remains { IfOk result (λ b. IsTrue b ↔ ((s : AState) × Possible self.new.states s)) }
         ensures over { ¬ ((s : AState) × Possible self.old.states s) → IfOk result (λ b. b ≡ false) }
-        ensures hands { IfOk result (λ b. self.new.hands ≡ self.old.hands) }
+        ensures profile { IfOk result (λ b. self.new.profile ≡ self.old.profile) }
         ensures presets { IfOk result (λ b. self.new.presets ≡ presets_after command.now reply.now b self.old.presets) }
         ensures unchanged { IfErr result (λ e. self.new ≡ self.old) }
-        ensures frugal { self.old.hands ≡ Hands.None → IsTrue (is_frugal command.now reply.now) → IsOk result }
+        ensures frugal { self.old.profile.hands ≡ Hands.None → IsTrue (is_frugal command.now reply.now) → IsOk result }
     {
         let remains = self.states.take(self.alloc, command, Some(reply))?;
         self.presets.count_exchange(command, reply, remains);
@@ -120,12 +132,12 @@ impl<S: TimeSet> Tracker<S> {
     /// An error comes where memory is refused, and the tracker is then as it was. Where hands are not allowed none comes
     /// for a command that changes and forgets no register.
     pub fn pass(&mut self, command: &Command) -> Result<(), AllocError>
-        ensures reached { OnOk result (AreReached (Possible self.old.states) (Passes self.old.hands command.now) (Possible self.new.states)) }
+        ensures reached { OnOk result (AreReached (Possible self.old.states) (Passes self.old.profile command.now) (Possible self.new.states)) }
         ensures remains { OnOk result (((s : AState) × Possible self.old.states s) ↔ ((s : AState) × Possible self.new.states s)) }
-        ensures hands { OnOk result (self.new.hands ≡ self.old.hands) }
+        ensures profile { OnOk result (self.new.profile ≡ self.old.profile) }
         ensures presets { OnOk result (self.new.presets ≡ with_command command.now self.old.presets) }
         ensures unchanged { OnErr result (self.new ≡ self.old) }
-        ensures frugal { self.old.hands ≡ Hands.None → IsTrue (is_frugal_effect (effect_of command.now)) → IsOk result }
+        ensures frugal { self.old.profile.hands ≡ Hands.None → IsTrue (is_frugal_effect (effect_of command.now)) → IsOk result }
     {
         self.states.take(self.alloc, command, None)?;
         self.presets.count_command(command);
@@ -139,12 +151,12 @@ impl<S: TimeSet> Tracker<S> {
     ///
     /// An error comes where memory is refused, and the tracker is then as it was. Where hands are not allowed none comes.
     pub fn drift(&mut self) -> Result<(), AllocError>
-        ensures reached { OnOk result (AreReached (Possible self.old.states) (Drift self.old.hands) (Possible self.new.states)) }
+        ensures reached { OnOk result (AreReached (Possible self.old.states) (Drift self.old.profile) (Possible self.new.states)) }
         ensures remains { OnOk result (((s : AState) × Possible self.old.states s) ↔ ((s : AState) × Possible self.new.states s)) }
-        ensures hands { OnOk result (self.new.hands ≡ self.old.hands) }
+        ensures profile { OnOk result (self.new.profile ≡ self.old.profile) }
         ensures presets { OnOk result (self.new.presets ≡ self.old.presets) }
         ensures unchanged { OnErr result (self.new ≡ self.old) }
-        ensures frugal { self.old.hands ≡ Hands.None → IsOk result }
+        ensures frugal { self.old.profile.hands ≡ Hands.None → IsOk result }
     {
         self.states.drift(self.alloc)?;
         Ok(())
@@ -157,7 +169,7 @@ impl<S: TimeSet> Tracker<S> {
         self.states.is_some()
     }
 
-    /// An equal tracker: of the same states, hands and presets.
+    /// An equal tracker: of the same states, profile and presets.
     ///
     /// An error comes where memory is refused. This tracker stays as it is, either way.
     pub fn snapshot(&self) -> Result<Self, AllocError>
@@ -182,8 +194,8 @@ impl<S: TimeSet> Tracker<S> {
     /// A possible state from which a drift and a step of the deck, with this reply to this command, lead to the target, or
     /// `None` exactly where there is none. Which one it is of several is not said. Takes no memory.
     pub fn before(&self, command: &Command, reply: &Block, target: &State) -> Option<State>
-        ensures some { IfSome result (λ s. Possible self.now.states s × Exchanges self.now.hands command.now reply.now s target.now) }
-        ensures none { IfNone result (¬ ((s : AState) × Possible self.now.states s × Exchanges self.now.hands command.now reply.now s target.now)) }
+        ensures some { IfSome result (λ s. Possible self.now.states s × Exchanges self.now.profile command.now reply.now s target.now) }
+        ensures none { IfNone result (¬ ((s : AState) × Possible self.now.states s × Exchanges self.now.profile command.now reply.now s target.now)) }
     {
         self.states.before(command, reply, target)
     }

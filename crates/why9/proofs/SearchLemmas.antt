@@ -1,8 +1,8 @@
 -- The places found: in order, contradicting with all that follow, and each of them needed; and the tracker that goes along.
 use Rattle.why9.proofs.Words.{[], All, All-head, All-nil, All-push, All-tail, all_pairs_push, AllPairs, ap, ArePassedTo, AreReached, arith, behind_first, believing_all}
-use Rattle.why9.proofs.Words.{believing_fewer, Bool, BreaksAtLast, Contradict, DriftsAndMayDo, drop, Exchange, false, false≢true, GoesOn, GoesOnFrom, Hands, HasBelieving, inl, inr}
+use Rattle.why9.proofs.Words.{believing_fewer, Bool, BreaksAtLast, Contradict, DriftsAndMayDo, drop, Exchange, false, false≢true, GoesOn, GoesOnFrom, Profile, HasBelieving, inl, inr}
 use Rattle.why9.proofs.Words.{is_among, is_among_others, IsBelievingFrom, IsBetween, IsContradiction, IsFirst, length, length-append, List, list_any-append, nat_le, nat_lt, nat_tests}
-use Rattle.why9.proofs.Words.{refl, SetsInDay, slice_index_or, slice_range, State, sym, take_rest, true, ℕ, ◌++◌, ◌+◌, ◌-◌, ◌<◌, ◌==◌, ◌||◌, ◌↔◌, ◌∙◌, ◌∷◌, ◌≡◌, ◌≤◌, ◌⊎◌}
+use Rattle.why9.proofs.Words.{refl, slice_index_or, slice_range, State, sym, take_rest, true, ℕ, ◌++◌, ◌+◌, ◌-◌, ◌<◌, ◌==◌, ◌||◌, ◌↔◌, ◌∙◌, ◌∷◌, ◌≡◌, ◌≤◌, ◌⊎◌}
 use Rattle.why9.proofs.QuestionLemmas.{goes-same, goes-start, goes-through, same_places}
 
 -- ---- places
@@ -29,11 +29,11 @@ not_among low found below k le = let l = among_all (λ p. p < low) found k below
 -- ---- the places found
 
 -- they ascend, and are before `low`: with every reply from there on they contradict, and each of them is needed
-pub record AreFound (h : Hands) (es : List Exchange) (low : ℕ) (found : List ℕ) : Type 0 where
+pub record AreFound (profile : Profile) (es : List Exchange) (low : ℕ) (found : List ℕ) : Type 0 where
   pub ascend : AllPairs (λ p q. p < q) found
   pub below : All (λ p. p < low) found
-  pub contradict : Contradict h (is_in_question low found) es
-  pub needed : (p : ℕ) → is_among found p ≡ true → HasBelieving h (λ k. nat_lt p k || is_among_others found p k) es
+  pub contradict : Contradict profile (is_in_question low found) es
+  pub needed : (p : ℕ) → is_among found p ≡ true → HasBelieving profile (λ k. nat_lt p k || is_among_others found p k) es
 
 pushed_ascend : (low place : ℕ) (found : List ℕ) → AllPairs (λ p q. p < q) found → All (λ p. p < low) found → low ≤ place
     → AllPairs (λ p q. p < q) (found ++ place ∷ [])
@@ -46,87 +46,87 @@ others_push low p place found below le is k e =
     let l = among_all (λ q. q < low) found p below is in let more = among_more found place k in grind (arith, nat_tests)
 
 -- none, before the first
-pub found-start : (h : Hands) (es : List Exchange) (place : ℕ) → Contradict h (nat_le place) es → AreFound h es place []
-found-start h es place contradict = record {
+pub found-start : (profile : Profile) (es : List Exchange) (place : ℕ) → Contradict profile (nat_le place) es → AreFound profile es place []
+found-start profile es place contradict = record {
   ascend = λ i j d l m. absurd (omega arith);
   below = All-nil (λ p. p < place);
-  contradict = λ w. contradict (believing_fewer h (is_in_question place []) (nat_le place) es (λ k e. grind (arith, nat_tests)) w);
+  contradict = λ w. contradict (believing_fewer profile (is_in_question place []) (nat_le place) es (λ k e. grind (arith, nat_tests)) w);
   needed = λ p e. absurd (false≢true e);
 }
 
 -- one more: from it on the replies contradict those found, and after it they do not
-pub found-more : (h : Hands) (es : List Exchange) (low place : ℕ) (found : List ℕ) → AreFound h es low found → low ≤ place
-    → Contradict h (is_in_question place found) es → HasBelieving h (is_in_question (place + 1) found) es → AreFound h es (place + 1) (found ++ place ∷ [])
-found-more h es low place found old le contradict after = record {
+pub found-more : (profile : Profile) (es : List Exchange) (low place : ℕ) (found : List ℕ) → AreFound profile es low found → low ≤ place
+    → Contradict profile (is_in_question place found) es → HasBelieving profile (is_in_question (place + 1) found) es → AreFound profile es (place + 1) (found ++ place ∷ [])
+found-more profile es low place found old le contradict after = record {
   ascend = pushed_ascend low place found old.ascend old.below le;
   below = All-push (λ p. p < place + 1) found place (λ i d l. let b = old.below i d l in omega arith) (omega arith);
-  contradict = λ w. contradict (believing_fewer h (is_in_question (place + 1) (found ++ place ∷ [])) (is_in_question place found) es
+  contradict = λ w. contradict (believing_fewer profile (is_in_question (place + 1) (found ++ place ∷ [])) (is_in_question place found) es
       (λ k e. let more = among_more found place k in grind (arith, nat_tests)) w);
   needed = λ p e. by p (among_push found place p e);
 }
   where
-    by : (p : ℕ) → (is_among found p ≡ true) ⊎ (p ≡ place) → HasBelieving h (λ k. nat_lt p k || is_among_others (found ++ place ∷ []) p k) es
-    by p (inl is) = believing_fewer h _ _ es (others_push low p place found old.below le is) (old.needed p is)
-    by p (inr same) = believing_fewer h (is_in_question (place + 1) found) _ es (λ k e. let more = among_more found place k in grind (arith, nat_tests))
+    by : (p : ℕ) → (is_among found p ≡ true) ⊎ (p ≡ place) → HasBelieving profile (λ k. nat_lt p k || is_among_others (found ++ place ∷ []) p k) es
+    by p (inl is) = believing_fewer profile _ _ es (others_push low p place found old.below le is) (old.needed p is)
+    by p (inr same) = believing_fewer profile (is_in_question (place + 1) found) _ es (λ k e. let more = among_more found place k in grind (arith, nat_tests))
         after
 
 -- ---- all but the last exchange
 
-pub none_from_first : (h : Hands) (es : List Exchange) → BreaksAtLast h es → Contradict h (nat_le 0) es
-none_from_first h es breaks w =
-    breaks.has_none ((believing_all h es).0 (believing_fewer h (nat_le 0) (λ k. true) es (λ k e. grind (arith, nat_tests)) w))
+pub none_from_first : (profile : Profile) (es : List Exchange) → BreaksAtLast profile es → Contradict profile (nat_le 0) es
+none_from_first profile es breaks w =
+    breaks.has_none ((believing_all profile es).0 (believing_fewer profile (nat_le 0) (λ k. true) es (λ k e. grind (arith, nat_tests)) w))
 
-pub some_last : (h : Hands) (es : List Exchange) → BreaksAtLast h es → 0 < length es
-some_last h es breaks = let n = simp length-append at (ap length breaks.is_split) in omega arith
+pub some_last : (profile : Profile) (es : List Exchange) → BreaksAtLast profile es → 0 < length es
+some_last profile es breaks = let n = simp length-append at (ap length breaks.is_split) in omega arith
 
 -- a run goes on by an exchange that is not believed
-passes_last : (h : Hands) (b : ℕ → Bool) (es : List Exchange) (e : Exchange) (s : State) (ts : List State) → b (length es) ≡ false → IsBelievingFrom h b s es ts
-    → (us : List State) × IsBelievingFrom h b s (es ++ e ∷ []) us
-passes_last h b [] e s ts none run = (s ∷ [], (s, ([], refl), rw none (inl refl), tt))
-passes_last h b (f ∷ fs) e s [] none run = absurd run
-passes_last h b (f ∷ fs) e s (t ∷ ts) none (d, drift, does, run) =
-    let more = passes_last h (behind_first b) fs e t ts (ap b (omega arith) ∙ none) run in
+passes_last : (profile : Profile) (b : ℕ → Bool) (es : List Exchange) (e : Exchange) (s : State) (ts : List State) → b (length es) ≡ false → IsBelievingFrom profile b s es ts
+    → (us : List State) × IsBelievingFrom profile b s (es ++ e ∷ []) us
+passes_last profile b [] e s ts none run = (s ∷ [], (s, ([], refl), rw none (inl refl), tt))
+passes_last profile b (f ∷ fs) e s [] none run = absurd run
+passes_last profile b (f ∷ fs) e s (t ∷ ts) none (d, drift, does, run) =
+    let more = passes_last profile (behind_first b) fs e t ts (ap b (omega arith) ∙ none) run in
     (t ∷ more.0, (d, drift, does, more.1))
 
-pub without_last : (h : Hands) (b : ℕ → Bool) (es : List Exchange) (last : ℕ) → BreaksAtLast h es → last + 1 ≡ length es → b last ≡ false → HasBelieving h b es
-without_last h b es last breaks is none =
-    let w = believing_fewer h (λ k. true) b breaks.before (λ k e. refl) ((believing_all h breaks.before).1 breaks.has_run) in
+pub without_last : (profile : Profile) (b : ℕ → Bool) (es : List Exchange) (last : ℕ) → BreaksAtLast profile es → last + 1 ≡ length es → b last ≡ false → HasBelieving profile b es
+without_last profile b es last breaks is none =
+    let w = believing_fewer profile (λ k. true) b breaks.before (λ k e. refl) ((believing_all profile breaks.before).1 breaks.has_run) in
     let n = simp length-append at (ap length breaks.is_split) in
     let place : length breaks.before ≡ last = omega arith in
-    let more = passes_last h b breaks.before breaks.last w.first w.after (ap b place ∙ none) w.is_run in
+    let more = passes_last profile b breaks.before breaks.last w.first w.after (ap b place ∙ none) w.is_run in
     rw breaks.is_split (record { first = w.first; is_first = w.is_first; after = more.0; is_run = more.1 })
 
 -- ---- the tracker that goes along
 
 -- it keeps these states: those after everything before `low`, where the replies at the places found are believed and no others
-pub record IsKept (h : Hands) (X : State → Type 0) (es : List Exchange) (low : ℕ) (found : List ℕ) : Type 0 where
-  pub goes : (b : ℕ → Bool) → ((k : ℕ) → k < low → b k ≡ is_among found k) → HasBelieving h b es ↔ GoesOnFrom h X low b es
+pub record IsKept (profile : Profile) (X : State → Type 0) (es : List Exchange) (low : ℕ) (found : List ℕ) : Type 0 where
+  pub goes : (b : ℕ → Bool) → ((k : ℕ) → k < low → b k ≡ is_among found k) → HasBelieving profile b es ↔ GoesOnFrom profile X low b es
 
 -- the first states are those before any place, as long as none is found
-kept-start : (h : Hands) (X : State → Type 0) (es : List Exchange) (place : ℕ) → All SetsInDay es → ((s : State) → X s ↔ IsFirst h s) → place ≤ length es
-    → IsKept h X es place []
-kept-start h X es place sets firsts le = record { goes = λ b none. goes-start h b es place X sets le none firsts }
+kept-start : (profile : Profile) (X : State → Type 0) (es : List Exchange) (place : ℕ) → ((s : State) → X s ↔ IsFirst profile s) → place ≤ length es
+    → IsKept profile X es place []
+kept-start profile X es place firsts le = record { goes = λ b none. goes-start profile b es place X le none firsts }
 
-kept-push : (h : Hands) (X : State → Type 0) (es : List Exchange) (place : ℕ) (found : List ℕ) → IsKept h X es place found
-    → IsKept h X es place (found ++ place ∷ [])
-kept-push h X es place found kept =
+kept-push : (profile : Profile) (X : State → Type 0) (es : List Exchange) (place : ℕ) (found : List ℕ) → IsKept profile X es place found
+    → IsKept profile X es place (found ++ place ∷ [])
+kept-push profile X es place found kept =
     record { goes = λ b same. kept.goes b (λ k below. let more = among_more found place k in let here = same k below in grind (arith, nat_tests)) }
 
 -- it believes the reply at a place found
-kept-believed : (h : Hands) (X Y : State → Type 0) (es : List Exchange) (place : ℕ) (e : Exchange) (found : List ℕ) → place < length es
-    → e ≡ slice_index_or es place e → is_among found place ≡ true → AreReached X (DriftsAndMayDo h true e) Y → IsKept h X es place found
-    → IsKept h Y es (place + 1) found
-kept-believed h X Y es place e found low is among reached kept = record {
+kept-believed : (profile : Profile) (X Y : State → Type 0) (es : List Exchange) (place : ℕ) (e : Exchange) (found : List ℕ) → place < length es
+    → e ≡ slice_index_or es place e → is_among found place ≡ true → AreReached X (DriftsAndMayDo profile true e) Y → IsKept profile X es place found
+    → IsKept profile Y es (place + 1) found
+kept-believed profile X Y es place e found low is among reached kept = record {
   goes = λ b same.
       let before = kept.goes b (λ k below. same k (omega arith)) in
-      let through = goes-through h X Y b es place e true low is (sym (same place (omega arith) ∙ among)) reached in
+      let through = goes-through profile X Y b es place e true low is (sym (same place (omega arith) ∙ among)) reached in
       (λ w. through.0 (before.0 w), λ g. before.1 (through.1 g));
 }
 
 -- it passes what is between two of them
-kept-passed : (h : Hands) (X Y : State → Type 0) (es : List Exchange) (low place : ℕ) (found : List ℕ) → All (λ p. p < low) found → low ≤ place
-    → ArePassedTo h es low X place Y → IsKept h X es low found → IsKept h Y es place found
-kept-passed h X Y es low place found below le passed kept = record {
+kept-passed : (profile : Profile) (X Y : State → Type 0) (es : List Exchange) (low place : ℕ) (found : List ℕ) → All (λ p. p < low) found → low ≤ place
+    → ArePassedTo profile es low X place Y → IsKept profile X es low found → IsKept profile Y es place found
+kept-passed profile X Y es low place found below le passed kept = record {
   goes = λ b same.
       let before = kept.goes b (λ k l. same k (omega arith)) in
       let after = passed.goes b (λ k m l. same k l ∙ not_among low found below k m) in
@@ -134,45 +134,45 @@ kept-passed h X Y es low place found below le passed kept = record {
 }
 
 -- what is asked of it is asked of all exchanges
-kept-asked : (h : Hands) (X : State → Type 0) (es : List Exchange) (low place : ℕ) (found : List ℕ) → All (λ p. p < low) found → low ≤ place
-    → IsKept h X es low found → HasBelieving h (is_in_question place found) es ↔ GoesOnFrom h X low (nat_le place) es
-kept-asked h X es low place found below le kept =
+kept-asked : (profile : Profile) (X : State → Type 0) (es : List Exchange) (low place : ℕ) (found : List ℕ) → All (λ p. p < low) found → low ≤ place
+    → IsKept profile X es low found → HasBelieving profile (is_in_question place found) es ↔ GoesOnFrom profile X low (nat_le place) es
+kept-asked profile X es low place found below le kept =
     let all = kept.goes (is_in_question place found) (λ k l. grind (arith, nat_tests)) in (
-      λ w. goes-same h X _ _ (drop low es) (λ j l. let none = not_among low found below (low + j) (omega arith) in grind (arith, nat_tests)) (all.0 w),
-      λ g. all.1 (goes-same h X _ _ (drop low es) (λ j l. let none = not_among low found below (low + j) (omega arith) in grind (arith, nat_tests)) g),
+      λ w. goes-same profile X _ _ (drop low es) (λ j l. let none = not_among low found below (low + j) (omega arith) in grind (arith, nat_tests)) (all.0 w),
+      λ g. all.1 (goes-same profile X _ _ (drop low es) (λ j l. let none = not_among low found below (low + j) (omega arith) in grind (arith, nat_tests)) g),
     )
 
 -- ---- the search
 
 -- the first place is found by a tracker of the first states
-pub first-asked : (h : Hands) (X : State → Type 0) (es : List Exchange) (place : ℕ) → All SetsInDay es → ((s : State) → X s ↔ IsFirst h s) → place ≤ length es
-    → GoesOn h X (nat_le (length {A = Exchange} [])) ([] ++ slice_range es place (length es))
-    ↔ HasBelieving h (nat_le place) es
-first-asked h X es place sets firsts le =
-    let all = goes-start h (nat_le place) es place X sets le (λ k below. grind (arith, nat_tests)) firsts in
+pub first-asked : (profile : Profile) (X : State → Type 0) (es : List Exchange) (place : ℕ) → ((s : State) → X s ↔ IsFirst profile s) → place ≤ length es
+    → GoesOn profile X (nat_le (length {A = Exchange} [])) ([] ++ slice_range es place (length es))
+    ↔ HasBelieving profile (nat_le place) es
+first-asked profile X es place firsts le =
+    let all = goes-start profile (nat_le place) es place X le (λ k below. grind (arith, nat_tests)) firsts in
     rw (take_rest es place) (
-      λ g. all.1 (goes-same h X _ _ (drop place es) (λ k below. grind (arith, nat_tests)) g),
-      λ w. goes-same h X _ _ (drop place es) (λ k below. grind (arith, nat_tests)) (all.0 w),
+      λ g. all.1 (goes-same profile X _ _ (drop place es) (λ k below. grind (arith, nat_tests)) g),
+      λ w. goes-same profile X _ _ (drop place es) (λ k below. grind (arith, nat_tests)) (all.0 w),
     )
 
 -- between two places the next one is looked for
-pub between-moved : (h : Hands) (X Y : State → Type 0) (es : List Exchange) (low place high : ℕ) → IsBetween h X es low high → low ≤ place → place < high
-    → ¬ GoesOnFrom h X low (nat_le place) es → ArePassedTo h es low X place Y → IsBetween h Y es place high
-between-moved h X Y es low place high old above below none passed = record {
+pub between-moved : (profile : Profile) (X Y : State → Type 0) (es : List Exchange) (low place high : ℕ) → IsBetween profile X es low high → low ≤ place → place < high
+    → ¬ GoesOnFrom profile X low (nat_le place) es → ArePassedTo profile es low X place Y → IsBetween profile Y es place high
+between-moved profile X Y es low place high old above below none passed = record {
   low_high = below;
   high_end = old.high_end;
   contradict = λ g. none ((passed.goes (nat_le place) (λ k m l. grind (arith, nat_tests))).1 g);
   after = (passed.goes (nat_le high) (λ k m l. grind (arith, nat_tests))).0 old.after;
 }
 
-pub between-nearer : (h : Hands) (X : State → Type 0) (es : List Exchange) (low place high : ℕ) → IsBetween h X es low high → low < place → place < high
-    → GoesOnFrom h X low (nat_le place) es → IsBetween h X es low place
-between-nearer h X es low place high old above below run =
+pub between-nearer : (profile : Profile) (X : State → Type 0) (es : List Exchange) (low place high : ℕ) → IsBetween profile X es low high → low < place → place < high
+    → GoesOnFrom profile X low (nat_le place) es → IsBetween profile X es low place
+between-nearer profile X es low place high old above below run =
     record { low_high = above; high_end = let end = old.high_end in omega arith; contradict = old.contradict; after = run }
 
-pub passed-on : (h : Hands) (X Y Z : State → Type 0) (es : List Exchange) (from low place : ℕ) → from ≤ low → low ≤ place → ArePassedTo h es from X low Y
-    → ArePassedTo h es low Y place Z → ArePassedTo h es from X place Z
-passed-on h X Y Z es from low place le more one two = record {
+pub passed-on : (profile : Profile) (X Y Z : State → Type 0) (es : List Exchange) (from low place : ℕ) → from ≤ low → low ≤ place → ArePassedTo profile es from X low Y
+    → ArePassedTo profile es low Y place Z → ArePassedTo profile es from X place Z
+passed-on profile X Y Z es from low place le more one two = record {
   goes = λ b none.
       let first = one.goes b (λ k m l. none k m (omega arith)) in
       let second = two.goes b (λ k m l. none k (omega arith) l) in
@@ -180,75 +180,75 @@ passed-on h X Y Z es from low place le more one two = record {
 }
 
 -- the places so far, of which this is the last, and the states that the tracker keeps before it believes the reply there
-pub record IsReached (h : Hands) (X : State → Type 0) (es : List Exchange) (place : ℕ) (places : List ℕ) : Type 0 where
+pub record IsReached (profile : Profile) (X : State → Type 0) (es : List Exchange) (place : ℕ) (places : List ℕ) : Type 0 where
   pub within : place < length es
   pub earlier : List ℕ
   pub end_with : places ≡ earlier ++ place ∷ []
-  pub found : AreFound h es (place + 1) places
-  pub kept : IsKept h X es place places
+  pub found : AreFound profile es (place + 1) places
+  pub kept : IsKept profile X es place places
 
-pub reached-first : (h : Hands) (X : State → Type 0) (es : List Exchange) (place : ℕ) → All SetsInDay es → ((s : State) → X s ↔ IsFirst h s)
-    → place < length es → Contradict h (nat_le place) es → HasBelieving h (nat_le (place + 1)) es → IsReached h X es place (place ∷ [])
-reached-first h X es place sets firsts within contradict after = record {
+pub reached-first : (profile : Profile) (X : State → Type 0) (es : List Exchange) (place : ℕ) → ((s : State) → X s ↔ IsFirst profile s)
+    → place < length es → Contradict profile (nat_le place) es → HasBelieving profile (nat_le (place + 1)) es → IsReached profile X es place (place ∷ [])
+reached-first profile X es place firsts within contradict after = record {
   within = within;
   earlier = [];
   end_with = refl;
-  found = found-more h es place place [] (found-start h es place contradict) (omega arith) (found-start h es place contradict).contradict
-      (believing_fewer h (nat_le (place + 1)) (is_in_question (place + 1) []) es (λ k e. grind (arith, nat_tests)) after);
-  kept = kept-push h X es place [] (kept-start h X es place sets firsts (omega arith));
+  found = found-more profile es place place [] (found-start profile es place contradict) (omega arith) (found-start profile es place contradict).contradict
+      (believing_fewer profile (nat_le (place + 1)) (is_in_question (place + 1) []) es (λ k e. grind (arith, nat_tests)) after);
+  kept = kept-push profile X es place [] (kept-start profile X es place firsts (omega arith));
 }
 
 -- the reply at the place is believed
-reached-believed : (h : Hands) (X Y : State → Type 0) (es : List Exchange) (place : ℕ) (e : Exchange) (found : List ℕ) → e ≡ slice_index_or es place e
-    → AreReached X (DriftsAndMayDo h true e) Y → IsReached h X es place found → IsKept h Y es (place + 1) found
-reached-believed h X Y es place e found is reached at =
-    kept-believed h X Y es place e found at.within is
+reached-believed : (profile : Profile) (X Y : State → Type 0) (es : List Exchange) (place : ℕ) (e : Exchange) (found : List ℕ) → e ≡ slice_index_or es place e
+    → AreReached X (DriftsAndMayDo profile true e) Y → IsReached profile X es place found → IsKept profile Y es (place + 1) found
+reached-believed profile X Y es place e found is reached at =
+    kept-believed profile X Y es place e found at.within is
     (let more = among_more at.earlier place place in rw at.end_with (grind (arith, nat_tests))) reached at.kept
 
 -- where the next place is looked for
-pub reached-between : (h : Hands) (X Y : State → Type 0) (es : List Exchange) (place : ℕ) (e : Exchange) (found : List ℕ) → BreaksAtLast h es
-    → e ≡ slice_index_or es place e → AreReached X (DriftsAndMayDo h true e) Y → IsReached h X es place found → place + 1 < length es
-    → IsBetween h Y es (place + 1) (length es)
-reached-between h X Y es place e found breaks is reached at more =
-    let kept = reached-believed h X Y es place e found is reached at in
+pub reached-between : (profile : Profile) (X Y : State → Type 0) (es : List Exchange) (place : ℕ) (e : Exchange) (found : List ℕ) → BreaksAtLast profile es
+    → e ≡ slice_index_or es place e → AreReached X (DriftsAndMayDo profile true e) Y → IsReached profile X es place found → place + 1 < length es
+    → IsBetween profile Y es (place + 1) (length es)
+reached-between profile X Y es place e found breaks is reached at more =
+    let kept = reached-believed profile X Y es place e found is reached at in
     let none = not_among (place + 1) found at.found.below (length es - 1) (omega arith) in
     record {
       low_high = more;
       high_end = omega arith;
-      contradict = λ g. at.found.contradict ((kept-asked h Y es (place + 1) (place + 1) found at.found.below (omega arith) kept).1 g);
-      after = (kept-asked h Y es (place + 1) (length es) found at.found.below (omega arith) kept).0
-          (without_last h (is_in_question (length es) found) es (length es - 1) breaks (omega arith) (grind (arith, nat_tests)));
+      contradict = λ g. at.found.contradict ((kept-asked profile Y es (place + 1) (place + 1) found at.found.below (omega arith) kept).1 g);
+      after = (kept-asked profile Y es (place + 1) (length es) found at.found.below (omega arith) kept).0
+          (without_last profile (is_in_question (length es) found) es (length es - 1) breaks (omega arith) (grind (arith, nat_tests)));
     }
 
 -- it is found, and the tracker passes up to it
-pub reached-next : (h : Hands) (X Y Z : State → Type 0) (es : List Exchange) (place next : ℕ) (e : Exchange) (found : List ℕ)
-    → e ≡ slice_index_or es place e → AreReached X (DriftsAndMayDo h true e) Y → IsReached h X es place found → place + 1 ≤ next
-    → ArePassedTo h es (place + 1) Y next Z → IsBetween h Z es next (next + 1) → IsReached h Z es next (found ++ next ∷ [])
-reached-next h X Y Z es place next e found is reached at le passed between = record {
+pub reached-next : (profile : Profile) (X Y Z : State → Type 0) (es : List Exchange) (place next : ℕ) (e : Exchange) (found : List ℕ)
+    → e ≡ slice_index_or es place e → AreReached X (DriftsAndMayDo profile true e) Y → IsReached profile X es place found → place + 1 ≤ next
+    → ArePassedTo profile es (place + 1) Y next Z → IsBetween profile Z es next (next + 1) → IsReached profile Z es next (found ++ next ∷ [])
+reached-next profile X Y Z es place next e found is reached at le passed between = record {
   within = let high = between.high_end in omega arith;
   earlier = found;
   end_with = refl;
-  found = found-more h es (place + 1) next found at.found le (λ w. between.contradict ((asked next (omega arith)).0 w))
+  found = found-more profile es (place + 1) next found at.found le (λ w. between.contradict ((asked next (omega arith)).0 w))
       ((asked (next + 1) (omega arith)).1 between.after);
-  kept = kept-push h Z es next found kept;
+  kept = kept-push profile Z es next found kept;
 }
   where
-    kept : IsKept h Z es next found
-    kept = kept-passed h Y Z es (place + 1) next found at.found.below le passed (reached-believed h X Y es place e found is reached at)
+    kept : IsKept profile Z es next found
+    kept = kept-passed profile Y Z es (place + 1) next found at.found.below le passed (reached-believed profile X Y es place e found is reached at)
 
-    asked : (from : ℕ) → next ≤ from → HasBelieving h (is_in_question from found) es ↔ GoesOnFrom h Z next (nat_le from) es
-    asked from low = kept-asked h Z es next from found (λ i d l. let b = at.found.below i d l in omega arith) low kept
+    asked : (from : ℕ) → next ≤ from → HasBelieving profile (is_in_question from found) es ↔ GoesOnFrom profile Z next (nat_le from) es
+    asked from low = kept-asked profile Z es next from found (λ i d l. let b = at.found.below i d l in omega arith) low kept
 
 -- the last place is that of the last exchange
-pub reached-all : (h : Hands) (X : State → Type 0) (es : List Exchange) (place : ℕ) (found : List ℕ) → IsReached h X es place found → length es ≤ place + 1
-    → IsContradiction h es found
-reached-all h X es place found at past = record {
+pub reached-all : (profile : Profile) (X : State → Type 0) (es : List Exchange) (place : ℕ) (found : List ℕ) → IsReached profile X es place found → length es ≤ place + 1
+    → IsContradiction profile es found
+reached-all profile X es place found at past = record {
   contradict = λ w. at.found.contradict (record {
     first = w.first;
     is_first = w.is_first;
     after = w.after;
     is_run =
-        same_places h _ _ es w.first w.after (λ k below. grind (arith, nat_tests)) w.is_run;
+        same_places profile _ _ es w.first w.after (λ k below. grind (arith, nat_tests)) w.is_run;
   });
   needed = at.found.needed;
   ascend = at.found.ascend;

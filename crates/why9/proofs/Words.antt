@@ -6,10 +6,9 @@ pub use Rattle.deck9.specs.Drift.{Drift}
 pub use Rattle.deck9.specs.Step.{DeckStep, done, ignored, refused}
 pub use Rattle.deck9.proofs.ContradictLemmas.{before_the_first, believing_all, believing_fewer}
 pub use Rattle.deck9.specs.Contradict.{behind_first, Contradict, HasBelieving, IsBelievingFrom, MayDo}
-pub use Rattle.deck9.specs.Laws.{SetsInDay}
 pub use Rattle.deck9.specs.State.{IsFirst}
 pub use Rattle.deck9.specs.Step.{AreReached}
-pub use Rattle.deck9.specs.declared.state.Hands.{Hands}
+pub use Rattle.deck9.specs.declared.profile.Profile.{Profile}
 pub use Rattle.deck9.specs.declared.state.State.{State}
 pub use Rattle.std.proofs.Common.{[], ap, append_assoc, arith, Bool, drop, false, inl, inr, length, length-append, List, nat_le, nat_lt, not, refl, slice_index_or, slice_range, subst, suc, sym, take}
 pub use Rattle.std.proofs.Common.{true, ℕ, ◌&&◌, ◌++◌, ◌+◌, ◌-◌, ◌<◌, ◌==◌, ◌||◌, ◌↔◌, ◌∙◌, ◌∷◌, ◌≡◌, ◌≤◌, ◌⊎◌}
@@ -17,7 +16,7 @@ pub use Rattle.std.proofs.Math.Seq.{drop-cons}
 pub use Rattle.std.proofs.lemmas.Bool.{false≢true}
 pub use Rattle.std.proofs.lemmas.Bool.Decides.{nat_tests}
 pub use Rattle.std.proofs.lemmas.List.{drop-drop, length-drop, length-take-le, take-append-drop, take_more, take_rest}
-pub use Rattle.std.proofs.lemmas.List.Elements.{All-head, All-nil, All-push, All-tail, All-take}
+pub use Rattle.std.proofs.lemmas.List.Elements.{All-head, All-nil, All-push, All-tail}
 pub use Rattle.std.proofs.lemmas.List.Folds.{list_any-append}
 pub use Rattle.std.proofs.lemmas.List.Quantifiers.{all_pairs_push}
 pub use Rattle.std.proofs.lemmas.Result.{IfOk-weaker}

@@ -2,17 +2,17 @@
 use Rattle.std.specs.Prelude.{ℕ, ◌≡◌, ◌<◌, ◌+◌, ◌==◌, ◌&&◌, ◌||◌, nat_lt, not, Bool, true, List, [], ◌∷◌, ◌++◌, length}
 use Rattle.std.specs.List.{AllPairs, list_any}
 use Rattle.block9.specs.declared.pairer.Exchange.{Exchange}
-use Rattle.deck9.specs.declared.state.Hands.{Hands}
+use Rattle.deck9.specs.declared.profile.Profile.{Profile}
 use Rattle.deck9.specs.Contradict.{Contradict, HasBelieving}
 use Rattle.deck9.specs.Run.{HasRun}
 
 -- no run gives these replies, and one gives all of them but the last
-pub record BreaksAtLast (h : Hands) (es : List Exchange) : Type 0 where
+pub record BreaksAtLast (profile : Profile) (es : List Exchange) : Type 0 where
   pub before : List Exchange
   pub last : Exchange
   pub is_split : es ≡ before ++ last ∷ []
-  pub has_run : HasRun h before
-  pub has_none : ¬ HasRun h es
+  pub has_run : HasRun profile before
+  pub has_none : ¬ HasRun profile es
 
 -- a place is one of these
 abbrev pub is_among : List ℕ → ℕ → Bool
@@ -23,11 +23,11 @@ abbrev pub is_among_others : List ℕ → ℕ → ℕ → Bool
 is_among_others places p k = is_among places k && not (k == p)
 
 -- places of exchanges, counted from 0
-pub record IsContradiction (h : Hands) (es : List Exchange) (places : List ℕ) : Type 0 where
+pub record IsContradiction (profile : Profile) (es : List Exchange) (places : List ℕ) : Type 0 where
   -- the replies at these places contradict one another
-  pub contradict : Contradict h (is_among places) es
+  pub contradict : Contradict profile (is_among places) es
   -- each is needed, and as late as it can be: the others, with all replies after this place, do not
-  pub needed : (p : ℕ) → is_among places p ≡ true → HasBelieving h (λ k. nat_lt p k || is_among_others places p k) es
+  pub needed : (p : ℕ) → is_among places p ≡ true → HasBelieving profile (λ k. nat_lt p k || is_among_others places p k) es
   -- they ascend, to the place of the last exchange
   pub ascend : AllPairs (λ p q. p < q) places
   pub earlier : List ℕ

@@ -3,10 +3,10 @@ ghost use Rattle.std.specs.Prelude.{◌≡◌, ℕ, List};
 ghost use Rattle.block9.specs.declared.pairer.Exchange.{Exchange};
 ghost use Rattle.why9.specs.Contradiction.{IsContradiction};
 
-use deck9::Hands;
+use deck9::Profile;
 
 /// Of all replies that contradict one another one choice alone is nearest to the break.
 pub fn one_contradiction()
-    ensures { (h : Hands) (es : List Exchange) (places others : List ℕ)
-        → IsContradiction h es places → IsContradiction h es others → places ≡ others }
+    ensures { (p : Profile) (es : List Exchange) (places others : List ℕ)
+        → IsContradiction p es places → IsContradiction p es others → places ≡ others }
 {}

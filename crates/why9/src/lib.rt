@@ -10,4 +10,4 @@ pub mod laws;
 mod question;
 mod search;
 
-pub use search::contradicting;
+pub use search::{contradicting, contradicting_for};

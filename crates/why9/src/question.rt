@@ -18,7 +18,7 @@ pub(crate) fn leaves_a_run(
     passed: &[Exchange],
     believed: &[Exchange],
 ) -> Result<bool, AllocError>
-    ensures { IfOk result (λ b. IsTrue b ↔ GoesOn tracker.now.hands (Possible tracker.now.states) (nat_le (length passed.now)) (passed.now ++ believed.now)) }
+    ensures { IfOk result (λ b. IsTrue b ↔ GoesOn tracker.now.profile (Possible tracker.now.states) (nat_le (length passed.now)) (passed.now ++ believed.now)) }
 {
     let mut copy = tracker.snapshot()?;
     let leaves = pass_and_believe(&mut copy, passed, believed);
@@ -32,7 +32,7 @@ fn pass_and_believe(
     passed: &[Exchange],
     believed: &[Exchange],
 ) -> Result<bool, AllocError>
-    ensures { IfOk result (λ b. IsTrue b ↔ GoesOn tracker.old.hands (Possible tracker.old.states) (nat_le (length passed.now)) (passed.now ++ believed.now)) }
+    ensures { IfOk result (λ b. IsTrue b ↔ GoesOn tracker.old.profile (Possible tracker.old.states) (nat_le (length passed.now)) (passed.now ++ believed.now)) }
 {
     pass_all(tracker, passed)?;
     believe_all(tracker, believed)
@@ -43,8 +43,8 @@ pub(crate) fn pass_all(
     tracker: &mut Tracker<SpanSet>,
     exchanges: &[Exchange],
 ) -> Result<(), AllocError>
-    ensures passed { OnOk result (ArePassed tracker.old.hands (Possible tracker.old.states) exchanges.now (Possible tracker.new.states)) }
-    ensures hands { OnOk result (tracker.new.hands ≡ tracker.old.hands) }
+    ensures passed { OnOk result (ArePassed tracker.old.profile (Possible tracker.old.states) exchanges.now (Possible tracker.new.states)) }
+    ensures profile { OnOk result (tracker.new.profile ≡ tracker.old.profile) }
 {
     for exchange in exchanges {
         tracker.pass(&exchange.command)?;
@@ -56,7 +56,7 @@ pub(crate) fn pass_all(
 ///
 /// A NAK keeps the state, and the drift before it goes on in the next one, so whether some run does hangs on no NAK.
 fn believe_all(tracker: &mut Tracker<SpanSet>, exchanges: &[Exchange]) -> Result<bool, AllocError>
-    ensures { IfOk result (λ b. IsTrue b ↔ GoesOn tracker.old.hands (Possible tracker.old.states) (λ k. true) exchanges.now) }
+    ensures { IfOk result (λ b. IsTrue b ↔ GoesOn tracker.old.profile (Possible tracker.old.states) (λ k. true) exchanges.now) }
 {
     for exchange in exchanges {
         if exchange.reply.is_nak() {
@@ -74,9 +74,9 @@ pub(crate) fn believe(
     tracker: &mut Tracker<SpanSet>,
     exchange: &Exchange,
 ) -> Result<bool, AllocError>
-    ensures reached { IfOk result (λ b. AreReached (Possible tracker.old.states) (DriftsAndMayDo tracker.old.hands true exchange.now) (Possible tracker.new.states)) }
+    ensures reached { IfOk result (λ b. AreReached (Possible tracker.old.states) (DriftsAndMayDo tracker.old.profile true exchange.now) (Possible tracker.new.states)) }
     ensures remains { IfOk result (λ b. IsTrue b ↔ ((s : AState) × Possible tracker.new.states s)) }
-    ensures hands { IfOk result (λ b. tracker.new.hands ≡ tracker.old.hands) }
+    ensures profile { IfOk result (λ b. tracker.new.profile ≡ tracker.old.profile) }
 {
     tracker.observe(&exchange.command, &exchange.reply)
 }

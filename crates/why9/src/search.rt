@@ -3,9 +3,7 @@
 //! One tracker goes along, from the first place found to the last: it believes the replies at the places found, and passes the
 //! exchanges between them. A question goes on from a copy of it, so it looks at no place found again.
 ghost use Rattle.std.specs.Prelude.{◌≡◌, ◌↔◌, ◌<◌, ◌≤◌, ◌+◌, IfOk, false, length, nat_le, true};
-ghost use Rattle.std.specs.List.{All};
 ghost use Rattle.deck9.specs.Contradict.{Contradict, HasBelieving};
-ghost use Rattle.deck9.specs.Laws.{SetsInDay};
 ghost use Rattle.deck9.specs.State.{IsFirst};
 ghost use Rattle.deck9.specs.declared.state.State.{State as AState};
 ghost use Rattle.track9.specs.Tracker.{Possible};
@@ -14,9 +12,10 @@ ghost use Rattle.why9.specs.Working.{ArePassedTo, GoesOnFrom, IsBetween};
 
 use crate::question::{believe, leaves_a_run, pass_all};
 use block9::Exchange;
-use deck9::Hands;
+use deck9::{Hands, Profile};
 use sets25::SpanSet;
 use std::alloc::{AllocError, Global};
+use tc25::Rate;
 use track9::Tracker;
 
 /// The places, counted from 0, of replies that contradict one another, in ascending order.
@@ -32,11 +31,24 @@ pub fn contradicting(
     hands: Hands,
     exchanges: &[Exchange],
 ) -> Result<Vec<usize>, AllocError>
-    requires presets { All SetsInDay exchanges.now }
-    requires breaks { BreaksAtLast hands exchanges.now }
-    ensures { IfOk result (λ places. IsContradiction hands exchanges.now places.items) }
+    requires breaks { BreaksAtLast (record { rate = Rate.Fps25; hands = hands }) exchanges.now }
+    ensures { IfOk result (λ places. IsContradiction (record { rate = Rate.Fps25; hands = hands }) exchanges.now places.items) }
 {
-    let mut tracker = Tracker::new(alloc, hands)?;
+    contradicting_for(alloc, Profile::of(hands), exchanges)
+}
+
+/// The places of replies that contradict one another for a deck that is taken for this: [`contradicting`] at any rate.
+///
+/// An error comes where memory is refused.
+pub fn contradicting_for(
+    alloc: Global,
+    profile: Profile,
+    exchanges: &[Exchange],
+) -> Result<Vec<usize>, AllocError>
+    requires breaks { BreaksAtLast profile exchanges.now }
+    ensures { IfOk result (λ places. IsContradiction profile exchanges.now places.items) }
+{
+    let mut tracker = Tracker::of(alloc, profile)?;
     let places = find_places(alloc, &mut tracker, exchanges);
     drop(tracker);
     places
@@ -48,10 +60,9 @@ fn find_places(
     tracker: &mut Tracker<SpanSet>,
     exchanges: &[Exchange],
 ) -> Result<Vec<usize>, AllocError>
-    requires presets { All SetsInDay exchanges.now }
-    requires breaks { BreaksAtLast tracker.old.hands exchanges.now }
-    requires states { (s : AState) → Possible tracker.old.states s ↔ IsFirst tracker.old.hands s }
-    ensures { IfOk result (λ places. IsContradiction tracker.old.hands exchanges.now places.items) }
+    requires breaks { BreaksAtLast tracker.old.profile exchanges.now }
+    requires states { (s : AState) → Possible tracker.old.states s ↔ IsFirst tracker.old.profile s }
+    ensures { IfOk result (λ places. IsContradiction tracker.old.profile exchanges.now places.items) }
 {
     let mut places = Vec::new(alloc);
     let mut place = first_place(tracker, exchanges)?;
@@ -72,12 +83,11 @@ fn find_places(
 /// Passing exchanges leads the first states to the first states. So a question needs to pass none: it begins at its place,
 /// and costs what lies after it.
 fn first_place(tracker: &Tracker<SpanSet>, exchanges: &[Exchange]) -> Result<usize, AllocError>
-    requires presets { All SetsInDay exchanges.now }
-    requires breaks { BreaksAtLast tracker.now.hands exchanges.now }
-    requires states { (s : AState) → Possible tracker.now.states s ↔ IsFirst tracker.now.hands s }
+    requires breaks { BreaksAtLast tracker.now.profile exchanges.now }
+    requires states { (s : AState) → Possible tracker.now.states s ↔ IsFirst tracker.now.profile s }
     ensures within { IfOk result (λ place. place < length exchanges.now) }
-    ensures contradict { IfOk result (λ place. Contradict tracker.now.hands (nat_le place) exchanges.now) }
-    ensures after { IfOk result (λ place. HasBelieving tracker.now.hands (nat_le (place + 1)) exchanges.now) }
+    ensures contradict { IfOk result (λ place. Contradict tracker.now.profile (nat_le place) exchanges.now) }
+    ensures after { IfOk result (λ place. HasBelieving tracker.now.profile (nat_le (place + 1)) exchanges.now) }
 {
     let mut low = 0;
     let mut high = exchanges.len();
@@ -105,11 +115,11 @@ fn next_place(
     low: usize,
     between: usize,
 ) -> Result<usize, AllocError>
-    requires { IsBetween tracker.old.hands (Possible tracker.old.states) exchanges.now low (length exchanges.now) }
+    requires { IsBetween tracker.old.profile (Possible tracker.old.states) exchanges.now low (length exchanges.now) }
     ensures low { IfOk result (λ place. low ≤ place) }
-    ensures next { IfOk result (λ place. IsBetween tracker.old.hands (Possible tracker.new.states) exchanges.now place (place + 1)) }
-    ensures passed { IfOk result (λ place. ArePassedTo tracker.old.hands exchanges.now low (Possible tracker.old.states) place (Possible tracker.new.states)) }
-    ensures hands { IfOk result (λ place. tracker.new.hands ≡ tracker.old.hands) }
+    ensures next { IfOk result (λ place. IsBetween tracker.old.profile (Possible tracker.new.states) exchanges.now place (place + 1)) }
+    ensures passed { IfOk result (λ place. ArePassedTo tracker.old.profile exchanges.now low (Possible tracker.old.states) place (Possible tracker.new.states)) }
+    ensures profile { IfOk result (λ place. tracker.new.profile ≡ tracker.old.profile) }
 {
     let mut place = low;
     let mut high = exchanges.len();
@@ -138,11 +148,11 @@ fn moves_on(
 ) -> Result<bool, AllocError>
     requires low { low ≤ place }
     requires place { place ≤ length exchanges.now }
-    ensures contradict { IfOk result (λ b. b ≡ true → ¬ GoesOnFrom tracker.old.hands (Possible tracker.old.states) low (nat_le place) exchanges.now) }
-    ensures passed { IfOk result (λ b. b ≡ true → ArePassedTo tracker.old.hands exchanges.now low (Possible tracker.old.states) place (Possible tracker.new.states)) }
-    ensures run { IfOk result (λ b. b ≡ false → GoesOnFrom tracker.old.hands (Possible tracker.old.states) low (nat_le place) exchanges.now) }
+    ensures contradict { IfOk result (λ b. b ≡ true → ¬ GoesOnFrom tracker.old.profile (Possible tracker.old.states) low (nat_le place) exchanges.now) }
+    ensures passed { IfOk result (λ b. b ≡ true → ArePassedTo tracker.old.profile exchanges.now low (Possible tracker.old.states) place (Possible tracker.new.states)) }
+    ensures run { IfOk result (λ b. b ≡ false → GoesOnFrom tracker.old.profile (Possible tracker.old.states) low (nat_le place) exchanges.now) }
     ensures unchanged { IfOk result (λ b. b ≡ false → tracker.new ≡ tracker.old) }
-    ensures hands { IfOk result (λ b. tracker.new.hands ≡ tracker.old.hands) }
+    ensures profile { IfOk result (λ b. tracker.new.profile ≡ tracker.old.profile) }
 {
     let passed = &exchanges[low..place];
     if leaves_a_run(tracker, passed, &exchanges[place..])? {

@@ -1,14 +1,41 @@
 -- What the words of the command line ask for, by `clap`'s own definition of a command and its words.
-use Rattle.std.specs.Prelude.{◌≡◌, List, [], ◌∷◌, Option, Some, None, codes, option_map, Bool, true, false, if◌then◌else◌}
+use Rattle.std.specs.Prelude.{◌≡◌, List, [], ◌∷◌, Option, Some, None, codes, find, map, option_map, Bool, true, false, if◌then◌else◌}
+use Rattle.std.specs.Borrow.{Bor}
+use Rattle.std.specs.Option.{option_map_or}
 use Rattle.std.specs.Str.{bytes_eq}
 use Rattle.std.specs.String.{string_bytes}
 use Rattle.clap.specs.Words.{App, IsAmong, Row, Rule, Text, fault_of, first_of, new_app, new_rule, subcommand_of, with_rule, with_subcommand}
 use Rattle.clap.specs.declared.builder.action.ArgAction.TheVariants.{SetTrue}
+use Rattle.clap.specs.declared.builder.value_parser.ValueParser.TheVariants as parser
 use Rattle.clap.specs.declared.error.kind.ErrorKind.TheVariants.{DisplayVersion}
+use Rattle.tc25.specs.declared.rate.Rate.{Rate}
+use Rattle.tc25.specs.declared.rate.Rate.TheVariants as rate
+use Rattle.deck9.specs.declared.profile.Profile.{Profile}
 use Rattle.deck9.specs.declared.state.Hands.TheVariants as hands
 use Rattle.words9.specs.declared.task.Task.{Task}
 use Rattle.words9.specs.declared.task.Verb.{Verb}
 use Rattle.words9.specs.declared.task.Verb.TheVariants as verb
+
+-- the rates, by their names
+abbrev pub rates : List (Text × Rate)
+rates = (codes "24", rate.Fps24) ∷ (codes "25", rate.Fps25) ∷ (codes "30", rate.Fps30) ∷ (codes "29.97df", rate.DropFrame) ∷ []
+
+-- the rate with this name. There is never one that no rate has: the program does not take such words
+abbrev pub rate_named : Text → Rate
+rate_named name = option_map_or (λ r. r.1) (find (λ r. bytes_eq name r.0) rates) rate.Fps25
+
+-- the rate that the option names, and 25 where it is not among the words
+abbrev pub rate_of : Option Text → Rate
+rate_of (Some name) = rate_named name
+rate_of None = rate.Fps25
+
+-- the names of the rates as the program has them: a list in its memory. A rule of `clap` is with its place there, but what `clap`'s
+-- definition says of words depends on the names alone. So below one place stands for all
+abbrev pub RateNames : Type 0
+RateNames = Bor (List (Bor Text))
+
+abbrev pub AreRateNames : RateNames → Type 0
+AreRateNames names = map (λ name. name.now) names.now ≡ map (λ r. r.0) rates
 
 -- a file, which may be left out
 abbrev pub file_rule : Rule
@@ -18,7 +45,11 @@ file_rule = new_rule (codes "FILE")
 abbrev pub hands_rule : Rule
 hands_rule = record (new_rule (codes "hands")) { long = Some (codes "hands"); action = Some SetTrue }
 
--- so is this one, which `run` has not
+-- an option with one of the names
+abbrev pub rate_rule : RateNames → Rule
+rate_rule names = record (new_rule (codes "rate")) { long = Some (codes "rate"); value_names = 1; parser = Some (parser.Names names) }
+
+-- an option that is there or not, which `run` has not
 abbrev pub all_rule : Rule
 all_rule = record (new_rule (codes "all")) { long = Some (codes "all"); action = Some SetTrue }
 
@@ -29,16 +60,16 @@ name_of verb.Explain = codes "explain"
 name_of verb.Run = codes "run"
 name_of verb.Why = codes "why"
 
--- what each subcommand has: the word of its verb, and then the file and the option of the panel
-abbrev pub plain_app_for : Verb → App
-plain_app_for verb = with_rule (with_rule (new_app (name_of verb)) file_rule) hands_rule
+-- what each subcommand has: the word of its verb, and then the file and the options of the panel and of the rate
+abbrev pub plain_app_for : RateNames → Verb → App
+plain_app_for names verb = with_rule (with_rule (with_rule (new_app (name_of verb)) file_rule) hands_rule) (rate_rule names)
 
 -- the subcommand of a verb
-abbrev pub app_for : Verb → App
-app_for verb.Check = with_rule (plain_app_for verb.Check) all_rule
-app_for verb.Explain = with_rule (plain_app_for verb.Explain) all_rule
-app_for verb.Run = plain_app_for verb.Run
-app_for verb.Why = with_rule (plain_app_for verb.Why) all_rule
+abbrev pub app_for : RateNames → Verb → App
+app_for names verb.Check = with_rule (plain_app_for names verb.Check) all_rule
+app_for names verb.Explain = with_rule (plain_app_for names verb.Explain) all_rule
+app_for names verb.Run = plain_app_for names verb.Run
+app_for names verb.Why = with_rule (plain_app_for names verb.Why) all_rule
 
 -- the program, which wants a subcommand, and has a version; its own name is not among the words
 abbrev pub top : App
@@ -48,36 +79,51 @@ top = record (new_app (codes "ninecheck")) {
 }
 
 -- the program with its subcommands
-abbrev pub program : App
-program =
-    with_subcommand (with_subcommand (with_subcommand (with_subcommand top (app_for verb.Check).top) (app_for verb.Explain).top) (app_for verb.Run).top)
-    (app_for verb.Why).top
+abbrev pub program : RateNames → App
+program names =
+    with_subcommand (with_subcommand (with_subcommand (with_subcommand top (app_for names verb.Check).top) (app_for names verb.Explain).top)
+    (app_for names verb.Run).top) (app_for names verb.Why).top
 
 -- the program takes the words: they name this verb, and these rows come with it
-abbrev pub Names : List Text → Verb → List Row → Type 0
-Names words verb rows = (fault_of program words ≡ []) × (subcommand_of program words ≡ Some (name_of verb, rows))
+abbrev pub Takes : RateNames → List Text → Verb → List Row → Type 0
+Takes names words verb rows = (fault_of (program names) words ≡ []) × (subcommand_of (program names) words ≡ Some (name_of verb, rows))
 
 -- the row of an option says `true`: it is among the words
 abbrev pub is_on : Option Text → Bool
 is_on (Some text) = bytes_eq text (codes "true")
 is_on None = false
 
--- the task is the one that the words give
-pub record IsTaskOf (words : List Text) (task : Task) : Type 0 where
+-- what the deck is taken for, by these rows
+abbrev pub profile_of : List Row → Profile
+profile_of rows = record {
+  rate = rate_of (first_of (codes "rate") rows);
+  hands = if is_on (first_of (codes "hands") rows) then hands.Allowed else hands.None;
+}
+
+-- the program takes the words, and they give this task
+pub record GivesTask (names : RateNames) (words : List Text) (task : Task) : Type 0 where
   pub rows : List Row
-  pub names : Names words task.verb rows
+  pub takes : Takes names words task.verb rows
   pub file : option_map string_bytes task.file ≡ first_of (codes "FILE") rows
-  pub hands : task.hands ≡ (if is_on (first_of (codes "hands") rows) then hands.Allowed else hands.None)
+  pub profile : task.profile ≡ profile_of rows
   pub all : task.all ≡ is_on (first_of (codes "all") rows)
+
+-- it does not take them
+abbrev pub GivesNoTask : RateNames → List Text → Type 0
+GivesNoTask names words = (verb : Verb) → (rows : List Row) → Takes names words verb rows → ⊥
+
+-- the task is the one that the words give
+abbrev pub IsTaskOf : List Text → Task → Type 0
+IsTaskOf words task = (names : RateNames) × AreRateNames names × GivesTask names words task
 
 -- the program does not take the words
 abbrev pub IsNoTask : List Text → Type 0
-IsNoTask words = (verb : Verb) → (rows : List Row) → Names words verb rows → ⊥
+IsNoTask words = (names : RateNames) × AreRateNames names × GivesNoTask names words
 
 -- the first that stops the program at the words is that they ask for its version
 abbrev pub AsksVersion : List Text → Type 0
-AsksVersion words = fault_of program words ≡ DisplayVersion ∷ []
+AsksVersion words = (names : RateNames) → AreRateNames names → fault_of (program names) words ≡ DisplayVersion ∷ []
 
 -- it is among what may be the first, where `clap`'s definition leaves a choice
 abbrev pub MayAskVersion : List Text → Type 0
-MayAskVersion words = IsAmong DisplayVersion (fault_of program words)
+MayAskVersion words = (names : RateNames) × AreRateNames names × IsAmong DisplayVersion (fault_of (program names) words)

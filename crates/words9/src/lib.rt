@@ -1,4 +1,7 @@
-//! The words of the program's command line: which subcommands there are, and the task that the words give.
+//! The words of the program's command line: which subcommands and options there are, and the task that the words give.
+//!
+//! Whatever is done with a capture, the words say what its deck is taken for: at which frame rate its times are counted, and
+//! whether somebody may have touched its panel.
 //!
 //! `clap` reads the words. They stand in a crate of their own, so that what `clap` costs to prove is paid beside
 //! judging and not after it.

@@ -1,9 +1,9 @@
 //! The program's subcommands, their words and their lines of help, as `clap` is told them.
 ghost use Rattle.std.specs.Prelude.{◌≡◌, IfOk, false, map};
 ghost use Rattle.std.specs.String.{string_bytes};
-ghost use Rattle.clap.specs.Words.{FailsBy, app_of, fault_of, subcommand_of, subcommand_rows_of, with_subcommand};
+ghost use Rattle.clap.specs.Words.{FailsBy, app_of, fault_of, rule_of, subcommand_of, subcommand_rows_of, with_subcommand};
 ghost use Rattle.clap.specs.declared.builder.command.Command.TheViews.{out-Command as fields_of};
-ghost use Rattle.words9.specs.Words.{app_for, name_of, plain_app_for, program, top};
+ghost use Rattle.words9.specs.Words.{AreRateNames, app_for, hands_rule, name_of, plain_app_for, program, rate_rule, top};
 
 use crate::task::{VERSION_LINE, Verb};
 use clap::{Arg, ArgAction, ArgMatches, Command, Error};
@@ -12,31 +12,48 @@ use std::alloc::{AllocError, Global};
 /// The program's name in its lines of help.
 const NAME: &str = "ninecheck";
 
-/// What `clap` makes of these words: the subcommand with its own words, or the first thing that is wrong.
-pub(crate) fn parsed<'a>(alloc: Global, words: &'a [String]) -> Result<ArgMatches<'a>, Error>
-    ensures matches { IfOk result (λ m.
-        subcommand_rows_of m ≡ subcommand_of program (map (λ s. string_bytes s) words.entry.now)) }
-    ensures kinds { FailsBy (fault_of program (map (λ s. string_bytes s) words.entry.now)) result }
+/// The names of the rates.
+pub(crate) fn rate_names<'a>() -> &'a [&'a str]
+    ensures { AreRateNames result }
 {
-    let command = whole(alloc)?;
+    &["24", "25", "30", "29.97df"]
+}
+
+/// What `clap` makes of these words, where these are the names of the rates: the subcommand with its own words, or the first thing
+/// that is wrong.
+pub(crate) fn parsed<'a>(
+    alloc: Global,
+    words: &'a [String],
+    rates: &'a [&'a str],
+) -> Result<ArgMatches<'a>, Error>
+    ensures matches { IfOk result (λ m. subcommand_rows_of m
+        ≡ subcommand_of (program rates.entry) (map (λ s. string_bytes s) words.entry.now)) }
+    ensures kinds { FailsBy (fault_of (program rates.entry) (map (λ s. string_bytes s) words.entry.now)) result }
+{
+    let command = whole(alloc, rates)?;
     command.try_get_matches_from(words)
 }
 
 /// The program with its subcommands.
-fn whole<'a>(alloc: Global) -> Result<Command<'a>, AllocError>
-    ensures { IfOk result (λ c. app_of c ≡ program) }
+fn whole<'a>(alloc: Global, rates: &'a [&'a str]) -> Result<Command<'a>, AllocError>
+    ensures { IfOk result (λ c. app_of c ≡ program rates.entry) }
 {
-    let command = with_verb(alloc, above(alloc)?, Verb::Check)?;
-    let command = with_verb(alloc, command, Verb::Explain)?;
-    let command = with_verb(alloc, command, Verb::Run)?;
-    with_verb(alloc, command, Verb::Why)
+    let command = with_verb(alloc, above(alloc)?, Verb::Check, rates)?;
+    let command = with_verb(alloc, command, Verb::Explain, rates)?;
+    let command = with_verb(alloc, command, Verb::Run, rates)?;
+    with_verb(alloc, command, Verb::Why, rates)
 }
 
 /// A command with the subcommand of a verb.
-fn with_verb<'a>(alloc: Global, command: Command<'a>, verb: Verb) -> Result<Command<'a>, AllocError>
-    ensures { IfOk result (λ c. app_of c ≡ with_subcommand (app_of command.entry) (app_for verb).top) }
+fn with_verb<'a>(
+    alloc: Global,
+    command: Command<'a>,
+    verb: Verb,
+    rates: &'a [&'a str],
+) -> Result<Command<'a>, AllocError>
+    ensures { IfOk result (λ c. app_of c ≡ with_subcommand (app_of command.entry) (app_for rates.entry verb).top) }
 {
-    let subcommand = subcommand(alloc, verb)?;
+    let subcommand = subcommand(alloc, verb, rates)?;
     command.subcommand(subcommand)
 }
 
@@ -53,11 +70,15 @@ fn above<'a>(alloc: Global) -> Result<Command<'a>, AllocError>
 }
 
 /// A subcommand with its file and its options.
-fn subcommand<'a>(alloc: Global, verb: Verb) -> Result<Command<'a>, AllocError>
-    ensures app { IfOk result (λ c. app_of c ≡ app_for verb) }
+fn subcommand<'a>(
+    alloc: Global,
+    verb: Verb,
+    rates: &'a [&'a str],
+) -> Result<Command<'a>, AllocError>
+    ensures app { IfOk result (λ c. app_of c ≡ app_for rates.entry verb) }
     ensures local { IfOk result (λ c. (fields_of c).has_globals ≡ false) }
 {
-    let command = plain_subcommand(alloc, verb)?;
+    let command = plain_subcommand(alloc, verb, rates)?;
     match verb {
         Verb::Run => Ok(command),
         Verb::Check | Verb::Explain | Verb::Why => {
@@ -70,21 +91,51 @@ fn subcommand<'a>(alloc: Global, verb: Verb) -> Result<Command<'a>, AllocError>
     }
 }
 
-/// A subcommand with what each has: its file, and the option of the panel.
-fn plain_subcommand<'a>(alloc: Global, verb: Verb) -> Result<Command<'a>, AllocError>
-    ensures app { IfOk result (λ c. app_of c ≡ plain_app_for verb) }
+/// A subcommand with what each has: its file, and the options of the panel and of the rate.
+fn plain_subcommand<'a>(
+    alloc: Global,
+    verb: Verb,
+    rates: &'a [&'a str],
+) -> Result<Command<'a>, AllocError>
+    ensures app { IfOk result (λ c. app_of c ≡ plain_app_for rates.entry verb) }
     ensures local { IfOk result (λ c. (fields_of c).has_globals ≡ false) }
 {
     let file = Arg::new(alloc, "FILE").help(
         "The capture of both wires of the RS-422 line, as CSV; standard input if left out",
     );
-    let hands = Arg::new(alloc, "hands")
+    let command = Command::new(alloc, name_of(verb)).about(about(verb));
+    let command = command
+        .arg(file)?
+        .arg(hands(alloc))?
+        .arg(rate(alloc, rates))?;
+    Ok(command)
+}
+
+/// The option of the panel.
+fn hands<'a>(alloc: Global) -> Arg<'a>
+    ensures rule { rule_of result ≡ hands_rule }
+    ensures local { result.global ≡ false }
+{
+    Arg::new(alloc, "hands")
         .long("hands")
         .action(ArgAction::SetTrue)
-        .help("Allow that somebody touched the deck's front panel during the capture");
-    let command = Command::new(alloc, name_of(verb)).about(about(verb));
-    let command = command.arg(file)?.arg(hands)?;
-    Ok(command)
+        .help("Allow that somebody touched the deck's front panel during the capture")
+}
+
+/// The option of the rate. Its line of help says what each name is also for, so `clap` lists the bare names only where it refuses
+/// another.
+fn rate<'a>(alloc: Global, rates: &'a [&'a str]) -> Arg<'a>
+    ensures rule { rule_of result ≡ rate_rule rates.entry }
+    ensures local { result.global ≡ false }
+{
+    Arg::new(alloc, "rate")
+        .long("rate")
+        .value_name("RATE")
+        .value_parser(rates)
+        .hide_possible_values(true)
+        .help(
+            "The frame rate of the time code: 24 (also 23.976), 25 (if left out), 30 (also 29.97 without drop frame), 29.97df",
+        )
 }
 
 /// A verb's word.

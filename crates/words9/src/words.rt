@@ -3,23 +3,24 @@ ghost use Rattle.std.specs.Prelude.{◌≡◌, ◌≢◌, IfOk, MatchOption, Opt
 ghost use Rattle.std.specs.String.{string_bytes};
 ghost use Rattle.clap.specs.Words.{first_of, found_of, kind_of, rows_of};
 ghost use Rattle.clap.specs.declared.error.Error.{Error as ClapError};
-ghost use Rattle.words9.specs.Words.{AsksVersion, IsNoTask, IsTaskOf, MayAskVersion, is_on, name_of};
+ghost use Rattle.words9.specs.Words.{AsksVersion, IsNoTask, IsTaskOf, MayAskVersion, is_on, name_of, rate_named, rate_of};
 
 use crate::task::{Task, Verb, WordsFault};
-use crate::usage::parsed;
+use crate::usage::{parsed, rate_names};
 use clap::error::ErrorKind;
 use clap::{ArgMatches, Error};
-use deck9::Hands;
+use deck9::{Hands, Profile};
 use std::alloc::{AllocError, Global};
+use tc25::Rate;
 
 /// The task that these words give: those of the command line after the program's own name.
 ///
 /// The words are `check`, `explain`, `run` or `why`, and with it at most one file and, before or after the file, at most once
-/// `--hands` and, but for `run`, at most once `--all`; or they are `--version` or `-V`. What else they may look like is
-/// `clap`'s own definition.
+/// `--hands`, at most once `--rate` with `24`, `25`, `30` or `29.97df`, and, but for `run`, at most once `--all`; or they are
+/// `--version` or `-V`. What else they may look like is `clap`'s own definition.
 ///
 /// * `Ok(task)` only where the definition takes the words. The task has the subcommand, the file and the options
-///   that it gives for them.
+///   that it gives for them, and 25 frames a second where they name no rate.
 /// * `Err(Usage)` only where it does not take them, and they are not those that ask for the version. Words that ask for
 ///   help are not taken.
 /// * `Err(Version)` only where they ask for the version, and that is, or may be, the first thing that stops the definition.
@@ -32,7 +33,7 @@ pub fn read_words(alloc: Global, words: Vec<String>) -> Result<Task, WordsFault>
     ensures version { result ≡ Err WordsFault.Version
         → MayAskVersion (map (λ s. string_bytes s) words.items) }
 {
-    let matches = match parsed(alloc, words.as_slice()) {
+    let matches = match parsed(alloc, words.as_slice(), rate_names()) {
         Ok(matches) => matches,
         Err(e) => return Err(fault_of(e)),
     };
@@ -50,11 +51,12 @@ pub fn read_words(alloc: Global, words: Vec<String>) -> Result<Task, WordsFault>
     } else {
         Hands::None
     };
+    let rate = rate_of(found);
     let all = is_given(found, "all");
     Ok(Task {
         verb,
         file,
-        hands,
+        profile: Profile { rate, hands },
         all,
     })
 }
@@ -97,6 +99,28 @@ fn file_of(alloc: Global, found: &ArgMatches<'_>) -> Result<Option<String>, Allo
     match found.get_str("FILE") {
         Some(name) => Ok(Some(String::from_str(alloc, name)?)),
         None => Ok(None),
+    }
+}
+
+/// The rate that the subcommand was given: 25 where it was given none.
+fn rate_of(found: &ArgMatches<'_>) -> Rate
+    ensures { result ≡ rate_of (first_of (codes "rate") (rows_of (found_of found.now))) }
+{
+    match found.get_str("rate") {
+        Some(name) => rate_named(name),
+        None => Rate::Fps25,
+    }
+}
+
+/// The rate with this name. `clap` lets no names through but these and that of 25.
+fn rate_named(name: &str) -> Rate
+    ensures { result ≡ rate_named name.now }
+{
+    match name {
+        "24" => Rate::Fps24,
+        "30" => Rate::Fps30,
+        "29.97df" => Rate::DropFrame,
+        _ => Rate::Fps25,
     }
 }
 

@@ -1,4 +1,5 @@
 -- What a `Pairer` holds, which callers do not see, and what a record does to it.
+use Rattle.tc25.specs.declared.rate.Rate.{Rate}
 use Rattle.std.specs.Prelude.{ℕ, ◌≡◌, ◌<◌, ◌+◌, ◌-◌, ◌%◌, ◌==◌, ◌⊎◌, if◌then◌else◌, length, Bool, true, false, Option, Some, None, List, [], ◌∷◌, take, drop}
 use Rattle.std.specs.List.{sum}
 use Rattle.capture9.specs.declared.line_byte.LineByte.{LineByte}
@@ -18,13 +19,13 @@ use Rattle.block9.specs.Working.Body.{block_of}
 use Rattle.block9.specs.Working.Table.{early_fault, ends_block, open_at, place_of}
 
 -- the records are a complete command with this meaning
-abbrev pub IsWholeOf : List LineByte → Command → Type 0
-IsWholeOf records c = (b : Block) × IsCommand records b c
+abbrev pub IsWholeOf : Rate → List LineByte → Command → Type 0
+IsWholeOf rate records c = (b : Block) × IsCommand rate records b c
 
 -- the records are a tail, and what is kept beside them is the complete command with which they begin, if they do
-abbrev pub IsHeld : List LineByte → Option Command → Type 0
-IsHeld records None = (records ≡ []) ⊎ IsBegun Controller records
-IsHeld records (Some c) = IsWholeOf records c ⊎ ((reply : List LineByte) × IsAnswered records c reply)
+abbrev pub IsHeld : Rate → List LineByte → Option Command → Type 0
+IsHeld rate records None = (records ≡ []) ⊎ IsBegun Controller records
+IsHeld rate records (Some c) = IsWholeOf rate records c ⊎ ((reply : List LineByte) × IsAnswered rate records c reply)
 
 -- a block on a wire that is not begun
 abbrev pub to_come : Wire → OpenBlock
@@ -67,8 +68,8 @@ abbrev pub most_open : ℕ
 most_open = 35
 
 -- what holds inside a `Pairer`
-pub record HoldsInPairer (records : List LineByte) (asked : Option Command) (b : OpenBlock) : Type 0 where
-  pub held : IsHeld records asked
+pub record HoldsInPairer (rate : Rate) (records : List LineByte) (asked : Option Command) (b : OpenBlock) : Type 0 where
+  pub held : IsHeld rate records asked
   pub stands : Stands records b
 
 -- a record that breaks no rule before its block is complete, and whether it is the last one of its block

@@ -1,5 +1,6 @@
 -- Which rule a record breaks after a tail, as the code reads it: by the place where the tail stands and by lengths.
 -- Private functions alone cite this; it gives the reasons of specs/Reason.antt by proofs/ReasonLemmas.antt.
+use Rattle.tc25.specs.declared.rate.Rate.{Rate}
 use Rattle.std.specs.Prelude.{◌+◌, ◌-◌, ◌%◌, ◌==◌, nat_lt, nat_le, if◌then◌else◌, Bool, false, Option, Some, None, List, [], ◌∷◌, length, take, drop}
 use Rattle.std.specs.List.{sum}
 use Rattle.std.specs.Option.{option_or}
@@ -64,20 +65,20 @@ command_fault None = Some InvalidCommandTime
 command_fault (Some c) = None
 
 -- a reply to a command with no meaning, of a kind that the command may not have, or with a time that is not valid
-abbrev pub reply_fault : Option Command → Block → Option Reason
-reply_fault None reply = Some InvalidCommandTime
-reply_fault (Some c) reply = if fits c reply then (if is_reply_time_valid c reply then None else Some InvalidReplyTime) else Some WrongReply
+abbrev pub reply_fault : Rate → Option Command → Block → Option Reason
+reply_fault rate None reply = Some InvalidCommandTime
+reply_fault rate (Some c) reply = if fits c reply then (if is_reply_time_valid rate c reply then None else Some InvalidReplyTime) else Some WrongReply
 
 -- what the last record of a block breaks beside its sum; the block has the open records as its body
-abbrev pub meaning_fault : Place → List LineByte → List LineByte → Option Reason
-meaning_fault InCommand tail current = command_fault (command_of (block_of (bytes_of current)))
-meaning_fault InReply tail current = reply_fault (command_of (block_of (bytes_of (take (block_len tail - 1) tail)))) (block_of (bytes_of current))
-meaning_fault _ tail current = None
+abbrev pub meaning_fault : Rate → Place → List LineByte → List LineByte → Option Reason
+meaning_fault rate InCommand tail current = command_fault (command_of rate (block_of (bytes_of current)))
+meaning_fault rate InReply tail current = reply_fault rate (command_of rate (block_of (bytes_of (take (block_len tail - 1) tail)))) (block_of (bytes_of current))
+meaning_fault rate _ tail current = None
 
 -- what the last record of a block breaks, by its sum or by what the block means: nothing where it is not the last one
-abbrev pub end_fault : Place → List LineByte → List LineByte → LineByte → Option Reason
-end_fault place tail current r =
-    if ends_block current then option_or (if r.byte == sum (bytes_of current) % 256 then None else Some WrongSum) (meaning_fault place tail current) else None
+abbrev pub end_fault : Rate → Place → List LineByte → List LineByte → LineByte → Option Reason
+end_fault rate place tail current r =
+    if ends_block current then option_or (if r.byte == sum (bytes_of current) % 256 then None else Some WrongSum) (meaning_fault rate place tail current) else None
 
 -- what a record breaks by its turn, its time or its group
 abbrev pub early_fault : Place → List LineByte → LineByte → Option Reason
@@ -86,9 +87,9 @@ early_fault place tail r =
     (group_fault place (allows r.wire (group_in r.byte)))
 
 -- the reason that stands first in the table, by the place where the tail stands
-abbrev pub fault_at : Place → List LineByte → LineByte → Option Reason
-fault_at place tail r = option_or (early_fault place tail r) (end_fault place tail (open_at place tail) r)
+abbrev pub fault_at : Rate → Place → List LineByte → LineByte → Option Reason
+fault_at rate place tail r = option_or (early_fault place tail r) (end_fault rate place tail (open_at place tail) r)
 
 -- the rule that a record breaks after a tail
-abbrev pub pairing : List LineByte → LineByte → Option Reason
-pairing tail r = fault_at (place_of tail) tail r
+abbrev pub pairing : Rate → List LineByte → LineByte → Option Reason
+pairing rate tail r = fault_at rate (place_of tail) tail r

@@ -5,6 +5,7 @@ use block9::{Block, Command, Exchange, Pairer, Reason, Step};
 use capture9::Wire::{Controller, Deck};
 use capture9::{LineByte, Wire};
 use std::process::Abort;
+use tc25::Rate;
 
 fn record(time_us: u64, wire: Wire, byte: u8) -> LineByte {
     LineByte {
@@ -125,4 +126,44 @@ fn a_wrong_reply_leaves_the_command_open(rt: HostRuntime) {
         5,
         "the command and two bytes of the reply",
     );
+}
+
+/// The time that a command sets, if it sets one.
+fn frame_in(command: Option<Command>) -> Option<u32> {
+    command?.time().map(|time| time.frames())
+}
+
+#[test]
+fn a_preset_is_read_at_the_rate(rt: HostRuntime) {
+    for (rate, frame) in [
+        (Rate::Fps24, None),
+        (Rate::Fps25, None),
+        (Rate::Fps30, Some(1_799)),
+        (Rate::DropFrame, Some(1_799)),
+    ] {
+        let mut pairer = Pairer::at(rate);
+        let is_time = frame.is_some();
+        // IN DATA PRESET with 00:00:59:29, and its acknowledgement
+        for (time_us, wire, byte, is_taken) in [
+            (400, Controller, 0x44, true),
+            (800, Controller, 0x14, true),
+            (1_200, Controller, 0x29, true),
+            (1_600, Controller, 0x59, true),
+            (2_000, Controller, 0x00, true),
+            (2_400, Controller, 0x00, true),
+            (2_800, Controller, 0xDA, is_time),
+            (3_200, Deck, 0x10, is_time),
+            (3_600, Deck, 0x01, is_time),
+        ] {
+            let answer = feed(&rt, &mut pairer, record(time_us, wire, byte));
+            let fault = (!is_taken).then_some(Reason::InvalidCommandTime);
+            same(&rt, answer.err(), fault, (rate, time_us));
+        }
+        same(&rt, frame_in(pairer.open_command()), frame, rate);
+        let exchange = match feed(&rt, &mut pairer, record(4_000, Deck, 0x11)) {
+            Ok(Step::Exchange(exchange)) => Some(exchange.command),
+            _ => None,
+        };
+        same(&rt, frame_in(exchange), frame, rate);
+    }
 }

@@ -1,7 +1,7 @@
 -- Where a judging takes up again after a break: the records that are passed over, and the first one of the next part.
 use Rattle.std.specs.Prelude.{◌≡◌, ◌≢◌, ◌↔◌, ◌+◌, ◌++◌, ◌∷◌, ◌⊎◌}
 use Rattle.std.specs.Bool.{MatchBool}
-use Rattle.judge9.specs.Working.{[], CaptureError, CaptureKind, Err, false, GivesEnd, GivesRecord, GivesRefusal, Hands, IfSome, JudgeError, Judging, LineByte, List, None, Ok, Option, Progress}
+use Rattle.judge9.specs.Working.{[], CaptureError, CaptureKind, Err, false, GivesEnd, GivesRecord, GivesRefusal, Profile, IfSome, JudgeError, Judging, LineByte, List, None, Ok, Option, Progress}
 use Rattle.judge9.specs.Working.{Appends, AppendsPart, Exchange, Reason, refusal_of, Result, Rows, Some, true, Verdict, View, WhyVerdict, ℕ, ⊤}
 use Rattle.verdict9.specs.declared.totals.Totals.{Totals}
 use Rattle.judge9.specs.PartsReport.{PartsTold}
@@ -56,55 +56,55 @@ BeginsWith {R} j first result k =
     ⊎ ((mid : Judging R) × Waits j mid first × ComesTo mid result k)
 
 -- the first record of the next part is this one, and was read after these rows
-pub record Resumes {R : Type 0} (hands : Hands) (before : Progress R) (first : LineByte) (result : Result Turn JudgeError) (k : Judging R) : Type 0 where
+pub record Resumes {R : Type 0} (profile : Profile) (before : Progress R) (first : LineByte) (result : Result Turn JudgeError) (k : Judging R) : Type 0 where
   pub new : Judging R
   pub rows : new.rows ≡ before
-  pub begins : Begins hands new
+  pub begins : Begins profile new
   pub with_first : BeginsWith new first result k
 
 -- records were passed over after `last`, and then came the first one of the next part, the end of the rows, or a refusal
-pub record ResumesAfter {R : Type 0} (hands : Hands) (last : LineByte) (old : Progress R) (result : Result Turn JudgeError) (k : Judging R) : Type 0 where
+pub record ResumesAfter {R : Type 0} (profile : Profile) (last : LineByte) (old : Progress R) (result : Result Turn JudgeError) (k : Judging R) : Type 0 where
   pub passed : List LineByte
   pub none_begins : NoneBegins last passed
   pub mid : Progress R
   pub gives : GivesAll old passed mid
   pub goes_on :
-      ((first : LineByte) × (may_begin (last_of last passed) first ≡ true) × Resumes hands mid first result k)
-      ⊎ ((result ≡ Ok Turn.End) × GivesEnd mid k.rows × Begins hands k)
+      ((first : LineByte) × (may_begin (last_of last passed) first ≡ true) × Resumes profile mid first result k)
+      ⊎ ((result ≡ Ok Turn.End) × GivesEnd mid k.rows × Begins profile k)
       ⊎ ((e : CaptureError) × GivesRefusal mid e k.rows × (result ≡ Err (refusal_of e)))
 
 -- the judging takes up again after `last`, the record that was read last, or memory is refused
-abbrev pub TakesUp : {R : Type 0} → Hands → Reason → LineByte → Judging R → Result Turn JudgeError → Judging R → Type 0
-TakesUp {R} hands reason last j result k =
+abbrev pub TakesUp : {R : Type 0} → Profile → Reason → LineByte → Judging R → Result Turn JudgeError → Judging R → Type 0
+TakesUp {R} profile reason last j result k =
     ((result ≡ Err JudgeError.OutOfMemory) × (k.rows ≡ j.rows))
-    ⊎ MatchBool (begins_next_part reason last) ((before : Progress R) → GivesRecord before last j.rows → Resumes hands before last result k)
-    (ResumesAfter hands last j.rows result k)
+    ⊎ MatchBool (begins_next_part reason last) ((before : Progress R) → GivesRecord before last j.rows → Resumes profile before last result k)
+    (ResumesAfter profile last j.rows result k)
 
 -- why a record broke a rule: these records were open before it, and these exchanges came before them, with the time at which the
 -- last of them ended; or the last of them is one with which no run remains
-abbrev pub SaysWhy : Hands → ℕ → Reason → LineByte → List LineByte → List Exchange → Option ℕ → WhyVerdict → Type 0
-SaysWhy hands at reason r left es end_us (WhyVerdict.Yes records exchanges tail) = ⊥
-SaysWhy hands at reason r left es end_us (WhyVerdict.Break number x tail command before breaking) =
-    (number ≡ at) × (x ≡ reason) × (breaking ≡ r) × (tail.items ≡ left) × ((c : Command) → (command ≡ Some c) ↔ BeginsWithCommand left c)
+abbrev pub SaysWhy : Profile → ℕ → Reason → LineByte → List LineByte → List Exchange → Option ℕ → WhyVerdict → Type 0
+SaysWhy profile at reason r left es end_us (WhyVerdict.Yes records exchanges tail) = ⊥
+SaysWhy profile at reason r left es end_us (WhyVerdict.Break number x tail command before breaking) =
+    (number ≡ at) × (x ≡ reason) × (breaking ≡ r) × (tail.items ≡ left) × ((c : Command) → (command ≡ Some c) ↔ BeginsWithCommand profile.rate left c)
     × ((records : List LineByte) → (left ≡ [] → IsEnd records es end_us) → IsBefore records es left before) × (reason ≢ Reason.NoRun)
-SaysWhy hands at reason r left es end_us (WhyVerdict.Contradiction number exchanges places known shown) =
-    (number ≡ at) × (exchanges.items ≡ es) × IsContradiction hands es places.items × CouldShow hands es known shown × (reason ≡ Reason.NoRun)
+SaysWhy profile at reason r left es end_us (WhyVerdict.Contradiction number exchanges places known shown) =
+    (number ≡ at) × (exchanges.items ≡ es) × IsContradiction profile es places.items × CouldShow profile es known shown × (reason ≡ Reason.NoRun)
 
 -- what is written of the break itself
-abbrev pub IsBreakText : Telling → Hands → ℕ → Reason → LineByte → List LineByte → List Exchange → Option ℕ → List ℕ → Type 0
-IsBreakText (Shown view) hands at reason r left es end_us text = text ≡ line_of (Verdict.No at reason)
-IsBreakText Why hands at reason r left es end_us text =
-    (why : WhyVerdict) × SaysWhy hands at reason r left es end_us why × (text ≡ text_of_why hands why)
+abbrev pub IsBreakText : Telling → Profile → ℕ → Reason → LineByte → List LineByte → List Exchange → Option ℕ → List ℕ → Type 0
+IsBreakText (Shown view) profile at reason r left es end_us text = text ≡ line_of (Verdict.No at reason)
+IsBreakText Why profile at reason r left es end_us text =
+    (why : WhyVerdict) × SaysWhy profile at reason r left es end_us why × (text ≡ text_of_why profile why)
 
 -- a first part of the text of a break was written, or it was and the judging took up again
-abbrev pub EndsPart : {R : Type 0} → List ℕ → Hands → Reason → LineByte → Judging R → Result Turn JudgeError → Judging R → Option (List ℕ) → Option (List ℕ)
+abbrev pub EndsPart : {R : Type 0} → List ℕ → Profile → Reason → LineByte → Judging R → Result Turn JudgeError → Judging R → Option (List ℕ) → Option (List ℕ)
     → Type 0
-EndsPart text hands reason last j result k old new =
-    ((result ≡ Err JudgeError.Write) × AppendsPart old new text) ⊎ (Appends old new text × TakesUp hands reason last j result k)
+EndsPart text profile reason last j result k old new =
+    ((result ≡ Err JudgeError.Write) × AppendsPart old new text) ⊎ (Appends old new text × TakesUp profile reason last j result k)
 
 -- all that the result of a judging in parts tells
-pub record JudgesParts (IsText : BrokenPart → List ℕ → Type 0) (view : View) (hands : Hands) (rows : Option Rows) (result : Result Totals JudgeError)
+pub record JudgesParts (IsText : BrokenPart → List ℕ → Type 0) (view : View) (profile : Profile) (rows : Option Rows) (result : Result Totals JudgeError)
     (old new : Option (List ℕ)) : Type 0 where
-  pub told : PartsTold IsText view hands rows result old new
+  pub told : PartsTold IsText view profile rows result old new
   pub is_kind : (e : CaptureError) → result ≡ Err (JudgeError.Capture e) → e.kind ≢ CaptureKind.OutOfMemory
   pub headed : IfSome rows (λ all. (e : CaptureError) → result ≡ Err (JudgeError.Capture e) → e.row ≢ 0 → HasHeader all)

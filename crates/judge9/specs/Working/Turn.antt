@@ -1,21 +1,21 @@
 -- What a judging comes to next: what rows do to those that are still to come, to the pairer and to the tracker.
 use Rattle.std.specs.Prelude.{◌↔◌, ◌≡◌, ◌⊎◌}
-use Rattle.judge9.specs.Working.{[], AreReached, Bool, CaptureError, Err, Exchange, Exchanges, false, GivesEnd, GivesRecord, GivesRefusal, Hands, IsFirst, IsTrue, JudgeError}
+use Rattle.judge9.specs.Working.{[], AreReached, Bool, CaptureError, Err, Exchange, Exchanges, false, GivesEnd, GivesRecord, GivesRefusal, Profile, IsFirst, IsTrue, JudgeError}
 use Rattle.judge9.specs.Working.{Judging, LineByte, None, Ok, Option, Possible, Reason, refusal_of, Refuses, Result, Some, Standing, State, Step, suc, Takes, Tracked, true, zero, ℕ, ⊤}
 use Rattle.judge9.specs.declared.judging.Turn.TheVariants.{the_data as Turn}
 
 -- a part begins: nothing is open, and nothing is known of the deck
-pub record Begins {R : Type 0} (h : Hands) (j : Judging R) : Type 0 where
-  pub fed_nothing : j.pairer ≡ record { tail = []; last_time = None; reason = None }
-  pub states : (s : State) → Possible j.tracker.states s ↔ IsFirst h s
-  pub hands : j.tracker.hands ≡ h
+pub record Begins {R : Type 0} (p : Profile) (j : Judging R) : Type 0 where
+  pub fed_nothing : j.pairer ≡ record { tail = []; last_time = None; reason = None; rate = p.rate }
+  pub states : (s : State) → Possible j.tracker.states s ↔ IsFirst p s
+  pub profile : j.tracker.profile ≡ p
 
 -- nothing was judged yet
-pub record IsFresh {R : Type 0} (h : Hands) (j : Judging R) : Type 0 where
+pub record IsFresh {R : Type 0} (profile : Profile) (j : Judging R) : Type 0 where
   pub none_given : j.rows.given ≡ 0
   pub no_time : j.rows.last_time ≡ 0
   pub is_reading : j.rows.standing ≡ Standing.Reading
-  pub begins : Begins h j
+  pub begins : Begins profile j
 
 -- this record was given, and the pairer took this step with it
 pub record Feeds {R : Type 0} (j k : Judging R) (line_byte : LineByte) (s : Step) : Type 0 where
@@ -36,8 +36,8 @@ pub record Spoils {R : Type 0} (j k : Judging R) (reason : Reason) (r : LineByte
 
 -- an exchange was observed, and this is whether a state remains
 pub record Observes (old new : Tracked) (e : Exchange) (b : Bool) : Type 0 where
-  pub reached : AreReached (Possible old.states) (Exchanges old.hands e.command e.reply) (Possible new.states)
-  pub hands : new.hands ≡ old.hands
+  pub reached : AreReached (Possible old.states) (Exchanges old.profile e.command e.reply) (Possible new.states)
+  pub profile : new.profile ≡ old.profile
   pub remains : IsTrue b ↔ ((s : State) × Possible new.states s)
 
 -- what the tracker makes of an exchange that ends with this record

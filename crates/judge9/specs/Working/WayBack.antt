@@ -1,23 +1,23 @@
 -- The way back from the end of a capture to a run of the deck.
 use Rattle.std.specs.Prelude.{◌++◌, ◌-◌, ◌<◌, ◌↔◌, ◌∷◌, ◌≡◌, ◌≤◌}
 use Rattle.std.specs.List.{AllPairs}
-use Rattle.judge9.specs.Working.{[], All, Exchange, Exchanges, Hands, IsRunFrom, last_state, length, List, None, Option, Possible, reverse, slice_get, Some, State, take, Tracked, ℕ}
+use Rattle.judge9.specs.Working.{[], All, Exchange, Exchanges, Profile, IsRunFrom, last_state, length, List, None, Option, Possible, reverse, slice_get, Some, State, take, Tracked, ℕ}
 use Rattle.judge9.specs.declared.way_back.Mark.{Mark}
 use Rattle.std.proofs.Common.{slice_range}
 
 -- from one of the states X these exchanges lead to the state t
-abbrev pub Leads : Hands → (State → Type 0) → List Exchange → State → Type 0
-Leads h X [] t = X t
-Leads h X (e ∷ es) t = Leads h (λ u. (s : State) × X s × Exchanges h e.command e.reply s u) es t
+abbrev pub Leads : Profile → (State → Type 0) → List Exchange → State → Type 0
+Leads profile X [] t = X t
+Leads profile X (e ∷ es) t = Leads profile (λ u. (s : State) × X s × Exchanges profile e.command e.reply s u) es t
 
 -- from one of the states that the first tracker keeps
 abbrev pub LeadsFrom : Tracked → List Exchange → State → Type 0
-LeadsFrom first es t = Leads first.hands (Possible first.states) es t
+LeadsFrom first es t = Leads first.profile (Possible first.states) es t
 
 -- a tracker keeps exactly those to which these exchanges lead
 pub record FollowsFrom (first : Tracked) (es : List Exchange) (t : Tracked) : Type 0 where
   pub states : (s : State) → Possible t.states s ↔ LeadsFrom first es s
-  pub hands : t.hands ≡ first.hands
+  pub profile : t.profile ≡ first.profile
 
 -- the last of these marks, if there is one
 abbrev pub last_mark : List Mark → Option Mark
@@ -53,9 +53,9 @@ pub record GoesOn (before : List Mark) (m : Mark) (es : List Exchange) (marks : 
   pub follows : FollowsFrom m.tracker es after.tracker
 
 -- these are the states after the exchanges in a run from s to `end`, and they were put after others, the last one first
-pub record GoesBack (h : Hands) (X : State → Type 0) (es : List Exchange) (end : State) (old new : List State) (s : State) : Type 0 where
+pub record GoesBack (profile : Profile) (X : State → Type 0) (es : List Exchange) (end : State) (old new : List State) (s : State) : Type 0 where
   pub from : X s
   pub after : List State
-  pub is_run : IsRunFrom h s es after
+  pub is_run : IsRunFrom profile s es after
   pub is_end : last_state s after ≡ end
   pub put : new ≡ old ++ reverse after

@@ -9,6 +9,7 @@ use sets25::SpanSet;
 use std::alloc::{AllocError, Global};
 use std::process::Abort;
 use std::test::Fail;
+use tc25::Rate;
 use track9::{Start, Tracker};
 
 /// Nothing is known of the deck.
@@ -75,7 +76,7 @@ fn has_run(
     start: &Start,
     exchanges: &[Exchange],
 ) -> Result<bool, AllocError> {
-    let mut tracker = Tracker::starting(alloc, start)?;
+    let mut tracker = Tracker::starting(alloc, Rate::Fps25, start)?;
     let remains = remains(rt, &mut tracker, exchanges);
     drop(tracker);
     remains
@@ -88,7 +89,7 @@ fn leads_to(
     exchange: &Exchange,
     state: &State,
 ) -> Result<bool, AllocError> {
-    let tracker: Tracker<SpanSet> = Tracker::starting(alloc, start)?;
+    let tracker: Tracker<SpanSet> = Tracker::starting(alloc, Rate::Fps25, start)?;
     let before = tracker.before(&exchange.command, &exchange.reply, state);
     drop(tracker);
     Ok(before.is_some())

@@ -1,8 +1,9 @@
 //! What words ask for.
 
 use crate::tests::same;
-use deck9::Hands;
+use deck9::{Hands, Profile};
 use std::alloc::{AllocError, Global};
+use tc25::Rate;
 use words9::{Task, Verb, WordsFault, read_words};
 
 /// The task of these words.
@@ -31,7 +32,10 @@ fn asks(alloc: Global, words: &[&str], wanted: &Wanted) -> bool {
         (None, None) => true,
         _ => false,
     };
-    same_file && task.verb == wanted.verb && task.hands == wanted.hands && task.all == wanted.all
+    same_file
+        && task.verb == wanted.verb
+        && task.profile == wanted.profile
+        && task.all == wanted.all
 }
 
 /// Whether these words are no command.
@@ -46,9 +50,21 @@ fn are_refused(alloc: Global, words: &[&str]) -> bool {
 struct Wanted {
     verb: Verb,
     file: Option<&'static str>,
-    hands: Hands,
+    profile: Profile,
     all: bool,
 }
+
+/// A deck whose panel nobody may touch.
+const UNTOUCHED: Profile = Profile {
+    rate: Rate::Fps25,
+    hands: Hands::None,
+};
+
+/// A deck whose panel somebody may touch.
+const TOUCHED: Profile = Profile {
+    rate: Rate::Fps25,
+    hands: Hands::Allowed,
+};
 
 /// tests/cases/words.txt has others. Here a file has a blank in its name, has an option's name beside the option, or has none.
 const COMMANDS: &[(&'static [&'static str], Wanted)] = &[
@@ -57,7 +73,7 @@ const COMMANDS: &[(&'static [&'static str], Wanted)] = &[
         Wanted {
             verb: Verb::Explain,
             file: Some("a b"),
-            hands: Hands::Allowed,
+            profile: TOUCHED,
             all: false,
         },
     ),
@@ -66,7 +82,7 @@ const COMMANDS: &[(&'static [&'static str], Wanted)] = &[
         Wanted {
             verb: Verb::Check,
             file: Some("--hands"),
-            hands: Hands::Allowed,
+            profile: TOUCHED,
             all: false,
         },
     ),
@@ -75,7 +91,7 @@ const COMMANDS: &[(&'static [&'static str], Wanted)] = &[
         Wanted {
             verb: Verb::Check,
             file: Some(""),
-            hands: Hands::None,
+            profile: UNTOUCHED,
             all: false,
         },
     ),
@@ -84,7 +100,7 @@ const COMMANDS: &[(&'static [&'static str], Wanted)] = &[
         Wanted {
             verb: Verb::Why,
             file: Some("--all"),
-            hands: Hands::None,
+            profile: UNTOUCHED,
             all: true,
         },
     ),
@@ -93,7 +109,7 @@ const COMMANDS: &[(&'static [&'static str], Wanted)] = &[
         Wanted {
             verb: Verb::Explain,
             file: None,
-            hands: Hands::Allowed,
+            profile: TOUCHED,
             all: true,
         },
     ),
@@ -106,12 +122,53 @@ fn words_that_are_a_command(rt: HostRuntime) {
     }
 }
 
+/// Words with a rate before and after the file, with none, and with the option's name for a file; their file and their rate.
+const RATES: &[(&'static [&'static str], Option<&'static str>, Rate)] = &[
+    (&["check", "--rate", "24"], None, Rate::Fps24),
+    (
+        &["explain", "--rate", "25", "a.csv"],
+        Some("a.csv"),
+        Rate::Fps25,
+    ),
+    (&["run", "--rate=30", "a.csv"], Some("a.csv"), Rate::Fps30),
+    (
+        &["why", "a.csv", "--rate", "29.97df"],
+        Some("a.csv"),
+        Rate::DropFrame,
+    ),
+    (&["check", "a.csv", "--rate=24"], Some("a.csv"), Rate::Fps24),
+    (&["run", "--rate", "30", "30"], Some("30"), Rate::Fps30),
+    (&["explain", "30"], Some("30"), Rate::Fps25),
+    (&["why", "--", "--rate"], Some("--rate"), Rate::Fps25),
+];
+
+#[test]
+fn words_that_name_a_rate(rt: HostRuntime) {
+    for (words, file, rate) in RATES {
+        let task = task_of(rt.alloc(), *words).expect(&rt, "a task");
+        let found = task.file.as_ref().map(|name| name.as_str());
+        same(&rt, (found, task.profile.rate), (*file, *rate), *words);
+    }
+}
+
 /// tests/program.sh has others.
+const REFUSED: &[&'static [&'static str]] = &[
+    &[""],
+    &["help", "--version"],
+    &["run", "--all"],
+    &["check", "--rate", "29.97"],
+    &["check", "--rate", "29.97DF"],
+    &["explain", "--rate", ""],
+    &["explain", "--rate="],
+    &["run", "--rate", "30", "a.csv", "--rate", "30"],
+    &["why", "a.csv", "--rate"],
+    &["why", "--rate", "--hands"],
+    &["--rate", "25", "check"],
+];
+
 #[test]
 fn words_that_are_none(rt: HostRuntime) {
-    same(&rt, are_refused(rt.alloc(), &[""]), true, "an empty word");
-    let words = &["help", "--version"];
-    same(&rt, are_refused(rt.alloc(), words), true, "help --version");
-    let words = &["run", "--all"];
-    same(&rt, are_refused(rt.alloc(), words), true, "run --all");
+    for words in REFUSED {
+        same(&rt, are_refused(rt.alloc(), *words), true, *words);
+    }
 }

@@ -10,6 +10,7 @@ use crate::why_text::exchange_line::{put_before, put_records, put_words};
 use block9::{Command, Reason, byte_sum};
 use capture9::{LineByte, Wire};
 use std::alloc::AllocError;
+use tc25::Rate;
 use text9::{put_count, put_hex, put_text, put_word};
 use verdict9::{EndedExchange, command_len};
 
@@ -17,6 +18,7 @@ use verdict9::{EndedExchange, command_len};
 /// has records; and that of the record that breaks.
 pub(super) fn put_break(
     line: &mut Vec<u8>,
+    rate: Rate,
     at: u32,
     reason: Reason,
     tail: &[LineByte],
@@ -25,12 +27,12 @@ pub(super) fn put_break(
     breaking: LineByte,
 ) -> Result<(), AllocError>
     ensures { OnOk result (line.new.items ≡ line.old.items
-        ++ lines_of_break (at - (length tail.now + 1)) at reason tail.now command.now before.now breaking) }
+        ++ lines_of_break rate (at - (length tail.now + 1)) at reason tail.now command.now before.now breaking) }
 {
     let count = u128::from(at).saturating_sub(tail.len() as u128 + 1);
     let (asked, answered) = tail.split_at(command_len(tail));
-    put_if_ended(line, count, before)?;
-    put_open_command(line, count, command, asked, breaking.wire)?;
+    put_if_ended(line, rate, count, before)?;
+    put_open_command(line, rate, count, command, asked, breaking.wire)?;
     put_open_reply(line, count + asked.len() as u128, answered, breaking.wire)?;
     put_breaking(line, at, reason, tail, before, breaking)
 }
@@ -38,14 +40,15 @@ pub(super) fn put_break(
 /// Puts the line of the exchange before, where there is one. Its last record has this number.
 fn put_if_ended(
     line: &mut Vec<u8>,
+    rate: Rate,
     at: u128,
     before: &Option<EndedExchange>,
 ) -> Result<(), AllocError>
     requires { at ≤ 2 ^ 100 }
-    ensures { OnOk result (line.new.items ≡ line.old.items ++ line_if_ended at before.now) }
+    ensures { OnOk result (line.new.items ≡ line.old.items ++ line_if_ended rate at before.now) }
 {
     match before {
-        Some(ended) => put_before(line, at, &ended.exchange),
+        Some(ended) => put_before(line, rate, at, &ended.exchange),
         None => Ok(()),
     }
 }
@@ -54,6 +57,7 @@ fn put_if_ended(
 /// records come before them.
 fn put_open_command(
     line: &mut Vec<u8>,
+    rate: Rate,
     before: u128,
     command: &Option<Command>,
     asked: &[LineByte],
@@ -61,13 +65,13 @@ fn put_open_command(
 ) -> Result<(), AllocError>
     requires { before ≤ 2 ^ 100 }
     ensures { OnOk result (line.new.items ≡ line.old.items
-        ++ line_of_open before (words_if_whole command.now) Controller breaking asked.now) }
+        ++ line_of_open before (words_if_whole rate command.now) Controller breaking asked.now) }
 {
     let Some((first, rest)) = asked.split_first() else {
         return Ok(());
     };
     put_records(line, before, asked.len(), first.time_us)?;
-    put_words_if_whole(line, ": ", command)?;
+    put_words_if_whole(line, rate, ": ", command)?;
     put_bytes(line, *first, rest)?;
     put_progress(line, Wire::Controller, asked, breaking)?;
     put_text(line, "\n")
@@ -128,14 +132,15 @@ fn own(wire: Wire, other: Wire) -> usize
 /// Puts a label, and a command's name and time, where it is complete.
 fn put_words_if_whole(
     line: &mut Vec<u8>,
+    rate: Rate,
     label: &str,
     command: &Option<Command>,
 ) -> Result<(), AllocError>
-    ensures { OnOk result (line.new.items ≡ line.old.items ++ (label.now ++ words_if_whole command.now)) }
+    ensures { OnOk result (line.new.items ≡ line.old.items ++ (label.now ++ words_if_whole rate command.now)) }
 {
     put_text(line, label)?;
     match command {
-        Some(command) => put_words(line, command),
+        Some(command) => put_words(line, rate, command),
         None => Ok(()),
     }
 }

@@ -9,22 +9,23 @@ use crate::why_text::said::put_said;
 use block9::{Command, Exchange};
 use deck9::Sense;
 use std::alloc::AllocError;
-use tc25::TimeCode;
+use tc25::{Rate, TimeCode};
 use text9::{put_count, put_text, put_wide, put_word};
 
 /// Puts the line of an exchange: the numbers of its first and its last record, its time, what was asked and what was
 /// answered. `at` is how many records come before it.
 pub(super) fn put_contradicting(
     line: &mut Vec<u8>,
+    rate: Rate,
     at: u128,
     exchange: &Exchange,
 ) -> Result<(), AllocError>
     requires { at ≤ 2 ^ 100 }
-    ensures { OnOk result (line.new.items ≡ line.old.items ++ line_of_contradicting at exchange.now) }
+    ensures { OnOk result (line.new.items ≡ line.old.items ++ line_of_contradicting rate at exchange.now) }
 {
     put_records(line, at, exchange.records(), exchange.time_us)?;
-    put_command_sent(line, ": ", exchange)?;
-    put_reply_given(line, " -> ", exchange)?;
+    put_command_sent(line, rate, ": ", exchange)?;
+    put_reply_given(line, rate, " -> ", exchange)?;
     put_text(line, "\n")
 }
 
@@ -32,11 +33,12 @@ pub(super) fn put_contradicting(
 /// last record.
 pub(super) fn put_before(
     line: &mut Vec<u8>,
+    rate: Rate,
     at: u128,
     exchange: &Exchange,
 ) -> Result<(), AllocError>
     requires { at ≤ 2 ^ 100 }
-    ensures { OnOk result (line.new.items ≡ line.old.items ++ line_of_before at exchange.now) }
+    ensures { OnOk result (line.new.items ≡ line.old.items ++ line_of_before rate at exchange.now) }
 {
     let count = exchange.records();
     put_records(
@@ -45,8 +47,8 @@ pub(super) fn put_before(
         count,
         exchange.time_us,
     )?;
-    put_command_sent(line, ": ", exchange)?;
-    put_reply(line, " -> ", exchange)?;
+    put_command_sent(line, rate, ": ", exchange)?;
+    put_reply(line, rate, " -> ", exchange)?;
     put_text(line, "\n")
 }
 
@@ -67,36 +69,51 @@ pub(super) fn put_records(
 }
 
 /// Puts a label and what was asked: the name of a command that is listed, its time, and the bytes of its block.
-fn put_command_sent(line: &mut Vec<u8>, label: &str, exchange: &Exchange) -> Result<(), AllocError>
-    ensures { OnOk result (line.new.items ≡ line.old.items ++ (label.now ++ text_of_command_sent exchange.now)) }
+fn put_command_sent(
+    line: &mut Vec<u8>,
+    rate: Rate,
+    label: &str,
+    exchange: &Exchange,
+) -> Result<(), AllocError>
+    ensures { OnOk result (line.new.items ≡ line.old.items ++ (label.now ++ text_of_command_sent rate exchange.now)) }
 {
     put_text(line, label)?;
-    put_words(line, &exchange.command)?;
+    put_words(line, rate, &exchange.command)?;
     put_block(line, &exchange.block)
 }
 
 /// Puts the name of a command that is listed, and its time.
-pub(super) fn put_words(line: &mut Vec<u8>, command: &Command) -> Result<(), AllocError>
-    ensures { OnOk result (line.new.items ≡ line.old.items ++ words_of command.now) }
+pub(super) fn put_words(line: &mut Vec<u8>, rate: Rate, command: &Command) -> Result<(), AllocError>
+    ensures { OnOk result (line.new.items ≡ line.old.items ++ words_of rate command.now) }
 {
     put_name(line, command)?;
-    put_time(line, command.time())
+    put_time(line, rate, command.time())
 }
 
 /// Puts a label and what was answered: the time of a register, the bytes of the block, and what status data say.
-fn put_reply_given(line: &mut Vec<u8>, label: &str, exchange: &Exchange) -> Result<(), AllocError>
-    ensures { OnOk result (line.new.items ≡ line.old.items ++ (label.now ++ text_of_reply_given exchange.now)) }
+fn put_reply_given(
+    line: &mut Vec<u8>,
+    rate: Rate,
+    label: &str,
+    exchange: &Exchange,
+) -> Result<(), AllocError>
+    ensures { OnOk result (line.new.items ≡ line.old.items ++ (label.now ++ text_of_reply_given rate exchange.now)) }
 {
-    put_reply(line, label, exchange)?;
+    put_reply(line, rate, label, exchange)?;
     put_said(line, exchange)
 }
 
 /// Puts a label, the time of a register and the bytes of the reply's block.
-fn put_reply(line: &mut Vec<u8>, label: &str, exchange: &Exchange) -> Result<(), AllocError>
-    ensures { OnOk result (line.new.items ≡ line.old.items ++ (label.now ++ text_of_reply exchange.now)) }
+fn put_reply(
+    line: &mut Vec<u8>,
+    rate: Rate,
+    label: &str,
+    exchange: &Exchange,
+) -> Result<(), AllocError>
+    ensures { OnOk result (line.new.items ≡ line.old.items ++ (label.now ++ text_of_reply rate exchange.now)) }
 {
     put_text(line, label)?;
-    put_time(line, time_told(exchange))?;
+    put_time(line, rate, time_told(rate, exchange))?;
     put_block(line, &exchange.reply)
 }
 
@@ -111,22 +128,22 @@ fn put_name(line: &mut Vec<u8>, command: &Command) -> Result<(), AllocError>
 }
 
 /// Puts a time and a space, where there is a time.
-fn put_time(line: &mut Vec<u8>, time: Option<TimeCode>) -> Result<(), AllocError>
-    ensures { OnOk result (line.new.items ≡ line.old.items ++ time_with_space time) }
+fn put_time(line: &mut Vec<u8>, rate: Rate, time: Option<TimeCode>) -> Result<(), AllocError>
+    ensures { OnOk result (line.new.items ≡ line.old.items ++ time_with_space rate time) }
 {
     let Some(time) = time else {
         return Ok(());
     };
-    line.extend_from_slice(&time.text())?;
+    line.extend_from_slice(&time.text_at(rate))?;
     put_text(line, " ")
 }
 
 /// The time that a reply tells of a register, where it is valid.
-fn time_told(exchange: &Exchange) -> Option<TimeCode>
-    ensures { result ≡ time_told (sense_of exchange.now.command) exchange.now.reply }
+fn time_told(rate: Rate, exchange: &Exchange) -> Option<TimeCode>
+    ensures { result ≡ time_told rate (sense_of exchange.now.command) exchange.now.reply }
 {
     match Sense::of(&exchange.command) {
-        Sense::Register(_) => exchange.reply.time(),
+        Sense::Register(_) => exchange.reply.time_at(rate),
         Sense::Status(_) | Sense::Nothing => None,
     }
 }

@@ -2,6 +2,7 @@
 use Rattle.std.specs.Prelude.{ℕ, ◌+◌, ◌≤◌, ◌<◌, ◌==◌, Bool, not, nat_le, nat_lt, if◌then◌else◌, min, max, List, [], ◌∷◌, length, take, drop, slice_index_or}
 use Rattle.std.specs.List.{All, filter}
 use Rattle.tc25.specs.Day.{last_frame}
+use Rattle.tc25.specs.declared.rate.Rate.{Rate}
 use Rattle.sets25.specs.Working.SpanMoves.{point}
 use Rattle.sets25.specs.declared.direction.Direction.{Direction}
 use Rattle.sets25.specs.declared.direction.Direction.TheVariants.{Next, Prev}
@@ -36,10 +37,10 @@ with_frame f (s ∷ spans) =
     else (if nat_lt (f + 1) s.first then point f ∷ s ∷ spans else glue (record { first = min s.first f; last = max s.last f }) spans)
 
 -- whether some of the span is in the day once it moves by one
-abbrev pub stays : Direction → Span → Bool
-stays Next s = not (s.first == last_frame)
-stays Prev s = not (s.last == 0)
+abbrev pub stays : Rate → Direction → Span → Bool
+stays rate Next s = not (s.first == last_frame rate)
+stays rate Prev s = not (s.last == 0)
 
 -- the list without a span that would leave the day
-abbrev pub without_edge : Direction → List Span → List Span
-without_edge d spans = filter (stays d) spans
+abbrev pub without_edge : Rate → Direction → List Span → List Span
+without_edge rate d spans = filter (stays rate d) spans

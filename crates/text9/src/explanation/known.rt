@@ -3,8 +3,9 @@ ghost use Rattle.std.specs.Prelude.{◌≡◌, ◌++◌, OnOk, codes};
 ghost use Rattle.text9.specs.Explanation.{text_of_fields, text_of_knowledge, text_of_local, text_of_mode, text_of_panel, text_of_register, word_of};
 
 use crate::pieces::{put_text, put_word};
-use deck9::{Hands, Knowledge, Known, KnownEntry, Mode};
+use deck9::{Hands, Knowledge, Known, KnownEntry, Mode, Profile};
 use std::alloc::AllocError;
+use tc25::Rate;
 
 /// The word for a field on which two possible states differ.
 const UNKNOWN: &str = "unknown";
@@ -13,52 +14,73 @@ const UNKNOWN: &str = "unknown";
 pub(super) fn put_knowledge(
     line: &mut Vec<u8>,
     label: &str,
-    hands: Hands,
+    profile: Profile,
     knowledge: &Knowledge,
 ) -> Result<(), AllocError>
-    ensures { OnOk result (line.new.items ≡ line.old.items ++ (label.now ++ text_of_knowledge hands knowledge.now)) }
+    ensures { OnOk result (line.new.items ≡ line.old.items ++ (label.now ++ text_of_knowledge profile knowledge.now)) }
 {
     put_text(line, label)?;
-    put_columns(line, hands, knowledge)
+    put_columns(line, profile, knowledge)
 }
 
 /// Puts what is known, field by field.
-fn put_columns(line: &mut Vec<u8>, hands: Hands, knowledge: &Knowledge) -> Result<(), AllocError>
-    ensures { OnOk result (line.new.items ≡ line.old.items ++ text_of_knowledge hands knowledge.now) }
+fn put_columns(
+    line: &mut Vec<u8>,
+    profile: Profile,
+    knowledge: &Knowledge,
+) -> Result<(), AllocError>
+    ensures { OnOk result (line.new.items ≡ line.old.items ++ text_of_knowledge profile knowledge.now) }
 {
     put_word(line, "goal ", mode_word(&knowledge.goal))?;
     put_word(line, ", shown ", mode_word(&knowledge.shown))?;
-    put_fields(line, hands, knowledge)
+    put_fields_for(line, profile, knowledge)
 }
 
-/// Puts what is known of the registers, of local and, where hands are allowed, of the panel.
+/// Puts what is known of the registers, of local and, where hands are allowed, of the panel. An error comes where the buffer has
+/// to grow and is refused; then a part of it may be there.
 pub fn put_fields(line: &mut Vec<u8>, hands: Hands, knowledge: &Knowledge) -> Result<(), AllocError>
-    ensures { OnOk result (line.new.items ≡ line.old.items ++ text_of_fields hands knowledge.now) }
+    ensures { OnOk result (line.new.items ≡ line.old.items ++ text_of_fields (record { rate = Rate.Fps25; hands = hands }) knowledge.now) }
 {
-    put_register(line, ", in ", &knowledge.ins)?;
-    put_register(line, ", out ", &knowledge.outs)?;
+    put_fields_for(line, Profile::of(hands), knowledge)
+}
+
+/// Puts what is known of a deck that is taken for this: [`put_fields`] at any rate.
+pub fn put_fields_for(
+    line: &mut Vec<u8>,
+    profile: Profile,
+    knowledge: &Knowledge,
+) -> Result<(), AllocError>
+    ensures { OnOk result (line.new.items ≡ line.old.items ++ text_of_fields profile knowledge.now) }
+{
+    put_register(line, ", in ", profile.rate, &knowledge.ins)?;
+    put_register(line, ", out ", profile.rate, &knowledge.outs)?;
     put_word(line, ", local ", local_word(&knowledge.local))?;
-    put_register(line, ", ain ", &knowledge.ains)?;
-    put_register(line, ", aout ", &knowledge.aouts)?;
-    put_panel(line, hands, &knowledge.panel)
+    put_register(line, ", ain ", profile.rate, &knowledge.ains)?;
+    put_register(line, ", aout ", profile.rate, &knowledge.aouts)?;
+    put_panel(line, profile.hands, &knowledge.panel)
 }
 
 /// Puts a label and a register.
-fn put_register(line: &mut Vec<u8>, label: &str, register: &KnownEntry) -> Result<(), AllocError>
-    ensures { OnOk result (line.new.items ≡ line.old.items ++ (label.now ++ text_of_register register.now)) }
+fn put_register(
+    line: &mut Vec<u8>,
+    label: &str,
+    rate: Rate,
+    register: &KnownEntry,
+) -> Result<(), AllocError>
+    ensures { OnOk result (line.new.items ≡ line.old.items ++ (label.now ++ text_of_register rate register.now)) }
 {
     put_text(line, label)?;
-    put_entry(line, register)
+    put_entry(line, rate, register)
 }
 
 /// Puts what is known of a register.
 #[tactic(auto, unfolding(crate::specs::Explanation::text_of_register))]
-fn put_entry(line: &mut Vec<u8>, register: &KnownEntry) -> Result<(), AllocError>
-    ensures { OnOk result (line.new.items ≡ line.old.items ++ text_of_register register.now) }
+fn put_entry(line: &mut Vec<u8>, rate: Rate, register: &KnownEntry) -> Result<(), AllocError>
+    ensures { OnOk result (line.new.items ≡ line.old.items ++ text_of_register rate register.now) }
 {
     match register {
         KnownEntry::Clear => put_text(line, "clear"),
-        KnownEntry::At(time) => line.extend_from_slice(&time.text()),
+        KnownEntry::At(time) => line.extend_from_slice(&time.text_at(rate)),
         KnownEntry::SetSomewhere => put_text(line, "set"),
         KnownEntry::Unknown => put_text(line, UNKNOWN),
     }

@@ -1,13 +1,34 @@
 -- How the values that models show are stored.
-use Rattle.std.specs.Prelude.{if◌then◌else◌, ◌≡◌}
+use Rattle.std.specs.Prelude.{if◌then◌else◌, ◌==◌, ◌≡◌}
 use Rattle.track9.specs.Working.Deck.{Bool, code_by, Coded, coded_bool, coded_list, coded_option, coded_ℕ, coded×, Entries, false, Hands, List, ModeSet, Option, Part}
-use Rattle.track9.specs.Working.Deck.{Presets, refl, States, Times, Tracked, true, Halves, ℕ}
+use Rattle.track9.specs.Working.Deck.{Presets, Profile, Rate, refl, States, Times, Tracked, true, Halves, ℕ}
 use Rattle.std.specs.FinSet as set
 use Rattle.deck9.specs.declared.state.Hands.TheVariants as hands
+use Rattle.tc25.specs.declared.rate.Rate.TheVariants.{Fps24, Fps25, Fps30, DropFrame}
+
+-- a rate as a number
+abbrev pub number_of : Rate → ℕ
+number_of Fps24 = 0
+number_of Fps25 = 1
+number_of Fps30 = 2
+number_of DropFrame = 3
+
+abbrev pub rate_of_number : ℕ → Rate
+rate_of_number n = if n == 0 then Fps24 else (if n == 1 then Fps25 else (if n == 2 then Fps30 else DropFrame))
+
+pub rate_back : (rate : Rate) → rate_of_number (number_of rate) ≡ rate
+rate_back Fps24 = refl
+rate_back Fps25 = refl
+rate_back Fps30 = refl
+rate_back DropFrame = refl
+
+abbrev pub rate_code : Coded Rate
+rate_code = code_by ℕ coded_ℕ number_of rate_of_number rate_back
 
 abbrev pub entries_code : Coded Entries
-entries_code = code_by (Bool × Times) (coded× coded_bool (set.code coded_ℕ)) (λ e. (e.may_clear, e.times)) (λ p. record { may_clear = p.0; times = p.1 })
-    (λ _. refl)
+entries_code =
+    code_by (Bool × (Times × Rate)) (coded× coded_bool (coded× (set.code coded_ℕ) rate_code)) (λ e. (e.may_clear, (e.times, e.rate)))
+    (λ p. record { may_clear = p.0; times = p.1.0; rate = p.1.1 }) (λ _. refl)
 
 abbrev pub mode_set_code : Coded ModeSet
 mode_set_code = code_by ℕ coded_ℕ (λ s. s.0) (λ n. record { 0 = n }) (λ _. refl)
@@ -36,6 +57,9 @@ hands_back hands.Allowed = refl
 abbrev pub hands_code : Coded Hands
 hands_code = code_by Bool coded_bool is_allowed (λ b. if b then hands.Allowed else hands.None) hands_back
 
+abbrev pub profile_code : Coded Profile
+profile_code = code_by (Rate × Hands) (coded× rate_code hands_code) (λ p. (p.rate, p.hands)) (λ c. record { rate = c.0; hands = c.1 }) (λ _. refl)
+
 abbrev pub presets_code : Coded Presets
 presets_code =
     code_by (ℕ × (ℕ × (ℕ × ℕ))) (coded× coded_ℕ (coded× coded_ℕ (coded× coded_ℕ coded_ℕ)))
@@ -43,5 +67,5 @@ presets_code =
 
 abbrev pub tracked_code : Coded Tracked
 tracked_code =
-    code_by (States × (Hands × Presets)) (coded× states_code (coded× hands_code presets_code))
-    (λ t. (t.states, (t.hands, t.presets))) (λ p. record { states = p.0; hands = p.1.0; presets = p.1.1 }) (λ _. refl)
+    code_by (States × (Profile × Presets)) (coded× states_code (coded× profile_code presets_code))
+    (λ t. (t.states, (t.profile, t.presets))) (λ p. record { states = p.0; profile = p.1.0; presets = p.1.1 }) (λ _. refl)

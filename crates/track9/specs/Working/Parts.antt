@@ -2,24 +2,28 @@
 use Rattle.std.specs.Prelude.{if◌then◌else◌, ◌&&◌, ◌≡◌}
 use Rattle.track9.specs.Working.Pattern.{is_as_wanted}
 use Rattle.track9.specs.Working.Deck.{Bool, Change, Entries, entries_of, InPart, List, Mode, ModeSet, None, Option, Part, RegAudioIn}
-use Rattle.track9.specs.Working.Deck.{RegAudioOut, RegIn, Register, RegistersSet, RegOut, Some, State, Status, ℕ}
+use Rattle.track9.specs.Working.Deck.{RegAudioOut, RegIn, Register, Rate, RegistersSet, RegOut, Some, State, Status, ℕ}
 use Rattle.track9.specs.Working.Entries.{agreeing, all_entries, changed, no_entries, set_entries, some_entry, widened}
 use Rattle.track9.specs.Working.Pairs.{all_pairs, drifted, gone, joined, masked, no_pairs, some_pair}
 
 -- no state, and every state
-abbrev pub no_states : Part
-no_states = record { pairs = no_pairs; ins = no_entries; outs = no_entries; ains = no_entries; aouts = no_entries }
+abbrev pub no_states : Rate → Part
+no_states rate = record { pairs = no_pairs; ins = no_entries rate; outs = no_entries rate; ains = no_entries rate; aouts = no_entries rate }
 
-abbrev pub all_states : Part
-all_states = record { pairs = all_pairs; ins = all_entries; outs = all_entries; ains = all_entries; aouts = all_entries }
+abbrev pub all_states : Rate → Part
+all_states rate = record { pairs = all_pairs; ins = all_entries rate; outs = all_entries rate; ains = all_entries rate; aouts = all_entries rate }
+
+-- the rate whose times a part has
+abbrev pub rate_of : Part → Rate
+rate_of p = p.ins.rate
 
 -- there is a state, by the pairs alone
 abbrev pub is_live : Part → Bool
 is_live p = some_pair p.pairs
 
--- each factor has something in it, or none has
-abbrev pub Whole : Part → Type 0
-Whole p = (r : Register) → some_entry (entries_of r p) ≡ is_live p
+-- each factor has something in it, or none has, and the times of each are those of a rate
+abbrev pub Whole : Rate → Part → Type 0
+Whole rate p = (r : Register) → (some_entry (entries_of r p) ≡ is_live p) × ((entries_of r p).rate ≡ rate)
 
 -- a state of a part, with these values of local and of panel
 pub record HasState (p : Part) (l pn : Bool) (s : State) : Type 0 where
@@ -42,7 +46,7 @@ where_live f p = if is_live p then f p else p
 
 -- no state, where a factor has nothing
 abbrev pub settled : Part → Part
-settled p = if is_live p && some_entry p.ins && some_entry p.outs && some_entry p.ains && some_entry p.aouts then p else no_states
+settled p = if is_live p && some_entry p.ins && some_entry p.outs && some_entry p.ains && some_entry p.aouts then p else no_states (rate_of p)
 
 -- ---- what exchanges do
 
@@ -73,11 +77,6 @@ sensed_part r time p = settled (with_entries r (agreeing time (entries_of r p)) 
 -- something where the part has states
 abbrev pub aside : {A : Type 0} → Part → A → Option A
 aside p x = if is_live p then Some x else None
-
--- entries that were made aside, in place
-abbrev pub put_aside : Register → Option Entries → Part → Part
-put_aside r None p = p
-put_aside r (Some es) p = with_entries r es p
 
 -- entries that were made aside, in place, and no state where they are none
 abbrev pub put_settled : Register → Option Entries → Part → Part
@@ -111,8 +110,8 @@ reported_part status p = settled (set_where status.registers (masked_part status
 
 -- those with the reported LOCAL too, where it is this for each
 abbrev pub status_part : Bool → Status → Part → Part
-status_part local status p = if is_as_wanted status.local local then reported_part status p else no_states
+status_part local status p = if is_as_wanted status.local local then reported_part status p else no_states (rate_of p)
 
 -- the registers are forgotten
 abbrev pub forgotten_part : Part → Part
-forgotten_part p = with_pairs p.pairs all_states
+forgotten_part p = with_pairs p.pairs (all_states (rate_of p))

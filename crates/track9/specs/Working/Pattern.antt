@@ -1,7 +1,7 @@
 -- Which states an effect may have led from: a pattern of fields, each fixed or free.
 use Rattle.std.specs.Prelude.{if◌then◌else◌, ◌==◌, ◌≡◌}
 use Rattle.track9.specs.Working.Deck.{Pattern, At, bit_of, Bool, Change, Clear, Command, Drift, Effect, Entry, entry_of, false, Hands, has, has_pair, is_mode, IsState, KeepsRest}
-use Rattle.track9.specs.Working.Deck.{List, may_ignore, Mode, modes, ModeSet, moved_entry, Next, next_frame, None, Option, option_map, Pair, PairReaches, Prev, prev_frame}
+use Rattle.track9.specs.Working.Deck.{List, may_ignore, Mode, modes, ModeSet, moved_entry, Next, next_frame, None, Option, option_map, Pair, PairReaches, Prev, prev_frame, Profile, Rate}
 use Rattle.track9.specs.Working.Deck.{Recall, RegAudioIn, RegAudioOut, RegIn, Register, RegOut, Reset, SetAt, SetSomewhere, Some, State, true}
 use Rattle.deck9.specs.declared.effect.Effect.TheVariants as effect
 use Rattle.deck9.specs.declared.mode.Mode.TheVariants as mode
@@ -59,16 +59,16 @@ just_state t = record {
 -- ---- before an effect
 
 -- what an entry was that has become this one: nothing where it can't have, and then which one, or any
-abbrev pub entry_before : Change → Entry → Option (Option Entry)
-entry_before SetSomewhere Clear = None
-entry_before SetSomewhere (At t) = Some None
-entry_before (SetAt u) Clear = None
-entry_before (SetAt u) (At t) = if t == u then Some None else None
-entry_before Next e = Some (Some (moved_entry prev_frame e))
-entry_before Prev e = Some (Some (moved_entry next_frame e))
-entry_before Reset Clear = Some None
-entry_before Reset (At t) = None
-entry_before Recall e = Some None
+abbrev pub entry_before : Rate → Change → Entry → Option (Option Entry)
+entry_before rate SetSomewhere Clear = None
+entry_before rate SetSomewhere (At t) = Some None
+entry_before rate (SetAt u) Clear = None
+entry_before rate (SetAt u) (At t) = if t == u then Some None else None
+entry_before rate Next e = Some (Some (moved_entry (prev_frame rate) e))
+entry_before rate Prev e = Some (Some (moved_entry (next_frame rate) e))
+entry_before rate Reset Clear = Some None
+entry_before rate Reset (At t) = None
+entry_before rate Recall e = Some None
 
 -- the state with any goal
 abbrev pub any_goal : State → Pattern
@@ -82,18 +82,26 @@ any_registers a = record a { ins = None; outs = None; ains = None; aouts = None 
 abbrev pub any_tape : Pattern → Pattern
 any_tape a = record (any_registers a) { goals = modes 0x3FF; shown = modes 0x3FF }
 
+-- the panel may have been anything, where hands are allowed
+abbrev pub any_panel : Hands → Pattern → Pattern
+any_panel hands.None a = a
+any_panel hands.Allowed a = record a { panel = None }
+
+-- the states from which the panel was switched on or off
+abbrev pub panel_before : Hands → Bool → State → Option Pattern
+panel_before hands.None on t = Some (just_state t)
+panel_before hands.Allowed on t = if same_fact t.panel on then Some (record (just_state t) { panel = None }) else None
+
 -- the states that the effect leads to this one from
-abbrev pub pattern_before : Hands → Effect → State → Option Pattern
-pattern_before h effect.Nothing t = Some (just_state t)
-pattern_before h (effect.Go g) t = if is_mode t.goal g then Some (any_goal t) else None
-pattern_before h effect.KeepOrStop t = Some (if is_mode t.goal mode.Stop then any_goal t else just_state t)
-pattern_before h (effect.Change r c) t = option_map (λ o. with_wanted r o (just_state t)) (entry_before c (entry_of r t))
-pattern_before hands.None (effect.Panel on) t = Some (just_state t)
-pattern_before hands.Allowed (effect.Panel on) t = if same_fact t.panel on then Some (record (just_state t) { panel = None }) else None
-pattern_before h effect.ForgetTape t = Some (any_tape (just_state t))
-pattern_before h effect.ForgetRegisters t = Some (any_registers (just_state t))
-pattern_before hands.None effect.ForgetAll t = Some (record (any_tape (just_state t)) { local = None })
-pattern_before hands.Allowed effect.ForgetAll t = Some (record (any_tape (just_state t)) { local = None; panel = None })
+abbrev pub pattern_before : Profile → Effect → State → Option Pattern
+pattern_before p effect.Nothing t = Some (just_state t)
+pattern_before p (effect.Go g) t = if is_mode t.goal g then Some (any_goal t) else None
+pattern_before p effect.KeepOrStop t = Some (if is_mode t.goal mode.Stop then any_goal t else just_state t)
+pattern_before p (effect.Change r c) t = option_map (λ o. with_wanted r o (just_state t)) (entry_before p.rate c (entry_of r t))
+pattern_before p (effect.Panel on) t = panel_before p.hands on t
+pattern_before p effect.ForgetTape t = Some (any_tape (just_state t))
+pattern_before p effect.ForgetRegisters t = Some (any_registers (just_state t))
+pattern_before p effect.ForgetAll t = Some (any_panel p.hands (record (any_tape (just_state t)) { local = None }))
 
 -- a deck in this state may have ignored the command
 abbrev pub IsUndone : Command → State → Type 0
@@ -102,16 +110,16 @@ IsUndone c t = (may_ignore c ≡ true) × (t.local ≡ true)
 -- ---- a drift before
 
 -- a drift leads from the state to one of those that are wanted
-abbrev pub LeadsTo : Hands → Pattern → State → Type 0
-LeadsTo h a s = (d : State) × Drift h s d × Fits a d
+abbrev pub LeadsTo : Profile → Pattern → State → Type 0
+LeadsTo p a s = (d : State) × Drift p s d × Fits a d
 
 -- a drift of the mechanics does
 abbrev pub RunsTo : Pattern → State → Type 0
 RunsTo a s = (d : State) × KeepsRest s d × PairReaches s.goal s.shown d.goal d.shown × Fits a d
 
 -- a state of the day is wanted
-abbrev pub IsPattern : Pattern → Type 0
-IsPattern a = (d : State) × IsState d × Fits a d
+abbrev pub IsPattern : Rate → Pattern → Type 0
+IsPattern rate a = (d : State) × IsState rate d × Fits a d
 
 -- a pair from which a drift of the mechanics reaches one of these goals with one of these modes shown
 abbrev pub PairRunsTo : ModeSet → ModeSet → Mode → Mode → Type 0

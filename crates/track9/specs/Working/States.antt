@@ -1,20 +1,24 @@
 -- How a set of states changes.
 use Rattle.std.specs.Prelude.{if◌then◌else◌, ◌+◌, ◌||◌, ◌≡◌, ◌≤◌, ◌⊎◌}
 use Rattle.track9.specs.Working.Deck.{AreReached, begin_count, BelowDay, Block, Bool, CanPass, Change, Command, count_of, Does, Drift, Effect, effect_of, entries_of, false, Hands}
-use Rattle.track9.specs.Working.Deck.{in_local, InPart, is_nak, is_of_goal_or_register, Mode, None, Option, Part, Possible, Presets}
+use Rattle.track9.specs.Working.Deck.{in_local, InPart, is_nak, is_of_goal_or_register, Mode, None, Option, Part, Possible, Presets, Profile, Rate}
 use Rattle.track9.specs.Working.Deck.{presets_after, Register, SetAt, Some, State, States, Status, DeckStep, true, Halves, with_command, with_one, ℕ}
 use Rattle.deck9.specs.declared.effect.Effect.TheVariants as effect
 use Rattle.deck9.specs.declared.state.Hands.TheVariants as hands
 use Rattle.track9.specs.Frugal.{is_frugal, is_frugal_effect}
 use Rattle.track9.specs.Working.Entries.{agreeing}
-use Rattle.track9.specs.Working.Parts.{Whole, all_states, aside, changed_entries, changed_part, drifted_part, forgotten_part, gone_part, is_live, no_states, put_aside, put_settled, status_part, where_live}
+use Rattle.track9.specs.Working.Parts.{Whole, all_states, aside, changed_entries, changed_part, drifted_part, forgotten_part, gone_part, is_live, no_states, put_settled, rate_of, status_part, where_live}
 
 -- ---- the states with one value of the panel
 
 -- no state, or every state
-abbrev pub all_or_none : Bool → Halves
-all_or_none true = record { remote = all_states; local = all_states }
-all_or_none false = record { remote = no_states; local = no_states }
+abbrev pub all_or_none : Rate → Bool → Halves
+all_or_none rate true = record { remote = all_states rate; local = all_states rate }
+all_or_none rate false = record { remote = no_states rate; local = no_states rate }
+
+-- the rate whose times the states have
+abbrev pub rate_in : Halves → Rate
+rate_in h = rate_of h.remote
 
 -- there is a state
 abbrev pub some_two : Halves → Bool
@@ -25,16 +29,16 @@ abbrev pub InTwo : Bool → Halves → State → Type 0
 InTwo pn h s = (s.panel ≡ pn) × InPart (in_local h s.local) s
 
 -- what is true of both parts
-pub record TwoWhole (h : Halves) : Type 0 where
-  pub remote : Whole h.remote
-  pub local : Whole h.local
+pub record TwoWhole (rate : Rate) (h : Halves) : Type 0 where
+  pub remote : Whole rate h.remote
+  pub local : Whole rate h.local
 
 abbrev pub TwoBelow : Halves → Type 0
-TwoBelow h = (l : Bool) (r : Register) → BelowDay (entries_of r (in_local h l)).times
+TwoBelow h = (l : Bool) (r : Register) → BelowDay (entries_of r (in_local h l)).rate (entries_of r (in_local h l)).times
 
 -- in each part the times of a register begin at most once more than there were presets to it
 abbrev pub TwoFew : Presets → Halves → Type 0
-TwoFew n h = (l : Bool) (r : Register) → begin_count (entries_of r (in_local h l)).times ≤ count_of r n + 1
+TwoFew n h = (l : Bool) (r : Register) → begin_count (entries_of r (in_local h l)).rate (entries_of r (in_local h l)).times ≤ count_of r n + 1
 
 -- each part changes by its value of local
 abbrev pub map_two : (Bool → Part → Part) → Halves → Halves
@@ -48,10 +52,11 @@ two_drifted h = map_two (λ local. drifted_part) h
 abbrev pub two_gone : Bool → Mode → Halves → Halves
 two_gone may_stay goal h = map_two (λ local. where_live (gone_part (local || may_stay) goal)) h
 
--- a register changes: in place in the part whose sets may be large, and aside in the other
+-- a register changes: in place in the part whose sets may be large, and aside in the other, which has no state left where the
+-- register is set at no time of the day
 abbrev pub two_changed : Bool → Register → Change → Halves → Halves
 two_changed may_stay r c h = record {
-  remote = put_aside r (aside h.remote (changed_entries may_stay c (entries_of r h.remote))) h.remote;
+  remote = put_settled r (aside h.remote (changed_entries may_stay c (entries_of r h.remote))) h.remote;
   local = where_live (changed_part true r c) h.local;
 }
 
@@ -65,17 +70,21 @@ two_status status h = map_two (λ local. where_live (status_part local status)) 
 
 -- what is forgotten
 abbrev pub tape_forgotten : Halves → Halves
-tape_forgotten h = map_two (λ local. where_live (λ p. all_states)) h
+tape_forgotten h = map_two (λ local. where_live (λ p. all_states (rate_of p))) h
 
 abbrev pub registers_forgotten : Halves → Halves
 registers_forgotten h = map_two (λ local. where_live forgotten_part) h
 
 abbrev pub all_forgotten : Halves → Halves
-all_forgotten h = if some_two h then all_or_none true else h
+all_forgotten h = if some_two h then all_or_none (rate_in h) true else h
+
+-- a deck of a rate whose panel nobody touches
+abbrev pub untouched : Rate → Profile
+untouched rate = record { rate = rate; hands = hands.None }
 
 -- an effect where nobody touches the panel, or a deck in LOCAL that ignores it, or any where it may
-abbrev pub DoesOrNot : Bool → Effect → State → State → Type 0
-DoesOrNot may_stay e s t = Does hands.None e s t ⊎ ((is_of_goal_or_register e ≡ true) × ((s.local || may_stay) ≡ true) × (t ≡ s))
+abbrev pub DoesOrNot : Rate → Bool → Effect → State → State → Type 0
+DoesOrNot rate may_stay e s t = Does (untouched rate) e s t ⊎ ((is_of_goal_or_register e ≡ true) × ((s.local || may_stay) ≡ true) × (t ≡ s))
 
 -- the counts after an effect
 abbrev pub counted : Effect → Presets → Presets
@@ -83,23 +92,23 @@ counted (effect.Change r (SetAt t)) n = with_one r n
 counted _ n = n
 
 -- the states after what leads from a state to others
-pub record LeadsOn (Goes : State → State → Type 0) (count : Presets → Presets) (h g : Halves) : Type 0 where
+pub record LeadsOn (rate : Rate) (Goes : State → State → Type 0) (count : Presets → Presets) (h g : Halves) : Type 0 where
   pub reached : (pn : Bool) → AreReached (InTwo pn h) Goes (InTwo pn g)
-  pub whole : TwoWhole g
+  pub whole : TwoWhole rate g
   pub few : (n : Presets) → TwoFew n h → TwoFew (count n) g
 
 -- the states after an effect
-abbrev pub HasEffect : Bool → Effect → Halves → Halves → Type 0
-HasEffect may_stay e h g = LeadsOn (DoesOrNot may_stay e) (counted e) h g
+abbrev pub HasEffect : Rate → Bool → Effect → Halves → Halves → Type 0
+HasEffect rate may_stay e h g = LeadsOn rate (DoesOrNot rate may_stay e) (counted e) h g
 
 -- a drift, and then a step
-abbrev pub DriftsAndGoes : (Hands → State → State → Type 0) → Hands → State → State → Type 0
-DriftsAndGoes Goes h s t = (d : State) × Drift h s d × Goes h d t
+abbrev pub DriftsAndGoes : (Profile → State → State → Type 0) → Profile → State → State → Type 0
+DriftsAndGoes Goes p s t = (d : State) × Drift p s d × Goes p d t
 
 -- what a command does after the drift: the step with its reply, or what it may do where that is not known
-abbrev pub StepOrPass : Command → Option Block → Hands → State → State → Type 0
-StepOrPass command None h s t = CanPass h command s t
-StepOrPass command (Some reply) h s t = DeckStep h command reply s t
+abbrev pub StepOrPass : Command → Option Block → Profile → State → State → Type 0
+StepOrPass command None p s t = CanPass p command s t
+StepOrPass command (Some reply) p s t = DeckStep p command reply s t
 
 -- the counts after it
 abbrev pub counts_after : Command → Option Block → Presets → Presets
@@ -117,8 +126,8 @@ is_frugal_taken command None = is_frugal_effect (effect_of command)
 is_frugal_taken command (Some reply) = is_frugal command reply
 
 -- the states after it where nobody touches the panel
-abbrev pub Taken : Command → Option Block → Halves → Halves → Type 0
-Taken command reply h g = LeadsOn (DriftsAndGoes (StepOrPass command reply) hands.None) (counts_after command reply) h g
+abbrev pub Taken : Rate → Command → Option Block → Halves → Halves → Type 0
+Taken rate command reply h g = LeadsOn rate (DriftsAndGoes (StepOrPass command reply) (untouched rate)) (counts_after command reply) h g
 
 -- ---- all states
 
@@ -131,42 +140,52 @@ abbrev pub hands_of : States → Hands
 hands_of v = hands_by v.on
 
 -- those with this value of the panel
-abbrev pub on_two : Option Halves → Halves
-on_two None = all_or_none false
-on_two (Some h) = h
+-- the rate whose times they have
+abbrev pub rate_for : States → Rate
+rate_for v = rate_in v.off
+
+abbrev pub profile_of : States → Profile
+profile_of v = record { rate = rate_for v; hands = hands_of v }
+
+abbrev pub on_two : Rate → Option Halves → Halves
+on_two rate None = all_or_none rate false
+on_two rate (Some h) = h
 
 abbrev pub two_of : States → Bool → Halves
 two_of v false = v.off
-two_of v true = on_two v.on
+two_of v true = on_two (rate_for v) v.on
 
 -- the part of the states with these values of local and of panel
 abbrev pub part_of : States → Bool → Bool → Part
 part_of v l pn = in_local (two_of v pn) l
 
 -- what is true of each part
-pub record AreWhole (v : States) : Type 0 where
-  pub off : TwoWhole v.off
-  pub on : TwoWhole (on_two v.on)
+pub record AreWhole (rate : Rate) (v : States) : Type 0 where
+  pub off : TwoWhole rate v.off
+  pub on : TwoWhole rate (on_two rate v.on)
 
 pub record AreBelow (v : States) : Type 0 where
   pub off : TwoBelow v.off
-  pub on : TwoBelow (on_two v.on)
+  pub on : TwoBelow (on_two (rate_for v) v.on)
 
 abbrev pub AreFew : Presets → States → Type 0
 AreFew n v = (pn : Bool) → TwoFew n (two_of v pn)
 
 -- there is a state with the panel on
 abbrev pub is_panel_live : States → Bool
-is_panel_live v = some_two (on_two v.on)
+is_panel_live v = some_two (on_two (rate_for v) v.on)
 
 -- there is a state
 abbrev pub some_state : States → Bool
 some_state v = some_two v.off || is_panel_live v
 
 -- the states before the capture
-abbrev pub first_states : Hands → States
-first_states hands.None = record { off = all_or_none true; on = None }
-first_states hands.Allowed = record { off = all_or_none true; on = Some (all_or_none true) }
+abbrev pub first_on : Rate → Hands → Option Halves
+first_on rate hands.None = None
+first_on rate hands.Allowed = Some (all_or_none rate true)
+
+abbrev pub first_states : Profile → States
+first_states p = record { off = all_or_none p.rate true; on = first_on p.rate p.hands }
 
 -- an effect to which a hand on the panel makes a difference
 abbrev pub is_wide : Effect → Bool
@@ -176,19 +195,19 @@ is_wide _ = false
 
 -- the states after a drift, put together whatever the panel: where it may have been on, a hand may have done anything
 abbrev pub either_panel : States → Halves
-either_panel v = if is_panel_live v then all_or_none true else two_drifted v.off
+either_panel v = if is_panel_live v then all_or_none (rate_for v) true else two_drifted v.off
 
 -- the panel is switched on or off, after a drift
-abbrev pub switched : Bool → Halves → States
-switched true h = record { off = all_or_none false; on = Some h }
-switched false h = record { off = h; on = Some (all_or_none false) }
+abbrev pub switched : Rate → Bool → Halves → States
+switched rate true h = record { off = all_or_none rate false; on = Some h }
+switched rate false h = record { off = h; on = Some (all_or_none rate false) }
 
 abbrev pub after_panel : Bool → States → States
-after_panel on v = switched on (either_panel v)
+after_panel on v = switched (rate_for v) on (either_panel v)
 
 -- the states after a drift
 abbrev pub all_drifted : States → States
-all_drifted v = record { off = two_drifted v.off; on = Some (all_or_none (is_panel_live v)) }
+all_drifted v = record { off = two_drifted v.off; on = Some (all_or_none (rate_for v) (is_panel_live v)) }
 
 -- the panel is switched on or off, after a drift, or stays: what it may be switched to has all states, and the rest is as it was
 abbrev pub panel_passed : Bool → States → States
@@ -197,20 +216,20 @@ panel_passed false v = record (all_drifted v) { off = either_panel v }
 
 -- what holds inside a tracker
 pub record IsKept (n : Presets) (v : States) : Type 0 where
-  pub whole : AreWhole v
+  pub whole : AreWhole (rate_for v) v
   pub few : AreFew n v
 
 -- the states after what leads from a state to others
-pub record AllLeadOn (h : Hands) (Goes : State → State → Type 0) (count : Presets → Presets) (v w : States) : Type 0 where
+pub record AllLeadOn (p : Profile) (Goes : State → State → Type 0) (count : Presets → Presets) (v w : States) : Type 0 where
   pub reached : AreReached (Possible v) Goes (Possible w)
-  pub hands : hands_of w ≡ h
-  pub whole : AreWhole w
+  pub profile : profile_of w ≡ p
+  pub whole : AreWhole p.rate w
   pub few : (n : Presets) → AreFew n v → AreFew (count n) w
 
 -- the states after a drift
-abbrev pub FollowsDrift : Hands → States → States → Type 0
-FollowsDrift h v w = AllLeadOn h (Drift h) (λ n. n) v w
+abbrev pub FollowsDrift : Profile → States → States → Type 0
+FollowsDrift p v w = AllLeadOn p (Drift p) (λ n. n) v w
 
 -- the states after a command
-abbrev pub Follows : Hands → Command → Option Block → States → States → Type 0
-Follows h command reply v w = AllLeadOn h (DriftsAndGoes (StepOrPass command reply) h) (counts_after command reply) v w
+abbrev pub Follows : Profile → Command → Option Block → States → States → Type 0
+Follows p command reply v w = AllLeadOn p (DriftsAndGoes (StepOrPass command reply) p) (counts_after command reply) v w

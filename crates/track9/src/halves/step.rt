@@ -5,7 +5,7 @@ ghost use Rattle.deck9.specs.Effect.{effect_of};
 ghost use Rattle.deck9.specs.Status.{status_of};
 ghost use Rattle.tc25.specs.Day.{time_of};
 ghost use Rattle.track9.specs.Frugal.{is_frugal, is_frugal_effect};
-ghost use Rattle.track9.specs.Working.States.{HasEffect, Taken, TwoWhole, is_frugal_taken, some_two, two_drifted, two_sensed, two_status};
+ghost use Rattle.track9.specs.Working.States.{HasEffect, Taken, TwoWhole, is_frugal_taken, rate_in, some_two, two_drifted, two_sensed, two_status};
 
 use crate::halves::Halves;
 use block9::{Block, Command};
@@ -23,8 +23,8 @@ impl<S: TimeSet> Halves<S> {
         command: &Command,
         reply: Option<&Block>,
     ) -> Result<bool, AllocError>
-        requires { TwoWhole self.old }
-        ensures ok { OnOk result (Taken command.now (option_map (λ b. b.now) reply.entry) self.old self.new) }
+        requires { TwoWhole (rate_in self.old) self.old }
+        ensures ok { OnOk result (Taken (rate_in self.old) command.now (option_map (λ b. b.now) reply.entry) self.old self.new) }
         ensures some { IfOk result (λ b. b ≡ some_two self.new) }
         ensures err { OnErr result (self.new ≡ self.old) }
         ensures frugal { IsTrue (is_frugal_taken command.now (option_map (λ b. b.now) reply.entry)) → IsOk result }
@@ -42,8 +42,8 @@ impl<S: TimeSet> Halves<S> {
         command: &Command,
         reply: &Block,
     ) -> Result<bool, AllocError>
-        requires { TwoWhole self.old }
-        ensures ok { OnOk result (Taken command.now (Some reply.now) self.old self.new) }
+        requires { TwoWhole (rate_in self.old) self.old }
+        ensures ok { OnOk result (Taken (rate_in self.old) command.now (Some reply.now) self.old self.new) }
         ensures some { IfOk result (λ b. b ≡ some_two self.new) }
         ensures err { OnErr result (self.new ≡ self.old) }
         ensures frugal { IsTrue (is_frugal command.now reply.now) → IsOk result }
@@ -60,8 +60,8 @@ impl<S: TimeSet> Halves<S> {
 
     /// The states after a command whose reply is not known. It answers whether there is one.
     fn pass(&mut self, alloc: Global, command: &Command) -> Result<bool, AllocError>
-        requires { TwoWhole self.old }
-        ensures ok { OnOk result (Taken command.now None self.old self.new) }
+        requires { TwoWhole (rate_in self.old) self.old }
+        ensures ok { OnOk result (Taken (rate_in self.old) command.now None self.old self.new) }
         ensures some { IfOk result (λ b. b ≡ some_two self.new) }
         ensures err { OnErr result (self.new ≡ self.old) }
         ensures frugal { IsTrue (is_frugal_effect (effect_of command.now)) → IsOk result }
@@ -73,11 +73,11 @@ impl<S: TimeSet> Halves<S> {
     /// The states after a register's time was read, and a drift. It answers whether there is one.
     #[inline(never)] // so that an exchange that takes no memory needs no room on the stack
     fn read(&mut self, alloc: Global, register: Register, reply: &Block) -> Result<bool, AllocError>
-        ensures ok { OnOk result (self.new ≡ two_drifted (two_sensed register (time_of reply.now.bytes.items) self.old)) }
+        ensures ok { OnOk result (self.new ≡ two_drifted (two_sensed register (time_of (rate_in self.old) reply.now.bytes.items) self.old)) }
         ensures some { IfOk result (λ b. b ≡ some_two self.new) }
         ensures err { OnErr result (self.new ≡ self.old) }
     {
-        let time = reply.time();
+        let time = reply.time_at(self.rate());
         self.sense(alloc, register, &time)?;
         Ok(self.drift())
     }
@@ -102,8 +102,8 @@ impl<S: TimeSet> Halves<S> {
         may_stay: bool,
         command: &Command,
     ) -> Result<bool, AllocError>
-        requires { TwoWhole self.old }
-        ensures ok { OnOk result (HasEffect may_stay (effect_of command.now) (two_drifted self.old) self.new) }
+        requires { TwoWhole (rate_in self.old) self.old }
+        ensures ok { OnOk result (HasEffect (rate_in self.old) may_stay (effect_of command.now) (two_drifted self.old) self.new) }
         ensures some { IfOk result (λ b. b ≡ some_two self.new) }
         ensures err { OnErr result (self.new ≡ self.old) }
         ensures frugal { IsTrue (is_frugal_effect (effect_of command.now)) → IsOk result }

@@ -8,7 +8,7 @@ ghost use Rattle.deck9.specs.Step.{Exchanges};
 ghost use Rattle.track9.specs.Tracker.{Possible};
 ghost use Rattle.track9.specs.Working.Pattern.{Is, IsPattern, IsUndone, LeadsTo, RunsTo, just_state};
 ghost use Rattle.track9.specs.Working.Parts.{HasState};
-ghost use Rattle.track9.specs.Working.States.{AreWhole, InTwo, hands_of, is_panel_live, two_of};
+ghost use Rattle.track9.specs.Working.States.{AreWhole, InTwo, is_panel_live, two_of, profile_of, rate_for};
 ghost use Rattle.deck9.specs.declared.state.State.{State as AState};
 
 use crate::halves::Halves;
@@ -22,32 +22,34 @@ use sets25::TimeSet;
 impl<S: TimeSet> States<S> {
     /// A state from which the exchange leads to the target: None exactly where there is none. Takes no memory.
     pub(crate) fn before(&self, command: &Command, reply: &Block, target: &State) -> Option<State>
-        requires { AreWhole self.now }
-        ensures some { IfSome result (λ s. Possible self.now s × Exchanges (hands_of self.now) command.now reply.now s target.now) }
-        ensures none { IfNone result (¬ ((s : AState) × Possible self.now s × Exchanges (hands_of self.now) command.now reply.now s target.now)) }
+        requires { AreWhole (rate_for self.now) self.now }
+        ensures some { IfSome result (λ s. Possible self.now s × Exchanges (profile_of self.now) command.now reply.now s target.now) }
+        ensures none { IfNone result (¬ ((s : AState) × Possible self.now s × Exchanges (profile_of self.now) command.now reply.now s target.now)) }
     {
         self.below_day();
-        target.is_valid();
+        if !target.is_of(self.rate()) {
+            return None;
+        }
         if reply.is_nak() {
             return self.origin(&Pattern::just(target));
         }
-        if !target.shows(command, reply) {
+        if !target.shows(self.rate(), command, reply) {
             return None;
         }
         if let Some(state) = self.undone_origin(command, target) {
             return Some(state);
         }
         let effect = Effect::of(command);
-        let wanted = Pattern::before(self.hands(), &effect, target)?;
+        let wanted = Pattern::before(self.profile(), &effect, target)?;
         self.origin(&wanted)
     }
 
     /// A state from which a drift leads to the target, where a deck in LOCAL may ignore the command.
     fn undone_origin(&self, command: &Command, target: &State) -> Option<State>
-        requires whole { AreWhole self.now }
-        requires target { IsState target.now }
-        ensures some { IfSome result (λ s. Possible self.now s × IsUndone command.now target.now × LeadsTo (hands_of self.now) (just_state target.now) s) }
-        ensures none { IfNone result (¬ ((s : AState) × Possible self.now s × IsUndone command.now target.now × LeadsTo (hands_of self.now) (just_state target.now) s)) }
+        requires whole { AreWhole (rate_for self.now) self.now }
+        requires target { IsState (rate_for self.now) target.now }
+        ensures some { IfSome result (λ s. Possible self.now s × IsUndone command.now target.now × LeadsTo (profile_of self.now) (just_state target.now) s) }
+        ensures none { IfNone result (¬ ((s : AState) × Possible self.now s × IsUndone command.now target.now × LeadsTo (profile_of self.now) (just_state target.now) s)) }
     {
         let is_ignored = may_ignore(command);
         if !is_ignored || !target.local {
@@ -58,10 +60,10 @@ impl<S: TimeSet> States<S> {
 
     /// A state from which a drift leads to one of those that are wanted: None exactly where there is none.
     fn origin(&self, wanted: &Pattern) -> Option<State>
-        requires whole { AreWhole self.now }
-        requires wanted { IsPattern wanted.now }
-        ensures some { IfSome result (λ s. Possible self.now s × LeadsTo (hands_of self.now) wanted.now s) }
-        ensures none { IfNone result (¬ ((s : AState) × Possible self.now s × LeadsTo (hands_of self.now) wanted.now s)) }
+        requires whole { AreWhole (rate_for self.now) self.now }
+        requires wanted { IsPattern (rate_for self.now) wanted.now }
+        ensures some { IfSome result (λ s. Possible self.now s × LeadsTo (profile_of self.now) wanted.now s) }
+        ensures none { IfNone result (¬ ((s : AState) × Possible self.now s × LeadsTo (profile_of self.now) wanted.now s)) }
     {
         if let Some(state) = self.panel_origin(wanted) {
             return Some(state);
@@ -71,7 +73,7 @@ impl<S: TimeSet> States<S> {
 
     /// Some state with the panel on, where one with the panel on is wanted: a hand makes any such state of it.
     fn panel_origin(&self, wanted: &Pattern) -> Option<State>
-        requires { AreWhole self.now }
+        requires { AreWhole (rate_for self.now) self.now }
         ensures some { IfSome result (λ s. InTwo true (two_of self.now true) s × Is wanted.now.panel true) }
         ensures none { IfNone result (Is wanted.now.panel true → is_panel_live self.now ≡ false) }
     {

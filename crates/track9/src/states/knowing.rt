@@ -4,7 +4,7 @@ ghost use Rattle.deck9.specs.Knowledge.{IsKnown, IsKnownEntry};
 ghost use Rattle.track9.specs.Tracker.{Possible};
 ghost use Rattle.track9.specs.Working.Knowing.{TwoKnow, goals_in, join_options, joined_known, known_fact, shown_in, two_goals, two_shown};
 ghost use Rattle.track9.specs.Working.Parts.{is_live};
-ghost use Rattle.track9.specs.Working.States.{AreWhole, TwoWhole, part_of, some_state, two_of};
+ghost use Rattle.track9.specs.Working.States.{AreWhole, TwoWhole, part_of, some_state, two_of, rate_for, rate_in};
 ghost use Rattle.deck9.specs.declared.state.State.{State as AState};
 
 use crate::halves::Halves;
@@ -15,7 +15,7 @@ use sets25::TimeSet;
 impl<S: TimeSet> States<S> {
     /// The goal, as far as all states agree. There is a state.
     pub(crate) fn known_goal(&self) -> Known<Mode>
-        requires whole { AreWhole self.now }
+        requires whole { AreWhole (rate_for self.now) self.now }
         requires some { some_state self.now ≡ true }
         ensures { IsKnown (Possible self.now) (λ (s : AState). s.goal) result }
     {
@@ -24,7 +24,7 @@ impl<S: TimeSet> States<S> {
 
     /// The shown mode, as far as all states agree. There is a state.
     pub(crate) fn known_shown(&self) -> Known<Mode>
-        requires whole { AreWhole self.now }
+        requires whole { AreWhole (rate_for self.now) self.now }
         requires some { some_state self.now ≡ true }
         ensures { IsKnown (Possible self.now) (λ (s : AState). s.shown) result }
     {
@@ -33,7 +33,7 @@ impl<S: TimeSet> States<S> {
 
     /// A register, as far as all states agree. There is a state.
     pub(crate) fn known_entry(&self, register: Register) -> KnownEntry
-        requires whole { AreWhole self.now }
+        requires whole { AreWhole (rate_for self.now) self.now }
         requires some { some_state self.now ≡ true }
         ensures { IsKnownEntry (Possible self.now) register result }
     {
@@ -48,7 +48,7 @@ impl<S: TimeSet> States<S> {
 
     /// Whether the deck is in LOCAL, as far as all states agree. There is a state.
     pub(crate) fn known_local(&self) -> Known<bool>
-        requires whole { AreWhole self.now }
+        requires whole { AreWhole (rate_for self.now) self.now }
         requires some { some_state self.now ≡ true }
         ensures { IsKnown (Possible self.now) (λ (s : AState). s.local) result }
     {
@@ -57,7 +57,7 @@ impl<S: TimeSet> States<S> {
 
     /// Whether the panel is on, as far as all states agree. There is a state.
     pub(crate) fn known_panel(&self) -> Known<bool>
-        requires whole { AreWhole self.now }
+        requires whole { AreWhole (rate_for self.now) self.now }
         requires some { some_state self.now ≡ true }
         ensures { IsKnown (Possible self.now) (λ (s : AState). s.panel) result }
     {
@@ -66,7 +66,7 @@ impl<S: TimeSet> States<S> {
 
     /// What is known of a register with the panel on: None where there is no such state.
     fn known_on(&self, register: Register) -> Option<KnownEntry>
-        requires { AreWhole self.now }
+        requires { AreWhole (rate_for self.now) self.now }
         ensures { TwoKnow (two_of self.now true) register result }
     {
         match &self.on {
@@ -119,7 +119,7 @@ impl<S: TimeSet> States<S> {
 impl<S: TimeSet> Halves<S> {
     /// What is known of a register: None where there is no state.
     fn known(&self, register: Register) -> Option<KnownEntry>
-        requires { TwoWhole self.now }
+        requires { TwoWhole (rate_in self.now) self.now }
         ensures { TwoKnow self.now register result }
     {
         let remote = self.remote.known(register);

@@ -1,8 +1,8 @@
 //! Some state of a set.
 ghost use Rattle.std.specs.Prelude.{◌≡◌, IfNone, IfSome, false, true};
 ghost use Rattle.track9.specs.Tracker.{Possible};
-ghost use Rattle.track9.specs.Working.Parts.{HasState, Whole, is_live};
-ghost use Rattle.track9.specs.Working.States.{AreWhole, InTwo, TwoWhole, is_panel_live, some_two, two_of};
+ghost use Rattle.track9.specs.Working.Parts.{HasState, Whole, is_live, rate_of};
+ghost use Rattle.track9.specs.Working.States.{AreWhole, InTwo, TwoWhole, is_panel_live, some_two, two_of, rate_for, rate_in};
 ghost use Rattle.deck9.specs.declared.state.State.{State as AState};
 
 use crate::halves::Halves;
@@ -14,7 +14,7 @@ use sets25::TimeSet;
 impl<S: TimeSet> States<S> {
     /// Some state, or none exactly where there is none. Takes no memory.
     pub(crate) fn member(&self) -> Option<State>
-        requires { AreWhole self.now }
+        requires { AreWhole (rate_for self.now) self.now }
         ensures some { IfSome result (Possible self.now) }
         ensures none { IfNone result (¬ ((s : AState) × Possible self.now s)) }
     {
@@ -26,7 +26,7 @@ impl<S: TimeSet> States<S> {
 
     /// Some state with the panel on, or none exactly where there is none.
     pub(crate) fn state_on(&self) -> Option<State>
-        requires { AreWhole self.now }
+        requires { AreWhole (rate_for self.now) self.now }
         ensures some { IfSome result (InTwo true (two_of self.now true)) }
         ensures none { IfNone result (is_panel_live self.now ≡ false) }
     {
@@ -40,7 +40,7 @@ impl<S: TimeSet> States<S> {
 impl<S: TimeSet> Halves<S> {
     /// Some state, with this value of the panel, or none exactly where there is none.
     fn state(&self, panel: bool) -> Option<State>
-        requires { TwoWhole self.now }
+        requires { TwoWhole (rate_in self.now) self.now }
         ensures some { IfSome result (InTwo panel self.now) }
         ensures none { IfNone result (some_two self.now ≡ false) }
     {
@@ -53,7 +53,7 @@ impl<S: TimeSet> Halves<S> {
 
 /// Some state of a part, with these values of local and of panel: none where the part has none.
 fn state_in<S: TimeSet>(part: &Part<S>, local: bool, panel: bool) -> Option<State>
-    requires { Whole part.now }
+    requires { Whole (rate_of part.now) part.now }
     ensures some { IfSome result (HasState part.now local panel) }
     ensures none { IfNone result (is_live part.now ≡ false) }
 {
@@ -66,7 +66,7 @@ fn state_in<S: TimeSet>(part: &Part<S>, local: bool, panel: bool) -> Option<Stat
 
 /// A state of a part that has one: of the first goal, the first mode shown with it, and the first entries.
 fn first_in<S: TimeSet>(part: &Part<S>, local: bool, panel: bool) -> State
-    requires whole { Whole part.now }
+    requires whole { Whole (rate_of part.now) part.now }
     requires live { is_live part.now ≡ true }
     ensures { HasState part.now local panel result }
 {

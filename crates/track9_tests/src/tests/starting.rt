@@ -6,7 +6,7 @@ use sets25::{ListSet, SpanSet, TimeSet};
 use std::alloc::{AllocError, Global};
 use std::process::Abort;
 use std::test::Fail;
-use tc25::TimeCode;
+use tc25::{Rate, TimeCode};
 use track9::{Start, Tracker};
 
 /// All that can be known: a deck that was commanded to PLAY.
@@ -72,8 +72,13 @@ fn expected(start: &Start) -> Knowledge {
     }
 }
 
-fn agree<S: TimeSet>(rt: &impl Abort, alloc: Global, start: &Start) -> Result<(), AllocError> {
-    let tracker: Tracker<S> = Tracker::starting(alloc, start)?;
+fn agree<S: TimeSet>(
+    rt: &impl Abort,
+    alloc: Global,
+    rate: Rate,
+    start: &Start,
+) -> Result<(), AllocError> {
+    let tracker: Tracker<S> = Tracker::starting(alloc, rate, start)?;
     let known = known(rt, &tracker);
     drop(tracker);
     same(rt, known, expected(start), start);
@@ -81,11 +86,16 @@ fn agree<S: TimeSet>(rt: &impl Abort, alloc: Global, start: &Start) -> Result<()
 }
 
 /// Whichever of the seven fields are known.
-fn agree_on_parts(rt: &impl Abort, alloc: Global, start: &Start) -> Result<(), AllocError> {
+fn agree_on_parts(
+    rt: &impl Abort,
+    alloc: Global,
+    rate: Rate,
+    start: &Start,
+) -> Result<(), AllocError> {
     for bits in 0..128 {
         let part = part_of(start, bits);
-        agree::<SpanSet>(rt, alloc, &part)?;
-        agree::<ListSet>(rt, alloc, &part)?;
+        agree::<SpanSet>(rt, alloc, rate, &part)?;
+        agree::<ListSet>(rt, alloc, rate, &part)?;
     }
     Ok(())
 }
@@ -93,7 +103,9 @@ fn agree_on_parts(rt: &impl Abort, alloc: Global, start: &Start) -> Result<(), A
 #[test]
 fn fields_that_are_known(rt: HostRuntime) -> Result<(), Fail> {
     let noon = TimeCode::from_frames(1_080_000).unwrap_or_default();
-    agree_on_parts(&rt, rt.alloc(), &playing(&Entry::At(noon), true))?;
-    agree_on_parts(&rt, rt.alloc(), &playing(&Entry::Clear, false))?;
+    for rate in [Rate::Fps25, Rate::DropFrame] {
+        agree_on_parts(&rt, rt.alloc(), rate, &playing(&Entry::At(noon), true))?;
+        agree_on_parts(&rt, rt.alloc(), rate, &playing(&Entry::Clear, false))?;
+    }
     Ok(())
 }

@@ -1,9 +1,10 @@
-use Rattle.deck9.proofs.Words.{arith}
-use Rattle.deck9.proofs.RunSearch.{two_states}
+-- A step leads to states of the day alone.
+use Rattle.deck9.proofs.Words.{false≢true, sym, ◌∙◌}
+use Rattle.deck9.proofs.RestLemmas.{step_valid}
 use Rattle.deck9.proofs.drift.steps_from_some.Goals as goal
 
-pub returns-else-steps_from_same : goal.returns-else-steps_from_same
-returns-else-steps_from_same c =
-    let states = two_states c.args.hands c.args.exchange.now c.args.panel c.args.after.now c.of.result c.with_panel-same.result c.before_shift-back.result
-    c.of.ensures c.with_panel-same.ensures c.before_shift-back.ensures c.is_valid.ensures c.is_valid-2.ensures in
-    grind (arith, states)
+pub returns-else-is_of : goal.returns-else-is_of
+returns-else-is_of c = (
+  λ is. absurd (false≢true (sym c.if-is_of.false ∙ is)),
+  λ w. c.is_of.ensures.1 (step_valid c.args.profile c.args.exchange.now w.0 c.args.after.now w.1 w.3),
+)

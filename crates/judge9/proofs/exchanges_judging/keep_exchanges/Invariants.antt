@@ -5,7 +5,7 @@ use Rattle.judge9.proofs.SoFar.{SoFar}
 
 abbrev pub invariant-rows : goal.invariant-rows
 invariant-rows g l = record {
-  so_far : SoFar View.Verdict l.fn.hands l.fn.judging.rows.rows [] l.judging None None l.exchanges.items;
+  so_far : SoFar View.Verdict l.fn.profile l.fn.judging.rows.rows [] l.judging None None l.exchanges.items;
   ended : IsEnd so_far.items l.exchanges.items l.end_us;
 }
 

@@ -8,7 +8,7 @@ loop-exchange-init g c = from-start c.args.tracker.now
 pub loop-exchange-preserved : goal.loop-exchange-preserved
 loop-exchange-preserved g c =
     (from-next c.args.tracker.now c.args.exchanges.now c.loop-exchange.exchange-index c.exchange-item.result c.loop-exchange.tracker c.observe.new.self
-    c.loop-exchange-test.true c.exchange-item.is c.loop-exchange.invariant c.in_ok-observe.ensures.reached c.in_ok-observe.ensures.hands).1
+    c.loop-exchange-test.true c.exchange-item.is c.loop-exchange.invariant c.in_ok-observe.ensures.reached c.in_ok-observe.ensures.profile).1
 
 pub returns : goal.returns
 returns g c = rw (take_all c.loop-exchange.exchange-index c.args.exchanges.now c.loop-exchange-test.false) at c.loop-exchange.invariant

@@ -4,6 +4,6 @@ use Rattle.judge9.proofs.LawLemmas.{breaks_tail, tail_breaks}
 
 pub returns : goal.returns
 returns c = record {
-  kept = λ p es t r cut. (tail_by_kept p es t (r ∷ []) cut, kept_by_tail p es t (r ∷ []) cut);
+  kept = λ rate p es t r cut. (tail_by_kept rate p es t (r ∷ []) cut, kept_by_tail rate p es t (r ∷ []) cut);
   reason = λ h p es t cut run r broken x. (breaks_tail h p es t r x cut broken, tail_breaks h p es t r x cut run broken);
 }

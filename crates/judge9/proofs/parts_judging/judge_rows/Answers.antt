@@ -1,8 +1,8 @@
 use Rattle.judge9.proofs.Words.{[], arith, Err, exchanges_of, length_push, None, Ok, Reason, refl, ◌++◌, ◌∙◌, ◌∷◌}
 use Rattle.judge9.proofs.parts_judging.judge_rows.Goals as goal
 use Rattle.judge9.proofs.LawLemmas.{pairing_reason}
-use Rattle.judge9.proofs.PartEnds.{all_exchanges, at_break, at_exchange, at_no_run, at_start, at_the_end, at_unexplained, at_unkept, break_memory, break_read, count_more}
-use Rattle.judge9.proofs.PartEnds.{end_fits, exchange_fits, less-end, loses_its_runs, no_run_memory, no_run_read, told_break, told_no_run}
+use Rattle.judge9.proofs.PartEnds.{all_exchanges, at_break, at_exchange, at_no_run, at_start, at_the_end, at_unexplained, at_unkept, break_memory, break_rate, break_read, count_more}
+use Rattle.judge9.proofs.PartEnds.{end_fits, exchange_fits, less-end, loses_its_runs, no_run_memory, no_run_rate, no_run_read, told_break, told_no_run}
 use Rattle.judge9.proofs.PartMeasure.{less-come}
 use Rattle.judge9.proofs.TurnSteps.{handed}
 
@@ -77,8 +77,14 @@ returns-in_err-keep-in-NoRun g c =
     rw (handed c.from_residual-in_err-keep-in-NoRun.result c.from_residual-in_err-keep-in-NoRun.ensures.1)
     (no_run_memory (rw c.in-NoRun.is at c.rows.invariant.at_turn))
 
-pub put_break-requires : goal.put_break-requires
-put_break-requires g c = λ why no_run.
+pub put_break-requires-clause-rate : goal.put_break-requires-clause-rate
+put_break-requires-clause-rate g c = no_run_rate (rw c.in-NoRun.is at c.rows.invariant.at_turn)
+
+pub put_break-requires-in-Break-clause-rate : goal.put_break-requires-in-Break-clause-rate
+put_break-requires-in-Break-clause-rate g c = break_rate (rw c.in-Break.is at c.rows.invariant.at_turn)
+
+pub put_break-requires-clause-breaks : goal.put_break-requires-clause-breaks
+put_break-requires-clause-breaks g c = λ why no_run.
     let so_far = c.rows.invariant in
     let is = c.in_ok-keep-in-NoRun.ensures why in
     rw (c.replace-part.ensures.value, is.0, (so_far.kept why).0) (loses_its_runs (rw c.in-NoRun.is at so_far.at_turn))
@@ -120,13 +126,13 @@ rows-preserved-in_ok-turn-in-NoRun g c =
       exchanges = rw all so_far.exchanges;
       in_exchanges = rw all so_far.in_exchanges;
       kept = λ _. rw c.replace-part.ensures.after (c.new.ensures.exchanges, c.new.ensures.end);
-      bound = omega (arith, bound, less-end _ c.args.hands Reason.NoRun c.in-NoRun.last c.rows.judging c.end_part.new.judging _ _ turn (no_run_read at) ends);
+      bound = omega (arith, bound, less-end _ c.args.profile Reason.NoRun c.in-NoRun.last c.rows.judging c.end_part.new.judging _ _ turn (no_run_read at) ends);
     }
 
 pub rows-smaller-in_ok-turn-in-NoRun : goal.rows-smaller-in_ok-turn-in-NoRun
 rows-smaller-in_ok-turn-in-NoRun g c =
     let read = no_run_read (rw c.in-NoRun.is at c.rows.invariant.at_turn) in
-    let less = less-end _ c.args.hands Reason.NoRun c.in-NoRun.last c.rows.judging c.end_part.new.judging _ _ c.in_ok-turn-in-NoRun.turn read
+    let less = less-end _ c.args.profile Reason.NoRun c.in-NoRun.last c.rows.judging c.end_part.new.judging _ _ c.in_ok-turn-in-NoRun.turn read
     c.in_ok-turn-in-NoRun.ensures in
     rw c.in-NoRun.is (omega (arith, less))
 
@@ -172,7 +178,7 @@ rows-preserved g c =
       bound = omega (
         arith,
         bound,
-        less-end _ c.args.hands c.in-Break.reason c.in-Break.last c.rows.judging c.end_part-in-Break.new.judging _ _ turn
+        less-end _ c.args.profile c.in-Break.reason c.in-Break.last c.rows.judging c.end_part-in-Break.new.judging _ _ turn
             (break_read at) ends,
       );
     }
@@ -180,7 +186,7 @@ rows-preserved g c =
 pub rows-smaller : goal.rows-smaller
 rows-smaller g c =
     let read = break_read (rw c.in-Break.is at c.rows.invariant.at_turn) in
-    let less = less-end _ c.args.hands c.in-Break.reason c.in-Break.last c.rows.judging c.end_part-in-Break.new.judging _ _ c.in_ok-turn-in-Break.turn read
+    let less = less-end _ c.args.profile c.in-Break.reason c.in-Break.last c.rows.judging c.end_part-in-Break.new.judging _ _ c.in_ok-turn-in-Break.turn read
     c.in_ok-turn-in-Break.ensures in
     rw c.in-Break.is less
 

@@ -11,7 +11,7 @@ invariant-rows g l = record {
   broken : List BrokenPart;
   es : List Exchange;
   end_us : Option ℕ;
-  at_turn : AtTurn (IsTextOf l.telling l.hands) (view_of l.telling) l.hands l.fn.judging.rows.rows l.turn l.judging (g.W.Write.contents l.fn.writer)
+  at_turn : AtTurn (IsTextOf l.telling l.profile) (view_of l.telling) l.profile l.fn.judging.rows.rows l.turn l.judging (g.W.Write.contents l.fn.writer)
       (g.W.Write.contents l.writer) broken es end_us;
   breaks : l.breaks ≡ length broken;
   exchanges : l.exchanges ≡ length (exchanges_of broken ++ es);

@@ -33,7 +33,7 @@ loop-at-preserved c =
     let within = c.loop-at.invariant.within in
     let follows : FollowsFrom c.args.first.now (take (c.loop-at.at - 1) c.args.exchanges.now) c.nearest.result.1.now =
     rw (c.nearest.ensures.tracker, c.deref.ensures.value) (rw c.in_ok-lead_up.ensures.nearest at (nearest_follows c.in_ok-lead_up.ensures.marks)) in
-    let back = subst (λ n. GoesBack c.args.first.now.hands (LeadsFrom c.args.first.now (take n c.args.exchanges.now)) (drop n c.args.exchanges.now) c.args.end
+    let back = subst (λ n. GoesBack c.args.first.now.profile (LeadsFrom c.args.first.now (take n c.args.exchanges.now)) (drop n c.args.exchanges.now) c.args.end
     c.args.states.now.items c.loop-at.states.items c.loop-at.state) one c.loop-at.invariant.back in
     record {
       within = omega arith;
@@ -46,5 +46,5 @@ loop-at-preserved c =
 pub returns : goal.returns
 returns c =
     let zero : c.loop-at.at ≡ 0 = omega (arith, c.loop-at-test.false) in
-    subst (λ n. GoesBack c.args.first.now.hands (LeadsFrom c.args.first.now (take n c.args.exchanges.now)) (drop n c.args.exchanges.now) c.args.end
+    subst (λ n. GoesBack c.args.first.now.profile (LeadsFrom c.args.first.now (take n c.args.exchanges.now)) (drop n c.args.exchanges.now) c.args.end
     c.args.states.now.items c.loop-at.states.items c.loop-at.state) zero c.loop-at.invariant.back

@@ -6,7 +6,7 @@ abbrev pub invariant-loop-at : goal.invariant-loop-at
 invariant-loop-at l = record {
   within : l.at ≤ length l.exchanges;
   marks : AreMarks l.first l.exchanges l.at l.marks.items;
-  back : GoesBack l.first.hands (LeadsFrom l.first (take l.at l.exchanges)) (drop l.at l.exchanges) l.fn.end l.fn.states.items l.states.items l.state;
+  back : GoesBack l.first.profile (LeadsFrom l.first (take l.at l.exchanges)) (drop l.at l.exchanges) l.fn.end l.fn.states.items l.states.items l.state;
 }
 
 abbrev pub decreases-loop-at : goal.decreases-loop-at

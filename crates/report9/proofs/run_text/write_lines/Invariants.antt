@@ -6,5 +6,5 @@ abbrev pub invariant-loop-exchange : goal.invariant-loop-exchange
 invariant-loop-exchange g l =
     (goal.iterator-loop-exchange g).can_next l.exchange-iterator × (goal.iterator-loop-exchange g).is_finite l.exchange-iterator
     × (l.at ≤ 36 * length l.yielded)
-    × LinesSoFar l.hands l.exchanges l.states l.exchange-iterator.a.rest.now l.exchange-iterator.b.rest.now l.at (g.W.Write.contents l.fn.writer)
+    × LinesSoFar l.profile l.exchanges l.states l.exchange-iterator.a.rest.now l.exchange-iterator.b.rest.now l.at (g.W.Write.contents l.fn.writer)
     (g.W.Write.contents l.writer)

@@ -7,6 +7,6 @@ returns c = record {
   every_time = contains-every_time;
   just = contains-just;
   image = λ h s f. (image_from h s f, λ w. ap (set.contains (image h s)) w.2 ∙ image_to h s w.0 w.1);
-  next = λ s f below. contains-moved Next s below f;
-  prev = λ s f below. contains-moved Prev s below f;
+  next = λ rate s f below. contains-moved rate Next s below f;
+  prev = λ rate s f below. contains-moved rate Prev s below f;
 }

@@ -11,5 +11,5 @@ loop-span-preserved c =
     let ys = c.loop-span.spans in
     let i = c.loop-span.span-index in
     let d : Span = record { first = 0; last = 0 } in
-    rw c.shifted.ensures (map_over_more (shifted_span c.args.direction) _ ys i (get_or ys i d) (omega arith) c.loop-span.invariant
+    rw c.shifted.ensures (map_over_more (shifted_span c.args.rate c.args.direction) _ ys i (get_or ys i d) (omega arith) c.loop-span.invariant
     (get_or_default ys i d _ (omega arith)))

@@ -4,7 +4,7 @@ use Rattle.why9.proofs.question.believe_all.Given as goal
 
 abbrev pub invariant-loop-exchange : goal.invariant-loop-exchange
 invariant-loop-exchange l = record {
-  hands : l.tracker.hands ≡ l.fn.tracker.hands;
-  goes : GoesOn l.fn.tracker.hands (Possible l.fn.tracker.states) (λ k. true) l.exchanges
-      ↔ GoesOnFrom l.fn.tracker.hands (Possible l.tracker.states) l.exchange-index (λ k. true) l.exchanges;
+  profile : l.tracker.profile ≡ l.fn.tracker.profile;
+  goes : GoesOn l.fn.tracker.profile (Possible l.fn.tracker.states) (λ k. true) l.exchanges
+      ↔ GoesOnFrom l.fn.tracker.profile (Possible l.tracker.states) l.exchange-index (λ k. true) l.exchanges;
 }

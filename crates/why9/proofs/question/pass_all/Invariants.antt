@@ -4,6 +4,6 @@ use Rattle.why9.proofs.question.pass_all.Given as goal
 
 abbrev pub invariant-loop-exchange : goal.invariant-loop-exchange
 invariant-loop-exchange l = record {
-  hands : l.tracker.hands ≡ l.fn.tracker.hands;
-  passed : ArePassed l.fn.tracker.hands (Possible l.fn.tracker.states) (take l.exchange-index l.exchanges) (Possible l.tracker.states);
+  profile : l.tracker.profile ≡ l.fn.tracker.profile;
+  passed : ArePassed l.fn.tracker.profile (Possible l.fn.tracker.states) (take l.exchange-index l.exchanges) (Possible l.tracker.states);
 }

@@ -5,8 +5,8 @@ use Rattle.why9.proofs.search.find_places.Given as goal
 
 abbrev pub invariant-loop-place : goal.invariant-loop-place
 invariant-loop-place l = record {
-  hands : l.tracker.hands ≡ l.fn.tracker.hands;
-  reached : IsReached l.fn.tracker.hands (Possible l.tracker.states) l.exchanges l.place l.places.items;
+  profile : l.tracker.profile ≡ l.fn.tracker.profile;
+  reached : IsReached l.fn.tracker.profile (Possible l.tracker.states) l.exchanges l.place l.places.items;
 }
 
 abbrev pub decreases-loop-place : goal.decreases-loop-place

@@ -15,8 +15,8 @@ loop-high-init c =
 
 pub loop-high-preserved-then-branch : goal.loop-high-preserved-then-branch
 loop-high-preserved-then-branch c =
-    let asked = first-asked c.args.tracker.now.hands (Possible c.args.tracker.now.states) c.args.exchanges.now (c.loop-high.high - c.min.result)
-    c.requires.presets c.requires.states (omega arith) in
+    let asked = first-asked c.args.tracker.now.profile (Possible c.args.tracker.now.states) c.args.exchanges.now (c.loop-high.high - c.min.result)
+    c.requires.states (omega arith) in
     record {
       low_high = omega arith;
       high_end = omega arith;
@@ -26,8 +26,8 @@ loop-high-preserved-then-branch c =
 
 pub loop-high-preserved : goal.loop-high-preserved
 loop-high-preserved c =
-    let asked = first-asked c.args.tracker.now.hands (Possible c.args.tracker.now.states) c.args.exchanges.now (c.loop-high.high - c.min.result)
-    c.requires.presets c.requires.states (omega arith) in
+    let asked = first-asked c.args.tracker.now.profile (Possible c.args.tracker.now.states) c.args.exchanges.now (c.loop-high.high - c.min.result)
+    c.requires.states (omega arith) in
     record {
       low_high = omega arith;
       high_end = c.loop-high.invariant.high_end;

@@ -6,8 +6,8 @@ abbrev pub invariant-loop-high : goal.invariant-loop-high
 invariant-loop-high l = record {
   low_high : l.low < l.high;
   high_end : l.high ≤ length l.exchanges;
-  contradict : Contradict l.tracker.hands (nat_le l.low) l.exchanges;
-  after : HasBelieving l.tracker.hands (nat_le l.high) l.exchanges;
+  contradict : Contradict l.tracker.profile (nat_le l.low) l.exchanges;
+  after : HasBelieving l.tracker.profile (nat_le l.high) l.exchanges;
 }
 
 abbrev pub decreases-loop-high : goal.decreases-loop-high

@@ -4,13 +4,13 @@ use Rattle.why9.proofs.search.next_place.Goals as goal
 
 pub loop-place-preserved-then-branch : goal.loop-place-preserved-then-branch
 loop-place-preserved-then-branch c =
-    let hands = c.loop-place.invariant.hands in
-    let passed = rw hands at (c.in_ok-moves_on.ensures.passed c.if-branch.true) in
-    let none = rw hands at (c.in_ok-moves_on.ensures.contradict c.if-branch.true) in
+    let profile = c.loop-place.invariant.profile in
+    let passed = rw profile at (c.in_ok-moves_on.ensures.passed c.if-branch.true) in
+    let none = rw profile at (c.in_ok-moves_on.ensures.contradict c.if-branch.true) in
     record {
       step = c.loop-place.invariant.next_step;
       next_step = let next = c.loop-place.invariant.next_step in omega arith;
-      hands = c.in_ok-moves_on.ensures.hands ∙ hands;
+      profile = c.in_ok-moves_on.ensures.profile ∙ profile;
       above = omega arith;
       between = between-moved _ (Possible c.loop-place.tracker.states) _ _ _ _ _ c.loop-place.invariant.between (omega arith) (omega arith) none passed;
       passed = passed-on _ _ (Possible c.loop-place.tracker.states) _ _ _ c.loop-place.place _ c.loop-place.invariant.above (omega arith)
@@ -19,11 +19,11 @@ loop-place-preserved-then-branch c =
 
 pub loop-place-preserved : goal.loop-place-preserved
 loop-place-preserved c =
-    let run = rw c.loop-place.invariant.hands at (c.in_ok-moves_on.ensures.run c.if-branch.false) in
+    let run = rw c.loop-place.invariant.profile at (c.in_ok-moves_on.ensures.run c.if-branch.false) in
     rw (c.in_ok-moves_on.ensures.unchanged c.if-branch.false) record {
       step = c.loop-place.invariant.next_step;
       next_step = let next = c.loop-place.invariant.next_step in omega arith;
-      hands = c.loop-place.invariant.hands;
+      profile = c.loop-place.invariant.profile;
       above = c.loop-place.invariant.above;
       between = between-nearer _ _ _ _ _ _ c.loop-place.invariant.between (omega arith) (omega arith) run;
       passed = c.loop-place.invariant.passed;

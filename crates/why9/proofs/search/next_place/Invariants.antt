@@ -6,10 +6,10 @@ abbrev pub invariant-loop-place : goal.invariant-loop-place
 invariant-loop-place l = record {
   step : 0 < l.step;
   next_step : 0 < l.next_step;
-  hands : l.tracker.hands ≡ l.fn.tracker.hands;
+  profile : l.tracker.profile ≡ l.fn.tracker.profile;
   above : l.low ≤ l.place;
-  between : IsBetween l.fn.tracker.hands (Possible l.tracker.states) l.exchanges l.place l.high;
-  passed : ArePassedTo l.fn.tracker.hands l.exchanges l.low (Possible l.fn.tracker.states) l.place (Possible l.tracker.states);
+  between : IsBetween l.fn.tracker.profile (Possible l.tracker.states) l.exchanges l.place l.high;
+  passed : ArePassedTo l.fn.tracker.profile l.exchanges l.low (Possible l.fn.tracker.states) l.place (Possible l.tracker.states);
 }
 
 abbrev pub decreases-loop-place : goal.decreases-loop-place

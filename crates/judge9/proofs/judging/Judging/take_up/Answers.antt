@@ -1,11 +1,11 @@
-use Rattle.judge9.proofs.Words.{ap, Begins, Err, Hands, inl, inr, Judging, Progress, refl, sym, ◌∙◌, ◌≡◌}
+use Rattle.judge9.proofs.Words.{ap, Begins, Err, Profile, inl, inr, Judging, Progress, refl, sym, ◌∙◌, ◌≡◌}
 use Rattle.judge9.proofs.judging.Judging.take_up.Goals as goal
 use Rattle.judge9.proofs.TurnSteps.{handed}
 
 -- the same with other rows
-begins_at : {R : Type 0} {hands : Hands} {j : Judging R} (before : Progress R) → Begins hands j
-    → Begins hands (record { rows = before; pairer = j.pairer; tracker = j.tracker })
-begins_at before begins = record { fed_nothing = begins.fed_nothing; states = begins.states; hands = begins.hands }
+begins_at : {R : Type 0} {profile : Profile} {j : Judging R} (before : Progress R) → Begins profile j
+    → Begins profile (record { rows = before; pairer = j.pairer; tracker = j.tracker })
+begins_at before begins = record { fed_nothing = begins.fed_nothing; states = begins.states; profile = begins.profile }
 
 pub begin-requires-clause-read : goal.begin-requires-clause-read
 begin-requires-clause-read g c = rw c.in-Ok.ensures.rows c.requires

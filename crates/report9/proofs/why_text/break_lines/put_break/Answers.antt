@@ -4,7 +4,7 @@ use Rattle.report9.proofs.Lines.{break_lines}
 
 pub returns : goal.returns
 returns c =
-    on_ok_weaker c.put_breaking.result (λ last. break_lines c.args.at _ c.saturating_sub-count.result c.args.reason c.args.tail.now _ _ c.args.command.now
+    on_ok_weaker c.put_breaking.result (λ last. break_lines c.args.rate c.args.at _ c.saturating_sub-count.result c.args.reason c.args.tail.now _ _ c.args.command.now
     c.args.before.now c.args.breaking _ _ _ _ _
     (rw c.from.ensures at c.saturating_sub-count.ensures) (λ i. length c.split_at.result.0.now) (c.split_at.ensures.front ∙ c.command_len.ensures.asked)
     (c.split_at.ensures.back ∙ c.command_len.ensures.answered)

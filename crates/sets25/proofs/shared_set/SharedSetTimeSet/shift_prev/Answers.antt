@@ -4,13 +4,13 @@ use Rattle.sets25.proofs.shared_set.SharedSetTimeSet.shift_prev.Goals as goal
 pub returns-clause-ok : goal.returns-clause-ok
 returns-clause-ok c =
     on_ok_weaker c.shift_prev.result
-    (changed_alone (image prev_frame) c.args.self.now c.gather.new.self c.shift_prev.new.self
-    c.in_ok-gather.ensures.same c.in_ok-gather.ensures.alone)
+    (changed_alone (λ r. image (prev_frame r)) c.args.self.now c.gather.new.self c.shift_prev.new.self
+    c.in_ok-gather.ensures.same c.in_ok-gather.ensures.rate c.in_ok-gather.ensures.alone)
     c.shift_prev.ensures.ok
 
 pub returns-clause-err : goal.returns-clause-err
 returns-clause-err c =
     on_err_weaker c.shift_prev.result
-    (changed_alone (λ s. s) c.args.self.now c.gather.new.self c.shift_prev.new.self
-    c.in_ok-gather.ensures.same c.in_ok-gather.ensures.alone)
+    (changed_alone (λ r s. s) c.args.self.now c.gather.new.self c.shift_prev.new.self
+    c.in_ok-gather.ensures.same c.in_ok-gather.ensures.rate c.in_ok-gather.ensures.alone)
     c.shift_prev.ensures.err

@@ -1,5 +1,6 @@
+use Rattle.track9.proofs.Words.{ap, Entries, sym, ◌∙◌}
 use Rattle.track9.proofs.entries.Entries.first.Goals as goal
 use Rattle.track9.proofs.BeforeLemmas.{clear_alone}
 
 pub returns-in-None : goal.returns-in-None
-returns-in-None g c = rw (← c.self.view_is) (clear_alone _ (rw (← c.self.view_is) at c.requires) c.in-None.ensures)
+returns-in-None g c = clear_alone c.args.self.now c.requires (ap (λ (e : Entries). e.times) (sym c.self.view_is) ∙ c.in-None.ensures)

@@ -1,9 +1,12 @@
-use Rattle.track9.proofs.Words.{is_panel_live}
+use Rattle.track9.proofs.Words.{all_or_none, is_panel_live, option_map, rate_for, subst, sym, Taken, TwoWhole}
 use Rattle.track9.proofs.states.States.taken_on.Goals as goal
-use Rattle.track9.proofs.PartLemmas.{whole_two}
+use Rattle.track9.proofs.PartLemmas.{one_rate, whole_two}
 
 pub take-requires : goal.take-requires
-take-requires g c = rw c.in_ok-on.ensures (whole_two (is_panel_live c.args.self.now))
+take-requires g c = let rate = rate_for c.args.self.now in let live = is_panel_live c.args.self.now in
+    rw c.in_ok-on.ensures (subst (λ other. TwoWhole other (all_or_none rate live)) (sym (one_rate rate live)) (whole_two rate live))
 
 pub returns-in-Ok : goal.returns-in-Ok
-returns-in-Ok g c = rw c.in_ok-on.ensures at c.in-Ok.ensures.ok
+returns-in-Ok g c = let rate = rate_for c.args.self.now in let live = is_panel_live c.args.self.now in
+    subst (λ other. Taken other c.args.command.now (option_map (λ b. b.now) c.args.reply) (all_or_none rate live) c.take.new.self) (one_rate rate live)
+    (rw c.in_ok-on.ensures at c.in-Ok.ensures.ok)

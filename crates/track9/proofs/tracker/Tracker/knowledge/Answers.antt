@@ -1,9 +1,9 @@
-use Rattle.track9.proofs.Words.{hands_of, Possible, Presets, some_state, State, States, subst, sym, Tracked, true, ◌≡◌}
+use Rattle.track9.proofs.Words.{Possible, Presets, profile_of, some_state, State, States, subst, sym, Tracked, true, ◌≡◌}
 use Rattle.track9.proofs.tracker.Tracker.knowledge.Goals as goal
 use Rattle.track9.proofs.PartLemmas.{some_live}
 
 -- a state of the tracker is one of the states inside
-live : (t : Tracked) (v : States) (n : Presets) → record { states = v; hands = hands_of v; presets = n } ≡ t → ((s : State) × Possible t.states s)
+live : (t : Tracked) (v : States) (n : Presets) → record { states = v; profile = profile_of v; presets = n } ≡ t → ((s : State) × Possible t.states s)
     → some_state v ≡ true
 live t v n same w = let P : Tracked → Type 0 = λ t. some_state t.states ≡ true in subst P (sym same) (some_live t.states w.0 w.1)
 

@@ -1,0 +1,120 @@
+//! The tables of commands: which command the first two bytes of a block spell, a function for each group.
+ghost use Rattle.std.specs.Prelude.{◌≡◌};
+ghost use Rattle.block9.specs.Command.{meaning_in, preset_control, selected, sense_requests, system_control, transport_control};
+
+use crate::block::Block;
+use crate::command::Command;
+use tc25::Rate;
+
+/// The system control commands: group 0.
+pub(super) fn system_control(head: u32, block: &Block) -> Option<Command>
+    ensures { result ≡ meaning_in system_control head block.now }
+{
+    match head {
+        0x00_0C => Some(Command::LocalDisable),
+        0x00_11 => Some(Command::DeviceType),
+        0x00_1D => Some(Command::LocalEnable),
+        _ => Some(Command::Unlisted { group: block.group }),
+    }
+}
+
+/// The transport control commands: group 2.
+pub(super) fn transport_control(rate: Rate, head: u32, block: &Block) -> Option<Command>
+    ensures { result ≡ meaning_in (transport_control rate) head block.now }
+{
+    match head {
+        0x20_00 => Some(Command::Stop),
+        0x20_01 => Some(Command::Play),
+        0x20_02 => Some(Command::Record),
+        0x20_04 => Some(Command::StandbyOff),
+        0x20_05 => Some(Command::StandbyOn),
+        0x20_0F => Some(Command::Eject),
+        0x20_10 => Some(Command::FastForward),
+        0x21_11 | 0x22_11 => Some(Command::JogForward),
+        0x21_12 | 0x22_12 => Some(Command::VarForward),
+        0x21_13 | 0x22_13 => Some(Command::ShuttleForward),
+        0x20_20 => Some(Command::Rewind),
+        0x21_21 | 0x22_21 => Some(Command::JogReverse),
+        0x21_22 | 0x22_22 => Some(Command::VarReverse),
+        0x21_23 | 0x22_23 => Some(Command::ShuttleReverse),
+        0x20_30 => Some(Command::Preroll),
+        0x24_31 => Some(Command::CueUpWithData {
+            time: block.time_at(rate)?,
+        }),
+        0x20_34 => Some(Command::SyncPlay),
+        _ => Some(Command::Unlisted { group: block.group }),
+    }
+}
+
+/// The preset and select control commands: group 4.
+pub(super) fn preset_control(rate: Rate, head: u32, block: &Block) -> Option<Command>
+    ensures { result ≡ meaning_in (preset_control rate) head block.now }
+{
+    match head {
+        0x40_10 => Some(Command::InEntry),
+        0x40_11 => Some(Command::OutEntry),
+        0x40_12 => Some(Command::AudioInEntry),
+        0x40_13 => Some(Command::AudioOutEntry),
+        0x44_14 => Some(Command::InDataPreset {
+            time: block.time_at(rate)?,
+        }),
+        0x44_15 => Some(Command::OutDataPreset {
+            time: block.time_at(rate)?,
+        }),
+        0x44_16 => Some(Command::AudioInDataPreset {
+            time: block.time_at(rate)?,
+        }),
+        0x44_17 => Some(Command::AudioOutDataPreset {
+            time: block.time_at(rate)?,
+        }),
+        0x40_18 => Some(Command::InShiftPlus),
+        0x40_19 => Some(Command::InShiftMinus),
+        0x40_1A => Some(Command::OutShiftPlus),
+        0x40_1B => Some(Command::OutShiftMinus),
+        0x40_1C => Some(Command::AudioInShiftPlus),
+        0x40_1D => Some(Command::AudioInShiftMinus),
+        0x40_1E => Some(Command::AudioOutShiftPlus),
+        0x40_1F => Some(Command::AudioOutShiftMinus),
+        0x40_20 => Some(Command::InFlagReset),
+        0x40_21 => Some(Command::OutFlagReset),
+        0x40_22 => Some(Command::AudioInFlagReset),
+        0x40_23 => Some(Command::AudioOutFlagReset),
+        0x40_24 => Some(Command::InRecall),
+        0x40_25 => Some(Command::OutRecall),
+        0x40_26 => Some(Command::AudioInRecall),
+        0x40_27 => Some(Command::AudioOutRecall),
+        0x41_30 | 0x42_30 => Some(Command::EditPreset),
+        0x44_31 => Some(Command::PrerollPreset),
+        0x41_36 => Some(Command::TimerModeSelect),
+        0x40_40 => Some(Command::AutoModeOff),
+        0x40_41 => Some(Command::AutoModeOn),
+        _ => Some(Command::Unlisted { group: block.group }),
+    }
+}
+
+/// The sense requests: group 6.
+pub(super) fn sense_requests(head: u32, block: &Block) -> Option<Command>
+    ensures { result ≡ meaning_in sense_requests head block.now }
+{
+    match head {
+        0x61_0C => time_sense(block),
+        0x60_10 => Some(Command::InDataSense),
+        0x60_11 => Some(Command::OutDataSense),
+        0x60_12 => Some(Command::AudioInDataSense),
+        0x60_13 => Some(Command::AudioOutDataSense),
+        0x61_20 => Some(Command::StatusSense {
+            asked: block.first_datum(),
+        }),
+        _ => Some(Command::Unlisted { group: block.group }),
+    }
+}
+
+/// The request for a time. One with another selector is not listed.
+fn time_sense(block: &Block) -> Option<Command>
+    ensures { result ≡ (selected 0x61_0C Command.CurrentTimeSense).meaning block.now }
+{
+    match block.first_datum() {
+        selector @ (0x01..=0x04 | 0x08) => Some(Command::CurrentTimeSense { selector }),
+        _ => Some(Command::Unlisted { group: block.group }),
+    }
+}

@@ -1,0 +1,20 @@
+use Rattle.judge9.proofs.Words.{ap, None, View}
+use Rattle.judge9.specs.RunVerdict.{judged_of, verdict_of}
+use Rattle.judge9.proofs.run_judging.judge_with_run_for.Goals as goal
+use Rattle.judge9.proofs.TellLemmas.{answer_of_text, stopped_of_text, told-nothing}
+
+pub returns-in_default-clause-run : goal.returns-in_default-clause-run
+returns-in_default-clause-run g c = let told = told-nothing View.Verdict c.args.profile _ None in
+    record { rows = told.rows; is_known = told.is_known; of_a_text = told.of_a_text; answer = tt; run = tt }
+
+pub returns : goal.returns
+returns g c =
+    let judged = rw c.in-Ok.ensures.rows at c.judge_rows-verdict.ensures in
+    let told = judged.judges.told in record {
+      answer = answer_of_text _ judged.judges;
+      run = record { rows = told.rows; is_known = told.is_known; of_a_text = told.of_a_text; answer = told.answer; run = judged.run };
+      stopped = stopped_of_text verdict_of _ _ judged.judges;
+      kind = λ e same. judged.judges.is_kind e (ap judged_of same);
+      write = judged.no_write;
+      can_be = judged.judges.can_be;
+    }

@@ -1,0 +1,12 @@
+use Rattle.judge9.proofs.Words.{IfErr, StoppedBefore}
+use Rattle.judge9.proofs.verdict_judging.judge_for.Goals as goal
+use Rattle.judge9.proofs.TellLemmas.{answer_of_text, of_text, told-nothing}
+
+pub returns-in_default-clause-told : goal.returns-in_default-clause-told
+returns-in_default-clause-told g c = told-nothing _ _ _ _
+
+pub returns : goal.returns
+returns g c =
+    let judges = rw c.in-Ok.ensures.rows at c.judge_rows-verdict.ensures in
+    let stopped = of_text _ (λ rows. IfErr c.judge_rows-verdict.result (StoppedBefore c.args.profile rows)) judges.stopped in
+    record { answer = answer_of_text _ judges; told = judges.told; stopped = stopped; kind = judges.is_kind; can_be = judges.can_be }

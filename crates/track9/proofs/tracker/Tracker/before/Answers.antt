@@ -1,0 +1,4 @@
+use Rattle.track9.proofs.tracker.Tracker.before.Goals as goal
+
+pub returns-clause-some : goal.returns-clause-some
+returns-clause-some g c = rw (← c.self.view_is) c.before-2.ensures.some
