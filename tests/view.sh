@@ -25,13 +25,15 @@ view() {
 
 # text_of WORDS: the text that words of printf stand for, with these put in: @nothing for a deck of which nothing is known,
 # @unknown for the same after a delay of 400, @in VALUE where IN alone is known, @state for a state, @preset for a line of a
-# preset that contradicts, @could for what a deck could show of which nothing is known, and @bar for a bar.
+# preset that contradicts, @could for what a deck could show of which nothing is known, @known EXCHANGES IN for the end of a digest
+# where IN alone was known at some, and @bar for a bar.
 text_of() {
     local nothing='goal unknown, shown unknown, in unknown, out unknown, local unknown, ain unknown, aout unknown'
     local state='goal STOP, shown PLAY, in clear, out 23:59:59:24, local no, ain clear, aout 00:00:00:00'
     local in_alone=${nothing/in unknown/in \\1}
     local preset='records 9 to 18 at 3600: IN DATA PRESET 10:00:00:00 44 14 00 00 00 10 68 -> 10 01 11'
     printf "$1" | sed "s/@in \([a-z]*\)/delay 400, $in_alone/; s/@unknown/delay 400, $nothing/; s/@nothing/$nothing/
+        s/@known \([0-9]*\) \([0-9.]*\)/known, of \1 exchanges: shown 0.0 %, in \2 %, out 0.0 %, local 0.0 %, ain 0.0 %, aout 0.0 %/
         s/@state/$state/; s/@preset/$preset/; s/@could/could show: shown any, ${nothing#*, *, }/; s/@bar/|/g"
 }
 
@@ -62,7 +64,7 @@ a time of frame 29|json|record 18: IN DATA PRESET -> ACK, delay 400, goal unknow
 a state of drop frame|json|record 6: goal STOP, shown PLAY, in 00:00:59;29, out 23:59:59;29, local no, ain clear, aout 00:01:00;02\nyes: records 6, exchanges 1, open 0\n|{"line":"state","record":6,"goal":"STOP","shown":"PLAY","in":"00:00:59;29","out":"23:59:59;29","local":"no","ain":"clear","aout":"00:01:00;02"}\n{"line":"verdict","verdict":"yes","records":6,"exchanges":1,"open":0}\n
 replies of drop frame that contradict one another|json|records 9 to 18 at 3600: IN DATA PRESET 00:00:59;29 44 14 29 59 00 00 DA -> 10 01 11\nrecords 25 to 34 at 10000: IN DATA SENSE 60 10 70 -> 00:01:00;03 74 10 03 00 01 00 88\ncould show: shown any, in 00:01:00;02, out unknown, local no, ain 23:59:59;29, aout clear\nno at record 34: M1 no run remains\n|{"line":"contradicting_exchange","first_record":9,"record":18,"time_us":3600,"command":"IN DATA PRESET","command_time":"00:00:59;29","command_bytes":"44 14 29 59 00 00 DA","reply_bytes":"10 01 11","says":{}}\n{"line":"contradicting_exchange","first_record":25,"record":34,"time_us":10000,"command":"IN DATA SENSE","command_bytes":"60 10 70","reply_time":"00:01:00;03","reply_bytes":"74 10 03 00 01 00 88","says":{}}\n{"line":"could_show","modes":["STOP","PLAY","REC","FF","REW","SHUTTLE","JOG","VAR","CUED","EJECT"],"in":"00:01:00;02","out":"unknown","local":"no","ain":"23:59:59;29","aout":"clear"}\n{"line":"verdict","verdict":"no","record":34,"reason":"M1","text":"no run remains"}\n
 an open preset of drop frame|json|records 1 to 7 at 400: IN DATA PRESET 00:01:00;02 44 14 02 00 01 00 5B\nrecord 8 at 12088: D 10, 9288 after the record before, limit 9287\nno at record 8: L1 late reply\n|{"line":"open_command","first_record":1,"record":7,"time_us":400,"command":"IN DATA PRESET","command_time":"00:01:00;02","command_bytes":"44 14 02 00 01 00 5B"}\n{"line":"breaking_record","record":8,"time_us":12088,"wire":"D","byte":"10","elapsed_us":9288,"limit_us":9287}\n{"line":"verdict","verdict":"no","record":8,"reason":"L1","text":"late reply"}\n
-a point that moves in drop frame|digest|record 6: IN SHIFT + -> ACK, delay 400, goal unknown, shown unknown, in 00:00:59;29, out unknown, local no, ain unknown, aout unknown\nrecord 12: IN SHIFT + -> ACK, delay 400, goal unknown, shown unknown, in 00:01:00;02, out unknown, local no, ain unknown, aout unknown\nyes: records 12, exchanges 2, open 0\n|record 6: IN SHIFT + -> ACK, in: unknown => 00:00:59;29, local: unknown => no\nrecord 12: IN SHIFT + -> ACK, in: 00:00:59;29 => 00:01:00;02\nyes: records 12, exchanges 2, open 0\n
+a point that moves in drop frame|digest|record 6: IN SHIFT + -> ACK, delay 400, goal unknown, shown unknown, in 00:00:59;29, out unknown, local no, ain unknown, aout unknown\nrecord 12: IN SHIFT + -> ACK, delay 400, goal unknown, shown unknown, in 00:01:00;02, out unknown, local no, ain unknown, aout unknown\nyes: records 12, exchanges 2, open 0\n|record 6: IN SHIFT + -> ACK, in: unknown => 00:00:59;29, local: unknown => no\nrecord 12: IN SHIFT + -> ACK, in: 00:00:59;29 => 00:01:00;02\nyes: records 12, exchanges 2, open 0\nknown, of 2 exchanges: shown 0.0 %%, in 100.0 %%, out 0.0 %%, local 100.0 %%, ain 0.0 %%, aout 0.0 %%\n
 a name with quotes and a backslash|json|record 6: "A\\B" -> C -> ACK, @unknown\nyes: records 6, exchanges 1, open 0\n|{"line":"exchange","record":6,"command":"\\"A\\\\B\\" -> C","reply":"ACK","delay_us":400,"goal":"unknown","shown":"unknown","in":"unknown","out":"unknown","local":"unknown","ain":"unknown","aout":"unknown"}\n{"line":"verdict","verdict":"yes","records":6,"exchanges":1,"open":0}\n
 the replies that contradict one another|json|records 1 to 8 at 400: STATUS SENSE 61 20 01 82 -> 71 20 00 91, says local no\n@preset\nrecords 19 to 28 at 7600: IN DATA SENSE 60 10 70 -> 11:00:00:00 74 10 00 00 00 11 95\ncould show: shown any, in 10:00:00:00, out unknown, local no, ain set, aout clear\nno at record 28: M1 no run remains\n|{"line":"contradicting_exchange","first_record":1,"record":8,"time_us":400,"command":"STATUS SENSE","command_bytes":"61 20 01 82","reply_bytes":"71 20 00 91","says":{"local":"no"}}\n{"line":"contradicting_exchange","first_record":9,"record":18,"time_us":3600,"command":"IN DATA PRESET","command_time":"10:00:00:00","command_bytes":"44 14 00 00 00 10 68","reply_bytes":"10 01 11","says":{}}\n{"line":"contradicting_exchange","first_record":19,"record":28,"time_us":7600,"command":"IN DATA SENSE","command_bytes":"60 10 70","reply_time":"11:00:00:00","reply_bytes":"74 10 00 00 00 11 95","says":{}}\n{"line":"could_show","modes":["STOP","PLAY","REC","FF","REW","SHUTTLE","JOG","VAR","CUED","EJECT"],"in":"10:00:00:00","out":"unknown","local":"no","ain":"set","aout":"clear"}\n{"line":"verdict","verdict":"no","record":28,"reason":"M1","text":"no run remains"}\n
 what status data say, and a command that is not listed|json|records 1 to 6 at 0: 20 40 60 -> 10 01 11\nrecords 7 to 17 at 999999999999999: STATUS SENSE 61 20 04 85 -> 74 20 01 20 00 05 BA, says local yes, shown STOP@barCUED, in set, out clear, ain set, aout clear\ncould show: shown STOP@barPLAY@barREC, in set, out clear, local yes, ain set, aout clear, panel unknown\nno at record 17: M1 no run remains\n|{"line":"contradicting_exchange","first_record":1,"record":6,"time_us":0,"command_bytes":"20 40 60","reply_bytes":"10 01 11","says":{}}\n{"line":"contradicting_exchange","first_record":7,"record":17,"time_us":999999999999999,"command":"STATUS SENSE","command_bytes":"61 20 04 85","reply_bytes":"74 20 01 20 00 05 BA","says":{"local":"yes","modes":["STOP","CUED"],"in":"set","out":"clear","ain":"set","aout":"clear"}}\n{"line":"could_show","modes":["STOP","PLAY","REC"],"in":"set","out":"clear","local":"yes","ain":"set","aout":"clear","panel":"unknown"}\n{"line":"verdict","verdict":"no","record":17,"reason":"M1","text":"no run remains"}\n
@@ -78,13 +80,14 @@ a part that begins at the record that breaks|json|records 1 to 3 at 400: PLAY 20
 an exchange before in each of two parts|json|records 1 to 6 at 400: PLAY 20 01 21 -> 10 01 11\nrecord 7 at 2800: D 10, 400 after the record before\nno at record 7: P1 reply without a command\nrecords 8 to 13 at 3200: PLAY 20 01 21 -> 10 01 11\nrecord 14 at 5600: D 10, 400 after the record before\nno at record 14: P1 reply without a command\nbreaks 2: records 14, exchanges 2, passed over 2, open 0\n|{"line":"exchange_before","first_record":1,"record":6,"time_us":400,"command":"PLAY","command_bytes":"20 01 21","reply_bytes":"10 01 11"}\n{"line":"breaking_record","record":7,"time_us":2800,"wire":"D","byte":"10","elapsed_us":400}\n{"line":"verdict","verdict":"no","record":7,"reason":"P1","text":"reply without a command"}\n{"line":"exchange_before","first_record":8,"record":13,"time_us":3200,"command":"PLAY","command_bytes":"20 01 21","reply_bytes":"10 01 11"}\n{"line":"breaking_record","record":14,"time_us":5600,"wire":"D","byte":"10","elapsed_us":400}\n{"line":"verdict","verdict":"no","record":14,"reason":"P1","text":"reply without a command"}\n{"line":"breaks","breaks":2,"records":14,"exchanges":2,"passed_over":2,"open":0}\n
 contradicting replies in a part after another|json|record 1 at 0: D 10\nno at record 1: P1 reply without a command\n@preset\n@could\nno at record 18: M1 no run remains\nbreaks 2: records 18, exchanges 0, passed over 18, open 0\n|{"line":"breaking_record","record":1,"time_us":0,"wire":"D","byte":"10"}\n{"line":"verdict","verdict":"no","record":1,"reason":"P1","text":"reply without a command"}\n{"line":"contradicting_exchange","first_record":9,"record":18,"time_us":3600,"command":"IN DATA PRESET","command_time":"10:00:00:00","command_bytes":"44 14 00 00 00 10 68","reply_bytes":"10 01 11","says":{}}\n{"line":"could_show","modes":["STOP","PLAY","REC","FF","REW","SHUTTLE","JOG","VAR","CUED","EJECT"],"in":"unknown","out":"unknown","local":"unknown","ain":"unknown","aout":"unknown"}\n{"line":"verdict","verdict":"no","record":18,"reason":"M1","text":"no run remains"}\n{"line":"breaks","breaks":2,"records":18,"exchanges":0,"passed_over":18,"open":0}\n
 breaks alone|digest|no at record 3: B2 wrong sum\nno at record 9: B2 wrong sum\nbreaks 2: records 9, exchanges 0, passed over 9, open 0\n|no at record 3: B2 wrong sum\nno at record 9: B2 wrong sum\nbreaks 2: records 9, exchanges 0, passed over 9, open 0\n
-what was known in the part before|digest|record 8: STATUS SENSE -> 71 20, @in set\nno at record 9: P1 reply without a command\nrecord 17: STATUS SENSE -> 71 20, @unknown\nrecord 25: STATUS SENSE -> 71 20, @in set\nbreaks 1: records 25, exchanges 3, passed over 1, open 0\n|record 8: STATUS SENSE -> 71 20, in: unknown => set\nno at record 9: P1 reply without a command\n... 1 STATUS SENSE\nrecord 25: STATUS SENSE -> 71 20, in: unknown => set\nbreaks 1: records 25, exchanges 3, passed over 1, open 0\n
+what was known in the part before|digest|record 8: STATUS SENSE -> 71 20, @in set\nno at record 9: P1 reply without a command\nrecord 17: STATUS SENSE -> 71 20, @unknown\nrecord 25: STATUS SENSE -> 71 20, @in set\nbreaks 1: records 25, exchanges 3, passed over 1, open 0\n|record 8: STATUS SENSE -> 71 20, in: unknown => set\nno at record 9: P1 reply without a command\n... 1 STATUS SENSE\nrecord 25: STATUS SENSE -> 71 20, in: unknown => set\nbreaks 1: records 25, exchanges 3, passed over 1, open 0\n@known 3 66.6\n
 nothing open, and no record before|json|record 1 at 0: D 10\nno at record 1: P1 reply without a command\n|{"line":"breaking_record","record":1,"time_us":0,"wire":"D","byte":"10"}\n{"line":"verdict","verdict":"no","record":1,"reason":"P1","text":"reply without a command"}\n
 a yes alone|digest|yes: records 0, exchanges 0, open 0\n|yes: records 0, exchanges 0, open 0\n
-a command that changes nothing|digest|record 6: PLAY -> ACK, @unknown\nyes: records 7, exchanges 1, open 1\n|record 6: PLAY -> ACK\nyes: records 7, exchanges 1, open 1\n
-a command that is not listed|digest|record 6: 60 40 -> ACK, @unknown\nno at record 7: P1 reply without a command\n|record 6: 60 40 -> ACK\nno at record 7: P1 reply without a command\n
-a field that is no longer known is told once for each value|digest|record 8: STATUS SENSE -> 71 20, @in set\nrecord 16: STATUS SENSE -> 71 20, @unknown\nrecord 24: STATUS SENSE -> 71 20, @in set\nrecord 32: DEVICE TYPE -> 12 11, @unknown\nrecord 40: STATUS SENSE -> 71 20, @in clear\nrecord 48: STATUS SENSE -> 71 20, @unknown\nrecord 56: STATUS SENSE -> 71 20, @in clear\nrecord 62: PLAY -> ACK, @unknown\nyes: records 62, exchanges 8, open 0\n|record 8: STATUS SENSE -> 71 20, in: unknown => set\nrecord 16: STATUS SENSE -> 71 20, in: set => unknown\n... 1 STATUS SENSE, 1 DEVICE TYPE\nrecord 40: STATUS SENSE -> 71 20, in: set => clear\nrecord 48: STATUS SENSE -> 71 20, in: clear => unknown\n... 1 STATUS SENSE\nrecord 62: PLAY -> ACK, in: clear => unknown\nyes: records 62, exchanges 8, open 0\n
-every question|digest|record 7: AUDIO OUT DATA SENSE -> 74 13, @unknown\nrecord 14: AUDIO IN DATA SENSE -> 74 12, @unknown\nrecord 21: OUT DATA SENSE -> 74 11, @unknown\nrecord 28: IN DATA SENSE -> 74 10, @unknown\nrecord 35: DEVICE TYPE -> 12 11, @unknown\nrecord 43: CURRENT TIME SENSE -> 74 04, @unknown\nrecord 50: STATUS SENSE -> 72 20, @unknown\nyes: records 50, exchanges 7, open 0\n|... 1 AUDIO OUT DATA SENSE, 1 AUDIO IN DATA SENSE, 1 OUT DATA SENSE, 1 IN DATA SENSE, 1 DEVICE TYPE, 1 CURRENT TIME SENSE, 1 STATUS SENSE\nyes: records 50, exchanges 7, open 0\n
+a command that changes nothing|digest|record 6: PLAY -> ACK, @unknown\nyes: records 7, exchanges 1, open 1\n|record 6: PLAY -> ACK\nyes: records 7, exchanges 1, open 1\n@known 1 0.0\n
+a command that is not listed|digest|record 6: 60 40 -> ACK, @unknown\nno at record 7: P1 reply without a command\n|record 6: 60 40 -> ACK\nno at record 7: P1 reply without a command\n@known 1 0.0\n
+a field that is no longer known is told once for each value|digest|record 8: STATUS SENSE -> 71 20, @in set\nrecord 16: STATUS SENSE -> 71 20, @unknown\nrecord 24: STATUS SENSE -> 71 20, @in set\nrecord 32: DEVICE TYPE -> 12 11, @unknown\nrecord 40: STATUS SENSE -> 71 20, @in clear\nrecord 48: STATUS SENSE -> 71 20, @unknown\nrecord 56: STATUS SENSE -> 71 20, @in clear\nrecord 62: PLAY -> ACK, @unknown\nyes: records 62, exchanges 8, open 0\n|record 8: STATUS SENSE -> 71 20, in: unknown => set\nrecord 16: STATUS SENSE -> 71 20, in: set => unknown\n... 1 STATUS SENSE, 1 DEVICE TYPE\nrecord 40: STATUS SENSE -> 71 20, in: set => clear\nrecord 48: STATUS SENSE -> 71 20, in: clear => unknown\n... 1 STATUS SENSE\nrecord 62: PLAY -> ACK, in: clear => unknown\nyes: records 62, exchanges 8, open 0\n@known 8 50.0\nno longer known after STATUS SENSE: in 2\nno longer known after DEVICE TYPE: in 1\nno longer known after PLAY: in 1\n
+every question|digest|record 7: AUDIO OUT DATA SENSE -> 74 13, @unknown\nrecord 14: AUDIO IN DATA SENSE -> 74 12, @unknown\nrecord 21: OUT DATA SENSE -> 74 11, @unknown\nrecord 28: IN DATA SENSE -> 74 10, @unknown\nrecord 35: DEVICE TYPE -> 12 11, @unknown\nrecord 43: CURRENT TIME SENSE -> 74 04, @unknown\nrecord 50: STATUS SENSE -> 72 20, @unknown\nyes: records 50, exchanges 7, open 0\n|... 1 AUDIO OUT DATA SENSE, 1 AUDIO IN DATA SENSE, 1 OUT DATA SENSE, 1 IN DATA SENSE, 1 DEVICE TYPE, 1 CURRENT TIME SENSE, 1 STATUS SENSE\nyes: records 50, exchanges 7, open 0\n@known 7 0.0\n
+what a command took away|digest|record 8: STATUS SENSE -> 71 20, delay 400, goal unknown, shown PLAY, in set, out clear, local no, ain unknown, aout unknown\nrecord 14: 20 61 -> ACK, delay 400, goal unknown, shown unknown, in unknown, out unknown, local no, ain unknown, aout unknown\nyes: records 14, exchanges 2, open 0\n|record 8: STATUS SENSE -> 71 20, shown: unknown => PLAY, in: unknown => set, out: unknown => clear, local: unknown => no\nrecord 14: 20 61 -> ACK, shown: PLAY => unknown, in: set => unknown, out: clear => unknown\nyes: records 14, exchanges 2, open 0\nknown, of 2 exchanges: shown 50.0 %%, in 50.0 %%, out 50.0 %%, local 100.0 %%, ain 0.0 %%, aout 0.0 %%\nno longer known after 20 61: in 1, out 1\n
 END
 }
 
@@ -343,7 +346,8 @@ polling() {
         '... 460 STATUS SENSE, 460 CURRENT TIME SENSE' \
         'record 14456, 5.782400 s: PLAY -> ACK, goal: unknown => PLAY' \
         '... 240 STATUS SENSE, 240 CURRENT TIME SENSE' \
-        'yes: records 19016, exchanges 2002, open 0' > "$work/want"
+        'yes: records 19016, exchanges 2002, open 0' \
+        'known, of 2002 exchanges: shown 0.0 %, in 70.0 %, out 0.0 %, local 100.0 %, ain 0.0 %, aout 0.0 %' > "$work/want"
     "$program" explain "$work/polling.csv" > "$work/in"
     view digest.awk "-v capture=$work/polling.csv" < "$work/in"
     judge "$awk: digest: two thousand questions" is_view "$work/want"
@@ -351,22 +355,23 @@ polling() {
 
 # Every form of row that the program takes: a byte order mark, quotes, CRLF, empty lines, zeros in front.
 odd_captures() {
+    local known='known, of 1 exchanges: shown 0.0 %, in 0.0 %, out 0.0 %, local 0.0 %, ain 0.0 %, aout 0.0 %'
     printf '\357\273\277"time_us",wire,"byte"\r\n\r\n000000000000000,C,20\n"0000000001000",C,01\r\n\n1700,"C",21\n%s' \
         $'2000,D,10\r\n2600,D,01\r\n\n"000000009"999,D,11\r\n' > "$work/odd.csv"
     "$program" explain "$work/odd.csv" > "$work/in"
     view digest.awk "-v capture=$work/odd.csv" < "$work/in"
-    printf '%s\n' 'record 6, 0.009999 s: PLAY -> ACK' 'yes: records 6, exchanges 1, open 0' > "$work/want"
+    printf '%s\n' 'record 6, 0.009999 s: PLAY -> ACK' 'yes: records 6, exchanges 1, open 0' "$known" > "$work/want"
     judge "$awk: digest: a capture with quotes" is_view "$work/want"
     printf 'time_us,wire,byte\n000,C,20\n000,C,01\n0,C,21\n0,D,10\n00,D,01\n0000,D,11\n' > "$work/odd.csv"
     "$program" explain "$work/odd.csv" > "$work/in"
     view digest.awk "-v capture=$work/odd.csv" < "$work/in"
-    printf '%s\n' 'record 6, 0.000000 s: PLAY -> ACK' 'yes: records 6, exchanges 1, open 0' > "$work/want"
+    printf '%s\n' 'record 6, 0.000000 s: PLAY -> ACK' 'yes: records 6, exchanges 1, open 0' "$known" > "$work/want"
     judge "$awk: digest: a capture at 0" is_view "$work/want"
     printf 'time_us,wire,byte\n0,C,20\n0,C,01\n0,C,21\n0,D,10\n0,D,01\n9999,D,11\n999999999999999,C,20\n' > "$work/odd.csv"
     "$program" explain "$work/odd.csv" > "$work/in"
     sed 's/9999,D/999999999999999,D/' "$work/odd.csv" > "$work/late.csv"
     view digest.awk "-v capture=$work/late.csv" < "$work/in"
-    printf '%s\n' 'record 6, 999999999.999999 s: PLAY -> ACK' 'yes: records 7, exchanges 1, open 1' > "$work/want"
+    printf '%s\n' 'record 6, 999999999.999999 s: PLAY -> ACK' 'yes: records 7, exchanges 1, open 1' "$known" > "$work/want"
     judge "$awk: digest: a capture of the greatest time" is_view "$work/want"
     sed 's/$/\r/' examples/views/session.txt > "$work/in"
     view digest.awk '-v capture=examples/views/session.csv' < "$work/in"
@@ -387,7 +392,7 @@ program_texts() {
                 judge "$awk: json of $verb $hands $file" is_json
                 case $verb in explain*) ;; *) continue ;; esac
                 view digest.awk "-v capture=examples/$file" < "$work/in"
-                judge "$awk: digest of $verb $file $hands" ends_with_verdict
+                judge "$awk: digest of $verb $file $hands" ends_with_known
                 view delays.awk "-v capture=examples/$file" < "$work/in"
                 judge "$awk: delays of $verb $file $hands" ends_with_verdict
                 view motion.awk "-v capture=examples/$file" < "$work/in"
@@ -410,6 +415,15 @@ ends_with_verdict() {
     [ "$want_status" -le 1 ] || { is_without_verdict; return; }
     [ "$status" = 0 ] && [ ! -s "$work/err" ] && [ "$(tail -n 1 "$work/out")" = "$(tail -n 1 "$work/in")" ] &&
         [ -s "$work/in" ]
+}
+
+# ends_with_known: the digest ends with the verdict, and where there are exchanges with how many of them something was known at.
+ends_with_known() {
+    local told
+    told=$(grep -c -e ' -> ' "$work/in")
+    [ "$want_status" -gt 1 ] || [ "$(grep -c "^known, of $told exchanges: " "$work/out")" = $((told > 0)) ] || return 1
+    sed -i '/^known, of /d; /^no longer known after /d' "$work/out"
+    ends_with_verdict
 }
 
 # is_without_verdict: the view refused the text, which has no verdict, or the capture beside it, which has no header.

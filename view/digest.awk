@@ -7,18 +7,23 @@
 #     ... 460 STATUS SENSE, 459 CURRENT TIME SENSE, 1 CURRENT TIME SENSE -> NAK 04 checksum
 #     record 8754, 18.430121 s: IN DATA PRESET -> ACK, in: unknown => 10:00:00:00
 #     yes: records 8754, exchanges 922, open 0
+#     known, of 922 exchanges: shown 0.0 %, in 49.8 %, out 0.0 %, local 100.0 %, ain 0.0 %, aout 0.0 %
 #
 # The time is that of the reply's last record, on the capture's clock; without -v capture=FILE the number of the record
 # stands alone. Questions are STATUS SENSE, CURRENT TIME SENSE, the four DATA SENSE and DEVICE TYPE; a question that was
-# refused is counted with its reply. The verdict is the last line.
+# refused is counted with its reply.
 #
 # A line tells each field with another value than the one that it was last known to have, and each that was known until
 # this exchange and now is not. A question gets no line for a field that is known again as it was, and none for goal or
 # shown that is no longer known: a deck that plays may stop at any time, so only after a STATUS SENSE its mode is known.
 # For any other field that is no longer known it gets a line once for each value.
 #
-# Of `explain --all` each break has its line, nothing is known at the beginning of the part after it, and the totals are the
-# last line.
+# Of `explain --all` each break has its line, nothing is known at the beginning of the part after it, and the totals stand where
+# the verdict does.
+#
+# Under the verdict stands how strong it is: at how many of the exchanges the shown mode, each register and local were known, as a
+# percentage that is rounded down; and for each command or question after which a register or local was no longer known, how often
+# that was so. An explanation without an exchange has no such lines.
 
 BEGIN {
     view = "digest.awk"
@@ -29,12 +34,15 @@ BEGIN {
     is_question["AUDIO IN DATA SENSE"] = 1
     is_question["AUDIO OUT DATA SENSE"] = 1
     is_question["DEVICE TYPE"] = 1
+    # The fields that only a command, a question's answer or a hand changes. The mechanics change what is shown at any time.
+    is_kept["in"] = is_kept["out"] = is_kept["ain"] = is_kept["aout"] = is_kept["local"] = 1
 }
 
 { read_explanation() }
 
 kind == "exchange" {
     tells = !(command in is_question)
+    count_known()
     changes = changed_fields()
     if (tells) {
         put_folded()
@@ -55,6 +63,23 @@ function forget() {
     split("", last_known)
     split("", is_known)
     split("", is_lapse_told)
+}
+
+# At how many exchanges a field is known, and after which commands it no longer is.
+function count_known(    k, name) {
+    explained++
+    for (k = 1; k <= told; k++) {
+        name = field[k]
+        if (known[name] != "unknown") times_known[name]++
+        else if (is_known[name] && name in is_kept) count_lapse(name)
+    }
+}
+
+# Commands are counted in the order in which they first took something away.
+function count_lapse(name) {
+    if (!(command in has_lapse)) lapse_command[++lapse_commands] = command
+    has_lapse[command] = 1
+    lapses[command, name]++
 }
 
 # What is known otherwise than it last was, and what is known no more. `tells` is 1 where that is a line by itself.
@@ -94,10 +119,37 @@ function put_folded(    text, k) {
     put(text)
 }
 
+# How much was known, and what took it away.
+function put_known(    text, share, k, name) {
+    if (explained == 0) return
+    text = ""
+    for (k = 1; k <= fields; k++) {
+        name = field[k]
+        if (name != "shown" && !(name in is_kept)) continue
+        share = int(1000 * times_known[name] / explained)
+        text = text (text == "" ? "" : ", ") name " " int(share / 10) "." share % 10 " %"
+    }
+    put("known, of " explained " exchanges: " text)
+    for (k = 1; k <= lapse_commands; k++) put("no longer known after " lapse_command[k] ": " lapses_of(lapse_command[k]))
+}
+
+function lapses_of(command,    text, k) {
+    text = ""
+    for (k = 1; k <= fields; k++) {
+        if (!((command, field[k]) in lapses)) continue
+        text = text (text == "" ? "" : ", ") field[k] " " lapses[command, field[k]]
+    }
+    return text
+}
+
 # Microseconds as seconds, by the digits, since what awk prints for a number's point depends on the country.
 function seconds(digits) {
     while (length(digits) < 7) digits = "0" digits
     return substr(digits, 1, length(digits) - 6) "." substr(digits, length(digits) - 5)
+}
+
+END {
+    if (!refused && is_whole()) put_known()
 }
 
 # From here on digest.awk, delays.awk and motion.awk are the same.
