@@ -162,22 +162,22 @@ impl<R: Read + Drop> Records<R> {
         ensures within { self.new.given ≤ most_rows }
     {
         let number = self.given + 1;
-        let outcome = match read_record(&mut self.reader, &mut self.row) {
-            Ok(true) => fields::read_row(number, self.last_time, &self.row),
+        let fault = match read_record(&mut self.reader, &mut self.row) {
+            Ok(true) => match fields::read_row(number, self.last_time, &self.row) {
+                Ok(record) => {
+                    self.given = number;
+                    self.last_time = record.time_us;
+                    return Ok(Some(record));
+                }
+                Err(kind) => kind,
+            },
             Ok(false) => {
                 self.standing = Standing::Ended;
                 return Ok(None);
             }
-            Err(kind) => Err(kind),
+            Err(kind) => kind,
         };
-        match outcome {
-            Ok(record) => {
-                self.given = number;
-                self.last_time = record.time_us;
-                Ok(Some(record))
-            }
-            Err(kind) => Err(refuse(&mut self.standing, kind, number)),
-        }
+        Err(refuse(&mut self.standing, fault, number))
     }
 }
 

@@ -7,7 +7,6 @@ use Rattle.std.specs.FinSet as set
 use Rattle.tc25.specs.Day.{longest_day}
 use Rattle.sets25.specs.Times.{just_of, with_time}
 use Rattle.tc25.specs.declared.rate.Rate.{Rate}
-use Rattle.tc25.specs.declared.rate.Rate.TheVariants.{Fps24, Fps25, Fps30, DropFrame}
 
 -- ---- tests
 
@@ -71,32 +70,19 @@ kept s t = same_times _ _ (λ f. grind (arith, nat_tests, set.contains-intersect
 
 -- it has frames
 pub some_day : (rate : Rate) → 0 < day rate
-some_day Fps24 = omega arith
-some_day Fps25 = omega arith
-some_day Fps30 = omega arith
-some_day DropFrame = omega arith
+some_day rate = grind arith
 
 -- an even number of them
 pub even_day : (rate : Rate) → day rate ≡ 2 * (day rate / 2)
-even_day Fps24 = refl
-even_day Fps25 = refl
-even_day Fps30 = refl
-even_day DropFrame = refl
+even_day rate = grind arith
 
 -- and no more than the longest day
 pub within_longest : (rate : Rate) → day rate ≤ longest_day
-within_longest Fps24 = omega arith
-within_longest Fps25 = omega arith
-within_longest Fps30 = omega arith
-within_longest DropFrame = omega arith
+within_longest rate = grind arith
 
 -- days of one length are of one rate
 pub same_rate : (a b : Rate) → day a ≡ day b → a ≡ b
-same_rate Fps24 Fps24 e = refl
-same_rate Fps25 Fps25 e = refl
-same_rate Fps30 Fps30 e = refl
-same_rate DropFrame DropFrame e = refl
-same_rate _ _ e = absurd (omega arith)
+same_rate a b e = grind arith
 
 module _ (rate : Rate) where
   -- a move there and back, within the day

@@ -84,9 +84,14 @@ impl TimeSet for SpanSet {
     }
 
     fn one_at(alloc: Global, rate: Rate, time: TimeCode) -> Result<Self, AllocError> {
-        let mut set = SpanSet::none_at(alloc, rate);
-        set.add(time)?;
-        Ok(set)
+        let frame = time.frames();
+        if frame >= rate.frames_in_day() {
+            return Ok(SpanSet::none_at(alloc, rate));
+        }
+        Ok(SpanSet {
+            spans: SpanList::from_spans(Vec::from_slice(alloc, &[Span::of(frame)])?),
+            rate,
+        })
     }
 
     fn rate(&self) -> Rate {

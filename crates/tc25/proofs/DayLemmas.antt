@@ -1,5 +1,5 @@
 -- Which label names a frame, and what four bytes read as.
-use Rattle.std.proofs.Common.{[], ap, arith, Bool, false, List, None, not, Option, refl, Some, suc, sym, true, zero, ◌&&◌, ◌*◌, ◌+◌, ◌-◌, ◌/◌, ◌%◌, ◌<◌, ◌≤◌, ◌==◌, ◌∙◌, ◌∷◌, ◌≡◌, nat_lt, if◌then◌else◌, ℕ}
+use Rattle.std.proofs.Common.{[], ap, arith, Bool, false, List, None, not, Option, refl, Some, suc, sym, true, zero, ◌&&◌, ◌*◌, ◌+◌, ◌-◌, ◌/◌, ◌%◌, ◌<◌, ◌≤◌, ◌==◌, ◌∙◌, ◌∷◌, ◌≡◌, ◌≢◌, nat_lt, if◌then◌else◌, ℕ}
 use Rattle.std.proofs.lemmas.Grind.{common_steps}
 use Rattle.std.specs.Prelude.{option_and_then}
 use Rattle.tc25.specs.Day.{bcd, bytes_of, bytes_of_label, day, digits_of, frame_named, frames_of, hours_of, in_second, is_label, label_of, label_spelled, labels_before, labels_in_day, longest_day, masked, minutes_of, Names, ReadsAs, seconds_of, time_of}
@@ -10,24 +10,15 @@ use Rattle.tc25.specs.declared.rate.Rate.TheVariants.{Fps24, Fps25, Fps30, DropF
 
 -- the label of a frame names it
 pub label_named : (rate : Rate) (t : ℕ) → t < day rate → (frame_named rate (label_of rate t) ≡ Some t) × (label_of rate t < labels_in_day rate)
-label_named Fps24 t low = grind (arith, common_steps)
-label_named Fps25 t low = grind (arith, common_steps)
-label_named Fps30 t low = grind (arith, common_steps)
-label_named DropFrame t low = grind (arith, common_steps)
+label_named rate t low = grind (arith, common_steps)
 
 -- the frame that a label names has that label
 pub named_label : (rate : Rate) (label t : ℕ) → label < labels_in_day rate → frame_named rate label ≡ Some t → (t < day rate) × (label_of rate t ≡ label)
-named_label Fps24 label t low e = grind (arith, common_steps)
-named_label Fps25 label t low e = grind (arith, common_steps)
-named_label Fps30 label t low e = grind (arith, common_steps)
-named_label DropFrame label t low e = grind (arith, common_steps)
+named_label rate label t low e = grind (arith, common_steps)
 
 -- a day has frames
 pub some_day : (rate : Rate) → 0 < day rate
-some_day Fps24 = omega arith
-some_day Fps25 = omega arith
-some_day Fps30 = omega arith
-some_day DropFrame = omega arith
+some_day rate = grind arith
 
 -- ---- what four bytes read as
 
@@ -47,18 +38,12 @@ label_bytes DropFrame (f ∷ s ∷ m ∷ h ∷ []) label e = grind (arith, commo
 label_bytes _ _ label e = grind arith
 
 bytes_spell : (rate : Rate) (label : ℕ) → label < labels_in_day rate → label_spelled rate (bytes_of_label rate label) ≡ Some label
-bytes_spell Fps24 label low = grind (arith, common_steps)
-bytes_spell Fps25 label low = grind (arith, common_steps)
-bytes_spell Fps30 label low = grind (arith, common_steps)
-bytes_spell DropFrame label low = grind (arith, common_steps)
+bytes_spell rate label low = grind (arith, common_steps)
 
 -- each is a byte
 pub label_bytes_low : (rate : Rate) (label : ℕ) → label < labels_in_day rate
     → (bcd (frames_of rate label) < 256) × (bcd (seconds_of rate label) < 256) × (bcd (minutes_of rate label) < 256) × (bcd (hours_of rate label) < 256)
-label_bytes_low Fps24 label low = (omega arith, omega arith, omega arith, omega arith)
-label_bytes_low Fps25 label low = (omega arith, omega arith, omega arith, omega arith)
-label_bytes_low Fps30 label low = (omega arith, omega arith, omega arith, omega arith)
-label_bytes_low DropFrame label low = (omega arith, omega arith, omega arith, omega arith)
+label_bytes_low rate label low = (grind arith, grind arith, grind arith, grind arith)
 
 -- the time given is read
 pub given_reads : (rate : Rate) (bytes : List ℕ) (t : ℕ) → time_of rate bytes ≡ Some t → ReadsAs rate bytes t
@@ -85,20 +70,14 @@ pub bytes_read : (rate : Rate) (t : ℕ) → t < day rate → time_of rate (byte
 bytes_read rate t low = read_given rate (bytes_of rate t) t (low, plain rate (label_of rate t) (label_named rate t low).1)
   where
     plain : (rate : Rate) (label : ℕ) → label < labels_in_day rate → masked (bytes_of_label rate label) ≡ bytes_of_label rate label
-    plain Fps24 label low = grind (arith, common_steps)
-    plain Fps25 label low = grind (arith, common_steps)
-    plain Fps30 label low = grind (arith, common_steps)
-    plain DropFrame label low = grind (arith, common_steps)
+    plain rate label low = grind (arith, common_steps)
 
 -- so where none is given none is read, and the time read is one of the day
 pub none_reads : (rate : Rate) (bytes : List ℕ) → time_of rate bytes ≡ None → (t : ℕ) → ¬ ReadsAs rate bytes t
 none_reads rate bytes none t reads = let some = read_given rate bytes t reads in cc
 
 pub given_below : (rate : Rate) (bytes : List ℕ) (t : ℕ) → time_of rate bytes ≡ Some t → t < longest_day
-given_below Fps24 bytes t e = let low = (given_reads Fps24 bytes t e).0 in omega arith
-given_below Fps25 bytes t e = let low = (given_reads Fps25 bytes t e).0 in omega arith
-given_below Fps30 bytes t e = let low = (given_reads Fps30 bytes t e).0 in omega arith
-given_below DropFrame bytes t e = let low = (given_reads DropFrame bytes t e).0 in omega arith
+given_below rate bytes t e = let low = (given_reads rate bytes t e).0 in grind arith
 
 -- ---- how many labels come before one
 
@@ -108,36 +87,22 @@ counted : (label : ℕ) → labels_before DropFrame label + 2 * (label / 1800 - 
 counted zero = grind (arith, common_steps)
 counted (suc n) = let before = counted n in grind (arith, common_steps)
 
-all_counted24 : (label : ℕ) → labels_before Fps24 label ≡ label
-all_counted24 zero = grind (arith, common_steps)
-all_counted24 (suc n) = let before = all_counted24 n in grind (arith, common_steps)
-
-all_counted25 : (label : ℕ) → labels_before Fps25 label ≡ label
-all_counted25 zero = grind (arith, common_steps)
-all_counted25 (suc n) = let before = all_counted25 n in grind (arith, common_steps)
-
-all_counted30 : (label : ℕ) → labels_before Fps30 label ≡ label
-all_counted30 zero = grind (arith, common_steps)
-all_counted30 (suc n) = let before = all_counted30 n in grind (arith, common_steps)
+all_counted : (rate : Rate) (label : ℕ) → rate ≢ DropFrame → labels_before rate label ≡ label
+all_counted rate zero other = grind (arith, common_steps)
+all_counted rate (suc n) other = let before = all_counted rate n other in grind (arith, common_steps)
 
 -- a label names the frame that has as many labels before it
 pub frame_counted : (rate : Rate) (label t : ℕ) → (frame_named rate label ≡ Some t) → (labels_before rate label ≡ t) × (is_label rate label ≡ true)
-frame_counted Fps24 label t e = let all = all_counted24 label in grind (arith, common_steps)
-frame_counted Fps25 label t e = let all = all_counted25 label in grind (arith, common_steps)
-frame_counted Fps30 label t e = let all = all_counted30 label in grind (arith, common_steps)
 frame_counted DropFrame label t e = let all = counted label in grind (arith, common_steps)
+frame_counted rate label t e = let all = all_counted rate label (λ same. cc) in grind (arith, common_steps)
 
 pub counted_frame : (rate : Rate) (label t : ℕ) → is_label rate label ≡ true → labels_before rate label ≡ t → frame_named rate label ≡ Some t
-counted_frame Fps24 label t is before = let all = all_counted24 label in grind (arith, common_steps)
-counted_frame Fps25 label t is before = let all = all_counted25 label in grind (arith, common_steps)
-counted_frame Fps30 label t is before = let all = all_counted30 label in grind (arith, common_steps)
 counted_frame DropFrame label t is before = let all = counted label in grind (arith, common_steps)
+counted_frame rate label t is before = let all = all_counted rate label (λ same. cc) in grind (arith, common_steps)
 
 pub day_counted : (rate : Rate) → labels_before rate (labels_in_day rate) ≡ day rate
-day_counted Fps24 = all_counted24 2073600
-day_counted Fps25 = all_counted25 2160000
-day_counted Fps30 = all_counted30 2592000
 day_counted DropFrame = at_end 2592000 refl
   where
     at_end : (label : ℕ) → label ≡ 2592000 → labels_before DropFrame label ≡ 2589408
     at_end label is = let all = counted label in grind (arith, common_steps)
+day_counted rate = all_counted rate (labels_in_day rate) (λ same. cc) ∙ grind arith

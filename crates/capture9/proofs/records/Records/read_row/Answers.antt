@@ -1,39 +1,34 @@
 -- The next CSV record is the first of those that were left, and so is its row of the rows to come.
-use Rattle.capture9.proofs.Words.{fields_of, sym, unread_records, ◌∙◌}
+use Rattle.capture9.proofs.Words.{fields_of, sym, unread_records}
 use Rattle.capture9.proofs.RecordsLemmas.{bad-first, gives-record, IsRowFault, not-of-text, refused-holds, refuses-row}
 use Rattle.capture9.proofs.records.Records.read_row.Given.{Over}
 use Rattle.capture9.proofs.records.Records.read_row.Goals as goal
-use Rattle.capture9.proofs.records.Records.read_row.Goals.{in-Err, in-Ok-true}
+use Rattle.capture9.proofs.records.Records.read_row.Goals.{After-refuse, in-Err, in-Ok-true+in-Err-read_row}
 
 pub returns-in-Ok-clause-given : goal.returns-in-Ok-clause-given
 returns-in-Ok-clause-given g c =
     let before = rw (← c.self.view_is) at c.requires in
-    rw (← c.self.view_is) (elim c.match-read_record.branch [
-      | in-Ok-true w ↦
-          let read = rw w.in-Ok-true.field-0-test at w.in-Ok-true.ensures.next in
-          let good = sym w.read_row-outcome.ensures ∙ sym w.outcome-is ∙ c.in-Ok.is in
-          gives-record _ _ _ _ _ _ _ _ (fields_of c.read_record.new.row) c.in-Ok.record before.reading before.headed read good
-      | in-Err w ↦ cc
-    ])
+    let read = rw c.in-Ok-true.field-0-test at c.in-Ok-true.ensures.next in
+    rw (← c.self.view_is) (gives-record _ _ _ _ _ _ _ _ (fields_of c.read_record.new.row) c.in-Ok.record before.reading before.headed read (sym c.in-Ok.ensures))
 
 -- what is wrong with the row, or that the fault is not of the text
-wrong : (g : Over) (c : goal.After-refuse g) → IsRowFault c.self.inside.given c.self.inside.last_time (unread_records g.R.Read.remaining c.self.inside.reader)
-    c.in-Err-outcome.kind
+wrong : (g : Over) (c : After-refuse g) → IsRowFault c.self.inside.given c.self.inside.last_time (unread_records g.R.Read.remaining c.self.inside.reader)
+    c.match-read_record.fault
 wrong g c =
     elim c.match-read_record.branch [
-      | in-Ok-true w ↦
-          bad-first _ _ _ (unread_records g.R.Read.remaining c.read_record.new.reader) (fields_of c.read_record.new.row) _ c.self.invariant.within
-          (rw w.in-Ok-true.field-0-test at w.in-Ok-true.ensures.next) (sym w.read_row-outcome.ensures ∙ sym w.outcome-is ∙ c.in-Err-outcome.is)
-      | in-Err w ↦ not-of-text _ _ _ _ (cc w.in-Err.ensures.refused)
+      | in-Ok-true+in-Err-read_row w ↦
+          rw w.fault-is (bad-first _ _ _ (unread_records g.R.Read.remaining c.read_record.new.reader) (fields_of c.read_record.new.row) _ c.self.invariant.within
+          (rw w.in-Ok-true.field-0-test at w.in-Ok-true.ensures.next) (sym w.in-Err-read_row.ensures))
+      | in-Err w ↦ rw w.fault-is (not-of-text _ _ _ _ w.in-Err.ensures.refused)
     ]
 
-pub returns-in-Err-outcome-clause-refused : goal.returns-in-Err-outcome-clause-refused
-returns-in-Err-outcome-clause-refused g c =
+pub returns-clause-refused : goal.returns-clause-refused
+returns-clause-refused g c =
     let before = rw (← c.self.view_is) at c.requires in
     rw (← c.self.view_is) (refuses-row _ _ _ _ _ _ _ _ _ _ c.refuse.result before.reading before.headed c.refuse.ensures.error c.refuse.ensures.marked
     (wrong g c))
 
-pub invariant_of-self-in-Err-outcome : goal.invariant_of-self-in-Err-outcome
-invariant_of-self-in-Err-outcome g c =
+pub invariant_of-self-2 : goal.invariant_of-self-2
+invariant_of-self-2 g c =
     refused-holds _ _ _ _ _ _ c.refuse.result (rw (← c.self.view_is) at c.requires.headed) c.self.invariant.within c.refuse.ensures.error
     c.refuse.ensures.marked (wrong g c).at_its_row

@@ -1,6 +1,12 @@
--- A time is added to nothing.
-use Rattle.sets25.proofs.Lemmas.{with_time-alone, ◌∙◌}
+-- A time of the day is a span by itself.
+use Rattle.sets25.proofs.Lemmas.{arith, nat_tests, ◌∙◌}
+use Rattle.sets25.proofs.TimesLemmas.{times_where-just}
+use Rattle.sets25.proofs.Words.{just, ◌≡◌}
+use Rattle.sets25.specs.Times.{just_of}
 use Rattle.sets25.proofs.span_set.SpanSetTimeSet.one_at.Goals as goal
 
 pub returns-clause-members : goal.returns-clause-members
-returns-clause-members c = rw (c.none_at-set.ensures.members, c.none_at-set.ensures.rate) at c.in_ok-add.ensures.ok ∙ with_time-alone c.args.rate c.args.time
+returns-clause-members c =
+    let is : just c.args.time ≡ just_of c.args.rate c.args.time = grind (arith, nat_tests) in
+    times_where-just c.args.rate _ c.args.time (omega arith)
+    (λ f h. rw (c.from_spans.ensures, c.in_ok-from_slice.ensures.items, c.of.ensures, c.frames-frame.ensures.value) (grind (arith, nat_tests))) ∙ is
