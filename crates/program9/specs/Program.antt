@@ -65,8 +65,8 @@ TellsFor verb.Explain profile known old judged all = Told view.Explain profile k
 TellsFor verb.Run profile known old judged all = TellsRun profile known old judged all
 TellsFor verb.Why profile known old judged all = TellsWhy profile known old judged all
 
--- a capture, whose text is given where it is known, was judged with this verb, for a deck that is taken for this: the result, and what the
--- writer holds before and after
+-- a capture, whose text is given where it is known, was judged with this verb, for a deck that is taken for this: the result,
+-- and what the writer holds before and after
 pub record IsJudgedFor (verb : Verb) (profile : Profile) (capture : Option (List ℕ)) (old : Option (List ℕ)) (result : Result Verdict JudgeError)
     (now : Option (List ℕ)) : Type 0 where
   pub answer : IfSome capture (λ text. IfSome (answer_of result) (IsTheAnswer profile (rows_of text)))
@@ -89,15 +89,16 @@ TellsInParts verb.Explain profile known old judged all = ToldInParts (telling.Sh
 TellsInParts verb.Run profile known old judged all = ⊥
 TellsInParts verb.Why profile known old judged all = ToldInParts telling.Why profile known judged old all
 
--- a capture, whose text is given where it is known, was judged part by part with this verb, for a deck that is taken for this: the result, and
--- what the writer holds before and after
+-- a capture, whose text is given where it is known, was judged part by part with this verb, for a deck that is taken for this:
+-- the result, and what the writer holds before and after
 pub record IsJudgedInParts (verb : Verb) (profile : Profile) (capture : Option (List ℕ)) (old : Option (List ℕ)) (result : Result Totals JudgeError)
     (now : Option (List ℕ)) : Type 0 where
   pub told : EndsAs (TellsInParts verb profile (option_map rows_of capture) old) result now
   pub kind : (e : CaptureError) → result ≡ Err (error.Capture e) → e.kind ≢ kind.OutOfMemory
   pub header : IfSome capture (λ text. (e : CaptureError) → result ≡ Err (error.Capture e) → e.row ≢ 0 → HasHeader (rows_of text))
 
--- a capture was judged with this verb, for a deck that is taken for this, and this is the end: it was judged part by part, or to its first break
+-- a capture was judged with this verb, for a deck that is taken for this, and this is the end: it was judged part by part, or
+-- to its first break
 abbrev pub EndsJudged : Bool → Verb → Profile → Option (List ℕ) → Option (List ℕ) → Outcome → Option (List ℕ) → Type 0
 EndsJudged true verb profile capture old end now =
     (result : Result Totals JudgeError) × IsJudgedInParts verb profile capture old result now × (end ≡ outcome_in_parts result)

@@ -22,8 +22,8 @@ use words9::{Task, Verb, WordsFault, read_words};
 /// `opener` is asked once, for the task's file, where there is a task. The end is
 ///
 /// * `Usage` only where the words are no command, or could not be fetched as text: nothing is written;
-/// * the `Outcome` of the judging that the words ask for: with their verb, at their rate, with hands where they say so, and with `check`,
-///   `explain` and `why` part by part where they say `--all`;
+/// * the `Outcome` of the judging that the words ask for: with their verb, at their rate, with hands where they say so, and with
+///   `check`, `explain` and `why` part by part where they say `--all`;
 /// * status 4 with `CannotOpen`, the file and the reason where `opener` failed: nothing is written;
 /// * status 0 where the words ask for the version: its line is written; or status 4 with `WriteFault`, and a first part of
 ///   it;
