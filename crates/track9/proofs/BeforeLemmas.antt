@@ -1,35 +1,30 @@
 -- Some state of a set, and a state that an exchange leads to another one from: patterns of states, exactly those that
 -- an effect led from, drifts to them, and complete exchanges.
-use Rattle.track9.proofs.Words.{all_has, Allows, and-false, and_from, and_parts, any_goal, ap, AreBelow, arith, Pattern, pattern_before, wanted_of, At, Becomes, Block, Bool, both}
-use Rattle.track9.proofs.Words.{Change, Clear, Command, cond_both, day, Does, done, Drift, drift_from_pairs, drifted, drifted_with, Effect, effect_of, Entries, entries_of, Entry}
-use Rattle.track9.proofs.Words.{entry_before, entry_of, eq-eqb, eqb-true, Exchanges, false, false≢true, Fits, goals_of, goes, Hands, hands_by, hands_of, has, has-and, has_pair}
-use Rattle.track9.proofs.Words.{HasState, IfNone, IfSome, if◌then◌else◌, ignored, in_local, inl, InPart, inr, InTwo, Is, is_mode, is_mode-same, is_nak, is_one_of, is_panel_live}
+use Rattle.track9.proofs.Words.{all_has, Allows, and-false, and_from, and_parts, any_goal, ap, AreBelow, arith, Pattern, pattern_before, wanted_of, Becomes, Block, Bool, both}
+use Rattle.track9.proofs.Words.{Change, Command, cond_both, Does, done, Drift, drift_from_pairs, drifted, drifted_with, Effect, effect_of, Entries, entries_of, Entry}
+use Rattle.track9.proofs.Words.{entry_before, entry_of, Exchanges, false, false≢true, Fits, goals_of, goes, Hands, hands_of, has, has-and, has_pair}
+use Rattle.track9.proofs.Words.{HasState, IfNone, IfSome, ignored, in_local, inl, InPart, inr, InTwo, Is, is_mode, is_mode-same, is_nak, is_one_of, is_panel_live}
 use Rattle.track9.proofs.Words.{is_some, IsPattern, IsEntry, IsState, IsUndone, just_mode, just_state, LeadsTo, List, masked, Mode, mode_just, mode_self, mode_some, ModeSet}
-use Rattle.track9.proofs.Words.{moved_entry, nat_tests, Next, next_frame, no_entries, no_states, None, on_the_way, on_two, Option, option_map, PairRunsTo, Part, Possible}
-use Rattle.track9.proofs.Words.{Prev, prev_frame, Recall, refl, refused, RegAudioIn, RegAudioOut, RegIn, Register, RegOut, Reset, rules, RunsTo, same_fact, SetAt, SetSomewhere}
+use Rattle.track9.proofs.Words.{no_entries, no_states, None, on_the_way, on_two, Option, option_map, PairRunsTo, Part, Possible}
+use Rattle.track9.proofs.Words.{refl, refused, RegAudioIn, RegAudioOut, RegIn, Register, RegOut, rules, RunsTo, same_fact}
 use Rattle.track9.proofs.Words.{shown_with, Shows, Some, some_entry, some_mode, some_pair, State, States, DeckStep, Stop, subst, sym, true, true_from_ne_false, two_of, way}
-use Rattle.track9.proofs.Words.{any_panel, AreWhole, KeepsPanel, panel_before, panel_switched, Profile, profile_of, Rate, rate_for, with_wanted, with_entry, ℕ, ◌&&◌, ◌<◌, ◌==◌, ◌||◌, ◌↔◌, ◌∙◌, ◌≡◌, ◌⊎◌}
+use Rattle.track9.proofs.Words.{any_panel, AreWhole, KeepsPanel, panel_before, panel_switched, Profile, profile_of, Rate, rate_for, with_wanted, with_entry, ◌||◌, ◌↔◌, ◌∙◌, ◌≡◌, ◌⊎◌}
 use Rattle.deck9.specs.declared.effect.Effect.TheVariants as effect
 use Rattle.deck9.specs.declared.mode.Mode.TheVariants as mode
 use Rattle.deck9.specs.declared.state.Hands.TheVariants as hands
 use Rattle.std.specs.FinSet as set
 use Rattle.track9.specs.Working.Pattern.{any_tape}
 use Rattle.deck9.proofs.RestLemmas.{step_valid}
-use Rattle.track9.proofs.EffectLemmas.{asks_or_acts, masked_has}
+use Rattle.track9.proofs.EffectLemmas.{masked_has}
 use Rattle.track9.proofs.EntryLemmas.{drifted_has, drifted_to, goals_has, goes_from, no_entry, pair_by_goal}
-use Rattle.track9.proofs.KnownLemmas.{at_same, goal_to}
-use Rattle.track9.proofs.PartLemmas.{drift_panel, drift_state, each_register, mechanics, off_drift, possible_state, put, put_each, to_two, two_live, two_none}
+use Rattle.track9.proofs.KnownLemmas.{goal_to}
+use Rattle.track9.proofs.PartLemmas.{drift_panel, drift_state, each_register, mechanics, off_drift, possible_state, put, put_each, to_two, two_live}
 
 -- ---- states by their fields
 
 same_state : (s t : State) → t.goal ≡ s.goal → t.shown ≡ s.shown → t.ins ≡ s.ins → t.outs ≡ s.outs → t.ains ≡ s.ains → t.aouts ≡ s.aouts → t.local ≡ s.local
     → t.panel ≡ s.panel → s ≡ t
-same_state s t goal shown ins outs ains aouts local panel = by
-    (λ g m x y z w l p. record { goal = g; shown = m; ins = x; outs = y; ains = z; aouts = w; local = l; panel = p })
-  where
-    by : (make : Mode → Mode → Entry → Entry → Entry → Entry → Bool → Bool → State)
-        → make s.goal s.shown s.ins s.outs s.ains s.aouts s.local s.panel ≡ make t.goal t.shown t.ins t.outs t.ains t.aouts t.local t.panel
-    by make = cc
+same_state s t goal shown ins outs ains aouts local panel = grind arith
 
 -- the state itself fits, and no other
 pub fits_self : (t : State) → Fits (just_state t) t
@@ -40,17 +35,6 @@ fits_just t d f = same_state t d (just_mode t.goal d.goal f.goal) (just_mode t.s
 
 -- ---- one entry
 
--- a shift one way and back
-shifts : (rate : Rate) (t : ℕ) → t < day rate
-    → (next_frame rate (prev_frame rate t) ≡ t) × (prev_frame rate (next_frame rate t) ≡ t) × (prev_frame rate t < day rate) × (next_frame rate t < day rate)
-shifts rate t h = (grind (arith, nat_tests), grind (arith, nat_tests), grind (arith, nat_tests), grind (arith, nat_tests))
-
-shifted : (rate : Rate) (e : Entry) → IsEntry rate e
-    → (moved_entry (next_frame rate) (moved_entry (prev_frame rate) e) ≡ e) × (moved_entry (prev_frame rate) (moved_entry (next_frame rate) e) ≡ e)
-    × IsEntry rate (moved_entry (prev_frame rate) e) × IsEntry rate (moved_entry (next_frame rate) e)
-shifted rate Clear h = (refl, refl, tt, tt)
-shifted rate (At t) h = let s = shifts rate t h in (ap At s.0, ap At s.1, s.2, s.3)
-
 -- an entry is the one that is wanted, or one of any
 abbrev IsBefore : Option (Option Entry) → Entry → Type 0
 IsBefore None e = ⊥
@@ -58,36 +42,11 @@ IsBefore (Some o) e = Is o e
 
 -- an entry that was is wanted exactly where it can become the new one
 becomes_exactly : (rate : Rate) (c : Change) (old new : Entry) → IsEntry rate old → IsEntry rate new → IsBefore (entry_before rate c new) old ↔ Becomes rate c old new
-becomes_exactly rate SetSomewhere old (At t) was is = (λ i. (t, is, refl), λ b. tt)
-becomes_exactly rate SetSomewhere old Clear was is = (λ i. absurd i, λ b. cc b.2)
-becomes_exactly rate (SetAt u) old (At t) was is = cond_both (t == u) (Some None) None (λ o. IsBefore o old ↔ ((u < day rate) × (At t ≡ At u)))
-    (λ e. (λ i. (subst (λ x. x < day rate) (eqb-true t u e) is, ap At (eqb-true t u e)), λ b. tt))
-    (λ e. (λ i. absurd i, λ b. absurd (false≢true (sym e ∙ eq-eqb t u (at_same t u b.1)))))
-becomes_exactly rate (SetAt u) old Clear was is = (λ i. absurd i, λ b. cc b.1)
-becomes_exactly rate Next old new was is = (
-  λ i. sym (ap (moved_entry (next_frame rate)) i ∙ (shifted rate new is).0),
-  λ b. sym
-      (ap (moved_entry (prev_frame rate)) b ∙ (shifted rate old was).1),
-)
-becomes_exactly rate Prev old new was is = (
-  λ i. sym (ap (moved_entry (prev_frame rate)) i ∙ (shifted rate new is).1),
-  λ b. sym
-      (ap (moved_entry (next_frame rate)) b ∙ (shifted rate old was).0),
-)
-becomes_exactly rate Reset old Clear was is = (λ i. refl, λ b. tt)
-becomes_exactly rate Reset old (At t) was is = (λ i. absurd i, λ b. cc)
-becomes_exactly rate Recall old new was is = (λ i. is, λ b. tt)
+becomes_exactly rate c old new was is = grind arith
 
 -- there is one that was, where there can be
 entry_was : (rate : Rate) (c : Change) (new : Entry) → IsEntry rate new → IfSome (entry_before rate c new) (λ o. (x : Entry) × IsEntry rate x × Is o x)
-entry_was rate SetSomewhere (At t) h = (Clear, tt, tt)
-entry_was rate (SetAt u) (At t) h = elim (t == u) as (λ b. IfSome (if b then Some None else None) (λ (o : Option Entry). (x : Entry) × IsEntry rate x × Is o x))
-    [ true ↦ (Clear, tt, tt) | false ↦ tt ]
-entry_was rate Next new h = (moved_entry (prev_frame rate) new, (shifted rate new h).2, refl)
-entry_was rate Prev new h = (moved_entry (next_frame rate) new, (shifted rate new h).3, refl)
-entry_was rate Reset Clear h = (Clear, tt, tt)
-entry_was rate Recall new h = (Clear, tt, tt)
-entry_was rate _ _ h = tt
+entry_was rate c new h = grind arith
 
 -- ---- what an effect may have led from
 
@@ -109,9 +68,7 @@ change_exactly RegIn (Some o) t d = (λ f. search (rules, same_state, just_mode)
 change_exactly _ (Some o) t d = (λ f. search (rules, same_state, just_mode), λ (i, e). rw e (search (rules, mode_just)))
 
 pub same_facts : (a b : Bool) → (same_fact a b ≡ true) ↔ (a ≡ b)
-same_facts true true = (λ h. refl, λ e. refl)
-same_facts false false = (λ h. refl, λ e. refl)
-same_facts _ _ = (λ h. absurd (false≢true h), λ e. cc)
+same_facts a b = grind arith
 
 -- a state is one of the pattern exactly where the effect leads from it to t
 wanted_exactly : (p : Profile) (e : Effect) (t d : State) → IsState p.rate t → IsState p.rate d → FitsSome (pattern_before p e t) d ↔ Does p e d t
@@ -150,14 +107,12 @@ wanted_exactly p effect.ForgetRegisters t d after before = (
 wanted_exactly p effect.ForgetAll t d after before = by p.hands
   where
     by : (h : Hands) → Fits (any_panel h (record (any_tape (just_state t)) { local = None })) d ↔ (IsState p.rate t × KeepsPanel h d t)
-    by hands.None = (λ f. (after, sym f.panel), λ (valid, panel). rw panel (search (rules, all_has)))
-    by hands.Allowed = (λ f. (after, tt), λ valid. search (rules, all_has))
+    by h = grind arith
 wanted_exactly p _ t d after before = (fits_just t d, λ same. rw same (fits_self d))
 
 -- a state of the day that is one of a pattern is wanted
 is_wanted : (rate : Rate) (o : Option Pattern) (d : State) → IsState rate d → FitsSome o d → IfSome o (IsPattern rate)
-is_wanted rate None d valid f = tt
-is_wanted rate (Some a) d valid f = (d, valid, f)
+is_wanted rate o d valid f = grind arith
 
 -- a state of the day is among them
 pub wanted_state : (p : Profile) (e : Effect) (t : State) → IsState p.rate t → IfSome (pattern_before p e t) (IsPattern p.rate)
@@ -201,19 +156,14 @@ pub clear_alone : (es : Entries) → some_entry es ≡ true → es.times ≡ set
 clear_alone es some none = true_from_ne_false _ (λ e. let dead : some_entry es ≡ false = rw (e, none) (no_entry es.rate) in false≢true (sym dead ∙ some))
 
 pub if_none : {A : Type 0} {P Q : Type 0} (o : Option A) → IfNone o P → (P → Q) → IfNone o Q
-if_none None h f = f h
-if_none (Some x) h f = tt
+if_none o h f = grind arith
 
 -- ---- pairs
 
 -- what was reached with no pair of its goal is STOP
 pub source_halted : (p : List ModeSet) (g m : Mode) → has (drifted_with p g).0 m ≡ true → has (shown_with p g).0 m ≡ false
     → ((is_some (shown_with p g) ≡ false) ⊎ ((is_mode m g || is_one_of (on_the_way g) m) ≡ false)) → (g ≡ Stop) × (m ≡ Stop)
-source_halted p g m h other way = let w = and_parts _ _ (by way) in (is_mode-same g Stop (and_parts _ _ w.1).1, is_mode-same m Stop w.0)
-  where
-    by : (is_some (shown_with p g) ≡ false) ⊎ ((is_mode m g || is_one_of (on_the_way g) m) ≡ false) → (is_mode m Stop && (some_pair p && is_mode g Stop)) ≡ true
-    by (inl none) = rw (drifted_has p g m, other, none) at h
-    by (inr none) = simp (drifted_has p g m, other, none, and-false) at h
+source_halted p g m h other way = grind (arith, and_parts, is_mode-same, drifted_has, and-false)
 
 -- the pairs that are wanted among those that are reached
 
@@ -233,8 +183,7 @@ origin_there p goals shown (f, n, pair, (g, m, goal, mode, reaches)) =
 -- ---- a part
 
 pub if_none_so : {A P : Type 0} (o : Option A) → P → IfNone o P
-if_none_so None h = h
-if_none_so (Some x) h = tt
+if_none_so o h = grind arith
 
 pub no_entry_runs : (r : Register) (p : Part) (a : Pattern) (l pn : Bool) → (((e : Entry) × Allows (entries_of r p) e × Is (wanted_of r a) e) → ⊥)
     → ((s : State) × HasState p l pn s × RunsTo a s) → ⊥
@@ -251,8 +200,7 @@ no_entry_runs r p a l pn none (s, there, (d, kept, reaches, fits)) =
 
 -- where there is a state with the panel on hands are allowed
 pub panel_hands : (v : States) (s : State) → InPart (in_local (on_two (rate_for v) v.on) s.local) s → hands_of v ≡ hands.Allowed
-panel_hands v s i = (elim v.on as (λ o. InPart (in_local (on_two (rate_for v) o) s.local) s → hands_by o ≡ hands.Allowed) [ None ↦ λ i. two_none (rate_for v) s i | Some h ↦ λ i. refl ])
-    i
+panel_hands v s i = grind arith
 
 -- a hand makes any state with the panel on
 pub hand_leads : (p : Profile) (a : Pattern) (s : State) → p.hands ≡ hands.Allowed → IsPattern p.rate a → Is a.panel true → s.panel ≡ true → LeadsTo p a s
@@ -273,10 +221,7 @@ no_origin p v a dead off (s, there, (d, drift, fits)) = by s.panel refl
 
 -- a reply that agrees with the state before agrees with the one after, and the other way round
 shows_same : (p : Profile) (c : Command) (reply : Block) (d t : State) → Does p (effect_of c) d t → Shows p.rate d c reply ↔ Shows p.rate t c reply
-shows_same p c reply d t does = elim (asks_or_acts c) [
-  | inl asks ↦ rw asks (λ a. tt, λ a. tt)
-  | inr none ↦ let same : t ≡ d = subst (λ e. Does p e d t) none does in rw same (λ a. a, λ a. a)
-]
+shows_same p c reply d t does = grind arith
 
 -- ---- complete exchanges
 
@@ -286,12 +231,7 @@ exchanged_state p c reply s t valid (d, drift, step) = step_valid p (record { bl
 
 pub nak_exactly : (p : Profile) (c : Command) (reply : Block) (t : State) → is_nak reply ≡ true → (s : State)
     → LeadsTo p (just_state t) s ↔ Exchanges p c reply s t
-nak_exactly p c reply t nak s = (λ (d, drift, fits). (d, drift, refused nak (fits_just t d fits)), λ (d, drift, step). (d, drift, by d step))
-  where
-    by : (d : State) → DeckStep p c reply d t → Fits (just_state t) d
-    by d (refused was e) = rw e (fits_self d)
-    by d (done was shows does) = absurd (false≢true (sym was ∙ nak))
-    by d (ignored was shows may local e) = absurd (false≢true (sym was ∙ nak))
+nak_exactly p c reply t nak s = grind arith
 
 -- a drift leads from the state to one of a pattern, if there is a pattern
 abbrev pub LeadsSome : Profile → Option Pattern → State → Type 0

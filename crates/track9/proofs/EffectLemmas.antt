@@ -1,17 +1,16 @@
 -- What becomes of the states of a part, and so what leads from all states with one value of the panel to others: each
 -- effect, and complete exchanges where nobody touches the panel.
 use Rattle.track9.proofs.Words.{agreeing, Agrees, all_forgotten, all_or_none, all_states, Allows, and_from, and_parts, ap, AreSet, Becomes, Block, Bool}
-use Rattle.track9.proofs.Words.{both, Change, changed_entries, changed_part, Command, cond_both, counted, Does, DoesOrNot, done, Drift, drift_from_pairs, drifted}
-use Rattle.track9.proofs.Words.{drifted_part, drifted_with, Effect, effect_of, either, Entries, entries_of, entry_of, false, false≢true, forgotten_part, goes, gone}
-use Rattle.track9.proofs.Words.{gone_pairs, gone_part, gone_with, has, has-and, has-or, has_pair, HasEffect, if◌then◌else◌, IfSome, ignored, in_local, inl, InPart}
-use Rattle.track9.proofs.Words.{inr, InTwo, is_as_wanted, is_live, is_mode, is_mode-same, is_nak, LeadsOn, List, map_two, masked, masked_part, Mode, mode_self, modes, ModeSet}
-use Rattle.track9.proofs.Words.{no_states, None, nothing_has, Option, or-false, or-true, or_cases, Part, Presets, presets_after, put_settled}
-use Rattle.track9.proofs.Words.{refl, refused, RegAudioIn, RegAudioOut, RegIn, Register, RegistersSet, RegOut, reported_part, rules, Sense, sense_of, sensed_part, set_where, settled}
+use Rattle.track9.proofs.Words.{both, Change, changed_entries, changed_part, Command, cond_both, counted, Does, DoesOrNot, Drift, drift_from_pairs, drifted}
+use Rattle.track9.proofs.Words.{drifted_part, drifted_with, Effect, effect_of, Entries, entries_of, entry_of, false, false≢true, forgotten_part, goes, gone}
+use Rattle.track9.proofs.Words.{gone_pairs, gone_part, has, has-and, has-or, has_pair, HasEffect, if◌then◌else◌, IfSome, in_local, inl, InPart}
+use Rattle.track9.proofs.Words.{inr, InTwo, is_as_wanted, is_live, is_mode, is_mode-same, is_nak, LeadsOn, List, map_two, masked, masked_part, Mode, mode_self, ModeSet}
+use Rattle.track9.proofs.Words.{no_states, None, Option, or-true, or_cases, Part, Presets, presets_after, put_settled}
+use Rattle.track9.proofs.Words.{refl, refused, RegAudioIn, RegAudioOut, RegIn, Register, RegistersSet, RegOut, reported_part, Sense, sense_of, sensed_part, set_where, settled}
 use Rattle.track9.proofs.Words.{shown_with, ShowsStatus, Some, some_entry, some_mode, some_pair, some_two, State, Status, status_of, status_part, DeckStep, Stop, subst, sym, Taken, Tells, time_of, true}
 use Rattle.track9.proofs.Words.{two_changed, two_drifted, two_gone, two_sensed, two_status, TwoBelow, TwoFew, Halves, TwoWhole, where_live, Whole, with_command, with_entries, with_entry}
-use Rattle.track9.proofs.Words.{Next, Prev, Rate, Recall, Reset, SetAt, SetSomewhere, rate_in, rate_of, set_entries, untouched, with_pairs, ℕ, ◌&&◌, ◌==◌, ◌||◌, ◌↔◌, ◌∙◌, ◌≡◌, ◌⊎◌}
+use Rattle.track9.proofs.Words.{Rate, rate_in, rate_of, untouched, with_pairs, ℕ, ◌&&◌, ◌||◌, ◌↔◌, ◌∙◌, ◌≡◌, ◌⊎◌}
 use Rattle.deck9.specs.declared.effect.Effect.TheVariants as effect
-use Rattle.block9.specs.declared.command.Command.TheVariants as command
 use Rattle.deck9.specs.declared.sense.Sense.TheVariants as sense
 use Rattle.track9.proofs.EntryLemmas.{allowed_some, drifted_from, drifted_to, entry_from, entry_stays, entry_to, goes_from, goes_to, pair_by_goal, pairs_some}
 use Rattle.track9.proofs.EntryLemmas.{set_exactly, some_allowed, tells_exactly}
@@ -19,6 +18,7 @@ use Rattle.track9.proofs.PartLemmas.{a_state, all_exactly, any_entries, Below, d
 use Rattle.track9.proofs.PartLemmas.{few_changed_part, few_counted, few_no_states, few_pairs, few_put, few_set, few_settled, few_two, FewIn, in_none, in_pairs, mechanics}
 use Rattle.track9.proofs.PartLemmas.{not_live, pairs_registers, put, put_in, read_put, settled_exactly, take_out, two_live, two_state, whole_all, whole_drift, whole_in}
 use Rattle.track9.proofs.PartLemmas.{each_put, of_rate, OfRate, PartBelow, two_rate, whole_none, whole_pairs, whole_put, whole_settled, whole_two}
+use Rattle.std.proofs.Common.{arith}
 
 -- ---- part by part
 
@@ -35,8 +35,7 @@ pub record Keeps (Goes : State → State → Type 0) : Type 0 where
   pub panel : (s t : State) → Goes s t → t.panel ≡ s.panel
 
 mapped : (f : Bool → Part → Part) (h : Halves) (l : Bool) → in_local (map_two f h) l ≡ f l (in_local h l)
-mapped f h false = refl
-mapped f h true = refl
+mapped f h l = grind arith
 
 leads_by : (rate : Rate) (Goes : State → State → Type 0) (count : Presets → Presets) → Keeps Goes → (f : Bool → Part → Part) (h : Halves)
     → ((l : Bool) → PartLeads rate Goes count (in_local h l) (λ b. f b (in_local h l)))
@@ -109,14 +108,11 @@ drift_leads rate h whole = leads_by rate (Drift (untouched rate)) (λ n. n) (rec
 -- ---- a new goal
 
 gone_has : (goal : Mode) (p : List ModeSet) (g m : Mode) → has_pair (gone goal p) g m ≡ (is_mode g goal && has (goes p).0 m)
-gone_has goal p g m = pair_by_goal (gone_with goal p) g m ∙ (elim (is_mode g goal) as (λ b. has (if b then goes p else modes 0).0 m ≡ (b && has (goes p).0 m))
-    [ true ↦ refl | false ↦ nothing_has m ])
+gone_has goal p g m = grind arith
 
 goal_has : (may_stay : Bool) (goal : Mode) (p : List ModeSet) (g m : Mode)
     → has_pair (gone_pairs may_stay goal p) g m ≡ ((may_stay && has_pair p g m) || (is_mode g goal && has (goes p).0 m))
-goal_has false goal p g m = gone_has goal p g m
-goal_has true goal p g m = pair_by_goal (λ f. either (shown_with p f) (shown_with (gone goal p) f)) g m
-    ∙ has-or (shown_with p g).0 (shown_with (gone goal p) g).0 m ∙ ap (λ b. has_pair p g m || b) (gone_has goal p g m)
+goal_has may_stay goal p g m = grind (arith, gone_has, pair_by_goal, has-or)
 
 goal_goes : (may_stay : Bool) (goal : Mode) (p : List ModeSet) (m : Mode) → has (goes p).0 m ≡ true → has_pair (gone_pairs may_stay goal p) goal m ≡ true
 goal_goes b goal p m h = goal_has b goal p goal m ∙ rw (mode_self goal, h) (or-true (b && has_pair p goal m))
@@ -186,22 +182,10 @@ part_effect may_stay _ l p = p
 
 -- entries keep their rate
 changed_rate : (may_stay : Bool) (c : Change) (es : Entries) → (changed_entries may_stay c es).rate ≡ es.rate
-changed_rate false SetSomewhere es = refl
-changed_rate false (SetAt t) es = refl
-changed_rate false Next es = refl
-changed_rate false Prev es = refl
-changed_rate false Reset es = refl
-changed_rate false Recall es = refl
-changed_rate true SetSomewhere es = refl
-changed_rate true (SetAt t) es = refl
-changed_rate true Next es = refl
-changed_rate true Prev es = refl
-changed_rate true Reset es = refl
-changed_rate true Recall es = refl
+changed_rate may_stay c es = grind arith
 
 agreeing_rate : (o : Option ℕ) (es : Entries) → (agreeing o es).rate ≡ es.rate
-agreeing_rate None es = refl
-agreeing_rate (Some t) es = refl
+agreeing_rate o es = grind arith
 
 put_rate : (rate : Rate) (r : Register) (es : Entries) (p : Part) → OfRate rate p → es.rate ≡ (entries_of r p).rate → OfRate rate (with_entries r es p)
 put_rate rate r es p old same = each_put (λ q es. es.rate ≡ rate) r es p old (same ∙ old r)
@@ -214,8 +198,7 @@ is_by_part effect.ForgetAll = false
 is_by_part _ = true
 
 kept_few : (l : Bool) (n : Presets) (p : Part) → FewIn n p → FewIn n (kept_if l p)
-kept_few true n p few = few
-kept_few false n p few = few_settled n p few
+kept_few l n p few = grind (arith, few_settled)
 
 changed_whole : (rate : Rate) (may_stay : Bool) (r : Register) (c : Change) (p : Part) → Whole rate p → is_live p ≡ true → PartBelow p → (l : Bool)
     → Whole rate (kept_if l (changed_part (l || may_stay) r c p))
@@ -288,14 +271,7 @@ part_leads rate m _ p by whole live below = absurd (false≢true by)
 
 -- where nobody touches the panel no effect changes it, and none but the one that forgets all changes local
 pub does_keep : (rate : Rate) (may_stay : Bool) (e : Effect) (s t : State) → DoesOrNot rate may_stay e s t → (t.panel ≡ s.panel) × ((e ≡ effect.ForgetAll) ⊎ (t.local ≡ s.local))
-does_keep rate m e s t (inr (may, local, d)) = (rw d, inr (rw d))
-does_keep rate m effect.KeepOrStop s t (inl (inl d)) = (rw d, inr (rw d))
-does_keep rate m effect.KeepOrStop s t (inl (inr d)) = (rw d, inr (rw d))
-does_keep rate m (effect.Change r c) s t (inl (e, becomes, d)) = (rw d (put r e s).panel, inr (rw d (put r e s).local))
-does_keep rate m effect.ForgetTape s t (inl d) = (d.2, inr d.1)
-does_keep rate m effect.ForgetRegisters s t (inl d) = (d.4, inr d.3)
-does_keep rate m effect.ForgetAll s t (inl d) = (d.1, inl refl)
-does_keep rate m _ s t (inl d) = (rw d, inr (rw d))
+does_keep rate may_stay e s t h = grind arith
 
 pub has_effect : (rate : Rate) (may_stay : Bool) (e : Effect) (h : Halves) → is_by_part e ≡ true → TwoWhole rate h → ((l : Bool) → Below e (in_local h l))
     → HasEffect rate may_stay e h (map_two (λ l. where_live (part_effect may_stay e l)) h)
@@ -330,34 +306,24 @@ drift_live f p same = rw (drift_some p.pairs) (elim (is_live p) as (λ b. drifte
 
 pub drift_two : (f : Bool → Part → Part) (h : Halves) → ((l : Bool) (p : Part) → drifted_part (f l p) ≡ f l (drifted_part p))
     → two_drifted (map_two (λ l. where_live (f l)) h) ≡ map_two (λ l. where_live (f l)) (two_drifted h)
-drift_two f h same = two_same (two_drifted (map_two (λ l. where_live (f l)) h)) (map_two (λ l. where_live (f l)) (two_drifted h))
-    (drift_live (f false) h.remote (same false h.remote)) (drift_live (f true) h.local (same true h.local))
+drift_two f h same = grind (arith, two_same, drift_live)
 
 -- what becomes of a register's entries is the same after a drift
 pub drift_put : (r : Register) (f : Entries → Entries) (p : Part) → drifted_part (with_entries r (f (entries_of r p)) p)
     ≡ with_entries r (f (entries_of r (drifted_part p))) (drifted_part p)
-drift_put RegIn f p = refl
-drift_put _ f p = refl
+drift_put r f p = grind arith
 
 drift_settled : (p : Part) → drifted_part (settled p) ≡ settled (drifted_part p)
 drift_settled p = rw (drift_some p.pairs) (elim (is_live p && some_entry p.ins && some_entry p.outs && some_entry p.ains && some_entry p.aouts)
     as (λ b. drifted_part (if b then p else no_states (rate_of p)) ≡ (if b then drifted_part p else no_states (rate_of p))) [ true ↦ refl | false ↦ refl ])
 
 drift_kept : (l : Bool) (p : Part) → drifted_part (kept_if l p) ≡ kept_if l (drifted_part p)
-drift_kept true p = refl
-drift_kept false p = drift_settled p
+drift_kept l p = grind (arith, drift_settled)
 
 -- what is made aside where there is a state, and then put in place
 changed_is : (may_stay : Bool) (r : Register) (c : Change) (h : Halves)
     → two_changed may_stay r c h ≡ map_two (λ l. where_live (part_effect may_stay (effect.Change r c) l)) h
-changed_is m r c h = two_same (two_changed m r c h) (map_two (λ l. where_live (part_effect m (effect.Change r c) l)) h) (by (is_live h.remote)) refl
-  where
-    es : Entries
-    es = changed_entries m c (entries_of r h.remote)
-
-    by : (b : Bool) → put_settled r (if b then Some es else None) h.remote ≡ (if b then settled (with_entries r es h.remote) else h.remote)
-    by true = refl
-    by false = refl
+changed_is may_stay r c h = grind arith
 
 -- what becomes of the registers, and then a drift
 pub after_effect : (rate : Rate) (may_stay : Bool) (e : Effect) (h : Halves) → is_by_part e ≡ true
@@ -380,8 +346,7 @@ after_all rate m h whole = subst (HasEffect rate m effect.ForgetAll (two_drifted
     same = ap (λ b. b || is_live (drifted_part h.local)) (drift_some h.remote.pairs) ∙ ap (λ b. is_live h.remote || b) (drift_some h.local.pairs)
 
     by : (b : Bool) → two_drifted (if b then all_or_none (rate_in h) true else h) ≡ (if b then all_or_none (rate_in h) true else two_drifted h)
-    by true = refl
-    by false = refl
+    by b = grind arith
 
 -- ---- one after another
 
@@ -442,11 +407,7 @@ pub masked_has : (mask : ModeSet) (p : List ModeSet) (g m : Mode) → has_pair (
 masked_has mask p g m = pair_by_goal (λ f. both (shown_with p f) mask) g m ∙ has-and (shown_with p g).0 mask.0 m
 
 local_exactly : (o : Option Bool) (local : Bool) → (is_as_wanted o local ≡ true) ↔ IfSome o (λ b. local ≡ b)
-local_exactly None local = (λ e. tt, λ e. refl)
-local_exactly (Some true) true = (λ e. refl, λ e. refl)
-local_exactly (Some false) false = (λ e. refl, λ e. refl)
-local_exactly (Some true) false = (λ e. e, λ e. e)
-local_exactly (Some false) true = (λ e. sym e, λ e. sym e)
+local_exactly o local = grind arith
 
 -- exactly the states that show a reported mode
 masked_exactly : (o : Option ModeSet) (p : Part) (t : State) → InPart (masked_part o p) t ↔ (InPart p t × IfSome o (λ modes. has modes.0 t.shown ≡ true))
@@ -488,25 +449,18 @@ status_exactly status p t = let q = masked_part status.shown p in (
       ((masked_exactly status.shown p t).1 (i, h.shown), h.registers))),
 )
 
-set_rate : (b : Bool) (es : Entries) → (set_entries b es).rate ≡ es.rate
-set_rate true es = refl
-set_rate false es = refl
-
 masked_rate : (rate : Rate) (o : Option ModeSet) (p : Part) → OfRate rate p → OfRate rate (masked_part o p)
 masked_rate rate None p same = same
 masked_rate rate (Some mask) p same = each_register _ (same RegIn) (same RegOut) (same RegAudioIn) (same RegAudioOut)
 
 where_rate : (rate : Rate) (o : Option RegistersSet) (p : Part) → OfRate rate p → OfRate rate (set_where o p)
-where_rate rate None p same = same
-where_rate rate (Some set) p same = each_register _ (set_rate set.ins p.ins ∙ same RegIn) (set_rate set.outs p.outs ∙ same RegOut)
-    (set_rate set.ains p.ains ∙ same RegAudioIn) (set_rate set.aouts p.aouts ∙ same RegAudioOut)
+where_rate rate o p same = grind arith
 
 reported_rate : (rate : Rate) (status : Status) (p : Part) → OfRate rate p → OfRate rate (set_where status.registers (masked_part status.shown p))
 reported_rate rate status p same = where_rate rate status.registers (masked_part status.shown p) (masked_rate rate status.shown p same)
 
 few_masked : (n : Presets) (o : Option ModeSet) (p : Part) → FewIn n p → FewIn n (masked_part o p)
-few_masked n None p few = few
-few_masked n (Some mask) p few = few_pairs n _ p few
+few_masked n o p few = grind arith
 
 few_where : (n : Presets) (o : Option RegistersSet) (p : Part) → FewIn n p → FewIn n (set_where o p)
 few_where n None p few = few
@@ -526,14 +480,11 @@ reads_status rate status h whole = reads rate (λ s. ShowsStatus s status) (λ l
 
 -- a command that asks for something of the state has no effect
 pub asks_or_acts : (c : Command) → (sense_of c ≡ sense.Nothing) ⊎ (effect_of c ≡ effect.Nothing)
-asks_or_acts command.InDataSense = inr refl
-asks_or_acts _ = search rules
+asks_or_acts c = grind arith
 
 -- the presets are those of the effect
 pub command_counts : (c : Command) (n : Presets) → with_command c n ≡ counted (effect_of c) n
-command_counts (command.Unlisted group) n = let P : Effect → Type 0 = λ e. n ≡ counted e n in cond_both (group == 2) effect.ForgetTape _ P (λ e. refl) (λ e.
-    cond_both (group == 4) effect.ForgetRegisters _ P (λ e. refl) (λ e. cond_both (group == 6) effect.Nothing effect.ForgetAll P (λ e. refl) (λ e. refl)))
-command_counts _ n = refl
+command_counts c n = grind arith
 
 pub presets_of : (c : Command) (reply : Block) (n : Presets) → is_nak reply ≡ false → presets_after c reply true n ≡ counted (effect_of c) n
 presets_of c reply n nak = rw nak (command_counts c n)
@@ -552,19 +503,12 @@ exchanged_nak rate c reply h nak whole = exchanged_by rate c reply (λ s t. t �
     (λ n. rw nak refl) (leads_same rate (two_drifted h) (drift_whole rate h whole))
   where
     back : (s t : State) → DeckStep (untouched rate) c reply s t → t ≡ s
-    back s t (refused was e) = e
-    back s t (done was shows does) = absurd (false≢true (sym was ∙ nak))
-    back s t (ignored was shows may local e) = e
+    back s t h = grind arith
 
 -- a step of a command that asks for something is what its reply shows
 asks : (rate : Rate) (c : Command) (reply : Block) (q : Sense) → is_nak reply ≡ false → sense_of c ≡ q → effect_of c ≡ effect.Nothing → (s t : State)
     → (Agrees rate q s reply × (t ≡ s)) ↔ DeckStep (untouched rate) c reply s t
-asks rate c reply q nak sensed none s t = (λ w. done nak (rw sensed w.0) (rw none w.1), back)
-  where
-    back : DeckStep (untouched rate) c reply s t → Agrees rate q s reply × (t ≡ s)
-    back (refused was e) = absurd (false≢true (sym nak ∙ was))
-    back (done was shows does) = (rw sensed at shows, rw none at does)
-    back (ignored was shows may local e) = (rw sensed at shows, e)
+asks rate c reply q nak sensed none s t = grind arith
 
 drift_sensed : (r : Register) (time : Option ℕ) (h : Halves)
     → two_drifted (two_sensed r time h) ≡ map_two (λ l. where_live (sensed_part r time)) (two_drifted h)
@@ -574,8 +518,7 @@ drift_sensed r time h = ap two_drifted (two_same _ (map_two (λ l. where_live (s
     ∙ ap settled (drift_put r (agreeing time) p))
   where
     by : (p : Part) (b : Bool) → put_settled r (if b then Some (agreeing time (entries_of r p)) else None) p ≡ (if b then sensed_part r time p else p)
-    by p true = refl
-    by p false = refl
+    by p b = grind arith
 
 pub exchanged_sense : (rate : Rate) (c : Command) (reply : Block) (r : Register) (h : Halves) → is_nak reply ≡ false → sense_of c ≡ sense.Register r → TwoWhole rate h
     → Taken rate c (Some reply) h (two_drifted (two_sensed r (time_of rate reply.bytes.items) h))
@@ -606,10 +549,7 @@ exchanged_effect rate c reply h g nak sensed whole =
     exchanged_by rate c reply (DoesOrNot rate false (effect_of c)) (counted (effect_of c)) h g whole (λ s t. (there s t, back s t)) (λ n. presets_of c reply n nak)
   where
     there : (s t : State) → DoesOrNot rate false (effect_of c) s t → DeckStep (untouched rate) c reply s t
-    there s t (inl does) = done nak (rw sensed tt) does
-    there s t (inr (may, stays, e)) = ignored nak (rw sensed tt) may (sym (or-false s.local) ∙ stays) e
+    there s t h = grind arith
 
     back : (s t : State) → DeckStep (untouched rate) c reply s t → DoesOrNot rate false (effect_of c) s t
-    back s t (refused was e) = absurd (false≢true (sym nak ∙ was))
-    back s t (done was shows does) = inl does
-    back s t (ignored was shows may local e) = inr (may, or-false s.local ∙ local, e)
+    back s t h = grind arith

@@ -1,11 +1,11 @@
 -- Single things that a tracker keeps: sets of modes, one bit at a time; a drift of pairs of goal and shown mode; and
 -- what becomes of a set of entries, one entry at a time.
-use Rattle.track9.proofs.Words.{[], agreeing, Allows, and-false, and-true, and_parts, any_mode, ap, arith, At, Becomes, BelowDay, bit_of, Bool}
+use Rattle.track9.proofs.Words.{[], agreeing, Allows, and_parts, any_mode, ap, arith, At, Becomes, BelowDay, bit_of, Bool}
 use Rattle.track9.proofs.Words.{just_of, nat_lt, Rate, with_time, both_ways, by_goal, Change, changed_entries, Clear, cond_both, contains-every_time, contains-insert_nat, contains-items_nat, contains-just, day}
-use Rattle.track9.proofs.Words.{drifted_with, Entries, Entry, eqb, eqb-true, every_mode, every_time, false, false_from_ne_true, false≢true, find_mode, goal_if_shown, goals_of, goes, halted}
+use Rattle.track9.proofs.Words.{drifted_with, Entries, Entry, eqb-true, every_mode, every_time, false, false_from_ne_true, false≢true, find_mode, goal_if_shown, goals_of, goes, halted}
 use Rattle.track9.proofs.Words.{has, has-or, has_pair, if◌then◌else◌, image_from, image_to, inl, inr, is_mode, is_mode-same, is_nil, is_one_of, is_set, is_some, just, just_has}
 use Rattle.track9.proofs.Words.{kept_goal, List, list_any, ltb-true, Mode, mode_self, mode_some, modes, ModeSet, nat_cmp, nat_cmp_total, nat_eq, nat_tests, Next}
-use Rattle.track9.proofs.Words.{next_frame, no_entries, None, not, not-true, nothing_has, of_modes_has, on_the_way, Option, or-false, or-true, or_assoc, or_cases, or_left}
+use Rattle.track9.proofs.Words.{next_frame, no_entries, None, not, not-true, of_modes_has, on_the_way, Option, or-false, or-true, or_assoc, or_cases, or_left}
 use Rattle.track9.proofs.Words.{or_right, PairReaches, Prev, prev_frame, read_given, Recall, refl, Reset, same_test, same_times, set_entries, SetAt, SetSomewhere}
 use Rattle.track9.proofs.Words.{shown_with, Some, some_entry, some_mode, some_pair, Stop, subst, sym, Tells, time_of, given_reads, Times, true, true_from_ne_false, ℕ}
 use Rattle.track9.proofs.Words.{◌&&◌, ◌<◌, ◌||◌, ◌↔◌, ◌∙◌, ◌∷◌, ◌≡◌, ◌⊎◌}
@@ -13,15 +13,13 @@ use Rattle.std.specs.FinSet as set
 
 -- what is wanted of every mode is wanted of this one
 pub has_every : (wanted : Mode → Bool) (m : Mode) → list_any (λ x. is_mode m x && wanted x) every_mode ≡ wanted m
-has_every wanted Stop = or-false (wanted Stop)
-has_every wanted m = or-false (wanted m)
+has_every wanted m = grind arith
 
 -- ---- pairs
 
 -- the modes that are shown with a goal, of pairs that are given by goal
 pub pair_by_goal : (f : Mode → ModeSet) (g m : Mode) → has_pair (by_goal f) g m ≡ has (f g).0 m
-pair_by_goal f Stop m = refl
-pair_by_goal f _ m = refl
+pair_by_goal f g m = grind arith
 
 -- a mode may be shown where it is shown with some goal
 goes_any : (p : List ModeSet) (m : Mode) → has (goes p).0 m ≡ list_any (λ g. has_pair p g m) every_mode
@@ -37,8 +35,7 @@ pub pairs_some : (p : List ModeSet) (g m : Mode) → has_pair p g m ≡ true →
 pairs_some p g m h = mode_some (goes p) m (goes_to p g m h)
 
 if_has : (b : Bool) (f m : Mode) → has (if b then modes (bit_of f) else modes 0).0 m ≡ (is_mode m f && b)
-if_has true f m = just_has f m ∙ sym (and-true (is_mode m f))
-if_has false f m = nothing_has m ∙ sym (and-false (is_mode m f))
+if_has b f m = grind arith
 
 -- a goal is one of all where some mode is shown with it
 pub goals_has : (p : List ModeSet) (g : Mode) → has (goals_of p).0 g ≡ is_some (shown_with p g)
@@ -47,8 +44,7 @@ goals_has p g = goes_any (by_goal (goal_if_shown p)) g ∙ simp if_has (has_ever
 -- ---- a drift
 
 kept_has : (b : Bool) (s : ModeSet) (g m : Mode) → has (kept_goal b s g).0 m ≡ (has s.0 m || (b && (is_mode m g || is_one_of (on_the_way g) m)))
-kept_has false s g m = sym (or-false (has s.0 m))
-kept_has true s g m = simp (has-or, just_has, of_modes_has, or_assoc)
+kept_has b s g m = grind (arith, or-false, has-or, just_has, of_modes_has, or_assoc)
 
 -- a mode may be shown with a goal after a drift: as before; where a mode was shown with it, itself or on the way to it; or STOP with STOP
 pub drifted_has : (p : List ModeSet) (g m : Mode) → has (drifted_with p g).0 m
@@ -70,10 +66,7 @@ drifted_from p g m h = elim (or_cases _ _ (sym (drifted_has p g m) ∙ h)) [
 ]
 
 pub drifted_to : (p : List ModeSet) (f n g m : Mode) → has_pair p f n ≡ true → PairReaches f n g m → has (drifted_with p g).0 m ≡ true
-drifted_to p f n g m h (inl (same, inl stays)) = drifted_has p g m ∙ rw (same, stays, h) refl
-drifted_to p f n g m h (inl (same, inr (inl at_goal))) = drifted_has p g m ∙ rw (same, at_goal, mode_some (shown_with p f) n h, mode_self f, or-true) refl
-drifted_to p f n g m h (inl (same, inr (inr on_way))) = drifted_has p g m ∙ rw (same, mode_some (shown_with p f) n h, on_way) (simp or-true)
-drifted_to p f n g m h (inr (stop, shown)) = drifted_has p g m ∙ rw (stop, shown, pairs_some p f n h) (simp or-true)
+drifted_to p f n g m h given = grind (arith, drifted_has, mode_some, mode_self, or-true, pairs_some)
 
 pub in_day : (rate : Rate) (t : ℕ) → set.contains (every_time rate) t ≡ true → t < day rate
 in_day rate t h = ltb-true t (day rate) (sym (contains-every_time rate t) ∙ h)
@@ -90,22 +83,16 @@ just_is rate t f = cond_both (nat_lt t (day rate)) (just t) set.empty (λ s. set
     (λ low h. (grind (arith, nat_tests), eqb-true f t (sym (contains-just t f) ∙ h))) (λ high h. from_empty f h)
 
 pub just_self : (rate : Rate) (t : ℕ) → t < day rate → set.contains (just_of rate t) t ≡ true
-just_self rate t low = cond_both (nat_lt t (day rate)) (just t) set.empty (λ s. set.contains s t ≡ true)
-    (λ e. contains-just t t ∙ grind (arith, nat_tests)) (λ e. grind (arith, nat_tests))
+just_self rate t low = grind (arith, contains-just)
 
 with_from : (rate : Rate) (s : Times) (u t : ℕ) → set.contains (with_time rate s u) t ≡ true → ((u < day rate) × (t ≡ u)) ⊎ (set.contains s t ≡ true)
-with_from rate s u t = cond_both (nat_lt u (day rate)) (set.insert s u) s (λ w. set.contains w t ≡ true → ((u < day rate) × (t ≡ u)) ⊎ (set.contains s t ≡ true))
-    (λ low h. elim (or_cases (eqb t u) (set.contains s t) (sym (contains-insert_nat s u t) ∙ h))
-    [ inl e ↦ inl (grind (arith, nat_tests), eqb-true t u e) | inr e ↦ inr e ])
-    (λ high h. inr h)
+with_from rate s u t h = grind (arith, or_cases, contains-insert_nat, eqb-true)
 
 with_self : (rate : Rate) (s : Times) (t : ℕ) → t < day rate → set.contains (with_time rate s t) t ≡ true
-with_self rate s t low = cond_both (nat_lt t (day rate)) (set.insert s t) s (λ w. set.contains w t ≡ true)
-    (λ e. contains-insert_nat s t t ∙ grind (arith, nat_tests)) (λ e. grind (arith, nat_tests))
+with_self rate s t low = grind (arith, contains-insert_nat)
 
 with_old : (rate : Rate) (s : Times) (u t : ℕ) → set.contains s t ≡ true → set.contains (with_time rate s u) t ≡ true
-with_old rate s u t a = cond_both (nat_lt u (day rate)) (set.insert s u) s (λ w. set.contains w t ≡ true)
-    (λ low. contains-insert_nat s u t ∙ or_right (eqb t u) _ a) (λ high. a)
+with_old rate s u t a = grind (arith, contains-insert_nat, or_right)
 
 in_union : (s t : Times) (f : ℕ) → set.contains (set.union s t) f ≡ true → (set.contains s f ≡ true) ⊎ (set.contains t f ≡ true)
 in_union s t f h = or_cases (set.contains s f) (set.contains t f) (sym (set.contains-union nat_cmp_total s t f) ∙ h)
@@ -213,9 +200,7 @@ pub empty_nil : is_nil (set.items {R = nat_cmp} set.empty) ≡ true
 empty_nil = true_from_ne_false _ (λ e. let w = there_time set.empty e in from_empty w.0 w.1)
 
 pub some_by : (b : Bool) (es : Entries) → es.may_clear ≡ false → (b ≡ true → es.times ≡ set.empty) → (es.times ≡ set.empty → b ≡ true) → not b ≡ some_entry es
-some_by b es clear to from =
-    ap not (same_test b (is_nil (set.items es.times)) (λ e. ap (λ s. is_nil (set.items s)) (to e) ∙ empty_nil) (λ e. from (nil_empty es.times e)))
-    ∙ sym (ap (λ x. x || not (is_nil (set.items es.times))) clear)
+some_by b es clear to from = grind (arith, same_test, empty_nil, nil_empty)
 
 pub no_entry : (rate : Rate) → some_entry (no_entries rate) ≡ false
 no_entry rate = ap not empty_nil

@@ -1,13 +1,12 @@
 -- What is known of modes, of facts and of a register; and what a tracker keeps, remains and counts.
-use Rattle.track9.proofs.Words.{Allows, and_parts, ap, AreFew, AreTimes, AreWhole, arith, At, begin_count-empty, Block, Bool, Clear, Command, cond_both, contains-just}
+use Rattle.track9.proofs.Words.{Allows, and_parts, ap, AreFew, AreTimes, AreWhole, arith, At, begin_count-empty, Block, Bool, Clear, Command, contains-just}
 use Rattle.track9.proofs.Words.{contains-remove_nat, count_of, either, Entries, entries_of, Entry, entry_of, eqb, eqb-true, false, false_from_ne_true, false≢true, Follows}
-use Rattle.track9.proofs.Words.{Profile, profile_of, Rate, rate_for, rate_in, goals_in, goals_of, goes, Hands, has, has-or, has_pair, if◌then◌else◌, in_local, inl, InPart, inr, is_live, is_nak, is_nil, is_panel_live, is_set}
+use Rattle.track9.proofs.Words.{Profile, profile_of, Rate, rate_for, goals_in, goals_of, goes, has, has-or, has_pair, in_local, inl, InPart, inr, is_live, is_nil, is_panel_live, is_set}
 use Rattle.track9.proofs.Words.{is_some, IsKept, IsKnown, IsKnownEntry, IsSpanCount, IsTrue, join_options, joined, joined_known, just, Known, known_fact, KnownEntry, KnowsModes}
-use Rattle.track9.proofs.Words.{KnowsOf, List, max, max-zero, Mode, mode_some, ModeSet, nat_cmp, nat_tests, no_states, None, not, on_two, Option, part_of, PartKnows, Part}
-use Rattle.track9.proofs.Words.{Possible, Presets, presets_after, refl, RegIn, Register, same_test, same_times, shown_in, shown_with, Some, some_entry, some_mode, some_state}
-use Rattle.track9.proofs.Words.{some_two, span_count, span_count-begin_count, State, States, subst, sym, Times, true, true_from_ne_false, two_of, TwoKnow, Halves, TwoWhole}
-use Rattle.track9.proofs.Words.{Whole, with_command, with_entry, ℕ, ◌&&◌, ◌+◌, ◌==◌, ◌||◌, ◌↔◌, ◌∙◌, ◌≡◌, ◌≢◌, ◌≤◌, ◌⊎◌}
-use Rattle.deck9.specs.declared.knowledge.Known.TheVariants as known
+use Rattle.track9.proofs.Words.{KnowsOf, List, max, max-zero, Mode, mode_some, ModeSet, nat_cmp, nat_tests, None, not, on_two, Option, part_of, PartKnows, Part}
+use Rattle.track9.proofs.Words.{Possible, Presets, presets_after, refl, Register, same_test, same_times, shown_in, shown_with, Some, some_entry, some_mode, some_state}
+use Rattle.track9.proofs.Words.{some_two, span_count, span_count-begin_count, State, States, subst, sym, Times, true, two_of, TwoKnow, Halves, TwoWhole}
+use Rattle.track9.proofs.Words.{Whole, with_entry, ℕ, ◌+◌, ◌||◌, ◌↔◌, ◌∙◌, ◌≡◌, ◌≢◌, ◌≤◌, ◌⊎◌}
 use Rattle.std.specs.FinSet as set
 use Rattle.deck9.specs.declared.knowledge.KnownEntry.TheVariants as entry
 use Rattle.track9.proofs.EntryLemmas.{allowed_some, from_empty, goals_has, goes_from, goes_to, nil_empty, no_times, nothing_allowed, some_allowed, there_time}
@@ -74,9 +73,7 @@ modes_some v field set h whole live = let w = live_some (rate_for v) v whole liv
 
 -- what is known of a mode of all states, by the set of these modes
 pub modes_known : (X : State → Type 0) (field : State → Mode) (set : ModeSet) (k : Known Mode) → HasModes X field set → KnowsModes set k → IsKnown X field k
-modes_known X field set (known.Is m) has h = λ s i. h (field s) (has.there s i)
-modes_known X field set known.Unknown has h =
-    let a = has.back h.0 h.2 in let b = has.back h.1 h.3 in (a.0, b.0, a.1, b.1, λ e. h.4 (sym a.2 ∙ e ∙ b.2))
+modes_known X field set k has h = grind arith
 
 -- ---- facts
 
@@ -84,14 +81,7 @@ modes_known X field set known.Unknown has h =
 fact_known : (X : State → Type 0) (field : State → Bool) (is_there : Bool → Bool) → ((s : State) → X s → is_there (field s) ≡ true)
     → ((b : Bool) → is_there b ≡ true → (s : State) × X s × (field s ≡ b)) → ((s : State) × X s)
     → IsKnown X field (known_fact (is_there false) (is_there true))
-fact_known X field is_there there back some = by (is_there false) (is_there true) refl refl
-  where
-    by : (a b : Bool) → is_there false ≡ a → is_there true ≡ b → IsKnown X field (known_fact a b)
-    by true true p q = let a = back false p in let b = back true q in (a.0, b.0, a.1, b.1, λ e. false≢true (sym a.2 ∙ e ∙ b.2))
-    by true false p q = λ t i. false_from_ne_true (field t) (λ e. false≢true (sym q ∙ subst (λ b. is_there b ≡ true) e (there t i)))
-    by false true p q = λ t i. true_from_ne_false (field t) (λ e. false≢true (sym p ∙ subst (λ b. is_there b ≡ true) e (there t i)))
-    by false false p q = absurd ((elim (field some.0) as (λ b. is_there b ≡ true → ⊥)
-        [ false ↦ λ h. false≢true (sym p ∙ h) | true ↦ λ h. false≢true (sym q ∙ h) ]) (there some.0 some.1))
+fact_known X field is_there there back some = grind arith
 
 -- the part of a state is live
 live_part : (v : States) (s : State) → Possible v s → is_live (part_of v s.local s.panel) ≡ true
@@ -125,8 +115,7 @@ knows_clear es none (At t) a = from_empty t (subst (λ s. set.contains s t ≡ t
 
 -- one time and not Clear
 pub knows_at : (es : Entries) (t : ℕ) → es.may_clear ≡ false → es.times ≡ just t → KnowsOf (Allows es) (entry.At t)
-knows_at es t clear one Clear a = absurd (false≢true (sym clear ∙ a))
-knows_at es t clear one (At u) a = ap At (eqb-true u t (sym (contains-just t u) ∙ subst (λ s. set.contains s u ≡ true) one a))
+knows_at es t clear one = grind (arith, false≢true, eqb-true, contains-just)
 
 -- ---- a time beside another
 
@@ -149,8 +138,7 @@ pub knows_set : (es : Entries) → es.may_clear ≡ false → some_entry es ≡ 
 knows_set es clear some not_one = (all, two (some_allowed es some))
   where
     all : (e : Entry) → Allows es e → is_set e ≡ true
-    all Clear a = absurd (false≢true (sym clear ∙ a))
-    all (At t) a = refl
+    all e a = grind arith
 
     two : (e : Entry) × Allows es e → (d e : Entry) × Allows es d × Allows es e × (d ≢ e)
     two (Clear, a) = absurd (false≢true (sym clear ∙ a))
@@ -169,51 +157,14 @@ Either E e = (b : Bool) × E b e
 -- what is true of the entries of both is true of those of either
 both_ways_hold : (E : Bool → Entry → Type 0) (P : Entry → Type 0) → ((e : Entry) → E false e → P e) → ((e : Entry) → E true e → P e) → (e : Entry) → Either E e
     → P e
-both_ways_hold E P h k e (false, a) = h e a
-both_ways_hold E P h k e (true, a) = k e a
+both_ways_hold E P h k e given = grind arith
 
 knows_same : (E F : Entry → Type 0) → ((e : Entry) → E e → F e) → ((e : Entry) → F e → E e) → (k : KnownEntry) → KnowsOf E k → KnowsOf F k
-knows_same E F there back entry.SetSomewhere h = (λ e f. h.0 e (back e f), (h.1.0, h.1.1, there h.1.0 h.1.2, there h.1.1 h.1.3, h.1.4))
-knows_same E F there back entry.Unknown h = (there Clear h.0, (h.1.0, there h.1.0 h.1.1, h.1.2))
-knows_same E F there back _ h = λ e f. h e (back e f)
-
--- an entry that is one of some, of which all are this one
-its : (E : Entry → Type 0) (f : Entry) → ((e : Entry) × E e) → ((e : Entry) → E e → e ≡ f) → E f
-its E f some all = subst E (all some.0 some.1) some.1
-
-knows_two : (E : Bool → Entry → Type 0) (t u : ℕ) → ((e : Entry) × E false e) → ((e : Entry) × E true e) → KnowsOf (E false) (entry.At t)
-    → KnowsOf (E true) (entry.At u)
-    → KnowsOf (Either E) (if t == u then entry.At t else entry.SetSomewhere)
-knows_two E t u some other h k = cond_both (t == u) (entry.At t) entry.SetSomewhere (KnowsOf (Either E))
-    (λ e. both_ways_hold E (λ f. f ≡ At t) h (λ f y. k f y ∙ ap At (sym (eqb-true t u e))))
-    (λ e. (
-      both_ways_hold E (λ f. is_set f ≡ true) (λ f x. ap is_set (h f x)) (λ f y. ap is_set (k f y)),
-      (
-        At t,
-        At u,
-        (false, its (E false) (At t) some h),
-        (true, its (E true) (At u) other k),
-        λ same. false≢true
-            (sym e ∙ same_eqb u t (sym (at_same t u same))),
-      ),
-    ))
+knows_same E F there back k h = grind arith
 
 knows_joined : (E : Bool → Entry → Type 0) (k l : KnownEntry) → ((e : Entry) × E false e) → ((e : Entry) × E true e) → KnowsOf (E false) k → KnowsOf (E true) l
     → KnowsOf (Either E) (joined_known k l)
-knows_joined E entry.Clear entry.Clear some other h k = both_ways_hold E (λ e. e ≡ Clear) h k
-knows_joined E (entry.At t) (entry.At u) some other h k = knows_two E t u some other h k
-knows_joined E entry.Unknown _ some other h k = ((false, h.0), (h.1.0, (false, h.1.1), h.1.2))
-knows_joined E _ entry.Unknown some other h k = ((true, k.0), (k.1.0, (true, k.1.1), k.1.2))
-knows_joined E entry.Clear (entry.At u) some other h k = ((false, its (E false) Clear some h), (other.0, (true, other.1), ap is_set (k other.0 other.1)))
-knows_joined E entry.Clear entry.SetSomewhere some other h k = ((false, its (E false) Clear some h), (other.0, (true, other.1), k.0 other.0 other.1))
-knows_joined E (entry.At t) entry.Clear some other h k = ((true, its (E true) Clear other k), (some.0, (false, some.1), ap is_set (h some.0 some.1)))
-knows_joined E entry.SetSomewhere entry.Clear some other h k = ((true, its (E true) Clear other k), (some.0, (false, some.1), h.0 some.0 some.1))
-knows_joined E (entry.At t) entry.SetSomewhere some other h k =
-    (both_ways_hold E (λ e. is_set e ≡ true) (λ e x. ap is_set (h e x)) k.0, (k.1.0, k.1.1, (true, k.1.2), (true, k.1.3), k.1.4))
-knows_joined E entry.SetSomewhere (entry.At u) some other h k =
-    (both_ways_hold E (λ e. is_set e ≡ true) h.0 (λ e y. ap is_set (k e y)), (h.1.0, h.1.1, (false, h.1.2), (false, h.1.3), h.1.4))
-knows_joined E entry.SetSomewhere entry.SetSomewhere some other h k =
-    (both_ways_hold E (λ e. is_set e ≡ true) h.0 k.0, (h.1.0, h.1.1, (false, h.1.2), (false, h.1.3), h.1.4))
+knows_joined E k l some other h given = grind arith
 
 -- what is known of entries, of which there may be none
 Knows : (Entry → Type 0) → Option KnownEntry → Type 0
@@ -265,10 +216,7 @@ part_of_entry v r l pn e all a =
 -- what is known of the entries of states is known of the states
 known_of : (X : State → Type 0) (r : Register) (E : Entry → Type 0) (k : KnownEntry) → ((s : State) → X s → E (entry_of r s))
     → ((e : Entry) → E e → (s : State) × X s × (entry_of r s ≡ e)) → KnowsOf E k → IsKnownEntry X r k
-known_of X r E entry.SetSomewhere there back h =
-    let a = back h.1.0 h.1.2 in let b = back h.1.1 h.1.3 in (λ s i. h.0 (entry_of r s) (there s i), (a.0, b.0, a.1, b.1, λ e. h.1.4 (sym a.2 ∙ e ∙ b.2)))
-known_of X r E entry.Unknown there back h = let a = back Clear h.0 in let b = back h.1.0 h.1.1 in (a.0, b.0, a.1, b.1, a.2, ap is_set b.2 ∙ h.1.2)
-known_of X r E _ there back h = λ s i. h (entry_of r s) (there s i)
+known_of X r E k there back h = grind arith
 
 pub entry_known : (v : States) (r : Register) (off on all : Option KnownEntry) (k : KnownEntry) → AreWhole (rate_for v) v → TwoKnow (two_of v false) r off
     → TwoKnow (two_of v true) r on → all ≡ join_options off on → all ≡ Some k
@@ -298,15 +246,7 @@ own_whole p w same whole = subst (λ rate. AreWhole rate w) (sym (ap (λ (p : Pr
 
 pub kept_after : (c : Command) (reply : Block) (v w : States) (p : Profile) (n : Presets) → IsKept n v → Follows p c (Some reply) v w
     → IsKept (presets_after c reply (some_state w) n) w
-kept_after c reply v w p n kept follows = record { whole = whole; few = by (some_state w) refl }
-  where
-    whole : AreWhole (rate_for w) w
-    whole = own_whole p w follows.profile follows.whole
-
-    by : (b : Bool) → some_state w ≡ b → AreFew (presets_after c reply b n) w
-    by true live = follows.few n kept.few
-    by false dead = let none : AreFew n w = dead_few n w whole dead in
-        elim (is_nak reply) as (λ nak. AreFew (if not nak && false then with_command c n else n) w) [ true ↦ none | false ↦ none ]
+kept_after c reply v w p n kept follows = grind (arith, own_whole, dead_few)
 
 -- ---- spans
 
@@ -338,9 +278,7 @@ span_count_is v r n whole e = record {
 }
   where
     each : (l pn : Bool) → spans_in v r l pn ≤ n
-    each false false = omega arith
-    each _ false = omega arith
-    each _ _ = omega arith
+    each l pn = grind arith
 
 none_left : (p : ℕ → Bool) → set.len (set.retain (set.empty {R = nat_cmp}) p) ≡ 0
 none_left p =
@@ -356,11 +294,7 @@ span_none = none_left _
 -- where there is nothing with the panel on
 pub spans_off : (h : Halves) (r : Register) → max (span_count (entries_of r h.remote).times) (span_count (entries_of r h.local).times)
     ≡ most_spans (panel_off h) r
-spans_off h r = sym (rw (dead r) (max-zero _))
-  where
-    dead : (r : Register) → span_count (entries_of r (no_states (rate_in h))).times ≡ 0
-    dead RegIn = span_none
-    dead _ = span_none
+spans_off h r = grind (arith, max-zero, span_none)
 
 pub spans_few : (v : States) (r : Register) (n : ℕ) (m : Presets) → AreFew m v → n ≡ most_spans v r → n ≤ count_of r m + 2
 spans_few v r n m few e =

@@ -5,5 +5,6 @@ pub mod KnownLemmas
 pub mod OneKnowledge
 pub mod PanelLemmas
 pub mod PartLemmas
+pub mod SenseLemmas
 pub mod StartLemmas
 pub mod Words

@@ -1,18 +1,19 @@
 -- All states: complete exchanges, and commands whose reply is not known, also where hands are allowed on the panel.
-use Rattle.track9.proofs.Words.{[], after_panel, all_drifted, all_or_none, AllLeadOn, Allows, ap, AreBelow, AreFew, AreReached, AreWhole, BelowDay, Block, Bool}
+use Rattle.track9.proofs.Words.{[], after_panel, all_drifted, all_or_none, AllLeadOn, ap, AreBelow, AreFew, AreReached, AreWhole, BelowDay, Block, Bool}
 use Rattle.track9.proofs.Words.{CanPass, Command, cond_both, counted, counts_after, Does, DoesOrNot, done, Drift, drift_from_pairs, DriftsAndGoes, Effect, effect_of, effect_taken, either_panel, entries_of}
 use Rattle.track9.proofs.Words.{false, false≢true, first_states, Follows, FollowsDrift, goes, Hands, hands_by, hands_of, has, HasEffect, if◌then◌else◌}
-use Rattle.track9.proofs.Words.{ignored, in_local, inl, InPart, inr, InTwo, is_nak, is_of_goal_or_register, is_panel_live, is_wide, IsIn, IsKept, IsState}
-use Rattle.track9.proofs.Words.{LeadsOn, None, on_two, Option, or-true, panel_passed, Possible, Presets, presets_after, read_panel, refl, refused, RegIn}
+use Rattle.track9.proofs.Words.{in_local, inl, InPart, inr, InTwo, is_nak, is_of_goal_or_register, is_panel_live, is_wide, IsIn, IsKept, IsState}
+use Rattle.track9.proofs.Words.{LeadsOn, None, on_two, Option, panel_passed, Possible, Presets, presets_after, refl, RegIn}
 use Rattle.track9.proofs.Words.{Register, sense_of, Some, some_state, State, States, DeckStep, subst, switched, sym, Taken, StepOrPass, true, two_drifted, two_of, TwoBelow, TwoFew, Halves}
 use Rattle.track9.proofs.Words.{Profile, profile_of, Rate, rate_for, rate_in, untouched, TwoWhole, with_command, ◌↔◌, ◌∙◌, ◌≡◌, ◌⊎◌}
 use Rattle.deck9.specs.declared.effect.Effect.TheVariants as effect
 use Rattle.deck9.specs.declared.sense.Sense.TheVariants as sense
 use Rattle.deck9.specs.declared.state.Hands.TheVariants as hands
-use Rattle.track9.proofs.EffectLemmas.{asks_or_acts, command_counts, does_keep, drift_leads, leads_as, leads_same, leads_then, presets_of}
+use Rattle.track9.proofs.EffectLemmas.{asks_or_acts, command_counts, drift_leads, leads_as, leads_same, leads_then, presets_of}
 use Rattle.track9.proofs.EntryLemmas.{from_empty}
 use Rattle.track9.proofs.PartLemmas.{all_exactly, both_few, by_panel, drift_below, drift_few, drift_panel, drift_state, drift_whole, few_two, first_exactly, live_some}
 use Rattle.track9.proofs.PartLemmas.{of_rate, off_drift, two_rate, whole_in, possible_state, same_drift, some_live, state_is, two_live, two_none, two_state, whole_two}
+use Rattle.std.proofs.Common.{arith}
 
 -- a deck of a rate whose panel somebody may touch
 abbrev pub touched : Rate → Profile
@@ -24,16 +25,11 @@ pub take_panel : (rate : Rate) (c : Command) (reply : Option Block) (s t : State
 take_panel rate c reply s t (d, drift, takes) = by reply takes ∙ drift_panel (untouched rate) s d drift
   where
     by : (reply : Option Block) → StepOrPass c reply (untouched rate) d t → t.panel ≡ d.panel
-    by None (inl same) = ap (λ (u : State). u.panel) same
-    by None (inr does) = (does_keep rate true (effect_of c) d t (inl does)).0
-    by (Some reply) (refused nak e) = rw e
-    by (Some reply) (ignored was shows may local e) = rw e
-    by (Some reply) (done was shows does) = (does_keep rate false (effect_of c) d t (inl does)).0
+    by reply h = grind arith
 
 -- then there is nothing with the panel on
 pub none_on : (o : Option Halves) → hands_by o ≡ hands.None → o ≡ None
-none_on None e = refl
-none_on (Some h) e = cc
+none_on o e = grind arith
 
 abbrev pub panel_off : Halves → States
 panel_off h = record { off = h; on = None }
@@ -69,21 +65,12 @@ pub record IsNarrow (rate : Rate) (Goes : Profile → State → State → Type 0
   pub same : (h k : Hands) (s t : State) → Goes (deck_of rate h) s t → Goes (deck_of rate k) s t
   pub panel : (s t : State) → DriftsAndGoes Goes (untouched rate) s t → t.panel ≡ s.panel
 
-does_same : (rate : Rate) (h k : Hands) (e : Effect) (s t : State) → is_wide e ≡ false → Does (deck_of rate h) e s t → Does (deck_of rate k) e s t
-does_same rate h k (effect.Panel on) s t narrow d = absurd (false≢true (sym narrow))
-does_same rate h k effect.ForgetAll s t narrow d = absurd (false≢true (sym narrow))
-does_same rate h k _ s t narrow d = d
-
 pub narrow_take : (rate : Rate) (c : Command) (reply : Option Block) → is_wide (effect_taken c reply) ≡ false → IsNarrow rate (StepOrPass c reply)
 narrow_take rate c reply narrow = record { same = λ h k s t. same h k s t reply narrow; panel = take_panel rate c reply }
   where
     same : (h k : Hands) (s t : State) (reply : Option Block) → is_wide (effect_taken c reply) ≡ false → StepOrPass c reply (deck_of rate h) s t
         → StepOrPass c reply (deck_of rate k) s t
-    same h k s t None narrow (inl e) = inl e
-    same h k s t None narrow (inr does) = inr (does_same rate h k (effect_of c) s t narrow does)
-    same h k s t (Some reply) narrow (refused nak e) = refused nak e
-    same h k s t (Some reply) narrow (ignored was shows may local e) = ignored was shows may local e
-    same h k s t (Some reply) narrow (done was shows does) = done was shows (does_same rate h k (effect_of c) s t (rw was at narrow) does)
+    same h k s t reply narrow given = grind arith
 
 -- a hand leads from a state with the panel on to any
 pub leads_both : (Goes : Profile → State → State → Type 0) (count : Presets → Presets) (v : States) (off on : Halves) → IsNarrow (rate_for v) Goes
@@ -141,20 +128,16 @@ wide_step rate c reply e was wide = (
 )
   where
     ok : (is_nak reply ≡ false) × (effect_of c ≡ e)
-    ok = cond_both (is_nak reply) effect.Nothing (effect_of c) (λ x. x ≡ e → (is_nak reply ≡ false) × (effect_of c ≡ e))
-        (λ nak was. absurd (false≢true (ap is_wide was ∙ wide))) (λ ok was. (ok, was)) was
+    ok = grind arith
 
     asks_nothing : sense_of c ≡ sense.Nothing
     asks_nothing = elim (asks_or_acts c) [ inl e ↦ e | inr none ↦ absurd (false≢true (ap is_wide (sym none ∙ ok.1) ∙ wide)) ]
 
     never_both : (e : Effect) → is_wide e ≡ true → is_of_goal_or_register e ≡ true → ⊥
-    never_both (effect.Panel on) wide may = cc
-    never_both _ wide may = cc
+    never_both e wide may = grind arith
 
     back : (d t : State) → DeckStep (touched rate) c reply d t → Does (touched rate) e d t
-    back d t (refused nak same) = absurd (false≢true (sym ok.0 ∙ nak))
-    back d t (done nak shows does) = subst (λ e. Does (touched rate) e d t) ok.1 does
-    back d t (ignored nak shows may local same) = absurd (never_both e wide (ap is_of_goal_or_register (sym ok.1) ∙ may))
+    back d t h = grind arith
 
 -- a drift alone
 all_drift : (v : States) → AreWhole (rate_for v) v → AreBelow v
@@ -169,8 +152,7 @@ all_drift v whole below = leads_both (λ p s t. t ≡ s) (λ n. n) v (two_drifte
     rate = rate_for v
 
     none_or_all : (b : Bool) → two_drifted (all_or_none rate b) ≡ all_or_none rate b
-    none_or_all true = refl
-    none_or_all false = refl
+    none_or_all b = grind arith
 
     stays : (h : Halves) → TwoWhole rate h → LeadsOn rate (DriftsAndGoes (λ p s t. t ≡ s) (untouched rate)) (λ n. n) h (two_drifted h)
     stays h whole = leads_then rate (Drift (untouched rate)) (λ s t. t ≡ s) (λ n. n) (λ n. n) h (two_drifted h) (two_drifted h) (drift_leads rate h whole)
@@ -191,24 +173,11 @@ follows_drift v whole below = let a = all_drift v whole below in record {
 
 -- a part does not tell the panel
 in_panel : (h : Halves) (t : State) (b : Bool) → InPart (in_local h t.local) t → InTwo b h (record t { panel = b })
-in_panel h t b i = (
-  refl,
-  record {
-    pair = i.pair;
-    registers =
-        λ r. subst (λ e. Allows (entries_of r (in_local h t.local)) e) (sym (read_panel r t b)) (i.registers r);
-  },
-)
+in_panel h t b i = grind arith
 
 -- with the other value of the panel there is none
 switched_exactly : (rate : Rate) (on : Bool) (h : Halves) (t : State) → Possible (switched rate on h) t ↔ InTwo on h t
-switched_exactly rate on h t = by on t.panel refl
-  where
-    by : (on pn : Bool) → t.panel ≡ pn → IsIn (if pn then (switched rate on h).on else Some (switched rate on h).off) t ↔ InTwo on h t
-    by false false e = (λ i. (e, i), λ i. i.1)
-    by true true e = (λ i. (e, i), λ i. i.1)
-    by false true e = (two_none rate t, λ i. absurd (false≢true (sym i.0 ∙ e)))
-    by true false e = (two_none rate t, λ i. absurd (false≢true (sym e ∙ i.0)))
+switched_exactly rate on h t = grind arith
 
 switched_keeps : (rate : Rate) (on : Bool) (h : Halves) → TwoWhole rate h → (profile_of (switched rate on h) ≡ touched rate) × AreWhole rate (switched rate on h)
     × ((n : Presets) → TwoFew n h → AreFew n (switched rate on h))
@@ -308,14 +277,7 @@ leads_forgotten Goes count v allowed whole there back counts = by (some_state v)
 -- ---- commands whose reply is not known
 
 passes_back : (rate : Rate) (e : Effect) (s t : State) → IsState rate s → (t ≡ s) ⊎ Does (untouched rate) e s t → DoesOrNot rate true e s t
-passes_back rate e s t valid (inr does) = inl does
-passes_back rate effect.Nothing s t valid (inl same) = inl same
-passes_back rate effect.KeepOrStop s t valid (inl same) = inl (inl same)
-passes_back rate (effect.Panel on) s t valid (inl same) = inl same
-passes_back rate effect.ForgetTape s t valid (inl same) = rw same (inl (valid, refl, refl))
-passes_back rate effect.ForgetRegisters s t valid (inl same) = rw same (inl (valid, refl, refl, refl, refl))
-passes_back rate effect.ForgetAll s t valid (inl same) = rw same (inl (valid, refl))
-passes_back rate _ s t valid (inl same) = inr (refl, or-true s.local, same)
+passes_back rate e s t valid h = grind arith
 
 -- a drift, and then nothing or the effect
 pub passed_effect : (rate : Rate) (c : Command) (h g : Halves) → TwoWhole rate h → TwoBelow h → HasEffect rate true (effect_of c) (two_drifted h) g

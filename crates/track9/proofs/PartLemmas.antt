@@ -1,56 +1,36 @@
 -- The states of a part: registers put in place, parts with and without states, what each factor keeps, how often times
 -- begin; and the states with one value of the panel, and all.
-use Rattle.track9.proofs.Words.{agreeing, all_entries, all_has, all_or_none, all_pairs, all_states, Allows, and_parts, ap, AreBelow, AreFew, AreReached, AreWhole, arith, At}
+use Rattle.track9.proofs.Words.{agreeing, all_entries, all_has, all_or_none, all_pairs, all_states, Allows, and_parts, ap, AreBelow, AreFew, AreReached, AreWhole, arith}
 use Rattle.track9.proofs.Words.{begin_count, begin_count-empty, begin_count-every_time, begin_count-insert, begin_count-just, begin_count-next, begin_count-prev}
-use Rattle.track9.proofs.Words.{begin_count-span_count, begin_count-widened_next, begin_count-widened_prev, BelowDay, Bool, Change, changed_entries, changed_part, Clear}
+use Rattle.track9.proofs.Words.{begin_count-span_count, begin_count-widened_next, begin_count-widened_prev, BelowDay, Bool, Change, changed_entries, changed_part}
 use Rattle.track9.proofs.Words.{cond_both, count_of, counted, Drift, drift_from_pairs, drifted, drifted_part, drifted_with, Effect, Entries, entries_of, Entry, entry_of, false}
-use Rattle.track9.proofs.Words.{false≢true, first_states, goes, Hands, has_pair, if◌then◌else◌, in_local, inl, InPart, inr, InTwo, is_live, IsEntry, IsFirst, IsIn, IsState, just}
-use Rattle.track9.proofs.Words.{KeepsRest, List, Mode, modes, ModeSet, Next, no_states, None, nothing_has, on_two, one_more, Option, or_cases, or_left, or_right, PairReaches}
+use Rattle.track9.proofs.Words.{false≢true, first_states, goes, Hands, has_pair, if◌then◌else◌, in_local, inl, InPart, inr, InTwo, is_live, IsEntry, IsFirst, IsIn, IsState}
+use Rattle.track9.proofs.Words.{KeepsRest, List, Mode, modes, ModeSet, Next, no_states, nothing_has, on_two, one_more, Option, or_cases, PairReaches}
 use Rattle.track9.proofs.Words.{pairs_from_drift, part_of, Part, Possible, Presets, Prev, refl, RegAudioIn, RegAudioOut, RegIn, Register, RegOut, Reset, same_entries, set_entries}
-use Rattle.track9.proofs.Words.{same_test, SetAt, settled, Some, some_entry, some_mode, some_pair, some_state, some_two, span_count-in_day, State, States, Stop, subst, sym}
+use Rattle.track9.proofs.Words.{same_test, SetAt, settled, Some, some_entry, some_mode, some_pair, some_state, some_two, span_count-in_day, State, States, subst, sym}
 use Rattle.track9.proofs.Words.{Times, true, two_drifted, two_of, TwoBelow, TwoFew, Halves, TwoWhole, Whole, with_entries, with_entry, with_one, with_pairs, ℕ, ◌&&◌, ◌+◌, ◌||◌}
-use Rattle.track9.proofs.Words.{day, first_on, just_of, MayBeOn, nat_lt, Profile, Rate, rate_for, rate_in, rate_of, untouched, with_time, ◌<◌, ◌↔◌, ◌∙◌, ◌≡◌, ◌≤◌}
-use Rattle.std.specs.FinSet as set
+use Rattle.track9.proofs.Words.{day, first_on, just_of, MayBeOn, Profile, Rate, rate_for, rate_in, rate_of, untouched, with_time, ◌↔◌, ◌∙◌, ◌≡◌, ◌≤◌}
 use Rattle.deck9.specs.declared.effect.Effect.TheVariants as effect
 use Rattle.deck9.specs.declared.state.Hands.TheVariants as hands
 use Rattle.std.proofs.Common.{◌/◌}
-use Rattle.tc25.specs.declared.rate.Rate.TheVariants.{Fps24, Fps25, Fps30, DropFrame}
 use Rattle.track9.proofs.EntryLemmas.{allowed_some, day_in, drifted_from, drifted_to, goes_from, in_day, no_entry, pair_by_goal, pairs_some, some_allowed}
 
 -- ---- registers
 
 -- register by register
 pub each_register : (P : Register → Type 0) → P RegIn → P RegOut → P RegAudioIn → P RegAudioOut → (r : Register) → P r
-each_register P a b c d RegIn = a
-each_register P a b c d RegOut = b
-each_register P a b c d RegAudioIn = c
-each_register P a b c d RegAudioOut = d
+each_register P a b c d r = grind arith
 
 -- what is true of each register's entries and of its entry, where one's are put in place of which it is true
 pub put_each : (P : Register → Entries → Entry → Type 0) (r : Register) (es : Entries) (p : Part) (e : Entry) (s : State)
     → ((q : Register) → P q (entries_of q p) (entry_of q s)) → P r es e
     → (q : Register) → P q (entries_of q (with_entries r es p)) (entry_of q (with_entry r e s))
-put_each P RegIn es p e s old new RegIn = new
-put_each P RegOut es p e s old new RegOut = new
-put_each P RegAudioIn es p e s old new RegAudioIn = new
-put_each P RegAudioOut es p e s old new RegAudioOut = new
-put_each P _ es p e s old new q = old q
+put_each P r es p e s old new q = grind arith
 
 -- entries alone, taken in this way
 pub each_put : (P : Register → Entries → Type 0) (r : Register) (es : Entries) (p : Part) → ((q : Register) → P q (entries_of q p)) → P r es → (q : Register)
     → P q (entries_of q (with_entries r es p))
-each_put P r es p old new =
-    put_each (λ q es e. P q es) r es p Clear (record {
-      goal = Stop;
-      shown = Stop;
-      ins = Clear;
-      outs = Clear;
-      ains = Clear;
-      aouts = Clear;
-      local = true;
-      panel =
-          true;
-    }) old new
+each_put P r es p old new q = grind arith
 
 -- a state with another entry of a register, in the part with entries of which it is one, and in the part as it was
 pub put_in : (r : Register) (es : Entries) (p : Part) (e : Entry) (s : State) → InPart p s → Allows es e → InPart (with_entries r es p) (with_entry r e s)
@@ -63,12 +43,10 @@ take_out RegIn es p e s i a = put_in RegIn p.ins (with_entries RegIn es p) e s i
 take_out r es p e s i a = put_in r (entries_of r p) (with_entries r es p) e s i a
 
 pub read_put : (r : Register) (es : Entries) (p : Part) → entries_of r (with_entries r es p) ≡ es
-read_put RegIn es p = refl
-read_put _ es p = refl
+read_put r es p = grind arith
 
 pub put_same : (r : Register) (p : Part) → with_entries r (entries_of r p) p ≡ p
-put_same RegIn p = refl
-put_same _ p = refl
+put_same r p = grind arith
 
 -- an entry that is put in place is there, and the rest stays
 pub record IsPut (r : Register) (e : Entry) (s : State) : Type 0 where
@@ -79,8 +57,7 @@ pub record IsPut (r : Register) (e : Entry) (s : State) : Type 0 where
   pub panel : (with_entry r e s).panel ≡ s.panel
 
 pub put : (r : Register) (e : Entry) (s : State) → IsPut r e s
-put RegIn e s = record { entry = refl; again = refl; own = refl; local = refl; panel = refl }
-put _ e s = record { entry = refl; again = refl; own = refl; local = refl; panel = refl }
+put r e s = grind arith
 
 -- the state with another pair, in the part with other pairs
 pub in_pairs : (p : Part) (q : List ModeSet) (t : State) (g m : Mode) → ((r : Register) → Allows (entries_of r p) (entry_of r t)) → has_pair q g m ≡ true
@@ -112,23 +89,11 @@ a_state rate p l pn whole live =
 -- ---- every state, and none
 
 pub entry_exactly : (rate : Rate) (e : Entry) → Allows (all_entries rate) e ↔ IsEntry rate e
-entry_exactly rate Clear = (λ h. tt, λ h. refl)
-entry_exactly rate (At t) = (in_day rate t, day_in rate t)
+entry_exactly rate e = grind (arith, in_day, day_in)
 
 -- those with these pairs, and all of them
 pub any_entries : (rate : Rate) (q : List ModeSet) (t : State) → InPart (with_pairs q (all_states rate)) t ↔ (IsState rate t × (has_pair q t.goal t.shown ≡ true))
-any_entries rate q t = (
-  λ i. let r = i.registers in (
-    each_register _ ((entry_exactly rate t.ins).0 (r RegIn)) ((entry_exactly rate t.outs).0 (r RegOut))
-        ((entry_exactly rate t.ains).0 (r RegAudioIn)) ((entry_exactly rate t.aouts).0 (r RegAudioOut)),
-    i.pair,
-  ),
-  λ (h, pair). record {
-    pair = pair;
-    registers = each_register _ ((entry_exactly rate t.ins).1 (h RegIn)) ((entry_exactly rate t.outs).1 (h RegOut))
-        ((entry_exactly rate t.ains).1 (h RegAudioIn)) ((entry_exactly rate t.aouts).1 (h RegAudioOut));
-  },
-)
+any_entries rate q t = grind (arith, entry_exactly)
 
 pub every_state : (rate : Rate) (t : State) → InPart (all_states rate) t ↔ IsState rate t
 every_state rate t = (
@@ -167,8 +132,7 @@ pub whole_pairs : (rate : Rate) (q : List ModeSet) (p : Part) → Whole rate p �
 whole_pairs rate q p old same = rw same (each_register _ (old RegIn) (old RegOut) (old RegAudioIn) (old RegAudioOut))
 
 pub whole_all : (rate : Rate) → Whole rate (all_states rate)
-whole_all rate RegIn = (refl, refl)
-whole_all rate _ = (refl, refl)
+whole_all rate = grind arith
 
 pub whole_none : (rate : Rate) → Whole rate (no_states rate)
 whole_none rate RegIn = (no_entry rate, refl)
@@ -208,12 +172,10 @@ whole_two rate true = record { remote = whole_all rate; local = whole_all rate }
 whole_two rate false = record { remote = whole_none rate; local = whole_none rate }
 
 pub one_rate : (rate : Rate) (b : Bool) → rate_in (all_or_none rate b) ≡ rate
-one_rate rate true = refl
-one_rate rate false = refl
+one_rate rate b = grind arith
 
 pub whole_in : (rate : Rate) (h : Halves) → TwoWhole rate h → (l : Bool) → Whole rate (in_local h l)
-whole_in rate h whole false = whole.remote
-whole_in rate h whole true = whole.local
+whole_in rate h whole l = grind arith
 
 -- the rate of what is whole
 pub two_rate : (rate : Rate) (h : Halves) → TwoWhole rate h → rate_in h ≡ rate
@@ -250,30 +212,23 @@ abbrev pub FewIn : Presets → Part → Type 0
 FewIn n p = (r : Register) → FewTimes (count_of r n) (entries_of r p)
 
 pub few_all_states : (rate : Rate) (n : Presets) → FewIn n (all_states rate)
-few_all_states rate n RegIn = omega (arith, begin_count-every_time rate)
-few_all_states rate n _ = omega (arith, begin_count-every_time rate)
+few_all_states rate n = grind (arith, begin_count-every_time)
 
 pub few_no_states : (rate : Rate) (n : Presets) → FewIn n (no_states rate)
-few_no_states rate n RegIn = omega (arith, begin_count-empty rate)
-few_no_states rate n _ = omega (arith, begin_count-empty rate)
+few_no_states rate n = grind (arith, begin_count-empty)
 
 -- one time of the day, and one more
 pub few_just : (rate : Rate) (t : ℕ) → begin_count rate (just_of rate t) ≤ 1
-few_just rate t = cond_both (nat_lt t (day rate)) (just t) set.empty (λ s. begin_count rate s ≤ 1) (λ e. begin_count-just rate t)
-    (λ e. omega (arith, begin_count-empty rate))
+few_just rate t = grind (arith, begin_count-just, begin_count-empty)
 
 few_with : (rate : Rate) (s : Times) (t : ℕ) → begin_count rate (with_time rate s t) ≤ begin_count rate s + 1
-few_with rate s t = cond_both (nat_lt t (day rate)) (set.insert s t) s (λ w. begin_count rate w ≤ begin_count rate s + 1)
-    (λ e. begin_count-insert rate s t) (λ e. omega arith)
+few_with rate s t = grind (arith, begin_count-insert)
 
 pub few_agreeing : (n : ℕ) (o : Option ℕ) (es : Entries) → FewTimes n (agreeing o es)
-few_agreeing n None es = omega (arith, begin_count-empty es.rate)
-few_agreeing n (Some t) es = cond_both (set.contains es.times t) (just_of es.rate t) set.empty (λ s. begin_count es.rate s ≤ n + 1)
-    (λ e. omega (arith, few_just es.rate t)) (λ e. omega (arith, begin_count-empty es.rate))
+few_agreeing n o es = grind (arith, begin_count-empty, few_just)
 
 pub few_set : (n : ℕ) (b : Bool) (es : Entries) → FewTimes n es → FewTimes n (set_entries b es)
-few_set n true es h = h
-few_set n false es h = omega (arith, begin_count-empty es.rate)
+few_set n b es h = grind (arith, begin_count-empty)
 
 -- the presets to a register after one more change
 abbrev pub counted_to : Change → ℕ → ℕ
@@ -281,10 +236,7 @@ counted_to (SetAt t) n = one_more n
 counted_to _ n = n
 
 half_day : (rate : Rate) → day rate / 2 ≤ 1296000
-half_day Fps24 = omega arith
-half_day Fps25 = omega arith
-half_day Fps30 = omega arith
-half_day DropFrame = omega arith
+half_day rate = grind arith
 
 -- a day has fewer beginnings than can be counted
 few_in_day : (rate : Rate) (s : Times) → BelowDay rate s → begin_count rate s ≤ 1296000
@@ -310,9 +262,7 @@ few_put n r es p old new = each_put (λ q es. FewTimes (count_of q n) es) r es p
 
 -- a change counts for its register, and no register loses by it
 count_more : (c : Change) (r : Register) (n : Presets) → count_of r (counted (effect.Change r c) n) ≡ counted_to c (count_of r n)
-count_more (SetAt t) RegIn n = refl
-count_more (SetAt t) _ n = refl
-count_more _ r n = refl
+count_more c r n = grind arith
 
 -- the times of each register are times of the day
 abbrev pub PartBelow : Part → Type 0
@@ -320,11 +270,7 @@ PartBelow p = (r : Register) → BelowDay (entries_of r p).rate (entries_of r p)
 
 -- one preset more
 few_one_more : (n : Presets) (r q : Register) (p : Part) → PartBelow p → FewIn n p → FewTimes (count_of q (with_one r n)) (entries_of q p)
-few_one_more n RegIn RegIn p below h = omega (arith, h RegIn, few_in_day p.ins.rate p.ins.times (below RegIn))
-few_one_more n RegOut RegOut p below h = omega (arith, h RegOut, few_in_day p.outs.rate p.outs.times (below RegOut))
-few_one_more n RegAudioIn RegAudioIn p below h = omega (arith, h RegAudioIn, few_in_day p.ains.rate p.ains.times (below RegAudioIn))
-few_one_more n RegAudioOut RegAudioOut p below h = omega (arith, h RegAudioOut, few_in_day p.aouts.rate p.aouts.times (below RegAudioOut))
-few_one_more n _ q p below h = h q
+few_one_more n r q p below h = grind (arith, few_in_day)
 
 -- what has to be known of the times of a part before an effect
 abbrev pub Below : Effect → Part → Type 0
@@ -332,15 +278,11 @@ Below (effect.Change r c) p = PartBelow p
 Below _ p = Unit {0}
 
 pub few_counted : (e : Effect) (n : Presets) (p : Part) → Below e p → FewIn n p → FewIn (counted e n) p
-few_counted (effect.Change r (SetAt t)) n p below h = λ q. few_one_more n r q p below h
-few_counted _ n p below h = h
+few_counted e n p below h = grind (arith, few_one_more)
 
 pub few_changed_part : (may_stay : Bool) (r : Register) (c : Change) (n : Presets) (p : Part) → PartBelow p
     → FewIn n p → FewIn (counted (effect.Change r c) n) (changed_part may_stay r c p)
-few_changed_part may_stay r c n p below h =
-    few_put (counted (effect.Change r c) n) r (changed_entries may_stay c (entries_of r p)) p (few_counted (effect.Change r c) n p below h)
-    (subst (λ k. FewTimes k (changed_entries may_stay c (entries_of r p))) (sym (count_more c r n))
-    (few_changed may_stay c (entries_of r p) (count_of r n) (below r) (h r)))
+few_changed_part may_stay r c n p below h = grind (arith, few_put, few_counted, count_more, few_changed)
 
 pub few_two : (rate : Rate) (n : Presets) (b : Bool) → TwoFew n (all_or_none rate b)
 few_two rate n true false = few_all_states rate n
@@ -349,8 +291,7 @@ few_two rate n false false = few_no_states rate n
 few_two rate n false true = few_no_states rate n
 
 pub both_few : (n : Presets) (v : States) → TwoFew n v.off → TwoFew n (on_two (rate_for v) v.on) → AreFew n v
-both_few n v off on false = off
-both_few n v off on true = on
+both_few n v off on = grind arith
 
 pub few_pairs : (n : Presets) (q : List ModeSet) (p : Part) → FewIn n p → FewIn n (with_pairs q p)
 few_pairs n q p h = each_register _ (h RegIn) (h RegOut) (h RegAudioIn) (h RegAudioOut)
@@ -385,12 +326,10 @@ possible_part v s false = (λ h. h, λ h. h)
 possible_part v s true = by v.on
   where
     by : (o : Option Halves) → IsIn o s ↔ InPart (in_local (on_two (rate_for v) o) s.local) s
-    by None = (λ h. absurd h, two_none (rate_for v) s)
-    by (Some g) = (λ h. h, λ h. h)
+    by o = grind arith
 
 pub possible : (v : States) (s : State) (l pn : Bool) → s.local ≡ l → s.panel ≡ pn → InPart (part_of v l pn) s → Possible v s
-possible v s l pn el ep h = (possible_part v s s.panel).1 (subst (λ b. InPart (part_of v b s.panel) s) (sym el)
-    (subst (λ b. InPart (part_of v l b) s) (sym ep) h))
+possible v s l pn el ep h = grind arith
 
 pub impossible : (v : States) (s : State) (l pn : Bool) → s.local ≡ l → s.panel ≡ pn → Possible v s → InPart (part_of v l pn) s
 impossible v s l pn el ep h = subst (λ b. InPart (part_of v b pn) s) el (subst (λ b. InPart (part_of v s.local b) s) ep ((possible_part v s s.panel).0 h))
@@ -418,8 +357,7 @@ by_panel Goes keeps v w off on = (
 -- ---- a drift
 
 entry_is : (rate : Rate) (es : Entries) (e : Entry) → es.rate ≡ rate → BelowDay es.rate es.times → Allows es e → IsEntry rate e
-entry_is rate es Clear same below a = tt
-entry_is rate es (At t) same below a = subst (λ other. t < day other) same (below t a)
+entry_is rate es e same below a = grind arith
 
 pub state_is : (rate : Rate) (p : Part) (s : State) → OfRate rate p → PartBelow p → InPart p s → IsState rate s
 state_is rate p s same below i = λ r. entry_is rate (entries_of r p) (entry_of r s) (same r) (below r) (i.registers r)
@@ -452,20 +390,13 @@ drift_state p s d valid drift = elim (pairs_from_drift p s d drift)
 
 -- a state of a set is one of the day
 pub possible_state : (rate : Rate) (v : States) (s : State) → AreWhole rate v → AreBelow v → Possible v s → IsState rate s
-possible_state rate v s whole below i =
-    state_is rate (part_of v s.local s.panel) s (of_rate rate (part_of v s.local s.panel) (part_whole rate v whole s.local s.panel))
-    (by s.panel s.local) (impossible v s s.local s.panel refl refl i)
-  where
-    by : (pn l : Bool) → PartBelow (part_of v l pn)
-    by false l = below.off l
-    by true l = below.on l
+possible_state rate v s whole below i = grind arith
 
 -- ---- both parts
 
 -- a fact holds on one of two ways exactly where it holds on some
 pub any_way : (f : Bool → Bool) (b : Bool) → f b ≡ true → (f false || f true) ≡ true
-any_way f false h = or_left _ _ h
-any_way f true h = or_right _ _ h
+any_way f b h = grind arith
 
 pub some_way : (f : Bool → Bool) → (f false || f true) ≡ true → (b : Bool) × (f b ≡ true)
 some_way f h = elim (or_cases _ _ h) [ inl a ↦ (false, a) | inr a ↦ (true, a) ]

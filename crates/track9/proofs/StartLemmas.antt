@@ -1,12 +1,10 @@
 -- The states that a deck may start from, where some fields are known: exactly those, and what a tracker of them keeps.
-use Rattle.track9.proofs.Words.{all_has, Allows, and_from, and_parts, ap, AreBelow, arith, At, begin_count-empty, begin_count-every_time, Bool, Clear}
+use Rattle.track9.proofs.Words.{Allows, and_from, and_parts, ap, AreBelow, arith, At, begin_count-empty, begin_count-every_time, Bool, Clear}
 use Rattle.track9.proofs.Words.{cond_both, entries_known, Entry, false, false≢true, has, has_pair, if◌then◌else◌, in_local, InPart, is_as_wanted, IsEntry, IsFirst, IsIn}
-use Rattle.track9.proofs.Words.{IsKept, IsState, just_mode, Mode, mode_just, modes, modes_known, ModeSet, no_states, None, nothing_has, Option, pairs_of, part_from, part_known}
+use Rattle.track9.proofs.Words.{IsKept, IsState, Mode, modes, modes_known, ModeSet, no_states, None, nothing_has, Option, pairs_of, part_from, part_known}
 use Rattle.track9.proofs.Words.{Possible, Presets, refl, RegAudioIn, RegAudioOut, RegIn, RegOut, shown_if, Some, Start, StartsFrom, State, states_from}
-use Rattle.track9.proofs.Words.{AreWhole, just_of, Rate, rate_for, settled, untouched, Stop, subst, sym, true, two_from, TwoFew, Whole, ℕ, Is, ◌&&◌, ◌↔◌, ◌∙◌, ◌≡◌}
-use Rattle.std.specs.FinSet as set
+use Rattle.track9.proofs.Words.{AreWhole, Rate, rate_for, settled, untouched, subst, sym, true, two_from, TwoFew, Whole, ℕ, Is, ◌&&◌, ◌↔◌, ◌∙◌, ◌≡◌}
 use Rattle.track9.proofs.KnownLemmas.{at_same}
-use Rattle.track9.proofs.BeforeLemmas.{same_facts}
 use Rattle.track9.proofs.EntryLemmas.{from_empty, just_is, just_self, pair_by_goal}
 use Rattle.track9.proofs.PartLemmas.{both_few, each_register, entry_exactly, few_just, few_no_states, few_settled, few_two, FewIn, FewTimes, in_none, of_rate, OfRate, possible, possible_state, settled_exactly, whole_none, whole_settled, whole_two}
 
@@ -14,12 +12,7 @@ use Rattle.track9.proofs.PartLemmas.{both_few, each_register, entry_exactly, few
 
 -- a mode is one of those that are known
 mode_exactly : (o : Option Mode) (m : Mode) → (has (modes_known o).0 m ≡ true) ↔ Is o m
-mode_exactly None m = (λ e. tt, λ w. all_has m)
-mode_exactly (Some g) m = (λ e. just_mode g m e, λ e. rw e (mode_just g))
-
-some_known : (o : Option Mode) → (m : Mode) × (has (modes_known o).0 m ≡ true)
-some_known None = (Stop, all_has Stop)
-some_known (Some m) = (m, mode_just m)
+mode_exactly o m = grind arith
 
 pairs_have : (goals shown : ModeSet) (g m : Mode) → has_pair (pairs_of goals shown) g m ≡ (has goals.0 g && has shown.0 m)
 pairs_have goals shown g m = pair_by_goal (shown_if goals shown) g m
@@ -34,24 +27,16 @@ entry_is_known rate (Some (At t)) Clear a = absurd (false≢true a)
 entry_is_known rate (Some (At t)) (At u) a = ap At (just_is rate t u a).1
 
 known_entry : (rate : Rate) (o : Option Entry) (e : Entry) → IsEntry rate e → Is o e → Allows (entries_known rate o) e
-known_entry rate None e valid w = (entry_exactly rate e).1 valid
-known_entry rate (Some Clear) e valid w = rw w refl
-known_entry rate (Some (At t)) (At u) valid w = subst (λ v. set.contains (just_of rate v) u ≡ true) (at_same u t w) (just_self rate u valid)
-known_entry rate (Some (At t)) Clear valid w = cc
+known_entry rate o e valid w = grind (arith, entry_exactly, at_same, just_self)
 
 few_known : (rate : Rate) (n : ℕ) (o : Option Entry) → FewTimes n (entries_known rate o)
-few_known rate n None = omega (arith, begin_count-every_time rate)
-few_known rate n (Some Clear) = omega (arith, begin_count-empty rate)
-few_known rate n (Some (At t)) = omega (arith, few_just rate t)
+few_known rate n o = grind (arith, begin_count-every_time, begin_count-empty, few_just)
 
 known_rate : (rate : Rate) (o : Option Entry) → (entries_known rate o).rate ≡ rate
-known_rate rate None = refl
-known_rate rate (Some Clear) = refl
-known_rate rate (Some (At t)) = refl
+known_rate rate o = grind arith
 
 local_exactly : (o : Option Bool) (b : Bool) → (is_as_wanted o b ≡ true) ↔ Is o b
-local_exactly None b = (λ e. tt, λ w. refl)
-local_exactly (Some a) b = same_facts b a
+local_exactly o b = grind arith
 
 -- ---- a part
 
@@ -71,13 +56,7 @@ part_starts rate k s local i =
     }
 
 starts_in : (rate : Rate) (k : Start) (s : State) → IsState rate s → StartsFrom k s → InPart (part_known rate k) s
-starts_in rate k s valid w = record {
-  pair = pairs_have (modes_known k.goal) (modes_known k.shown) s.goal s.shown
-      ∙ and_from (has (modes_known k.goal).0 s.goal) (has (modes_known k.shown).0 s.shown) ((mode_exactly k.goal s.goal).1 w.goal)
-      ((mode_exactly k.shown s.shown).1 w.shown);
-  registers = each_register _ (known_entry rate k.ins s.ins (valid RegIn) w.ins) (known_entry rate k.outs s.outs (valid RegOut) w.outs)
-      (known_entry rate k.ains s.ains (valid RegAudioIn) w.ains) (known_entry rate k.aouts s.aouts (valid RegAudioOut) w.aouts);
-}
+starts_in rate k s valid w = grind (arith, pairs_have, and_from, mode_exactly, known_entry)
 
 of_known : (rate : Rate) (k : Start) → OfRate rate (part_known rate k)
 of_known rate k = each_register _ (known_rate rate k.ins) (known_rate rate k.outs) (known_rate rate k.ains) (known_rate rate k.aouts)
@@ -88,8 +67,7 @@ few_part rate n k = each_register _ (few_known rate n.ins k.ins) (few_known rate
 -- ---- the parts with each value of local
 
 by_local : (rate : Rate) (k : Start) (l : Bool) → in_local (two_from rate k) l ≡ part_from rate k l
-by_local rate k false = refl
-by_local rate k true = refl
+by_local rate k l = grind arith
 
 whole_from : (rate : Rate) (k : Start) (l : Bool) → Whole rate (part_from rate k l)
 whole_from rate k l = cond_both (is_as_wanted k.local l) (settled (part_known rate k)) (no_states rate) (Whole rate)

@@ -1,6 +1,6 @@
 //! Sets of entries of one register.
-ghost use Rattle.std.specs.Prelude.{◌≡◌, ◌↔◌, IfNone, IfOk, IfSome, IsTrue, OnErr, OnOk, true};
-ghost use Rattle.sets25.specs.Times.{BelowDay, span_count};
+ghost use Rattle.std.specs.Prelude.{◌≡◌, ◌↔◌, IfNone, IfOk, IfSome, IsTrue, OnErr, OnOk, Some, true, ℕ};
+ghost use Rattle.sets25.specs.Times.{BelowDay, just, span_count};
 ghost use Rattle.track9.specs.Tracker.{Allows};
 ghost use Rattle.track9.specs.Working.Pattern.{Is};
 ghost use Rattle.track9.specs.Working.Knowing.{KnowsOf};
@@ -228,6 +228,13 @@ impl<S: TimeSet> Entries<S> {
         let mut copy = self.copy()?;
         copy.widen(alloc, change)?;
         Ok(copy)
+    }
+
+    /// Whether the time that was read is the only one among them.
+    pub(crate) fn has_only(&self, time: &Option<TimeCode>) -> bool
+        ensures { IsTrue result ↔ ((t : ℕ) × (time.now ≡ Some t) × (self.now.times ≡ just t)) }
+    {
+        time.is_some() && self.times.only() == *time
     }
 
     /// The entries that agree with a time that was read, in a set of its own: None where it was not valid,

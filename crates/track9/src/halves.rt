@@ -9,7 +9,7 @@ ghost use Rattle.std.specs.Prelude.{◌≡◌, IfOk, OnErr, OnOk, false, max};
 ghost use Rattle.sets25.specs.Times.{BelowDay, span_count};
 ghost use Rattle.track9.specs.Tracker.{entries_of, in_local};
 ghost use Rattle.track9.specs.Working.Starts.{part_from, two_from};
-ghost use Rattle.track9.specs.Working.States.{TwoBelow, all_forgotten, all_or_none, rate_in, registers_forgotten, some_two, tape_forgotten, two_changed, two_drifted, two_gone, two_sensed, two_status};
+ghost use Rattle.track9.specs.Working.States.{TwoBelow, TwoWhole, all_forgotten, all_or_none, rate_in, registers_forgotten, some_two, tape_forgotten, two_changed, two_drifted, two_gone, two_sensed, two_status};
 
 use crate::part::Part;
 use crate::pattern::is_wanted;
@@ -124,6 +124,7 @@ impl<S: TimeSet> Halves<S> {
 
     /// A drift of the mechanics, and then the deck is commanded to a mode; a deck in LOCAL may leave it, and so may any where
     /// `may_stay`. It answers whether there is a state.
+    #[inline(always)] // many commands are of the transport
     fn drift_and_go(&mut self, may_stay: bool, goal: Mode) -> bool
         ensures gone { self.new ≡ two_gone may_stay goal (two_drifted self.old) }
         ensures some { result ≡ some_two self.new }
@@ -159,6 +160,7 @@ impl<S: TimeSet> Halves<S> {
         register: Register,
         time: &Option<TimeCode>,
     ) -> Result<(), AllocError>
+        requires { TwoWhole (rate_in self.old) self.old }
         ensures ok { OnOk result (self.new ≡ two_sensed register time.now self.old) }
         ensures err { OnErr result (self.new ≡ self.old) }
     {

@@ -230,19 +230,25 @@ impl<S: TimeSet> Part<S> {
     }
 
     /// The entries of a register that agree with a time that was read, in a set of their own: None where there
-    /// is no state.
+    /// is no state, and where they all agree, as where an editor asks again and again.
     pub(crate) fn sense_aside(
         &self,
         alloc: Global,
         register: Register,
         time: &Option<TimeCode>,
     ) -> Result<Option<Entries<S>>, AllocError>
-        ensures { IfOk result (λ o. o ≡ aside self.now (agreeing time.now (entries_of register self.now))) }
+        requires { (rate : ARate) × Whole rate self.now }
+        ensures { IfOk result (λ o. put_settled register o self.now ≡ put_settled register (aside self.now (agreeing time.now (entries_of register self.now))) self.now) }
     {
+        self.below_day();
         if !self.is_live() {
             return Ok(None);
         }
-        Ok(Some(self.entries(register).agreeing(alloc, time)?))
+        let entries = self.entries(register);
+        if entries.has_only(time) {
+            return Ok(None);
+        }
+        Ok(Some(entries.agreeing(alloc, time)?))
     }
 
     /// Every state, where there is one.

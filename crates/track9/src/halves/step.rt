@@ -36,6 +36,7 @@ impl<S: TimeSet> Halves<S> {
     }
 
     /// The states after a command whose reply is known. It answers whether there is one.
+    #[inline(always)] // each exchange comes here
     fn exchange(
         &mut self,
         alloc: Global,
@@ -73,6 +74,7 @@ impl<S: TimeSet> Halves<S> {
     /// The states after a register's time was read, and a drift. It answers whether there is one.
     #[inline(never)] // so that an exchange that takes no memory needs no room on the stack
     fn read(&mut self, alloc: Global, register: Register, reply: &Block) -> Result<bool, AllocError>
+        requires { TwoWhole (rate_in self.old) self.old }
         ensures ok { OnOk result (self.new ≡ two_drifted (two_sensed register (time_of (rate_in self.old) reply.now.bytes.items) self.old)) }
         ensures some { IfOk result (λ b. b ≡ some_two self.new) }
         ensures err { OnErr result (self.new ≡ self.old) }
@@ -95,7 +97,7 @@ impl<S: TimeSet> Halves<S> {
 
     /// The states after a drift and a command's effect, which a deck in LOCAL may ignore, and any where `may_stay`. It answers
     /// whether there is one.
-    #[inline(never)] // as above
+    #[inline(always)] // as `exchange`
     fn apply(
         &mut self,
         alloc: Global,

@@ -1,6 +1,7 @@
 use Rattle.track9.proofs.Words.{ap, Entries, false≢true, sym, ◌∙◌}
 use Rattle.track9.proofs.entries.Entries.known.Goals as goal
 use Rattle.track9.proofs.KnownLemmas.{knows_at, knows_clear, knows_nothing, knows_set}
+use Rattle.std.proofs.Common.{arith}
 
 pub returns-then-is_empty : goal.returns-then-is_empty
 returns-then-is_empty g c = knows_clear c.args.self.now (ap (λ (e : Entries). e.times) (sym c.self.view_is) ∙ c.is_empty.ensures.0 c.if-is_empty.true)
@@ -14,5 +15,4 @@ returns-in-Some g c = knows_at c.args.self.now c.in-Some.time (ap (λ (e : Entri
     (ap (λ (e : Entries). e.times) (sym c.self.view_is) ∙ (c.only.ensures c.in-Some.time).0 c.in-Some.is)
 
 pub returns-in-None : goal.returns-in-None
-returns-in-None g c = knows_set c.args.self.now (ap (λ (e : Entries). e.may_clear) (sym c.self.view_is) ∙ c.if-self.false) c.requires
-    (λ t one. let found = (c.only.ensures t).1 (ap (λ (e : Entries). e.times) c.self.view_is ∙ one) in let none = c.in-None.is in cc)
+returns-in-None = grind (arith, knows_set)

@@ -1,8 +1,9 @@
-use Rattle.std.proofs.Common.{length, List, rules, slice_set, [], ◌∷◌, ◌≡◌}
+use Rattle.std.proofs.Common.{length, List, slice_set, [], ◌∷◌, ◌≡◌}
 use Rattle.std.specs.Int.Bits.{or_zero_r}
 use Rattle.track9.proofs.Words.{either, gone, goes, joined, Mode, ModeSet, shown_with, Stop}
 use Rattle.deck9.specs.Mode.{index_of}
 use Rattle.track9.proofs.pairs.Pairs.go.Goals as goal
+use Rattle.std.proofs.Common.{arith}
 
 -- one of ten sets of modes that is joined with all of them
 joined_at : (p : List ModeSet) (g : Mode) → length p ≡ 10 → slice_set p (index_of g) (either (shown_with p g) (goes p)) ≡ joined p (gone g p)
@@ -11,5 +12,4 @@ joined_at (a ∷ b ∷ c ∷ d ∷ e ∷ f ∷ h ∷ i ∷ j ∷ k ∷ []) _ len
 joined_at _ g len = cc
 
 pub returns-then-may_stay : goal.returns-then-may_stay
-returns-then-may_stay c = rw (c.if-may_stay.true, c.index.ensures, c.or.ensures.bits, c.shown.ensures, c.all_shown-shown.ensures)
-    (joined_at c.args.self.now.0 c.args.goal (search rules))
+returns-then-may_stay = grind (arith, joined_at)

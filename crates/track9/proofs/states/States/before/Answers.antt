@@ -1,7 +1,8 @@
-use Rattle.track9.proofs.Words.{ap, false≢true, IfSome, IfSome_then, inl, inr, IsPattern, IsState, pattern_before, profile_of, rate_for, Shows, refl, subst, sym, ◌∙◌}
+use Rattle.track9.proofs.Words.{ap, false≢true, IfSome, IfSome_then, inl, inr, IsPattern, IsState, pattern_before, profile_of, rate_for, Shows, subst, sym, ◌∙◌}
 use Rattle.track9.proofs.states.States.before.Goals as goal
 use Rattle.track9.proofs.BeforeLemmas.{wanted_state, exchanged_state, exchange_exactly, fits_self, if_none, if_none_so, nak_exactly}
 use Rattle.track9.proofs.PartLemmas.{possible_state}
+use Rattle.std.proofs.Common.{arith}
 
 pub origin-requires-clause-wanted : goal.origin-requires-clause-wanted
 origin-requires-clause-wanted g c = rw c.just.ensures (c.args.target.now, (subst (λ rate. IsState rate c.args.target.now) c.rate.ensures (c.is_of.ensures.0 c.if-not-is_of.false)), fits_self c.args.target.now)
@@ -11,12 +12,7 @@ returns-then-is_nak-clause-some g c = IfSome_then c.origin.result c.origin.ensur
     (w.0, (nak_exactly _ c.args.command.now c.args.reply.now c.args.target.now (sym c.is_nak.ensures ∙ c.if-is_nak.true) s).0 (rw c.just.ensures at w.1)))
 
 pub returns-in-Some-clause-some : goal.returns-in-Some-clause-some
-returns-in-Some-clause-some g c =
-    let w = c.in-Some.ensures.some in
-    let exactly = exchange_exactly c.args.self.now c.args.command.now c.args.reply.now c.args.target.now (sym c.is_nak.ensures ∙ c.if-is_nak.false)
-    c.requires c.below_day.ensures
-    (subst (λ rate. IsState rate c.args.target.now) c.rate.ensures (c.is_of.ensures.0 c.if-not-is_of.false)) refl refl refl c.in-Some.state w.0 in
-    (w.0, exactly.1 (subst (λ rate. Shows rate c.args.target.now c.args.command.now c.args.reply.now) c.rate-2.ensures (c.shows.ensures.0 c.if-not-shows.false), inl (w.1, w.2)))
+returns-in-Some-clause-some = grind (arith, exchange_exactly)
 
 pub returns-in_err-wanted-clause-none : goal.returns-in_err-wanted-clause-none
 returns-in_err-wanted-clause-none g c = if_none_so c.from_residual.result (λ (s, there, w).

@@ -1,6 +1,7 @@
-use Rattle.track9.proofs.Words.{ap, DriftsAndGoes, hands_of, on_ok_weaker, option_map, or-false, rate_in, some_two, sym, StepOrPass, ◌∙◌}
+use Rattle.track9.proofs.Words.{ap, DriftsAndGoes, hands_of, on_ok_weaker, option_map, rate_in, sym, StepOrPass, ◌∙◌}
 use Rattle.track9.proofs.states.States.take.Goals as goal
 use Rattle.track9.proofs.PanelLemmas.{leads_off, none_on, take_panel}
+use Rattle.std.proofs.Common.{arith}
 
 pub returns-in-None-clause-ok : goal.returns-in-None-clause-ok
 returns-in-None-clause-ok g c =
@@ -10,6 +11,4 @@ returns-in-None-clause-ok g c =
     c.take.new.self) c.take.ensures.ok)
 
 pub returns-in-None-clause-some : goal.returns-in-None-clause-some
-returns-in-None-clause-some g c =
-    rw (none_on (option_map (λ b. b.value) c.self.inside.on) (ap hands_of c.self.view_is ∙ sym c.hands.ensures ∙ c.in-None.is), or-false (some_two c.take.new.self))
-    c.take.ensures.some
+returns-in-None-clause-some = grind arith

@@ -1,4 +1,4 @@
-use Rattle.track9.proofs.Words.{after_panel, Block, Bool, Command, first_states, Follows, if◌then◌else◌, on_ok_weaker, option_map, Option, panel_passed, rate_for, some_state, States}
+use Rattle.track9.proofs.Words.{Block, Command, Follows, on_ok_weaker, option_map, Option, rate_for, States}
 use Rattle.track9.proofs.Words.{hands_of, None, Some, profile_of, subst, sym, ◌∙◌, ◌≡◌}
 use Rattle.deck9.specs.declared.state.Hands.TheVariants as hands
 use Rattle.track9.proofs.states.States.take_by_hand.Goals as goal
