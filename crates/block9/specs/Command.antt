@@ -37,7 +37,7 @@ is_selector n = is_one_of (0x01 ∷ 0x02 ∷ 0x03 ∷ 0x04 ∷ 0x08 ∷ []) n
 
 -- a command whose one data byte selects a time; with another selector it is not listed
 abbrev pub selected : ℕ → (ℕ → Command) → Row
-selected head c = record { head = head; meaning = λ b. if is_selector (first_datum b) then Some (c (first_datum b)) else Some (Unlisted b.group) }
+selected head c = record { head = head; meaning = λ b. if is_selector (first_datum b) then Some (c (first_datum b)) else Some (Unlisted head) }
 
 -- group 0
 abbrev pub system_control : List Row
@@ -131,7 +131,7 @@ table_of rate group =
 
 -- what a table says of a block with these first two bytes: a block that it has no row for is a command that is not listed
 abbrev pub meaning_in : List Row → ℕ → Block → Option Command
-meaning_in [] head b = Some (Unlisted b.group)
+meaning_in [] head b = Some (Unlisted head)
 meaning_in (r ∷ rows) head b = if r.head == head then r.meaning b else meaning_in rows head b
 
 -- the command that a block is: none where a time that has to be valid is not
@@ -245,7 +245,7 @@ listing OutDataSense = named (codes "OUT DATA SENSE") (begins 0x74_11)
 listing AudioInDataSense = named (codes "AUDIO IN DATA SENSE") (begins 0x74_12)
 listing AudioOutDataSense = named (codes "AUDIO OUT DATA SENSE") (begins 0x74_13)
 listing (StatusSense asked) = named (codes "STATUS SENSE") (is_status (asked % 16))
-listing (Unlisted group) = record { name = None; answer = λ reply. true }
+listing (Unlisted head) = record { name = None; answer = λ reply. true }
 
 -- the name of a command, if it is listed
 unfoldable pub name_of : Command → Option (List ℕ)

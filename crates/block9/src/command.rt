@@ -150,8 +150,8 @@ pub enum Command {
     /// A command that the tables do not list, by its code, its number of data bytes or its selector. It
     /// takes any reply.
     Unlisted {
-        /// The group of its block.
-        group: u8,
+        /// The first two bytes of its block as one number, as [`Block::head`] has them.
+        head: u32,
     },
 }
 
@@ -169,11 +169,11 @@ impl Command {
     {
         let head = block.head();
         match block.group {
-            0 => system_control(head, block),
+            0 => system_control(head),
             2 => transport_control(rate, head, block),
             4 => preset_control(rate, head, block),
             6 => sense_requests(head, block),
-            group => Some(Command::Unlisted { group }),
+            _ => Some(Command::Unlisted { head }),
         }
     }
 

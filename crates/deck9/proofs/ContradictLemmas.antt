@@ -1,8 +1,8 @@
 -- Runs that believe some replies.
-use Rattle.deck9.proofs.Words.{[], Agrees, All, All-head, All-tail, ap, AreAnswered, arith, behind_first, Block, Bool, CanPass, Command, Does, done, Effect, effect_of, Exchange}
-use Rattle.deck9.proofs.Words.{false, fits, Hands, HasBelieving, HasRun, inl, inr, is_reply_time_valid, IsBelievingFrom, IsFirst, IsRightReply, IsRunFrom, length, List, MayDo}
-use Rattle.deck9.proofs.Words.{MayReply, refl, refused, Sense, sense_of, SetsInDay, State, DeckStep, subst, sym, true, ℕ, ◌++◌, ◌+◌, ◌<◌, ◌↔◌, ◌∙◌, ◌∷◌, ◌≡◌, ◌⊎◌}
-use Rattle.deck9.proofs.Words.{Profile, Rate}
+use Rattle.deck9.proofs.Words.{[], Agrees, ap, AreAnswered, arith, behind_first, Block, Bool, CanPass, Command, Does, done, Effect, effect_of, Exchange}
+use Rattle.deck9.proofs.Words.{false, fits, HasBelieving, HasRun, inl, inr, is_reply_time_valid, IsBelievingFrom, IsFirst, IsRightReply, IsRunFrom, length, List, MayDo}
+use Rattle.deck9.proofs.Words.{MayReply, refl, refused, Sense, sense_of, State, DeckStep, subst, sym, true, ℕ, ◌++◌, ◌+◌, ◌<◌, ◌↔◌, ◌∙◌, ◌∷◌, ◌≡◌, ◌⊎◌}
+use Rattle.deck9.proofs.Words.{Deck, Option, Profile, Rate}
 use Rattle.deck9.proofs.RunSearch.{first_drifts}
 use Rattle.deck9.proofs.RestLemmas.{first_does}
 use Rattle.deck9.proofs.ReplyLemmas.{block, no_bytes, one_byte}
@@ -31,14 +31,14 @@ by_nak profile c s t same = (
 )
 
 -- a command has no effect, or may be acknowledged, which shows nothing
-acked : (rate : Rate) (c : Command) → (effect_of c ≡ Effect.Nothing) ⊎ ((fits c (block 1 0x01 []) ≡ true)
+acked : (rate : Rate) (deck : Option Deck) (c : Command) → (effect_of deck c ≡ Effect.Nothing) ⊎ ((fits c (block 1 0x01 []) ≡ true)
     × (is_reply_time_valid rate c (block 1 0x01 []) ≡ true) × (sense_of c ≡ Sense.Nothing))
 unfolding fits is_reply_time_valid
-acked rate c = grind arith
+acked rate deck c = grind arith
 
 pub pass_steps : (profile : Profile) (c : Command) (s t : State) → CanPass profile c s t → SomeStep profile c s t
 pass_steps profile c s t (inl same) = by_nak profile c s t same
-pass_steps profile c s t (inr does) = elim (acked profile.rate c) [
+pass_steps profile c s t (inr does) = elim (acked profile.rate profile.deck c) [
   | inl none ↦ by_nak profile c s t (subst (λ f. Does profile f s t) none does)
   | inr (kind, valid_time, silent) ↦ (
     block 1 0x01 [],
@@ -125,7 +125,7 @@ believing_fewer profile more fewer es le w = record {
 
 -- no passed command leads out of the first states
 first_passes : (profile : Profile) (e : Exchange) (s t : State) → IsFirst profile s → CanPass profile e.command s t → IsFirst profile t
-first_passes profile e s t first passed = let does = first_does profile (effect_of e.command) s t first in grind arith
+first_passes profile e s t first passed = let does = first_does profile (effect_of profile.deck e.command) s t first in grind arith
 
 rest_of : (profile : Profile) (b : ℕ → Bool) (es fs : List Exchange) (s : State) (ts : List State) → ((k : ℕ) → k < length es → b k ≡ false)
     → IsFirst profile s

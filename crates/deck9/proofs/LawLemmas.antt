@@ -4,7 +4,7 @@ use Rattle.deck9.proofs.Words.{inr, IsEntry, IsRunFrom, IsState, List, may_ignor
 use Rattle.std.specs.Prelude.{None, true, ◌≢◌}
 use Rattle.deck9.proofs.Words.{name_of}
 use Rattle.deck9.proofs.Words.{subst, sym, with_entry, ◌++◌, ◌∷◌, ◌≡◌}
-use Rattle.deck9.proofs.Words.{Profile, Rate}
+use Rattle.deck9.proofs.Words.{Deck, Option, Profile, Rate}
 use Rattle.deck9.proofs.DriftLemmas.{drift_from_pairs, pairs_from_drift}
 use Rattle.deck9.proofs.RunSearch.{read_panel}
 
@@ -28,10 +28,10 @@ put_beside r e on s = grind arith
 pub valid_beside : (rate : Rate) (on : Bool) (s : State) → IsState rate s → IsState rate (with_panel on s)
 valid_beside rate on s valid = λ r. subst (IsEntry rate) (sym (read_panel r s on)) (valid r)
 
-module _ (rate : Rate) where
-  -- a deck at this rate
+module _ (rate : Rate) (deck : Option Deck) where
+  -- such a deck
   abbrev by_hand : Hands → Profile
-  by_hand h = record { rate = rate; hands = h }
+  by_hand h = record { rate = rate; hands = h; deck = deck }
 
   does_beside : (f : Effect) (on : Bool) (s t : State) → Does (by_hand Hands.None) f s t → (off : Bool) × Does (by_hand Hands.Allowed) f (with_panel on s) (with_panel off t)
   does_beside (Effect.Panel new) on s t same = (new, ap (with_panel new) same)
@@ -46,7 +46,7 @@ module _ (rate : Rate) where
   step_beside c reply on s t (ignored other shown may local same) =
       (on, ignored other (agrees_beside (sense_of c) on s reply shown) may local (ap (with_panel on) same))
   step_beside c reply on s t (done other shown does) =
-      let w = does_beside (effect_of c) on s t does in
+      let w = does_beside (effect_of deck c) on s t does in
       (w.0, done other (agrees_beside (sense_of c) on s reply shown) w.1)
 
   exchange_beside : (c : Command) (reply : Block) (on : Bool) (s t : State) → Exchanges (by_hand Hands.None) c reply s t

@@ -1,6 +1,7 @@
 pub mod ContradictLemmas
 pub mod DriftLemmas
 pub mod LawLemmas
+pub mod LessLemmas
 pub mod ModeLemmas
 pub mod ModeSetLemmas
 pub mod ReplyLemmas

@@ -1,9 +1,10 @@
 -- A right reply to each command in each state, and a step with it.
+use Rattle.deck9.proofs.Words.{Deck, forgetting, Forgotten, forgotten_at, listed_effect, Option, ◌≢◌}
 use Rattle.deck9.proofs.Words.{ap, bytes_read, given_reads, KeepsPanel, label_of, Profile, Rate, SetsInDay, switched, Register}
 use Rattle.tc25.proofs.DayLemmas.{label_bytes_low, label_named, some_day}
-use Rattle.deck9.proofs.Words.{[], All, All-cons, All-nil, arith, bcd, At, Becomes, Block, bytes_of, Change, Clear, Command, common_steps, datum, day, Does, done, Effect, effect_of, Entry, entry_of, false}
-use Rattle.deck9.proofs.Words.{fits, frames_of, Hands, hours_of, is_nak, is_reply_time_valid, IsEntry, IsRightReply, IsState, length, List, minutes_of, nat_tests, None, Recall, refl}
-use Rattle.deck9.proofs.Words.{RegAudioIn, RegAudioOut, RegIn, RegOut, Reset, seconds_of, SetAt, SetSomewhere, Shows, ShowsStatus, slice_get_past, Some, State, status_of, DeckStep, Tells, time_of, true}
+use Rattle.deck9.proofs.Words.{[], All, All-cons, All-nil, arith, At, Becomes, Block, bytes_of, Change, Clear, Command, datum, day, Does, done, Effect, effect_of, Entry, entry_of, false}
+use Rattle.deck9.proofs.Words.{fits, Hands, is_nak, is_reply_time_valid, IsEntry, IsRightReply, IsState, length, List, nat_tests, None, Recall, refl}
+use Rattle.deck9.proofs.Words.{RegAudioIn, RegAudioOut, RegIn, RegOut, Reset, SetAt, SetSomewhere, Shows, ShowsStatus, slice_get_past, State, status_of, DeckStep, Tells, true}
 use Rattle.deck9.proofs.Words.{with_entry, ℕ, ◌-◌, ◌/◌, ◌<◌, ◌∷◌, ◌≡◌, ◌≤◌}
 
 -- ---- what a command does
@@ -104,9 +105,17 @@ right_reply rate s (Command.StatusSense asked) valid = made rate s _ (block 7 0x
     refl (no_status s asked)
 right_reply rate s c valid = made rate s c (block 1 0x01 []) (omega arith) (omega arith) (omega arith) no_bytes refl refl refl tt
 
+-- what is forgotten changes no register in a way of its own
+no_change : (f : Forgotten) (r : Register) (x : Change) → forgetting f ≢ Effect.Change r x
+no_change f r x same = grind arith
+
+listed_change : (deck : Option Deck) (c : Command) (r : Register) (x : Change) → effect_of deck c ≡ Effect.Change r x → listed_effect c ≡ Effect.Change r x
+listed_change deck (Command.Unlisted head) r x same = absurd (no_change (forgotten_at deck head) r x same)
+listed_change deck c r x same = grind arith
+
 pub some_step : (profile : Profile) (c : Command) (s : State) → SetsInDay profile.rate c → IsState profile.rate s
     → (reply : Block) × IsRightReply profile.rate c reply × (is_nak reply ≡ false) × (t : State) × DeckStep profile c reply s t
 some_step profile c s sets valid =
     let r = right_reply profile.rate s c valid in
-    let t = some_effect profile (effect_of c) s sets valid in
+    let t = some_effect profile (effect_of profile.deck c) s (λ r t same. sets r t (listed_change profile.deck c r (SetAt t) same)) valid in
     (r.0, r.1, r.2, t.0, done r.2 r.3 t.1)

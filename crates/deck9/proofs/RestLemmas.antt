@@ -1,6 +1,6 @@
 -- What is left of a run without its first exchanges is a run.
-use Rattle.deck9.proofs.Words.{[], All, All-head, All-tail, ap, arith, Becomes, Change, day, Does, Effect, effect_of, Entry, entry_of, Exchange, Hands, HasRun, IsEntry, IsFirst}
-use Rattle.deck9.proofs.Words.{IsRunFrom, IsState, List, nat_tests, Register, SetAt, SetsInDay, State, DeckStep, subst, sym, with_entry, ℕ, ◌++◌, ◌<◌, ◌∷◌, ◌≡◌}
+use Rattle.deck9.proofs.Words.{[], arith, Becomes, Change, Does, Effect, effect_of, Entry, entry_of, Exchange, HasRun, IsEntry, IsFirst}
+use Rattle.deck9.proofs.Words.{IsRunFrom, IsState, List, nat_tests, Register, State, DeckStep, subst, sym, with_entry, ◌++◌, ◌∷◌}
 use Rattle.deck9.proofs.Words.{before_shift, Bool, MayBeOn, moved_entry, Next, next_frame, Prev, prev_frame, Profile, Rate}
 use Rattle.deck9.proofs.RunSearch.{first_drifts, put_panel, read_panel}
 
@@ -19,7 +19,7 @@ does_valid profile (Effect.Change r c) s t valid (e, becomes, put) =
 does_valid profile f s t valid does = λ r. let before = valid r in grind arith
 
 pub step_valid : (profile : Profile) (e : Exchange) (s t : State) → IsState profile.rate s → DeckStep profile e.command e.reply s t → IsState profile.rate t
-step_valid profile e s t valid step = let does = does_valid profile (effect_of e.command) s t valid in grind arith
+step_valid profile e s t valid step = let does = does_valid profile (effect_of profile.deck e.command) s t valid in grind arith
 
 -- the states that stand for all before a step
 pub same_valid : (rate : Rate) (t : State) (on : Bool) → IsState rate t → IsState rate (record t { panel = on })
@@ -42,7 +42,7 @@ first_does profile f s t first does = (does_valid profile f s t first.0 does, do
 
 -- no step leads out of the first states
 first_steps : (profile : Profile) (e : Exchange) (s t : State) → IsFirst profile s → DeckStep profile e.command e.reply s t → IsFirst profile t
-first_steps profile e s t first step = let does = first_does profile (effect_of e.command) s t first in grind arith
+first_steps profile e s t first step = let does = first_does profile (effect_of profile.deck e.command) s t first in grind arith
 
 -- ---- runs
 

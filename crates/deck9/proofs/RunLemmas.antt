@@ -1,6 +1,6 @@
 -- Runs with one exchange more.
-use Rattle.deck9.proofs.Words.{Profile, Rate}
-use Rattle.deck9.proofs.Words.{[], AreReached, arith, Ends, Exchange, Exchanges, Hands, HasRun, IsFirst, IsRunFrom, last_state, List, refl, State, ◌++◌, ◌↔◌, ◌∷◌, ◌≡◌}
+use Rattle.deck9.proofs.Words.{Profile}
+use Rattle.deck9.proofs.Words.{[], AreReached, arith, Ends, Exchange, Exchanges, HasRun, IsFirst, IsRunFrom, last_state, List, refl, State, ◌++◌, ◌↔◌, ◌∷◌, ◌≡◌}
 
 -- a run with its last exchange taken away: the states before it, their run, and the step to the last state
 split : (profile : Profile) (es : List Exchange) (e : Exchange) (s : State) (ts : List State) → IsRunFrom profile s (es ++ e ∷ []) ts

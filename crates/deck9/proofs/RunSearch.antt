@@ -3,7 +3,7 @@ use Rattle.deck9.proofs.Words.{[], Agrees, ap, arith, before_shift, Begins, Bool
 use Rattle.deck9.proofs.Words.{Exchanges, false, Hands, HasRun, ignored, inl, inr, IsEntry, IsFirst, IsRun, IsRunFrom, IsState, length, List, MayBeOn, moved_entry, nat_tests, Next}
 use Rattle.deck9.proofs.Words.{next_frame, Prev, prev_frame, refl, refused, Register, Sense, sense_of, State, Steps, StepsFromSome, Stop, subst, suc, sym, true, with_entry, ◌↔◌}
 use Rattle.deck9.proofs.Words.{◌∙◌, ◌∷◌, ◌≡◌, ◌⊎◌}
-use Rattle.deck9.proofs.Words.{Profile, Rate}
+use Rattle.deck9.proofs.Words.{Deck, Option, Profile, Rate}
 use Rattle.deck9.proofs.DriftLemmas.{drift_from_pairs, pairs_from_drift, same_entries}
 
 -- ---- runs of no exchange
@@ -57,40 +57,40 @@ does_from profile (Effect.Change r c) on d t valid p (e, b, put) = inl (e, b, pu
 does_from profile f on d t valid p does = inl (grind arith)
 
 -- a command that asks for something of the state has no effect
-sensed : (c : Command) → (effect_of c ≡ Effect.Nothing) ⊎ (sense_of c ≡ Sense.Nothing)
-sensed c = grind arith
+sensed : (deck : Option Deck) (c : Command) → (effect_of deck c ≡ Effect.Nothing) ⊎ (sense_of c ≡ Sense.Nothing)
+sensed deck c = grind arith
 
 -- a step that leaves the state as it was
 stays_from : (profile : Profile) (e : Exchange) (on : Bool) (d t : State) → d.panel ≡ on → Steps profile e d t → t ≡ d → Steps profile e (record t { panel = on }) t
 stays_from profile e on d t p step same = subst (λ v. Steps profile e v t) (grind arith) step
 
 steps_from : (profile : Profile) (e : Exchange) (on : Bool) (d t : State) → IsState profile.rate d → d.panel ≡ on → Steps profile e d t
-    → Steps profile e (record t { panel = on }) t ⊎ Steps profile e (before_shift profile.rate (effect_of e.command) (record t { panel = on })) t
+    → Steps profile e (record t { panel = on }) t ⊎ Steps profile e (before_shift profile.rate (effect_of profile.deck e.command) (record t { panel = on })) t
 steps_from profile e on d t valid p (refused nak same) = inl (stays_from profile e on d t p (refused nak same) same)
 steps_from profile e on d t valid p (ignored nak shown may local same) = inl (stays_from profile e on d t p (ignored nak shown may local same) same)
 steps_from profile e on d t valid p (done nak shown does) =
-    elim (sensed e.command) [
+    elim (sensed profile.deck e.command) [
       | inl none ↦ inl (stays_from profile e on d t p (done nak shown does) (subst (λ f. Does profile f d t) none does))
       | inr silent ↦
           let agrees : (v : State) → Agrees profile.rate (sense_of e.command) v e.reply = λ v. subst (λ s. Agrees profile.rate s v e.reply) (sym silent) tt in
-          elim (does_from profile (effect_of e.command) on d t valid p does) [
+          elim (does_from profile (effect_of profile.deck e.command) on d t valid p does) [
             | inl same ↦ inl (done nak (agrees (record t { panel = on })) same)
-            | inr back ↦ inr (done nak (agrees (before_shift profile.rate (effect_of e.command) (record t { panel = on }))) back)
+            | inr back ↦ inr (done nak (agrees (before_shift profile.rate (effect_of profile.deck e.command) (record t { panel = on }))) back)
           ]
     ]
 
 shift_panel : (rate : Rate) (f : Effect) (s : State) → (before_shift rate f s).panel ≡ s.panel
 shift_panel rate f s = grind (arith, put_panel)
 
-pub two_states : (profile : Profile) (e : Exchange) (on : Bool) (t : State) (f : Effect) (same back : State) → f ≡ effect_of e.command → same ≡ record t { panel = on }
+pub two_states : (profile : Profile) (e : Exchange) (on : Bool) (t : State) (f : Effect) (same back : State) → f ≡ effect_of profile.deck e.command → same ≡ record t { panel = on }
     → back ≡ before_shift profile.rate f same → IsState profile.rate same → IsState profile.rate back
     → (Steps profile e same t ⊎ Steps profile e back t) ↔ StepsFromSome profile e on t
 two_states profile e on t f same back is_effect is_same is_back valid valid_back =
-    let shifted : back ≡ before_shift profile.rate (effect_of e.command) (record t { panel = on }) =
-    is_back ∙ ap (λ (g : Effect). before_shift profile.rate g same) is_effect ∙ ap (before_shift profile.rate (effect_of e.command)) is_same in (
+    let shifted : back ≡ before_shift profile.rate (effect_of profile.deck e.command) (record t { panel = on }) =
+    is_back ∙ ap (λ (g : Effect). before_shift profile.rate g same) is_effect ∙ ap (before_shift profile.rate (effect_of profile.deck e.command)) is_same in (
       λ w. elim w [
         | inl step ↦ (same, valid, ap (λ (v : State). v.panel) is_same, step)
-        | inr step ↦ (back, valid_back, ap (λ (v : State). v.panel) shifted ∙ shift_panel profile.rate (effect_of e.command) (record t { panel = on }), step)
+        | inr step ↦ (back, valid_back, ap (λ (v : State). v.panel) shifted ∙ shift_panel profile.rate (effect_of profile.deck e.command) (record t { panel = on }), step)
       ],
       λ w. elim (steps_from profile e on w.0 t w.1 w.2 w.3) [
         | inl step ↦ inl (subst (λ v. Steps profile e v t) (sym is_same) step)

@@ -11,7 +11,7 @@ use Rattle.deck9.specs.Step.{DeckStep}
 
 -- what a command may do to a state where its reply is not known: nothing, or its effect
 abbrev pub CanPass : Profile → Command → State → State → Type 0
-CanPass p command s t = (t ≡ s) ⊎ Does p (effect_of command) s t
+CanPass p command s t = (t ≡ s) ⊎ Does p (effect_of p.deck command) s t
 
 -- the deck drifts, and then takes a command whose reply is not known
 abbrev pub Passes : Profile → Command → State → State → Type 0

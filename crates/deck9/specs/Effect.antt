@@ -1,8 +1,11 @@
 -- What each command does to the deck.
-use Rattle.std.specs.Prelude.{ℕ, ◌≡◌, ◌<◌, ◌⊎◌, ◌==◌, if◌then◌else◌, Bool, true, false, ⊤}
+use Rattle.std.specs.Prelude.{ℕ, ◌≡◌, ◌<◌, ◌⊎◌, Bool, true, false, Option, ⊤}
 use Rattle.tc25.specs.Day.{day, next_frame, prev_frame}
 use Rattle.block9.specs.declared.command.Command.{Command}
 use Rattle.block9.specs.declared.command.Command.TheVariants as command
+use Rattle.deck9.specs.declared.deck.Deck.{Deck}
+use Rattle.deck9.specs.declared.deck.Forgotten.{Forgotten}
+use Rattle.deck9.specs.declared.deck.Forgotten.TheVariants as forgotten
 use Rattle.deck9.specs.declared.mode.Mode.TheVariants as mode
 use Rattle.deck9.specs.declared.state.Entry.{Entry}
 use Rattle.deck9.specs.declared.state.Entry.TheVariants.{Clear, At}
@@ -16,62 +19,68 @@ use Rattle.deck9.specs.declared.effect.Effect.{Effect}
 use Rattle.deck9.specs.declared.effect.Effect.TheVariants as effect
 use Rattle.deck9.specs.declared.effect.Change.{Change}
 use Rattle.deck9.specs.declared.effect.Change.TheVariants.{SetSomewhere, SetAt, Next, Prev, Reset, Recall}
+use Rattle.deck9.specs.Deck.{forgotten_at}
 use Rattle.deck9.specs.State.{IsEntry, IsState, entry_of, with_entry}
 
--- what a command that is not listed makes the deck forget, by its group
-abbrev pub forgotten : ℕ → Effect
-forgotten group =
-    if group == 2 then effect.ForgetTape
-    else (if group == 4 then effect.ForgetRegisters
-    else (if group == 6 then effect.Nothing else effect.ForgetAll))
+-- what becomes anything, of what is forgotten
+abbrev pub forgetting : Forgotten → Effect
+forgetting forgotten.Nothing = effect.Nothing
+forgetting forgotten.Motion = effect.ForgetMotion
+forgetting forgotten.Registers = effect.ForgetRegisters
+forgetting forgotten.Tape = effect.ForgetTape
+forgetting forgotten.Everything = effect.ForgetAll
 
--- the effect of each command
-abbrev pub effect_of : Command → Effect
-effect_of command.Stop = effect.Go mode.Stop
-effect_of command.Play = effect.Go mode.Play
-effect_of command.SyncPlay = effect.Go mode.Play
-effect_of command.Record = effect.Go mode.Rec
-effect_of command.StandbyOff = effect.KeepOrStop
-effect_of command.StandbyOn = effect.KeepOrStop
-effect_of command.Eject = effect.Go mode.Eject
-effect_of command.FastForward = effect.Go mode.FastForward
-effect_of command.Rewind = effect.Go mode.Rewind
-effect_of command.JogForward = effect.Go mode.Jog
-effect_of command.JogReverse = effect.Go mode.Jog
-effect_of command.VarForward = effect.Go mode.Var
-effect_of command.VarReverse = effect.Go mode.Var
-effect_of command.ShuttleForward = effect.Go mode.Shuttle
-effect_of command.ShuttleReverse = effect.Go mode.Shuttle
-effect_of command.Preroll = effect.Go mode.Cued
-effect_of (command.CueUpWithData time) = effect.Go mode.Cued
-effect_of command.InEntry = effect.Change RegIn SetSomewhere
-effect_of command.OutEntry = effect.Change RegOut SetSomewhere
-effect_of command.AudioInEntry = effect.Change RegAudioIn SetSomewhere
-effect_of command.AudioOutEntry = effect.Change RegAudioOut SetSomewhere
-effect_of (command.InDataPreset time) = effect.Change RegIn (SetAt time)
-effect_of (command.OutDataPreset time) = effect.Change RegOut (SetAt time)
-effect_of (command.AudioInDataPreset time) = effect.Change RegAudioIn (SetAt time)
-effect_of (command.AudioOutDataPreset time) = effect.Change RegAudioOut (SetAt time)
-effect_of command.InShiftPlus = effect.Change RegIn Next
-effect_of command.InShiftMinus = effect.Change RegIn Prev
-effect_of command.OutShiftPlus = effect.Change RegOut Next
-effect_of command.OutShiftMinus = effect.Change RegOut Prev
-effect_of command.AudioInShiftPlus = effect.Change RegAudioIn Next
-effect_of command.AudioInShiftMinus = effect.Change RegAudioIn Prev
-effect_of command.AudioOutShiftPlus = effect.Change RegAudioOut Next
-effect_of command.AudioOutShiftMinus = effect.Change RegAudioOut Prev
-effect_of command.InFlagReset = effect.Change RegIn Reset
-effect_of command.OutFlagReset = effect.Change RegOut Reset
-effect_of command.AudioInFlagReset = effect.Change RegAudioIn Reset
-effect_of command.AudioOutFlagReset = effect.Change RegAudioOut Reset
-effect_of command.InRecall = effect.Change RegIn Recall
-effect_of command.OutRecall = effect.Change RegOut Recall
-effect_of command.AudioInRecall = effect.Change RegAudioIn Recall
-effect_of command.AudioOutRecall = effect.Change RegAudioOut Recall
-effect_of command.LocalEnable = effect.Panel true
-effect_of command.LocalDisable = effect.Panel false
-effect_of (command.Unlisted group) = forgotten group
-effect_of _ = effect.Nothing
+-- the effect of each listed command
+abbrev pub listed_effect : Command → Effect
+listed_effect command.Stop = effect.Go mode.Stop
+listed_effect command.Play = effect.Go mode.Play
+listed_effect command.SyncPlay = effect.Go mode.Play
+listed_effect command.Record = effect.Go mode.Rec
+listed_effect command.StandbyOff = effect.KeepOrStop
+listed_effect command.StandbyOn = effect.KeepOrStop
+listed_effect command.Eject = effect.Go mode.Eject
+listed_effect command.FastForward = effect.Go mode.FastForward
+listed_effect command.Rewind = effect.Go mode.Rewind
+listed_effect command.JogForward = effect.Go mode.Jog
+listed_effect command.JogReverse = effect.Go mode.Jog
+listed_effect command.VarForward = effect.Go mode.Var
+listed_effect command.VarReverse = effect.Go mode.Var
+listed_effect command.ShuttleForward = effect.Go mode.Shuttle
+listed_effect command.ShuttleReverse = effect.Go mode.Shuttle
+listed_effect command.Preroll = effect.Go mode.Cued
+listed_effect (command.CueUpWithData time) = effect.Go mode.Cued
+listed_effect command.InEntry = effect.Change RegIn SetSomewhere
+listed_effect command.OutEntry = effect.Change RegOut SetSomewhere
+listed_effect command.AudioInEntry = effect.Change RegAudioIn SetSomewhere
+listed_effect command.AudioOutEntry = effect.Change RegAudioOut SetSomewhere
+listed_effect (command.InDataPreset time) = effect.Change RegIn (SetAt time)
+listed_effect (command.OutDataPreset time) = effect.Change RegOut (SetAt time)
+listed_effect (command.AudioInDataPreset time) = effect.Change RegAudioIn (SetAt time)
+listed_effect (command.AudioOutDataPreset time) = effect.Change RegAudioOut (SetAt time)
+listed_effect command.InShiftPlus = effect.Change RegIn Next
+listed_effect command.InShiftMinus = effect.Change RegIn Prev
+listed_effect command.OutShiftPlus = effect.Change RegOut Next
+listed_effect command.OutShiftMinus = effect.Change RegOut Prev
+listed_effect command.AudioInShiftPlus = effect.Change RegAudioIn Next
+listed_effect command.AudioInShiftMinus = effect.Change RegAudioIn Prev
+listed_effect command.AudioOutShiftPlus = effect.Change RegAudioOut Next
+listed_effect command.AudioOutShiftMinus = effect.Change RegAudioOut Prev
+listed_effect command.InFlagReset = effect.Change RegIn Reset
+listed_effect command.OutFlagReset = effect.Change RegOut Reset
+listed_effect command.AudioInFlagReset = effect.Change RegAudioIn Reset
+listed_effect command.AudioOutFlagReset = effect.Change RegAudioOut Reset
+listed_effect command.InRecall = effect.Change RegIn Recall
+listed_effect command.OutRecall = effect.Change RegOut Recall
+listed_effect command.AudioInRecall = effect.Change RegAudioIn Recall
+listed_effect command.AudioOutRecall = effect.Change RegAudioOut Recall
+listed_effect command.LocalEnable = effect.Panel true
+listed_effect command.LocalDisable = effect.Panel false
+listed_effect _ = effect.Nothing
+
+-- the effect of each command: one that is not listed makes the deck forget
+abbrev pub effect_of : Option Deck → Command → Effect
+effect_of deck (command.Unlisted head) = forgetting (forgotten_at deck head)
+effect_of deck c = listed_effect c
 
 -- ---- what an effect may do
 
@@ -106,6 +115,7 @@ Does p (effect.Go g) s t = t ≡ record s { goal = g }
 Does p effect.KeepOrStop s t = (t ≡ s) ⊎ (t ≡ record s { goal = mode.Stop })
 Does p (effect.Change r c) s t = (e : Entry) × Becomes p.rate c (entry_of r s) e × (t ≡ with_entry r e s)
 Does p (effect.Panel on) s t = t ≡ switched p.hands on s
+Does p effect.ForgetMotion s t = t ≡ record s { goal = t.goal; shown = t.shown }
 Does p effect.ForgetTape s t = IsState p.rate t × (t.local ≡ s.local) × (t.panel ≡ s.panel)
 Does p effect.ForgetRegisters s t = IsState p.rate t × (t.goal ≡ s.goal) × (t.shown ≡ s.shown) × (t.local ≡ s.local) × (t.panel ≡ s.panel)
 Does p effect.ForgetAll s t = IsState p.rate t × KeepsPanel p.hands s t

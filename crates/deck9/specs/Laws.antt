@@ -1,5 +1,5 @@
 -- What the laws say beside the deck's own definitions.
-use Rattle.std.specs.Prelude.{ℕ, ◌≡◌, ◌<◌, Bool, true, false, ⊤, List, [], ◌∷◌, Some}
+use Rattle.std.specs.Prelude.{ℕ, ◌≡◌, ◌<◌, Bool, true, false, ⊤, List, [], ◌∷◌, Option, Some}
 use Rattle.std.specs.List.{All}
 use Rattle.tc25.specs.Day.{day}
 use Rattle.tc25.specs.declared.rate.Rate.{Rate}
@@ -10,15 +10,21 @@ use Rattle.block9.specs.Block.{IsBlock}
 use Rattle.block9.specs.Command.{fits, is_reply_time_valid}
 use Rattle.deck9.specs.declared.effect.Effect.TheVariants as effect
 use Rattle.deck9.specs.declared.effect.Change.TheVariants.{SetAt}
+use Rattle.deck9.specs.declared.deck.Deck.{Deck}
 use Rattle.deck9.specs.declared.mode.Mode.{Mode}
+use Rattle.deck9.specs.declared.profile.Profile.{Profile}
 use Rattle.deck9.specs.declared.state.Register.{Register}
+use Rattle.deck9.specs.declared.state.State.{State}
 use Rattle.deck9.specs.Contradict.{behind_first}
-use Rattle.deck9.specs.Effect.{effect_of}
+use Rattle.deck9.specs.Deck.{way_of}
+use Rattle.deck9.specs.Effect.{Does, effect_of, listed_effect}
+use Rattle.deck9.specs.ModeSet.{has}
+use Rattle.deck9.specs.State.{IsState}
 use Rattle.deck9.specs.Status.{may_show}
 
 -- where the command sets a register at a time, that is a time of the day
 abbrev pub SetsInDay : Rate → Command → Type 0
-SetsInDay rate command = (r : Register) (t : ℕ) → effect_of command ≡ effect.Change r (SetAt t) → t < day rate
+SetsInDay rate command = (r : Register) (t : ℕ) → listed_effect command ≡ effect.Change r (SetAt t) → t < day rate
 
 -- a right reply to the command: a block of bytes, of a kind that the command may have, whose time is valid where it has to be
 pub record IsRightReply (rate : Rate) (command : Command) (reply : Block) : Type 0 where
@@ -47,3 +53,12 @@ pub record ShowJust (is_shown : Mode → Bool) : Type 0 where
   pub is_byte1 : datum1 < 256
   pub is_byte2 : datum2 < 256
   pub just : (m : Mode) → may_show (Some datum1) (Some datum2) m ≡ is_shown m
+
+-- each command does no more to a deck of the first kind than to one of the second
+abbrev pub ForgetsNoMore : Profile → Option Deck → Option Deck → Type 0
+ForgetsNoMore p less more = (c : Command) (s t : State) → IsState p.rate s
+    → Does (record p { deck = less }) (effect_of less c) s t → Does (record p { deck = more }) (effect_of more c) s t
+
+-- the modes on the way to each goal of a deck of the first kind are on the way to it of one of the second
+abbrev pub PassesNoMore : Option Deck → Option Deck → Type 0
+PassesNoMore less more = (g m : Mode) → has (way_of less g).0 m ≡ true → has (way_of more g).0 m ≡ true

@@ -1,4 +1,5 @@
 pub mod Contradict
+pub mod Deck
 pub mod Drift
 pub mod Effect
 pub mod Knowledge

@@ -15,7 +15,7 @@ pub data DeckStep (p : Profile) (command : Command) (reply : Block) (s t : State
   -- not acknowledged, whatever the reasons: the state stays
   refused : is_nak reply ≡ true → t ≡ s → DeckStep p command reply s t
   -- the reply agrees with the state, and the command has its effect
-  done : is_nak reply ≡ false → Shows p.rate s command reply → Does p (effect_of command) s t → DeckStep p command reply s t
+  done : is_nak reply ≡ false → Shows p.rate s command reply → Does p (effect_of p.deck command) s t → DeckStep p command reply s t
   -- a deck in LOCAL ignores a listed transport or preset command
   ignored : is_nak reply ≡ false → Shows p.rate s command reply → may_ignore command ≡ true → s.local ≡ true → t ≡ s → DeckStep p command reply s t
 

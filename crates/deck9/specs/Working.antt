@@ -1,5 +1,5 @@
 -- What the clauses of the search for a run cite.
-use Rattle.std.specs.Prelude.{◌≡◌, ◌⊎◌, Bool, List, [], ◌∷◌}
+use Rattle.std.specs.Prelude.{◌≡◌, Bool, true}
 use Rattle.block9.specs.declared.pairer.Exchange.{Exchange}
 use Rattle.tc25.specs.Day.{next_frame, prev_frame}
 use Rattle.tc25.specs.declared.rate.Rate.{Rate}
@@ -9,8 +9,10 @@ use Rattle.deck9.specs.declared.effect.Effect.TheVariants as effect
 use Rattle.deck9.specs.declared.mode.Mode.{Mode}
 use Rattle.deck9.specs.declared.profile.Profile.{Profile}
 use Rattle.deck9.specs.declared.state.State.{State}
+use Rattle.deck9.specs.Deck.{way_of}
 use Rattle.deck9.specs.Drift.{KeepsRest, PairReaches}
 use Rattle.deck9.specs.Effect.{moved_entry}
+use Rattle.deck9.specs.ModeSet.{has}
 use Rattle.deck9.specs.State.{IsFirst, IsState, entry_of, with_entry}
 use Rattle.deck9.specs.Step.{Exchanges, DeckStep}
 
@@ -18,14 +20,17 @@ use Rattle.deck9.specs.Step.{Exchanges, DeckStep}
 abbrev pub Steps : Profile → Exchange → State → State → Type 0
 Steps p e d t = DeckStep p e.command e.reply d t
 
--- one of these modes becomes the shown one, and then comes the step
-abbrev pub PassesOne : Profile → Exchange → State → State → List Mode → Type 0
-PassesOne p e s t [] = ⊥
-PassesOne p e s t (m ∷ ms) = Steps p e (record s { shown = m }) t ⊎ PassesOne p e s t ms
+-- a mode on the way to the goal becomes the shown one, and then comes the step
+abbrev pub PassesTo : Profile → Exchange → State → State → Mode → Type 0
+PassesTo p e s t m = (has (way_of p.deck s.goal).0 m ≡ true) × Steps p e (record s { shown = m }) t
+
+-- the same of some mode
+abbrev pub PassesOne : Profile → Exchange → State → State → Type 0
+PassesOne p e s t = (m : Mode) × PassesTo p e s t m
 
 -- the mechanics drift, and then comes the step
 abbrev pub DriftsAndSteps : Profile → Exchange → State → State → Type 0
-DriftsAndSteps p e s t = (d : State) × KeepsRest s d × PairReaches s.goal s.shown d.goal d.shown × Steps p e d t
+DriftsAndSteps p e s t = (d : State) × KeepsRest s d × PairReaches p.deck s.goal s.shown d.goal d.shown × Steps p e d t
 
 -- the step comes from some state with the panel on or off
 abbrev pub StepsFromSome : Profile → Exchange → Bool → State → Type 0

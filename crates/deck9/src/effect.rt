@@ -1,4 +1,5 @@
 //! What each command does to the deck.
+use crate::deck::Forgotten;
 use crate::mode::Mode;
 use crate::state::Register;
 use block9::Command;
@@ -34,6 +35,8 @@ pub enum Effect {
     Change(Register, Change),
     /// The panel is switched on or off, where hands are allowed.
     Panel(bool),
+    /// Commanded mode and shown mode become anything.
+    ForgetMotion,
     /// Commanded mode, shown mode and registers become anything.
     ForgetTape,
     /// The registers become anything.
@@ -44,11 +47,25 @@ pub enum Effect {
 
 impl Effect {
     ghost use Rattle.std.specs.Prelude.{◌≡◌};
-    ghost use Rattle.deck9.specs.Effect.{effect_of};
+    ghost use Rattle.deck9.specs.Effect.{forgetting, listed_effect};
 
-    /// What a command does where it is acknowledged.
-    pub fn of(command: &Command) -> Effect
-        ensures { result ≡ effect_of command.now }
+    /// What it does to forget this.
+    pub(crate) fn forgetting(forgotten: Forgotten) -> Effect
+        ensures { result ≡ forgetting forgotten }
+    {
+        match forgotten {
+            Forgotten::Nothing => Effect::Nothing,
+            Forgotten::Motion => Effect::ForgetMotion,
+            Forgotten::Registers => Effect::ForgetRegisters,
+            Forgotten::Tape => Effect::ForgetTape,
+            Forgotten::Everything => Effect::ForgetAll,
+        }
+    }
+
+    /// What a listed command does where it is acknowledged; nothing where the command is not listed.
+    #[inline(always)] // it is asked of every exchange
+    pub(crate) fn listed(command: &Command) -> Effect
+        ensures { result ≡ listed_effect command.now }
     {
         match command {
             Command::Stop => Effect::Go(Mode::Stop),
@@ -97,12 +114,6 @@ impl Effect {
             Command::AudioOutRecall => Effect::Change(Register::RegAudioOut, Change::Recall),
             Command::LocalEnable => Effect::Panel(true),
             Command::LocalDisable => Effect::Panel(false),
-            Command::Unlisted { group } => match *group {
-                2 => Effect::ForgetTape,
-                4 => Effect::ForgetRegisters,
-                6 => Effect::Nothing,
-                _ => Effect::ForgetAll,
-            },
             _ => Effect::Nothing,
         }
     }

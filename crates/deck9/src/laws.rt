@@ -1,14 +1,15 @@
 //! The laws of the deck, each the contract of a function that does nothing: that the definitions of drifts, steps and runs
 //! mean what was meant.
-ghost use Rattle.std.specs.Prelude.{◌≡◌, ◌≢◌, ◌↔◌, ◌⊎◌, ◌<◌, ◌+◌, ◌||◌, ℕ, Bool, true, false, None, Some, List, [], ◌∷◌, ◌++◌, length, slice_get};
+ghost use Rattle.std.specs.Prelude.{◌≡◌, ◌≢◌, ◌↔◌, ◌⊎◌, ◌<◌, ◌+◌, ◌||◌, ℕ, Bool, true, false, None, Option, Some, List, [], ◌∷◌, ◌++◌, length, slice_get};
 ghost use Rattle.std.specs.List.{All};
 ghost use Rattle.block9.specs.Command.{is_nak, name_of};
 ghost use Rattle.block9.specs.declared.block.Block.{Block};
 ghost use Rattle.block9.specs.declared.command.Command.{Command};
 ghost use Rattle.block9.specs.declared.pairer.Exchange.{Exchange};
 ghost use Rattle.deck9.specs.Contradict.{CanPass, HasBelieving};
+ghost use Rattle.deck9.specs.declared.deck.Deck.{Deck as ADeck};
 ghost use Rattle.deck9.specs.Drift.{Drift, DriftsTo};
-ghost use Rattle.deck9.specs.Laws.{AreAnswered, IsRightReply, SetsInDay, ShowJust};
+ghost use Rattle.deck9.specs.Laws.{AreAnswered, ForgetsNoMore, IsRightReply, PassesNoMore, SetsInDay, ShowJust};
 ghost use Rattle.deck9.specs.Local.{may_ignore};
 ghost use Rattle.deck9.specs.Mode.{index_of, is_mode};
 ghost use Rattle.deck9.specs.Run.{Ends, HasRun};
@@ -33,9 +34,10 @@ pub fn drifts_join()
     ensures more { (p : Profile) (s t u : State) → Drift p s t → Drift p t u → Drift p s u }
 {}
 
-/// A drift, any finite number of moves, comes to one of four pairs of goal and shown mode, or where hands are
-/// allowed and the panel is on, to any state with the panel on.
-pub fn drift_is_four_pairs()
+/// A drift, any finite number of moves, comes to one of these pairs of goal and shown mode: the goal with the mode shown before, with
+/// itself, or with a mode on the way to it; STOP with itself, or with a mode on the way to it. Or where hands are allowed and the panel
+/// is on, it comes to any state with the panel on.
+pub fn a_drift_by_pairs()
     ensures { (p : Profile) (s t : State) → Drift p s t ↔ DriftsTo p s t }
 {}
 
@@ -51,7 +53,14 @@ pub fn local_ignores_listed_commands()
 
 /// Replies that a deck can give that nobody touches, a deck can give too that somebody may touch.
 pub fn hands_explain_no_less()
-    ensures { (rate : Rate) (es : List Exchange) → HasRun (record { rate = rate; hands = Hands.None }) es → HasRun (record { rate = rate; hands = Hands.Allowed }) es }
+    ensures { (rate : Rate) (deck : Option ADeck) (es : List Exchange) → HasRun (record { rate = rate; hands = Hands.None; deck = deck }) es → HasRun (record { rate = rate; hands = Hands.Allowed; deck = deck }) es }
+{}
+
+/// A deck at which each command does no more than at another, and that has no more modes on the way to each goal, has no run that
+/// the other has not.
+pub fn a_sheet_that_forgets_less()
+    ensures { (p : Profile) (less more : Option ADeck) (es : List Exchange) → ForgetsNoMore p less more → PassesNoMore less more
+        → HasRun (record p { deck = less }) es → HasRun (record p { deck = more }) es }
 {}
 
 /// The states that the runs of no exchange end in are the first states; and those of one exchange more are

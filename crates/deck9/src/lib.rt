@@ -12,6 +12,7 @@
 //! The modes, the effects, what a status shows and the drift are this profile's choice.
 #![tactic(auto)]
 
+mod deck;
 mod drift;
 mod effect;
 mod knowledge;
@@ -27,6 +28,7 @@ mod state;
 mod status;
 mod step;
 
+pub use deck::{Deck, Forgotten};
 pub use effect::{Change, Effect};
 pub use knowledge::{Knowledge, Known, KnownEntry};
 pub use local::may_ignore;

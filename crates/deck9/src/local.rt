@@ -11,7 +11,7 @@ pub fn may_ignore(command: &Command) -> bool
     ensures { result ≡ may_ignore command.now }
 {
     matches!(
-        Effect::of(command),
+        Effect::listed(command),
         Effect::Go(_) | Effect::KeepOrStop | Effect::Change(_, _)
     )
 }

@@ -53,6 +53,20 @@ impl ModeSet {
             | ModeSet::VAR.0,
     );
 
+    /// The modes on the way to each goal, in the order of the modes.
+    pub(crate) const WAYS: &'static [ModeSet; 10] = &[
+        ModeSet::STOP,
+        ModeSet::STOP,
+        ModeSet::BEFORE_REC,
+        ModeSet::STOP,
+        ModeSet::STOP,
+        ModeSet::STOP,
+        ModeSet::STOP,
+        ModeSet::STOP,
+        ModeSet::BEFORE_CUED,
+        ModeSet::STOP,
+    ];
+
     /// The flags in the order of their bits.
     const FLAGS: &'static [Flag<ModeSet>] = &[
         Flag {
@@ -202,11 +216,7 @@ impl ModeSet {
         ensures bits { result ≡ way goal }
         ensures has { (m : AMode) → has result.0 m ≡ is_one_of (on_the_way goal) m }
     {
-        match goal {
-            Mode::Rec => ModeSet::BEFORE_REC,
-            Mode::Cued => ModeSet::BEFORE_CUED,
-            _ => ModeSet::STOP,
-        }
+        ModeSet::WAYS[goal.index()]
     }
 }
 

@@ -1,27 +1,59 @@
 //! What a deck is taken for.
 
+use crate::deck::Deck;
+use crate::effect::Effect;
+use crate::mode::Mode;
+use crate::mode_set::ModeSet;
 use crate::state::Hands;
+use block9::Command;
 use tc25::Rate;
 
-/// What a deck is taken for: the rate of its time code, and whether hands may touch its panel.
-#[derive(Clone, Copy, Debug, PartialEq, Eq)]
+/// What a deck is taken for: the rate of its time code, whether hands may touch its panel, and what it does of its own.
+#[derive(Drop)]
 pub struct Profile {
     /// The rate at which its times are counted.
     pub rate: Rate,
     /// Whether hands may touch its panel during a capture.
     pub hands: Hands,
+    /// What it forgets at commands that are not listed, and the modes on the way to its goals: this profile's own where it is
+    /// `None`.
+    pub deck: Option<Deck>,
 }
 
 impl Profile {
-    ghost use Rattle.std.specs.Prelude.{◌≡◌};
+    ghost use Rattle.std.specs.Prelude.{◌≡◌, None};
+    ghost use Rattle.deck9.specs.Deck.{way_of};
+    ghost use Rattle.deck9.specs.Effect.{effect_of};
 
-    /// A deck of 25 frames a second.
+    /// A deck of 25 frames a second that does what this profile says of every deck.
     pub fn of(hands: Hands) -> Profile
-        ensures { result ≡ record { rate = Rate.Fps25; hands = hands } }
+        ensures { result ≡ record { rate = Rate.Fps25; hands = hands; deck = None } }
+    {
+        Profile::at(Rate::Fps25, hands)
+    }
+
+    /// A deck of this rate that does what this profile says of every deck.
+    pub fn at(rate: Rate, hands: Hands) -> Profile
+        ensures { result ≡ record { rate = rate; hands = hands; deck = None } }
     {
         Profile {
-            rate: Rate::Fps25,
+            rate,
             hands,
+            deck: None,
         }
+    }
+
+    /// What a command does where it is acknowledged.
+    pub(crate) fn effect(&self, command: &Command) -> Effect
+        ensures { result ≡ effect_of self.now.deck command.now }
+    {
+        Deck::effect(self.deck.as_ref(), command)
+    }
+
+    /// The modes that it may show on the way to a goal.
+    pub(crate) fn way(&self, goal: Mode) -> ModeSet
+        ensures { result ≡ way_of self.now.deck goal }
+    {
+        Deck::way(self.deck.as_ref(), goal)
     }
 }

@@ -1,5 +1,5 @@
 //! Whether states are those of a run: a second opinion on the sets of states that a tracker keeps, with no set in it.
-ghost use Rattle.std.specs.Prelude.{◌↔◌, IsTrue};
+ghost use Rattle.std.specs.Prelude.{◌↔◌, IsTrue, None};
 ghost use Rattle.deck9.specs.Run.{IsRun, IsRunFrom};
 ghost use Rattle.deck9.specs.Working.{Begins};
 ghost use Rattle.deck9.specs.Step.{Exchanges};
@@ -12,16 +12,16 @@ use tc25::Rate;
 
 /// Whether these are the states after each of the exchanges in some run of a deck of 25 frames a second: [`is_run_of`].
 pub fn is_run(exchanges: &[Exchange], states: &[State], hands: Hands) -> bool
-    ensures { IsTrue result ↔ IsRun (record { rate = Rate.Fps25; hands = hands }) exchanges.now states.now }
+    ensures { IsTrue result ↔ IsRun (record { rate = Rate.Fps25; hands = hands; deck = None }) exchanges.now states.now }
 {
-    is_run_of(Profile::of(hands), exchanges, states)
+    is_run_of(&Profile::of(hands), exchanges, states)
 }
 
 /// Whether these are the states after each of the exchanges in some run of the deck: true exactly where there are
 /// as many states as exchanges, and the deck can go from some first state by each exchange, with a drift before it,
 /// to the state that is named for it. Takes no memory.
-pub fn is_run_of(profile: Profile, exchanges: &[Exchange], states: &[State]) -> bool
-    ensures { IsTrue result ↔ IsRun profile exchanges.now states.now }
+pub fn is_run_of(profile: &Profile, exchanges: &[Exchange], states: &[State]) -> bool
+    ensures { IsTrue result ↔ IsRun profile.now exchanges.now states.now }
 {
     match (exchanges.split_first(), states.split_first()) {
         (None, None) => true,
@@ -33,8 +33,8 @@ pub fn is_run_of(profile: Profile, exchanges: &[Exchange], states: &[State]) -> 
 }
 
 /// Whether these are the states after each of the exchanges, from one state on.
-fn goes_on(profile: Profile, first: &State, exchanges: &[Exchange], states: &[State]) -> bool
-    ensures { IsTrue result ↔ IsRunFrom profile first.now exchanges.now states.now }
+fn goes_on(profile: &Profile, first: &State, exchanges: &[Exchange], states: &[State]) -> bool
+    ensures { IsTrue result ↔ IsRunFrom profile.now first.now exchanges.now states.now }
 {
     if exchanges.len() != states.len() {
         return false;
@@ -50,8 +50,8 @@ fn goes_on(profile: Profile, first: &State, exchanges: &[Exchange], states: &[St
 }
 
 /// Whether the first exchange of a run can leave the deck in a state.
-fn begins(profile: Profile, exchange: &Exchange, after: &State) -> bool
-    ensures { IsTrue result ↔ Begins profile exchange.now after.now }
+fn begins(profile: &Profile, exchange: &Exchange, after: &State) -> bool
+    ensures { IsTrue result ↔ Begins profile.now exchange.now after.now }
 {
     match profile.hands {
         Hands::None => steps_from_some(profile, exchange, false, after),
@@ -63,8 +63,8 @@ fn begins(profile: Profile, exchange: &Exchange, after: &State) -> bool
 }
 
 /// Whether an exchange, with the drift before it, can take the deck from a state to another.
-fn goes(profile: Profile, exchange: &Exchange, before: &State, after: &State) -> bool
-    ensures { IsTrue result ↔ Exchanges profile exchange.now.command exchange.now.reply before.now after.now }
+fn goes(profile: &Profile, exchange: &Exchange, before: &State, after: &State) -> bool
+    ensures { IsTrue result ↔ Exchanges profile.now exchange.now.command exchange.now.reply before.now after.now }
 {
     if drifts_and_steps(profile, exchange, before, after) {
         return true;

@@ -18,6 +18,7 @@ impl Sense {
     ghost use Rattle.deck9.specs.Shows.{sense_of};
 
     /// What a command asks for.
+    #[inline(always)] // it is asked of every exchange
     pub fn of(command: &Command) -> Sense
         ensures { result ≡ sense_of command.now }
     {

@@ -12,8 +12,8 @@ use block9::Exchange;
 use tc25::Rate;
 
 /// Whether the step of an exchange can take the deck from a state, without a drift, to another.
-pub(crate) fn steps(profile: Profile, exchange: &Exchange, before: &State, after: &State) -> bool
-    ensures { IsTrue result ↔ Steps profile exchange.now before.now after.now }
+pub(crate) fn steps(profile: &Profile, exchange: &Exchange, before: &State, after: &State) -> bool
+    ensures { IsTrue result ↔ Steps profile.now exchange.now before.now after.now }
 {
     if exchange.reply.is_nak() {
         return after.is(before);
@@ -22,12 +22,12 @@ pub(crate) fn steps(profile: Profile, exchange: &Exchange, before: &State, after
         return false;
     }
     let is_ignored = may_ignore(&exchange.command) && before.local && after.is(before);
-    is_ignored || does(profile, &Effect::of(&exchange.command), before, after)
+    is_ignored || does(profile, &profile.effect(&exchange.command), before, after)
 }
 
 /// Whether an effect can take the deck from a state to another.
-fn does(profile: Profile, effect: &Effect, before: &State, after: &State) -> bool
-    ensures { IsTrue result ↔ Does profile effect.now before.now after.now }
+fn does(profile: &Profile, effect: &Effect, before: &State, after: &State) -> bool
+    ensures { IsTrue result ↔ Does profile.now effect.now before.now after.now }
 {
     let rate = profile.rate;
     match effect {
@@ -39,6 +39,7 @@ fn does(profile: Profile, effect: &Effect, before: &State, after: &State) -> boo
             Hands::None => after.is(before),
             Hands::Allowed => after.is(&before.with_panel(*on)),
         },
+        Effect::ForgetMotion => after.is(&before.with_goal(after.goal).with_shown(after.shown)),
         Effect::ForgetTape => {
             after.is_of(rate) && after.local == before.local && after.panel == before.panel
         }
@@ -59,13 +60,13 @@ fn keeps_panel(hands: Hands, before: &State, after: &State) -> bool
 
 /// Whether a change of a register can take the deck from a state to another.
 fn changes(
-    profile: Profile,
+    profile: &Profile,
     register: Register,
     change: &Change,
     before: &State,
     after: &State,
 ) -> bool
-    ensures { IsTrue result ↔ Does profile (Effect.Change register change.now) before.now after.now }
+    ensures { IsTrue result ↔ Does profile.now (Effect.Change register change.now) before.now after.now }
 {
     let entry = *after.entry(register);
     let becomes = becomes(profile.rate, change, before.entry(register), &entry);

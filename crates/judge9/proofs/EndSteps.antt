@@ -1,5 +1,5 @@
 -- What is kept at each end of a judging that keeps its exchanges, and why a record broke a rule.
-use Rattle.judge9.proofs.Words.{Paired, Rate, Spoils, EndedExchange, IsBefore, IsEnd, IsFresh, subst, sym, ℕ}
+use Rattle.judge9.proofs.Words.{Paired, Rate, Spoils, EndedExchange, IsBefore, IsEnd, subst, sym, ℕ}
 use Rattle.judge9.proofs.Words.{[], ap, append_assoc, arith, BreaksAtLast, Cut, Ending, Err, Exchange, Profile, inl, inr, IsBreakAfter, IsErrAnd}
 use Rattle.judge9.proofs.Words.{JudgeError, Judging, KeepsExchanges, length, length_push, LineByte, List, None, Ok, Option, Reason, refl, Result, Rows, some_end}
 use Rattle.judge9.proofs.Words.{take, take-append_seam, Tracked, Turn, Turned, Verdict, View, ◌++◌, ◌∙◌, ◌∷◌, ◌≡◌, ◌≢◌}

@@ -1,8 +1,8 @@
 -- The laws on lists of records that keep the rules, on answers, on judging with hands, and on reasons.
-use Rattle.judge9.proofs.Words.{Hands, Rate, [], Answer, ap, append-nil, append_assoc, Applies, arith, Breaks, cases_lt, Cut, cut_once, cut_parted, drop, Exchange, exchange_kept, explained_of}
+use Rattle.judge9.proofs.Words.{Deck, Hands, Rate, [], Answer, ap, append-nil, append_assoc, Applies, arith, Breaks, cases_lt, Cut, cut_once, cut_parted, drop, Exchange, exchange_kept, explained_of}
 use Rattle.judge9.proofs.Words.{first_before_last, first_holds, first_once, Profile, HasRun, Holds, inl, inr, IsAnswer, IsExchange, IsFirst, IsFirstBreak, IsKept, IsOk, IsReason}
 use Rattle.judge9.proofs.Words.{IsTail, kept_by_tail, kept_less, last_is_first, last_time, last_time-append, length, length-append, length_push, LineByte, List, None, Option}
-use Rattle.judge9.proofs.Words.{order, pairing, quiet_kept, rank, rank_low, rank_once, Reason, refl, Rows, run_with_hands, same_parts, Some, subst, sym, take, take-append-drop, take-append-le}
+use Rattle.judge9.proofs.Words.{order, pairing, quiet_kept, rank, rank_low, rank_once, Reason, refl, Rows, same_parts, Some, subst, sym, take, take-append-drop, take-append-le}
 use Rattle.judge9.proofs.Words.{take-append_seam, Verdict, ℕ, ◌++◌, ◌-◌, ◌<◌, ◌∙◌, ◌∷◌, ◌≡◌, ◌≢◌, ◌≤◌}
 use Rattle.block9.proofs.ReasonLemmas as block
 use Rattle.judge9.proofs.RunSteps.{run_less}
@@ -90,20 +90,27 @@ answer_once profile rows (Answer.judged (Verdict.Yes r e t)) (Answer.judged (Ver
     cc (ap length same.0, ap length same.1)
 answer_once profile rows a b i j = cc (i.0, j.0)
 
--- ---- what is explained without hands is explained with them, and no break comes earlier
+-- ---- what one deck explains, another of its rate that has all its runs explains too, and no break comes earlier
 
-ok_with_hands : (rate : Rate) (p : List LineByte) → IsOk (record { rate = rate; hands = Hands.None }) p → IsOk (record { rate = rate; hands = Hands.Allowed }) p
-ok_with_hands rate p ok = record { exchanges = ok.exchanges; tail = ok.tail; cut = ok.cut; run = run_with_hands rate ok.exchanges ok.run }
+-- a deck has all the runs of another
+abbrev HasMore : Profile → Profile → Type 0
+HasMore less more = (es : List Exchange) → HasRun less es → HasRun more es
 
-pub yes_with_hands : (rate : Rate) (rows : Rows) (records exchanges tail : ℕ) → IsAnswer (record { rate = rate; hands = Hands.None }) rows (Answer.judged (Verdict.Yes records exchanges tail))
-    → IsAnswer (record { rate = rate; hands = Hands.Allowed }) rows (Answer.judged (Verdict.Yes records exchanges tail))
-yes_with_hands rate rows records exchanges tail (whole, c) = (
+ok_with_more : (rate : Rate) (h k : Hands) (d e : Option Deck) (p : List LineByte) → HasMore (record { rate = rate; hands = h; deck = d }) (record { rate = rate; hands = k; deck = e })
+    → IsOk (record { rate = rate; hands = h; deck = d }) p → IsOk (record { rate = rate; hands = k; deck = e }) p
+ok_with_more rate h k d e p more ok = record { exchanges = ok.exchanges; tail = ok.tail; cut = ok.cut; run = more ok.exchanges ok.run }
+
+pub yes_with_more : (rate : Rate) (h k : Hands) (d e : Option Deck) (rows : Rows) (records exchanges tail : ℕ)
+    → HasMore (record { rate = rate; hands = h; deck = d }) (record { rate = rate; hands = k; deck = e })
+    → IsAnswer (record { rate = rate; hands = h; deck = d }) rows (Answer.judged (Verdict.Yes records exchanges tail))
+    → IsAnswer (record { rate = rate; hands = k; deck = e }) rows (Answer.judged (Verdict.Yes records exchanges tail))
+yes_with_more rate h k d e rows records exchanges tail more (whole, c) = (
   whole,
   record {
     cut_exchanges = c.cut_exchanges;
     cut_tail = c.cut_tail;
     cut = c.cut;
-    run = run_with_hands rate c.cut_exchanges c.run;
+    run = more c.cut_exchanges c.run;
     number =
         c.number;
     exchange_number = c.exchange_number;
@@ -111,9 +118,12 @@ yes_with_hands rate rows records exchanges tail (whole, c) = (
   },
 )
 
-pub no_with_hands : (rate : Rate) (rows : Rows) (at other : ℕ) (reason another : Reason) → IsAnswer (record { rate = rate; hands = Hands.None }) rows (Answer.judged (Verdict.No at reason))
-    → IsAnswer (record { rate = rate; hands = Hands.Allowed }) rows (Answer.judged (Verdict.No other another)) → at ≤ other
-no_with_hands rate rows at other reason another w v = omega (arith, no_longer v w.before (w.next ∷ w.after) (ok_with_hands rate w.before (is_ok w)) w.split)
+pub no_with_more : (rate : Rate) (h k : Hands) (d e : Option Deck) (rows : Rows) (at other : ℕ) (reason another : Reason)
+    → HasMore (record { rate = rate; hands = h; deck = d }) (record { rate = rate; hands = k; deck = e })
+    → IsAnswer (record { rate = rate; hands = h; deck = d }) rows (Answer.judged (Verdict.No at reason))
+    → IsAnswer (record { rate = rate; hands = k; deck = e }) rows (Answer.judged (Verdict.No other another)) → at ≤ other
+no_with_more rate h k d e rows at other reason another more w v =
+    omega (arith, no_longer v w.before (w.next ∷ w.after) (ok_with_more rate h k d e w.before more (is_ok w)) w.split)
 
 -- ---- which reason a record gets: that of pairing where a rule of pairing is broken, and else that no run remains
 

@@ -1,14 +1,14 @@
 -- What comes after a break, and how far there is to go.
 use Rattle.judge9.proofs.Words.{[], ap, append-nil, append_assoc, Appends, AppendsPart, AreParts, AreTextsOf, arith, Begins, begins_next_part, Bool, Breaks, BrokenPart}
-use Rattle.judge9.proofs.Words.{CaptureError, Err, Exchange, exchanges_of, false, GivesAll, GivesEnd, GivesRecord, GivesRefusal, Profile, inl, inr, IsTextOf, JudgeError}
-use Rattle.judge9.proofs.Words.{JudgesParts, Judging, last_of, length, length-append, length_push, line_of, LineByte, List, may_begin, NoneBegins, None, number_of, Ok}
+use Rattle.judge9.proofs.Words.{CaptureError, Err, Exchange, exchanges_of, false, GivesAll, GivesEnd, GivesRecord, GivesRefusal, Profile, inl, inr, JudgeError}
+use Rattle.judge9.proofs.Words.{JudgesParts, Judging, last_of, length, length-append, length_push, line_of, LineByte, List, may_begin, NoneBegins, None, Ok}
 use Rattle.judge9.proofs.Words.{Option, Progress, Reason, records_in, refl, refusal_of, Rest, rest_after, Result, Resumes, ResumesAfter, Rows, subst, sym}
-use Rattle.judge9.proofs.Words.{TakesUp, true, Turn, Verdict, View, ℕ, ⊤, ◌++◌, ◌+◌, ◌∙◌, ◌∷◌, ◌≡◌, ◌≤◌, ◌⊎◌}
+use Rattle.judge9.proofs.Words.{TakesUp, true, Turn, Verdict, View, ℕ, ◌++◌, ◌+◌, ◌∙◌, ◌∷◌, ◌≡◌, ◌≤◌, ◌⊎◌}
 use Rattle.std.specs.Bool.{MatchBool}
 use Rattle.judge9.proofs.LineSteps.{cut_len}
 use Rattle.judge9.proofs.PartLemmas.{Onward, parts-memory, parts-refusal, parts-write}
 use Rattle.judge9.proofs.PartSteps.{AreRead, passed_all, passed_to, read_all, read_one}
-use Rattle.judge9.proofs.PartTurns.{arrive_first, Arrives, AtTurn, Before}
+use Rattle.judge9.proofs.PartTurns.{arrive_first, Arrives, Before}
 use Rattle.judge9.proofs.SoFar.{Keeps, keeps-none, Seen, seen, so_far-begin, SoFar}
 use Rattle.judge9.proofs.TellLemmas.{cut_counts}
 

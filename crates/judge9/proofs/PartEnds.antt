@@ -1,22 +1,21 @@
 -- What each turn of a judging of all parts leads to.
-use Rattle.judge9.proofs.Words.{append-nil, [], ap, Appends, Appends-trans, arith, Breaks, BrokenPart, ComesTo, EndsPart, Err, Exchange, exchanges_of, Explains, GivesRecord, Profile, inl, inr, JudgeError, JudgesParts, Judging}
+use Rattle.judge9.proofs.Words.{append-nil, [], ap, Appends-trans, arith, Breaks, BrokenPart, ComesTo, EndsPart, Err, Exchange, exchanges_of, Explains, GivesRecord, Profile, inl, inr, JudgeError, JudgesParts, Judging}
 use Rattle.judge9.proofs.Words.{length, length-append, LineByte, List, None, Ok, Option, part_after, Possible, Progress, Puts, Reason, records_in, refl, Result, Rows, subst, sym, Turn, View}
 use Rattle.judge9.proofs.Words.{ℕ, ◌++◌, ◌∙◌, ◌∷◌, ◌≡◌, ◌≤◌}
 use Rattle.judge9.proofs.Words.{IfOk, IsToTheEnd, Paired, WrittenInParts, ◌+◌}
 use Rattle.verdict9.specs.Lines.{line_of_totals}
 use Rattle.verdict9.specs.declared.totals.Totals.{Totals}
 use Rattle.judge9.proofs.Words.{Appends-nil, IsFresh, IsTextOf, number_of, no_rows-can_be, Ok, records_of, PartsTold, ◌<◌}
-use Rattle.judge9.proofs.Words.{All, BreaksAtLast, Feeds, IsBreakAfter, IsBreakText, length_push, Step, take, take-length, text_of_why, ◌≢◌}
+use Rattle.judge9.proofs.Words.{BreaksAtLast, Feeds, IsBreakAfter, IsBreakText, length_push, Step, take, take-length, text_of_why, ◌≢◌}
 use Rattle.verdict9.specs.Telling.{view_of}
 use Rattle.verdict9.specs.declared.verdict.Telling.{Telling}
-use Rattle.verdict9.specs.declared.verdict.Telling.TheVariants as Telling
 use Rattle.judge9.proofs.EndSteps.{broken_why, no_run_why, unmoved}
 use Rattle.judge9.proofs.TurnSteps.{IsEnded}
 use Rattle.judge9.proofs.CutSteps.{cut-exchange}
 use Rattle.judge9.proofs.LawLemmas.{pairing_reason}
 use Rattle.judge9.proofs.PartMeasure.{left_to_do, less-up}
 use Rattle.judge9.proofs.LineSteps.{appended, cut_len, none_after}
-use Rattle.judge9.proofs.PartBreaks.{after_break, AfterBreak, break_line, break-write, broken_at, exchanges_push, records_joined, resume}
+use Rattle.judge9.proofs.PartBreaks.{after_break, break_line, break-write, broken_at, exchanges_push, records_joined, resume}
 use Rattle.judge9.proofs.PartLemmas.{IsPlain, Onward, onward-more, onward-start, OnwardAll, parts-memory, parts-write, plain, told_in_parts}
 use Rattle.judge9.proofs.PartTurns.{arrive, Arrives, AtTurn, Before, wrote_all}
 use Rattle.judge9.proofs.SoFar.{exchange_ended, given_on, keeps-none, Seen, seen, so_far-start, unread, seen_now, seen_on, so_far-exchange, so_far-exchange_items, so_far-more, SoFar, step_on}

@@ -1,6 +1,6 @@
 -- What the parts of a capture are to the capture that begins with each.
 use Rattle.judge9.proofs.Words.{[], All, All-cons, All-nil, ap, AreCounts, AreParts, AreTotals, arith, begins_next_part, Bool, BrokenPart, drop, false, from_command, Profile, IsFirstBreak, IsPart, length, LineByte}
-use Rattle.judge9.proofs.Words.{List, may_begin, number_of, Part, Reason, refl, Rest, rest_after, subst, sym, true, ℕ, ◌++◌, ◌+◌, ◌∙◌, ◌∷◌, ◌≡◌}
+use Rattle.judge9.proofs.Words.{List, may_begin, number_of, Part, Reason, refl, Rest, rest_after, sym, true, ℕ, ◌++◌, ◌+◌, ◌∙◌, ◌∷◌, ◌≡◌}
 use Rattle.std.proofs.lemmas.List.{drop-drop}
 use Rattle.std.proofs.Math.Seq.{drop-append_seam}
 use Rattle.verdict9.specs.declared.totals.Totals.{Totals}

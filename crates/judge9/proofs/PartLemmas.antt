@@ -1,5 +1,5 @@
 -- What is told of all parts of a capture, at each end of the judging.
-use Rattle.judge9.proofs.Words.{[], ap, append-nil, append_assoc, Appends, AppendsPart, AreParts, AreTextsOf, Bool, BrokenPart, CaptureError, CaptureKind, Err, Exchange, false, false≢true, given-refused, GivesRefusal, Profile, HasHeader, IfSome, if◌then◌else◌, inl, inr, is_of_text, IsPlaced, IsTrue, JudgeError, JudgesParts, length, LineByte, List, None, Ok, Option, Progress, refl, refusal_of, refused-after, Rest, Result, Rows, Some, subst, sym, PartsTold, true, View, WrittenInParts, ℕ, ⊤, ◌++◌, ◌∙◌, ◌∷◌, ◌≡◌, ◌≢◌}
+use Rattle.judge9.proofs.Words.{[], ap, append-nil, append_assoc, Appends, AppendsPart, AreParts, AreTextsOf, Bool, BrokenPart, CaptureError, CaptureKind, Err, Exchange, false, false≢true, given-refused, GivesRefusal, Profile, HasHeader, IfSome, if◌then◌else◌, inl, is_of_text, IsPlaced, IsTrue, JudgeError, JudgesParts, length, LineByte, List, None, Ok, Option, Progress, refl, refusal_of, refused-after, Rest, Result, Rows, Some, subst, sym, PartsTold, true, View, WrittenInParts, ℕ, ⊤, ◌++◌, ◌∙◌, ◌∷◌, ◌≡◌, ◌≢◌}
 use Rattle.verdict9.specs.declared.totals.Totals.{Totals}
 use Rattle.judge9.proofs.PartSteps.{AreRead}
 use Rattle.judge9.proofs.SoFar.{Keeps, Seen, seen, WereRead}

@@ -1,7 +1,7 @@
 -- Each turn of a judging of all parts leaves less to do: rows that are still to come, or the same record in a part of its own.
 use Rattle.judge9.proofs.Words.{Rate, [], ap, arith, Begins, begins_next_part, BeginsWith, Bool, CaptureError, Command, ComesTo, Err, false, first_holds, GivesEnd, GivesRecord, GivesRefusal, Profile, if◌then◌else◌, inl, inr}
 use Rattle.judge9.proofs.Words.{IsTaken, JudgeError, Judging, last_of, length, length-append, LineByte, List, may_begin, Ok, Paired, Progress, Reason, refl, refusal_of, Result, Resumes, ResumesAfter, Some, subst}
-use Rattle.judge9.proofs.Words.{TakesUp, takes_up_at, true, Turn, Turned, Waits, ℕ, ◌*◌, ◌+◌, ◌-◌, ◌<◌, ◌≡◌, ◌≤◌, ◌⊎◌}
+use Rattle.judge9.proofs.Words.{TakesUp, takes_up_at, true, Turn, Turned, ℕ, ◌*◌, ◌+◌, ◌-◌, ◌<◌, ◌≡◌, ◌≤◌, ◌⊎◌}
 use Rattle.std.proofs.Common.{◌&&◌}
 use Rattle.std.specs.Bool.{MatchBool}
 use Rattle.block9.specs.Reason.{Holds, IsAnswered, IsOpen as IsOpenBlock, IsReason, order}

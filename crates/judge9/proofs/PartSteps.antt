@@ -1,6 +1,6 @@
 -- What is passed over after a break, where the next part begins, and what a judging of all parts comes to.
-use Rattle.judge9.proofs.Words.{[], append-nil, append_assoc, AreGiven, arith, false, from_command, given-more, GivesAll, GivesRecord, last_of, length, length-append, LineByte}
-use Rattle.judge9.proofs.Words.{List, may_begin, NoneBegins, Option, Progress, refl, Rest, Rows, Standing, subst, sym, true, ℕ, ◌++◌, ◌+◌, ◌∙◌, ◌∷◌, ◌≡◌, ◌≤◌}
+use Rattle.judge9.proofs.Words.{[], append-nil, append_assoc, AreGiven, arith, false, from_command, given-more, GivesAll, GivesRecord, last_of, length, LineByte}
+use Rattle.judge9.proofs.Words.{List, may_begin, NoneBegins, Option, Progress, refl, Rows, Standing, subst, true, ℕ, ◌++◌, ◌+◌, ◌∙◌, ◌∷◌, ◌≡◌, ◌≤◌}
 use Rattle.judge9.proofs.SoFar.{read-more, WereRead}
 
 -- ---- records that were given one after another

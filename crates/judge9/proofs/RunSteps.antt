@@ -1,5 +1,5 @@
 -- Runs of the deck, and the states that a tracker keeps, from one exchange to the next.
-use Rattle.judge9.proofs.Words.{[], AreReached, Ends, ends_more, ends_none, Exchange, Exchanges, Profile, HasRun, KeepsEnds, List, Possible, some_end, State, Tracked}
+use Rattle.judge9.proofs.Words.{[], AreReached, ends_more, ends_none, Exchange, Exchanges, Profile, HasRun, KeepsEnds, List, Possible, some_end, State, Tracked}
 use Rattle.judge9.proofs.Words.{◌++◌, ◌↔◌, ◌∙◌, ◌∷◌, ◌≡◌}
 use Rattle.deck9.specs.State.{IsFirst}
 

@@ -2,7 +2,7 @@
 use Rattle.judge9.proofs.Words.{[], All, ap, append-nil, append_assoc, AreMarks, AreReached, arith, drop, Ends, ends_more, ends_none, Exchange, Exchanges, FollowsFrom, get_or}
 use Rattle.judge9.proofs.Words.{GoesBack, Profile, inl, inr, IsNextMark, IsRun, KeepsEnds, last_mark, Leads, LeadsFrom, length, length_push, List, Mark, None, Option, place_of, Possible, refl}
 use Rattle.judge9.proofs.Words.{reverse, reverse-append, reverse-reverse, slice_get, slice_range, Some, State, subst, suc, sym, take, take-add, take_all, take_more, Tracked, tracked_by, ℕ}
-use Rattle.judge9.proofs.Words.{◌++◌, ◌+◌, ◌-◌, ◌<◌, ◌↔◌, ◌∙◌, ◌∷◌, ◌≡◌, ◌≤◌, ◌⊎◌}
+use Rattle.judge9.proofs.Words.{◌++◌, ◌+◌, ◌-◌, ◌<◌, ◌↔◌, ◌∙◌, ◌∷◌, ◌≡◌, ◌≤◌}
 use Rattle.judge9.specs.Working.WayBack.{GoesOn}
 use Rattle.deck9.specs.State.{IsFirst}
 use Rattle.std.proofs.Math.Seq.{drop-cons}

@@ -24,7 +24,7 @@ pub use Rattle.capture9.specs.Error.{is_of_text, IsAfter}
 pub use Rattle.capture9.specs.Records.{IsPlaced, Progress, TakesRecord}
 pub use Rattle.capture9.specs.Rows.{HasHeader, rows_of}
 pub use Rattle.capture9.specs.SomeText.{CanBeRows, IsOfSomeText}
-pub use Rattle.deck9.proofs.LawLemmas.{run_with_hands}
+pub use Rattle.deck9.specs.declared.deck.Deck.{Deck}
 pub use Rattle.deck9.proofs.RunLemmas.{ends_more, ends_none, join_runs, last_joined, some_end}
 pub use Rattle.deck9.proofs.RunSearch.{run_start}
 pub use Rattle.deck9.specs.Contradict.{Passes}

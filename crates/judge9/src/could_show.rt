@@ -17,11 +17,11 @@ use track9::Tracker;
 /// exchanges before it, and a drift.
 pub(crate) fn could_show(
     alloc: Global,
-    profile: Profile,
+    profile: &Profile,
     exchanges: &[Exchange],
 ) -> Result<(Knowledge, ModeSet), AllocError>
-    requires breaks { BreaksAtLast profile exchanges.now }
-    ensures { IfOk result (λ told. CouldShow profile exchanges.now told.0 told.1) }
+    requires breaks { BreaksAtLast profile.now exchanges.now }
+    ensures { IfOk result (λ told. CouldShow profile.now exchanges.now told.0 told.1) }
 {
     let mut tracker = Tracker::of(alloc, profile)?;
     let told = shown_after(&mut tracker, profile, exchanges);
@@ -32,13 +32,13 @@ pub(crate) fn could_show(
 /// What was known of the deck, and which modes it could show, by a tracker that has taken nothing yet.
 fn shown_after(
     tracker: &mut Tracker<SpanSet>,
-    profile: Profile,
+    profile: &Profile,
     exchanges: &[Exchange],
 ) -> Result<(Knowledge, ModeSet), AllocError>
-    requires breaks { BreaksAtLast profile exchanges.now }
-    requires states { (s : AState) → Possible tracker.old.states s ↔ IsFirst profile s }
-    requires profile { tracker.old.profile ≡ profile }
-    ensures { IfOk result (λ told. CouldShow profile exchanges.now told.0 told.1) }
+    requires breaks { BreaksAtLast profile.now exchanges.now }
+    requires states { (s : AState) → Possible tracker.old.states s ↔ IsFirst profile.now s }
+    requires profile { tracker.old.profile ≡ profile.now }
+    ensures { IfOk result (λ told. CouldShow profile.now exchanges.now told.0 told.1) }
 {
     follow(tracker, &exchanges[..exchanges.len() - 1])?;
     tracker.drift()?;

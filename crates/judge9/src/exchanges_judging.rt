@@ -18,11 +18,11 @@ use verdict9::JudgeError;
 pub(crate) fn keep_exchanges<R: Read + Drop>(
     judging: &mut Judging<R>,
     exchanges: &mut Vec<Exchange>,
-    profile: Profile,
+    profile: &Profile,
 ) -> Result<Ending, JudgeError>
-    requires fresh { IsFresh profile judging.old }
+    requires fresh { IsFresh profile.now judging.old }
     requires none { exchanges.old.items ≡ [] }
-    ensures { KeepsExchanges profile judging.old.rows.rows result judging.new.pairer exchanges.new.items judging.new.tracker }
+    ensures { KeepsExchanges profile.now judging.old.rows.rows result judging.new.pairer exchanges.new.items judging.new.tracker }
 {
     let mut spans = 0;
     let mut end_us = None;

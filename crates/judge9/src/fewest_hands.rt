@@ -22,24 +22,23 @@ use block9::Exchange;
 use deck9::{Hands, Profile, State, is_run_of};
 use sets25::{SharedSet, SpanSet};
 use std::alloc::{AllocError, Global};
-use tc25::Rate;
 use track9::{Start, Tracker};
 
 /// The states after each of these exchanges in a run that ends in a state of this tracker, or, where hands are allowed,
 /// in one with the fewest moves of a hand, which keeps what it can.
 pub(crate) fn states_of_run(
     alloc: Global,
-    profile: Profile,
+    profile: &Profile,
     exchanges: &[Exchange],
     end: &Tracker<SpanSet>,
     pace: Pace,
 ) -> Result<Vec<State>, AllocError>
-    requires keeps { KeepsEnds profile exchanges.now end.now }
+    requires keeps { KeepsEnds profile.now exchanges.now end.now }
     requires some { (s : AState) × Possible end.now.states s }
-    ensures { IfOk result (λ states. IsRun profile exchanges.now states.items) }
+    ensures { IfOk result (λ states. IsRun profile.now exchanges.now states.items) }
 {
     if profile.hands == Hands::Allowed {
-        let states = states_with_fewest_moves(alloc, profile.rate, exchanges, pace)?;
+        let states = states_with_fewest_moves(alloc, profile, exchanges, pace)?;
         if let Some(states) = if_a_run(profile, exchanges, states) {
             return Ok(states);
         }
@@ -48,8 +47,8 @@ pub(crate) fn states_of_run(
 }
 
 /// These states, where they are those after each of the exchanges in some run, and else `None`.
-fn if_a_run(profile: Profile, exchanges: &[Exchange], states: Vec<State>) -> Option<Vec<State>>
-    ensures { IfSome result (λ states. IsRun profile exchanges.now states.items) }
+fn if_a_run(profile: &Profile, exchanges: &[Exchange], states: Vec<State>) -> Option<Vec<State>>
+    ensures { IfSome result (λ states. IsRun profile.now exchanges.now states.items) }
 {
     if is_run_of(profile, exchanges, &states) {
         Some(states)
@@ -61,12 +60,12 @@ fn if_a_run(profile: Profile, exchanges: &[Exchange], states: Vec<State>) -> Opt
 /// The states after each exchange in a run with the fewest moves of a hand, as the search finds them.
 fn states_with_fewest_moves(
     alloc: Global,
-    rate: Rate,
+    profile: &Profile,
     exchanges: &[Exchange],
     pace: Pace,
 ) -> Result<Vec<State>, AllocError> {
-    let starts = starts_of_stretches(alloc, rate, exchanges)?;
-    let states = states_of_stretches(alloc, rate, exchanges, &starts, pace);
+    let starts = starts_of_stretches(alloc, profile, exchanges)?;
+    let states = states_of_stretches(alloc, profile, exchanges, &starts, pace);
     drop(starts);
     states
 }
@@ -74,13 +73,13 @@ fn states_with_fewest_moves(
 /// The places at which the stretches begin, the first of them 0: a hand moves before the exchange at each other one.
 fn starts_of_stretches(
     alloc: Global,
-    rate: Rate,
+    profile: &Profile,
     exchanges: &[Exchange],
 ) -> Result<Vec<usize>, AllocError> {
     let mut starts = Vec::new(alloc);
     let mut start = 0;
     starts.push(start)?;
-    while let Some(length) = length_before_hand(alloc, rate, &exchanges[start..])? {
+    while let Some(length) = length_before_hand(alloc, profile, &exchanges[start..])? {
         if length == 0 {
             break;
         }
@@ -94,13 +93,13 @@ fn starts_of_stretches(
 /// such exchanges have no run.
 fn length_before_hand(
     alloc: Global,
-    rate: Rate,
+    profile: &Profile,
     exchanges: &[Exchange],
 ) -> Result<Option<usize>, AllocError>
     ensures { IfOk result (λ o. IfSome o (λ at. at ≤ length exchanges.now)) }
 {
-    let mut tracker = Tracker::<SpanSet>::starting(alloc, rate, &NOTHING)?;
-    let length = last_moment(&mut tracker, exchanges);
+    let mut tracker = Tracker::<SpanSet>::starting(alloc, profile, &NOTHING)?;
+    let length = last_moment(profile, &mut tracker, exchanges);
     drop(tracker);
     length
 }
@@ -108,6 +107,7 @@ fn length_before_hand(
 /// The last moment for a hand before the exchange at which no state remains of a deck that nobody touches, as the number of
 /// exchanges before it, or `None` where one remains after them all.
 fn last_moment(
+    profile: &Profile,
     tracker: &mut Tracker<SpanSet>,
     exchanges: &[Exchange],
 ) -> Result<Option<usize>, AllocError>
@@ -122,7 +122,7 @@ fn last_moment(
         if !tracker.observe(&exchange.command, &exchange.reply)? {
             return Ok(Some(moment));
         }
-        may_be_on = may_be_on_after(exchange, may_be_on);
+        may_be_on = may_be_on_after(profile, exchange, may_be_on);
     }
     Ok(None)
 }
@@ -130,13 +130,13 @@ fn last_moment(
 /// The states after each exchange in such a run, where its stretches begin at these places.
 fn states_of_stretches(
     alloc: Global,
-    rate: Rate,
+    profile: &Profile,
     exchanges: &[Exchange],
     starts: &[usize],
     pace: Pace,
 ) -> Result<Vec<State>, AllocError> {
     let mut states = Vec::new(alloc);
-    match put_states(alloc, rate, exchanges, starts, pace, &mut states) {
+    match put_states(alloc, profile, exchanges, starts, pace, &mut states) {
         Ok(()) => Ok(states),
         Err(error) => {
             drop(states);
@@ -149,24 +149,24 @@ fn states_of_stretches(
 /// switched afterwards.
 fn put_states(
     alloc: Global,
-    rate: Rate,
+    profile: &Profile,
     exchanges: &[Exchange],
     starts: &[usize],
     pace: Pace,
     states: &mut Vec<State>,
 ) -> Result<(), AllocError> {
-    go_through_stretches(alloc, rate, exchanges, starts, pace, states)?;
+    go_through_stretches(alloc, profile, exchanges, starts, pace, states)?;
     for start in starts {
-        switch_on_for_hand(between(exchanges, 0, *start), states);
+        switch_on_for_hand(profile, between(exchanges, 0, *start), states);
     }
-    switch_panels(exchanges, states);
+    switch_panels(profile, exchanges, states);
     Ok(())
 }
 
 /// Puts the states after each exchange after `states`, one stretch after the other.
 fn go_through_stretches(
     alloc: Global,
-    rate: Rate,
+    profile: &Profile,
     exchanges: &[Exchange],
     starts: &[usize],
     pace: Pace,
@@ -174,12 +174,18 @@ fn go_through_stretches(
 ) -> Result<(), AllocError> {
     let mut start = 0;
     for next in starts {
-        put_stretch(alloc, rate, between(exchanges, start, *next), pace, states)?;
+        put_stretch(
+            alloc,
+            profile,
+            between(exchanges, start, *next),
+            pace,
+            states,
+        )?;
         start = *next;
     }
     put_stretch(
         alloc,
-        rate,
+        profile,
         between(exchanges, start, exchanges.len()),
         pace,
         states,
@@ -198,21 +204,21 @@ fn between(exchanges: &[Exchange], start: usize, end: usize) -> &[Exchange] {
 /// state before it.
 fn put_stretch(
     alloc: Global,
-    rate: Rate,
+    profile: &Profile,
     exchanges: &[Exchange],
     pace: Pace,
     states: &mut Vec<State>,
 ) -> Result<(), AllocError> {
     let found = states.last().copied();
     let kept = match &found {
-        Some(found) => kept_by_hand(alloc, rate, found, exchanges)?,
+        Some(found) => kept_by_hand(alloc, profile, found, exchanges)?,
         None => NOTHING,
     };
     let mut stretch = Vec::new(alloc);
-    go_back_untouched(alloc, rate, &kept, exchanges, pace, &mut stretch)?;
+    go_back_untouched(alloc, profile, &kept, exchanges, pace, &mut stretch)?;
     stretch.reverse();
     if let Some(found) = &found {
-        keep_modes(rate, found, exchanges, stretch.as_mut_slice());
+        keep_modes(alloc, profile, found, exchanges, stretch.as_mut_slice())?;
     }
     states.extend_from_slice(stretch.as_slice())
 }
@@ -221,13 +227,13 @@ fn put_stretch(
 /// each of them into `states`, the last one first. It puts none where they have no such run.
 fn go_back_untouched(
     alloc: Global,
-    rate: Rate,
+    profile: &Profile,
     kept: &Start,
     exchanges: &[Exchange],
     pace: Pace,
     states: &mut Vec<State>,
 ) -> Result<(), AllocError> {
-    let first = Tracker::starting(alloc, rate, kept)?;
+    let first = Tracker::starting(alloc, profile, kept)?;
     let result = go_back_along(alloc, &first, exchanges, pace, states);
     drop(first);
     result

@@ -35,19 +35,23 @@ pub(crate) enum Turn {
 
 /// How far the judging of a capture has come.
 #[derive(Drop)]
-pub(crate) struct Judging<R: Read + Drop> {
+pub(crate) struct Judging<'a, R: Read + Drop> {
     /// The rows that are still to come.
     pub(crate) rows: Records<R>,
     /// The records that are open.
     pub(crate) pairer: Pairer,
     /// The states that the deck could be in.
-    pub(crate) tracker: Tracker<SpanSet>,
+    pub(crate) tracker: Tracker<'a, SpanSet>,
 }
 
-impl<R: Read + Drop> Judging<R> {
+impl<'a, R: Read + Drop> Judging<'a, R> {
     /// The judging of what the reader gives. It reads nothing yet; an error comes where memory is refused.
-    pub(crate) fn new(alloc: Global, reader: R, profile: Profile) -> Result<Judging<R>, AllocError>
-        ensures fresh { IfOk result (IsFresh profile) }
+    pub(crate) fn new(
+        alloc: Global,
+        reader: R,
+        profile: &'a Profile,
+    ) -> Result<Judging<'a, R>, AllocError>
+        ensures fresh { IfOk result (IsFresh profile.now) }
         ensures rows { IfOk result (λ j. j.rows.rows ≡ option_map rows_of (R.remaining reader)) }
     {
         let tracker = Tracker::of(alloc, profile)?;
@@ -101,12 +105,12 @@ impl<R: Read + Drop> Judging<R> {
     pub(crate) fn take_up(
         &mut self,
         alloc: Global,
-        profile: Profile,
+        profile: &'a Profile,
         reason: Reason,
         last: LineByte,
     ) -> Result<Turn, JudgeError>
         requires { (before : Progress R) × GivesRecord before last self.old.rows }
-        ensures { TakesUp profile reason last self.old result self.new }
+        ensures { TakesUp profile.now reason last self.old result self.new }
     {
         let Ok(()) = self.forget(alloc, profile) else {
             return Err(JudgeError::OutOfMemory);
@@ -121,9 +125,9 @@ impl<R: Read + Drop> Judging<R> {
     }
 
     /// Nothing is open from here on, and nothing is known of the deck. An error comes where memory is refused.
-    fn forget(&mut self, alloc: Global, profile: Profile) -> Result<(), AllocError>
+    fn forget(&mut self, alloc: Global, profile: &'a Profile) -> Result<(), AllocError>
         ensures rows { self.new.rows ≡ self.old.rows }
-        ensures begins { OnOk result (Begins profile self.new) }
+        ensures begins { OnOk result (Begins profile.now self.new) }
     {
         let tracker = Tracker::of(alloc, profile)?;
         drop(replace(&mut self.tracker, tracker));

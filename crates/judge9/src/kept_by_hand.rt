@@ -3,10 +3,9 @@
 //! The search is not proved: what is found with it is asked of `is_run`.
 
 use block9::Exchange;
-use deck9::{Hands, Profile, State, is_run_of};
+use deck9::{Profile, State};
 use sets25::SpanSet;
 use std::alloc::{AllocError, Global};
-use tc25::Rate;
 use track9::{Start, Tracker};
 
 /// A field of a state that a hand may keep or change.
@@ -47,14 +46,14 @@ pub(crate) const NOTHING: Start = Start {
 /// a run of a deck that nobody touches, together with the fields kept before it.
 pub(crate) fn kept_by_hand(
     alloc: Global,
-    rate: Rate,
+    profile: &Profile,
     found: &State,
     exchanges: &[Exchange],
 ) -> Result<Start, AllocError> {
     let mut kept = NOTHING;
     for field in FIELDS {
         let tried = with_field(&kept, field, found);
-        if has_run(alloc, rate, &tried, exchanges)? {
+        if has_run(alloc, profile, &tried, exchanges)? {
             kept = tried;
         }
     }
@@ -79,11 +78,11 @@ fn with_field(kept: &Start, field: Field, found: &State) -> Start {
 /// Whether the exchanges have a run of a deck that nobody touches and of which this is known before them.
 fn has_run(
     alloc: Global,
-    rate: Rate,
+    profile: &Profile,
     start: &Start,
     exchanges: &[Exchange],
 ) -> Result<bool, AllocError> {
-    let mut tracker = Tracker::<SpanSet>::starting(alloc, rate, start)?;
+    let mut tracker = Tracker::<SpanSet>::starting(alloc, profile, start)?;
     let has_run = goes_on(&mut tracker, exchanges);
     drop(tracker);
     has_run
@@ -101,9 +100,15 @@ fn goes_on(tracker: &mut Tracker<SpanSet>, exchanges: &[Exchange]) -> Result<boo
 
 /// Lets the deck go on from the hand's move as late as it can: the first of the states after it keeps the goal and the shown
 /// mode that the hand found, or one of them, where the next state may come from it as well.
-pub(crate) fn keep_modes(rate: Rate, found: &State, exchanges: &[Exchange], states: &mut [State]) {
+pub(crate) fn keep_modes(
+    alloc: Global,
+    profile: &Profile,
+    found: &State,
+    exchanges: &[Exchange],
+    states: &mut [State],
+) -> Result<(), AllocError> {
     let Some(first) = states.first().copied() else {
-        return;
+        return Ok(());
     };
     let modes = [
         (found.goal, found.shown),
@@ -116,22 +121,58 @@ pub(crate) fn keep_modes(rate: Rate, found: &State, exchanges: &[Exchange], stat
             shown,
             ..first
         };
-        if may_come_first(rate, &kept, exchanges, states) {
+        if may_come_first(alloc, profile, &kept, exchanges, states)? {
             put_first(states, kept);
-            return;
+            return Ok(());
         }
     }
+    Ok(())
 }
 
 /// Whether the first exchange can leave an untouched deck in this state, and the next one then in the second of the states.
-fn may_come_first(rate: Rate, first: &State, exchanges: &[Exchange], states: &[State]) -> bool {
-    let untouched = Profile {
-        rate,
-        hands: Hands::None,
+fn may_come_first(
+    alloc: Global,
+    profile: &Profile,
+    first: &State,
+    exchanges: &[Exchange],
+    states: &[State],
+) -> Result<bool, AllocError> {
+    let Some((exchange, rest)) = exchanges.split_first() else {
+        return Ok(false);
     };
-    match (exchanges.get(..2), states.get(1)) {
-        (Some(two), Some(second)) => is_run_of(untouched, two, &[*first, *second]),
-        _ => is_run_of(untouched, exchanges, &[*first]),
+    if !leads_to(alloc, profile, &NOTHING, exchange, first)? {
+        return Ok(false);
+    }
+    match (rest.first(), states.get(1)) {
+        (Some(next), Some(second)) => leads_to(alloc, profile, &known_to_be(first), next, second),
+        _ => Ok(true),
+    }
+}
+
+/// Whether an exchange can leave a deck in this state that nobody touches and of which this is known before it.
+fn leads_to(
+    alloc: Global,
+    profile: &Profile,
+    before: &Start,
+    exchange: &Exchange,
+    after: &State,
+) -> Result<bool, AllocError> {
+    let tracker = Tracker::<SpanSet>::starting(alloc, profile, before)?;
+    let earlier = tracker.before(&exchange.command, &exchange.reply, after);
+    drop(tracker);
+    Ok(earlier.is_some())
+}
+
+/// All that there is to know of a deck in this state that nobody touches.
+fn known_to_be(state: &State) -> Start {
+    Start {
+        goal: Some(state.goal),
+        shown: Some(state.shown),
+        ins: Some(state.ins),
+        outs: Some(state.outs),
+        ains: Some(state.ains),
+        aouts: Some(state.aouts),
+        local: Some(state.local),
     }
 }
 

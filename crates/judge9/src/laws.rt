@@ -14,6 +14,8 @@ ghost use Rattle.judge9.specs.Parts.{AreParts, AreTotals, BrokenPart, IsPart, Pa
 ghost use Rattle.judge9.specs.Verdict.{AreCounts, Breaks, IsFirstBreak, IsOk};
 ghost use Rattle.std.specs.List.{All};
 ghost use Rattle.deck9.specs.Run.{HasRun};
+ghost use Rattle.deck9.specs.Laws.{ForgetsNoMore, PassesNoMore};
+ghost use Rattle.deck9.specs.declared.deck.Deck.{Deck as ADeck};
 
 use block9::Reason;
 use capture9::LineByte;
@@ -66,10 +68,19 @@ pub fn first_part_of_the_text()
 /// Who may touch the deck explains no less: a yes without hands is the same yes with them, and where both are a no, that
 /// with hands is at no earlier record.
 pub fn hands_judge_no_harder()
-    ensures yes { (rate : Rate) (rows : Rows) (records exchanges tail : ℕ) → IsAnswer (record { rate = rate; hands = Hands.None }) rows (judged (Verdict.Yes records exchanges tail))
-        → IsAnswer (record { rate = rate; hands = Hands.Allowed }) rows (judged (Verdict.Yes records exchanges tail)) }
-    ensures no { (rate : Rate) (rows : Rows) (at other : ℕ) (reason another : Reason) → IsAnswer (record { rate = rate; hands = Hands.None }) rows (judged (Verdict.No at reason))
-        → IsAnswer (record { rate = rate; hands = Hands.Allowed }) rows (judged (Verdict.No other another)) → at ≤ other }
+    ensures yes { (rate : Rate) (deck : Option ADeck) (rows : Rows) (records exchanges tail : ℕ) → IsAnswer (record { rate = rate; hands = Hands.None; deck = deck }) rows (judged (Verdict.Yes records exchanges tail))
+        → IsAnswer (record { rate = rate; hands = Hands.Allowed; deck = deck }) rows (judged (Verdict.Yes records exchanges tail)) }
+    ensures no { (rate : Rate) (deck : Option ADeck) (rows : Rows) (at other : ℕ) (reason another : Reason) → IsAnswer (record { rate = rate; hands = Hands.None; deck = deck }) rows (judged (Verdict.No at reason))
+        → IsAnswer (record { rate = rate; hands = Hands.Allowed; deck = deck }) rows (judged (Verdict.No other another)) → at ≤ other }
+{}
+
+/// A deck at which each command does no more than at another, and that has no more modes on the way to each goal, is held to no
+/// less: its yes is the same yes of the other, and where both are a no, that of the other is at no earlier record.
+pub fn a_sheet_that_forgets_less_judges_no_easier()
+    ensures yes { (p : Profile) (less more : Option ADeck) (rows : Rows) (records exchanges tail : ℕ) → ForgetsNoMore p less more → PassesNoMore less more
+        → IsAnswer (record p { deck = less }) rows (judged (Verdict.Yes records exchanges tail)) → IsAnswer (record p { deck = more }) rows (judged (Verdict.Yes records exchanges tail)) }
+    ensures no { (p : Profile) (less more : Option ADeck) (rows : Rows) (at other : ℕ) (reason another : Reason) → ForgetsNoMore p less more → PassesNoMore less more
+        → IsAnswer (record p { deck = less }) rows (judged (Verdict.No at reason)) → IsAnswer (record p { deck = more }) rows (judged (Verdict.No other another)) → at ≤ other }
 {}
 
 /// Where no part breaks, the totals are the counts of a yes, and no record is passed over.

@@ -1,7 +1,7 @@
 //! What exchanges do to the panel where hands are allowed, and states with the panel filled in.
 
 use block9::Exchange;
-use deck9::{Effect, State};
+use deck9::{Deck, Effect, Profile, State};
 
 /// What a command that is acknowledged makes of the panel.
 #[derive(Clone, Copy)]
@@ -15,11 +15,11 @@ enum Switch {
 }
 
 /// What an exchange makes of the panel, or `None` where it leaves it as it is.
-fn switch_of(exchange: &Exchange) -> Option<Switch> {
+fn switch_of(profile: &Profile, exchange: &Exchange) -> Option<Switch> {
     if exchange.reply.is_nak() {
         return None;
     }
-    match Effect::of(&exchange.command) {
+    match Deck::effect(profile.deck.as_ref(), &exchange.command) {
         Effect::Panel(true) => Some(Switch::On),
         Effect::Panel(false) => Some(Switch::Off),
         Effect::ForgetAll => Some(Switch::Free),
@@ -28,8 +28,8 @@ fn switch_of(exchange: &Exchange) -> Option<Switch> {
 }
 
 /// Whether the panel may be on after an exchange, where it is told whether it may be on before it.
-pub(crate) fn may_be_on_after(exchange: &Exchange, may_be_on: bool) -> bool {
-    match switch_of(exchange) {
+pub(crate) fn may_be_on_after(profile: &Profile, exchange: &Exchange, may_be_on: bool) -> bool {
+    match switch_of(profile, exchange) {
         Some(Switch::Off) => false,
         Some(Switch::On | Switch::Free) => true,
         None => may_be_on,
@@ -38,9 +38,9 @@ pub(crate) fn may_be_on_after(exchange: &Exchange, may_be_on: bool) -> bool {
 
 /// Switches the panel on in the states after these exchanges, for a hand that moves after the last of them: in that
 /// state and in those before it, back to the exchange that left the panel free.
-pub(crate) fn switch_on_for_hand(exchanges: &[Exchange], states: &mut [State]) {
+pub(crate) fn switch_on_for_hand(profile: &Profile, exchanges: &[Exchange], states: &mut [State]) {
     for at in (0..exchanges.len()).rev() {
-        if !switch_on(&exchanges[at], states.get_mut(at)) {
+        if !switch_on(profile, &exchanges[at], states.get_mut(at)) {
             return;
         }
     }
@@ -48,11 +48,11 @@ pub(crate) fn switch_on_for_hand(exchanges: &[Exchange], states: &mut [State]) {
 
 /// Switches the panel on in the state after an exchange, and tells whether it has to be switched on before the exchange
 /// too: not where it was on already, and not where the exchange switched it or left it free.
-fn switch_on(exchange: &Exchange, state: Option<&mut State>) -> bool {
+fn switch_on(profile: &Profile, exchange: &Exchange, state: Option<&mut State>) -> bool {
     match state {
         Some(state) if !state.panel => {
             state.panel = true;
-            switch_of(exchange).is_none()
+            switch_of(profile, exchange).is_none()
         }
         _ => false,
     }
@@ -60,21 +60,21 @@ fn switch_on(exchange: &Exchange, state: Option<&mut State>) -> bool {
 
 /// Switches the panel in the states after each of the exchanges on and off, as the commands do. Where a command leaves it
 /// free, it stays as it is in that state, and as it is in the first one before all of them.
-pub(crate) fn switch_panels(exchanges: &[Exchange], states: &mut [State]) {
+pub(crate) fn switch_panels(profile: &Profile, exchanges: &[Exchange], states: &mut [State]) {
     let mut is_on = match states.first() {
         Some(state) => state.panel,
         None => false,
     };
     for (exchange, state) in exchanges.iter().zip(states.iter_mut()) {
-        is_on = is_on_after(exchange, is_on, state.panel);
+        is_on = is_on_after(profile, exchange, is_on, state.panel);
         state.panel = is_on;
     }
 }
 
 /// Whether the panel is on after an exchange, where it is told whether it is on before it, and whether it is on after it
 /// where the command leaves it free.
-fn is_on_after(exchange: &Exchange, is_on: bool, where_free: bool) -> bool {
-    match switch_of(exchange) {
+fn is_on_after(profile: &Profile, exchange: &Exchange, is_on: bool, where_free: bool) -> bool {
+    match switch_of(profile, exchange) {
         Some(Switch::On) => true,
         Some(Switch::Off) => false,
         Some(Switch::Free) => where_free,

@@ -1,5 +1,5 @@
 //! Judges the whole capture: where a record breaks a rule, the judging goes on with the next part, and the totals come last.
-ghost use Rattle.std.specs.Prelude.{◌≡◌, ◌≢◌, IfErr, IfOk, IfSome, OnOk, option_map};
+ghost use Rattle.std.specs.Prelude.{◌≡◌, ◌≢◌, IfErr, IfOk, IfSome, OnOk, option_map, None};
 ghost use Rattle.capture9.specs.Rows.{HasHeader, rows_of};
 ghost use Rattle.judge9.specs.PartsReport.{IsTextOf, ToldInParts};
 ghost use Rattle.verdict9.specs.Lines.{line_of_totals};
@@ -53,14 +53,14 @@ pub fn judge_parts<R: Read + Drop, W: Write>(
     telling: Telling,
     hands: Hands,
 ) -> Result<Totals, JudgeError>
-    ensures told { ToldInParts telling (record { rate = Rate.Fps25; hands = hands }) (option_map rows_of (R.remaining reader)) result
+    ensures told { ToldInParts telling (record { rate = Rate.Fps25; hands = hands; deck = None }) (option_map rows_of (R.remaining reader)) result
         (W.contents writer.old) (W.contents writer.new) }
     ensures kind { (e : CaptureError) → result ≡ Err (JudgeError.Capture e)
         → e.kind ≢ CaptureKind.OutOfMemory }
     ensures header { IfSome (R.remaining reader) (λ text. (e : CaptureError)
         → result ≡ Err (JudgeError.Capture e) → e.row ≢ 0 → HasHeader (rows_of text)) }
 {
-    judge_parts_for(alloc, reader, writer, telling, Profile::of(hands))
+    judge_parts_for(alloc, reader, writer, telling, &Profile::of(hands))
 }
 
 /// Judges the whole capture of a deck that is taken for this, part by part: [`judge_parts`] at any rate.
@@ -69,9 +69,9 @@ pub fn judge_parts_for<R: Read + Drop, W: Write>(
     reader: R,
     writer: &mut W,
     telling: Telling,
-    profile: Profile,
+    profile: &Profile,
 ) -> Result<Totals, JudgeError>
-    ensures told { ToldInParts telling profile (option_map rows_of (R.remaining reader)) result
+    ensures told { ToldInParts telling profile.now (option_map rows_of (R.remaining reader)) result
         (W.contents writer.old) (W.contents writer.new) }
     ensures kind { (e : CaptureError) → result ≡ Err (JudgeError.Capture e)
         → e.kind ≢ CaptureKind.OutOfMemory }
@@ -88,16 +88,16 @@ pub fn judge_parts_for<R: Read + Drop, W: Write>(
 }
 
 /// Judges all the rows that are to come and tells of them. `line` is room for a line, whose content is not kept.
-fn judge_rows<R: Read + Drop, W: Write>(
+fn judge_rows<'a, R: Read + Drop, W: Write>(
     alloc: Global,
-    judging: &mut Judging<R>,
+    judging: &mut Judging<'a, R>,
     line: &mut Vec<u8>,
     writer: &mut W,
     telling: Telling,
-    profile: Profile,
+    profile: &'a Profile,
 ) -> Result<Totals, JudgeError>
-    requires { IsFresh profile judging.old }
-    ensures { JudgesParts (IsTextOf telling profile) (view_of telling) profile judging.old.rows.rows result (W.contents writer.old) (W.contents writer.new) }
+    requires { IsFresh profile.now judging.old }
+    ensures { JudgesParts (IsTextOf telling profile.now) (view_of telling) profile.now judging.old.rows.rows result (W.contents writer.old) (W.contents writer.new) }
 {
     let mut breaks = 0u32;
     let mut exchanges = 0u32;
@@ -176,14 +176,14 @@ fn put_break<R: Read + Drop>(
     line: &mut Vec<u8>,
     judging: &Judging<R>,
     telling: Telling,
-    profile: Profile,
+    profile: &Profile,
     reason: Reason,
     last: LineByte,
     kept: Kept,
 ) -> Result<(), JudgeError>
-    requires rate { judging.now.pairer.rate ≡ profile.rate }
-    requires breaks { telling ≡ Telling.Why → reason ≡ Reason.NoRun → BreaksAtLast profile kept.exchanges.items }
-    ensures ok { OnOk result (IsBreakText telling profile judging.now.rows.given reason last judging.now.pairer.tail kept.exchanges.items kept.end_us line.new.items) }
+    requires rate { judging.now.pairer.rate ≡ profile.now.rate }
+    requires breaks { telling ≡ Telling.Why → reason ≡ Reason.NoRun → BreaksAtLast profile.now kept.exchanges.items }
+    ensures ok { OnOk result (IsBreakText telling profile.now judging.now.rows.given reason last judging.now.pairer.tail kept.exchanges.items kept.end_us line.new.items) }
     ensures err { IfErr result (λ e. e ≡ JudgeError.OutOfMemory) }
 {
     line.clear();
@@ -211,17 +211,17 @@ fn put_break<R: Read + Drop>(
 }
 
 /// Writes the text of a break at `last`, the record that was read last, and takes up where the next part begins.
-fn end_part<R: Read + Drop, W: Write>(
+fn end_part<'a, R: Read + Drop, W: Write>(
     alloc: Global,
-    judging: &mut Judging<R>,
+    judging: &mut Judging<'a, R>,
     text: &[u8],
     writer: &mut W,
-    profile: Profile,
+    profile: &'a Profile,
     reason: Reason,
     last: LineByte,
 ) -> Result<Turn, JudgeError>
     requires { (before : Progress R) × GivesRecord before last judging.old.rows }
-    ensures { EndsPart text.now profile reason last judging.old result judging.new (W.contents writer.old) (W.contents writer.new) }
+    ensures { EndsPart text.now profile.now reason last judging.old result judging.new (W.contents writer.old) (W.contents writer.new) }
 {
     let Ok(()) = put_all(writer, text) else {
         return Err(JudgeError::Write);

@@ -1,5 +1,5 @@
 //! Judges a capture and keeps its exchanges, so that a yes comes with a run of the deck.
-ghost use Rattle.std.specs.Prelude.{◌≡◌, ◌≢◌, IfSome, IfErr, option_map};
+ghost use Rattle.std.specs.Prelude.{◌≡◌, ◌≢◌, IfSome, IfErr, option_map, None};
 ghost use Rattle.capture9.specs.Rows.{rows_of};
 ghost use Rattle.judge9.specs.Judging.{CanBeResult, IsTheAnswer, StoppedBefore, answer_of};
 ghost use Rattle.judge9.specs.RunVerdict.{IsJudgedRun, judged_of};
@@ -44,29 +44,29 @@ pub fn judge_with_run<R: Read + Drop>(
     hands: Hands,
 ) -> Result<RunVerdict, JudgeError>
     ensures answer { IfSome (R.remaining reader)
-        (λ text. IfSome (answer_of (judged_of result)) (IsTheAnswer (record { rate = Rate.Fps25; hands = hands }) (rows_of text))) }
-    ensures run { IsJudgedRun (record { rate = Rate.Fps25; hands = hands }) (option_map rows_of (R.remaining reader)) result }
+        (λ text. IfSome (answer_of (judged_of result)) (IsTheAnswer (record { rate = Rate.Fps25; hands = hands; deck = None }) (rows_of text))) }
+    ensures run { IsJudgedRun (record { rate = Rate.Fps25; hands = hands; deck = None }) (option_map rows_of (R.remaining reader)) result }
     ensures stopped { IfSome (R.remaining reader)
-        (λ text. IfErr result (StoppedBefore (record { rate = Rate.Fps25; hands = hands }) (rows_of text))) }
+        (λ text. IfErr result (StoppedBefore (record { rate = Rate.Fps25; hands = hands; deck = None }) (rows_of text))) }
     ensures kind { (e : CaptureError) → result ≡ Err (JudgeError.Capture e)
         → e.kind ≢ CaptureKind.OutOfMemory }
     ensures write { result ≢ Err JudgeError.Write }
     ensures can_be { CanBeResult (judged_of result) }
 {
-    judge_with_run_for(alloc, reader, Profile::of(hands))
+    judge_with_run_for(alloc, reader, &Profile::of(hands))
 }
 
 /// Judges the capture of a deck that is taken for this, and gives a yes with a run: [`judge_with_run`] at any rate.
 pub fn judge_with_run_for<R: Read + Drop>(
     alloc: Global,
     reader: R,
-    profile: Profile,
+    profile: &Profile,
 ) -> Result<RunVerdict, JudgeError>
     ensures answer { IfSome (R.remaining reader)
-        (λ text. IfSome (answer_of (judged_of result)) (IsTheAnswer profile (rows_of text))) }
-    ensures run { IsJudgedRun profile (option_map rows_of (R.remaining reader)) result }
+        (λ text. IfSome (answer_of (judged_of result)) (IsTheAnswer profile.now (rows_of text))) }
+    ensures run { IsJudgedRun profile.now (option_map rows_of (R.remaining reader)) result }
     ensures stopped { IfSome (R.remaining reader)
-        (λ text. IfErr result (StoppedBefore profile (rows_of text))) }
+        (λ text. IfErr result (StoppedBefore profile.now (rows_of text))) }
     ensures kind { (e : CaptureError) → result ≡ Err (JudgeError.Capture e)
         → e.kind ≢ CaptureKind.OutOfMemory }
     ensures write { result ≢ Err JudgeError.Write }
@@ -84,10 +84,10 @@ pub fn judge_with_run_for<R: Read + Drop>(
 fn judge_rows<R: Read + Drop>(
     alloc: Global,
     judging: &mut Judging<R>,
-    profile: Profile,
+    profile: &Profile,
 ) -> Result<RunVerdict, JudgeError>
-    requires { IsFresh profile judging.old }
-    ensures { JudgesRun profile judging.old.rows.rows result }
+    requires { IsFresh profile.now judging.old }
+    ensures { JudgesRun profile.now judging.old.rows.rows result }
 {
     let mut exchanges = Vec::new(alloc);
     match keep_exchanges(judging, &mut exchanges, profile) {

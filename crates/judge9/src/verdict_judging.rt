@@ -1,5 +1,5 @@
 //! Judges a capture as it is read, turn by turn, and tells the line of each exchange.
-ghost use Rattle.std.specs.Prelude.{◌≡◌, ◌≢◌, IfSome, IfErr, option_map};
+ghost use Rattle.std.specs.Prelude.{◌≡◌, ◌≢◌, IfSome, IfErr, option_map, None};
 ghost use Rattle.capture9.specs.Rows.{rows_of};
 ghost use Rattle.judge9.specs.Judging.{CanBeResult, IsTheAnswer, StoppedBefore, answer_of};
 ghost use Rattle.verdict9.specs.Lines.{line_of};
@@ -74,16 +74,16 @@ pub fn judge<R: Read + Drop, W: Write>(
     hands: Hands,
 ) -> Result<Verdict, JudgeError>
     ensures answer { IfSome (R.remaining reader)
-        (λ text. IfSome (answer_of result) (IsTheAnswer (record { rate = Rate.Fps25; hands = hands }) (rows_of text))) }
-    ensures told { Told view (record { rate = Rate.Fps25; hands = hands }) (option_map rows_of (R.remaining reader)) result
+        (λ text. IfSome (answer_of result) (IsTheAnswer (record { rate = Rate.Fps25; hands = hands; deck = None }) (rows_of text))) }
+    ensures told { Told view (record { rate = Rate.Fps25; hands = hands; deck = None }) (option_map rows_of (R.remaining reader)) result
         (W.contents writer.old) (W.contents writer.new) }
     ensures stopped { IfSome (R.remaining reader)
-        (λ text. IfErr result (StoppedBefore (record { rate = Rate.Fps25; hands = hands }) (rows_of text))) }
+        (λ text. IfErr result (StoppedBefore (record { rate = Rate.Fps25; hands = hands; deck = None }) (rows_of text))) }
     ensures kind { (e : CaptureError) → result ≡ Err (JudgeError.Capture e)
         → e.kind ≢ CaptureKind.OutOfMemory }
     ensures can_be { CanBeResult result }
 {
-    judge_for(alloc, reader, writer, view, Profile::of(hands))
+    judge_for(alloc, reader, writer, view, &Profile::of(hands))
 }
 
 /// Judges the capture of a deck that is taken for this: [`judge`] at any rate.
@@ -92,14 +92,14 @@ pub fn judge_for<R: Read + Drop, W: Write>(
     reader: R,
     writer: &mut W,
     view: View,
-    profile: Profile,
+    profile: &Profile,
 ) -> Result<Verdict, JudgeError>
     ensures answer { IfSome (R.remaining reader)
-        (λ text. IfSome (answer_of result) (IsTheAnswer profile (rows_of text))) }
-    ensures told { Told view profile (option_map rows_of (R.remaining reader)) result
+        (λ text. IfSome (answer_of result) (IsTheAnswer profile.now (rows_of text))) }
+    ensures told { Told view profile.now (option_map rows_of (R.remaining reader)) result
         (W.contents writer.old) (W.contents writer.new) }
     ensures stopped { IfSome (R.remaining reader)
-        (λ text. IfErr result (StoppedBefore profile (rows_of text))) }
+        (λ text. IfErr result (StoppedBefore profile.now (rows_of text))) }
     ensures kind { (e : CaptureError) → result ≡ Err (JudgeError.Capture e)
         → e.kind ≢ CaptureKind.OutOfMemory }
     ensures can_be { CanBeResult result }
@@ -119,10 +119,10 @@ fn judge_rows<R: Read + Drop, W: Write>(
     line: &mut Vec<u8>,
     writer: &mut W,
     view: View,
-    profile: Profile,
+    profile: &Profile,
 ) -> Result<Verdict, JudgeError>
-    requires { IsFresh profile judging.old }
-    ensures { Judges view profile judging.old.rows.rows result (W.contents writer.old) (W.contents writer.new) }
+    requires { IsFresh profile.now judging.old }
+    ensures { Judges view profile.now judging.old.rows.rows result (W.contents writer.old) (W.contents writer.new) }
 {
     let mut exchanges = 0u32;
     'rows: loop {
@@ -195,13 +195,13 @@ pub(crate) fn explain<W: Write>(
     line: &mut Vec<u8>,
     writer: &mut W,
     view: View,
-    profile: Profile,
+    profile: &Profile,
     number: u32,
     exchange: &Exchange,
     tracker: &Tracker<SpanSet>,
 ) -> Result<(), JudgeError>
     requires { (s : AState) × Possible tracker.now.states s }
-    ensures { Explains view profile number exchange.now (Possible tracker.now.states) result (W.contents writer.old) (W.contents writer.new) }
+    ensures { Explains view profile.now number exchange.now (Possible tracker.now.states) result (W.contents writer.old) (W.contents writer.new) }
 {
     match view {
         View::Verdict => Ok(()),
@@ -213,13 +213,13 @@ pub(crate) fn explain<W: Write>(
 fn write_line<W: Write>(
     line: &mut Vec<u8>,
     writer: &mut W,
-    profile: Profile,
+    profile: &Profile,
     number: u32,
     exchange: &Exchange,
     tracker: &Tracker<SpanSet>,
 ) -> Result<(), JudgeError>
     requires { (s : AState) × Possible tracker.now.states s }
-    ensures { Explains View.Explain profile number exchange.now (Possible tracker.now.states) result (W.contents writer.old) (W.contents writer.new) }
+    ensures { Explains View.Explain profile.now number exchange.now (Possible tracker.now.states) result (W.contents writer.old) (W.contents writer.new) }
 {
     let knowledge = tracker.knowledge();
     line.clear();

@@ -8,7 +8,7 @@ ghost use Rattle.deck9.specs.Run.{IsRun};
 ghost use Rattle.deck9.specs.Step.{Exchanges};
 ghost use Rattle.deck9.specs.declared.state.State.{State as AState};
 ghost use Rattle.judge9.specs.Working.Endings.{KeepsEnds};
-ghost use Rattle.judge9.specs.Working.WayBack.{AreMarks, FollowsFrom, GoesBack, GoesOn, LeadsFrom, last_mark, place_of, tracked_by};
+ghost use Rattle.judge9.specs.Working.WayBack.{CanComeFrom, ComesFrom, AreMarks, FollowsFrom, GoesBack, GoesOn, LeadsFrom, last_mark, place_of, tracked_by};
 ghost use Rattle.judge9.specs.declared.way_back.Mark.{Mark as AMark};
 ghost use Rattle.track9.specs.Tracker.{Possible};
 
@@ -21,9 +21,9 @@ use track9::Tracker;
 
 /// A tracker, and how many of the exchanges come before it.
 #[derive(Drop)]
-pub(crate) struct Mark {
+pub(crate) struct Mark<'d> {
     place: usize,
-    tracker: Tracker<SharedSet>,
+    tracker: Tracker<'d, SharedSet>,
 }
 
 /// How close marks are put. It bears on speed and memory alone.
@@ -70,14 +70,14 @@ impl Pace {
 /// The states after each of these exchanges in a run that ends in a state of this tracker.
 pub(crate) fn states_to(
     alloc: Global,
-    profile: Profile,
+    profile: &Profile,
     exchanges: &[Exchange],
     end: &Tracker<SpanSet>,
     pace: Pace,
 ) -> Result<Vec<State>, AllocError>
-    requires keeps { KeepsEnds profile exchanges.now end.now }
+    requires keeps { KeepsEnds profile.now exchanges.now end.now }
     requires some { (s : AState) × Possible end.now.states s }
-    ensures { IfOk result (λ states. IsRun profile exchanges.now states.items) }
+    ensures { IfOk result (λ states. IsRun profile.now exchanges.now states.items) }
 {
     let first = Tracker::of(alloc, profile)?;
     let mut states = Vec::new(alloc);
@@ -129,17 +129,16 @@ fn go_back_to(
     while at > 0 {
         at -= 1;
         lead_up(first, &mut marks, exchanges, at, pace)?;
-        let (_, before) = nearest(first, &marks);
-        state = step_back(before, &exchanges[at], state, states)?;
+        state = step_back_to_nearest(first, &marks, &exchanges[at], state, states)?;
         drop(marks.pop());
     }
     Ok(state)
 }
 
 /// Puts marks after the last one, until a tracker is the one before the exchange at `at`.
-fn lead_up(
-    first: &Tracker<SharedSet>,
-    marks: &mut Vec<Mark>,
+fn lead_up<'d>(
+    first: &Tracker<'d, SharedSet>,
+    marks: &mut Vec<Mark<'d>>,
     exchanges: &[Exchange],
     at: usize,
     pace: Pace,
@@ -150,12 +149,12 @@ fn lead_up(
     ensures nearest { OnOk result (place_of (last_mark marks.new.items) ≡ at) }
 {
     loop {
-        let (place, tracker) = nearest(first, marks);
+        let place = last_place(marks);
         if place == at {
             return Ok(());
         }
         let next = place + pace.step(at - place);
-        let copy = tracker.snapshot()?;
+        let copy = copy_of_nearest(first, marks)?;
         marks.push(Mark {
             place: next,
             tracker: copy,
@@ -164,14 +163,26 @@ fn lead_up(
     }
 }
 
-/// The last tracker that is marked, or else the first one, and how many exchanges come before it.
-fn nearest<'a>(first: &'a Tracker<SharedSet>, marks: &'a [Mark]) -> (usize, &'a Tracker<SharedSet>)
-    ensures place { result.0 ≡ place_of (last_mark marks.now) }
-    ensures tracker { result.1.now ≡ tracked_by first.now (last_mark marks.now) }
+/// How many exchanges come before the last tracker that is marked, or else before the first one.
+fn last_place(marks: &[Mark]) -> usize
+    ensures { result ≡ place_of (last_mark marks.now) }
 {
     match marks.last() {
-        Some(mark) => (mark.place, &mark.tracker),
-        None => (0, first),
+        Some(mark) => mark.place,
+        None => 0,
+    }
+}
+
+/// A tracker equal to the last one that is marked, or else to the first one. An error comes where memory is refused.
+fn copy_of_nearest<'d>(
+    first: &Tracker<'d, SharedSet>,
+    marks: &[Mark<'d>],
+) -> Result<Tracker<'d, SharedSet>, AllocError>
+    ensures { IfOk result (λ t. t ≡ tracked_by first.now (last_mark marks.now)) }
+{
+    match marks.last() {
+        Some(mark) => mark.tracker.snapshot(),
+        None => first.snapshot(),
     }
 }
 
@@ -185,6 +196,25 @@ fn go_on(marks: &mut Vec<Mark>, exchanges: &[Exchange]) -> Result<(), AllocError
     follow(&mut mark.tracker, exchanges)
 }
 
+/// Puts the state after an exchange after the others, and answers one that it may come from: one of the last tracker that is
+/// marked, or else of the first one.
+fn step_back_to_nearest(
+    first: &Tracker<SharedSet>,
+    marks: &[Mark],
+    exchange: &Exchange,
+    state: State,
+    states: &mut Vec<State>,
+) -> Result<State, AllocError>
+    requires { CanComeFrom (tracked_by first.now (last_mark marks.now)) exchange.now state }
+    ensures from { IfOk result (ComesFrom (tracked_by first.now (last_mark marks.now)) exchange.now state) }
+    ensures put { OnOk result (states.new.items ≡ states.old.items ++ state ∷ []) }
+{
+    match marks.last() {
+        Some(mark) => step_back(&mark.tracker, exchange, state, states),
+        None => step_back(first, exchange, state, states),
+    }
+}
+
 /// Puts the state after an exchange after the others, and answers one that it may come from.
 fn step_back(
     before: &Tracker<SharedSet>,
@@ -192,8 +222,8 @@ fn step_back(
     state: State,
     states: &mut Vec<State>,
 ) -> Result<State, AllocError>
-    requires { (s : AState) × Possible before.now.states s × Exchanges before.now.profile exchange.now.command exchange.now.reply s state }
-    ensures from { IfOk result (λ s. Possible before.now.states s × Exchanges before.now.profile exchange.now.command exchange.now.reply s state) }
+    requires { CanComeFrom before.now exchange.now state }
+    ensures from { IfOk result (ComesFrom before.now exchange.now state) }
     ensures put { OnOk result (states.new.items ≡ states.old.items ++ state ∷ []) }
 {
     let Some(earlier) = before.before(&exchange.command, &exchange.reply, &state) else {

@@ -1,6 +1,6 @@
 //! Judges a capture and says why a no is one: what is open where a rule of pairing is broken, and which replies contradict
 //! one another where no run of the deck remains.
-ghost use Rattle.std.specs.Prelude.{◌≡◌, ◌≢◌, ℕ, [], IfSome, IfOk, IfErr, List, Option, option_map};
+ghost use Rattle.std.specs.Prelude.{◌≡◌, ◌≢◌, ℕ, [], IfSome, IfOk, IfErr, List, Option, option_map, None};
 ghost use Rattle.capture9.specs.Rows.{rows_of};
 ghost use Rattle.judge9.specs.Judging.{CanBeResult, IsTheAnswer, StoppedBefore, answer_of};
 ghost use Rattle.verdict9.specs.OpenRecords.{IsBefore};
@@ -54,29 +54,29 @@ pub fn judge_with_contradiction<R: Read + Drop>(
     hands: Hands,
 ) -> Result<WhyVerdict, JudgeError>
     ensures answer { IfSome (R.remaining reader)
-        (λ text. IfSome (answer_of (judged_of result)) (IsTheAnswer (record { rate = Rate.Fps25; hands = hands }) (rows_of text))) }
-    ensures why { IsJudgedWhy (record { rate = Rate.Fps25; hands = hands }) (option_map rows_of (R.remaining reader)) result }
+        (λ text. IfSome (answer_of (judged_of result)) (IsTheAnswer (record { rate = Rate.Fps25; hands = hands; deck = None }) (rows_of text))) }
+    ensures why { IsJudgedWhy (record { rate = Rate.Fps25; hands = hands; deck = None }) (option_map rows_of (R.remaining reader)) result }
     ensures stopped { IfSome (R.remaining reader)
-        (λ text. IfErr result (StoppedBefore (record { rate = Rate.Fps25; hands = hands }) (rows_of text))) }
+        (λ text. IfErr result (StoppedBefore (record { rate = Rate.Fps25; hands = hands; deck = None }) (rows_of text))) }
     ensures kind { (e : CaptureError) → result ≡ Err (JudgeError.Capture e)
         → e.kind ≢ CaptureKind.OutOfMemory }
     ensures write { result ≢ Err JudgeError.Write }
     ensures can_be { CanBeResult (judged_of result) }
 {
-    judge_with_contradiction_for(alloc, reader, Profile::of(hands))
+    judge_with_contradiction_for(alloc, reader, &Profile::of(hands))
 }
 
 /// Judges the capture of a deck that is taken for this, and says why a no is one: [`judge_with_contradiction`] at any rate.
 pub fn judge_with_contradiction_for<R: Read + Drop>(
     alloc: Global,
     reader: R,
-    profile: Profile,
+    profile: &Profile,
 ) -> Result<WhyVerdict, JudgeError>
     ensures answer { IfSome (R.remaining reader)
-        (λ text. IfSome (answer_of (judged_of result)) (IsTheAnswer profile (rows_of text))) }
-    ensures why { IsJudgedWhy profile (option_map rows_of (R.remaining reader)) result }
+        (λ text. IfSome (answer_of (judged_of result)) (IsTheAnswer profile.now (rows_of text))) }
+    ensures why { IsJudgedWhy profile.now (option_map rows_of (R.remaining reader)) result }
     ensures stopped { IfSome (R.remaining reader)
-        (λ text. IfErr result (StoppedBefore profile (rows_of text))) }
+        (λ text. IfErr result (StoppedBefore profile.now (rows_of text))) }
     ensures kind { (e : CaptureError) → result ≡ Err (JudgeError.Capture e)
         → e.kind ≢ CaptureKind.OutOfMemory }
     ensures write { result ≢ Err JudgeError.Write }
@@ -94,10 +94,10 @@ pub fn judge_with_contradiction_for<R: Read + Drop>(
 fn judge_rows<R: Read + Drop>(
     alloc: Global,
     judging: &mut Judging<R>,
-    profile: Profile,
+    profile: &Profile,
 ) -> Result<WhyVerdict, JudgeError>
-    requires { IsFresh profile judging.old }
-    ensures { JudgesWhy profile judging.old.rows.rows result }
+    requires { IsFresh profile.now judging.old }
+    ensures { JudgesWhy profile.now judging.old.rows.rows result }
 {
     let mut exchanges = Vec::new(alloc);
     match keep_exchanges(judging, &mut exchanges, profile) {
@@ -172,13 +172,13 @@ pub(crate) fn why_broken(
 /// another, and what the deck could show. An error comes where memory is refused.
 pub(crate) fn why_no_run(
     alloc: Global,
-    profile: Profile,
+    profile: &Profile,
     at: u32,
     exchanges: Vec<Exchange>,
 ) -> Result<WhyVerdict, JudgeError>
-    requires { BreaksAtLast profile exchanges.items }
+    requires { BreaksAtLast profile.now exchanges.items }
     ensures ok { (r : ALineByte) (left : List ALineByte) (end_us : Option ℕ)
-        → IfOk result (SaysWhy profile at Reason.NoRun r left exchanges.items end_us) }
+        → IfOk result (SaysWhy profile.now at Reason.NoRun r left exchanges.items end_us) }
     ensures err { IfErr result (λ e. e ≡ JudgeError.OutOfMemory) }
 {
     let Ok(places) = contradicting_for(alloc, profile, &exchanges) else {

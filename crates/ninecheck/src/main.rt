@@ -16,7 +16,8 @@ fn main(rt: HostRuntime) -> ExitCode {
         None => Ok(Source::Standard(rt.reader())),
         Some(name) => Ok(Source::File(open_file(&rt, name.as_str())?)),
     };
-    let (end, _) = run_program(rt.alloc(), words, open, io::writer(&rt));
+    let open_sheet = |file: &String| open_file(&rt, file.as_str());
+    let (end, _) = run_program(rt.alloc(), words, open_sheet, open, io::writer(&rt));
     tell(&rt, &end);
     ExitCode::from(end.status())
 }

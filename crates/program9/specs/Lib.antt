@@ -1,8 +1,10 @@
 pub mod Word
 pub mod Text
+pub mod Opening
 pub mod Outcome
 pub mod Output
 pub mod Judging
+pub mod Sheet
 pub mod Status
 pub mod Version
 pub mod Program

@@ -2,14 +2,12 @@
 use Rattle.std.specs.Prelude.{◌≡◌, ◌≢◌, ◌⊎◌, ℕ, Bool, true, false, List, Option, Result, Ok, Err, IfErr, IfSome, Vec, String, map, option_map}
 use Rattle.std.specs.Global.{Global}
 use Rattle.std.specs.Io.KnownBytes.{Keeps}
-use Rattle.std.specs.IoError.{error_kind}
 use Rattle.std.specs.String.{string_bytes}
 use Rattle.std.specs.declared.io.Error.{Error}
-use Rattle.std.specs.declared.io.ErrorKind.{ErrorKind}
-use Rattle.std.specs.declared.io.ErrorKind.TheVariants.{FilesystemLoop, IsADirectory, NotADirectory, NotFound, OutOfMemory, PermissionDenied}
 use Rattle.capture9.specs.declared.error.CaptureError.{CaptureError}
 use Rattle.capture9.specs.declared.error.CaptureKind.TheVariants as kind
 use Rattle.capture9.specs.Rows.{HasHeader, Rows, rows_of}
+use Rattle.deck9.specs.declared.deck.Deck.{Deck}
 use Rattle.deck9.specs.declared.profile.Profile.{Profile}
 use Rattle.verdict9.specs.declared.error.JudgeError.{JudgeError}
 use Rattle.verdict9.specs.declared.error.JudgeError.TheVariants as error
@@ -28,34 +26,12 @@ use Rattle.words9.specs.declared.task.WordsFault.TheVariants as words
 use Rattle.words9.specs.Words.{AsksVersion, IsNoTask, IsTaskOf, MayAskVersion}
 use Rattle.program9.specs.declared.ending.End.{End}
 use Rattle.program9.specs.declared.ending.End.TheVariants as end
-use Rattle.program9.specs.declared.ending.Message.TheVariants as message
 use Rattle.program9.specs.declared.ending.Outcome.{Outcome}
-use Rattle.program9.specs.declared.ending.WhyUnopened.{WhyUnopened}
-use Rattle.program9.specs.declared.ending.WhyUnopened.TheVariants as why
 use Rattle.program9.specs.Judging.{EndsAs, TellsRun, TellsWhy}
+use Rattle.program9.specs.Opening.{no_memory, outcome_unopened}
 use Rattle.program9.specs.Outcome.{outcome_in_parts, outcome_of}
+use Rattle.program9.specs.Sheet.{FindsDeck}
 use Rattle.program9.specs.Version.{TellsVersion}
-
--- the end where memory runs out
-abbrev pub no_memory : Outcome
-no_memory = record { status = 5; message = message.NoMemory }
-
--- why a capture was not opened, by the kind of its opener's error
-abbrev pub why_of : ErrorKind → WhyUnopened
-why_of NotFound = why.NotFound
-why_of PermissionDenied = why.PermissionDenied
-why_of IsADirectory = why.IsADirectory
-why_of NotADirectory = why.NotADirectory
-why_of FilesystemLoop = why.FilesystemLoop
-why_of _ = why.Other
-
--- the end after a capture that was not opened: out of memory, or that this file can't be opened, and why
-abbrev pub outcome_of_kind : Option (String Global) → ErrorKind → Outcome
-outcome_of_kind file OutOfMemory = no_memory
-outcome_of_kind file k = record { status = 4; message = message.CannotOpen (record { file = file; why = why_of k }) }
-
-abbrev pub outcome_unopened : Option (String Global) → Error → Outcome
-outcome_unopened file e = outcome_of_kind file (error_kind e)
 
 -- what a judging with this verb tells: `check` the verdict, `explain` each exchange before it, `run` a run of the deck,
 -- `why` the replies that contradict one another
@@ -105,19 +81,44 @@ EndsJudged true verb profile capture old end now =
 EndsJudged false verb profile capture old end now =
     (result : Result Verdict JudgeError) × IsJudgedFor verb profile capture old result now × (end ≡ outcome_of result)
 
--- a task's capture was opened so, and this is the end: it was not opened, and nothing is written; or it was judged as
--- the task says; or memory for the buffer was refused, and nothing is written
-abbrev pub EndsOpened : {R : Type 0} → (R → Option (List ℕ)) → Task → Result R Error → Option (List ℕ) → Outcome → Option (List ℕ) → Type 0
-EndsOpened coming task (Err e) old end now = (end ≡ outcome_unopened task.file e) × Keeps old now
-EndsOpened coming task (Ok reader) old end now =
-    ((end ≡ no_memory) × Keeps old now) ⊎ EndsJudged (goes_on task.verb task.all) task.verb task.profile (coming reader) old end now
+-- what a task takes a deck for that does this of its own
+abbrev pub profile_of : Task → Option Deck → Profile
+profile_of task deck = record { rate = task.rate; hands = task.hands; deck = deck }
 
--- the task was carried out: its file was opened, or standard input where it names none, and this is the end
-pub record EndsTask {R : Type 0} (opens : Option (String Global) → Result R Error → Type 0) (coming : R → Option (List ℕ)) (task : Task) (old : Option (List ℕ))
-    (end : Outcome) (now : Option (List ℕ)) : Type 0 where
+-- a capture was opened so, and this is the end: it was not opened, and nothing is written; or it was judged with this verb, for a
+-- deck that is taken for this, going on after a break or not; or memory for the buffer was refused, and nothing is written
+abbrev pub EndsOpened : {R : Type 0} → (R → Option (List ℕ)) → Option (String Global) → Verb → Bool → Profile → Result R Error → Option (List ℕ) → Outcome
+    → Option (List ℕ) → Type 0
+EndsOpened coming file verb all profile (Err e) old end now = (end ≡ outcome_unopened file e) × Keeps old now
+EndsOpened coming file verb all profile (Ok reader) old end now =
+    ((end ≡ no_memory) × Keeps old now) ⊎ EndsJudged (goes_on verb all) verb profile (coming reader) old end now
+
+-- the capture was opened, or standard input where there is no file, and this is the end
+pub record EndsCapture {R : Type 0} (opens : Option (String Global) → Result R Error → Type 0) (coming : R → Option (List ℕ)) (file : Option (String Global))
+    (verb : Verb) (all : Bool) (profile : Profile) (old : Option (List ℕ)) (end : Outcome) (now : Option (List ℕ)) : Type 0 where
   pub opened : Result R Error
-  pub is_opened : opens task.file opened
-  pub ends : EndsOpened coming task opened old end now
+  pub is_opened : opens file opened
+  pub ends : EndsOpened coming file verb all profile opened old end now
+
+-- how the captures of tasks, and the sheets that they name, are opened, and what is to come of each
+pub record Files (R S : Type 0) : Type 1 where
+  pub opens : Option (String Global) → Result R Error → Type 0
+  pub coming : R → Option (List ℕ)
+  pub opens_sheet : String Global → Result S Error → Type 0
+  pub coming_sheet : S → Option (List ℕ)
+
+-- this came of the task's sheet, and this is the end: that of the sheet, and nothing is written; or that of the capture, which is
+-- opened only then
+abbrev pub EndsFound : {R S : Type 0} → Files R S → Task → Result (Option Deck) Outcome → Option (List ℕ) → Outcome → Option (List ℕ) → Type 0
+EndsFound files task (Err refused) old end now = (end ≡ refused) × Keeps old now
+EndsFound files task (Ok deck) old end now =
+    EndsCapture files.opens files.coming task.file task.verb task.all (profile_of task deck) old end now
+
+-- the task was carried out, and this is the end
+pub record EndsTask {R S : Type 0} (files : Files R S) (task : Task) (old : Option (List ℕ)) (end : Outcome) (now : Option (List ℕ)) : Type 0 where
+  pub found : Result (Option Deck) Outcome
+  pub finds : FindsDeck files.opens_sheet files.coming_sheet task.deck found
+  pub ends : EndsFound files task found old end now
 
 -- the end where there is no task: the words are none, or ask for the version, or memory was refused
 abbrev pub EndsWithout : WordsFault → Option (List ℕ) → End → Option (List ℕ) → Type 0
@@ -128,16 +129,14 @@ EndsWithout words.NoMemory old told now = (told ≡ end.Told no_memory) × Keeps
 -- the end of the program on these words: they are no command, and nothing is written; or memory was refused before a
 -- task stood, and nothing is written; or they ask for the version, and that is told; or the task that they give was
 -- carried out
-abbrev pub EndsWords : {R : Type 0} → (Option (String Global) → Result R Error → Type 0) → (R → Option (List ℕ)) → List (List ℕ) → Option (List ℕ) → End
-    → Option (List ℕ) → Type 0
-EndsWords opens coming words old (end.Usage text) now = IsNoTask words × ¬ (AsksVersion words) × Keeps old now
-EndsWords opens coming words old (end.Told outcome) now =
+abbrev pub EndsWords : {R S : Type 0} → Files R S → List (List ℕ) → Option (List ℕ) → End → Option (List ℕ) → Type 0
+EndsWords files words old (end.Usage text) now = IsNoTask words × ¬ (AsksVersion words) × Keeps old now
+EndsWords files words old (end.Told outcome) now =
     ((outcome ≡ no_memory) × Keeps old now)
     ⊎ ((MayAskVersion words × TellsVersion old outcome now)
-    ⊎ ((task : Task) × IsTaskOf words task × EndsTask opens coming task old outcome now))
+    ⊎ ((task : Task) × IsTaskOf words task × EndsTask files task old outcome now))
 
 -- the end of the program, by its words or by why there are none
-abbrev pub EndsProgram : {R : Type 0} → (Option (String Global) → Result R Error → Type 0) → (R → Option (List ℕ))
-    → Result (Vec (String Global) Global) WordsFault → Option (List ℕ) → End → Option (List ℕ) → Type 0
-EndsProgram opens coming (Err fault) old end now = EndsWithout fault old end now
-EndsProgram opens coming (Ok words) old end now = EndsWords opens coming (map (λ s. string_bytes s) words.items) old end now
+abbrev pub EndsProgram : {R S : Type 0} → Files R S → Result (Vec (String Global) Global) WordsFault → Option (List ℕ) → End → Option (List ℕ) → Type 0
+EndsProgram files (Err fault) old end now = EndsWithout fault old end now
+EndsProgram files (Ok words) old end now = EndsWords files (map (λ s. string_bytes s) words.items) old end now

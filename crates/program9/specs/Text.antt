@@ -1,6 +1,8 @@
 -- The text of what is said on standard error.
 use Rattle.std.specs.Prelude.{ℕ, List, [], ◌++◌, codes}
 use Rattle.std.specs.Fmt.{decimal}
+use Rattle.std.specs.String.{string_bytes}
+use Rattle.sheet9.specs.Text as sheet
 use Rattle.program9.specs.declared.ending.Message.{Message}
 use Rattle.program9.specs.declared.ending.Message.TheVariants as message
 use Rattle.program9.specs.Word.{expected_of, file_name_of, first_line_of, reason_of, word_of}
@@ -11,5 +13,7 @@ text_of message.Nothing = []
 text_of (message.Unreadable e) = codes "unreadable at row " ++ decimal e.row ++ codes ": " ++ word_of e.kind ++ codes "\n" ++ expected_of e.kind
 text_of (message.ReadFault row) = codes "read fault at row " ++ decimal row ++ codes "\nexpected a capture that can be read to its end, not a directory"
 text_of (message.CannotOpen u) = first_line_of u.why ++ codes "\n" ++ file_name_of u.file ++ codes ": " ++ reason_of u.why
+text_of (message.UnreadableSheet u) = codes "unreadable deck sheet\n" ++ string_bytes u.file ++ codes ": " ++ sheet.text_of u.refusal
+text_of (message.CannotOpenSheet u) = codes "cannot open\n" ++ file_name_of u.file ++ codes ": " ++ reason_of u.why
 text_of message.WriteFault = codes "write fault\nstandard output is full or closed; it has only the first part of the report"
 text_of message.NoMemory = codes "out of memory\na row may never end, or memory is short: see ulimit -v"

@@ -2,6 +2,7 @@
 
 use capture9::CaptureError;
 use clap::Error;
+use sheet9::Refusal;
 
 /// What is said on standard error, which its `Display` writes: two lines, without a line feed at the end, or nothing. The
 /// first line says what happened; the second what was expected, or what to look at.
@@ -15,13 +16,26 @@ pub enum Message {
     ReadFault(u32),
     /// The capture was not opened. No result of `judge` ends so.
     CannotOpen(Unopened),
+    /// The deck's sheet is none.
+    UnreadableSheet(UnreadSheet),
+    /// The deck's sheet was not opened, or its reader failed.
+    CannotOpenSheet(Unopened),
     /// The writer failed, was interrupted, or took no byte.
     WriteFault,
     /// A growth of memory was refused.
     NoMemory,
 }
 
-/// A capture that was not opened.
+/// A file whose text is no deck sheet.
+#[derive(Debug, Drop, PartialEq, Eq)]
+pub struct UnreadSheet {
+    /// The file, by the name that the words give.
+    pub file: String,
+    /// What is wrong with its text.
+    pub refusal: Refusal,
+}
+
+/// A capture or a deck's sheet that was not opened.
 #[derive(Debug, Drop, PartialEq, Eq)]
 pub struct Unopened {
     /// The file, by the name that the words give; standard input where there is none.
@@ -30,14 +44,15 @@ pub struct Unopened {
     pub why: WhyUnopened,
 }
 
-/// Why a capture was not opened, by the kind of the error that its opener gave.
+/// Why a file was not opened, by the kind of the error that its opener gave, or its reader.
 #[derive(Clone, Copy, Debug, PartialEq, Eq)]
 pub enum WhyUnopened {
     /// There is no such file.
     NotFound,
     /// The file may not be read.
     PermissionDenied,
-    /// It is a directory. The system opens one, and refuses its first read, so its first line is that of such a read.
+    /// It is a directory. The system opens one, and refuses its first read, so the first line of a capture is that of such a
+    /// read.
     IsADirectory,
     /// What should be a directory of the path is none.
     NotADirectory,
@@ -50,8 +65,8 @@ pub enum WhyUnopened {
 /// How the program ends where its words are a command.
 #[derive(Debug, Drop, PartialEq, Eq)]
 pub struct Outcome {
-    /// The exit status: 0 yes, or the version; 1 no, 3 a capture that can't be read, 4 a reader or a writer that failed
-    /// or a file that can't be opened, 5 out of memory. (Words that are no command end with 2, and have no outcome.)
+    /// The exit status: 0 yes, or the version; 1 no, 3 a capture or a deck's sheet that can't be read, 4 a reader or a writer that
+    /// failed or a file that can't be opened, 5 out of memory. (Words that are no command end with 2, and have no outcome.)
     pub status: u8,
     /// What is said on standard error.
     pub message: Message,

@@ -1,5 +1,5 @@
 //! The judging that a verb asks for, whose report goes through a buffer, and the flush after it.
-ghost use Rattle.std.specs.Prelude.{◌≡◌, ◌≢◌, Err, IfSome, IfErr, option_map};
+ghost use Rattle.std.specs.Prelude.{◌≡◌, ◌≢◌, Err, IfSome, IfErr, option_map, None};
 ghost use Rattle.capture9.specs.Rows.{HasHeader, rows_of};
 ghost use Rattle.judge9.specs.Judging.{CanBeResult, IsTheAnswer, StoppedBefore, answer_of};
 ghost use Rattle.judge9.specs.PartsReport.{ToldInParts};
@@ -40,17 +40,17 @@ pub fn judge_and_flush<R: Read + Drop, W: Write + Drop>(
     hands: Hands,
 ) -> Result<Verdict, JudgeError>
     ensures answer { IfSome (R.remaining reader)
-        (λ text. IfSome (answer_of result) (IsTheAnswer (record { rate = Rate.Fps25; hands = hands }) (rows_of text))) }
-    ensures told { EndsAs (TellsFor verb (record { rate = Rate.Fps25; hands = hands }) (option_map rows_of (R.remaining reader))
+        (λ text. IfSome (answer_of result) (IsTheAnswer (record { rate = Rate.Fps25; hands = hands; deck = None }) (rows_of text))) }
+    ensures told { EndsAs (TellsFor verb (record { rate = Rate.Fps25; hands = hands; deck = None }) (option_map rows_of (R.remaining reader))
         (held_contents W.contents out.old))
         result (contents_behind W.contents out.new) }
     ensures stopped { IfSome (R.remaining reader)
-        (λ text. IfErr result (StoppedBefore (record { rate = Rate.Fps25; hands = hands }) (rows_of text))) }
+        (λ text. IfErr result (StoppedBefore (record { rate = Rate.Fps25; hands = hands; deck = None }) (rows_of text))) }
     ensures kind { (e : CaptureError) → result ≡ Err (JudgeError.Capture e)
         → e.kind ≢ CaptureKind.OutOfMemory }
     ensures can_be { CanBeResult result }
 {
-    judge_and_flush_for(alloc, reader, out, verb, Profile::of(hands))
+    judge_and_flush_for(alloc, reader, out, verb, &Profile::of(hands))
 }
 
 /// Judges the capture of a deck that is taken for this, and passes the whole report on: [`judge_and_flush`] at any rate.
@@ -59,15 +59,15 @@ pub fn judge_and_flush_for<R: Read + Drop, W: Write + Drop>(
     reader: R,
     out: &mut Buffered<W>,
     verb: Verb,
-    profile: Profile,
+    profile: &Profile,
 ) -> Result<Verdict, JudgeError>
     ensures answer { IfSome (R.remaining reader)
-        (λ text. IfSome (answer_of result) (IsTheAnswer profile (rows_of text))) }
-    ensures told { EndsAs (TellsFor verb profile (option_map rows_of (R.remaining reader))
+        (λ text. IfSome (answer_of result) (IsTheAnswer profile.now (rows_of text))) }
+    ensures told { EndsAs (TellsFor verb profile.now (option_map rows_of (R.remaining reader))
         (held_contents W.contents out.old))
         result (contents_behind W.contents out.new) }
     ensures stopped { IfSome (R.remaining reader)
-        (λ text. IfErr result (StoppedBefore profile (rows_of text))) }
+        (λ text. IfErr result (StoppedBefore profile.now (rows_of text))) }
     ensures kind { (e : CaptureError) → result ≡ Err (JudgeError.Capture e)
         → e.kind ≢ CaptureKind.OutOfMemory }
     ensures can_be { CanBeResult result }
@@ -90,7 +90,7 @@ pub fn judge_parts_and_flush<R: Read + Drop, W: Write + Drop>(
     hands: Hands,
 ) -> Result<Totals, JudgeError>
     ensures told { EndsAs
-        (λ judged all. ToldInParts telling (record { rate = Rate.Fps25; hands = hands }) (option_map rows_of (R.remaining reader)) judged
+        (λ judged all. ToldInParts telling (record { rate = Rate.Fps25; hands = hands; deck = None }) (option_map rows_of (R.remaining reader)) judged
         (held_contents W.contents out.old) all)
         result (contents_behind W.contents out.new) }
     ensures kind { (e : CaptureError) → result ≡ Err (JudgeError.Capture e)
@@ -98,7 +98,7 @@ pub fn judge_parts_and_flush<R: Read + Drop, W: Write + Drop>(
     ensures header { IfSome (R.remaining reader) (λ text. (e : CaptureError)
         → result ≡ Err (JudgeError.Capture e) → e.row ≢ 0 → HasHeader (rows_of text)) }
 {
-    judge_parts_and_flush_for(alloc, reader, out, telling, Profile::of(hands))
+    judge_parts_and_flush_for(alloc, reader, out, telling, &Profile::of(hands))
 }
 
 /// Judges the whole capture of a deck that is taken for this, part by part, and passes the whole report on:
@@ -108,10 +108,10 @@ pub fn judge_parts_and_flush_for<R: Read + Drop, W: Write + Drop>(
     reader: R,
     out: &mut Buffered<W>,
     telling: Telling,
-    profile: Profile,
+    profile: &Profile,
 ) -> Result<Totals, JudgeError>
     ensures told { EndsAs
-        (λ judged all. ToldInParts telling profile (option_map rows_of (R.remaining reader)) judged
+        (λ judged all. ToldInParts telling profile.now (option_map rows_of (R.remaining reader)) judged
         (held_contents W.contents out.old) all)
         result (contents_behind W.contents out.new) }
     ensures kind { (e : CaptureError) → result ≡ Err (JudgeError.Capture e)
@@ -129,14 +129,14 @@ fn tell<R: Read + Drop, W: Write>(
     reader: R,
     writer: &mut W,
     verb: Verb,
-    profile: Profile,
+    profile: &Profile,
 ) -> Result<Verdict, JudgeError>
     ensures answer { IfSome (R.remaining reader)
-        (λ text. IfSome (answer_of result) (IsTheAnswer profile (rows_of text))) }
-    ensures told { TellsFor verb profile (option_map rows_of (R.remaining reader))
+        (λ text. IfSome (answer_of result) (IsTheAnswer profile.now (rows_of text))) }
+    ensures told { TellsFor verb profile.now (option_map rows_of (R.remaining reader))
         (W.contents writer.old) result (W.contents writer.new) }
     ensures stopped { IfSome (R.remaining reader)
-        (λ text. IfErr result (StoppedBefore profile (rows_of text))) }
+        (λ text. IfErr result (StoppedBefore profile.now (rows_of text))) }
     ensures kind { (e : CaptureError) → result ≡ Err (JudgeError.Capture e)
         → e.kind ≢ CaptureKind.OutOfMemory }
     ensures can_be { CanBeResult result }
@@ -160,10 +160,10 @@ fn tell<R: Read + Drop, W: Write>(
 fn tell_run<W: Write>(
     writer: &mut W,
     found: Result<RunVerdict, JudgeError>,
-    profile: Profile,
+    profile: &Profile,
 ) -> Result<Verdict, JudgeError>
     requires { CanBeResult (judged_of found) }
-    ensures { WritesRun profile found result (W.contents writer.old) (W.contents writer.new) }
+    ensures { WritesRun profile.now found result (W.contents writer.old) (W.contents writer.new) }
 {
     let run = found?;
     write_run_for(writer, &run, profile)?;
@@ -198,9 +198,9 @@ fn tell_why<W: Write>(
     alloc: Global,
     writer: &mut W,
     found: Result<WhyVerdict, JudgeError>,
-    profile: Profile,
+    profile: &Profile,
 ) -> Result<Verdict, JudgeError>
-    ensures { WritesWhy profile found result (W.contents writer.old) (W.contents writer.new) }
+    ensures { WritesWhy profile.now found result (W.contents writer.old) (W.contents writer.new) }
 {
     let why = found?;
     write_why_for(alloc, writer, &why, profile)?;

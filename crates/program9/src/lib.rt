@@ -7,11 +7,12 @@ mod ending;
 mod judging;
 mod message;
 mod program;
+mod sheet;
 mod status;
 mod version;
 
 pub use buffered::Buffered;
-pub use ending::{End, Message, Outcome, Unopened, WhyUnopened};
+pub use ending::{End, Message, Outcome, Unopened, UnreadSheet, WhyUnopened};
 pub use judging::{
     judge_and_flush, judge_and_flush_for, judge_parts_and_flush, judge_parts_and_flush_for,
 };

@@ -31,6 +31,14 @@ impl fmt::Display for Message {
                 let file = file_name_of(&unopened.file);
                 write!(f, "{first}\n{file}: {reason}")
             }
+            Message::UnreadableSheet(unread) => {
+                let (file, refusal) = (unread.file.as_str(), &unread.refusal);
+                write!(f, "unreadable deck sheet\n{file}: {refusal}")
+            }
+            Message::CannotOpenSheet(unopened) => {
+                let (file, reason) = (file_name_of(&unopened.file), reason_of(unopened.why));
+                write!(f, "cannot open\n{file}: {reason}")
+            }
             Message::WriteFault => write!(
                 f,
                 "write fault\nstandard output is full or closed; it has only the first part of the report"

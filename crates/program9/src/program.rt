@@ -2,11 +2,13 @@
 ghost use Rattle.std.specs.Prelude.{◌≡◌};
 ghost use Rattle.std.specs.Fn.{FnOnceReturnsAt};
 ghost use Rattle.program9.specs.Output.{contents_behind, held_contents};
-ghost use Rattle.program9.specs.Program.{EndsJudged, EndsProgram, EndsTask, EndsWithout, goes_on, outcome_unopened, why_of};
+ghost use Rattle.program9.specs.Program.{EndsCapture, EndsJudged, EndsProgram, EndsTask, EndsWithout, goes_on};
+ghost use Rattle.program9.specs.Opening.{outcome_unopened, why_of};
 
 use crate::buffered::Buffered;
 use crate::ending::{End, Message, Outcome, Unopened, WhyUnopened};
 use crate::judging::{judge_and_flush_for, judge_parts_and_flush_for};
+use crate::sheet::find_deck;
 use crate::status::{outcome, outcome_in_parts};
 use crate::version::tell_version;
 use deck9::Profile;
@@ -15,27 +17,39 @@ use std::alloc::Global;
 use std::io::{self, Read, Write};
 use words9::{Task, Verb, WordsFault, read_words};
 
-/// The program from its words, or from why there are none, to its end: reads the task, opens its capture, judges that
-/// and writes the report to `out`; or writes its version there. It answers how the program ends, and the writer as it left
-/// it.
+/// The program from its words, or from why there are none, to its end: reads the task, reads the deck's sheet that it names, opens
+/// its capture, judges that and writes the report to `out`; or writes its version there. It answers how the program ends, and the
+/// writer as it left it.
 ///
-/// `opener` is asked once, for the task's file, where there is a task. The end is
+/// `sheet_opener` is asked once, for the task's sheet, where it names one; and then `opener` once, for the task's file, where there
+/// is a task and its sheet is none that was refused. The end is
 ///
 /// * `Usage` only where the words are no command, or could not be fetched as text: nothing is written;
-/// * the `Outcome` of the judging that the words ask for: with their verb, at their rate, with hands where they say so, and with
-///   `check`, `explain` and `why` part by part where they say `--all`;
+/// * the `Outcome` of the judging that the words ask for: with their verb, at their rate, with hands where they say so, for a deck
+///   that does what the sheet says, and with `check`, `explain` and `why` part by part where they say `--all`;
+/// * status 3 with `UnreadableSheet`, the file and what is wrong, where the sheet is none; status 4 with `CannotOpenSheet`, the file
+///   and the reason, where `sheet_opener` or its reader failed: nothing is written;
 /// * status 4 with `CannotOpen`, the file and the reason where `opener` failed: nothing is written;
 /// * status 0 where the words ask for the version: its line is written; or status 4 with `WriteFault`, and a first part of
 ///   it;
 /// * status 5 with `NoMemory` where a growth of memory is refused.
-pub fn run_program<F: FnOnce(&Option<String>) -> io::Result<R>, R: Read + Drop, W: Write + Drop>(
+pub fn run_program<
+    G: FnOnce(&String) -> io::Result<S>,
+    S: Read + Drop,
+    F: FnOnce(&Option<String>) -> io::Result<R>,
+    R: Read + Drop,
+    W: Write + Drop,
+>(
     alloc: Global,
     words: Result<Vec<String>, WordsFault>,
+    sheet_opener: G,
     opener: F,
     out: W,
 ) -> (End, W)
-    requires { F.IsAlwaysCallable opener }
-    ensures { EndsProgram (FnOnceReturnsAt F.FnOnce opener) R.remaining words (W.contents out) result.0 (W.contents result.1) }
+    requires sheet { G.IsAlwaysCallable sheet_opener }
+    requires capture { F.IsAlwaysCallable opener }
+    ensures { EndsProgram (record { opens = FnOnceReturnsAt F.FnOnce opener; coming = R.remaining; opens_sheet = FnOnceReturnsAt G.FnOnce sheet_opener; coming_sheet = S.remaining })
+        words (W.contents out) result.0 (W.contents result.1) }
 {
     let words = match words {
         Ok(words) => words,
@@ -43,7 +57,7 @@ pub fn run_program<F: FnOnce(&Option<String>) -> io::Result<R>, R: Read + Drop, 
     };
     match read_words(alloc, words) {
         Ok(task) => {
-            let (end, out) = carry_out(alloc, task, opener, out);
+            let (end, out) = carry_out(alloc, task, sheet_opener, opener, out);
             (End::Told(end), out)
         }
         Err(fault) => end_without(fault, out),
@@ -64,22 +78,49 @@ fn end_without<W: Write + Drop>(fault: WordsFault, out: W) -> (End, W)
     }
 }
 
-/// Opens the task's capture, judges it and hands the report on.
-fn carry_out<F: FnOnce(&Option<String>) -> io::Result<R>, R: Read + Drop, W: Write + Drop>(
-    alloc: Global,
-    task: Task,
-    opener: F,
-    out: W,
-) -> (Outcome, W)
-    requires { F.IsAlwaysCallable opener }
-    ensures { EndsTask (FnOnceReturnsAt F.FnOnce opener) R.remaining task (W.contents out) result.0 (W.contents result.1) }
+/// Reads the task's sheet, opens its capture, judges that and hands the report on.
+fn carry_out<
+    G: FnOnce(&String) -> io::Result<S>,
+    S: Read + Drop,
+    F: FnOnce(&Option<String>) -> io::Result<R>,
+    R: Read + Drop,
+    W: Write + Drop,
+>(alloc: Global, task: Task, sheet_opener: G, opener: F, out: W) -> (Outcome, W)
+    requires sheet { G.IsAlwaysCallable sheet_opener }
+    requires capture { F.IsAlwaysCallable opener }
+    ensures { EndsTask (record { opens = FnOnceReturnsAt F.FnOnce opener; coming = R.remaining; opens_sheet = FnOnceReturnsAt G.FnOnce sheet_opener; coming_sheet = S.remaining })
+        task (W.contents out) result.0 (W.contents result.1) }
 {
     let Task {
         verb,
         file,
-        profile,
+        rate,
+        hands,
+        deck,
         all,
     } = task;
+    match find_deck(alloc, deck, sheet_opener) {
+        Ok(deck) => {
+            let profile = Profile { rate, hands, deck };
+            judge_capture(alloc, file, opener, verb, &profile, all, out)
+        }
+        Err(end) => (end, out),
+    }
+}
+
+/// Opens the capture, judges it and hands the report on.
+fn judge_capture<F: FnOnce(&Option<String>) -> io::Result<R>, R: Read + Drop, W: Write + Drop>(
+    alloc: Global,
+    file: Option<String>,
+    opener: F,
+    verb: Verb,
+    profile: &Profile,
+    all: bool,
+    out: W,
+) -> (Outcome, W)
+    requires { F.IsAlwaysCallable opener }
+    ensures { EndsCapture (FnOnceReturnsAt F.FnOnce opener) R.remaining file verb all profile.now (W.contents out) result.0 (W.contents result.1) }
+{
     let reader = match opener(&file) {
         Ok(reader) => reader,
         Err(e) => return (not_opened(file, &e), out),
@@ -98,10 +139,10 @@ fn judge_task<R: Read + Drop, W: Write + Drop>(
     reader: R,
     out: &mut Buffered<W>,
     verb: Verb,
-    profile: Profile,
+    profile: &Profile,
     all: bool,
 ) -> Outcome
-    ensures { EndsJudged (goes_on verb all) verb profile (R.remaining reader)
+    ensures { EndsJudged (goes_on verb all) verb profile.now (R.remaining reader)
         (held_contents W.contents out.old) result (contents_behind W.contents out.new) }
 {
     match verb {
@@ -136,8 +177,8 @@ fn not_opened(file: Option<String>, e: &io::Error) -> Outcome
     }
 }
 
-/// Why a capture was not opened whose opener failed so.
-fn why_of(kind: io::ErrorKind) -> WhyUnopened
+/// Why a file was not opened whose opener failed so, or its reader.
+pub(crate) fn why_of(kind: io::ErrorKind) -> WhyUnopened
     ensures { result ≡ why_of kind }
 {
     match kind {

@@ -2,6 +2,7 @@
 mod buffers;
 mod outcomes;
 mod programs;
+mod sheets;
 mod tasks;
 mod writers;
 

@@ -1,7 +1,7 @@
 //! The text of a run of the deck, written piece by piece: that takes no memory, however long the run is.
 mod state_line;
 
-ghost use Rattle.std.specs.Prelude.{◌≡◌, OnErr, OnOk, IfErr};
+ghost use Rattle.std.specs.Prelude.{◌≡◌, OnErr, OnOk, IfErr, None};
 ghost use Rattle.std.specs.Io.KnownBytes.{Appends};
 ghost use Rattle.verdict9.specs.Lines.{line_of};
 ghost use Rattle.text9.specs.Writing.{AppendsPart, Writes};
@@ -26,24 +26,24 @@ use verdict9::{JudgeError, RunVerdict};
 /// taken until then is a first part of the text.
 pub fn write_run<W: Write>(writer: &mut W, run: &RunVerdict, hands: Hands) -> Result<(), JudgeError>
     ensures ok { OnOk result
-        (Appends (W.contents writer.old) (W.contents writer.new) (text_of_run (record { rate = Rate.Fps25; hands = hands }) run.now)) }
+        (Appends (W.contents writer.old) (W.contents writer.new) (text_of_run (record { rate = Rate.Fps25; hands = hands; deck = None }) run.now)) }
     ensures err { OnErr result
-        (AppendsPart (W.contents writer.old) (W.contents writer.new) (text_of_run (record { rate = Rate.Fps25; hands = hands }) run.now)) }
+        (AppendsPart (W.contents writer.old) (W.contents writer.new) (text_of_run (record { rate = Rate.Fps25; hands = hands; deck = None }) run.now)) }
     ensures write { IfErr result (λ e. e ≡ JudgeError.Write) }
 {
-    write_run_for(writer, run, Profile::of(hands))
+    write_run_for(writer, run, &Profile::of(hands))
 }
 
 /// Writes the text of a run of a deck that is taken for this: [`write_run`] at any rate.
 pub fn write_run_for<W: Write>(
     writer: &mut W,
     run: &RunVerdict,
-    profile: Profile,
+    profile: &Profile,
 ) -> Result<(), JudgeError>
     ensures ok { OnOk result
-        (Appends (W.contents writer.old) (W.contents writer.new) (text_of_run profile run.now)) }
+        (Appends (W.contents writer.old) (W.contents writer.new) (text_of_run profile.now run.now)) }
     ensures err { OnErr result
-        (AppendsPart (W.contents writer.old) (W.contents writer.new) (text_of_run profile run.now)) }
+        (AppendsPart (W.contents writer.old) (W.contents writer.new) (text_of_run profile.now run.now)) }
     ensures write { IfErr result (λ e. e ≡ JudgeError.Write) }
 {
     match write_lines_and_verdict(writer, run, profile) {
@@ -56,9 +56,9 @@ pub fn write_run_for<W: Write>(
 fn write_lines_and_verdict<W: Write>(
     writer: &mut W,
     run: &RunVerdict,
-    profile: Profile,
+    profile: &Profile,
 ) -> Result<(), WriteFault>
-    ensures { Writes (text_of_run profile run.now) result (W.contents writer.old) (W.contents writer.new) }
+    ensures { Writes (text_of_run profile.now run.now) result (W.contents writer.old) (W.contents writer.new) }
 {
     match run {
         RunVerdict::Yes {
@@ -79,9 +79,9 @@ fn write_lines<W: Write>(
     writer: &mut W,
     exchanges: &[Exchange],
     states: &[State],
-    profile: Profile,
+    profile: &Profile,
 ) -> Result<(), WriteFault>
-    ensures { Writes (lines_of_run profile 0 exchanges.now states.now) result (W.contents writer.old) (W.contents writer.new) }
+    ensures { Writes (lines_of_run profile.now 0 exchanges.now states.now) result (W.contents writer.old) (W.contents writer.new) }
 {
     let mut at = 0u128;
     for (exchange, state) in exchanges.iter().zip(states) {

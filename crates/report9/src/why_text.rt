@@ -6,7 +6,7 @@ mod exchange_line;
 mod modes;
 mod said;
 
-ghost use Rattle.std.specs.Prelude.{◌≡◌, ◌⊎◌, ◌-◌, ◌++◌, [], OnOk, IfErr};
+ghost use Rattle.std.specs.Prelude.{◌≡◌, ◌⊎◌, ◌-◌, ◌++◌, [], OnOk, IfErr, None};
 ghost use Rattle.std.specs.Io.KnownBytes.{Appends};
 ghost use Rattle.verdict9.specs.Lines.{line_of};
 ghost use Rattle.text9.specs.Writing.{AppendsPart};
@@ -49,13 +49,13 @@ pub fn write_why<W: Write>(
     hands: Hands,
 ) -> Result<(), JudgeError>
     ensures ok { OnOk result
-        (Appends (W.contents writer.old) (W.contents writer.new) (text_of_why (record { rate = Rate.Fps25; hands = hands }) verdict.now)) }
+        (Appends (W.contents writer.old) (W.contents writer.new) (text_of_why (record { rate = Rate.Fps25; hands = hands; deck = None }) verdict.now)) }
     ensures write { result ≡ Err JudgeError.Write
-        → AppendsPart (W.contents writer.old) (W.contents writer.new) (text_of_why (record { rate = Rate.Fps25; hands = hands }) verdict.now) }
+        → AppendsPart (W.contents writer.old) (W.contents writer.new) (text_of_why (record { rate = Rate.Fps25; hands = hands; deck = None }) verdict.now) }
     ensures memory { result ≡ Err JudgeError.OutOfMemory → writer.new ≡ writer.old }
     ensures kinds { IfErr result (λ e. (e ≡ JudgeError.Write) ⊎ (e ≡ JudgeError.OutOfMemory)) }
 {
-    write_why_for(alloc, writer, verdict, Profile::of(hands))
+    write_why_for(alloc, writer, verdict, &Profile::of(hands))
 }
 
 /// Writes the text of a deck that is taken for this: [`write_why`] at any rate.
@@ -63,12 +63,12 @@ pub fn write_why_for<W: Write>(
     alloc: Global,
     writer: &mut W,
     verdict: &WhyVerdict,
-    profile: Profile,
+    profile: &Profile,
 ) -> Result<(), JudgeError>
     ensures ok { OnOk result
-        (Appends (W.contents writer.old) (W.contents writer.new) (text_of_why profile verdict.now)) }
+        (Appends (W.contents writer.old) (W.contents writer.new) (text_of_why profile.now verdict.now)) }
     ensures write { result ≡ Err JudgeError.Write
-        → AppendsPart (W.contents writer.old) (W.contents writer.new) (text_of_why profile verdict.now) }
+        → AppendsPart (W.contents writer.old) (W.contents writer.new) (text_of_why profile.now verdict.now) }
     ensures memory { result ≡ Err JudgeError.OutOfMemory → writer.new ≡ writer.old }
     ensures kinds { IfErr result (λ e. (e ≡ JudgeError.Write) ⊎ (e ≡ JudgeError.OutOfMemory)) }
 {
@@ -86,9 +86,9 @@ pub fn write_why_for<W: Write>(
 ///
 /// An error comes where the buffer has to grow and is refused; then a part of the text may be there.
 pub fn put_why(text: &mut Vec<u8>, hands: Hands, verdict: &WhyVerdict) -> Result<(), AllocError>
-    ensures { OnOk result (text.new.items ≡ text.old.items ++ text_of_why (record { rate = Rate.Fps25; hands = hands }) verdict.now) }
+    ensures { OnOk result (text.new.items ≡ text.old.items ++ text_of_why (record { rate = Rate.Fps25; hands = hands; deck = None }) verdict.now) }
 {
-    put_why_for(text, Profile::of(hands), verdict)
+    put_why_for(text, &Profile::of(hands), verdict)
 }
 
 /// Puts the text that [`write_why_for`] writes to the end of a buffer.
@@ -96,10 +96,10 @@ pub fn put_why(text: &mut Vec<u8>, hands: Hands, verdict: &WhyVerdict) -> Result
 /// An error comes where the buffer has to grow and is refused; then a part of the text may be there.
 pub fn put_why_for(
     text: &mut Vec<u8>,
-    profile: Profile,
+    profile: &Profile,
     verdict: &WhyVerdict,
 ) -> Result<(), AllocError>
-    ensures { OnOk result (text.new.items ≡ text.old.items ++ text_of_why profile verdict.now) }
+    ensures { OnOk result (text.new.items ≡ text.old.items ++ text_of_why profile.now verdict.now) }
 {
     match verdict {
         WhyVerdict::Yes {
@@ -196,11 +196,11 @@ fn records_in(exchanges: &[Exchange]) -> u128
 /// Puts the line of what the deck could show.
 fn put_could_show(
     text: &mut Vec<u8>,
-    profile: Profile,
+    profile: &Profile,
     known: &Knowledge,
     shown: ModeSet,
 ) -> Result<(), AllocError>
-    ensures { OnOk result (text.new.items ≡ text.old.items ++ line_of_could_show profile known.now shown) }
+    ensures { OnOk result (text.new.items ≡ text.old.items ++ line_of_could_show profile.now known.now shown) }
 {
     put_text(text, "could show: shown ")?;
     put_shown(text, shown)?;

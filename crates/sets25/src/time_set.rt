@@ -11,10 +11,10 @@ use tc25::{Rate, TimeCode};
 
 /// A set of times of the day.
 ///
-/// A contract sees it as the finite set of its members, `members`, and the rate, `own_rate`, at which they are counted: each is a time of
-/// its day, and a time that is none of its day is no member and can't be added. Each call has one contract for every
-/// implementation: the set operation that it names. A call that may need memory answers an `AllocError` where memory was refused,
-/// and its set is then as it was before.
+/// A contract sees it as the finite set of its members, `members`, and the rate, `own_rate`, at which they are counted: each is
+/// a time of its day, and a time that is none of its day is no member and can't be added. Each call has one contract for every
+/// implementation: the set operation that it names. A call that may need memory answers an `AllocError` where memory was
+/// refused, and its set is then as it was before.
 pub trait TimeSet: Drop + Sized {
     /// The members, as frame numbers.
     ghost members: { Self → Times };

@@ -2,7 +2,7 @@
 mod asked;
 pub(crate) mod known;
 
-ghost use Rattle.std.specs.Prelude.{◌≡◌, ◌++◌, OnOk};
+ghost use Rattle.std.specs.Prelude.{◌≡◌, ◌++◌, OnOk, None};
 ghost use Rattle.text9.specs.Explanation.{line_of_exchange};
 
 use crate::pieces::{put_count, put_text};
@@ -26,21 +26,21 @@ pub fn put_exchange_line(
     knowledge: &Knowledge,
 ) -> Result<(), AllocError>
     ensures { OnOk result (line.new.items ≡ line.old.items
-        ++ line_of_exchange (record { rate = Rate.Fps25; hands = hands }) at exchange.now knowledge.now) }
+        ++ line_of_exchange (record { rate = Rate.Fps25; hands = hands; deck = None }) at exchange.now knowledge.now) }
 {
-    put_exchange_line_for(line, Profile::of(hands), at, exchange, knowledge)
+    put_exchange_line_for(line, &Profile::of(hands), at, exchange, knowledge)
 }
 
 /// Puts the line of an exchange with a deck that is taken for this: [`put_exchange_line`] at any rate.
 pub fn put_exchange_line_for(
     line: &mut Vec<u8>,
-    profile: Profile,
+    profile: &Profile,
     at: u32,
     exchange: &Exchange,
     knowledge: &Knowledge,
 ) -> Result<(), AllocError>
     ensures { OnOk result (line.new.items ≡ line.old.items
-        ++ line_of_exchange profile at exchange.now knowledge.now) }
+        ++ line_of_exchange profile.now at exchange.now knowledge.now) }
 {
     put_count(line, "record ", u64::from(at))?;
     put_command(line, ": ", exchange)?;

@@ -1,11 +1,12 @@
 -- Some state of a set, and a state that an exchange leads to another one from: patterns of states, exactly those that
 -- an effect led from, drifts to them, and complete exchanges.
+use Rattle.track9.proofs.Words.{ComesToShow, Deck, way_of}
 use Rattle.track9.proofs.Words.{all_has, Allows, and-false, and_from, and_parts, any_goal, ap, AreBelow, arith, Pattern, pattern_before, wanted_of, Becomes, Block, Bool, both}
 use Rattle.track9.proofs.Words.{Change, Command, cond_both, Does, done, Drift, drift_from_pairs, drifted, drifted_with, Effect, effect_of, Entries, entries_of, Entry}
 use Rattle.track9.proofs.Words.{entry_before, entry_of, Exchanges, false, false≢true, Fits, goals_of, goes, Hands, hands_of, has, has-and, has_pair}
-use Rattle.track9.proofs.Words.{HasState, IfNone, IfSome, ignored, in_local, inl, InPart, inr, InTwo, Is, is_mode, is_mode-same, is_nak, is_one_of, is_panel_live}
+use Rattle.track9.proofs.Words.{HasState, IfNone, IfSome, ignored, in_local, inl, InPart, inr, InTwo, Is, is_mode, is_mode-same, is_nak, is_panel_live}
 use Rattle.track9.proofs.Words.{is_some, IsPattern, IsEntry, IsState, IsUndone, just_mode, just_state, LeadsTo, List, masked, Mode, mode_just, mode_self, mode_some, ModeSet}
-use Rattle.track9.proofs.Words.{no_entries, no_states, None, on_the_way, on_two, Option, option_map, PairRunsTo, Part, Possible}
+use Rattle.track9.proofs.Words.{no_entries, no_states, None, on_two, Option, option_map, PairRunsTo, Part, Possible}
 use Rattle.track9.proofs.Words.{refl, refused, RegAudioIn, RegAudioOut, RegIn, Register, RegOut, rules, RunsTo, same_fact}
 use Rattle.track9.proofs.Words.{shown_with, Shows, Some, some_entry, some_mode, some_pair, State, States, DeckStep, Stop, subst, sym, true, true_from_ne_false, two_of, way}
 use Rattle.track9.proofs.Words.{any_panel, AreWhole, KeepsPanel, panel_before, panel_switched, Profile, profile_of, Rate, rate_for, with_wanted, with_entry, ◌||◌, ◌↔◌, ◌∙◌, ◌≡◌, ◌⊎◌}
@@ -71,7 +72,7 @@ pub same_facts : (a b : Bool) → (same_fact a b ≡ true) ↔ (a ≡ b)
 same_facts a b = grind arith
 
 -- a state is one of the pattern exactly where the effect leads from it to t
-wanted_exactly : (p : Profile) (e : Effect) (t d : State) → IsState p.rate t → IsState p.rate d → FitsSome (pattern_before p e t) d ↔ Does p e d t
+wanted_exactly : (p : Profile) (e : Effect) (t d : State) → IsState p.rate t → IsState p.rate d → FitsSome (pattern_before p.rate p.hands e t) d ↔ Does p e d t
 wanted_exactly p (effect.Go g) t d after before = cond_both (is_mode t.goal g) (Some (any_goal t)) None (λ o. FitsSome o d ↔ (t ≡ record d { goal = g }))
     (λ e. (goal_state t d g (is_mode-same t.goal g e), λ goes. rw goes (fits_goal d g)))
     (λ e. (λ f. absurd f, λ goes. absurd (false≢true (sym e ∙ rw goes (mode_self g)))))
@@ -95,6 +96,10 @@ wanted_exactly p (effect.Panel on) t d after before = by p.hands
     by hands.Allowed = cond_both (same_fact t.panel on) (Some (record (just_state t) { panel = None })) None (λ o. FitsSome o d ↔ (t ≡ record d { panel = on }))
         (λ e. (λ f. let same = sym ((same_facts t.panel on).0 e) in search (rules, same_state, just_mode), λ same. rw same (search (rules, mode_just))))
         (λ e. (λ f. absurd f, λ same. absurd (false≢true (sym e ∙ (same_facts t.panel on).1 (rw same refl)))))
+wanted_exactly p effect.ForgetMotion t d after before = (
+  λ f. same_state t (record d { goal = t.goal; shown = t.shown }) refl refl f.ins f.outs f.ains f.aouts f.local f.panel,
+  λ same. grind (arith, all_has),
+)
 wanted_exactly p effect.ForgetTape t d after before = (
   λ f. (after, sym f.local, sym f.panel),
   λ (valid, local, panel). rw (local, panel)
@@ -115,7 +120,7 @@ is_wanted : (rate : Rate) (o : Option Pattern) (d : State) → IsState rate d �
 is_wanted rate o d valid f = grind arith
 
 -- a state of the day is among them
-pub wanted_state : (p : Profile) (e : Effect) (t : State) → IsState p.rate t → IfSome (pattern_before p e t) (IsPattern p.rate)
+pub wanted_state : (p : Profile) (e : Effect) (t : State) → IsState p.rate t → IfSome (pattern_before p.rate p.hands e t) (IsPattern p.rate)
 wanted_state p (effect.Go g) t valid = cond_both (is_mode t.goal g) (Some (any_goal t)) None (λ o. IfSome o (IsPattern p.rate)) (λ e. (t, valid, fits_goal t t.goal))
     (λ e. tt)
 wanted_state p (effect.Change r c) t valid = by (entry_before p.rate c (entry_of r t)) (entry_was p.rate c (entry_of r t) (valid r))
@@ -139,7 +144,7 @@ wanted_state p effect.ForgetAll t valid = by p.hands
     by : (h : Hands) → IsPattern p.rate (any_panel h (record (any_tape (just_state t)) { local = None }))
     by hands.None = (t, valid, search (rules, all_has))
     by hands.Allowed = (t, valid, search (rules, all_has))
-wanted_state p e t valid = is_wanted p.rate (pattern_before p e t) t valid ((wanted_exactly p e t t valid valid).1 (search rules))
+wanted_state p e t valid = is_wanted p.rate (pattern_before p.rate p.hands e t) t valid ((wanted_exactly p e t t valid valid).1 (search rules))
 
 -- ---- some state of a set
 
@@ -160,34 +165,34 @@ if_none o h f = grind arith
 
 -- ---- pairs
 
--- what was reached with no pair of its goal is STOP
-pub source_halted : (p : List ModeSet) (g m : Mode) → has (drifted_with p g).0 m ≡ true → has (shown_with p g).0 m ≡ false
-    → ((is_some (shown_with p g) ≡ false) ⊎ ((is_mode m g || is_one_of (on_the_way g) m) ≡ false)) → (g ≡ Stop) × (m ≡ Stop)
-source_halted p g m h other way = grind (arith, and_parts, is_mode-same, drifted_has, and-false)
+-- what was reached with no pair of its goal is what a deck shows that has come to a halt
+pub source_halted : (deck : Option Deck) (p : List ModeSet) (g m : Mode) → has (drifted_with deck p g).0 m ≡ true → has (shown_with p g).0 m ≡ false
+    → ((is_some (shown_with p g) ≡ false) ⊎ ((is_mode m g || has (way_of deck g).0 m) ≡ false)) → (g ≡ Stop) × ComesToShow deck Stop m
+source_halted deck p g m h other way = grind (arith, and_parts, is_mode-same, drifted_has, and-false)
 
 -- the pairs that are wanted among those that are reached
 
-pub reached_parts : (shown : ModeSet) (p : List ModeSet) (g m : Mode) → has_pair (masked shown (drifted p)) g m ≡ true
-    → (has (drifted_with p g).0 m ≡ true) × (has shown.0 m ≡ true)
-reached_parts shown p g m h =
-    let w = and_parts (has_pair (drifted p) g m) (has shown.0 m) (sym (masked_has shown (drifted p) g m) ∙ h) in
-    (sym (pair_by_goal (drifted_with p) g m) ∙ w.0, w.1)
+pub reached_parts : (deck : Option Deck) (shown : ModeSet) (p : List ModeSet) (g m : Mode) → has_pair (masked shown (drifted deck p)) g m ≡ true
+    → (has (drifted_with deck p g).0 m ≡ true) × (has shown.0 m ≡ true)
+reached_parts deck shown p g m h =
+    let w = and_parts (has_pair (drifted deck p) g m) (has shown.0 m) (sym (masked_has shown (drifted deck p) g m) ∙ h) in
+    (sym (pair_by_goal (drifted_with deck p) g m) ∙ w.0, w.1)
 
-pub origin_there : (p : List ModeSet) (goals shown : ModeSet) → ((f n : Mode) × (has_pair p f n ≡ true) × PairRunsTo goals shown f n)
-    → is_some (both (goals_of (masked shown (drifted p))) goals) ≡ true
-origin_there p goals shown (f, n, pair, (g, m, goal, mode, reaches)) =
-    let there = masked_has shown (drifted p) g m ∙ and_from _ _ (pair_by_goal (drifted_with p) g m ∙ drifted_to p f n g m pair reaches) mode in
-    let found = goal_to (masked shown (drifted p)) g m there in
-    mode_some (both (goals_of (masked shown (drifted p))) goals) g (has-and (goals_of (masked shown (drifted p))).0 goals.0 g ∙ and_from _ _ found goal)
+pub origin_there : (deck : Option Deck) (p : List ModeSet) (goals shown : ModeSet) → ((f n : Mode) × (has_pair p f n ≡ true) × PairRunsTo deck goals shown f n)
+    → is_some (both (goals_of (masked shown (drifted deck p))) goals) ≡ true
+origin_there deck p goals shown (f, n, pair, (g, m, goal, mode, reaches)) =
+    let there = masked_has shown (drifted deck p) g m ∙ and_from _ _ (pair_by_goal (drifted_with deck p) g m ∙ drifted_to deck p f n g m pair reaches) mode in
+    let found = goal_to (masked shown (drifted deck p)) g m there in
+    mode_some (both (goals_of (masked shown (drifted deck p))) goals) g (has-and (goals_of (masked shown (drifted deck p))).0 goals.0 g ∙ and_from _ _ found goal)
 
 -- ---- a part
 
 pub if_none_so : {A P : Type 0} (o : Option A) → P → IfNone o P
 if_none_so o h = grind arith
 
-pub no_entry_runs : (r : Register) (p : Part) (a : Pattern) (l pn : Bool) → (((e : Entry) × Allows (entries_of r p) e × Is (wanted_of r a) e) → ⊥)
-    → ((s : State) × HasState p l pn s × RunsTo a s) → ⊥
-no_entry_runs r p a l pn none (s, there, (d, kept, reaches, fits)) =
+pub no_entry_runs : (deck : Option Deck) (r : Register) (p : Part) (a : Pattern) (l pn : Bool) → (((e : Entry) × Allows (entries_of r p) e × Is (wanted_of r a) e) → ⊥)
+    → ((s : State) × HasState p l pn s × RunsTo deck a s) → ⊥
+no_entry_runs deck r p a l pn none (s, there, (d, kept, reaches, fits)) =
     let same = each_register (λ r. entry_of r (record s { goal = d.goal; shown = d.shown }) ≡ entry_of r s) refl refl refl refl r in
     none (
       entry_of r s,
@@ -209,19 +214,19 @@ hand_leads p a s allowed (d, valid, fits) wanted on =
     let there : IsState p.rate e = each_register _ (valid RegIn) (valid RegOut) (valid RegAudioIn) (valid RegAudioOut) in
     (e, drift_from_pairs p s e (inr (allowed, on, refl, there)), search)
 
-pub no_origin : (p : Profile) (v : States) (a : Pattern) → (Is a.panel true → is_panel_live v ≡ false) → (((s : State) × InTwo false v.off s × RunsTo a s) → ⊥)
+pub no_origin : (p : Profile) (v : States) (a : Pattern) → (Is a.panel true → is_panel_live v ≡ false) → (((s : State) × InTwo false v.off s × RunsTo p.deck a s) → ⊥)
     → ((s : State) × Possible v s × LeadsTo p a s) → ⊥
 no_origin p v a dead off (s, there, (d, drift, fits)) = by s.panel refl
   where
     by : (pn : Bool) → s.panel ≡ pn → ⊥
     by true e = false≢true (sym (dead (subst (Is a.panel) (drift_panel p s d drift ∙ e) fits.panel)) ∙ two_live (two_of v true) s (to_two v s true e there).1)
-    by false e = let m = mechanics p.rate s d (off_drift p s d e drift) in off (s, to_two v s false e there, (d, m.0, m.1, fits))
+    by false e = let m = mechanics p.deck p.rate s d (off_drift p s d e drift) in off (s, to_two v s false e there, (d, m.0, m.1, fits))
 
 -- ---- steps
 
 -- a reply that agrees with the state before agrees with the one after, and the other way round
-shows_same : (p : Profile) (c : Command) (reply : Block) (d t : State) → Does p (effect_of c) d t → Shows p.rate d c reply ↔ Shows p.rate t c reply
-shows_same p c reply d t does = grind arith
+shows_same : (deck : Option Deck) (p : Profile) (c : Command) (reply : Block) (d t : State) → Does p (effect_of deck c) d t → Shows p.rate d c reply ↔ Shows p.rate t c reply
+shows_same deck p c reply d t does = grind arith
 
 -- ---- complete exchanges
 
@@ -238,29 +243,29 @@ abbrev pub LeadsSome : Profile → Option Pattern → State → Type 0
 LeadsSome p o s = (d : State) × Drift p s d × FitsSome o d
 
 -- an exchange with no NAK: the reply agrees with the state after, and the command was left undone or had its effect
-pub exchange_exactly : {p : Profile} {e : Effect} {o : Option Pattern} (v : States) (c : Command) (reply : Block) (t : State) → is_nak reply ≡ false
+pub exchange_exactly : {rate : Rate} {h : Hands} {e : Effect} {o : Option Pattern} (deck : Option Deck) (v : States) (c : Command) (reply : Block) (t : State) → is_nak reply ≡ false
     → AreWhole (rate_for v) v → AreBelow v → IsState (rate_for v) t
-    → p ≡ profile_of v → e ≡ effect_of c → o ≡ pattern_before p e t
-    → (s : State) → Possible v s → Exchanges (profile_of v) c reply s t
-    ↔ (Shows (rate_for v) t c reply × ((IsUndone c t × LeadsTo (profile_of v) (just_state t) s) ⊎ LeadsSome (profile_of v) o s))
-exchange_exactly {o = o} v c reply t nak whole below after allowed effect wanted s i = (λ (d, drift, step). there d drift step, λ (shows, w). back shows w)
+    → rate ≡ rate_for v → h ≡ hands_of v → e ≡ effect_of deck c → o ≡ pattern_before rate h e t
+    → (s : State) → Possible v s → Exchanges (profile_of deck v) c reply s t
+    ↔ (Shows (rate_for v) t c reply × ((IsUndone c t × LeadsTo (profile_of deck v) (just_state t) s) ⊎ LeadsSome (profile_of deck v) o s))
+exchange_exactly {o = o} deck v c reply t nak whole below after rate allowed effect wanted s i = (λ (d, drift, step). there d drift step, λ (shows, w). back shows w)
   where
-    found : pattern_before (profile_of v) (effect_of c) t ≡ o
-    found = rw (← allowed, ← effect) (sym wanted)
+    found : pattern_before (rate_for v) (hands_of v) (effect_of deck c) t ≡ o
+    found = rw (← rate, ← allowed, ← effect) (sym wanted)
 
-    there : (d : State) → Drift (profile_of v) s d → DeckStep (profile_of v) c reply d t
-        → Shows (rate_for v) t c reply × ((IsUndone c t × LeadsTo (profile_of v) (just_state t) s) ⊎ LeadsSome (profile_of v) o s)
+    there : (d : State) → Drift (profile_of deck v) s d → DeckStep (profile_of deck v) c reply d t
+        → Shows (rate_for v) t c reply × ((IsUndone c t × LeadsTo (profile_of deck v) (just_state t) s) ⊎ LeadsSome (profile_of deck v) o s)
     there d drift (refused was e) = absurd (false≢true (sym nak ∙ was))
-    there d drift (done was shows does) = let valid = drift_state (profile_of v) s d (possible_state (rate_for v) v s whole below i) drift in (
-      (shows_same (profile_of v) c reply d t does).0 shows,
+    there d drift (done was shows does) = let valid = drift_state (profile_of deck v) s d (possible_state (rate_for v) v s whole below i) drift in (
+      (shows_same deck (profile_of deck v) c reply d t does).0 shows,
       inr
-          (d, drift, subst (λ o. FitsSome o d) found ((wanted_exactly (profile_of v) (effect_of c) t d after valid).1 does)),
+          (d, drift, subst (λ o. FitsSome o d) found ((wanted_exactly (profile_of deck v) (effect_of deck c) t d after valid).1 does)),
     )
     there d drift (ignored was shows may local e) = (rw e shows, inl ((may, rw e local), (d, drift, rw e (fits_self d))))
 
-    back : Shows (rate_for v) t c reply → (IsUndone c t × LeadsTo (profile_of v) (just_state t) s) ⊎ LeadsSome (profile_of v) o s → Exchanges (profile_of v) c reply s t
+    back : Shows (rate_for v) t c reply → (IsUndone c t × LeadsTo (profile_of deck v) (just_state t) s) ⊎ LeadsSome (profile_of deck v) o s → Exchanges (profile_of deck v) c reply s t
     back shows (inl ((may, local), (d, drift, fits))) = let e = fits_just t d fits in (d, drift, ignored nak (rw (← e) shows) may (rw (← e) local) e)
     back shows (inr (d, drift, fits)) =
-        let valid = drift_state (profile_of v) s d (possible_state (rate_for v) v s whole below i) drift in
-        let does = (wanted_exactly (profile_of v) (effect_of c) t d after valid).0 (subst (λ o. FitsSome o d) (sym found) fits) in
-        (d, drift, done nak ((shows_same (profile_of v) c reply d t does).1 shows) does)
+        let valid = drift_state (profile_of deck v) s d (possible_state (rate_for v) v s whole below i) drift in
+        let does = (wanted_exactly (profile_of deck v) (effect_of deck c) t d after valid).0 (subst (λ o. FitsSome o d) (sym found) fits) in
+        (d, drift, done nak ((shows_same deck (profile_of deck v) c reply d t does).1 shows) does)

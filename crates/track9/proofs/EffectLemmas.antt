@@ -1,5 +1,6 @@
 -- What becomes of the states of a part, and so what leads from all states with one value of the panel to others: each
 -- effect, and complete exchanges where nobody touches the panel.
+use Rattle.track9.proofs.Words.{all_has, all_pairs, Deck, modes, motion_forgotten}
 use Rattle.track9.proofs.Words.{agreeing, Agrees, all_forgotten, all_or_none, all_states, Allows, and_from, and_parts, ap, AreSet, Becomes, Block, Bool}
 use Rattle.track9.proofs.Words.{both, Change, changed_entries, changed_part, Command, cond_both, counted, Does, DoesOrNot, Drift, drift_from_pairs, drifted}
 use Rattle.track9.proofs.Words.{drifted_part, drifted_with, Effect, effect_of, Entries, entries_of, entry_of, false, false≢true, forgotten_part, goes, gone}
@@ -17,7 +18,7 @@ use Rattle.track9.proofs.EntryLemmas.{set_exactly, some_allowed, tells_exactly}
 use Rattle.track9.proofs.PartLemmas.{a_state, all_exactly, any_entries, Below, drift_below, drift_some, drift_whole, each_register, every_state, few_agreeing, few_all_states}
 use Rattle.track9.proofs.PartLemmas.{few_changed_part, few_counted, few_no_states, few_pairs, few_put, few_set, few_settled, few_two, FewIn, in_none, in_pairs, mechanics}
 use Rattle.track9.proofs.PartLemmas.{not_live, pairs_registers, put, put_in, read_put, settled_exactly, take_out, two_live, two_state, whole_all, whole_drift, whole_in}
-use Rattle.track9.proofs.PartLemmas.{each_put, of_rate, OfRate, PartBelow, two_rate, whole_none, whole_pairs, whole_put, whole_settled, whole_two}
+use Rattle.track9.proofs.PartLemmas.{drifted_all, each_put, of_rate, OfRate, PartBelow, two_rate, whole_none, whole_pairs, whole_put, whole_settled, whole_two}
 use Rattle.std.proofs.Common.{arith}
 
 -- ---- part by part
@@ -85,24 +86,24 @@ reads rate P f h whole exactly wholes few = leads rate (λ s t. P s × (t ≡ s)
 
 -- ---- a drift
 
-pub drift_leads : (rate : Rate) (h : Halves) → TwoWhole rate h → LeadsOn rate (Drift (untouched rate)) (λ n. n) h (two_drifted h)
-drift_leads rate h whole = leads_by rate (Drift (untouched rate)) (λ n. n) (record { local = λ s t d. rw (mechanics rate s t d).0; panel = λ s t d. rw (mechanics rate s t d).0 })
-    (λ l. drifted_part) h (λ l. let p = in_local h l in record {
+pub drift_leads : (deck : Option Deck) (rate : Rate) (h : Halves) → TwoWhole rate h → LeadsOn rate (Drift (untouched deck rate)) (λ n. n) h (two_drifted deck h)
+drift_leads deck rate h whole = leads_by rate (Drift (untouched deck rate)) (λ n. n) (record { local = λ s t d. rw (mechanics deck rate s t d).0; panel = λ s t d. rw (mechanics deck rate s t d).0 })
+    (λ l. drifted_part deck) h (λ l. let p = in_local h l in record {
       from = λ t i.
-          let w = drifted_from p.pairs t.goal t.shown (sym (pair_by_goal (drifted_with p.pairs) t.goal t.shown) ∙ i.pair) in
+          let w = drifted_from deck p.pairs t.goal t.shown (sym (pair_by_goal (drifted_with deck p.pairs) t.goal t.shown) ∙ i.pair) in
           let s : State = record t { goal = w.0; shown = w.1 } in (
             s,
-            in_pairs p p.pairs t w.0 w.1 (pairs_registers p (drifted p.pairs) t i) w.2,
+            in_pairs p p.pairs t w.0 w.1 (pairs_registers p (drifted deck p.pairs) t i) w.2,
             refl,
             refl,
-            drift_from_pairs (untouched rate) s t (inl (refl, w.3)),
+            drift_from_pairs (untouched deck rate) s t (inl (refl, w.3)),
           );
-      to = λ s t i d. let m = mechanics rate s t d in
-          subst (InPart (drifted_part p)) (sym m.0)
-          (in_pairs p (drifted p.pairs) s t.goal t.shown i.registers
-          (pair_by_goal (drifted_with p.pairs) t.goal t.shown ∙ drifted_to p.pairs s.goal s.shown t.goal t.shown i.pair m.1));
-      whole = λ b. whole_drift rate p (whole_in rate h whole l);
-      few = λ b n few. few_pairs n (drifted p.pairs) p few;
+      to = λ s t i d. let m = mechanics deck rate s t d in
+          subst (InPart (drifted_part deck p)) (sym m.0)
+          (in_pairs p (drifted deck p.pairs) s t.goal t.shown i.registers
+          (pair_by_goal (drifted_with deck p.pairs) t.goal t.shown ∙ drifted_to deck p.pairs s.goal s.shown t.goal t.shown i.pair m.1));
+      whole = λ b. whole_drift deck rate p (whole_in rate h whole l);
+      few = λ b n few. few_pairs n (drifted deck p.pairs) p few;
     })
 
 -- ---- a new goal
@@ -131,6 +132,13 @@ live_gone m goal p = by (is_live p) refl
 pub two_live_gone : (may_stay : Bool) (goal : Mode) (h : Halves) → some_two (two_gone may_stay goal h) ≡ some_two h
 two_live_gone m goal h = ap (λ b. b || is_live (where_live (gone_part true goal) h.local)) (live_gone m goal h.remote)
     ∙ ap (λ b. is_live h.remote || b) (live_gone true goal h.local)
+
+-- and so does what forgets goal and shown mode
+live_moved : (p : Part) → is_live (where_live (with_pairs all_pairs) p) ≡ is_live p
+live_moved p = grind arith
+
+pub two_live_moved : (h : Halves) → some_two (motion_forgotten h) ≡ some_two h
+two_live_moved h = rw (live_moved h.remote, live_moved h.local) refl
 
 -- the states with this goal, and those that may stay as they are
 goal_leads : (rate : Rate) (Goes : State → State → Type 0) (may_stay : Bool → Bool) (goal : Mode) (p : Part)
@@ -176,6 +184,7 @@ abbrev pub part_effect : Bool → Effect → Bool → Part → Part
 part_effect may_stay (effect.Go g) l p = gone_part (l || may_stay) g p
 part_effect may_stay effect.KeepOrStop l p = gone_part (l || true) Stop p
 part_effect may_stay (effect.Change r c) l p = kept_if l (changed_part (l || may_stay) r c p)
+part_effect may_stay effect.ForgetMotion l p = with_pairs all_pairs p
 part_effect may_stay effect.ForgetTape l p = all_states (rate_of p)
 part_effect may_stay effect.ForgetRegisters l p = forgotten_part p
 part_effect may_stay _ l p = p
@@ -211,16 +220,19 @@ changed_whole rate m r c p whole live below true =
 changed_whole rate m r c p whole live below false = whole_settled rate (changed_part m r c p)
     (put_rate rate r (changed_entries m c (entries_of r p)) p (of_rate rate p whole) (changed_rate m c (entries_of r p)))
 
-part_leads : (rate : Rate) (may_stay : Bool) (e : Effect) (p : Part) → is_by_part e ≡ true → Whole rate p → is_live p ≡ true → Below e p
-    → PartLeads rate (DoesOrNot rate may_stay e) (counted e) p (λ l. part_effect may_stay e l p)
-part_leads rate m (effect.Go g) p by whole live below = goal_leads rate (DoesOrNot rate m (effect.Go g)) (λ l. l || m) g p
+any_pair : (g m : Mode) → has_pair all_pairs g m ≡ true
+any_pair g m = pair_by_goal (λ g. modes 0x3FF) g m ∙ all_has m
+
+part_leads : (deck : Option Deck) (rate : Rate) (may_stay : Bool) (e : Effect) (p : Part) → is_by_part e ≡ true → Whole rate p → is_live p ≡ true → Below e p
+    → PartLeads rate (DoesOrNot deck rate may_stay e) (counted e) p (λ l. part_effect may_stay e l p)
+part_leads deck rate m (effect.Go g) p by whole live below = goal_leads rate (DoesOrNot deck rate m (effect.Go g)) (λ l. l || m) g p
     (λ s t. (λ d. elim d [ inl e ↦ inl e | inr (may, stays, e) ↦ inr (stays, e) ], λ d. elim d [ inl e ↦ inl e | inr (stays, e) ↦ inr (refl, stays, e) ])) whole
     live
-part_leads rate m effect.KeepOrStop p by whole live below = goal_leads rate (DoesOrNot rate m effect.KeepOrStop) (λ l. l || true) Stop p (λ s t. (
+part_leads deck rate m effect.KeepOrStop p by whole live below = goal_leads rate (DoesOrNot deck rate m effect.KeepOrStop) (λ l. l || true) Stop p (λ s t. (
   λ d. elim d [ inl (inl e) ↦ inr (or-true s.local, e) | inl (inr e) ↦ inl e | inr (may, stays, e) ↦ inr (or-true s.local, e) ],
   λ d. elim d [ inl e ↦ inl (inr e) | inr (stays, e) ↦ inl (inl e) ],
 )) whole live
-part_leads rate m (effect.Change r c) p by whole live below =
+part_leads deck rate m (effect.Change r c) p by whole live below =
     let es = entries_of r p in let some = some_allowed es ((whole r).0 ∙ live) in let is : es.rate ≡ rate = (whole r).1 in record {
       from = λ t i.
           let b = t.local || m in let new = changed_entries b c es in let e = entry_of r t in
@@ -250,15 +262,27 @@ part_leads rate m (effect.Change r c) p by whole live below =
       whole = changed_whole rate m r c p whole live below;
       few = λ l n few. kept_few l (counted (effect.Change r c) n) (changed_part (l || m) r c p) (few_changed_part (l || m) r c n p below few);
     }
-part_leads rate m effect.ForgetTape p by whole live below =
-    subst (λ other. PartLeads rate (DoesOrNot rate m effect.ForgetTape) (λ n. n) p (λ l. all_states other)) (sym (whole RegIn).1) (record {
+part_leads deck rate m effect.ForgetMotion p by whole live below = record {
+  from = λ t i.
+      let w = a_state rate p t.local t.panel whole live in
+      let s : State = record t { goal = w.0.goal; shown = w.0.shown } in
+      (s, in_pairs p p.pairs t w.0.goal w.0.shown (pairs_registers p all_pairs t i) w.1.pair, refl, refl, inl refl);
+  to = λ s t i d. elim d [
+    | inl e ↦ subst (InPart (with_pairs all_pairs p)) (sym e) (in_pairs p all_pairs s t.goal t.shown i.registers (any_pair t.goal t.shown))
+    | inr w ↦ absurd (false≢true w.0)
+  ];
+  whole = λ l. whole_pairs rate all_pairs p whole (sym live);
+  few = λ l n few. few_pairs n all_pairs p few;
+}
+part_leads deck rate m effect.ForgetTape p by whole live below =
+    subst (λ other. PartLeads rate (DoesOrNot deck rate m effect.ForgetTape) (λ n. n) p (λ l. all_states other)) (sym (whole RegIn).1) (record {
       from = λ t i. let w = a_state rate p t.local t.panel whole live in (w.0, w.1, w.2, w.3, inl ((every_state rate t).0 i, sym w.2, sym w.3));
       to = λ s t i d. elim d [ inl e ↦ (every_state rate t).1 e.0 | inr w ↦ absurd (false≢true w.0) ];
       whole = λ l. whole_all rate;
       few = λ l n few. few_all_states rate n;
     })
-part_leads rate m effect.ForgetRegisters p by whole live below =
-    subst (λ other. PartLeads rate (DoesOrNot rate m effect.ForgetRegisters) (λ n. n) p (λ l. with_pairs p.pairs (all_states other))) (sym (whole RegIn).1) (record {
+part_leads deck rate m effect.ForgetRegisters p by whole live below =
+    subst (λ other. PartLeads rate (DoesOrNot deck rate m effect.ForgetRegisters) (λ n. n) p (λ l. with_pairs p.pairs (all_states other))) (sym (whole RegIn).1) (record {
       from = λ t i.
           let w = a_state rate p t.local t.panel whole live in
           let s : State = record w.0 { goal = t.goal; shown = t.shown } in
@@ -267,26 +291,26 @@ part_leads rate m effect.ForgetRegisters p by whole live below =
       whole = λ l. whole_pairs rate p.pairs (all_states rate) (whole_all rate) (live ∙ sym (whole_all rate RegIn).0);
       few = λ l n few. few_pairs n p.pairs (all_states rate) (few_all_states rate n);
     })
-part_leads rate m _ p by whole live below = absurd (false≢true by)
+part_leads deck rate m _ p by whole live below = absurd (false≢true by)
 
 -- where nobody touches the panel no effect changes it, and none but the one that forgets all changes local
-pub does_keep : (rate : Rate) (may_stay : Bool) (e : Effect) (s t : State) → DoesOrNot rate may_stay e s t → (t.panel ≡ s.panel) × ((e ≡ effect.ForgetAll) ⊎ (t.local ≡ s.local))
-does_keep rate may_stay e s t h = grind arith
+pub does_keep : (deck : Option Deck) (rate : Rate) (may_stay : Bool) (e : Effect) (s t : State) → DoesOrNot deck rate may_stay e s t → (t.panel ≡ s.panel) × ((e ≡ effect.ForgetAll) ⊎ (t.local ≡ s.local))
+does_keep deck rate may_stay e s t h = grind arith
 
-pub has_effect : (rate : Rate) (may_stay : Bool) (e : Effect) (h : Halves) → is_by_part e ≡ true → TwoWhole rate h → ((l : Bool) → Below e (in_local h l))
-    → HasEffect rate may_stay e h (map_two (λ l. where_live (part_effect may_stay e l)) h)
-has_effect rate m e h by whole below = leads rate (DoesOrNot rate m e) (counted e) (record { local = local; panel = λ s t d. (does_keep rate m e s t d).0 }) (part_effect m e) h
+pub has_effect : (deck : Option Deck) (rate : Rate) (may_stay : Bool) (e : Effect) (h : Halves) → is_by_part e ≡ true → TwoWhole rate h → ((l : Bool) → Below e (in_local h l))
+    → HasEffect deck rate may_stay e h (map_two (λ l. where_live (part_effect may_stay e l)) h)
+has_effect deck rate m e h by whole below = leads rate (DoesOrNot deck rate m e) (counted e) (record { local = local; panel = λ s t d. (does_keep deck rate m e s t d).0 }) (part_effect m e) h
     whole
-    (λ l n few. few_counted e n (in_local h l) (below l) few) (λ l live. part_leads rate m e (in_local h l) by (whole_in rate h whole l) live (below l))
+    (λ l n few. few_counted e n (in_local h l) (below l) few) (λ l live. part_leads deck rate m e (in_local h l) by (whole_in rate h whole l) live (below l))
   where
-    local : (s t : State) → DoesOrNot rate m e s t → t.local ≡ s.local
-    local s t d = elim (does_keep rate m e s t d).1 [ inl all ↦ absurd (false≢true (sym (ap is_by_part all) ∙ by)) | inr same ↦ same ]
+    local : (s t : State) → DoesOrNot deck rate m e s t → t.local ≡ s.local
+    local s t d = elim (does_keep deck rate m e s t d).1 [ inl all ↦ absurd (false≢true (sym (ap is_by_part all) ∙ by)) | inr same ↦ same ]
 
-has_forgotten_all : (rate : Rate) (may_stay : Bool) (h : Halves) → TwoWhole rate h → HasEffect rate may_stay effect.ForgetAll h (all_forgotten h)
-has_forgotten_all rate m h whole = subst (λ other. HasEffect rate m effect.ForgetAll h (if some_two h then all_or_none other true else h))
+has_forgotten_all : (deck : Option Deck) (rate : Rate) (may_stay : Bool) (h : Halves) → TwoWhole rate h → HasEffect deck rate may_stay effect.ForgetAll h (all_forgotten h)
+has_forgotten_all deck rate m h whole = subst (λ other. HasEffect deck rate m effect.ForgetAll h (if some_two h then all_or_none other true else h))
     (sym (two_rate rate h whole)) (record {
       reached = λ pn. (
-        λ t i. cond_both (some_two h) (all_or_none rate true) h (λ g. InTwo pn g t → (s : State) × InTwo pn h s × DoesOrNot rate m effect.ForgetAll s t)
+        λ t i. cond_both (some_two h) (all_or_none rate true) h (λ g. InTwo pn g t → (s : State) × InTwo pn h s × DoesOrNot deck rate m effect.ForgetAll s t)
             (λ live i. let w = two_state rate h pn whole live in (w.0, w.1, inl (((all_exactly rate true t).0 i.1).1, i.0 ∙ sym w.1.0)))
             (λ dead i. absurd (false≢true (sym dead ∙ two_live h t i.1))) i,
         λ s t i does. elim does [ inl d ↦ (d.1 ∙ i.0, rw (two_live h s i.1) ((all_exactly rate true t).1 (refl, d.0))) | inr w ↦ absurd (false≢true w.0) ],
@@ -300,25 +324,25 @@ has_forgotten_all rate m h whole = subst (λ other. HasEffect rate m effect.Forg
 pub two_same : (g h : Halves) → g.remote ≡ h.remote → g.local ≡ h.local → g ≡ h
 two_same g h p q = ap (λ (r : Part). let k : Halves = record g { remote = r } in k) p ∙ ap (λ (l : Part). let k : Halves = record h { local = l } in k) q
 
-drift_live : (f : Part → Part) (p : Part) → drifted_part (f p) ≡ f (drifted_part p) → drifted_part (where_live f p) ≡ where_live f (drifted_part p)
-drift_live f p same = rw (drift_some p.pairs) (elim (is_live p) as (λ b. drifted_part (if b then f p else p)
-    ≡ (if b then f (drifted_part p) else drifted_part p)) [ true ↦ same | false ↦ refl ])
+drift_live : (deck : Option Deck) (f : Part → Part) (p : Part) → drifted_part deck (f p) ≡ f (drifted_part deck p) → drifted_part deck (where_live f p) ≡ where_live f (drifted_part deck p)
+drift_live deck f p same = rw (drift_some deck p.pairs) (elim (is_live p) as (λ b. drifted_part deck (if b then f p else p)
+    ≡ (if b then f (drifted_part deck p) else drifted_part deck p)) [ true ↦ same | false ↦ refl ])
 
-pub drift_two : (f : Bool → Part → Part) (h : Halves) → ((l : Bool) (p : Part) → drifted_part (f l p) ≡ f l (drifted_part p))
-    → two_drifted (map_two (λ l. where_live (f l)) h) ≡ map_two (λ l. where_live (f l)) (two_drifted h)
-drift_two f h same = grind (arith, two_same, drift_live)
+pub drift_two : (deck : Option Deck) (f : Bool → Part → Part) (h : Halves) → ((l : Bool) (p : Part) → drifted_part deck (f l p) ≡ f l (drifted_part deck p))
+    → two_drifted deck (map_two (λ l. where_live (f l)) h) ≡ map_two (λ l. where_live (f l)) (two_drifted deck h)
+drift_two deck f h same = grind (arith, two_same, drift_live)
 
 -- what becomes of a register's entries is the same after a drift
-pub drift_put : (r : Register) (f : Entries → Entries) (p : Part) → drifted_part (with_entries r (f (entries_of r p)) p)
-    ≡ with_entries r (f (entries_of r (drifted_part p))) (drifted_part p)
-drift_put r f p = grind arith
+pub drift_put : (deck : Option Deck) (r : Register) (f : Entries → Entries) (p : Part) → drifted_part deck (with_entries r (f (entries_of r p)) p)
+    ≡ with_entries r (f (entries_of r (drifted_part deck p))) (drifted_part deck p)
+drift_put deck r f p = grind arith
 
-drift_settled : (p : Part) → drifted_part (settled p) ≡ settled (drifted_part p)
-drift_settled p = rw (drift_some p.pairs) (elim (is_live p && some_entry p.ins && some_entry p.outs && some_entry p.ains && some_entry p.aouts)
-    as (λ b. drifted_part (if b then p else no_states (rate_of p)) ≡ (if b then drifted_part p else no_states (rate_of p))) [ true ↦ refl | false ↦ refl ])
+drift_settled : (deck : Option Deck) (p : Part) → drifted_part deck (settled p) ≡ settled (drifted_part deck p)
+drift_settled deck p = rw (drift_some deck p.pairs) (elim (is_live p && some_entry p.ins && some_entry p.outs && some_entry p.ains && some_entry p.aouts)
+    as (λ b. drifted_part deck (if b then p else no_states (rate_of p)) ≡ (if b then drifted_part deck p else no_states (rate_of p))) [ true ↦ refl | false ↦ refl ])
 
-drift_kept : (l : Bool) (p : Part) → drifted_part (kept_if l p) ≡ kept_if l (drifted_part p)
-drift_kept l p = grind (arith, drift_settled)
+drift_kept : (deck : Option Deck) (l : Bool) (p : Part) → drifted_part deck (kept_if l p) ≡ kept_if l (drifted_part deck p)
+drift_kept deck l p = grind (arith, drift_settled)
 
 -- what is made aside where there is a state, and then put in place
 changed_is : (may_stay : Bool) (r : Register) (c : Change) (h : Halves)
@@ -326,27 +350,28 @@ changed_is : (may_stay : Bool) (r : Register) (c : Change) (h : Halves)
 changed_is may_stay r c h = grind arith
 
 -- what becomes of the registers, and then a drift
-pub after_effect : (rate : Rate) (may_stay : Bool) (e : Effect) (h : Halves) → is_by_part e ≡ true
-    → ((l : Bool) (p : Part) → drifted_part (part_effect may_stay e l p) ≡ part_effect may_stay e l (drifted_part p)) → TwoWhole rate h
-    → ((l : Bool) → Below e (in_local (two_drifted h) l)) → HasEffect rate may_stay e (two_drifted h)
-    (two_drifted (map_two (λ l. where_live (part_effect may_stay e l)) h))
-after_effect rate m e h by same whole below = rw (drift_two (part_effect m e) h same) (has_effect rate m e (two_drifted h) by (drift_whole rate h whole) below)
+pub after_effect : (deck : Option Deck) (rate : Rate) (may_stay : Bool) (e : Effect) (h : Halves) → is_by_part e ≡ true
+    → ((l : Bool) (p : Part) → drifted_part deck (part_effect may_stay e l p) ≡ part_effect may_stay e l (drifted_part deck p)) → TwoWhole rate h
+    → ((l : Bool) → Below e (in_local (two_drifted deck h) l)) → HasEffect deck rate may_stay e (two_drifted deck h)
+    (two_drifted deck (map_two (λ l. where_live (part_effect may_stay e l)) h))
+after_effect deck rate m e h by same whole below = rw (drift_two deck (part_effect m e) h same) (has_effect deck rate m e (two_drifted deck h) by (drift_whole deck rate h whole) below)
 
-pub after_change : (rate : Rate) (may_stay : Bool) (r : Register) (c : Change) (h : Halves) → TwoWhole rate h → TwoBelow h
-    → HasEffect rate may_stay (effect.Change r c) (two_drifted h) (two_drifted (two_changed may_stay r c h))
-after_change rate m r c h whole below = subst (λ g. HasEffect rate m (effect.Change r c) (two_drifted h) (two_drifted g)) (sym (changed_is m r c h))
-    (after_effect rate m (effect.Change r c) h refl (λ l p. drift_kept l (changed_part (l || m) r c p) ∙ ap (kept_if l) (drift_put r (changed_entries (l || m) c) p)) whole (drift_below h below))
+pub after_change : (deck : Option Deck) (rate : Rate) (may_stay : Bool) (r : Register) (c : Change) (h : Halves) → TwoWhole rate h → TwoBelow h
+    → HasEffect deck rate may_stay (effect.Change r c) (two_drifted deck h) (two_drifted deck (two_changed may_stay r c h))
+after_change deck rate m r c h whole below = subst (λ g. HasEffect deck rate m (effect.Change r c) (two_drifted deck h) (two_drifted deck g)) (sym (changed_is m r c h))
+    (after_effect deck rate m (effect.Change r c) h refl (λ l p. drift_kept deck l (changed_part (l || m) r c p) ∙ ap (kept_if l) (drift_put deck r (changed_entries (l || m) c) p)) whole (drift_below deck h below))
 
-pub after_all : (rate : Rate) (may_stay : Bool) (h : Halves) → TwoWhole rate h → HasEffect rate may_stay effect.ForgetAll (two_drifted h) (two_drifted (all_forgotten h))
-after_all rate m h whole = subst (HasEffect rate m effect.ForgetAll (two_drifted h))
-    (sym (by (some_two h) ∙ ap (λ (b : Bool). if b then all_or_none (rate_in h) true else two_drifted h)
-    (sym same))) (has_forgotten_all rate m (two_drifted h) (drift_whole rate h whole))
+pub after_all : (deck : Option Deck) (rate : Rate) (may_stay : Bool) (h : Halves) → TwoWhole rate h → HasEffect deck rate may_stay effect.ForgetAll (two_drifted deck h) (two_drifted deck (all_forgotten h))
+after_all deck rate m h whole = subst (HasEffect deck rate m effect.ForgetAll (two_drifted deck h))
+    (sym (by (some_two h) ∙ ap (λ (b : Bool). if b then all_or_none (rate_in h) true else two_drifted deck h)
+    (sym same))) (has_forgotten_all deck rate m (two_drifted deck h) (drift_whole deck rate h whole))
   where
-    same : some_two (two_drifted h) ≡ some_two h
-    same = ap (λ b. b || is_live (drifted_part h.local)) (drift_some h.remote.pairs) ∙ ap (λ b. is_live h.remote || b) (drift_some h.local.pairs)
+    same : some_two (two_drifted deck h) ≡ some_two h
+    same = ap (λ b. b || is_live (drifted_part deck h.local)) (drift_some deck h.remote.pairs) ∙ ap (λ b. is_live h.remote || b) (drift_some deck h.local.pairs)
 
-    by : (b : Bool) → two_drifted (if b then all_or_none (rate_in h) true else h) ≡ (if b then all_or_none (rate_in h) true else two_drifted h)
-    by b = grind arith
+    by : (b : Bool) → two_drifted deck (if b then all_or_none (rate_in h) true else h) ≡ (if b then all_or_none (rate_in h) true else two_drifted deck h)
+    by true = drifted_all deck (rate_in h) true
+    by false = refl
 
 -- ---- one after another
 
@@ -376,12 +401,12 @@ pub leads_same : (rate : Rate) (h : Halves) → TwoWhole rate h → LeadsOn rate
 leads_same rate h whole = record { reached = λ pn. (λ t i. (t, i, refl), λ s t i e. subst (InTwo pn h) (sym e) i); whole = whole; few = λ n few. few }
 
 -- nothing but a drift
-pub after_drift : (rate : Rate) (may_stay : Bool) (e : Effect) (h : Halves) → ((s t : State) → (t ≡ s) → Does (untouched rate) e s t)
-    → ((s t : State) → Does (untouched rate) e s t → t ≡ s)
-    → ((n : Presets) → counted e n ≡ n) → TwoWhole rate h → HasEffect rate may_stay e (two_drifted h) (two_drifted h)
-after_drift rate m e h there back same whole = leads_as rate (λ s t. t ≡ s) (DoesOrNot rate m e) (λ n. n) (counted e) (two_drifted h) (two_drifted h)
+pub after_drift : (deck : Option Deck) (rate : Rate) (may_stay : Bool) (e : Effect) (h : Halves) → ((s t : State) → (t ≡ s) → Does (untouched deck rate) e s t)
+    → ((s t : State) → Does (untouched deck rate) e s t → t ≡ s)
+    → ((n : Presets) → counted e n ≡ n) → TwoWhole rate h → HasEffect deck rate may_stay e (two_drifted deck h) (two_drifted deck h)
+after_drift deck rate m e h there back same whole = leads_as rate (λ s t. t ≡ s) (DoesOrNot deck rate m e) (λ n. n) (counted e) (two_drifted deck h) (two_drifted deck h)
     (λ s t e. inl (there s t e)) (λ s t i d. elim d [ inl does ↦ back s t does | inr (may, stays, e) ↦ e ]) same
-    (leads_same rate (two_drifted h) (drift_whole rate h whole))
+    (leads_same rate (two_drifted deck h) (drift_whole deck rate h whole))
 
 -- ---- a register's time
 
@@ -479,77 +504,77 @@ reads_status rate status h whole = reads rate (λ s. ShowsStatus s status) (λ l
 -- ---- complete exchanges
 
 -- a command that asks for something of the state has no effect
-pub asks_or_acts : (c : Command) → (sense_of c ≡ sense.Nothing) ⊎ (effect_of c ≡ effect.Nothing)
-asks_or_acts c = grind arith
+pub asks_or_acts : (deck : Option Deck) (c : Command) → (sense_of c ≡ sense.Nothing) ⊎ (effect_of deck c ≡ effect.Nothing)
+asks_or_acts deck c = grind arith
 
 -- the presets are those of the effect
-pub command_counts : (c : Command) (n : Presets) → with_command c n ≡ counted (effect_of c) n
-command_counts c n = grind arith
+pub command_counts : (deck : Option Deck) (c : Command) (n : Presets) → with_command c n ≡ counted (effect_of deck c) n
+command_counts deck c n = grind arith
 
-pub presets_of : (c : Command) (reply : Block) (n : Presets) → is_nak reply ≡ false → presets_after c reply true n ≡ counted (effect_of c) n
-presets_of c reply n nak = rw nak (command_counts c n)
+pub presets_of : (deck : Option Deck) (c : Command) (reply : Block) (n : Presets) → is_nak reply ≡ false → presets_after c reply true n ≡ counted (effect_of deck c) n
+presets_of deck c reply n nak = rw nak (command_counts deck c n)
 
 -- a drift, and then a step
-exchanged_by : (rate : Rate) (c : Command) (reply : Block) (Goes : State → State → Type 0) (count : Presets → Presets) (h g : Halves) → TwoWhole rate h
-    → ((s t : State) → Goes s t ↔ DeckStep (untouched rate) c reply s t)
-    → ((n : Presets) → presets_after c reply true n ≡ count n) → LeadsOn rate Goes count (two_drifted h) g → Taken rate c (Some reply) h g
-exchanged_by rate c reply Goes count h g whole steps same led = leads_then rate (Drift (untouched rate)) (DeckStep (untouched rate) c reply) (λ n. n) (presets_after c reply true) h
-    (two_drifted h) g (drift_leads rate h whole)
-    (leads_as rate Goes (DeckStep (untouched rate) c reply) count (presets_after c reply true) (two_drifted h) g (λ s t. (steps s t).0) (λ s t i. (steps s t).1) same
+exchanged_by : (deck : Option Deck) (rate : Rate) (c : Command) (reply : Block) (Goes : State → State → Type 0) (count : Presets → Presets) (h g : Halves) → TwoWhole rate h
+    → ((s t : State) → Goes s t ↔ DeckStep (untouched deck rate) c reply s t)
+    → ((n : Presets) → presets_after c reply true n ≡ count n) → LeadsOn rate Goes count (two_drifted deck h) g → Taken deck rate c (Some reply) h g
+exchanged_by deck rate c reply Goes count h g whole steps same led = leads_then rate (Drift (untouched deck rate)) (DeckStep (untouched deck rate) c reply) (λ n. n) (presets_after c reply true) h
+    (two_drifted deck h) g (drift_leads deck rate h whole)
+    (leads_as rate Goes (DeckStep (untouched deck rate) c reply) count (presets_after c reply true) (two_drifted deck h) g (λ s t. (steps s t).0) (λ s t i. (steps s t).1) same
     led)
 
-pub exchanged_nak : (rate : Rate) (c : Command) (reply : Block) (h : Halves) → is_nak reply ≡ true → TwoWhole rate h → Taken rate c (Some reply) h (two_drifted h)
-exchanged_nak rate c reply h nak whole = exchanged_by rate c reply (λ s t. t ≡ s) (λ n. n) h (two_drifted h) whole (λ s t. (λ e. refused nak e, back s t))
-    (λ n. rw nak refl) (leads_same rate (two_drifted h) (drift_whole rate h whole))
+pub exchanged_nak : (deck : Option Deck) (rate : Rate) (c : Command) (reply : Block) (h : Halves) → is_nak reply ≡ true → TwoWhole rate h → Taken deck rate c (Some reply) h (two_drifted deck h)
+exchanged_nak deck rate c reply h nak whole = exchanged_by deck rate c reply (λ s t. t ≡ s) (λ n. n) h (two_drifted deck h) whole (λ s t. (λ e. refused nak e, back s t))
+    (λ n. rw nak refl) (leads_same rate (two_drifted deck h) (drift_whole deck rate h whole))
   where
-    back : (s t : State) → DeckStep (untouched rate) c reply s t → t ≡ s
+    back : (s t : State) → DeckStep (untouched deck rate) c reply s t → t ≡ s
     back s t h = grind arith
 
 -- a step of a command that asks for something is what its reply shows
-asks : (rate : Rate) (c : Command) (reply : Block) (q : Sense) → is_nak reply ≡ false → sense_of c ≡ q → effect_of c ≡ effect.Nothing → (s t : State)
-    → (Agrees rate q s reply × (t ≡ s)) ↔ DeckStep (untouched rate) c reply s t
-asks rate c reply q nak sensed none s t = grind arith
+asks : (deck : Option Deck) (rate : Rate) (c : Command) (reply : Block) (q : Sense) → is_nak reply ≡ false → sense_of c ≡ q → effect_of deck c ≡ effect.Nothing → (s t : State)
+    → (Agrees rate q s reply × (t ≡ s)) ↔ DeckStep (untouched deck rate) c reply s t
+asks deck rate c reply q nak sensed none s t = grind arith
 
-drift_sensed : (r : Register) (time : Option ℕ) (h : Halves)
-    → two_drifted (two_sensed r time h) ≡ map_two (λ l. where_live (sensed_part r time)) (two_drifted h)
-drift_sensed r time h = ap two_drifted (two_same _ (map_two (λ l. where_live (sensed_part r time)) h) (by h.remote (is_live h.remote))
+drift_sensed : (deck : Option Deck) (r : Register) (time : Option ℕ) (h : Halves)
+    → two_drifted deck (two_sensed r time h) ≡ map_two (λ l. where_live (sensed_part r time)) (two_drifted deck h)
+drift_sensed deck r time h = ap (two_drifted deck) (two_same _ (map_two (λ l. where_live (sensed_part r time)) h) (by h.remote (is_live h.remote))
     (by h.local (is_live h.local)))
-    ∙ drift_two (λ l. sensed_part r time) h (λ l p. drift_settled (with_entries r (agreeing time (entries_of r p)) p)
-    ∙ ap settled (drift_put r (agreeing time) p))
+    ∙ drift_two deck (λ l. sensed_part r time) h (λ l p. drift_settled deck (with_entries r (agreeing time (entries_of r p)) p)
+    ∙ ap settled (drift_put deck r (agreeing time) p))
   where
     by : (p : Part) (b : Bool) → put_settled r (if b then Some (agreeing time (entries_of r p)) else None) p ≡ (if b then sensed_part r time p else p)
     by p b = grind arith
 
-pub exchanged_sense : (rate : Rate) (c : Command) (reply : Block) (r : Register) (h : Halves) → is_nak reply ≡ false → sense_of c ≡ sense.Register r → TwoWhole rate h
-    → Taken rate c (Some reply) h (two_drifted (two_sensed r (time_of rate reply.bytes.items) h))
-exchanged_sense rate c reply r h nak wanted whole =
+pub exchanged_sense : (deck : Option Deck) (rate : Rate) (c : Command) (reply : Block) (r : Register) (h : Halves) → is_nak reply ≡ false → sense_of c ≡ sense.Register r → TwoWhole rate h
+    → Taken deck rate c (Some reply) h (two_drifted deck (two_sensed r (time_of rate reply.bytes.items) h))
+exchanged_sense deck rate c reply r h nak wanted whole =
     let bytes = reply.bytes.items in
     let at = time_of rate bytes in
-    let none : effect_of c ≡ effect.Nothing = elim (asks_or_acts c) [ inl e ↦ cc | inr none ↦ none ] in
-    rw (drift_sensed r at h) (exchanged_by rate c reply (λ s t. Tells rate (entry_of r s) bytes × (t ≡ s)) (λ n. n) h
-    (map_two (λ l. where_live (sensed_part r at)) (two_drifted h)) whole
-    (asks rate c reply (sense.Register r) nak wanted none) (λ n. presets_of c reply n nak ∙ ap (λ e. counted e n) none)
-    (reads rate (λ s. Tells rate (entry_of r s) bytes) (λ l. sensed_part r at) (two_drifted h) (drift_whole rate h whole) (sense_exactly rate r bytes)
+    let none : effect_of deck c ≡ effect.Nothing = elim (asks_or_acts deck c) [ inl e ↦ cc | inr none ↦ none ] in
+    rw (drift_sensed deck r at h) (exchanged_by deck rate c reply (λ s t. Tells rate (entry_of r s) bytes × (t ≡ s)) (λ n. n) h
+    (map_two (λ l. where_live (sensed_part r at)) (two_drifted deck h)) whole
+    (asks deck rate c reply (sense.Register r) nak wanted none) (λ n. presets_of deck c reply n nak ∙ ap (λ e. counted e n) none)
+    (reads rate (λ s. Tells rate (entry_of r s) bytes) (λ l. sensed_part r at) (two_drifted deck h) (drift_whole deck rate h whole) (sense_exactly rate r bytes)
     (λ l p same. whole_settled rate (with_entries r (agreeing at (entries_of r p)) p)
     (put_rate rate r (agreeing at (entries_of r p)) p same (agreeing_rate at (entries_of r p))))
     (λ l n p few. few_settled n _ (few_put n r (agreeing at (entries_of r p)) p few (few_agreeing _ at (entries_of r p))))))
 
-pub exchanged_status : (rate : Rate) (c : Command) (reply : Block) (asked : ℕ) (h : Halves) → is_nak reply ≡ false → sense_of c ≡ sense.Status asked → TwoWhole rate h
-    → Taken rate c (Some reply) h (two_status (status_of asked reply) (two_drifted h))
-exchanged_status rate c reply asked h nak asks_for whole =
+pub exchanged_status : (deck : Option Deck) (rate : Rate) (c : Command) (reply : Block) (asked : ℕ) (h : Halves) → is_nak reply ≡ false → sense_of c ≡ sense.Status asked → TwoWhole rate h
+    → Taken deck rate c (Some reply) h (two_status (status_of asked reply) (two_drifted deck h))
+exchanged_status deck rate c reply asked h nak asks_for whole =
     let status = status_of asked reply in
-    let none : effect_of c ≡ effect.Nothing = elim (asks_or_acts c) [ inl e ↦ cc | inr none ↦ none ] in
-    exchanged_by rate c reply (λ s t. ShowsStatus s status × (t ≡ s)) (λ n. n) h (two_status status (two_drifted h)) whole
-    (asks rate c reply (sense.Status asked) nak asks_for none)
-    (λ n. presets_of c reply n nak ∙ ap (λ e. counted e n) none) (reads_status rate status (two_drifted h) (drift_whole rate h whole))
+    let none : effect_of deck c ≡ effect.Nothing = elim (asks_or_acts deck c) [ inl e ↦ cc | inr none ↦ none ] in
+    exchanged_by deck rate c reply (λ s t. ShowsStatus s status × (t ≡ s)) (λ n. n) h (two_status status (two_drifted deck h)) whole
+    (asks deck rate c reply (sense.Status asked) nak asks_for none)
+    (λ n. presets_of deck c reply n nak ∙ ap (λ e. counted e n) none) (reads_status rate status (two_drifted deck h) (drift_whole deck rate h whole))
 
-pub exchanged_effect : (rate : Rate) (c : Command) (reply : Block) (h g : Halves) → is_nak reply ≡ false → sense_of c ≡ sense.Nothing → TwoWhole rate h
-    → HasEffect rate false (effect_of c) (two_drifted h) g → Taken rate c (Some reply) h g
-exchanged_effect rate c reply h g nak sensed whole =
-    exchanged_by rate c reply (DoesOrNot rate false (effect_of c)) (counted (effect_of c)) h g whole (λ s t. (there s t, back s t)) (λ n. presets_of c reply n nak)
+pub exchanged_effect : (deck : Option Deck) (rate : Rate) (c : Command) (reply : Block) (h g : Halves) → is_nak reply ≡ false → sense_of c ≡ sense.Nothing → TwoWhole rate h
+    → HasEffect deck rate false (effect_of deck c) (two_drifted deck h) g → Taken deck rate c (Some reply) h g
+exchanged_effect deck rate c reply h g nak sensed whole =
+    exchanged_by deck rate c reply (DoesOrNot deck rate false (effect_of deck c)) (counted (effect_of deck c)) h g whole (λ s t. (there s t, back s t)) (λ n. presets_of deck c reply n nak)
   where
-    there : (s t : State) → DoesOrNot rate false (effect_of c) s t → DeckStep (untouched rate) c reply s t
+    there : (s t : State) → DoesOrNot deck rate false (effect_of deck c) s t → DeckStep (untouched deck rate) c reply s t
     there s t h = grind arith
 
-    back : (s t : State) → DeckStep (untouched rate) c reply s t → DoesOrNot rate false (effect_of c) s t
+    back : (s t : State) → DeckStep (untouched deck rate) c reply s t → DoesOrNot deck rate false (effect_of deck c) s t
     back s t h = grind arith

@@ -1,11 +1,12 @@
 -- Single things that a tracker keeps: sets of modes, one bit at a time; a drift of pairs of goal and shown mode; and
 -- what becomes of a set of entries, one entry at a time.
+use Rattle.track9.proofs.Words.{all_has, and-true, Deck, either, has-and, nothing_has, ten_of, way_of}
 use Rattle.track9.proofs.Words.{[], agreeing, Allows, and_parts, any_mode, ap, arith, At, Becomes, BelowDay, bit_of, Bool}
 use Rattle.track9.proofs.Words.{just_of, nat_lt, Rate, with_time, both_ways, by_goal, Change, changed_entries, Clear, cond_both, contains-every_time, contains-insert_nat, contains-items_nat, contains-just, day}
 use Rattle.track9.proofs.Words.{drifted_with, Entries, Entry, eqb-true, every_mode, every_time, false, false_from_ne_true, false≢true, find_mode, goal_if_shown, goals_of, goes, halted}
-use Rattle.track9.proofs.Words.{has, has-or, has_pair, if◌then◌else◌, image_from, image_to, inl, inr, is_mode, is_mode-same, is_nil, is_one_of, is_set, is_some, just, just_has}
+use Rattle.track9.proofs.Words.{has, has-or, has_pair, if◌then◌else◌, image_from, image_to, inl, inr, is_mode, is_mode-same, is_nil, is_set, is_some, just, just_has}
 use Rattle.track9.proofs.Words.{kept_goal, List, list_any, ltb-true, Mode, mode_self, mode_some, modes, ModeSet, nat_cmp, nat_cmp_total, nat_eq, nat_tests, Next}
-use Rattle.track9.proofs.Words.{next_frame, no_entries, None, not, not-true, of_modes_has, on_the_way, Option, or-false, or-true, or_assoc, or_cases, or_left}
+use Rattle.track9.proofs.Words.{next_frame, no_entries, None, not, not-true, Option, or-false, or-true, or_assoc, or_cases, or_left}
 use Rattle.track9.proofs.Words.{or_right, PairReaches, Prev, prev_frame, read_given, Recall, refl, Reset, same_test, same_times, set_entries, SetAt, SetSomewhere}
 use Rattle.track9.proofs.Words.{shown_with, Some, some_entry, some_mode, some_pair, Stop, subst, sym, Tells, time_of, given_reads, Times, true, true_from_ne_false, ℕ}
 use Rattle.track9.proofs.Words.{◌&&◌, ◌<◌, ◌||◌, ◌↔◌, ◌∙◌, ◌∷◌, ◌≡◌, ◌⊎◌}
@@ -43,30 +44,44 @@ goals_has p g = goes_any (by_goal (goal_if_shown p)) g ∙ simp if_has (has_ever
 
 -- ---- a drift
 
-kept_has : (b : Bool) (s : ModeSet) (g m : Mode) → has (kept_goal b s g).0 m ≡ (has s.0 m || (b && (is_mode m g || is_one_of (on_the_way g) m)))
-kept_has b s g m = grind (arith, or-false, has-or, just_has, of_modes_has, or_assoc)
+ten_has : (way : ModeSet) (m : Mode) → has (ten_of way).0 m ≡ has way.0 m
+ten_has way m = grind (arith, has-and, all_has, and-true)
 
--- a mode may be shown with a goal after a drift: as before; where a mode was shown with it, itself or on the way to it; or STOP with STOP
-pub drifted_has : (p : List ModeSet) (g m : Mode) → has (drifted_with p g).0 m
-    ≡ ((has_pair p g m || (is_some (shown_with p g) && (is_mode m g || is_one_of (on_the_way g) m))) || (is_mode m Stop && (some_pair p && is_mode g Stop)))
-drifted_has p g m = has-or (kept_goal (is_some (shown_with p g)) (shown_with p g) g).0 (halted (some_pair p) g).0 m
-    ∙ ap (λ b. b || has (halted (some_pair p) g).0 m) (kept_has (is_some (shown_with p g)) (shown_with p g) g m)
-    ∙ ap (λ b. (has_pair p g m || (is_some (shown_with p g) && (is_mode m g || is_one_of (on_the_way g) m))) || b)
-    (if_has (some_pair p && is_mode g Stop) Stop m)
+kept_has : (s way : ModeSet) (g m : Mode) → has (kept_goal s way g).0 m ≡ (has s.0 m || (is_some s && (is_mode m g || has way.0 m)))
+kept_has s way g m = by (is_some s)
+  where
+    by : (b : Bool) → has (if b then either (either s (modes (bit_of g))) (ten_of way) else s).0 m ≡ (has s.0 m || (b && (is_mode m g || has way.0 m)))
+    by true = simp (has-or, just_has, ten_has, or_assoc)
+    by false = sym (or-false (has s.0 m))
 
-pub drifted_from : (p : List ModeSet) (g m : Mode) → has (drifted_with p g).0 m ≡ true → (f : Mode) × (n : Mode) × (has_pair p f n ≡ true) × PairReaches f n g m
-drifted_from p g m h = elim (or_cases _ _ (sym (drifted_has p g m) ∙ h)) [
+halted_has : (p : List ModeSet) (way : ModeSet) (m : Mode) → has (halted p way).0 m ≡ (some_pair p && (is_mode m Stop || has way.0 m))
+halted_has p way m = by (some_pair p)
+  where
+    by : (b : Bool) → has (if b then ten_of (either (modes (bit_of Stop)) way) else modes 0).0 m ≡ (b && (is_mode m Stop || has way.0 m))
+    by true = ten_has (either (modes (bit_of Stop)) way) m ∙ simp (has-or, just_has)
+    by false = nothing_has m
+
+-- a mode may be shown with a goal after a drift: as before; where a mode was shown with it, itself or one on the way to it; or with STOP, STOP or
+-- one on the way to it
+pub drifted_has : (deck : Option Deck) (p : List ModeSet) (g m : Mode) → has (drifted_with deck p g).0 m
+    ≡ ((has_pair p g m || (is_some (shown_with p g) && (is_mode m g || has (way_of deck g).0 m)))
+    || (is_mode g Stop && (some_pair p && (is_mode m Stop || has (way_of deck Stop).0 m))))
+drifted_has deck p g m = grind (arith, kept_has, halted_has, has-or, or-false)
+
+pub drifted_from : (deck : Option Deck) (p : List ModeSet) (g m : Mode) → has (drifted_with deck p g).0 m ≡ true
+    → (f : Mode) × (n : Mode) × (has_pair p f n ≡ true) × PairReaches deck f n g m
+drifted_from deck p g m h = elim (or_cases _ _ (sym (drifted_has deck p g m) ∙ h)) [
   | inl kept ↦ elim (or_cases _ _ kept) [
     | inl same ↦ (g, m, same, inl (refl, inl refl))
     | inr moved ↦ let w = and_parts _ _ moved in let n = some_mode (shown_with p g) w.0 in
         (g, n.0, n.1, inl (refl, inr (elim (or_cases _ _ w.1) [ inl e ↦ inl (is_mode-same m g e) | inr e ↦ inr e ])))
   ]
   | inr stop ↦ let w = and_parts _ _ stop in let v = and_parts _ _ w.1 in let n = some_mode (goes p) v.0 in let f = goes_from p n.0 n.1 in
-      (f.0, n.0, f.1, inr (is_mode-same g Stop v.1, is_mode-same m Stop w.0))
+      (f.0, n.0, f.1, inr (is_mode-same g Stop w.0, elim (or_cases _ _ v.1) [ inl e ↦ inl (is_mode-same m Stop e) | inr e ↦ inr e ]))
 ]
 
-pub drifted_to : (p : List ModeSet) (f n g m : Mode) → has_pair p f n ≡ true → PairReaches f n g m → has (drifted_with p g).0 m ≡ true
-drifted_to p f n g m h given = grind (arith, drifted_has, mode_some, mode_self, or-true, pairs_some)
+pub drifted_to : (deck : Option Deck) (p : List ModeSet) (f n g m : Mode) → has_pair p f n ≡ true → PairReaches deck f n g m → has (drifted_with deck p g).0 m ≡ true
+drifted_to deck p f n g m h given = grind (arith, drifted_has, mode_some, mode_self, or-true, pairs_some)
 
 pub in_day : (rate : Rate) (t : ℕ) → set.contains (every_time rate) t ≡ true → t < day rate
 in_day rate t h = ltb-true t (day rate) (sym (contains-every_time rate t) ∙ h)

@@ -241,7 +241,7 @@ dead_few n v whole dead pn l r =
     let w = live_state v l pn whole live in false≢true (sym dead ∙ some_live v w.0 w.1)) in
     rw (no_times (entries_of r (part_of v l pn)) ((part_whole (rate_for v) v whole l pn r).0 ∙ dead_in)) (omega (arith, begin_count-empty (entries_of r (part_of v l pn)).rate))
 
-pub own_whole : (p : Profile) (w : States) → profile_of w ≡ p → AreWhole p.rate w → AreWhole (rate_for w) w
+pub own_whole : (p : Profile) (w : States) → profile_of p.deck w ≡ p → AreWhole p.rate w → AreWhole (rate_for w) w
 own_whole p w same whole = subst (λ rate. AreWhole rate w) (sym (ap (λ (p : Profile). p.rate) same)) whole
 
 pub kept_after : (c : Command) (reply : Block) (v w : States) (p : Profile) (n : Presets) → IsKept n v → Follows p c (Some reply) v w

@@ -1,5 +1,8 @@
 -- The states of a part: registers put in place, parts with and without states, what each factor keeps, how often times
 -- begin; and the states with one value of the panel, and all.
+use Rattle.std.proofs.lemmas.Nat.{and_assoc, and_comm}
+use Rattle.std.specs.Int.Bits.{or_add_and}
+use Rattle.track9.proofs.Words.{bit_and, bit_or, Deck}
 use Rattle.track9.proofs.Words.{agreeing, all_entries, all_has, all_or_none, all_pairs, all_states, Allows, and_parts, ap, AreBelow, AreFew, AreReached, AreWhole, arith}
 use Rattle.track9.proofs.Words.{begin_count, begin_count-empty, begin_count-every_time, begin_count-insert, begin_count-just, begin_count-next, begin_count-prev}
 use Rattle.track9.proofs.Words.{begin_count-span_count, begin_count-widened_next, begin_count-widened_prev, BelowDay, Bool, Change, changed_entries, changed_part}
@@ -155,15 +158,31 @@ whole_settled rate p same = cond_both _ p (no_states (rate_of p)) (Whole rate) (
     (λ e. subst (λ other. Whole rate (no_states other)) (sym (same RegIn)) (whole_none rate))
 
 -- a drift leaves a state, and makes none from nothing
-pub drift_some : (p : List ModeSet) → some_pair (drifted p) ≡ some_pair p
-drift_some p = same_test (some_pair (drifted p)) (some_pair p)
-    (λ h. let m = some_mode (goes (drifted p)) h in let g = goes_from (drifted p) m.0 m.1 in
-    let w = drifted_from p g.0 m.0 (sym (pair_by_goal (drifted_with p) g.0 m.0) ∙ g.1) in pairs_some p w.0 w.1 w.2)
+pub drift_some : (deck : Option Deck) (p : List ModeSet) → some_pair (drifted deck p) ≡ some_pair p
+drift_some deck p = same_test (some_pair (drifted deck p)) (some_pair p)
+    (λ h. let m = some_mode (goes (drifted deck p)) h in let g = goes_from (drifted deck p) m.0 m.1 in
+    let w = drifted_from deck p g.0 m.0 (sym (pair_by_goal (drifted_with deck p) g.0 m.0) ∙ g.1) in pairs_some p w.0 w.1 w.2)
     (λ h. let m = some_mode (goes p) h in let g = goes_from p m.0 m.1 in
-    pairs_some (drifted p) g.0 m.0 (pair_by_goal (drifted_with p) g.0 m.0 ∙ drifted_to p g.0 m.0 g.0 m.0 g.1 (inl (refl, inl refl))))
+    pairs_some (drifted deck p) g.0 m.0 (pair_by_goal (drifted_with deck p) g.0 m.0 ∙ drifted_to deck p g.0 m.0 g.0 m.0 g.1 (inl (refl, inl refl))))
 
-pub whole_drift : (rate : Rate) (p : Part) → Whole rate p → Whole rate (drifted_part p)
-whole_drift rate p whole = whole_pairs rate (drifted p.pairs) p whole (drift_some p.pairs)
+-- all pairs stay all pairs
+full : (w : ℕ) → bit_or 0x3FF (bit_and w 0x3FF) ≡ 0x3FF
+full w =
+    let inside : bit_and 0x3FF (bit_and w 0x3FF) ≡ bit_and w 0x3FF = and_comm 0x3FF (bit_and w 0x3FF) ∙ and_assoc 0x3FF w 0x3FF in
+    grind (arith, inside, or_add_and 0x3FF (bit_and w 0x3FF))
+
+all_drifted_pairs : (deck : Option Deck) → drifted deck all_pairs ≡ all_pairs
+all_drifted_pairs deck = simp full
+
+pub drifted_all_states : (deck : Option Deck) (rate : Rate) → drifted_part deck (all_states rate) ≡ all_states rate
+drifted_all_states deck rate = rw (all_drifted_pairs deck) refl
+
+pub drifted_all : (deck : Option Deck) (rate : Rate) (b : Bool) → two_drifted deck (all_or_none rate b) ≡ all_or_none rate b
+drifted_all deck rate true = rw (all_drifted_pairs deck) refl
+drifted_all deck rate false = refl
+
+pub whole_drift : (deck : Option Deck) (rate : Rate) (p : Part) → Whole rate p → Whole rate (drifted_part deck p)
+whole_drift deck rate p whole = whole_pairs rate (drifted deck p.pairs) p whole (drift_some deck p.pairs)
 
 -- ---- two parts
 
@@ -296,16 +315,16 @@ both_few n v off on = grind arith
 pub few_pairs : (n : Presets) (q : List ModeSet) (p : Part) → FewIn n p → FewIn n (with_pairs q p)
 few_pairs n q p h = each_register _ (h RegIn) (h RegOut) (h RegAudioIn) (h RegAudioOut)
 
-pub drift_few : (n : Presets) (h : Halves) → TwoFew n h → TwoFew n (two_drifted h)
-drift_few n h few false = few_pairs n (drifted h.remote.pairs) h.remote (few false)
-drift_few n h few true = few_pairs n (drifted h.local.pairs) h.local (few true)
+pub drift_few : (deck : Option Deck) (n : Presets) (h : Halves) → TwoFew n h → TwoFew n (two_drifted deck h)
+drift_few deck n h few false = few_pairs n (drifted deck h.remote.pairs) h.remote (few false)
+drift_few deck n h few true = few_pairs n (drifted deck h.local.pairs) h.local (few true)
 
-pub drift_whole : (rate : Rate) (h : Halves) → TwoWhole rate h → TwoWhole rate (two_drifted h)
-drift_whole rate h whole = record { remote = whole_drift rate h.remote whole.remote; local = whole_drift rate h.local whole.local }
+pub drift_whole : (deck : Option Deck) (rate : Rate) (h : Halves) → TwoWhole rate h → TwoWhole rate (two_drifted deck h)
+drift_whole deck rate h whole = record { remote = whole_drift deck rate h.remote whole.remote; local = whole_drift deck rate h.local whole.local }
 
-pub drift_below : (h : Halves) → TwoBelow h → TwoBelow (two_drifted h)
-drift_below h below false = let b = below false in each_register _ (b RegIn) (b RegOut) (b RegAudioIn) (b RegAudioOut)
-drift_below h below true = let b = below true in each_register _ (b RegIn) (b RegOut) (b RegAudioIn) (b RegAudioOut)
+pub drift_below : (deck : Option Deck) (h : Halves) → TwoBelow h → TwoBelow (two_drifted deck h)
+drift_below deck h below false = let b = below false in each_register _ (b RegIn) (b RegOut) (b RegAudioIn) (b RegAudioOut)
+drift_below deck h below true = let b = below true in each_register _ (b RegIn) (b RegOut) (b RegAudioIn) (b RegAudioOut)
 
 -- every state is one of all, and none is one of none
 pub all_exactly : (rate : Rate) (b : Bool) (t : State) → InPart (in_local (all_or_none rate b) t.local) t ↔ ((b ≡ true) × IsState rate t)
@@ -363,17 +382,17 @@ pub state_is : (rate : Rate) (p : Part) (s : State) → OfRate rate p → PartBe
 state_is rate p s same below i = λ r. entry_is rate (entries_of r p) (entry_of r s) (same r) (below r) (i.registers r)
 
 -- where nobody touches the panel a drift is one of the mechanics
-pub mechanics : (rate : Rate) (s t : State) → Drift (untouched rate) s t → KeepsRest s t × PairReaches s.goal s.shown t.goal t.shown
-mechanics rate s t d = elim (pairs_from_drift (untouched rate) s t d) [ inl kept ↦ kept | inr hand ↦ cc ]
+pub mechanics : (deck : Option Deck) (rate : Rate) (s t : State) → Drift (untouched deck rate) s t → KeepsRest s t × PairReaches deck s.goal s.shown t.goal t.shown
+mechanics deck rate s t d = elim (pairs_from_drift (untouched deck rate) s t d) [ inl kept ↦ kept | inr hand ↦ cc ]
 
 -- and it is one with hands too, unless the panel is on
-pub same_drift : (p : Profile) (s t : State) → Drift (untouched p.rate) s t → Drift p s t
-same_drift p s t d = drift_from_pairs p s t (inl (mechanics p.rate s t d))
+pub same_drift : (p : Profile) (s t : State) → Drift (untouched p.deck p.rate) s t → Drift p s t
+same_drift p s t d = drift_from_pairs p s t (inl (mechanics p.deck p.rate s t d))
 
-pub off_drift : (p : Profile) (s t : State) → s.panel ≡ false → Drift p s t → Drift (untouched p.rate) s t
+pub off_drift : (p : Profile) (s t : State) → s.panel ≡ false → Drift p s t → Drift (untouched p.deck p.rate) s t
 off_drift p s t off d =
     elim (pairs_from_drift p s t d) [
-      | inl kept ↦ drift_from_pairs (untouched p.rate) s t (inl kept)
+      | inl kept ↦ drift_from_pairs (untouched p.deck p.rate) s t (inl kept)
       | inr (allowed, on, still, valid) ↦ absurd
           (false≢true (sym off ∙ on))
     ]
@@ -421,7 +440,7 @@ live_some rate v whole live =
     let w = two_state rate (two_of v pn.0) pn.0 (whole_of rate v whole pn.0) pn.1 in (w.0, of_two v w.0 pn.0 w.1)
 
 -- the first states
-pub first_exactly : (p : Profile) (s : State) → Possible (first_states p) s ↔ IsFirst p s
+pub first_exactly : (p : Profile) (s : State) → Possible (first_states p.rate p.hands) s ↔ IsFirst p s
 first_exactly p s = by p.hands s.panel refl
   where
     by : (h : Hands) (pn : Bool) → s.panel ≡ pn

@@ -1,4 +1,5 @@
 -- The states that a deck may start from, where some fields are known: exactly those, and what a tracker of them keeps.
+use Rattle.track9.proofs.Words.{Deck}
 use Rattle.track9.proofs.Words.{Allows, and_from, and_parts, ap, AreBelow, arith, At, begin_count-empty, begin_count-every_time, Bool, Clear}
 use Rattle.track9.proofs.Words.{cond_both, entries_known, Entry, false, false≢true, has, has_pair, if◌then◌else◌, in_local, InPart, is_as_wanted, IsEntry, IsFirst, IsIn}
 use Rattle.track9.proofs.Words.{IsKept, IsState, Mode, modes, modes_known, ModeSet, no_states, None, nothing_has, Option, pairs_of, part_from, part_known}
@@ -103,9 +104,9 @@ start_kept rate k n = record {
     by false = few_from rate n k false
     by true = few_from rate n k true
 
-pub start_exactly : (rate : Rate) (k : Start) (s : State) → AreBelow (states_from rate k)
-    → Possible (states_from rate k) s ↔ (IsFirst (untouched rate) s × StartsFrom k s)
-start_exactly rate k s below = (
+pub start_exactly : (deck : Option Deck) (rate : Rate) (k : Start) (s : State) → AreBelow (states_from rate k)
+    → Possible (states_from rate k) s ↔ (IsFirst (untouched deck rate) s × StartsFrom k s)
+start_exactly deck rate k s below = (
   λ i. let valid = subst (λ other. IsState other s) (from_rate rate k)
       (possible_state (rate_for (states_from rate k)) (states_from rate k) s (start_kept rate k none_counted).whole below i) in by_panel s.panel refl valid i,
   λ w. possible (states_from rate k) s s.local false refl w.0.1 (rw (by_local rate k s.local) (starts_from rate k s w.0.0 w.1)),
@@ -114,6 +115,6 @@ start_exactly rate k s below = (
     none_counted : Presets
     none_counted = record { ins = 0; outs = 0; ains = 0; aouts = 0 }
 
-    by_panel : (pn : Bool) → s.panel ≡ pn → IsState rate s → IsIn (if pn then None else Some (two_from rate k)) s → IsFirst (untouched rate) s × StartsFrom k s
+    by_panel : (pn : Bool) → s.panel ≡ pn → IsState rate s → IsIn (if pn then None else Some (two_from rate k)) s → IsFirst (untouched deck rate) s × StartsFrom k s
     by_panel false off valid i = ((valid, off), from_starts rate k s (subst (λ p. InPart p s) (by_local rate k s.local) i))
     by_panel true on valid i = absurd i

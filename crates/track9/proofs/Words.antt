@@ -15,7 +15,7 @@ pub use Rattle.sets25.proofs.CountLemmas.{begin_count-span_count, begin_count-wi
 pub use Rattle.sets25.proofs.CountLemmas.{span_count-in_day}
 pub use Rattle.sets25.proofs.TimesLemmas.{contains-insert_nat, contains-items_nat, contains-just, image_from, image_to, same_test, same_times, with_time-insert, with_time-same, kept_of}
 pub use Rattle.sets25.specs.Working.TimesWhere.{contains-every_time}
-pub use Rattle.std.proofs.Common.{[], ap, arith, bit_and, Bool, eqb, false, IfNone, IfSome, if◌then◌else◌, inl, inr, IsTrue, List, max, nat_eq, nat_lt, None, not, Option, option_map}
+pub use Rattle.std.proofs.Common.{[], ap, arith, bit_and, bit_or, Bool, eqb, false, IfNone, IfSome, if◌then◌else◌, inl, inr, IsTrue, List, max, nat_eq, nat_lt, None, not, Option, option_map}
 pub use Rattle.std.proofs.Common.{refl, rules, Some, subst, sym, take, true, ℕ, ◌&&◌, ◌+◌, ◌<◌, ◌==◌, ◌||◌, ◌↔◌, ◌∙◌, ◌∷◌, ◌≡◌, ◌≢◌, ◌≤◌, ◌⊎◌}
 pub use Rattle.std.proofs.Math.Bool.{and-false, and-true, or-false, or-true, or_assoc}
 pub use Rattle.std.proofs.Math.Nat.{max-zero}
@@ -33,6 +33,8 @@ pub use Rattle.track9.specs.Tracker.{IsIn}
 pub use Rattle.track9.specs.Working.Pattern.{any_goal, any_panel, panel_before, pattern_before, wanted_of, entry_before, Fits, Is, is_as_wanted, IsPattern, IsUndone, just_state, LeadsTo, PairRunsTo, RunsTo, same_fact}
 pub use Rattle.track9.specs.Working.Pattern.{with_wanted}
 pub use Rattle.track9.specs.Working.Deck.{Agrees, Allows, AreReached, AreSet, Pattern, At, Becomes, begin_count, BelowDay, bit_of, Block, both, CanPass, Change, Clear, Command, count_of}
+pub use Rattle.deck9.specs.Drift.{ComesToShow}
+pub use Rattle.track9.specs.Working.Deck.{way_of, Deck, Forgotten}
 pub use Rattle.track9.specs.Working.Deck.{day, Does, done, Drift, Effect, effect_of, either, Entries, entries_of, Entry, entry_of, every_time, Exchanges, Hands, has}
 pub use Rattle.track9.specs.Working.Deck.{has_pair, ignored, in_local, InPart, is_mode, is_nak, is_of_goal_or_register, is_one_of, is_set, is_some, IsEntry, IsFirst, IsState}
 pub use Rattle.track9.specs.Working.Deck.{just, just_of, KeepsPanel, KeepsRest, Known, KnownEntry, KnowsModes, Mode, modes, ModeSet, moved_entry, Next, next_frame, on_the_way}
@@ -42,14 +44,14 @@ pub use Rattle.track9.specs.Working.Deck.{time_of, Times, Tracked, Halves, way, 
 unfoldable pub use Rattle.track9.specs.Working.Deck.{span_count}
 pub use Rattle.track9.specs.Working.Entries.{agreeing, all_entries, is_nil, no_entries, set_entries, some_entry}
 pub use Rattle.track9.specs.Working.Knowing.{goals_in, join_options, joined_known, known_fact, KnowsOf, PartKnows, shown_in, TwoKnow}
-pub use Rattle.track9.specs.Working.Pairs.{all_pairs, by_goal, drifted, drifted_with, goal_if_shown, goals_of, goes, gone, gone_with, halted, joined, kept_goal, masked}
+pub use Rattle.track9.specs.Working.Pairs.{all_pairs, by_goal, ten_of, drifted, drifted_with, goal_if_shown, goals_of, goes, gone, gone_with, halted, joined, kept_goal, masked}
 pub use Rattle.track9.specs.Working.Pairs.{some_pair}
 pub use Rattle.track9.specs.Working.Parts.{all_states, changed_entries, changed_part, drifted_part, forgotten_part, gone_pairs, gone_part, HasState}
 pub use Rattle.track9.specs.Working.Parts.{is_live, masked_part, no_states, put_settled, rate_of, reported_part, sensed_part, set_where, settled, status_part, where_live, Whole, with_entries}
 pub use Rattle.track9.specs.Working.Parts.{with_pairs}
 pub use Rattle.track9.specs.Working.States.{after_panel, all_drifted, all_forgotten, all_or_none, AllLeadOn, AreBelow, AreFew, AreWhole, counted, counts_after, DoesOrNot, DriftsAndGoes, effect_taken}
 pub use Rattle.track9.specs.Working.States.{either_panel, first_on, first_states, Follows, FollowsDrift, hands_by, hands_of, HasEffect, InTwo, is_panel_live, is_wide, IsKept}
-pub use Rattle.track9.specs.Working.States.{LeadsOn, map_two, on_two, panel_passed, part_of, profile_of, rate_for, rate_in, some_state, some_two, switched, Taken, StepOrPass, two_changed, two_drifted, two_gone, untouched}
+pub use Rattle.track9.specs.Working.States.{LeadsOn, map_two, on_two, motion_forgotten, panel_passed, part_of, profile_of, rate_for, rate_in, some_state, some_two, switched, Taken, StepOrPass, two_changed, two_drifted, two_gone, untouched}
 pub use Rattle.track9.specs.Start.{StartsFrom}
 pub use Rattle.track9.specs.Working.Starts.{entries_known, modes_known, pairs_of, part_from, part_known, shown_if, states_from, two_from}
 pub use Rattle.track9.specs.declared.start.Start.{Start}

@@ -1,8 +1,9 @@
 -- The exchanges that take no memory, where hands are not allowed.
-use Rattle.std.specs.Prelude.{◌||◌, ◌&&◌, Bool, true, false}
+use Rattle.std.specs.Prelude.{◌||◌, ◌&&◌, Bool, true, false, Option}
 use Rattle.block9.specs.declared.block.Block.{Block}
 use Rattle.block9.specs.declared.command.Command.{Command}
 use Rattle.block9.specs.Command.{is_nak}
+use Rattle.deck9.specs.declared.deck.Deck.{Deck}
 use Rattle.deck9.specs.declared.effect.Effect.{Effect}
 use Rattle.deck9.specs.declared.effect.Effect.TheVariants as effect
 use Rattle.deck9.specs.declared.sense.Sense.{Sense}
@@ -16,6 +17,7 @@ is_frugal_effect effect.Nothing = true
 is_frugal_effect (effect.Go g) = true
 is_frugal_effect effect.KeepOrStop = true
 is_frugal_effect (effect.Panel on) = true
+is_frugal_effect effect.ForgetMotion = true
 is_frugal_effect _ = false
 
 -- what is wanted is no register's time
@@ -25,5 +27,5 @@ is_frugal_sense _ = true
 
 -- a NAK; or a command that asks for no register's time, and changes and forgets no register: each system and transport
 -- command, STATUS SENSE and CURRENT TIME SENSE are of this kind
-abbrev pub is_frugal : Command → Block → Bool
-is_frugal command reply = is_nak reply || (is_frugal_sense (sense_of command) && is_frugal_effect (effect_of command))
+abbrev pub is_frugal : Option Deck → Command → Block → Bool
+is_frugal deck command reply = is_nak reply || (is_frugal_sense (sense_of command) && is_frugal_effect (effect_of deck command))

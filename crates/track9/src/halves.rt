@@ -9,8 +9,9 @@ ghost use Rattle.std.specs.Prelude.{◌≡◌, IfOk, OnErr, OnOk, false, max};
 ghost use Rattle.sets25.specs.Times.{BelowDay, span_count};
 ghost use Rattle.track9.specs.Tracker.{entries_of, in_local};
 ghost use Rattle.track9.specs.Working.Starts.{part_from, two_from};
-ghost use Rattle.track9.specs.Working.States.{TwoBelow, TwoWhole, all_forgotten, all_or_none, rate_in, registers_forgotten, some_two, tape_forgotten, two_changed, two_drifted, two_gone, two_sensed, two_status};
+ghost use Rattle.track9.specs.Working.States.{TwoBelow, TwoWhole, all_forgotten, all_or_none, motion_forgotten, rate_in, registers_forgotten, some_two, tape_forgotten, two_changed, two_drifted, two_gone, two_sensed, two_status};
 
+use crate::own::Own;
 use crate::part::Part;
 use crate::pattern::is_wanted;
 use crate::start::Start;
@@ -113,23 +114,23 @@ impl<S: TimeSet> Halves<S> {
 
     /// A drift of the mechanics. It answers whether there is a state.
     #[inline(never)] // so that the modes are taken side by side, also where a command follows
-    pub(crate) fn drift(&mut self) -> bool
-        ensures drifted { self.new ≡ two_drifted self.old }
+    pub(crate) fn drift(&mut self, own: &Own) -> bool
+        ensures drifted { self.new ≡ two_drifted own.now self.old }
         ensures some { result ≡ some_two self.new }
     {
-        let remote = self.remote.drift();
-        let local = self.local.drift();
+        let remote = self.remote.drift(own);
+        let local = self.local.drift(own);
         remote || local
     }
 
     /// A drift of the mechanics, and then the deck is commanded to a mode; a deck in LOCAL may leave it, and so may any where
     /// `may_stay`. It answers whether there is a state.
     #[inline(always)] // many commands are of the transport
-    fn drift_and_go(&mut self, may_stay: bool, goal: Mode) -> bool
-        ensures gone { self.new ≡ two_gone may_stay goal (two_drifted self.old) }
+    fn drift_and_go(&mut self, own: &Own, may_stay: bool, goal: Mode) -> bool
+        ensures gone { self.new ≡ two_gone may_stay goal (two_drifted own.now self.old) }
         ensures some { result ≡ some_two self.new }
     {
-        let some = self.drift();
+        let some = self.drift(own);
         self.remote.go(may_stay, goal);
         self.local.go(true, goal);
         some
@@ -177,6 +178,18 @@ impl<S: TimeSet> Halves<S> {
     {
         self.remote.keep_status(alloc, false, status);
         self.local.keep_status(alloc, true, status);
+    }
+
+    /// A drift of the mechanics, and then goal and shown mode are forgotten. It answers whether there is a state.
+    #[inline(never)] // as it is rare
+    fn drift_and_forget_motion(&mut self, own: &Own) -> bool
+        ensures forgotten { self.new ≡ motion_forgotten (two_drifted own.now self.old) }
+        ensures some { result ≡ some_two self.new }
+    {
+        let some = self.drift(own);
+        self.remote.forget_motion();
+        self.local.forget_motion();
+        some
     }
 
     /// Goal, shown mode and registers are forgotten.

@@ -7,6 +7,7 @@
 mod entries;
 mod halves;
 pub mod laws;
+mod own;
 mod pairs;
 mod part;
 mod pattern;

@@ -7,9 +7,10 @@ ghost use Rattle.track9.specs.Working.Pattern.{IsPairOf, PairRunsTo};
 ghost use Rattle.deck9.specs.ModeCalls.{is_some};
 ghost use Rattle.track9.specs.Working.Starts.{pairs_of, shown_if};
 ghost use Rattle.track9.specs.Working.Parts.{gone_pairs};
-ghost use Rattle.track9.specs.Working.Pairs.{all_pairs, drifted, drifted_with, goes, gone, gone_with, goal_if_shown, goals_of, joined, masked, no_pairs, some_pair};
+ghost use Rattle.track9.specs.Working.Pairs.{all_pairs, drifted, drifted_with, goes, gone, gone_with, goal_if_shown, goals_of, halted, joined, kept_goal, masked, no_pairs, some_pair};
 ghost use Rattle.deck9.specs.declared.mode.Mode.{Mode as AMode};
 
+use crate::own::Own;
 use deck9::{Mode, ModeSet};
 
 /// The modes that may be shown with each goal, in the order of the modes.
@@ -109,82 +110,87 @@ impl Pairs {
     }
 
     /// The pairs that a drift of the mechanics reaches.
-    pub(crate) fn drifted(&self) -> Pairs
-        ensures { result.0 ≡ drifted self.now.0 }
+    #[inline(always)] // so that what `drift` has asked is not asked again
+    pub(crate) fn drifted(&self, own: &Own) -> Pairs
+        ensures { result.0 ≡ drifted own.now self.now.0 }
     {
-        let some = self.is_some();
+        let [a, b, c, d, e, f, g, h, i, j] = *own.ways();
+        let halted = self.halted(a);
         Pairs([
-            self.drifted_with(some, Mode::Stop),
-            self.drifted_with(some, Mode::Play),
-            self.drifted_with(some, Mode::Rec),
-            self.drifted_with(some, Mode::FastForward),
-            self.drifted_with(some, Mode::Rewind),
-            self.drifted_with(some, Mode::Shuttle),
-            self.drifted_with(some, Mode::Jog),
-            self.drifted_with(some, Mode::Var),
-            self.drifted_with(some, Mode::Cued),
-            self.drifted_with(some, Mode::Eject),
+            self.kept(Mode::Stop, a).or(halted),
+            self.kept(Mode::Play, b),
+            self.kept(Mode::Rec, c),
+            self.kept(Mode::FastForward, d),
+            self.kept(Mode::Rewind, e),
+            self.kept(Mode::Shuttle, f),
+            self.kept(Mode::Jog, g),
+            self.kept(Mode::Var, h),
+            self.kept(Mode::Cued, i),
+            self.kept(Mode::Eject, j),
         ])
     }
 
     /// A drift of the mechanics. It answers whether there is a pair.
     #[inline(always)] // each exchange drifts two sets of pairs
-    pub(crate) fn drift(&mut self) -> bool
-        ensures drifted { self.new.0 ≡ drifted self.old.0 }
+    pub(crate) fn drift(&mut self, own: &Own) -> bool
+        ensures drifted { self.new.0 ≡ drifted own.now self.old.0 }
         ensures some { result ≡ some_pair self.new.0 }
     {
         let some = self.is_some();
         if some {
-            *self = self.drifted();
+            *self = self.drifted(own);
         }
         some
     }
 
-    /// The modes that a drift can show with a goal: those that it keeps the goal for, and STOP where the
-    /// deck has come to a halt. `some`: there is a pair.
-    fn drifted_with(&self, some: bool, goal: Mode) -> ModeSet
-        requires { some ≡ some_pair self.now.0 }
-        ensures { result ≡ drifted_with self.now.0 goal }
+    /// The modes that a drift can show with a goal that it keeps, with these on the way to it.
+    fn kept(&self, goal: Mode, way: ModeSet) -> ModeSet
+        ensures { result ≡ kept_goal (shown_with self.now.0 goal) way goal }
     {
         let shown = self.shown(goal);
-        let kept = if shown.is_some() {
-            shown.or(ModeSet::just(goal)).or(ModeSet::on_the_way(goal))
+        if shown.is_some() {
+            shown.or(ModeSet::just(goal)).or(way.and(ModeSet::ALL))
         } else {
             shown
-        };
-        let halted = if some && goal == Mode::Stop {
-            ModeSet::just(Mode::Stop)
+        }
+    }
+
+    /// The modes that a deck can show that has come to a halt, with these on the way to STOP.
+    fn halted(&self, way: ModeSet) -> ModeSet
+        ensures { result ≡ halted self.now.0 way }
+    {
+        if self.is_some() {
+            ModeSet::just(Mode::Stop).or(way).and(ModeSet::ALL)
         } else {
             ModeSet::NONE
-        };
-        kept.or(halted)
+        }
     }
 
     /// A pair from which a drift of the mechanics reaches one of these goals with one of these modes shown: None
     /// exactly where there is none.
-    pub(crate) fn origin(&self, goals: ModeSet, shown: ModeSet) -> Option<Pair>
-        ensures some { IfSome result (λ p. IsPairOf self.now.0 p × PairRunsTo goals shown p.goal p.shown) }
-        ensures none { IfNone result (¬ ((f n : AMode) × (has_pair self.now.0 f n ≡ true) × PairRunsTo goals shown f n)) }
+    pub(crate) fn origin(&self, own: &Own, goals: ModeSet, shown: ModeSet) -> Option<Pair>
+        ensures some { IfSome result (λ p. IsPairOf self.now.0 p × PairRunsTo own.now goals shown p.goal p.shown) }
+        ensures none { IfNone result (¬ ((f n : AMode) × (has_pair self.now.0 f n ≡ true) × PairRunsTo own.now goals shown f n)) }
     {
-        let reached = self.drifted().masked(shown);
+        let reached = self.drifted(own).masked(shown);
         let goals = reached.goals().and(goals);
         if !goals.is_some() {
             return None;
         }
         let goal = goals.first();
-        Some(self.source(goal, reached.shown(goal).first()))
+        Some(self.source(own, goal, reached.shown(goal).first()))
     }
 
     /// A pair from which a drift of the mechanics reaches this one. There is one.
-    fn source(&self, goal: Mode, shown: Mode) -> Pair
-        requires { has (drifted_with self.now.0 goal).0 shown ≡ true }
-        ensures { IsPairOf self.now.0 result × PairReaches result.goal result.shown goal shown }
+    fn source(&self, own: &Own, goal: Mode, shown: Mode) -> Pair
+        requires { has (drifted_with own.now self.now.0 goal).0 shown ≡ true }
+        ensures { IsPairOf self.now.0 result × PairReaches own.now result.goal result.shown goal shown }
     {
         let kept = self.shown(goal);
         if kept.has(shown) {
             return Pair { goal, shown };
         }
-        let on_the_way = ModeSet::just(goal).or(ModeSet::on_the_way(goal));
+        let on_the_way = ModeSet::just(goal).or(own.way(goal));
         if kept.is_some() && on_the_way.has(shown) {
             return Pair {
                 goal,

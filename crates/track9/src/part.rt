@@ -4,12 +4,14 @@ ghost use Rattle.sets25.specs.Times.{BelowDay, span_count};
 ghost use Rattle.track9.specs.Tracker.{entries_of};
 ghost use Rattle.track9.specs.Working.Entries.{agreeing};
 ghost use Rattle.track9.specs.Working.Knowing.{PartKnows};
+ghost use Rattle.track9.specs.Working.Pairs.{all_pairs};
 ghost use Rattle.track9.specs.Working.Starts.{modes_known, part_known};
 ghost use Rattle.track9.specs.Working.Parts.{Whole, all_states, aside, changed_entries, changed_part, drifted_part, forgotten_part, gone_part, is_live, no_states, put_settled, rate_of, reported_part, set_part, settled, status_part, where_live, with_entries, with_pairs};
 ghost use Rattle.deck9.specs.declared.state.Register.{Register as ARegister};
 ghost use Rattle.tc25.specs.declared.rate.Rate.{Rate as ARate};
 
 use crate::entries::Entries;
+use crate::own::Own;
 use crate::pairs::Pairs;
 use crate::pattern::is_wanted;
 use crate::start::Start;
@@ -189,11 +191,11 @@ impl<S: TimeSet> Part<S> {
 
     /// A drift of the mechanics. It answers whether there is a state.
     #[inline(always)] // each exchange drifts two parts
-    pub(crate) fn drift(&mut self) -> bool
-        ensures drifted { self.new ≡ drifted_part self.old }
+    pub(crate) fn drift(&mut self, own: &Own) -> bool
+        ensures drifted { self.new ≡ drifted_part own.now self.old }
         ensures live { result ≡ is_live self.new }
     {
-        self.pairs.drift()
+        self.pairs.drift(own)
     }
 
     /// The deck is commanded to a mode, or may also leave it.
@@ -229,8 +231,8 @@ impl<S: TimeSet> Part<S> {
         Ok(Some(after))
     }
 
-    /// The entries of a register that agree with a time that was read, in a set of their own: None where there
-    /// is no state, and where they all agree, as where an editor asks again and again.
+    /// The entries of a register that agree with a time that was read, in a set of their own: None where there is no state, or
+    /// where the register's only time is the one that was read.
     pub(crate) fn sense_aside(
         &self,
         alloc: Global,
@@ -249,6 +251,15 @@ impl<S: TimeSet> Part<S> {
             return Ok(None);
         }
         Ok(Some(entries.agreeing(alloc, time)?))
+    }
+
+    /// Goal and shown mode become anything, where there is a state.
+    pub(crate) fn forget_motion(&mut self)
+        ensures { self.new ≡ where_live (with_pairs all_pairs) self.old }
+    {
+        if self.is_live() {
+            self.pairs = Pairs::all();
+        }
     }
 
     /// Every state, where there is one.

@@ -1,8 +1,8 @@
 //! Which states are wanted: a pattern of fields, each fixed or free.
 ghost use Rattle.std.specs.Prelude.{◌≡◌, ◌↔◌, IsTrue};
-ghost use Rattle.track9.specs.Working.Pattern.{Is, any_registers, any_tape, pattern_before, entry_before, is_as_wanted, just_state, with_wanted};
+ghost use Rattle.track9.specs.Working.Pattern.{Is, any_motion, any_registers, any_tape, pattern_before, entry_before, is_as_wanted, just_state, with_wanted};
 
-use deck9::{Change, Effect, Entry, Hands, Mode, ModeSet, Profile, Register, State};
+use deck9::{Change, Effect, Entry, Hands, Mode, ModeSet, Register, State};
 use tc25::Rate;
 
 /// The states with one of these goals, one of these modes shown, and in each other field the value that is wanted, or
@@ -37,8 +37,13 @@ impl Pattern {
     }
 
     /// The states from which an effect, where the deck does it, leads to the target: None where there is none.
-    pub(crate) fn before(profile: Profile, effect: &Effect, target: &State) -> Option<Pattern>
-        ensures { result ≡ pattern_before profile effect.now target.now }
+    pub(crate) fn before(
+        rate: Rate,
+        hands: Hands,
+        effect: &Effect,
+        target: &State,
+    ) -> Option<Pattern>
+        ensures { result ≡ pattern_before rate hands effect.now target.now }
     {
         let mut wanted = Pattern::just(target);
         match effect {
@@ -55,23 +60,24 @@ impl Pattern {
                 }
             }
             Effect::Change(register, change) => {
-                let entry = entry_before(profile.rate, change, target.entry(*register))?;
+                let entry = entry_before(rate, change, target.entry(*register))?;
                 wanted.put(*register, entry);
             }
             Effect::Panel(on) => {
-                if profile.hands == Hands::Allowed {
+                if hands == Hands::Allowed {
                     if target.panel != *on {
                         return None;
                     }
                     wanted.panel = None;
                 }
             }
+            Effect::ForgetMotion => wanted.free_motion(),
             Effect::ForgetTape => wanted.free_tape(),
             Effect::ForgetRegisters => wanted.free_registers(),
             Effect::ForgetAll => {
                 wanted.free_tape();
                 wanted.local = None;
-                if profile.hands == Hands::Allowed {
+                if hands == Hands::Allowed {
                     wanted.panel = None;
                 }
             }
@@ -101,13 +107,20 @@ impl Pattern {
         self.aouts = None;
     }
 
+    /// Lets goal and shown mode be anything.
+    fn free_motion(&mut self)
+        ensures { self.new ≡ any_motion self.old }
+    {
+        self.goals = ModeSet::ALL;
+        self.shown = ModeSet::ALL;
+    }
+
     /// Lets goal, shown mode and registers be anything.
     fn free_tape(&mut self)
         ensures { self.new ≡ any_tape self.old }
     {
         self.free_registers();
-        self.goals = ModeSet::ALL;
-        self.shown = ModeSet::ALL;
+        self.free_motion();
     }
 }
 

@@ -13,10 +13,11 @@ ghost use Rattle.track9.specs.Working.Starts.{states_from};
 ghost use Rattle.track9.specs.Working.States.{AreBelow, AreWhole, Follows, FollowsDrift, Taken, after_panel, all_drifted, all_or_none, effect_taken, either_panel, first_states, hands_of, is_frugal_taken, is_panel_live, is_wide, panel_passed, part_of, profile_of, rate_for, some_state};
 
 use crate::halves::Halves;
+use crate::own::Own;
 use crate::start::Start;
 use block9::{Block, Command};
 use boxed::{all_boxed, copy_boxed};
-use deck9::{Effect, Hands, Profile, Register};
+use deck9::{Effect, Hands, Register};
 use sets25::{SpanSet, TimeSet};
 use std::alloc::{AllocError, Global};
 use std::marker::Model;
@@ -49,13 +50,13 @@ impl<S: TimeSet> Model for States<S> {
 
 impl<S: TimeSet> States<S> {
     /// The states before a capture: all, but those with the panel on where nobody touches it.
-    pub(crate) fn first(alloc: Global, profile: Profile) -> Result<States<S>, AllocError>
-        ensures { IfOk result (λ v. v ≡ first_states profile) }
+    pub(crate) fn first(alloc: Global, rate: Rate, hands: Hands) -> Result<States<S>, AllocError>
+        ensures { IfOk result (λ v. v ≡ first_states rate hands) }
     {
-        let off = Halves::all_or_none(alloc, profile.rate, true)?;
-        match profile.hands {
+        let off = Halves::all_or_none(alloc, rate, true)?;
+        match hands {
             Hands::None => Ok(States { off, on: None }),
-            Hands::Allowed => match all_boxed(alloc, profile.rate) {
+            Hands::Allowed => match all_boxed(alloc, rate) {
                 Ok(all) => Ok(States { off, on: Some(all) }),
                 Err(error) => {
                     drop(off);
@@ -126,16 +127,6 @@ impl<S: TimeSet> States<S> {
         self.off.rate()
     }
 
-    /// What the deck is taken for.
-    fn profile(&self) -> Profile
-        ensures { result ≡ profile_of self.now }
-    {
-        Profile {
-            rate: self.rate(),
-            hands: self.hands(),
-        }
-    }
-
     /// Whether there is a state.
     pub(crate) fn is_some(&self) -> bool
         ensures { result ≡ some_state self.now }
@@ -159,19 +150,20 @@ impl<S: TimeSet> States<S> {
     pub(crate) fn take(
         &mut self,
         alloc: Global,
+        own: &Own,
         command: &Command,
         reply: Option<&Block>,
     ) -> Result<bool, AllocError>
         requires { AreWhole (rate_for self.old) self.old }
-        ensures ok { OnOk result (Follows (profile_of self.old) command.now (option_map (λ b. b.now) reply.entry) self.old self.new) }
+        ensures ok { OnOk result (Follows (profile_of own.now self.old) command.now (option_map (λ b. b.now) reply.entry) self.old self.new) }
         ensures some { IfOk result (λ b. b ≡ some_state self.new) }
         ensures err { OnErr result (self.new ≡ self.old) }
-        ensures frugal { hands_of self.old ≡ Hands.None → IsTrue (is_frugal_taken command.now (option_map (λ b. b.now) reply.entry)) → IsOk result }
+        ensures frugal { hands_of self.old ≡ Hands.None → IsTrue (is_frugal_taken own.now command.now (option_map (λ b. b.now) reply.entry)) → IsOk result }
     {
         match self.hands() {
-            Hands::None => self.off.take(alloc, command, reply),
+            Hands::None => self.off.take(alloc, own, command, reply),
             Hands::Allowed => {
-                self.take_by_hand(alloc, command, reply)?;
+                self.take_by_hand(alloc, own, command, reply)?;
                 Ok(self.is_some())
             }
         }
@@ -181,52 +173,53 @@ impl<S: TimeSet> States<S> {
     fn take_by_hand(
         &mut self,
         alloc: Global,
+        own: &Own,
         command: &Command,
         reply: Option<&Block>,
     ) -> Result<(), AllocError>
         requires whole { AreWhole (rate_for self.old) self.old }
         requires hands { hands_of self.old ≡ Hands.Allowed }
-        ensures ok { OnOk result (Follows (profile_of self.old) command.now (option_map (λ b. b.now) reply.entry) self.old self.new) }
+        ensures ok { OnOk result (Follows (profile_of own.now self.old) command.now (option_map (λ b. b.now) reply.entry) self.old self.new) }
         ensures err { OnErr result (self.new ≡ self.old) }
     {
         self.below_day();
-        match effect_taken(command, reply) {
+        match effect_taken(own, command, reply) {
             Effect::Panel(on) => match reply {
-                Some(_) => self.switch_panel(alloc, on),
-                None => self.pass_panel(alloc, on),
+                Some(_) => self.switch_panel(alloc, own, on),
+                None => self.pass_panel(alloc, own, on),
             },
             Effect::ForgetAll => self.forget_all(alloc),
-            _ => self.take_both(alloc, command, reply),
+            _ => self.take_both(alloc, own, command, reply),
         }
     }
 
     /// The states after a drift alone. Where memory is refused nothing has changed.
-    pub(crate) fn drift(&mut self, alloc: Global) -> Result<(), AllocError>
+    pub(crate) fn drift(&mut self, alloc: Global, own: &Own) -> Result<(), AllocError>
         requires { AreWhole (rate_for self.old) self.old }
-        ensures ok { OnOk result (FollowsDrift (profile_of self.old) self.old self.new) }
+        ensures ok { OnOk result (FollowsDrift (profile_of own.now self.old) self.old self.new) }
         ensures err { OnErr result (self.new ≡ self.old) }
         ensures frugal { hands_of self.old ≡ Hands.None → IsOk result }
     {
         match self.hands() {
             Hands::None => {
-                self.off.drift();
+                self.off.drift(own);
                 Ok(())
             }
             Hands::Allowed => {
                 self.below_day();
-                self.drift_by_hand(alloc)
+                self.drift_by_hand(alloc, own)
             }
         }
     }
 
     /// The states after a drift, where hands are allowed.
-    fn drift_by_hand(&mut self, alloc: Global) -> Result<(), AllocError>
+    fn drift_by_hand(&mut self, alloc: Global, own: &Own) -> Result<(), AllocError>
         requires { hands_of self.old ≡ Hands.Allowed }
-        ensures ok { OnOk result (self.new ≡ all_drifted self.old) }
+        ensures ok { OnOk result (self.new ≡ all_drifted own.now self.old) }
         ensures err { OnErr result (self.new ≡ self.old) }
     {
         let on = self.drifted_on(alloc)?;
-        self.off.drift();
+        self.off.drift(own);
         self.put_on(on);
         Ok(())
     }
@@ -243,18 +236,19 @@ impl<S: TimeSet> States<S> {
     fn take_both(
         &mut self,
         alloc: Global,
+        own: &Own,
         command: &Command,
         reply: Option<&Block>,
     ) -> Result<(), AllocError>
         requires whole { AreWhole (rate_for self.old) self.old }
         requires hands { hands_of self.old ≡ Hands.Allowed }
-        requires narrow { is_wide (effect_taken command.now (option_map (λ b. b.now) reply)) ≡ false }
-        ensures ok { OnOk result (Follows (profile_of self.old) command.now (option_map (λ b. b.now) reply.entry) self.old self.new) }
+        requires narrow { is_wide (effect_taken own.now command.now (option_map (λ b. b.now) reply)) ≡ false }
+        ensures ok { OnOk result (Follows (profile_of own.now self.old) command.now (option_map (λ b. b.now) reply.entry) self.old self.new) }
         ensures err { OnErr result (self.new ≡ self.old) }
     {
         self.below_day();
-        let on = self.taken_on(alloc, command, reply)?;
-        match self.off.take(alloc, command, reply) {
+        let on = self.taken_on(alloc, own, command, reply)?;
+        match self.off.take(alloc, own, command, reply) {
             Ok(_) => {
                 self.put_on(on);
                 Ok(())
@@ -270,13 +264,14 @@ impl<S: TimeSet> States<S> {
     fn taken_on(
         &self,
         alloc: Global,
+        own: &Own,
         command: &Command,
         reply: Option<&Block>,
     ) -> Result<Halves<S>, AllocError>
-        ensures { IfOk result (Taken (rate_for self.now) command.now (option_map (λ b. b.now) reply.entry) (all_or_none (rate_for self.now) (is_panel_live self.now))) }
+        ensures { IfOk result (Taken own.now (rate_for self.now) command.now (option_map (λ b. b.now) reply.entry) (all_or_none (rate_for self.now) (is_panel_live self.now))) }
     {
         let mut on = self.drifted_on(alloc)?;
-        match on.take(alloc, command, reply) {
+        match on.take(alloc, own, command, reply) {
             Ok(_) => Ok(on),
             Err(error) => {
                 drop(on);
@@ -286,24 +281,24 @@ impl<S: TimeSet> States<S> {
     }
 
     /// What a drift leaves, whatever the panel: every state where the panel was on.
-    fn either_panel(&self, alloc: Global) -> Result<Halves<S>, AllocError>
-        ensures { IfOk result (λ h. h ≡ either_panel self.now) }
+    fn either_panel(&self, alloc: Global, own: &Own) -> Result<Halves<S>, AllocError>
+        ensures { IfOk result (λ h. h ≡ either_panel own.now self.now) }
     {
         if self.is_panel_live() {
             return Halves::all_or_none(alloc, self.rate(), true);
         }
         let mut off = self.off.copy()?;
-        off.drift();
+        off.drift(own);
         Ok(off)
     }
 
     /// The panel is switched on or off, after a drift.
-    fn switch_panel(&mut self, alloc: Global, on: bool) -> Result<(), AllocError>
+    fn switch_panel(&mut self, alloc: Global, own: &Own, on: bool) -> Result<(), AllocError>
         requires { hands_of self.old ≡ Hands.Allowed }
-        ensures ok { OnOk result (self.new ≡ after_panel on self.old) }
+        ensures ok { OnOk result (self.new ≡ after_panel own.now on self.old) }
         ensures err { OnErr result (self.new ≡ self.old) }
     {
-        let known = self.either_panel(alloc)?;
+        let known = self.either_panel(alloc, own)?;
         let none = Halves::none(alloc, self.rate());
         if on {
             self.put(none, known);
@@ -334,14 +329,14 @@ impl<S: TimeSet> States<S> {
     }
 
     /// The panel may be switched on or off, after a drift, or stay.
-    fn pass_panel(&mut self, alloc: Global, on: bool) -> Result<(), AllocError>
+    fn pass_panel(&mut self, alloc: Global, own: &Own, on: bool) -> Result<(), AllocError>
         requires { hands_of self.old ≡ Hands.Allowed }
-        ensures ok { OnOk result (self.new ≡ panel_passed on self.old) }
+        ensures ok { OnOk result (self.new ≡ panel_passed own.now on self.old) }
         ensures err { OnErr result (self.new ≡ self.old) }
     {
-        let known = self.either_panel(alloc)?;
+        let known = self.either_panel(alloc, own)?;
         if on {
-            self.off.drift();
+            self.off.drift(own);
             self.put_on(known);
             return Ok(());
         }
@@ -359,15 +354,11 @@ impl<S: TimeSet> States<S> {
 
     /// Everything is forgotten, the panel too.
     fn forget_all(&mut self, alloc: Global) -> Result<(), AllocError>
-        ensures ok { OnOk result (self.new ≡ (if some_state self.old then first_states (record { rate = rate_for self.old; hands = Hands.Allowed }) else self.old)) }
+        ensures ok { OnOk result (self.new ≡ (if some_state self.old then first_states (rate_for self.old) Hands.Allowed else self.old)) }
         ensures err { OnErr result (self.new ≡ self.old) }
     {
         if self.is_some() {
-            let profile = Profile {
-                rate: self.rate(),
-                hands: Hands::Allowed,
-            };
-            let first = States::first(alloc, profile)?;
+            let first = States::first(alloc, self.rate(), Hands::Allowed)?;
             drop(replace(self, first));
         }
         Ok(())
@@ -375,12 +366,12 @@ impl<S: TimeSet> States<S> {
 }
 
 /// The effect that a command may have: none where its reply is a NAK.
-fn effect_taken(command: &Command, reply: Option<&Block>) -> Effect
-    ensures { result ≡ effect_taken command.now (option_map (λ b. b.now) reply.entry) }
+fn effect_taken(own: &Own, command: &Command, reply: Option<&Block>) -> Effect
+    ensures { result ≡ effect_taken own.now command.now (option_map (λ b. b.now) reply.entry) }
 {
     match reply {
         Some(reply) if reply.is_nak() => Effect::Nothing,
-        _ => Effect::of(command),
+        _ => own.effect(command),
     }
 }
 

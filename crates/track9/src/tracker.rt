@@ -1,5 +1,5 @@
 //! The states that the deck could be in, exchange by exchange.
-ghost use Rattle.std.specs.Prelude.{◌≡◌, ◌↔◌, ◌<◌, ◌≤◌, ◌+◌, ◌^◌, IfErr, IfNone, IfOk, IfSome, IsOk, IsTrue, OnErr, OnOk, false, true};
+ghost use Rattle.std.specs.Prelude.{◌≡◌, ◌↔◌, ◌<◌, ◌≤◌, ◌+◌, ◌^◌, IfErr, IfNone, IfOk, IfSome, IsOk, IsTrue, None, OnErr, OnOk, false, true};
 ghost use Rattle.track9.specs.Frugal.{is_frugal, is_frugal_effect};
 ghost use Rattle.deck9.specs.Knowledge.{IsKnowledge};
 ghost use Rattle.deck9.specs.ModeSet.{has};
@@ -15,6 +15,7 @@ ghost use Rattle.deck9.specs.declared.mode.Mode.{Mode as AMode};
 ghost use Rattle.deck9.specs.declared.state.Register.{Register as ARegister};
 ghost use Rattle.deck9.specs.declared.state.State.{State as AState};
 
+use crate::own::Own;
 use crate::presets::Presets;
 use crate::start::Start;
 use crate::states::States;
@@ -31,13 +32,14 @@ use tc25::Rate;
 /// are never listed. It also knows what the deck is taken for, its rate and whether hands are allowed on the panel, and how
 /// many data presets to each register were acknowledged.
 #[derive(Drop)]
-pub struct Tracker<S: TimeSet> {
+pub struct Tracker<'a, S: TimeSet> {
     states: States<S>,
     presets: Presets,
+    own: Own<'a>,
     alloc: Global,
 }
 
-impl<S: TimeSet> Model for Tracker<S> {
+impl<'a, S: TimeSet> Model for Tracker<'a, S> {
     ghost use Rattle.track9.specs.Tracker.{Tracked};
     ghost use Rattle.track9.specs.Working.Codes.{tracked_code};
 
@@ -47,53 +49,60 @@ impl<S: TimeSet> Model for Tracker<S> {
 
     ghost use Rattle.track9.specs.Working.States.{IsKept, profile_of};
 
-    ghost view = { λ t. record { states = t.states; profile = profile_of t.states; presets = t.presets } };
+    ghost view = { λ t. record { states = t.states; profile = profile_of t.own t.states; presets = t.presets } };
 
     ghost invariant = { λ t. IsKept t.presets t.states };
 }
 
-impl<S: TimeSet> Tracker<S> {
+impl<'a, S: TimeSet> Tracker<'a, S> {
     /// A tracker before the first exchange: every state is possible, but that the panel is off, always, where
     /// hands are not allowed (this profile's choice: nothing is known before a capture).
     ///
     /// An error comes where memory is refused.
     pub fn new(alloc: Global, hands: Hands) -> Result<Self, AllocError>
-        ensures states { IfOk result (λ t. (s : AState) → Possible t.states s ↔ IsFirst (record { rate = Rate.Fps25; hands = hands }) s) }
-        ensures profile { IfOk result (λ t. t.profile ≡ record { rate = Rate.Fps25; hands = hands }) }
+        ensures states { IfOk result (λ t. (s : AState) → Possible t.states s ↔ IsFirst (record { rate = Rate.Fps25; hands = hands; deck = None }) s) }
+        ensures profile { IfOk result (λ t. t.profile ≡ record { rate = Rate.Fps25; hands = hands; deck = None }) }
         ensures presets { IfOk result (λ t. (r : ARegister) → count_of r t.presets ≡ 0) }
     {
-        Tracker::of(alloc, Profile::of(hands))
+        Ok(Tracker {
+            states: States::first(alloc, Rate::Fps25, hands)?,
+            presets: Presets::none(),
+            own: Own::nothing(),
+            alloc,
+        })
     }
 
     /// A tracker before the first exchange of a deck that is taken for this: [`Tracker::new`] at any rate.
     ///
     /// An error comes where memory is refused.
-    pub fn of(alloc: Global, profile: Profile) -> Result<Self, AllocError>
-        ensures states { IfOk result (λ t. (s : AState) → Possible t.states s ↔ IsFirst profile s) }
-        ensures profile { IfOk result (λ t. t.profile ≡ profile) }
+    pub fn of(alloc: Global, profile: &'a Profile) -> Result<Self, AllocError>
+        ensures states { IfOk result (λ t. (s : AState) → Possible t.states s ↔ IsFirst profile.now s) }
+        ensures profile { IfOk result (λ t. t.profile ≡ profile.now) }
         ensures presets { IfOk result (λ t. (r : ARegister) → count_of r t.presets ≡ 0) }
     {
         Ok(Tracker {
-            states: States::first(alloc, profile)?,
+            states: States::first(alloc, profile.rate, profile.hands)?,
             presets: Presets::none(),
+            own: Own::of(&profile.deck),
             alloc,
         })
     }
 
-    /// A tracker before the first exchange of a deck that nobody touches and of which some fields are known: every state
-    /// that has these is possible, with the panel off.
+    /// A tracker before the first exchange of a deck that is taken for this, but that nobody touches, and of which some fields
+    /// are known: every state that has these is possible, with the panel off.
     ///
     /// An error comes where memory is refused.
-    pub fn starting(alloc: Global, rate: Rate, start: &Start) -> Result<Self, AllocError>
-        ensures states { IfOk result (λ t. (s : AState) → Possible t.states s ↔ (IsFirst (record { rate = rate; hands = Hands.None }) s × StartsFrom start.now s)) }
-        ensures profile { IfOk result (λ t. t.profile ≡ record { rate = rate; hands = Hands.None }) }
+    pub fn starting(alloc: Global, profile: &'a Profile, start: &Start) -> Result<Self, AllocError>
+        ensures states { IfOk result (λ t. (s : AState) → Possible t.states s ↔ (IsFirst (record profile.now { hands = Hands.None }) s × StartsFrom start.now s)) }
+        ensures profile { IfOk result (λ t. t.profile ≡ record profile.now { hands = Hands.None }) }
         ensures presets { IfOk result (λ t. (r : ARegister) → count_of r t.presets ≡ 0) }
     {
-        let states = States::known_to_be(alloc, rate, start)?;
+        let states = States::known_to_be(alloc, profile.rate, start)?;
         states.below_day();
         Ok(Tracker {
             states,
             presets: Presets::none(),
+            own: Own::of(&profile.deck),
             alloc,
         })
     }
@@ -103,8 +112,8 @@ impl<S: TimeSet> Tracker<S> {
     /// The states are then exactly those that a drift and a step of the deck lead to from a state before, where the
     /// step gives this reply to this command. It answers true where there is such a state, and false where there
     /// is none: then no run of the deck gives the replies so far, and every later call answers false or an error.
-    /// What a deck may do is in `specs/Drift.antt` and `specs/Step.antt`; the effects of commands, the modes and the
-    /// status bits are this profile's.
+    /// What a deck may do is in `specs/Drift.antt` and `specs/Step.antt`; the effects of commands and the modes on the way to a
+    /// goal are the deck's, and the status bits this profile's.
     ///
     /// An error comes where memory is refused, and the tracker is then as it was. Where hands are not allowed none
     /// comes for a NAK, nor for a command that asks for no register's time and changes and forgets no register.
@@ -115,9 +124,11 @@ impl<S: TimeSet> Tracker<S> {
         ensures profile { IfOk result (λ b. self.new.profile ≡ self.old.profile) }
         ensures presets { IfOk result (λ b. self.new.presets ≡ presets_after command.now reply.now b self.old.presets) }
         ensures unchanged { IfErr result (λ e. self.new ≡ self.old) }
-        ensures frugal { self.old.profile.hands ≡ Hands.None → IsTrue (is_frugal command.now reply.now) → IsOk result }
+        ensures frugal { self.old.profile.hands ≡ Hands.None → IsTrue (is_frugal self.old.profile.deck command.now reply.now) → IsOk result }
     {
-        let remains = self.states.take(self.alloc, command, Some(reply))?;
+        let remains = self
+            .states
+            .take(self.alloc, &self.own, command, Some(reply))?;
         self.presets.count_exchange(command, reply, remains);
         Ok(remains)
     }
@@ -137,9 +148,9 @@ impl<S: TimeSet> Tracker<S> {
         ensures profile { OnOk result (self.new.profile ≡ self.old.profile) }
         ensures presets { OnOk result (self.new.presets ≡ with_command command.now self.old.presets) }
         ensures unchanged { OnErr result (self.new ≡ self.old) }
-        ensures frugal { self.old.profile.hands ≡ Hands.None → IsTrue (is_frugal_effect (effect_of command.now)) → IsOk result }
+        ensures frugal { self.old.profile.hands ≡ Hands.None → IsTrue (is_frugal_effect (effect_of self.old.profile.deck command.now)) → IsOk result }
     {
-        self.states.take(self.alloc, command, None)?;
+        self.states.take(self.alloc, &self.own, command, None)?;
         self.presets.count_command(command);
         Ok(())
     }
@@ -158,7 +169,7 @@ impl<S: TimeSet> Tracker<S> {
         ensures unchanged { OnErr result (self.new ≡ self.old) }
         ensures frugal { self.old.profile.hands ≡ Hands.None → IsOk result }
     {
-        self.states.drift(self.alloc)?;
+        self.states.drift(self.alloc, &self.own)?;
         Ok(())
     }
 
@@ -178,6 +189,7 @@ impl<S: TimeSet> Tracker<S> {
         Ok(Tracker {
             states: self.states.copy()?,
             presets: self.presets.copy(),
+            own: self.own.copy(),
             alloc: self.alloc,
         })
     }
@@ -197,7 +209,7 @@ impl<S: TimeSet> Tracker<S> {
         ensures some { IfSome result (λ s. Possible self.now.states s × Exchanges self.now.profile command.now reply.now s target.now) }
         ensures none { IfNone result (¬ ((s : AState) × Possible self.now.states s × Exchanges self.now.profile command.now reply.now s target.now)) }
     {
-        self.states.before(command, reply, target)
+        self.states.before(&self.own, command, reply, target)
     }
 
     /// The modes that some possible state shows, with no bit above theirs. Takes no memory.
@@ -226,7 +238,7 @@ impl<S: TimeSet> Tracker<S> {
     }
 }
 
-impl Tracker<SpanSet> {
+impl<'a> Tracker<'a, SpanSet> {
     /// The greatest number of spans of the times at which a register may be Set, over the four values of local and
     /// of the panel: at most two more than `presets`, and 0 where no state remains. Takes no memory.
     pub fn spans(&self, register: Register) -> usize

@@ -12,6 +12,8 @@ mod counted;
 mod drawn;
 mod member;
 mod none_left;
+mod own;
+mod own_deck;
 mod passed;
 mod plain_deck;
 mod refused;

@@ -2,7 +2,7 @@
 //!
 //! One tracker goes along, from the first place found to the last: it believes the replies at the places found, and passes the
 //! exchanges between them. A question goes on from a copy of it, so it looks at no place found again.
-ghost use Rattle.std.specs.Prelude.{◌≡◌, ◌↔◌, ◌<◌, ◌≤◌, ◌+◌, IfOk, false, length, nat_le, true};
+ghost use Rattle.std.specs.Prelude.{◌≡◌, ◌↔◌, ◌<◌, ◌≤◌, ◌+◌, IfOk, false, length, nat_le, true, None};
 ghost use Rattle.deck9.specs.Contradict.{Contradict, HasBelieving};
 ghost use Rattle.deck9.specs.State.{IsFirst};
 ghost use Rattle.deck9.specs.declared.state.State.{State as AState};
@@ -31,10 +31,10 @@ pub fn contradicting(
     hands: Hands,
     exchanges: &[Exchange],
 ) -> Result<Vec<usize>, AllocError>
-    requires breaks { BreaksAtLast (record { rate = Rate.Fps25; hands = hands }) exchanges.now }
-    ensures { IfOk result (λ places. IsContradiction (record { rate = Rate.Fps25; hands = hands }) exchanges.now places.items) }
+    requires breaks { BreaksAtLast (record { rate = Rate.Fps25; hands = hands; deck = None }) exchanges.now }
+    ensures { IfOk result (λ places. IsContradiction (record { rate = Rate.Fps25; hands = hands; deck = None }) exchanges.now places.items) }
 {
-    contradicting_for(alloc, Profile::of(hands), exchanges)
+    contradicting_for(alloc, &Profile::of(hands), exchanges)
 }
 
 /// The places of replies that contradict one another for a deck that is taken for this: [`contradicting`] at any rate.
@@ -42,11 +42,11 @@ pub fn contradicting(
 /// An error comes where memory is refused.
 pub fn contradicting_for(
     alloc: Global,
-    profile: Profile,
+    profile: &Profile,
     exchanges: &[Exchange],
 ) -> Result<Vec<usize>, AllocError>
-    requires breaks { BreaksAtLast profile exchanges.now }
-    ensures { IfOk result (λ places. IsContradiction profile exchanges.now places.items) }
+    requires breaks { BreaksAtLast profile.now exchanges.now }
+    ensures { IfOk result (λ places. IsContradiction profile.now exchanges.now places.items) }
 {
     let mut tracker = Tracker::of(alloc, profile)?;
     let places = find_places(alloc, &mut tracker, exchanges);

@@ -10,7 +10,6 @@ use Rattle.clap.specs.declared.builder.value_parser.ValueParser.TheVariants as p
 use Rattle.clap.specs.declared.error.kind.ErrorKind.TheVariants.{DisplayVersion}
 use Rattle.tc25.specs.declared.rate.Rate.{Rate}
 use Rattle.tc25.specs.declared.rate.Rate.TheVariants as rate
-use Rattle.deck9.specs.declared.profile.Profile.{Profile}
 use Rattle.deck9.specs.declared.state.Hands.TheVariants as hands
 use Rattle.words9.specs.declared.task.Task.{Task}
 use Rattle.words9.specs.declared.task.Verb.{Verb}
@@ -49,6 +48,10 @@ hands_rule = record (new_rule (codes "hands")) { long = Some (codes "hands"); ac
 abbrev pub rate_rule : RateNames → Rule
 rate_rule names = record (new_rule (codes "rate")) { long = Some (codes "rate"); value_names = 1; parser = Some (parser.Names names) }
 
+-- an option with a file
+abbrev pub deck_rule : Rule
+deck_rule = record (new_rule (codes "deck")) { long = Some (codes "deck"); value_names = 1 }
+
 -- an option that is there or not, which `run` has not
 abbrev pub all_rule : Rule
 all_rule = record (new_rule (codes "all")) { long = Some (codes "all"); action = Some SetTrue }
@@ -60,9 +63,11 @@ name_of verb.Explain = codes "explain"
 name_of verb.Run = codes "run"
 name_of verb.Why = codes "why"
 
--- what each subcommand has: the word of its verb, and then the file and the options of the panel and of the rate
+-- what each subcommand has: the word of its verb, and then the file and the options of the panel, of the rate and of the deck's
+-- sheet
 abbrev pub plain_app_for : RateNames → Verb → App
-plain_app_for names verb = with_rule (with_rule (with_rule (new_app (name_of verb)) file_rule) hands_rule) (rate_rule names)
+plain_app_for names verb =
+    with_rule (with_rule (with_rule (with_rule (new_app (name_of verb)) file_rule) hands_rule) (rate_rule names)) deck_rule
 
 -- the subcommand of a verb
 abbrev pub app_for : RateNames → Verb → App
@@ -93,19 +98,14 @@ abbrev pub is_on : Option Text → Bool
 is_on (Some text) = bytes_eq text (codes "true")
 is_on None = false
 
--- what the deck is taken for, by these rows
-abbrev pub profile_of : List Row → Profile
-profile_of rows = record {
-  rate = rate_of (first_of (codes "rate") rows);
-  hands = if is_on (first_of (codes "hands") rows) then hands.Allowed else hands.None;
-}
-
 -- the program takes the words, and they give this task
 pub record GivesTask (names : RateNames) (words : List Text) (task : Task) : Type 0 where
   pub rows : List Row
   pub takes : Takes names words task.verb rows
   pub file : option_map string_bytes task.file ≡ first_of (codes "FILE") rows
-  pub profile : task.profile ≡ profile_of rows
+  pub rate : task.rate ≡ rate_of (first_of (codes "rate") rows)
+  pub hands : task.hands ≡ (if is_on (first_of (codes "hands") rows) then hands.Allowed else hands.None)
+  pub deck : option_map string_bytes task.deck ≡ first_of (codes "deck") rows
   pub all : task.all ≡ is_on (first_of (codes "all") rows)
 
 -- it does not take them

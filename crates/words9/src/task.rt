@@ -1,7 +1,8 @@
 //! The task that the words of the command line give, and why they give none.
 
 use clap::Error;
-use deck9::Profile;
+use deck9::Hands;
+use tc25::Rate;
 
 /// The program's name and version, with a line feed. The package and the man page take the number from this line.
 pub const VERSION_LINE: &str = "ninecheck 1.1.0\n";
@@ -26,9 +27,12 @@ pub struct Task {
     pub verb: Verb,
     /// The file that holds the capture; standard input where there is none.
     pub file: Option<String>,
-    /// What the deck is taken for: the rate of its time code, and whether somebody may have touched its panel during the
-    /// capture.
-    pub profile: Profile,
+    /// The rate of the deck's time code.
+    pub rate: Rate,
+    /// Whether somebody may have touched the deck's panel during the capture.
+    pub hands: Hands,
+    /// The file that holds the deck's sheet, which says what this deck does of its own; the profile alone where there is none.
+    pub deck: Option<String>,
     /// Whether the judging goes on after a break, and judges the whole capture.
     pub all: bool,
 }

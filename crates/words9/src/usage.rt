@@ -3,7 +3,7 @@ ghost use Rattle.std.specs.Prelude.{◌≡◌, IfOk, false, map};
 ghost use Rattle.std.specs.String.{string_bytes};
 ghost use Rattle.clap.specs.Words.{FailsBy, app_of, fault_of, rule_of, subcommand_of, subcommand_rows_of, with_subcommand};
 ghost use Rattle.clap.specs.declared.builder.command.Command.TheViews.{out-Command as fields_of};
-ghost use Rattle.words9.specs.Words.{AreRateNames, app_for, hands_rule, name_of, plain_app_for, program, rate_rule, top};
+ghost use Rattle.words9.specs.Words.{AreRateNames, app_for, deck_rule, hands_rule, name_of, plain_app_for, program, rate_rule, top};
 
 use crate::task::{VERSION_LINE, Verb};
 use clap::{Arg, ArgAction, ArgMatches, Command, Error};
@@ -91,7 +91,7 @@ fn subcommand<'a>(
     }
 }
 
-/// A subcommand with what each has: its file, and the options of the panel and of the rate.
+/// A subcommand with what each has: its file, and the options of the panel, of the rate and of the deck's sheet.
 fn plain_subcommand<'a>(
     alloc: Global,
     verb: Verb,
@@ -107,7 +107,8 @@ fn plain_subcommand<'a>(
     let command = command
         .arg(file)?
         .arg(hands(alloc))?
-        .arg(rate(alloc, rates))?;
+        .arg(rate(alloc, rates))?
+        .arg(deck(alloc))?;
     Ok(command)
 }
 
@@ -136,6 +137,16 @@ fn rate<'a>(alloc: Global, rates: &'a [&'a str]) -> Arg<'a>
         .help(
             "The frame rate of the time code: 24 (also 23.976), 25 (if left out), 30 (also 29.97 without drop frame), 29.97df",
         )
+}
+
+/// The option of the deck's sheet.
+fn deck<'a>(alloc: Global) -> Arg<'a>
+    ensures rule { rule_of result ≡ deck_rule }
+    ensures local { result.global ≡ false }
+{
+    Arg::new(alloc, "deck").long("deck").value_name("FILE").help(
+        "A sheet of what this deck does of its own, as TOML: what it forgets, and through which modes it passes",
+    )
 }
 
 /// A verb's word.

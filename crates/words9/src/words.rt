@@ -9,7 +9,7 @@ use crate::task::{Task, Verb, WordsFault};
 use crate::usage::{parsed, rate_names};
 use clap::error::ErrorKind;
 use clap::{ArgMatches, Error};
-use deck9::{Hands, Profile};
+use deck9::Hands;
 use std::alloc::{AllocError, Global};
 use tc25::Rate;
 
@@ -43,7 +43,10 @@ pub fn read_words(alloc: Global, words: Vec<String>) -> Result<Task, WordsFault>
     let Some(verb) = verb_of(name) else {
         return Err(WordsFault::Usage(None));
     };
-    let Ok(file) = file_of(alloc, found) else {
+    let Ok(file) = value_of(alloc, found, "FILE") else {
+        return Err(WordsFault::NoMemory);
+    };
+    let Ok(deck) = value_of(alloc, found, "deck") else {
         return Err(WordsFault::NoMemory);
     };
     let hands = if is_given(found, "hands") {
@@ -56,7 +59,9 @@ pub fn read_words(alloc: Global, words: Vec<String>) -> Result<Task, WordsFault>
     Ok(Task {
         verb,
         file,
-        profile: Profile { rate, hands },
+        rate,
+        hands,
+        deck,
         all,
     })
 }
@@ -91,13 +96,17 @@ fn verb_of(name: &str) -> Option<Verb>
     }
 }
 
-/// The file that the subcommand was given.
-fn file_of(alloc: Global, found: &ArgMatches<'_>) -> Result<Option<String>, AllocError>
-    ensures { IfOk result (λ file. option_map string_bytes file
-        ≡ first_of (codes "FILE") (rows_of (found_of found.now))) }
+/// What the subcommand was given for this argument.
+fn value_of(
+    alloc: Global,
+    found: &ArgMatches<'_>,
+    argument: &str,
+) -> Result<Option<String>, AllocError>
+    ensures { IfOk result (λ value. option_map string_bytes value
+        ≡ first_of argument.now (rows_of (found_of found.now))) }
 {
-    match found.get_str("FILE") {
-        Some(name) => Ok(Some(String::from_str(alloc, name)?)),
+    match found.get_str(argument) {
+        Some(value) => Ok(Some(String::from_str(alloc, value)?)),
         None => Ok(None),
     }
 }

@@ -1,5 +1,6 @@
 //! The tables of commands: which command the first two bytes of a block spell, a function for each group.
 ghost use Rattle.std.specs.Prelude.{◌≡◌};
+ghost use Rattle.block9.specs.declared.block.Block.{Block as ABlock};
 ghost use Rattle.block9.specs.Command.{meaning_in, preset_control, selected, sense_requests, system_control, transport_control};
 
 use crate::block::Block;
@@ -7,14 +8,14 @@ use crate::command::Command;
 use tc25::Rate;
 
 /// The system control commands: group 0.
-pub(super) fn system_control(head: u32, block: &Block) -> Option<Command>
-    ensures { result ≡ meaning_in system_control head block.now }
+pub(super) fn system_control(head: u32) -> Option<Command>
+    ensures { (b : ABlock) → result ≡ meaning_in system_control head b }
 {
     match head {
         0x00_0C => Some(Command::LocalDisable),
         0x00_11 => Some(Command::DeviceType),
         0x00_1D => Some(Command::LocalEnable),
-        _ => Some(Command::Unlisted { group: block.group }),
+        _ => Some(Command::Unlisted { head }),
     }
 }
 
@@ -42,7 +43,7 @@ pub(super) fn transport_control(rate: Rate, head: u32, block: &Block) -> Option<
             time: block.time_at(rate)?,
         }),
         0x20_34 => Some(Command::SyncPlay),
-        _ => Some(Command::Unlisted { group: block.group }),
+        _ => Some(Command::Unlisted { head }),
     }
 }
 
@@ -88,7 +89,7 @@ pub(super) fn preset_control(rate: Rate, head: u32, block: &Block) -> Option<Com
         0x41_36 => Some(Command::TimerModeSelect),
         0x40_40 => Some(Command::AutoModeOff),
         0x40_41 => Some(Command::AutoModeOn),
-        _ => Some(Command::Unlisted { group: block.group }),
+        _ => Some(Command::Unlisted { head }),
     }
 }
 
@@ -105,7 +106,7 @@ pub(super) fn sense_requests(head: u32, block: &Block) -> Option<Command>
         0x61_20 => Some(Command::StatusSense {
             asked: block.first_datum(),
         }),
-        _ => Some(Command::Unlisted { group: block.group }),
+        _ => Some(Command::Unlisted { head }),
     }
 }
 
@@ -115,6 +116,6 @@ fn time_sense(block: &Block) -> Option<Command>
 {
     match block.first_datum() {
         selector @ (0x01..=0x04 | 0x08) => Some(Command::CurrentTimeSense { selector }),
-        _ => Some(Command::Unlisted { group: block.group }),
+        _ => Some(Command::Unlisted { head: 0x61_0C }),
     }
 }

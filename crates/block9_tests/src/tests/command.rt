@@ -28,27 +28,27 @@ fn selectors_and_groups(rt: HostRuntime) {
         ),
         (
             [0x00, 0x01, 0x01].as_slice(),
-            Command::Unlisted { group: 0 },
+            Command::Unlisted { head: 0x00_01 },
         ),
         (
             [0x20, 0x40, 0x60].as_slice(),
-            Command::Unlisted { group: 2 },
+            Command::Unlisted { head: 0x20_40 },
         ),
         (
             [0x43, 0x14, 0x00, 0x00, 0x00, 0x57].as_slice(),
-            Command::Unlisted { group: 4 },
+            Command::Unlisted { head: 0x43_14 },
         ),
         (
             [0x61, 0x0C, 0x05, 0x72].as_slice(),
-            Command::Unlisted { group: 6 },
+            Command::Unlisted { head: 0x61_0C },
         ),
         (
             [0x80, 0x01, 0x81].as_slice(),
-            Command::Unlisted { group: 8 },
+            Command::Unlisted { head: 0x80_01 },
         ),
         (
             [0xF1, 0x0C, 0x00, 0xFD].as_slice(),
-            Command::Unlisted { group: 15 },
+            Command::Unlisted { head: 0xF1_0C },
         ),
     ] {
         let block = Block::from_bytes(bytes).expect(&rt, "a block");

@@ -1,5 +1,5 @@
 -- The end of a judging that keeps its exchanges.
-use Rattle.std.specs.Prelude.{◌++◌, ◌↔◌, ◌∷◌, ◌≡◌, ◌≢◌}
+use Rattle.std.specs.Prelude.{◌↔◌, ◌∷◌, ◌≡◌, ◌≢◌}
 use Rattle.judge9.specs.Working.{[], BreaksAtLast, Cut, Ending, Ends, Err, Exchange, Profile, HasItsRun, HasItsWhy, IfOk, IsBreakAfter, judged_of}
 use Rattle.judge9.specs.Working.{JudgeError, Judges, length, LineByte, List, None, Ok, Option, Possible, Reason, Result, Rows, RunVerdict}
 use Rattle.judge9.specs.Working.{Some, State, take, Tracked, Verdict, View, WhyVerdict, ℕ}

@@ -1,5 +1,5 @@
 -- Where a judging takes up again after a break: the records that are passed over, and the first one of the next part.
-use Rattle.std.specs.Prelude.{◌≡◌, ◌≢◌, ◌↔◌, ◌+◌, ◌++◌, ◌∷◌, ◌⊎◌}
+use Rattle.std.specs.Prelude.{◌≡◌, ◌≢◌, ◌↔◌, ◌∷◌, ◌⊎◌}
 use Rattle.std.specs.Bool.{MatchBool}
 use Rattle.judge9.specs.Working.{[], CaptureError, CaptureKind, Err, false, GivesEnd, GivesRecord, GivesRefusal, Profile, IfSome, JudgeError, Judging, LineByte, List, None, Ok, Option, Progress}
 use Rattle.judge9.specs.Working.{Appends, AppendsPart, Exchange, Reason, refusal_of, Result, Rows, Some, true, Verdict, View, WhyVerdict, ℕ, ⊤}

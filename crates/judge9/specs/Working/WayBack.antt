@@ -19,6 +19,13 @@ pub record FollowsFrom (first : Tracked) (es : List Exchange) (t : Tracked) : Ty
   pub states : (s : State) → Possible t.states s ↔ LeadsFrom first es s
   pub profile : t.profile ≡ first.profile
 
+-- the state before the exchange is one that the tracker keeps, and the exchange leads from it to this state
+abbrev pub ComesFrom : Tracked → Exchange → State → State → Type 0
+ComesFrom t e state s = Possible t.states s × Exchanges t.profile e.command e.reply s state
+
+abbrev pub CanComeFrom : Tracked → Exchange → State → Type 0
+CanComeFrom t e state = (s : State) × ComesFrom t e state s
+
 -- the last of these marks, if there is one
 abbrev pub last_mark : List Mark → Option Mark
 last_mark marks = slice_get marks (length marks - 1)

@@ -265,7 +265,7 @@ fn may_be_on(exchange: &Exchange, before: bool) -> bool {
     match exchange.command {
         Command::LocalDisable => false,
         Command::LocalEnable => true,
-        Command::Unlisted { group } => before || ![2, 4, 6].contains(&group),
+        Command::Unlisted { head } => before || ![2, 4, 6].contains(&(head / 0x10_00)),
         _ => before,
     }
 }

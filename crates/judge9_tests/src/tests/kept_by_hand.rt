@@ -4,12 +4,11 @@ use super::drawn::{CAPTURES, Draw, drawn};
 use super::fewest_hands::{Run, goes_on_untouched, run_if_yes, without_panel};
 use super::same;
 use block9::Exchange;
-use deck9::{Effect, Mode, State};
+use deck9::{Deck, Effect, Hands, Mode, Profile, State};
 use sets25::SpanSet;
 use std::alloc::{AllocError, Global};
 use std::process::Abort;
 use std::test::Fail;
-use tc25::Rate;
 use track9::{Start, Tracker};
 
 /// Nothing is known of the deck.
@@ -76,7 +75,8 @@ fn has_run(
     start: &Start,
     exchanges: &[Exchange],
 ) -> Result<bool, AllocError> {
-    let mut tracker = Tracker::starting(alloc, Rate::Fps25, start)?;
+    let profile = Profile::of(Hands::None);
+    let mut tracker = Tracker::starting(alloc, &profile, start)?;
     let remains = remains(rt, &mut tracker, exchanges);
     drop(tracker);
     remains
@@ -89,7 +89,8 @@ fn leads_to(
     exchange: &Exchange,
     state: &State,
 ) -> Result<bool, AllocError> {
-    let tracker: Tracker<SpanSet> = Tracker::starting(alloc, Rate::Fps25, start)?;
+    let profile = Profile::of(Hands::None);
+    let tracker: Tracker<SpanSet> = Tracker::starting(alloc, &profile, start)?;
     let before = tracker.before(&exchange.command, &exchange.reply, state);
     drop(tracker);
     Ok(before.is_some())
@@ -152,7 +153,7 @@ fn could_keep(
 
 /// Whether a command leaves goal and shown mode as they are.
 fn keeps_modes(exchange: &Exchange) -> bool {
-    match Effect::of(&exchange.command) {
+    match Deck::effect(None, &exchange.command) {
         Effect::Nothing | Effect::Change(_, _) | Effect::Panel(_) | Effect::ForgetRegisters => true,
         _ => false,
     }

@@ -26,7 +26,7 @@ const ONE_BREAK: &str =
     "no at record 7: P1 reply without a command\nbreaks 1: records 10, exchanges 1, passed over 3, open 1\n";
 
 /// The words of a command line.
-fn words_of(alloc: Global, words: &[&str]) -> Result<Vec<String>, AllocError> {
+pub(super) fn words_of(alloc: Global, words: &[&str]) -> Result<Vec<String>, AllocError> {
     let mut all = Vec::new(alloc);
     for word in words {
         all.push(String::from_str(alloc, word)?)?;
@@ -51,14 +51,25 @@ fn opened<'a>(file: &Option<String>) -> io::Result<&'a [u8]> {
     }
 }
 
+/// No sheet can be opened.
+fn no_sheet<'a>(_file: &String) -> io::Result<&'a [u8]> {
+    Err(io::Error::from(io::ErrorKind::NotFound))
+}
+
 /// The end of the program on these words, before this writer.
 fn end_on(rt: &HostRuntime, words: &[&str], writer: Narrow) -> (End, Narrow) {
     let words = words_of(rt.alloc(), words).map_err(|_| WordsFault::NoMemory);
-    run_program(rt.alloc(), words, |file| opened(file), writer)
+    run_program(
+        rt.alloc(),
+        words,
+        |file| no_sheet(file),
+        |file| opened(file),
+        writer,
+    )
 }
 
 /// Whether the program ends so.
-fn is_told(end: &End, status: u8, message: Message) -> bool {
+pub(super) fn is_told(end: &End, status: u8, message: Message) -> bool {
     match end {
         End::Usage(_) => false,
         End::Told(outcome) => { end.status() == status && *outcome == Outcome { status, message } }
@@ -69,11 +80,23 @@ fn is_told(end: &End, status: u8, message: Message) -> bool {
 fn there_may_be_no_words(rt: HostRuntime) {
     let writer = Narrow::new(rt.alloc(), usize::MAX);
     let words = Err(WordsFault::Usage(None));
-    let (end, writer) = run_program(rt.alloc(), words, |file| opened(file), writer);
+    let (end, writer) = run_program(
+        rt.alloc(),
+        words,
+        |file| no_sheet(file),
+        |file| opened(file),
+        writer,
+    );
     let is_usage = matches!(&end, End::Usage(None));
     same(&rt, (end.status(), is_usage), (2, true), "no help");
     let words = Err(WordsFault::NoMemory);
-    let (end, writer) = run_program(rt.alloc(), words, |file| opened(file), writer);
+    let (end, writer) = run_program(
+        rt.alloc(),
+        words,
+        |file| no_sheet(file),
+        |file| opened(file),
+        writer,
+    );
     same(&rt, is_told(&end, 5, Message::NoMemory), true, "no memory");
     took(&rt, &writer, b"", 0, 0);
 }

@@ -1,7 +1,7 @@
 //! What words ask for.
 
 use crate::tests::same;
-use deck9::{Hands, Profile};
+use deck9::Hands;
 use std::alloc::{AllocError, Global};
 use tc25::Rate;
 use words9::{Task, Verb, WordsFault, read_words};
@@ -27,15 +27,21 @@ fn asks(alloc: Global, words: &[&str], wanted: &Wanted) -> bool {
     let Ok(task) = task_of(alloc, words) else {
         return false;
     };
-    let same_file = match (&task.file, wanted.file) {
-        (Some(name), Some(want)) => name.as_str() == want,
+    is_named(&task.file, wanted.file)
+        && is_named(&task.deck, wanted.deck)
+        && task.verb == wanted.verb
+        && task.rate == Rate::Fps25
+        && task.hands == wanted.hands
+        && task.all == wanted.all
+}
+
+/// Whether this is the name that is wanted, or none.
+fn is_named(name: &Option<String>, wanted: Option<&str>) -> bool {
+    match (name, wanted) {
+        (Some(name), Some(wanted)) => name.as_str() == wanted,
         (None, None) => true,
         _ => false,
-    };
-    same_file
-        && task.verb == wanted.verb
-        && task.profile == wanted.profile
-        && task.all == wanted.all
+    }
 }
 
 /// Whether these words are no command.
@@ -50,30 +56,50 @@ fn are_refused(alloc: Global, words: &[&str]) -> bool {
 struct Wanted {
     verb: Verb,
     file: Option<&'static str>,
-    profile: Profile,
+    hands: Hands,
+    deck: Option<&'static str>,
     all: bool,
 }
 
-/// A deck whose panel nobody may touch.
-const UNTOUCHED: Profile = Profile {
-    rate: Rate::Fps25,
-    hands: Hands::None,
-};
-
-/// A deck whose panel somebody may touch.
-const TOUCHED: Profile = Profile {
-    rate: Rate::Fps25,
-    hands: Hands::Allowed,
-};
-
 /// tests/cases/words.txt has others. Here a file has a blank in its name, has an option's name beside the option, or has none.
 const COMMANDS: &[(&'static [&'static str], Wanted)] = &[
+    (
+        &["check", "--deck", "edit.toml", "a.csv"],
+        Wanted {
+            verb: Verb::Check,
+            file: Some("a.csv"),
+            hands: Hands::None,
+            deck: Some("edit.toml"),
+            all: false,
+        },
+    ),
+    (
+        &["run", "a.csv", "--hands", "--deck=--hands"],
+        Wanted {
+            verb: Verb::Run,
+            file: Some("a.csv"),
+            hands: Hands::Allowed,
+            deck: Some("--hands"),
+            all: false,
+        },
+    ),
+    (
+        &["why", "--", "--deck"],
+        Wanted {
+            verb: Verb::Why,
+            file: Some("--deck"),
+            hands: Hands::None,
+            deck: None,
+            all: false,
+        },
+    ),
     (
         &["explain", "a b", "--hands"],
         Wanted {
             verb: Verb::Explain,
             file: Some("a b"),
-            profile: TOUCHED,
+            hands: Hands::Allowed,
+            deck: None,
             all: false,
         },
     ),
@@ -82,7 +108,8 @@ const COMMANDS: &[(&'static [&'static str], Wanted)] = &[
         Wanted {
             verb: Verb::Check,
             file: Some("--hands"),
-            profile: TOUCHED,
+            hands: Hands::Allowed,
+            deck: None,
             all: false,
         },
     ),
@@ -91,7 +118,8 @@ const COMMANDS: &[(&'static [&'static str], Wanted)] = &[
         Wanted {
             verb: Verb::Check,
             file: Some(""),
-            profile: UNTOUCHED,
+            hands: Hands::None,
+            deck: None,
             all: false,
         },
     ),
@@ -100,7 +128,8 @@ const COMMANDS: &[(&'static [&'static str], Wanted)] = &[
         Wanted {
             verb: Verb::Why,
             file: Some("--all"),
-            profile: UNTOUCHED,
+            hands: Hands::None,
+            deck: None,
             all: true,
         },
     ),
@@ -109,7 +138,8 @@ const COMMANDS: &[(&'static [&'static str], Wanted)] = &[
         Wanted {
             verb: Verb::Explain,
             file: None,
-            profile: TOUCHED,
+            hands: Hands::Allowed,
+            deck: None,
             all: true,
         },
     ),
@@ -147,7 +177,7 @@ fn words_that_name_a_rate(rt: HostRuntime) {
     for (words, file, rate) in RATES {
         let task = task_of(rt.alloc(), *words).expect(&rt, "a task");
         let found = task.file.as_ref().map(|name| name.as_str());
-        same(&rt, (found, task.profile.rate), (*file, *rate), *words);
+        same(&rt, (found, task.rate), (*file, *rate), *words);
     }
 }
 

@@ -14,11 +14,11 @@ use text9::{WriteFault, put_all, write_count, write_text, write_word};
 /// field, and of the panel only where hands are allowed.
 pub(super) fn write_state_line<W: Write>(
     writer: &mut W,
-    profile: Profile,
+    profile: &Profile,
     at: u128,
     state: &State,
 ) -> Result<(), WriteFault>
-    ensures { Writes (line_of_state profile at state.now) result (W.contents writer.old) (W.contents writer.new) }
+    ensures { Writes (line_of_state profile.now at state.now) result (W.contents writer.old) (W.contents writer.new) }
 {
     write_count(writer, "record ", at)?;
     write_text(writer, ": ")?;
@@ -29,10 +29,10 @@ pub(super) fn write_state_line<W: Write>(
 /// Writes a state, field by field.
 fn write_columns<W: Write>(
     writer: &mut W,
-    profile: Profile,
+    profile: &Profile,
     state: &State,
 ) -> Result<(), WriteFault>
-    ensures { Writes (text_of_knowledge profile (known_state state.now)) result (W.contents writer.old) (W.contents writer.new) }
+    ensures { Writes (text_of_knowledge profile.now (known_state state.now)) result (W.contents writer.old) (W.contents writer.new) }
 {
     write_word(writer, "goal ", mode_word(state.goal))?;
     write_word(writer, ", shown ", mode_word(state.shown))?;
@@ -40,8 +40,12 @@ fn write_columns<W: Write>(
 }
 
 /// Writes the registers, local, and where hands are allowed the panel.
-fn write_fields<W: Write>(writer: &mut W, profile: Profile, state: &State) -> Result<(), WriteFault>
-    ensures { Writes (text_of_fields profile (known_state state.now)) result (W.contents writer.old) (W.contents writer.new) }
+fn write_fields<W: Write>(
+    writer: &mut W,
+    profile: &Profile,
+    state: &State,
+) -> Result<(), WriteFault>
+    ensures { Writes (text_of_fields profile.now (known_state state.now)) result (W.contents writer.old) (W.contents writer.new) }
 {
     write_register(writer, profile.rate, ", in ", &state.ins)?;
     write_register(writer, profile.rate, ", out ", &state.outs)?;

@@ -1,5 +1,5 @@
 //! What is known of the deck, put to the end of a line.
-ghost use Rattle.std.specs.Prelude.{◌≡◌, ◌++◌, OnOk, codes};
+ghost use Rattle.std.specs.Prelude.{◌≡◌, ◌++◌, OnOk, codes, None};
 ghost use Rattle.text9.specs.Explanation.{text_of_fields, text_of_knowledge, text_of_local, text_of_mode, text_of_panel, text_of_register, word_of};
 
 use crate::pieces::{put_text, put_word};
@@ -14,10 +14,10 @@ const UNKNOWN: &str = "unknown";
 pub(super) fn put_knowledge(
     line: &mut Vec<u8>,
     label: &str,
-    profile: Profile,
+    profile: &Profile,
     knowledge: &Knowledge,
 ) -> Result<(), AllocError>
-    ensures { OnOk result (line.new.items ≡ line.old.items ++ (label.now ++ text_of_knowledge profile knowledge.now)) }
+    ensures { OnOk result (line.new.items ≡ line.old.items ++ (label.now ++ text_of_knowledge profile.now knowledge.now)) }
 {
     put_text(line, label)?;
     put_columns(line, profile, knowledge)
@@ -26,10 +26,10 @@ pub(super) fn put_knowledge(
 /// Puts what is known, field by field.
 fn put_columns(
     line: &mut Vec<u8>,
-    profile: Profile,
+    profile: &Profile,
     knowledge: &Knowledge,
 ) -> Result<(), AllocError>
-    ensures { OnOk result (line.new.items ≡ line.old.items ++ text_of_knowledge profile knowledge.now) }
+    ensures { OnOk result (line.new.items ≡ line.old.items ++ text_of_knowledge profile.now knowledge.now) }
 {
     put_word(line, "goal ", mode_word(&knowledge.goal))?;
     put_word(line, ", shown ", mode_word(&knowledge.shown))?;
@@ -39,18 +39,18 @@ fn put_columns(
 /// Puts what is known of the registers, of local and, where hands are allowed, of the panel. An error comes where the buffer has
 /// to grow and is refused; then a part of it may be there.
 pub fn put_fields(line: &mut Vec<u8>, hands: Hands, knowledge: &Knowledge) -> Result<(), AllocError>
-    ensures { OnOk result (line.new.items ≡ line.old.items ++ text_of_fields (record { rate = Rate.Fps25; hands = hands }) knowledge.now) }
+    ensures { OnOk result (line.new.items ≡ line.old.items ++ text_of_fields (record { rate = Rate.Fps25; hands = hands; deck = None }) knowledge.now) }
 {
-    put_fields_for(line, Profile::of(hands), knowledge)
+    put_fields_for(line, &Profile::of(hands), knowledge)
 }
 
 /// Puts what is known of a deck that is taken for this: [`put_fields`] at any rate.
 pub fn put_fields_for(
     line: &mut Vec<u8>,
-    profile: Profile,
+    profile: &Profile,
     knowledge: &Knowledge,
 ) -> Result<(), AllocError>
-    ensures { OnOk result (line.new.items ≡ line.old.items ++ text_of_fields profile knowledge.now) }
+    ensures { OnOk result (line.new.items ≡ line.old.items ++ text_of_fields profile.now knowledge.now) }
 {
     put_register(line, ", in ", profile.rate, &knowledge.ins)?;
     put_register(line, ", out ", profile.rate, &knowledge.outs)?;

@@ -1,8 +1,10 @@
 -- How the values that models show are stored.
 use Rattle.std.specs.Prelude.{if◌then◌else◌, ◌==◌, ◌≡◌}
-use Rattle.track9.specs.Working.Deck.{Bool, code_by, Coded, coded_bool, coded_list, coded_option, coded_ℕ, coded×, Entries, false, Hands, List, ModeSet, Option, Part}
+use Rattle.track9.specs.Working.Deck.{Bool, code_by, Coded, coded_bool, coded_list, coded_option, coded_ℕ, coded×, Deck, Entries, false, Forgotten, Hands, List, ModeSet, Option, Part}
 use Rattle.track9.specs.Working.Deck.{Presets, Profile, Rate, refl, States, Times, Tracked, true, Halves, ℕ}
 use Rattle.std.specs.FinSet as set
+use Rattle.std_collections.specs.Layout.BTreeMap.{BTreeMap, btree_map_code}
+use Rattle.deck9.specs.declared.deck.Forgotten.TheVariants as forgotten
 use Rattle.deck9.specs.declared.state.Hands.TheVariants as hands
 use Rattle.tc25.specs.declared.rate.Rate.TheVariants.{Fps24, Fps25, Fps30, DropFrame}
 
@@ -57,8 +59,39 @@ hands_back hands.Allowed = refl
 abbrev pub hands_code : Coded Hands
 hands_code = code_by Bool coded_bool is_allowed (λ b. if b then hands.Allowed else hands.None) hands_back
 
+-- what is forgotten as a number
+abbrev pub number_forgotten : Forgotten → ℕ
+number_forgotten forgotten.Nothing = 0
+number_forgotten forgotten.Motion = 1
+number_forgotten forgotten.Registers = 2
+number_forgotten forgotten.Tape = 3
+number_forgotten forgotten.Everything = 4
+
+abbrev pub forgotten_by_number : ℕ → Forgotten
+forgotten_by_number n =
+    if n == 0 then forgotten.Nothing
+    else (if n == 1 then forgotten.Motion
+    else (if n == 2 then forgotten.Registers else (if n == 3 then forgotten.Tape else forgotten.Everything)))
+
+pub forgotten_back : (f : Forgotten) → forgotten_by_number (number_forgotten f) ≡ f
+forgotten_back forgotten.Nothing = refl
+forgotten_back forgotten.Motion = refl
+forgotten_back forgotten.Registers = refl
+forgotten_back forgotten.Tape = refl
+forgotten_back forgotten.Everything = refl
+
+abbrev pub forgotten_code : Coded Forgotten
+forgotten_code = code_by ℕ coded_ℕ number_forgotten forgotten_by_number forgotten_back
+
+abbrev pub deck_code : Coded Deck
+deck_code =
+    code_by (BTreeMap ℕ Forgotten × List ModeSet) (coded× (btree_map_code coded_ℕ forgotten_code) (coded_list mode_set_code))
+    (λ d. (d.forgets, d.ways)) (λ p. record { forgets = p.0; ways = p.1 }) (λ _. refl)
+
 abbrev pub profile_code : Coded Profile
-profile_code = code_by (Rate × Hands) (coded× rate_code hands_code) (λ p. (p.rate, p.hands)) (λ c. record { rate = c.0; hands = c.1 }) (λ _. refl)
+profile_code =
+    code_by (Rate × (Hands × Option Deck)) (coded× rate_code (coded× hands_code (coded_option deck_code)))
+    (λ p. (p.rate, (p.hands, p.deck))) (λ c. record { rate = c.0; hands = c.1.0; deck = c.1.1 }) (λ _. refl)
 
 abbrev pub presets_code : Coded Presets
 presets_code =

@@ -14,6 +14,9 @@ pub use Rattle.deck9.specs.Shows.{Agrees, AreSet, sense_of, Shows, ShowsStatus, 
 pub use Rattle.deck9.specs.State.{entry_of, is_set, IsEntry, IsFirst, IsState, MayBeOn, with_entry}
 pub use Rattle.deck9.specs.Status.{status_of}
 pub use Rattle.deck9.specs.Step.{AreReached, done, Exchanges, ignored, refused, DeckStep}
+pub use Rattle.deck9.specs.Deck.{way_of}
+pub use Rattle.deck9.specs.declared.deck.Deck.{Deck}
+pub use Rattle.deck9.specs.declared.deck.Forgotten.{Forgotten}
 pub use Rattle.deck9.specs.declared.effect.Change.{Change}
 pub use Rattle.deck9.specs.declared.effect.Change.TheVariants.{Next, Prev, Recall, Reset, SetAt, SetSomewhere}
 pub use Rattle.deck9.specs.declared.effect.Effect.{Effect}

@@ -1,7 +1,7 @@
 -- How pairs of a goal and a shown mode change.
-use Rattle.std.specs.Prelude.{if◌then◌else◌, ◌&&◌, ◌∷◌}
-use Rattle.track9.specs.Working.Deck.{[], bit_of, Bool, both, Cued, either, Eject, FastForward, is_mode, is_some, Jog, List, Mode, modes, ModeSet, Play, Rec, Rewind, shown_with}
-use Rattle.track9.specs.Working.Deck.{Shuttle, Stop, Var, way}
+use Rattle.std.specs.Prelude.{if◌then◌else◌, ◌∷◌}
+use Rattle.track9.specs.Working.Deck.{[], bit_of, Bool, both, Cued, Deck, either, Eject, FastForward, is_mode, is_some, Jog, List, Mode, modes, ModeSet, Option, Play, Rec, Rewind, shown_with}
+use Rattle.track9.specs.Working.Deck.{Shuttle, Stop, Var, way_of}
 
 -- the pairs that have these shown modes for each goal
 abbrev pub by_goal : (Mode → ModeSet) → List ModeSet
@@ -32,21 +32,27 @@ goals_of pairs = goes (by_goal (goal_if_shown pairs))
 abbrev pub some_pair : List ModeSet → Bool
 some_pair pairs = is_some (goes pairs)
 
--- the modes that a drift can show with the goal g, which it keeps
-abbrev pub kept_goal : Bool → ModeSet → Mode → ModeSet
-kept_goal some s g = if some then either (either s (modes (bit_of g))) (way g) else s
+-- a set without bits above those of the ten modes
+abbrev pub ten_of : ModeSet → ModeSet
+ten_of s = both s (modes 0x3FF)
 
--- STOP, where there is a state
-abbrev pub halted : Bool → Mode → ModeSet
-halted some g = if some && is_mode g Stop then modes (bit_of Stop) else modes 0
+-- the modes that a drift can show with the goal g, which it keeps, of these shown modes and with these on the way to it
+abbrev pub kept_goal : ModeSet → ModeSet → Mode → ModeSet
+kept_goal s way g = if is_some s then either (either s (modes (bit_of g))) (ten_of way) else s
+
+-- the modes that a deck can show that has come to a halt, with these on the way to STOP
+abbrev pub halted : List ModeSet → ModeSet → ModeSet
+halted p way = if some_pair p then ten_of (either (modes (bit_of Stop)) way) else modes 0
 
 -- the modes that a drift can show with the goal g
-abbrev pub drifted_with : List ModeSet → Mode → ModeSet
-drifted_with p g = either (kept_goal (is_some (shown_with p g)) (shown_with p g) g) (halted (some_pair p) g)
+abbrev pub drifted_with : Option Deck → List ModeSet → Mode → ModeSet
+drifted_with deck p g =
+    if is_mode g Stop then either (kept_goal (shown_with p g) (way_of deck g) g) (halted p (way_of deck Stop))
+    else kept_goal (shown_with p g) (way_of deck g) g
 
 -- the pairs that a drift can reach
-abbrev pub drifted : List ModeSet → List ModeSet
-drifted p = by_goal (drifted_with p)
+abbrev pub drifted : Option Deck → List ModeSet → List ModeSet
+drifted deck p = by_goal (drifted_with deck p)
 
 -- the pairs with this goal in place of theirs
 abbrev pub gone_with : Mode → List ModeSet → Mode → ModeSet

@@ -1,7 +1,7 @@
 -- How the states with one value of local and one of panel change.
 use Rattle.std.specs.Prelude.{if◌then◌else◌, ◌&&◌, ◌≡◌}
 use Rattle.track9.specs.Working.Pattern.{is_as_wanted}
-use Rattle.track9.specs.Working.Deck.{Bool, Change, Entries, entries_of, InPart, List, Mode, ModeSet, None, Option, Part, RegAudioIn}
+use Rattle.track9.specs.Working.Deck.{Bool, Change, Deck, Entries, entries_of, InPart, List, Mode, ModeSet, None, Option, Part, RegAudioIn}
 use Rattle.track9.specs.Working.Deck.{RegAudioOut, RegIn, Register, Rate, RegistersSet, RegOut, Some, State, Status, ℕ}
 use Rattle.track9.specs.Working.Entries.{agreeing, all_entries, changed, no_entries, set_entries, some_entry, widened}
 use Rattle.track9.specs.Working.Pairs.{all_pairs, drifted, gone, joined, masked, no_pairs, some_pair}
@@ -51,8 +51,8 @@ settled p = if is_live p && some_entry p.ins && some_entry p.outs && some_entry 
 -- ---- what exchanges do
 
 -- a drift of the mechanics
-abbrev pub drifted_part : Part → Part
-drifted_part p = with_pairs (drifted p.pairs) p
+abbrev pub drifted_part : Option Deck → Part → Part
+drifted_part deck p = with_pairs (drifted deck p.pairs) p
 
 -- the deck is commanded to this mode, or leaves it where it may
 abbrev pub gone_pairs : Bool → Mode → List ModeSet → List ModeSet

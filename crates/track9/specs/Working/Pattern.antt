@@ -1,6 +1,6 @@
 -- Which states an effect may have led from: a pattern of fields, each fixed or free.
 use Rattle.std.specs.Prelude.{if◌then◌else◌, ◌==◌, ◌≡◌}
-use Rattle.track9.specs.Working.Deck.{Pattern, At, bit_of, Bool, Change, Clear, Command, Drift, Effect, Entry, entry_of, false, Hands, has, has_pair, is_mode, IsState, KeepsRest}
+use Rattle.track9.specs.Working.Deck.{Pattern, At, bit_of, Bool, Change, Clear, Command, Deck, Drift, Effect, Entry, entry_of, false, Hands, has, has_pair, is_mode, IsState, KeepsRest}
 use Rattle.track9.specs.Working.Deck.{List, may_ignore, Mode, modes, ModeSet, moved_entry, Next, next_frame, None, Option, option_map, Pair, PairReaches, Prev, prev_frame, Profile, Rate}
 use Rattle.track9.specs.Working.Deck.{Recall, RegAudioIn, RegAudioOut, RegIn, Register, RegOut, Reset, SetAt, SetSomewhere, Some, State, true}
 use Rattle.deck9.specs.declared.effect.Effect.TheVariants as effect
@@ -78,9 +78,13 @@ any_goal t = record (just_state t) { goals = modes 0x3FF }
 abbrev pub any_registers : Pattern → Pattern
 any_registers a = record a { ins = None; outs = None; ains = None; aouts = None }
 
+-- any goal and shown mode
+abbrev pub any_motion : Pattern → Pattern
+any_motion a = record a { goals = modes 0x3FF; shown = modes 0x3FF }
+
 -- any tape: goal, shown mode and registers
 abbrev pub any_tape : Pattern → Pattern
-any_tape a = record (any_registers a) { goals = modes 0x3FF; shown = modes 0x3FF }
+any_tape a = any_motion (any_registers a)
 
 -- the panel may have been anything, where hands are allowed
 abbrev pub any_panel : Hands → Pattern → Pattern
@@ -93,15 +97,16 @@ panel_before hands.None on t = Some (just_state t)
 panel_before hands.Allowed on t = if same_fact t.panel on then Some (record (just_state t) { panel = None }) else None
 
 -- the states that the effect leads to this one from
-abbrev pub pattern_before : Profile → Effect → State → Option Pattern
-pattern_before p effect.Nothing t = Some (just_state t)
-pattern_before p (effect.Go g) t = if is_mode t.goal g then Some (any_goal t) else None
-pattern_before p effect.KeepOrStop t = Some (if is_mode t.goal mode.Stop then any_goal t else just_state t)
-pattern_before p (effect.Change r c) t = option_map (λ o. with_wanted r o (just_state t)) (entry_before p.rate c (entry_of r t))
-pattern_before p (effect.Panel on) t = panel_before p.hands on t
-pattern_before p effect.ForgetTape t = Some (any_tape (just_state t))
-pattern_before p effect.ForgetRegisters t = Some (any_registers (just_state t))
-pattern_before p effect.ForgetAll t = Some (any_panel p.hands (record (any_tape (just_state t)) { local = None }))
+abbrev pub pattern_before : Rate → Hands → Effect → State → Option Pattern
+pattern_before rate h effect.Nothing t = Some (just_state t)
+pattern_before rate h (effect.Go g) t = if is_mode t.goal g then Some (any_goal t) else None
+pattern_before rate h effect.KeepOrStop t = Some (if is_mode t.goal mode.Stop then any_goal t else just_state t)
+pattern_before rate h (effect.Change r c) t = option_map (λ o. with_wanted r o (just_state t)) (entry_before rate c (entry_of r t))
+pattern_before rate h (effect.Panel on) t = panel_before h on t
+pattern_before rate h effect.ForgetMotion t = Some (any_motion (just_state t))
+pattern_before rate h effect.ForgetTape t = Some (any_tape (just_state t))
+pattern_before rate h effect.ForgetRegisters t = Some (any_registers (just_state t))
+pattern_before rate h effect.ForgetAll t = Some (any_panel h (record (any_tape (just_state t)) { local = None }))
 
 -- a deck in this state may have ignored the command
 abbrev pub IsUndone : Command → State → Type 0
@@ -114,16 +119,16 @@ abbrev pub LeadsTo : Profile → Pattern → State → Type 0
 LeadsTo p a s = (d : State) × Drift p s d × Fits a d
 
 -- a drift of the mechanics does
-abbrev pub RunsTo : Pattern → State → Type 0
-RunsTo a s = (d : State) × KeepsRest s d × PairReaches s.goal s.shown d.goal d.shown × Fits a d
+abbrev pub RunsTo : Option Deck → Pattern → State → Type 0
+RunsTo deck a s = (d : State) × KeepsRest s d × PairReaches deck s.goal s.shown d.goal d.shown × Fits a d
 
 -- a state of the day is wanted
 abbrev pub IsPattern : Rate → Pattern → Type 0
 IsPattern rate a = (d : State) × IsState rate d × Fits a d
 
 -- a pair from which a drift of the mechanics reaches one of these goals with one of these modes shown
-abbrev pub PairRunsTo : ModeSet → ModeSet → Mode → Mode → Type 0
-PairRunsTo goals shown f n = (g m : Mode) × (has goals.0 g ≡ true) × (has shown.0 m ≡ true) × PairReaches f n g m
+abbrev pub PairRunsTo : Option Deck → ModeSet → ModeSet → Mode → Mode → Type 0
+PairRunsTo deck goals shown f n = (g m : Mode) × (has goals.0 g ≡ true) × (has shown.0 m ≡ true) × PairReaches deck f n g m
 
 -- the pair is one of these
 abbrev pub IsPairOf : List ModeSet → Pair → Type 0

@@ -1,13 +1,14 @@
 -- How a set of states changes.
 use Rattle.std.specs.Prelude.{if◌then◌else◌, ◌+◌, ◌||◌, ◌≡◌, ◌≤◌, ◌⊎◌}
-use Rattle.track9.specs.Working.Deck.{AreReached, begin_count, BelowDay, Block, Bool, CanPass, Change, Command, count_of, Does, Drift, Effect, effect_of, entries_of, false, Hands}
+use Rattle.track9.specs.Working.Deck.{AreReached, begin_count, BelowDay, Block, Bool, CanPass, Change, Command, count_of, Deck, Does, Drift, Effect, effect_of, entries_of, false, Hands}
 use Rattle.track9.specs.Working.Deck.{in_local, InPart, is_nak, is_of_goal_or_register, Mode, None, Option, Part, Possible, Presets, Profile, Rate}
 use Rattle.track9.specs.Working.Deck.{presets_after, Register, SetAt, Some, State, States, Status, DeckStep, true, Halves, with_command, with_one, ℕ}
 use Rattle.deck9.specs.declared.effect.Effect.TheVariants as effect
 use Rattle.deck9.specs.declared.state.Hands.TheVariants as hands
 use Rattle.track9.specs.Frugal.{is_frugal, is_frugal_effect}
 use Rattle.track9.specs.Working.Entries.{agreeing}
-use Rattle.track9.specs.Working.Parts.{Whole, all_states, aside, changed_entries, changed_part, drifted_part, forgotten_part, gone_part, is_live, no_states, put_settled, rate_of, status_part, where_live}
+use Rattle.track9.specs.Working.Pairs.{all_pairs}
+use Rattle.track9.specs.Working.Parts.{Whole, all_states, aside, changed_entries, changed_part, drifted_part, forgotten_part, gone_part, is_live, no_states, put_settled, rate_of, status_part, where_live, with_pairs}
 
 -- ---- the states with one value of the panel
 
@@ -45,8 +46,8 @@ abbrev pub map_two : (Bool → Part → Part) → Halves → Halves
 map_two f h = record { remote = f false h.remote; local = f true h.local }
 
 -- a drift of the mechanics
-abbrev pub two_drifted : Halves → Halves
-two_drifted h = map_two (λ local. drifted_part) h
+abbrev pub two_drifted : Option Deck → Halves → Halves
+two_drifted deck h = map_two (λ local. drifted_part deck) h
 
 -- the deck is commanded to this mode, or leaves it where it may
 abbrev pub two_gone : Bool → Mode → Halves → Halves
@@ -69,6 +70,9 @@ abbrev pub two_status : Status → Halves → Halves
 two_status status h = map_two (λ local. where_live (status_part local status)) h
 
 -- what is forgotten
+abbrev pub motion_forgotten : Halves → Halves
+motion_forgotten h = map_two (λ local. where_live (with_pairs all_pairs)) h
+
 abbrev pub tape_forgotten : Halves → Halves
 tape_forgotten h = map_two (λ local. where_live (λ p. all_states (rate_of p))) h
 
@@ -78,13 +82,13 @@ registers_forgotten h = map_two (λ local. where_live forgotten_part) h
 abbrev pub all_forgotten : Halves → Halves
 all_forgotten h = if some_two h then all_or_none (rate_in h) true else h
 
--- a deck of a rate whose panel nobody touches
-abbrev pub untouched : Rate → Profile
-untouched rate = record { rate = rate; hands = hands.None }
+-- a deck of a rate, with what it does of its own, whose panel nobody touches
+abbrev pub untouched : Option Deck → Rate → Profile
+untouched deck rate = record { rate = rate; hands = hands.None; deck = deck }
 
 -- an effect where nobody touches the panel, or a deck in LOCAL that ignores it, or any where it may
-abbrev pub DoesOrNot : Rate → Bool → Effect → State → State → Type 0
-DoesOrNot rate may_stay e s t = Does (untouched rate) e s t ⊎ ((is_of_goal_or_register e ≡ true) × ((s.local || may_stay) ≡ true) × (t ≡ s))
+abbrev pub DoesOrNot : Option Deck → Rate → Bool → Effect → State → State → Type 0
+DoesOrNot deck rate may_stay e s t = Does (untouched deck rate) e s t ⊎ ((is_of_goal_or_register e ≡ true) × ((s.local || may_stay) ≡ true) × (t ≡ s))
 
 -- the counts after an effect
 abbrev pub counted : Effect → Presets → Presets
@@ -98,8 +102,8 @@ pub record LeadsOn (rate : Rate) (Goes : State → State → Type 0) (count : Pr
   pub few : (n : Presets) → TwoFew n h → TwoFew (count n) g
 
 -- the states after an effect
-abbrev pub HasEffect : Rate → Bool → Effect → Halves → Halves → Type 0
-HasEffect rate may_stay e h g = LeadsOn rate (DoesOrNot rate may_stay e) (counted e) h g
+abbrev pub HasEffect : Option Deck → Rate → Bool → Effect → Halves → Halves → Type 0
+HasEffect deck rate may_stay e h g = LeadsOn rate (DoesOrNot deck rate may_stay e) (counted e) h g
 
 -- a drift, and then a step
 abbrev pub DriftsAndGoes : (Profile → State → State → Type 0) → Profile → State → State → Type 0
@@ -116,18 +120,18 @@ counts_after command None n = with_command command n
 counts_after command (Some reply) n = presets_after command reply true n
 
 -- the effect that it may have: none where its reply is a NAK
-abbrev pub effect_taken : Command → Option Block → Effect
-effect_taken command None = effect_of command
-effect_taken command (Some reply) = if is_nak reply then effect.Nothing else effect_of command
+abbrev pub effect_taken : Option Deck → Command → Option Block → Effect
+effect_taken deck command None = effect_of deck command
+effect_taken deck command (Some reply) = if is_nak reply then effect.Nothing else effect_of deck command
 
 -- it takes no memory where hands are not allowed
-abbrev pub is_frugal_taken : Command → Option Block → Bool
-is_frugal_taken command None = is_frugal_effect (effect_of command)
-is_frugal_taken command (Some reply) = is_frugal command reply
+abbrev pub is_frugal_taken : Option Deck → Command → Option Block → Bool
+is_frugal_taken deck command None = is_frugal_effect (effect_of deck command)
+is_frugal_taken deck command (Some reply) = is_frugal deck command reply
 
 -- the states after it where nobody touches the panel
-abbrev pub Taken : Rate → Command → Option Block → Halves → Halves → Type 0
-Taken rate command reply h g = LeadsOn rate (DriftsAndGoes (StepOrPass command reply) (untouched rate)) (counts_after command reply) h g
+abbrev pub Taken : Option Deck → Rate → Command → Option Block → Halves → Halves → Type 0
+Taken deck rate command reply h g = LeadsOn rate (DriftsAndGoes (StepOrPass command reply) (untouched deck rate)) (counts_after command reply) h g
 
 -- ---- all states
 
@@ -139,18 +143,19 @@ hands_by (Some h) = hands.Allowed
 abbrev pub hands_of : States → Hands
 hands_of v = hands_by v.on
 
--- those with this value of the panel
 -- the rate whose times they have
 abbrev pub rate_for : States → Rate
 rate_for v = rate_in v.off
 
-abbrev pub profile_of : States → Profile
-profile_of v = record { rate = rate_for v; hands = hands_of v }
+abbrev pub profile_of : Option Deck → States → Profile
+profile_of deck v = record { rate = rate_for v; hands = hands_of v; deck = deck }
 
+-- those with the panel on
 abbrev pub on_two : Rate → Option Halves → Halves
 on_two rate None = all_or_none rate false
 on_two rate (Some h) = h
 
+-- those with this value of the panel
 abbrev pub two_of : States → Bool → Halves
 two_of v false = v.off
 two_of v true = on_two (rate_for v) v.on
@@ -184,8 +189,8 @@ abbrev pub first_on : Rate → Hands → Option Halves
 first_on rate hands.None = None
 first_on rate hands.Allowed = Some (all_or_none rate true)
 
-abbrev pub first_states : Profile → States
-first_states p = record { off = all_or_none p.rate true; on = first_on p.rate p.hands }
+abbrev pub first_states : Rate → Hands → States
+first_states rate h = record { off = all_or_none rate true; on = first_on rate h }
 
 -- an effect to which a hand on the panel makes a difference
 abbrev pub is_wide : Effect → Bool
@@ -194,25 +199,25 @@ is_wide effect.ForgetAll = true
 is_wide _ = false
 
 -- the states after a drift, put together whatever the panel: where it may have been on, a hand may have done anything
-abbrev pub either_panel : States → Halves
-either_panel v = if is_panel_live v then all_or_none (rate_for v) true else two_drifted v.off
+abbrev pub either_panel : Option Deck → States → Halves
+either_panel deck v = if is_panel_live v then all_or_none (rate_for v) true else two_drifted deck v.off
 
 -- the panel is switched on or off, after a drift
 abbrev pub switched : Rate → Bool → Halves → States
 switched rate true h = record { off = all_or_none rate false; on = Some h }
 switched rate false h = record { off = h; on = Some (all_or_none rate false) }
 
-abbrev pub after_panel : Bool → States → States
-after_panel on v = switched (rate_for v) on (either_panel v)
+abbrev pub after_panel : Option Deck → Bool → States → States
+after_panel deck on v = switched (rate_for v) on (either_panel deck v)
 
 -- the states after a drift
-abbrev pub all_drifted : States → States
-all_drifted v = record { off = two_drifted v.off; on = Some (all_or_none (rate_for v) (is_panel_live v)) }
+abbrev pub all_drifted : Option Deck → States → States
+all_drifted deck v = record { off = two_drifted deck v.off; on = Some (all_or_none (rate_for v) (is_panel_live v)) }
 
 -- the panel is switched on or off, after a drift, or stays: what it may be switched to has all states, and the rest is as it was
-abbrev pub panel_passed : Bool → States → States
-panel_passed true v = record (all_drifted v) { on = Some (either_panel v) }
-panel_passed false v = record (all_drifted v) { off = either_panel v }
+abbrev pub panel_passed : Option Deck → Bool → States → States
+panel_passed deck true v = record (all_drifted deck v) { on = Some (either_panel deck v) }
+panel_passed deck false v = record (all_drifted deck v) { off = either_panel deck v }
 
 -- what holds inside a tracker
 pub record IsKept (n : Presets) (v : States) : Type 0 where
@@ -222,7 +227,7 @@ pub record IsKept (n : Presets) (v : States) : Type 0 where
 -- the states after what leads from a state to others
 pub record AllLeadOn (p : Profile) (Goes : State → State → Type 0) (count : Presets → Presets) (v w : States) : Type 0 where
   pub reached : AreReached (Possible v) Goes (Possible w)
-  pub profile : profile_of w ≡ p
+  pub profile : profile_of p.deck w ≡ p
   pub whole : AreWhole p.rate w
   pub few : (n : Presets) → AreFew n v → AreFew (count n) w
 

@@ -8,6 +8,7 @@ ghost use Rattle.track9.specs.Frugal.{is_frugal, is_frugal_effect};
 ghost use Rattle.track9.specs.Working.States.{HasEffect, Taken, TwoWhole, is_frugal_taken, rate_in, some_two, two_drifted, two_sensed, two_status};
 
 use crate::halves::Halves;
+use crate::own::Own;
 use block9::{Block, Command};
 use deck9::{Effect, Mode, Register, Sense, Status};
 use sets25::TimeSet;
@@ -20,18 +21,19 @@ impl<S: TimeSet> Halves<S> {
     pub(crate) fn take(
         &mut self,
         alloc: Global,
+        own: &Own,
         command: &Command,
         reply: Option<&Block>,
     ) -> Result<bool, AllocError>
         requires { TwoWhole (rate_in self.old) self.old }
-        ensures ok { OnOk result (Taken (rate_in self.old) command.now (option_map (λ b. b.now) reply.entry) self.old self.new) }
+        ensures ok { OnOk result (Taken own.now (rate_in self.old) command.now (option_map (λ b. b.now) reply.entry) self.old self.new) }
         ensures some { IfOk result (λ b. b ≡ some_two self.new) }
         ensures err { OnErr result (self.new ≡ self.old) }
-        ensures frugal { IsTrue (is_frugal_taken command.now (option_map (λ b. b.now) reply.entry)) → IsOk result }
+        ensures frugal { IsTrue (is_frugal_taken own.now command.now (option_map (λ b. b.now) reply.entry)) → IsOk result }
     {
         match reply {
-            Some(reply) => self.exchange(alloc, command, reply),
-            None => self.pass(alloc, command),
+            Some(reply) => self.exchange(alloc, own, command, reply),
+            None => self.pass(alloc, own, command),
         }
     }
 
@@ -40,57 +42,64 @@ impl<S: TimeSet> Halves<S> {
     fn exchange(
         &mut self,
         alloc: Global,
+        own: &Own,
         command: &Command,
         reply: &Block,
     ) -> Result<bool, AllocError>
         requires { TwoWhole (rate_in self.old) self.old }
-        ensures ok { OnOk result (Taken (rate_in self.old) command.now (Some reply.now) self.old self.new) }
+        ensures ok { OnOk result (Taken own.now (rate_in self.old) command.now (Some reply.now) self.old self.new) }
         ensures some { IfOk result (λ b. b ≡ some_two self.new) }
         ensures err { OnErr result (self.new ≡ self.old) }
-        ensures frugal { IsTrue (is_frugal command.now reply.now) → IsOk result }
+        ensures frugal { IsTrue (is_frugal own.now command.now reply.now) → IsOk result }
     {
         if reply.is_nak() {
-            return Ok(self.drift());
+            return Ok(self.drift(own));
         }
         match Sense::of(command) {
-            Sense::Register(register) => self.read(alloc, register, reply),
-            Sense::Status(asked) => Ok(self.report(alloc, asked, reply)),
-            Sense::Nothing => self.apply(alloc, false, command),
+            Sense::Register(register) => self.read(alloc, own, register, reply),
+            Sense::Status(asked) => Ok(self.report(alloc, own, asked, reply)),
+            Sense::Nothing => self.apply(alloc, own, false, command),
         }
     }
 
     /// The states after a command whose reply is not known. It answers whether there is one.
-    fn pass(&mut self, alloc: Global, command: &Command) -> Result<bool, AllocError>
+    fn pass(&mut self, alloc: Global, own: &Own, command: &Command) -> Result<bool, AllocError>
         requires { TwoWhole (rate_in self.old) self.old }
-        ensures ok { OnOk result (Taken (rate_in self.old) command.now None self.old self.new) }
+        ensures ok { OnOk result (Taken own.now (rate_in self.old) command.now None self.old self.new) }
         ensures some { IfOk result (λ b. b ≡ some_two self.new) }
         ensures err { OnErr result (self.new ≡ self.old) }
-        ensures frugal { IsTrue (is_frugal_effect (effect_of command.now)) → IsOk result }
+        ensures frugal { IsTrue (is_frugal_effect (effect_of own.now command.now)) → IsOk result }
     {
         self.below_day();
-        self.apply(alloc, true, command)
+        self.apply(alloc, own, true, command)
     }
 
     /// The states after a register's time was read, and a drift. It answers whether there is one.
     #[inline(never)] // so that an exchange that takes no memory needs no room on the stack
-    fn read(&mut self, alloc: Global, register: Register, reply: &Block) -> Result<bool, AllocError>
+    fn read(
+        &mut self,
+        alloc: Global,
+        own: &Own,
+        register: Register,
+        reply: &Block,
+    ) -> Result<bool, AllocError>
         requires { TwoWhole (rate_in self.old) self.old }
-        ensures ok { OnOk result (self.new ≡ two_drifted (two_sensed register (time_of (rate_in self.old) reply.now.bytes.items) self.old)) }
+        ensures ok { OnOk result (self.new ≡ two_drifted own.now (two_sensed register (time_of (rate_in self.old) reply.now.bytes.items) self.old)) }
         ensures some { IfOk result (λ b. b ≡ some_two self.new) }
         ensures err { OnErr result (self.new ≡ self.old) }
     {
         let time = reply.time_at(self.rate());
         self.sense(alloc, register, &time)?;
-        Ok(self.drift())
+        Ok(self.drift(own))
     }
 
     /// The states after a drift that agree with a reply to STATUS SENSE. It answers whether there is one.
     #[inline(never)] // as above
-    fn report(&mut self, alloc: Global, asked: u8, reply: &Block) -> bool
-        ensures kept { self.new ≡ two_status (status_of asked reply.now) (two_drifted self.old) }
+    fn report(&mut self, alloc: Global, own: &Own, asked: u8, reply: &Block) -> bool
+        ensures kept { self.new ≡ two_status (status_of asked reply.now) (two_drifted own.now self.old) }
         ensures some { result ≡ some_two self.new }
     {
-        self.drift();
+        self.drift(own);
         self.keep_status(alloc, &Status::of(asked, reply));
         self.is_some()
     }
@@ -101,37 +110,39 @@ impl<S: TimeSet> Halves<S> {
     fn apply(
         &mut self,
         alloc: Global,
+        own: &Own,
         may_stay: bool,
         command: &Command,
     ) -> Result<bool, AllocError>
         requires { TwoWhole (rate_in self.old) self.old }
-        ensures ok { OnOk result (HasEffect (rate_in self.old) may_stay (effect_of command.now) (two_drifted self.old) self.new) }
+        ensures ok { OnOk result (HasEffect own.now (rate_in self.old) may_stay (effect_of own.now command.now) (two_drifted own.now self.old) self.new) }
         ensures some { IfOk result (λ b. b ≡ some_two self.new) }
         ensures err { OnErr result (self.new ≡ self.old) }
-        ensures frugal { IsTrue (is_frugal_effect (effect_of command.now)) → IsOk result }
+        ensures frugal { IsTrue (is_frugal_effect (effect_of own.now command.now)) → IsOk result }
     {
-        match Effect::of(command) {
-            Effect::Nothing => Ok(self.drift()),
-            Effect::Panel(_) => Ok(self.drift()),
-            Effect::Go(goal) => Ok(self.drift_and_go(may_stay, goal)),
-            Effect::KeepOrStop => Ok(self.drift_and_go(true, Mode::Stop)),
+        match own.effect(command) {
+            Effect::Nothing => Ok(self.drift(own)),
+            Effect::Panel(_) => Ok(self.drift(own)),
+            Effect::Go(goal) => Ok(self.drift_and_go(own, may_stay, goal)),
+            Effect::KeepOrStop => Ok(self.drift_and_go(own, true, Mode::Stop)),
             Effect::Change(register, change) => {
                 self.below_day();
                 self.change(alloc, may_stay, register, &change)?;
                 self.below_day();
-                Ok(self.drift())
+                Ok(self.drift(own))
             }
+            Effect::ForgetMotion => Ok(self.drift_and_forget_motion(own)),
             Effect::ForgetTape => {
                 self.forget_tape(alloc)?;
-                Ok(self.drift())
+                Ok(self.drift(own))
             }
             Effect::ForgetRegisters => {
                 self.forget_registers(alloc)?;
-                Ok(self.drift())
+                Ok(self.drift(own))
             }
             Effect::ForgetAll => {
                 self.forget_all(alloc)?;
-                Ok(self.drift())
+                Ok(self.drift(own))
             }
         }
     }

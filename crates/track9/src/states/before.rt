@@ -12,63 +12,70 @@ ghost use Rattle.track9.specs.Working.States.{AreWhole, InTwo, is_panel_live, tw
 ghost use Rattle.deck9.specs.declared.state.State.{State as AState};
 
 use crate::halves::Halves;
+use crate::own::Own;
 use crate::part::Part;
 use crate::pattern::{Pattern, is_wanted};
 use crate::states::States;
 use block9::{Block, Command};
-use deck9::{Effect, Register, State, may_ignore};
+use deck9::{Register, State, may_ignore};
 use sets25::TimeSet;
 
 impl<S: TimeSet> States<S> {
     /// A state from which the exchange leads to the target: None exactly where there is none. Takes no memory.
-    pub(crate) fn before(&self, command: &Command, reply: &Block, target: &State) -> Option<State>
+    pub(crate) fn before(
+        &self,
+        own: &Own,
+        command: &Command,
+        reply: &Block,
+        target: &State,
+    ) -> Option<State>
         requires { AreWhole (rate_for self.now) self.now }
-        ensures some { IfSome result (λ s. Possible self.now s × Exchanges (profile_of self.now) command.now reply.now s target.now) }
-        ensures none { IfNone result (¬ ((s : AState) × Possible self.now s × Exchanges (profile_of self.now) command.now reply.now s target.now)) }
+        ensures some { IfSome result (λ s. Possible self.now s × Exchanges (profile_of own.now self.now) command.now reply.now s target.now) }
+        ensures none { IfNone result (¬ ((s : AState) × Possible self.now s × Exchanges (profile_of own.now self.now) command.now reply.now s target.now)) }
     {
         self.below_day();
         if !target.is_of(self.rate()) {
             return None;
         }
         if reply.is_nak() {
-            return self.origin(&Pattern::just(target));
+            return self.origin(own, &Pattern::just(target));
         }
         if !target.shows(self.rate(), command, reply) {
             return None;
         }
-        if let Some(state) = self.undone_origin(command, target) {
+        if let Some(state) = self.undone_origin(own, command, target) {
             return Some(state);
         }
-        let effect = Effect::of(command);
-        let wanted = Pattern::before(self.profile(), &effect, target)?;
-        self.origin(&wanted)
+        let effect = own.effect(command);
+        let wanted = Pattern::before(self.rate(), self.hands(), &effect, target)?;
+        self.origin(own, &wanted)
     }
 
     /// A state from which a drift leads to the target, where a deck in LOCAL may ignore the command.
-    fn undone_origin(&self, command: &Command, target: &State) -> Option<State>
+    fn undone_origin(&self, own: &Own, command: &Command, target: &State) -> Option<State>
         requires whole { AreWhole (rate_for self.now) self.now }
         requires target { IsState (rate_for self.now) target.now }
-        ensures some { IfSome result (λ s. Possible self.now s × IsUndone command.now target.now × LeadsTo (profile_of self.now) (just_state target.now) s) }
-        ensures none { IfNone result (¬ ((s : AState) × Possible self.now s × IsUndone command.now target.now × LeadsTo (profile_of self.now) (just_state target.now) s)) }
+        ensures some { IfSome result (λ s. Possible self.now s × IsUndone command.now target.now × LeadsTo (profile_of own.now self.now) (just_state target.now) s) }
+        ensures none { IfNone result (¬ ((s : AState) × Possible self.now s × IsUndone command.now target.now × LeadsTo (profile_of own.now self.now) (just_state target.now) s)) }
     {
         let is_ignored = may_ignore(command);
         if !is_ignored || !target.local {
             return None;
         }
-        self.origin(&Pattern::just(target))
+        self.origin(own, &Pattern::just(target))
     }
 
     /// A state from which a drift leads to one of those that are wanted: None exactly where there is none.
-    fn origin(&self, wanted: &Pattern) -> Option<State>
+    fn origin(&self, own: &Own, wanted: &Pattern) -> Option<State>
         requires whole { AreWhole (rate_for self.now) self.now }
         requires wanted { IsPattern (rate_for self.now) wanted.now }
-        ensures some { IfSome result (λ s. Possible self.now s × LeadsTo (profile_of self.now) wanted.now s) }
-        ensures none { IfNone result (¬ ((s : AState) × Possible self.now s × LeadsTo (profile_of self.now) wanted.now s)) }
+        ensures some { IfSome result (λ s. Possible self.now s × LeadsTo (profile_of own.now self.now) wanted.now s) }
+        ensures none { IfNone result (¬ ((s : AState) × Possible self.now s × LeadsTo (profile_of own.now self.now) wanted.now s)) }
     {
         if let Some(state) = self.panel_origin(wanted) {
             return Some(state);
         }
-        self.off.origin(wanted)
+        self.off.origin(own, wanted)
     }
 
     /// Some state with the panel on, where one with the panel on is wanted: a hand makes any such state of it.
@@ -88,29 +95,29 @@ impl<S: TimeSet> States<S> {
 impl<S: TimeSet> Halves<S> {
     /// A state with the panel off from which a drift of the mechanics leads to one of those that are wanted: None exactly
     /// where there is none.
-    fn origin(&self, wanted: &Pattern) -> Option<State>
-        ensures some { IfSome result (λ s. InTwo false self.now s × RunsTo wanted.now s) }
-        ensures none { IfNone result (¬ ((s : AState) × InTwo false self.now s × RunsTo wanted.now s)) }
+    fn origin(&self, own: &Own, wanted: &Pattern) -> Option<State>
+        ensures some { IfSome result (λ s. InTwo false self.now s × RunsTo own.now wanted.now s) }
+        ensures none { IfNone result (¬ ((s : AState) × InTwo false self.now s × RunsTo own.now wanted.now s)) }
     {
-        if let Some(state) = origin_in(&self.remote, wanted, false) {
+        if let Some(state) = origin_in(&self.remote, own, wanted, false) {
             return Some(state);
         }
-        origin_in(&self.local, wanted, true)
+        origin_in(&self.local, own, wanted, true)
     }
 }
 
 /// A state of a part, with this value of local and the panel off, from which a drift of the mechanics leads to one of
 /// those that are wanted: None exactly where there is none.
-fn origin_in<S: TimeSet>(part: &Part<S>, wanted: &Pattern, local: bool) -> Option<State>
-    ensures some { IfSome result (λ s. HasState part.now local false s × RunsTo wanted.now s) }
-    ensures none { IfNone result (¬ ((s : AState) × HasState part.now local false s × RunsTo wanted.now s)) }
+fn origin_in<S: TimeSet>(part: &Part<S>, own: &Own, wanted: &Pattern, local: bool) -> Option<State>
+    ensures some { IfSome result (λ s. HasState part.now local false s × RunsTo own.now wanted.now s) }
+    ensures none { IfNone result (¬ ((s : AState) × HasState part.now local false s × RunsTo own.now wanted.now s)) }
 {
     let fits_local = is_wanted(wanted.local, local);
     let fits_panel = is_wanted(wanted.panel, false);
     if !fits_local || !fits_panel {
         return None;
     }
-    let pair = part.pairs().origin(wanted.goals, wanted.shown)?;
+    let pair = part.pairs().origin(own, wanted.goals, wanted.shown)?;
     Some(State {
         goal: pair.goal,
         shown: pair.shown,

@@ -1,17 +1,18 @@
 //! The tracker beside a deck of which each state stands in a list, on exchanges that are drawn.
 //!
-//! The listed deck's day has three frames, round midnight or noon, and it has two registers or none; the others are
-//! always Clear. The exchanges have those times and change those registers alone, and shift none that may be known to be
+//! The listed deck's day has three frames, round midnight or noon, and it has two registers, one or none; the others
+//! are always Clear. The exchanges have those times and change those registers alone, and shift none that may be known to be
 //! at the edge of the day. So both give the same answers: a register that may be Set at any time has the three.
 
 mod edges;
 mod listed;
+mod sheets;
 
 use super::drawn::{Draw, command, moved, reply};
-use super::plain_deck::Day;
+use super::plain_deck::{Day, NO_SHEET, Sheet};
 use super::{known, observe, same};
 use block9::{Block, Command};
-use deck9::{Hands, Knowledge, KnownEntry, Register};
+use deck9::{Hands, Knowledge, KnownEntry, Profile, Register};
 use edges::Edges;
 use listed::ListedDeck;
 use sets25::SpanSet;
@@ -23,31 +24,52 @@ use track9::Tracker;
 
 /// What is drawn, and the registers' places in the day that follow from it.
 #[derive(Drop)]
-struct Course {
+struct Course<'a> {
     draw: Draw,
-    hands: Hands,
+    profile: &'a Profile,
+    /// What the profile's deck does of its own, plainly.
+    sheet: Sheet<'a>,
+    /// How many exchanges are drawn at most.
+    turns: u32,
     times: [TimeCode; 3],
     registers: &'static [Register],
     edges: Edges,
 }
 
-impl Course {
-    fn new(hands: Hands, middle: u32, registers: &'static [Register], seed: u32) -> Course {
+impl<'a> Course<'a> {
+    /// Up to forty exchanges with a deck that does nothing of its own.
+    fn new(
+        profile: &'a Profile,
+        middle: u32,
+        registers: &'static [Register],
+        draw: Draw,
+    ) -> Course<'a> {
         let middle = TimeCode::from_frames(middle).unwrap_or_default();
         let times = [middle.prev(), middle, middle.next()];
         Course {
-            draw: Draw::new(seed),
-            hands,
+            draw,
+            profile,
+            sheet: NO_SHEET,
+            turns: 40,
             times,
             registers,
             edges: Edges::new(times),
         }
     }
 
+    /// A command of any kind. Where the deck's sheet names some, every third is not listed and may be named.
+    fn any_command(&mut self) -> Command {
+        if !self.sheet.named.is_empty() && self.draw.one_in(3) {
+            sheets::unlisted(&mut self.draw)
+        } else {
+            command(&mut self.draw, &self.times)
+        }
+    }
+
     /// A command that both decks can take.
     fn command(&mut self) -> Command {
         for _ in 0..100 {
-            let drawn = command(&mut self.draw, &self.times);
+            let drawn = self.any_command();
             if self.edges.allow(&drawn, self.registers) {
                 return drawn;
             }
@@ -62,7 +84,7 @@ impl Course {
             times: &self.times,
             is_round: true,
         };
-        let state = moved(&mut self.draw, &day, &state);
+        let state = moved(&mut self.draw, &day, &self.sheet, &state);
         reply(rt, &mut self.draw, &state, command, &self.times)
     }
 }
@@ -85,7 +107,7 @@ fn known_of(rt: &impl Abort, tracker: &Tracker<SpanSet>, registers: &[Register])
     knowledge
 }
 
-/// Both take an exchange and answer the same: whether a state remains, and what is known.
+/// Both take an exchange and answer the same: whether a state remains, which modes may be shown, and what is known.
 fn agree(
     rt: &impl Abort,
     deck: &mut ListedDeck,
@@ -99,6 +121,7 @@ fn agree(
     let listed = deck.knowledge();
     let answers = (tracker.remains(), listed.is_some());
     same(rt, answers, (remains, remains), (command, reply));
+    same(rt, tracker.shown(), deck.shown(), (command, reply));
     if let Some(listed) = listed {
         let tracked = known_of(rt, tracker, registers);
         same(rt, tracked, listed, (command, reply));
@@ -106,22 +129,22 @@ fn agree(
     Ok(remains)
 }
 
-/// Both take up to forty exchanges, until no state remains. Answers how many left one.
+/// Both take the exchanges of a course, until no state remains. Answers how many left one.
 fn agree_on(
     rt: &impl Abort,
     deck: &mut ListedDeck,
     tracker: &mut Tracker<SpanSet>,
     course: &mut Course,
 ) -> Result<u32, AllocError> {
-    for turn in 0..40 {
+    for turn in 0..course.turns {
         let command = course.command();
         let reply = course.reply(rt, deck, &command);
         if !agree(rt, deck, tracker, course.registers, &command, &reply)? {
             return Ok(turn);
         }
-        course.edges.follow(&command, &reply);
+        course.edges.follow(&course.sheet, &command, &reply);
     }
-    Ok(40)
+    Ok(course.turns)
 }
 
 fn agree_beside_list(
@@ -130,7 +153,7 @@ fn agree_beside_list(
     deck: &mut ListedDeck,
     course: &mut Course,
 ) -> Result<u32, AllocError> {
-    let mut tracker: Tracker<SpanSet> = Tracker::new(alloc, course.hands)?;
+    let mut tracker: Tracker<SpanSet> = Tracker::of(alloc, course.profile)?;
     let result = agree_on(rt, deck, &mut tracker, course);
     drop(tracker);
     result
@@ -141,7 +164,8 @@ fn agree_from_first(
     alloc: Global,
     course: &mut Course,
 ) -> Result<u32, AllocError> {
-    let mut deck = ListedDeck::new(alloc, course.hands, course.times, course.registers)?;
+    let hands = course.profile.hands;
+    let mut deck = ListedDeck::new(alloc, hands, course.sheet, course.times, course.registers)?;
     let result = agree_beside_list(rt, alloc, &mut deck, course);
     drop(deck);
     result
@@ -156,9 +180,10 @@ fn agree_on_courses(
     middle: u32,
     courses: u32,
 ) -> Result<(), AllocError> {
+    let profile = Profile::of(hands);
     let mut left = 0u32;
     for seed in 0..courses {
-        let mut course = Course::new(hands, middle, registers, seed);
+        let mut course = Course::new(&profile, middle, registers, Draw::new(seed));
         let turns = agree_from_first(rt, alloc, &mut course)?;
         left = left.saturating_add(turns);
     }

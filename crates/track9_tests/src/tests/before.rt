@@ -180,8 +180,8 @@ fn tell_rows_from_first<S: TimeSet>(rt: &impl Abort, alloc: Global) -> Result<()
 /// Takes an exchange, and keeps a snapshot of what was before it.
 fn keep<S: TimeSet>(
     rt: &impl Abort,
-    tracker: &mut Tracker<S>,
-    earlier: &mut Vec<Tracker<S>>,
+    tracker: &mut Tracker<'static, S>,
+    earlier: &mut Vec<Tracker<'static, S>>,
     sent: Sent,
 ) -> Result<(), AllocError> {
     earlier.push(tracker.snapshot()?)?;
@@ -204,8 +204,8 @@ fn follow_back<S: TimeSet>(
 
 fn go_back<S: TimeSet>(
     rt: &impl Abort,
-    tracker: &mut Tracker<S>,
-    earlier: &mut Vec<Tracker<S>>,
+    tracker: &mut Tracker<'static, S>,
+    earlier: &mut Vec<Tracker<'static, S>>,
     exchanges: &[Sent],
 ) -> Result<(), AllocError> {
     for sent in exchanges {
@@ -222,8 +222,8 @@ fn go_back_to_first<S: TimeSet>(
     hands: Hands,
     exchanges: &[Sent],
 ) -> Result<(), AllocError> {
-    let mut tracker: Tracker<S> = Tracker::new(alloc, hands)?;
-    let mut earlier = Vec::new(alloc);
+    let mut tracker: Tracker<'static, S> = Tracker::new(alloc, hands)?;
+    let mut earlier: Vec<Tracker<'static, S>> = Vec::new(alloc);
     let result = go_back(rt, &mut tracker, &mut earlier, exchanges);
     drop(tracker);
     drop(earlier);

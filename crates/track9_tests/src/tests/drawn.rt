@@ -1,7 +1,8 @@
 //! Exchanges that are drawn: commands of each kind, and replies that a deck in a given state may give.
 
-use super::plain_deck::{Day, PlainState, Small, WAYS, datum_of, done, sensed_by, time_of};
+use super::plain_deck::{Day, MODES, PlainState, Sheet, Small, datum_of, done, sensed_by, time_of};
 use block9::{Block, Command};
+use deck9::Mode;
 use std::process::Abort;
 use tc25::TimeCode;
 
@@ -39,6 +40,18 @@ impl Draw {
         let count = u32::try_from(times.len()).unwrap_or(0);
         let place = self.below(count) as usize;
         times.get(place).copied().unwrap_or_default()
+    }
+
+    /// Any mode.
+    pub(super) fn mode(&mut self) -> Mode {
+        let place = self.below(10) as usize;
+        MODES.get(place).copied().unwrap_or(Mode::Stop)
+    }
+
+    /// One of the ways in which the small steps of a deck can be done.
+    pub(super) fn way(&mut self, sheet: &Sheet) -> usize {
+        let most = u32::try_from(sheet.most_ways()).unwrap_or(1);
+        self.below(most) as usize
     }
 
     /// One of the commands.
@@ -110,13 +123,10 @@ const OTHERS: [Command; 37] = [
 
 /// A command that is not listed, mostly of a group of the protocol.
 fn unlisted(draw: &mut Draw) -> Command {
-    let group = draw.byte() % 16;
-    if draw.one_in(4) {
-        Command::Unlisted { group }
-    } else {
-        Command::Unlisted {
-            group: group & 0x06,
-        }
+    let drawn = u32::from(draw.byte() % 16);
+    let group = if draw.one_in(4) { drawn } else { drawn & 0x06 };
+    Command::Unlisted {
+        head: group * 0x10_00 + 0xFF,
     }
 }
 
@@ -140,11 +150,11 @@ pub(super) fn command(draw: &mut Draw, times: &[TimeCode]) -> Command {
 }
 
 /// The state after up to three moves that are drawn.
-pub(super) fn moved(draw: &mut Draw, day: &Day, state: &PlainState) -> PlainState {
+pub(super) fn moved(draw: &mut Draw, day: &Day, sheet: &Sheet, state: &PlainState) -> PlainState {
     let mut moved = *state;
     for _ in 0..3 {
-        let way = draw.below(WAYS as u32) as usize;
-        if let Some(after) = done(day, &moved, &Small::Move, way) {
+        let way = draw.way(sheet);
+        if let Some(after) = done(day, sheet, &moved, &Small::Move, way) {
             moved = after;
         }
     }

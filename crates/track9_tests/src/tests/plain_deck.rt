@@ -3,10 +3,12 @@
 
 mod commands;
 mod replies;
+mod sheet;
 
 pub(super) use commands::{FORGETTABLE, change_of, forgets, is_free_in_local, sensed_by, small_of};
 use deck9::{Change, Mode, Register};
 pub(super) use replies::{datum_of, shows};
+pub(super) use sheet::{NO_SHEET, Sheet};
 use tc25::TimeCode;
 
 pub(super) const MODES: [Mode; 10] = [
@@ -81,10 +83,10 @@ pub(super) enum Small {
     AnyPanel,
 }
 
-/// No small step can be done in more ways.
-pub(super) const WAYS: usize = 10;
+/// No small step of a deck that does nothing of its own can be done in more ways.
+const WAYS: usize = 10;
 
-/// The modes that may be shown on the way to a goal.
+/// The modes that every deck may show on the way to a goal.
 fn on_the_way<'a>(goal: Mode) -> &'a [Mode] {
     match goal {
         Mode::Rec => &[Mode::Stop, Mode::Play],
@@ -101,21 +103,36 @@ fn on_the_way<'a>(goal: Mode) -> &'a [Mode] {
     }
 }
 
+/// The mode at a place, counted from 0, of those that may be shown on the way to a goal: those of every deck, and then this one's.
+fn way_at(sheet: &Sheet, goal: Mode, place: usize) -> Option<Mode> {
+    let modes = on_the_way(goal);
+    match place.checked_sub(modes.len()) {
+        Some(further) => sheet.way_at(goal, further),
+        None => modes.get(place).copied(),
+    }
+}
+
+/// How many modes may be shown on the way to a goal.
+fn count_ways(sheet: &Sheet, goal: Mode) -> usize {
+    on_the_way(goal)
+        .len()
+        .saturating_add(sheet.count_ways(goal))
+}
+
 /// The state after a move of the mechanics: one to the goal, one to each mode on the way, and one to STOP.
-fn moved(state: &PlainState, way: usize) -> Option<PlainState> {
+fn moved(sheet: &Sheet, state: &PlainState, way: usize) -> Option<PlainState> {
     let mut after = *state;
     let Some(place) = way.checked_sub(1) else {
         after.shown = state.goal;
         return Some(after);
     };
-    let modes = on_the_way(state.goal);
-    if let Some(mode) = modes.get(place) {
-        after.shown = *mode;
+    if let Some(mode) = way_at(sheet, state.goal, place) {
+        after.shown = mode;
         return Some(after);
     }
     after.goal = Mode::Stop;
     after.shown = Mode::Stop;
-    if place == modes.len() && state.shown == state.goal {
+    if place == count_ways(sheet, state.goal) && state.shown == state.goal {
         Some(after)
     } else {
         None
@@ -158,10 +175,16 @@ fn changed(
 }
 
 /// The state after a small step that is done in one of its ways, counted from 0, if it has that many.
-pub(super) fn done(day: &Day, state: &PlainState, small: &Small, way: usize) -> Option<PlainState> {
+pub(super) fn done(
+    day: &Day,
+    sheet: &Sheet,
+    state: &PlainState,
+    small: &Small,
+    way: usize,
+) -> Option<PlainState> {
     let mut after = *state;
     match (*small, way) {
-        (Small::Move, _) => return moved(state, way),
+        (Small::Move, _) => return moved(sheet, state, way),
         (Small::Nothing, 0) | (Small::GoOrKeep(_), 0) => {}
         (Small::Go(goal), 0) | (Small::GoOrKeep(goal), 1) => after.goal = goal,
         (Small::Change(register, change), _) => {

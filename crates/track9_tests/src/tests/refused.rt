@@ -69,7 +69,7 @@ fn take<S: Counted>(
 }
 
 /// A tracker, at the second try where memory is refused at the first.
-fn tracker<S: Counted>(alloc: Global, hands: Hands) -> Result<Tracker<S>, AllocError> {
+fn tracker<'a, S: Counted>(alloc: Global, hands: Hands) -> Result<Tracker<'a, S>, AllocError> {
     match Tracker::new(alloc, hands) {
         Ok(tracker) => Ok(tracker),
         Err(_) => Tracker::new(alloc, hands),

@@ -2,12 +2,12 @@
 
 use super::drawn::{Draw, command, moved, reply};
 use super::plain_deck::{
-    Day, FORGETTABLE, MODES, PlainState, REGISTERS, Small, WAYS, done, forgets, is_free_in_local,
+    Day, FORGETTABLE, NO_SHEET, PlainState, REGISTERS, Small, done, forgets, is_free_in_local,
     small_of,
 };
 use super::{known, observe, same};
 use block9::{Block, Command, NakBits};
-use deck9::{Hands, Mode};
+use deck9::Hands;
 use sets25::{ListSet, SpanSet};
 use std::alloc::{AllocError, Global};
 use std::process::Abort;
@@ -30,11 +30,6 @@ struct Run {
     state: PlainState,
 }
 
-fn drawn_mode(draw: &mut Draw) -> Mode {
-    let place = draw.below(10) as usize;
-    MODES.get(place).copied().unwrap_or(Mode::Stop)
-}
-
 /// Any state, with the panel on where it says so.
 fn drawn_state(draw: &mut Draw, times: &[TimeCode], panel: bool) -> PlainState {
     let mut held = [None; 4];
@@ -43,8 +38,8 @@ fn drawn_state(draw: &mut Draw, times: &[TimeCode], panel: bool) -> PlainState {
         *time = if draw.one_in(3) { None } else { Some(drawn) };
     }
     PlainState {
-        goal: drawn_mode(draw),
-        shown: drawn_mode(draw),
+        goal: draw.mode(),
+        shown: draw.mode(),
         times: held,
         local: draw.one_in(2),
         panel,
@@ -75,7 +70,7 @@ impl Run {
             times: &self.times,
             is_round: false,
         };
-        self.state = moved(&mut self.draw, &day, &self.state);
+        self.state = moved(&mut self.draw, &day, &NO_SHEET, &self.state);
         let reply = reply(rt, &mut self.draw, &self.state, &command, &self.times);
         (command, reply)
     }
@@ -86,10 +81,10 @@ impl Run {
             times: &self.times,
             is_round: false,
         };
-        let way = self.draw.below(WAYS as u32) as usize;
-        let after = match done(&day, &self.state, small, way) {
+        let way = self.draw.way(&NO_SHEET);
+        let after = match done(&day, &NO_SHEET, &self.state, small, way) {
             Some(after) => Some(after),
-            None => done(&day, &self.state, small, 0),
+            None => done(&day, &NO_SHEET, &self.state, small, 0),
         };
         if let Some(after) = after {
             self.state = after;
@@ -105,7 +100,7 @@ impl Run {
     /// Forgets what the command makes it forget.
     fn forget(&mut self, command: &Command) {
         for small in FORGETTABLE.iter() {
-            if forgets(command, self.hands, small) {
+            if forgets(&NO_SHEET, command, self.hands, small) {
                 self.step(small);
             }
         }

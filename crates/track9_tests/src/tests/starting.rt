@@ -1,7 +1,7 @@
 //! Trackers of a deck of which some fields are known: just these are known of it, whichever they are.
 
 use super::{known, same};
-use deck9::{Entry, Knowledge, Known, KnownEntry, Mode};
+use deck9::{Entry, Hands, Knowledge, Known, KnownEntry, Mode, Profile};
 use sets25::{ListSet, SpanSet, TimeSet};
 use std::alloc::{AllocError, Global};
 use std::process::Abort;
@@ -78,7 +78,8 @@ fn agree<S: TimeSet>(
     rate: Rate,
     start: &Start,
 ) -> Result<(), AllocError> {
-    let tracker: Tracker<S> = Tracker::starting(alloc, rate, start)?;
+    let profile = Profile::at(rate, Hands::None);
+    let tracker: Tracker<S> = Tracker::starting(alloc, &profile, start)?;
     let known = known(rt, &tracker);
     drop(tracker);
     same(rt, known, expected(start), start);

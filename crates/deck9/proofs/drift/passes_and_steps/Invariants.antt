@@ -1,6 +1,6 @@
-use Rattle.deck9.proofs.Words.{drop, PassesOne, ◌↔◌}
+use Rattle.deck9.proofs.Words.{index_of, Mode, PassesTo, ◌<◌}
 use Rattle.deck9.proofs.drift.passes_and_steps.Given as goal
 
--- what the modes so far say nothing of, those that are left say
+-- no mode so far leads on
 abbrev pub invariant-loop-mode : goal.invariant-loop-mode
-invariant-loop-mode l = PassesOne l.profile l.exchange l.before l.after l.modes ↔ PassesOne l.profile l.exchange l.before l.after (drop l.mode-index l.modes)
+invariant-loop-mode l = (m : Mode) → index_of m < l.mode-index → PassesTo l.profile l.exchange l.before l.after m → ⊥

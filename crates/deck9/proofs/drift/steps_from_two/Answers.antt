@@ -8,7 +8,7 @@ pub returns-then-steps_from_same : goal.returns-then-steps_from_same
 returns-then-steps_from_same c = (
   λ is. (
     c.with_panel-same.result,
-    rw c.with_panel-same.ensures (same_valid c.args.profile.rate c.args.after.now c.args.panel c.requires),
+    rw c.with_panel-same.ensures (same_valid c.args.profile.now.rate c.args.after.now c.args.panel c.requires),
     ap (λ (v : State). v.panel) c.with_panel-same.ensures,
     c.steps-steps_from_same.ensures.0 is,
   ),
@@ -17,8 +17,8 @@ returns-then-steps_from_same c = (
 
 pub returns-else-steps_from_same : goal.returns-else-steps_from_same
 returns-else-steps_from_same c =
-    let same = same_valid c.args.profile.rate c.args.after.now c.args.panel c.requires in
-    let states = two_states c.args.profile c.args.exchange.now c.args.panel c.args.after.now c.of.result c.with_panel-same.result c.before_shift-back.result
-    c.of.ensures c.with_panel-same.ensures c.before_shift-back.ensures (rw c.with_panel-same.ensures same)
-    (rw (c.before_shift-back.ensures, c.with_panel-same.ensures) (back_valid c.args.profile.rate c.of.result _ same)) in
+    let same = same_valid c.args.profile.now.rate c.args.after.now c.args.panel c.requires in
+    let states = two_states c.args.profile.now c.args.exchange.now c.args.panel c.args.after.now c.effect.result c.with_panel-same.result c.before_shift-back.result
+    c.effect.ensures c.with_panel-same.ensures c.before_shift-back.ensures (rw c.with_panel-same.ensures same)
+    (rw (c.before_shift-back.ensures, c.with_panel-same.ensures) (back_valid c.args.profile.now.rate c.effect.result _ same)) in
     grind (arith, states)

@@ -3,11 +3,11 @@ use Rattle.judge9.proofs.WayBackSteps.{keeps_ends}
 use Rattle.judge9.proofs.could_show.shown_after.Goals as goal
 
 pub knowledge-requires : goal.knowledge-requires
-knowledge-requires c = c.in_ok-drift.ensures.remains.0 (show.before_last c.args.profile c.args.exchanges.now c.follow.new.tracker c.requires.breaks
-    (keeps_ends c.args.profile c.args.tracker.now _ c.follow.new.tracker c.requires.states c.requires.profile c.in_ok-follow.ensures))
+knowledge-requires c = c.in_ok-drift.ensures.remains.0 (show.before_last c.args.profile.now c.args.exchanges.now c.follow.new.tracker c.requires.breaks
+    (keeps_ends c.args.profile.now c.args.tracker.now _ c.follow.new.tracker c.requires.states c.requires.profile c.in_ok-follow.ensures))
 
 pub returns : goal.returns
 returns c =
-    show.could_show c.args.profile c.args.exchanges.now c.follow.new.tracker c.drift.new.self c.knowledge.result c.shown.result c.requires.breaks
-    (keeps_ends c.args.profile c.args.tracker.now _ c.follow.new.tracker c.requires.states c.requires.profile c.in_ok-follow.ensures)
+    show.could_show c.args.profile.now c.args.exchanges.now c.follow.new.tracker c.drift.new.self c.knowledge.result c.shown.result c.requires.breaks
+    (keeps_ends c.args.profile.now c.args.tracker.now _ c.follow.new.tracker c.requires.states c.requires.profile c.in_ok-follow.ensures)
     c.in_ok-drift.ensures.reached c.knowledge.ensures c.shown.ensures.ten c.shown.ensures.modes

@@ -1,8 +1,10 @@
+use Rattle.deck9.proofs.LawLemmas.{run_with_hands}
+use Rattle.deck9.specs.declared.state.Hands.TheVariants as hands
 use Rattle.judge9.proofs.laws.hands_judge_no_harder.Goals as goal
-use Rattle.judge9.proofs.LawLemmas.{no_with_hands, yes_with_hands}
+use Rattle.judge9.proofs.LawLemmas.{no_with_more, yes_with_more}
 
 pub returns-clause-yes : goal.returns-clause-yes
-returns-clause-yes c = yes_with_hands
+returns-clause-yes c = λ rate deck rows records exchanges tail. yes_with_more rate hands.None hands.Allowed deck deck rows records exchanges tail (run_with_hands rate deck)
 
 pub returns-clause-no : goal.returns-clause-no
-returns-clause-no c = no_with_hands
+returns-clause-no c = λ rate deck rows at other reason another. no_with_more rate hands.None hands.Allowed deck deck rows at other reason another (run_with_hands rate deck)

@@ -1,7 +1,6 @@
 use Rattle.judge9.proofs.Words.{[], arith, Err, exchanges_of, length_push, None, Ok, Reason, refl, ◌++◌, ◌∙◌, ◌∷◌}
 use Rattle.judge9.proofs.parts_judging.judge_rows.Goals as goal
-use Rattle.judge9.proofs.LawLemmas.{pairing_reason}
-use Rattle.judge9.proofs.PartEnds.{all_exchanges, at_break, at_exchange, at_no_run, at_start, at_the_end, at_unexplained, at_unkept, break_memory, break_rate, break_read, count_more}
+use Rattle.judge9.proofs.PartEnds.{all_exchanges, at_exchange, at_start, at_the_end, at_unexplained, at_unkept, break_memory, break_rate, break_read, count_more}
 use Rattle.judge9.proofs.PartEnds.{end_fits, exchange_fits, less-end, loses_its_runs, no_run_memory, no_run_rate, no_run_read, told_break, told_no_run}
 use Rattle.judge9.proofs.PartMeasure.{less-come}
 use Rattle.judge9.proofs.TurnSteps.{handed}
@@ -126,13 +125,13 @@ rows-preserved-in_ok-turn-in-NoRun g c =
       exchanges = rw all so_far.exchanges;
       in_exchanges = rw all so_far.in_exchanges;
       kept = λ _. rw c.replace-part.ensures.after (c.new.ensures.exchanges, c.new.ensures.end);
-      bound = omega (arith, bound, less-end _ c.args.profile Reason.NoRun c.in-NoRun.last c.rows.judging c.end_part.new.judging _ _ turn (no_run_read at) ends);
+      bound = omega (arith, bound, less-end _ c.args.profile.now Reason.NoRun c.in-NoRun.last c.rows.judging c.end_part.new.judging _ _ turn (no_run_read at) ends);
     }
 
 pub rows-smaller-in_ok-turn-in-NoRun : goal.rows-smaller-in_ok-turn-in-NoRun
 rows-smaller-in_ok-turn-in-NoRun g c =
     let read = no_run_read (rw c.in-NoRun.is at c.rows.invariant.at_turn) in
-    let less = less-end _ c.args.profile Reason.NoRun c.in-NoRun.last c.rows.judging c.end_part.new.judging _ _ c.in_ok-turn-in-NoRun.turn read
+    let less = less-end _ c.args.profile.now Reason.NoRun c.in-NoRun.last c.rows.judging c.end_part.new.judging _ _ c.in_ok-turn-in-NoRun.turn read
     c.in_ok-turn-in-NoRun.ensures in
     rw c.in-NoRun.is (omega (arith, less))
 
@@ -178,7 +177,7 @@ rows-preserved g c =
       bound = omega (
         arith,
         bound,
-        less-end _ c.args.profile c.in-Break.reason c.in-Break.last c.rows.judging c.end_part-in-Break.new.judging _ _ turn
+        less-end _ c.args.profile.now c.in-Break.reason c.in-Break.last c.rows.judging c.end_part-in-Break.new.judging _ _ turn
             (break_read at) ends,
       );
     }
@@ -186,7 +185,7 @@ rows-preserved g c =
 pub rows-smaller : goal.rows-smaller
 rows-smaller g c =
     let read = break_read (rw c.in-Break.is at c.rows.invariant.at_turn) in
-    let less = less-end _ c.args.profile c.in-Break.reason c.in-Break.last c.rows.judging c.end_part-in-Break.new.judging _ _ c.in_ok-turn-in-Break.turn read
+    let less = less-end _ c.args.profile.now c.in-Break.reason c.in-Break.last c.rows.judging c.end_part-in-Break.new.judging _ _ c.in_ok-turn-in-Break.turn read
     c.in_ok-turn-in-Break.ensures in
     rw c.in-Break.is less
 

@@ -1,4 +1,3 @@
-use Rattle.judge9.proofs.Words.{IsBreakText, sym, ◌∙◌}
 use Rattle.judge9.proofs.parts_judging.put_break.Goals as goal
 
 pub returns-in_ok-put_why_for-in-Why-NoRun-clause-ok : goal.returns-in_ok-put_why_for-in-Why-NoRun-clause-ok
@@ -14,6 +13,6 @@ pub returns-in_ok-put_why_for-in-Why-default : goal.returns-in_ok-put_why_for-in
 returns-in_ok-put_why_for-in-Why-default g c =
     let text = rw c.clear.ensures.items at c.in_ok-put_why_for-in-Why-default.ensures in
     rw c.in-Why-default.is-0 (record {
-      ok = (c.in_ok-why-in-Why-default.why, rw c.given-at.ensures at (c.in_ok-why-in-Why-default.ensures.ok c.args.profile c.requires.rate), text);
+      ok = (c.in_ok-why-in-Why-default.why, rw c.given-at.ensures at (c.in_ok-why-in-Why-default.ensures.ok c.args.profile.now c.requires.rate), text);
       err = tt;
     })

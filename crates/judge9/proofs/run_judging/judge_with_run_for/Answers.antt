@@ -4,7 +4,7 @@ use Rattle.judge9.proofs.run_judging.judge_with_run_for.Goals as goal
 use Rattle.judge9.proofs.TellLemmas.{answer_of_text, stopped_of_text, told-nothing}
 
 pub returns-in_default-clause-run : goal.returns-in_default-clause-run
-returns-in_default-clause-run g c = let told = told-nothing View.Verdict c.args.profile _ None in
+returns-in_default-clause-run g c = let told = told-nothing View.Verdict c.args.profile.now _ None in
     record { rows = told.rows; is_known = told.is_known; of_a_text = told.of_a_text; answer = tt; run = tt }
 
 pub returns : goal.returns

@@ -8,5 +8,5 @@ returns-in_default-clause-told g c = told-nothing _ _ _ _
 pub returns : goal.returns
 returns g c =
     let judges = rw c.in-Ok.ensures.rows at c.judge_rows-verdict.ensures in
-    let stopped = of_text _ (λ rows. IfErr c.judge_rows-verdict.result (StoppedBefore c.args.profile rows)) judges.stopped in
+    let stopped = of_text _ (λ rows. IfErr c.judge_rows-verdict.result (StoppedBefore c.args.profile.now rows)) judges.stopped in
     record { answer = answer_of_text _ judges; told = judges.told; stopped = stopped; kind = judges.is_kind; can_be = judges.can_be }

@@ -1,4 +1,4 @@
-use Rattle.judge9.proofs.Words.{AreMarks, ap, arith, drop, FollowsFrom, GoesBack, LeadsFrom, length, subst, take, ◌+◌, ◌-◌, ◌≡◌}
+use Rattle.judge9.proofs.Words.{AreMarks, ap, arith, drop, FollowsFrom, GoesBack, last_mark, LeadsFrom, length, subst, take, tracked_by, ◌+◌, ◌-◌, ◌≡◌}
 use Rattle.judge9.proofs.way_back.go_back_to.Goals as goal
 use Rattle.judge9.proofs.WayBackSteps.{back-more, back-start, nearest_follows, no_marks, step_from, unmarked}
 
@@ -18,21 +18,21 @@ lead_up-requires c =
       marks = subst (λ n. AreMarks c.args.first.now c.args.exchanges.now n c.loop-at.marks.items) one c.loop-at.invariant.marks;
     }
 
-pub step_back-requires : goal.step_back-requires
-step_back-requires c =
+pub step_back_to_nearest-requires : goal.step_back_to_nearest-requires
+step_back_to_nearest-requires c =
     let one : c.loop-at.at ≡ c.loop-at.at - 1 + 1 = omega (arith, c.loop-at-test.true) in
     let within = c.loop-at.invariant.within in
-    let follows : FollowsFrom c.args.first.now (take (c.loop-at.at - 1) c.args.exchanges.now) c.nearest.result.1.now =
-    rw (c.nearest.ensures.tracker, c.deref.ensures.value) (rw c.in_ok-lead_up.ensures.nearest at (nearest_follows c.in_ok-lead_up.ensures.marks)) in
-    step_from c.args.exchanges.now (c.loop-at.at - 1) c.index-exchanges-at.result (omega (arith, c.loop-at-test.true)) c.index-exchanges-at.is follows
-    c.loop-at.state (subst (λ n. LeadsFrom c.args.first.now (take n c.args.exchanges.now) c.loop-at.state) one c.loop-at.invariant.back.from)
+    let follows : FollowsFrom c.args.first.now (take (c.loop-at.at - 1) c.args.exchanges.now) (tracked_by c.args.first.now (last_mark c.deref.result.now)) =
+    rw c.deref.ensures.value (rw c.in_ok-lead_up.ensures.nearest at (nearest_follows c.in_ok-lead_up.ensures.marks)) in
+    let w = step_from c.args.exchanges.now (c.loop-at.at - 1) c.index-exchanges-at.result (omega (arith, c.loop-at-test.true)) c.index-exchanges-at.is follows
+    c.loop-at.state (subst (λ n. LeadsFrom c.args.first.now (take n c.args.exchanges.now) c.loop-at.state) one c.loop-at.invariant.back.from) in (w.0, (w.1, w.2))
 
 pub loop-at-preserved : goal.loop-at-preserved
 loop-at-preserved c =
     let one : c.loop-at.at ≡ c.loop-at.at - 1 + 1 = omega (arith, c.loop-at-test.true) in
     let within = c.loop-at.invariant.within in
-    let follows : FollowsFrom c.args.first.now (take (c.loop-at.at - 1) c.args.exchanges.now) c.nearest.result.1.now =
-    rw (c.nearest.ensures.tracker, c.deref.ensures.value) (rw c.in_ok-lead_up.ensures.nearest at (nearest_follows c.in_ok-lead_up.ensures.marks)) in
+    let follows : FollowsFrom c.args.first.now (take (c.loop-at.at - 1) c.args.exchanges.now) (tracked_by c.args.first.now (last_mark c.deref.result.now)) =
+    rw c.deref.ensures.value (rw c.in_ok-lead_up.ensures.nearest at (nearest_follows c.in_ok-lead_up.ensures.marks)) in
     let back = subst (λ n. GoesBack c.args.first.now.profile (LeadsFrom c.args.first.now (take n c.args.exchanges.now)) (drop n c.args.exchanges.now) c.args.end
     c.args.states.now.items c.loop-at.states.items c.loop-at.state) one c.loop-at.invariant.back in
     record {

@@ -4,7 +4,7 @@ use Rattle.judge9.proofs.why_judging.judge_with_contradiction_for.Goals as goal
 use Rattle.judge9.proofs.TellLemmas.{answer_of_text, stopped_of_text, told-nothing}
 
 pub returns-in_default-clause-why : goal.returns-in_default-clause-why
-returns-in_default-clause-why g c = let told = told-nothing View.Verdict c.args.profile _ None in
+returns-in_default-clause-why g c = let told = told-nothing View.Verdict c.args.profile.now _ None in
     record { rows = told.rows; is_known = told.is_known; of_a_text = told.of_a_text; answer = tt; why = tt }
 
 pub returns : goal.returns

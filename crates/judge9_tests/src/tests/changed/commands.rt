@@ -111,9 +111,9 @@ fn deed_to_audio_out(command: &Command) -> Option<Deed> {
 }
 
 /// The group of a command that is not listed and was taken: it makes the deck forget.
-fn forgetting(exchange: &Exchange) -> Option<u8> {
+fn forgetting(exchange: &Exchange) -> Option<u32> {
     match &exchange.command {
-        Command::Unlisted { group } if !is_refused(exchange) => Some(*group),
+        Command::Unlisted { head } if !is_refused(exchange) => Some(*head / 0x10_00),
         _ => None,
     }
 }

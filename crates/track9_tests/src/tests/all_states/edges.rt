@@ -1,8 +1,8 @@
 //! Where in a day of three frames the registers may be, so that no shift leaves it.
 
-use crate::tests::plain_deck::{change_of, sensed_by};
+use crate::tests::plain_deck::{Sheet, Small, change_of, forgets, sensed_by};
 use block9::{Block, Command, NakBits};
-use deck9::{Change, Register};
+use deck9::{Change, Hands, Register};
 use tc25::TimeCode;
 
 /// The first and the last place of the times at which a register may be Set, where these are not all times.
@@ -78,7 +78,7 @@ impl Edges {
     }
 
     /// Follows an exchange.
-    pub(super) fn follow(&mut self, command: &Command, reply: &Block) {
+    pub(super) fn follow(&mut self, sheet: &Sheet, command: &Command, reply: &Block) {
         if NakBits::of(reply).is_some() {
             return;
         }
@@ -89,7 +89,9 @@ impl Edges {
             let place = reply.time().map(|time| self.place(time));
             self.put(register, place.map(|place| (place, place)));
         }
-        if matches!(command, Command::Unlisted { group } if *group != 6) {
+        let anything = Small::Change(Register::RegIn, Change::Recall);
+        // What is forgotten of one register is forgotten of all, whether or not hands are allowed.
+        if forgets(sheet, command, Hands::None, &anything) {
             self.places = [None; 4];
         }
     }

@@ -2,18 +2,19 @@
 
 use crate::tests::drawn::Draw;
 use crate::tests::plain_deck::{
-    Day, FORGETTABLE, MODES, PlainState, Small, WAYS, done, forgets, is_free_in_local, shows,
+    Day, FORGETTABLE, MODES, PlainState, Sheet, Small, done, forgets, is_free_in_local, shows,
     small_of, time_of,
 };
 use block9::{Block, Command, NakBits};
-use deck9::{Hands, Knowledge, Known, KnownEntry, Register};
+use deck9::{Hands, Knowledge, Known, KnownEntry, ModeSet, Register};
 use std::alloc::{AllocError, Global};
 use std::mem;
 use tc25::TimeCode;
 
 /// Every state of a deck with these registers whose day has three frames, and which of them are possible.
 #[derive(Drop)]
-pub(super) struct ListedDeck {
+pub(super) struct ListedDeck<'a> {
+    sheet: Sheet<'a>,
     times: [TimeCode; 3],
     registers: &'static [Register],
     hands: Hands,
@@ -169,17 +170,19 @@ fn joined_state(before: &Knowledge, state: &PlainState) -> Knowledge {
     }
 }
 
-impl ListedDeck {
+impl<'a> ListedDeck<'a> {
     /// Every state is possible, but for the panel where nobody touches it.
     pub(super) fn new(
         alloc: Global,
         hands: Hands,
+        sheet: Sheet<'a>,
         times: [TimeCode; 3],
         registers: &'static [Register],
-    ) -> Result<ListedDeck, AllocError> {
+    ) -> Result<ListedDeck<'a>, AllocError> {
         let states = every_state(alloc, &times, registers)?;
         let possible = first_possible(alloc, hands, states.as_slice())?;
         Ok(ListedDeck {
+            sheet,
             times,
             registers,
             hands,
@@ -239,8 +242,8 @@ impl ListedDeck {
             times: &self.times,
             is_round: true,
         };
-        for way in 0..WAYS {
-            let Some(next) = done(&day, state, small, way) else {
+        for way in 0..self.sheet.most_ways() {
+            let Some(next) = done(&day, &self.sheet, state, small, way) else {
                 return Ok(());
             };
             if put(after, place_of(&self.times, self.registers, &next)) {
@@ -305,7 +308,7 @@ impl ListedDeck {
                 Small::Change(register, _) => self.registers.contains(register),
                 _ => true,
             };
-            if is_had && forgets(command, self.hands, small) {
+            if is_had && forgets(&self.sheet, command, self.hands, small) {
                 self.step(small, false)?;
             }
         }
@@ -324,6 +327,17 @@ impl ListedDeck {
             self.step(&small, is_free_in_local(command))?;
         }
         self.forget(command)
+    }
+
+    /// The modes that some possible state shows.
+    pub(super) fn shown(&self) -> ModeSet {
+        let mut shown = ModeSet::NONE;
+        for place in 0..self.states.len() {
+            if let Some(state) = self.possible_at(place) {
+                shown = shown.or(ModeSet::just(state.shown));
+            }
+        }
+        shown
     }
 
     /// What all possible states agree on, if there is one.

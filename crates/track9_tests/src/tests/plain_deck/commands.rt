@@ -1,8 +1,8 @@
 //! What each command does to a deck, in small steps.
 
-use super::Small;
+use super::{Sheet, Small};
 use block9::Command;
-use deck9::{Change, Hands, Mode, Register};
+use deck9::{Change, Forgotten, Hands, Mode, Register};
 
 /// The register that a command changes, and how.
 pub(in crate::tests) fn change_of(command: &Command) -> Option<(Register, Change)> {
@@ -93,14 +93,54 @@ pub(in crate::tests) fn small_of(command: &Command, hands: Hands) -> Small {
     }
 }
 
+/// Whether what is named for a command makes the deck forget this.
+fn forgets_named(named: Forgotten, hands: Hands, forgotten: &Small) -> bool {
+    match (named, forgotten) {
+        (Forgotten::Nothing, _) => false,
+        (Forgotten::Everything, Small::AnyPanel) => hands == Hands::Allowed,
+        (Forgotten::Everything, _) => true,
+        (_, Small::AnyGoal | Small::AnyShown) => named != Forgotten::Registers,
+        (_, Small::Change(_, _)) => named != Forgotten::Motion,
+        _ => false,
+    }
+}
+
 /// Whether a command, which is then not listed, makes the deck forget this.
-pub(in crate::tests) fn forgets(command: &Command, hands: Hands, forgotten: &Small) -> bool {
+pub(in crate::tests) fn forgets(
+    sheet: &Sheet,
+    command: &Command,
+    hands: Hands,
+    forgotten: &Small,
+) -> bool {
+    match sheet.named_for(command) {
+        Some(named) => forgets_named(named, hands, forgotten),
+        None => forgets_by_group(command, hands, forgotten),
+    }
+}
+
+/// Whether a command for which nothing is named makes the deck forget this.
+fn forgets_by_group(command: &Command, hands: Hands, forgotten: &Small) -> bool {
     match (command, forgotten) {
-        (Command::Unlisted { group: 6 }, _) => false,
+        (
+            Command::Unlisted {
+                head: 0x60_00..=0x6F_FF,
+            },
+            _,
+        ) => false,
         (Command::Unlisted { .. }, Small::Change(_, _)) => true,
-        (Command::Unlisted { group: 4 }, _) => false,
+        (
+            Command::Unlisted {
+                head: 0x40_00..=0x4F_FF,
+            },
+            _,
+        ) => false,
         (Command::Unlisted { .. }, Small::AnyGoal | Small::AnyShown) => true,
-        (Command::Unlisted { group: 2 }, _) => false,
+        (
+            Command::Unlisted {
+                head: 0x20_00..=0x2F_FF,
+            },
+            _,
+        ) => false,
         (Command::Unlisted { .. }, Small::AnyPanel) => hands == Hands::Allowed,
         (Command::Unlisted { .. }, _) => true,
         _ => false,

@@ -9,4 +9,5 @@ returns-clause-app c =
     let file : rule_of c.help-file.result ≡ file_rule = search rules in
     let with_file = c.in_ok-arg.ensures.shape (search rules) ∙ ap₂ with_rule bare file in
     let with_hands = c.in_ok-arg-2.ensures.shape c.hands.ensures.local ∙ ap₂ with_rule with_file c.hands.ensures.rule in
-    c.in_ok-command.ensures.shape c.rate.ensures.local ∙ ap₂ with_rule with_hands c.rate.ensures.rule
+    let with_rate = c.in_ok-arg-3.ensures.shape c.rate.ensures.local ∙ ap₂ with_rule with_hands c.rate.ensures.rule in
+    c.in_ok-command.ensures.shape c.deck.ensures.local ∙ ap₂ with_rule with_rate c.deck.ensures.rule

@@ -1,5 +1,5 @@
 -- Each register is one of the four.
-use Rattle.deck9.proofs.Words.{arith, IsState, RegAudioIn, RegAudioOut, RegIn, RegOut}
+use Rattle.deck9.proofs.Words.{arith, RegAudioIn, RegAudioOut, RegIn, RegOut}
 use Rattle.deck9.proofs.state.State.is_of.Goals as goal
 
 pub returns-then-is_edit_of_day : goal.returns-then-is_edit_of_day

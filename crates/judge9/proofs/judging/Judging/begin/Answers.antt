@@ -1,4 +1,4 @@
-use Rattle.judge9.proofs.Words.{ap, inr, Judging, LineByte, Paired, refl, Step, Waits}
+use Rattle.judge9.proofs.Words.{ap, inr, Judging, Paired, refl, Step}
 use Rattle.judge9.proofs.judging.Judging.begin.Goals as goal
 
 pub returns-in-Ok-Waiting : goal.returns-in-Ok-Waiting

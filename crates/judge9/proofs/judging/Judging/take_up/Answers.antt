@@ -1,4 +1,4 @@
-use Rattle.judge9.proofs.Words.{ap, Begins, Err, Profile, inl, inr, Judging, Progress, refl, sym, ◌∙◌, ◌≡◌}
+use Rattle.judge9.proofs.Words.{ap, Begins, Err, Profile, inl, inr, Judging, Progress, refl, sym, ◌∙◌}
 use Rattle.judge9.proofs.judging.Judging.take_up.Goals as goal
 use Rattle.judge9.proofs.TurnSteps.{handed}
 

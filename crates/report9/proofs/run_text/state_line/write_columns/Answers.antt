@@ -6,13 +6,13 @@ pub returns-in_err-write_word : goal.returns-in_err-write_word
 unfolding text_of_knowledge
 returns-in_err-write_word g c =
     failed c.from_residual.result _ _ _ c.from_residual.ensures.0
-    (begins _ _ _ ((codes ", shown " ++ text_of_mode (Known.Is c.args.state.now.shown)) ∷ text_of_fields c.args.profile (known_state c.args.state.now) ∷ [])
+    (begins _ _ _ ((codes ", shown " ++ text_of_mode (Known.Is c.args.state.now.shown)) ∷ text_of_fields c.args.profile.now (known_state c.args.state.now) ∷ [])
     (rw c.mode_word.ensures at c.in_err-write_word.ensures))
 
 pub returns-in_err-write_word-2 : goal.returns-in_err-write_word-2
 unfolding text_of_knowledge
 returns-in_err-write_word-2 g c =
-    stops c.from_residual-in_err-write_word-2.result _ _ _ _ _ (text_of_fields c.args.profile (known_state c.args.state.now) ∷ [])
+    stops c.from_residual-in_err-write_word-2.result _ _ _ _ _ (text_of_fields c.args.profile.now (known_state c.args.state.now) ∷ [])
     c.from_residual-in_err-write_word-2.ensures.0 (rw c.mode_word.ensures at c.in_ok-write_word.ensures)
     (rw c.mode_word-2.ensures at c.in_err-write_word-2.ensures)
 

@@ -12,21 +12,21 @@ later profile s =
 
 pub returns-in_err-write_register : goal.returns-in_err-write_register
 returns-in_err-write_register g c = failed c.from_residual.result _ _ _ c.from_residual.ensures.0
-    (begins _ _ _ (later c.args.profile c.args.state.now) c.in_err-write_register.ensures)
+    (begins _ _ _ (later c.args.profile.now c.args.state.now) c.in_err-write_register.ensures)
 
 pub returns-in_err-write_register-2 : goal.returns-in_err-write_register-2
 returns-in_err-write_register-2 g c =
-    stops c.from_residual-in_err-write_register-2.result _ _ _ _ _ (drop 1 (later c.args.profile c.args.state.now))
+    stops c.from_residual-in_err-write_register-2.result _ _ _ _ _ (drop 1 (later c.args.profile.now c.args.state.now))
     c.from_residual-in_err-write_register-2.ensures.0 c.in_ok-write_register.ensures c.in_err-write_register-2.ensures
 
 pub returns-in_err-write_word : goal.returns-in_err-write_word
 returns-in_err-write_word g c =
-    stops c.from_residual-in_err-write_word.result _ _ _ _ _ (drop 2 (later c.args.profile c.args.state.now)) c.from_residual-in_err-write_word.ensures.0
+    stops c.from_residual-in_err-write_word.result _ _ _ _ _ (drop 2 (later c.args.profile.now c.args.state.now)) c.from_residual-in_err-write_word.ensures.0
     (Appends-trans _ _ _ _ _ c.in_ok-write_register.ensures c.in_ok-write_register-2.ensures) (rw c.local_word.ensures at c.in_err-write_word.ensures)
 
 pub returns-in_err-write_register-3 : goal.returns-in_err-write_register-3
 returns-in_err-write_register-3 g c =
-    stops c.from_residual-in_err-write_register-3.result _ _ _ _ _ (drop 3 (later c.args.profile c.args.state.now))
+    stops c.from_residual-in_err-write_register-3.result _ _ _ _ _ (drop 3 (later c.args.profile.now c.args.state.now))
     c.from_residual-in_err-write_register-3.ensures.0
     (Appends-trans _ _ _ _ _ (Appends-trans _ _ _ _ _ c.in_ok-write_register.ensures c.in_ok-write_register-2.ensures)
     (rw c.local_word.ensures at c.in_ok-write_word.ensures)) c.in_err-write_register-3.ensures
@@ -35,7 +35,7 @@ pub returns-in_err-write_register-4 : goal.returns-in_err-write_register-4
 returns-in_err-write_register-4 g c =
     let three = Appends-trans _ _ _ _ _ (Appends-trans _ _ _ _ _ c.in_ok-write_register.ensures c.in_ok-write_register-2.ensures)
     (rw c.local_word.ensures at c.in_ok-write_word.ensures) in
-    stops c.from_residual-in_err-write_register-4.result _ _ _ _ _ (drop 4 (later c.args.profile c.args.state.now))
+    stops c.from_residual-in_err-write_register-4.result _ _ _ _ _ (drop 4 (later c.args.profile.now c.args.state.now))
     c.from_residual-in_err-write_register-4.ensures.0 (Appends-trans _ _ _ _ _ three c.in_ok-write_register-3.ensures) c.in_err-write_register-4.ensures
 
 pub returns : goal.returns

@@ -6,12 +6,12 @@ pub returns-in_err-write_count : goal.returns-in_err-write_count
 unfolding line_of_state
 returns-in_err-write_count g c =
     failed c.from_residual.result _ _ _ c.from_residual.ensures.0 (begins _ _ _
-    (codes ": " ∷ text_of_knowledge c.args.profile (known_state c.args.state.now) ∷ codes "\n" ∷ []) c.in_err-write_count.ensures)
+    (codes ": " ∷ text_of_knowledge c.args.profile.now (known_state c.args.state.now) ∷ codes "\n" ∷ []) c.in_err-write_count.ensures)
 
 pub returns-in_err-write_text : goal.returns-in_err-write_text
 unfolding line_of_state
 returns-in_err-write_text g c =
-    stops c.from_residual-in_err-write_text.result _ _ _ _ _ (text_of_knowledge c.args.profile (known_state c.args.state.now) ∷ codes "\n" ∷ [])
+    stops c.from_residual-in_err-write_text.result _ _ _ _ _ (text_of_knowledge c.args.profile.now (known_state c.args.state.now) ∷ codes "\n" ∷ [])
     c.from_residual-in_err-write_text.ensures.0 c.in_ok-write_count.ensures c.in_err-write_text.ensures
 
 pub returns-in_err-write_columns : goal.returns-in_err-write_columns

@@ -10,10 +10,10 @@ returns-in-None-clause-ok g c = rw (
   none_on (option_map (λ b. b.value) c.self.inside.on) (ap hands_of c.self.view_is ∙ sym c.hands.ensures ∙ c.in-None.is),
   c.drift.ensures.drifted,
 )
-    (leads_off (rate_in c.self.inside.off) Drift (λ n. n) (drift_panel (untouched (rate_in c.self.inside.off))) c.self.inside.off _
-    (drift_leads (rate_in c.self.inside.off) c.self.inside.off (subst (λ (v : States). TwoWhole (rate_for v) v.off) (sym c.self.view_is) c.requires.off)))
+    (leads_off c.args.own.now (rate_in c.self.inside.off) Drift (λ n. n) (drift_panel (untouched c.args.own.now (rate_in c.self.inside.off))) c.self.inside.off _
+    (drift_leads c.args.own.now (rate_in c.self.inside.off) c.self.inside.off (subst (λ (v : States). TwoWhole (rate_for v) v.off) (sym c.self.view_is) c.requires.off)))
 
 pub returns-in-Allowed-clause-ok : goal.returns-in-Allowed-clause-ok
 returns-in-Allowed-clause-ok g c = on_ok_weaker c.drift_by_hand.result (λ new. rw new (subst
-    (λ h. FollowsDrift (deck_of (rate_for c.args.self.now) h) c.args.self.now (all_drifted c.args.self.now)) (sym c.in-Allowed.is ∙ c.hands.ensures)
-    (follows_drift c.args.self.now c.requires c.below_day.ensures))) c.drift_by_hand.ensures.ok
+    (λ h. FollowsDrift (deck_of c.args.own.now (rate_for c.args.self.now) h) c.args.self.now (all_drifted c.args.own.now c.args.self.now)) (sym c.in-Allowed.is ∙ c.hands.ensures)
+    (follows_drift c.args.own.now c.args.self.now c.requires c.below_day.ensures))) c.drift_by_hand.ensures.ok

@@ -8,5 +8,5 @@ take-requires g c = let rate = rate_for c.args.self.now in let live = is_panel_l
 
 pub returns-in-Ok : goal.returns-in-Ok
 returns-in-Ok g c = let rate = rate_for c.args.self.now in let live = is_panel_live c.args.self.now in
-    subst (λ other. Taken other c.args.command.now (option_map (λ b. b.now) c.args.reply) (all_or_none rate live) c.take.new.self) (one_rate rate live)
+    subst (λ other. Taken c.args.own.now other c.args.command.now (option_map (λ b. b.now) c.args.reply) (all_or_none rate live) c.take.new.self) (one_rate rate live)
     (rw c.in_ok-on.ensures at c.in-Ok.ensures.ok)

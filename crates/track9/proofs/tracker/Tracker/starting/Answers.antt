@@ -3,10 +3,10 @@ use Rattle.track9.proofs.tracker.Tracker.starting.Goals as goal
 use Rattle.track9.proofs.StartLemmas.{from_rate, start_exactly, start_kept}
 
 pub invariant_of-result : goal.invariant_of-result
-invariant_of-result g c = rw c.in_ok-states.ensures (start_kept c.args.rate c.args.start.now c.none.result)
+invariant_of-result g c = rw c.in_ok-states.ensures (start_kept c.args.profile.now.rate c.args.start.now c.none.result)
 
 pub returns-clause-states : goal.returns-clause-states
-returns-clause-states g c = rw c.in_ok-states.ensures (λ s. start_exactly c.args.rate c.args.start.now s (rw (← c.in_ok-states.ensures) c.below_day.ensures))
+returns-clause-states g c = rw c.in_ok-states.ensures (λ s. start_exactly c.args.profile.now.deck c.args.profile.now.rate c.args.start.now s (rw (← c.in_ok-states.ensures) c.below_day.ensures))
 
 pub returns-clause-profile : goal.returns-clause-profile
-returns-clause-profile g c = rw c.in_ok-states.ensures (ap untouched (from_rate c.args.rate c.args.start.now))
+returns-clause-profile g c = rw (c.in_ok-states.ensures, c.of.ensures) (ap (untouched c.args.profile.now.deck) (from_rate c.args.profile.now.rate c.args.start.now))

@@ -1,0 +1,3 @@
+pub mod HeadLemmas
+pub mod PrintLemmas
+pub mod SheetLemmas

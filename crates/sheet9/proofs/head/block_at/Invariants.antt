@@ -1,0 +1,5 @@
+use Rattle.std.proofs.Common.{◌≡◌, ◌<◌, length, slice_index}
+use Rattle.sheet9.proofs.head.block_at.Given as goal
+
+abbrev pub invariant-loop : goal.invariant-loop
+invariant-loop l = (length l.bytes.items ≡ l.counter) × (0 < length l.bytes.items → slice_index l.bytes.items 0 ≡ 1)

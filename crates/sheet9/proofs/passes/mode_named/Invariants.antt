@@ -1,0 +1,8 @@
+use Rattle.std.proofs.Common.{◌≡◌, drop, find}
+use Rattle.std.specs.Str.{bytes_eq}
+use Rattle.deck9.specs.Mode.{name_of}
+use Rattle.sheet9.specs.Passes.{mode_named}
+use Rattle.sheet9.proofs.passes.mode_named.Given as goal
+
+abbrev pub invariant-loop-mode : goal.invariant-loop-mode
+invariant-loop-mode l = find (λ m. bytes_eq l.name (name_of m)) (drop l.mode-index l.mode-items) ≡ mode_named l.name

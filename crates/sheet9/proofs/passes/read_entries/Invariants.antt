@@ -1,0 +1,8 @@
+use Rattle.std.proofs.Common.{◌≡◌}
+use Rattle.toml.specs.View.{members_view}
+use Rattle.sheet9.specs.Passes.{own_ways, passes_of}
+use Rattle.sheet9.proofs.passes.read_entries.Given as goal
+
+-- the ways so far, with the entries that are left, are those with all of them
+abbrev pub invariant-entries : goal.invariant-entries
+invariant-entries l = passes_of l.ways (members_view l.key-iterator) ≡ passes_of own_ways (members_view l.fn.entries.entries)

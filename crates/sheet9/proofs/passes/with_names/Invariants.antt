@@ -1,0 +1,9 @@
+use Rattle.std.proofs.Common.{◌≡◌, drop}
+use Rattle.toml.specs.View.{items_view}
+use Rattle.sheet9.specs.Passes.{with_names}
+use Rattle.sheet9.proofs.passes.with_names.Given as goal
+
+-- the set so far, with the names that are left, is the set with all of them
+abbrev pub invariant-names : goal.invariant-names
+invariant-names l =
+    with_names l.fn.key l.way (items_view (drop l.value-index l.value-items)) ≡ with_names l.fn.key l.fn.set (items_view l.fn.names.items)

@@ -1,0 +1,51 @@
+-- What the table [passes] says: which modes a deck may also show on the way to a goal.
+use Rattle.std.specs.Prelude.{ℕ, List, Option, Some, None, Result, Ok, Err, find, map, ok_or, slice_set}
+use Rattle.std.specs.Str.{bytes_eq}
+use Rattle.toml.specs.Data.{Data, Items, no_items, item, Members, no_members, member, as_str, as_array, as_table}
+use Rattle.deck9.specs.declared.mode.Mode.{Mode}
+use Rattle.deck9.specs.declared.mode_set.ModeSet.{ModeSet}
+use Rattle.deck9.specs.Mode.{every_mode, index_of, name_of}
+use Rattle.deck9.specs.ModeCalls.{way}
+use Rattle.deck9.specs.ModeSet.{bit_of, either, modes}
+use Rattle.sheet9.specs.Refusal.{Fault, PassesNoTable, NoGoal, NoModes, NoMode, and_then}
+
+-- the mode with this name
+abbrev pub mode_named : List ℕ → Option Mode
+mode_named name = find (λ m. bytes_eq name (name_of m)) every_mode
+
+-- the mode that an item of a list names, under the key of a goal; the item is given as a text, where it is one
+abbrev pub mode_in : List ℕ → Option (List ℕ) → Result Mode Fault
+mode_in key None = Err (NoModes key)
+mode_in key (Some name) = ok_or (mode_named name) (NoMode key name)
+
+-- a set with the modes that a list names; or what is wrong with the first item that is wrong
+abbrev pub with_names : List ℕ → ModeSet → Items → Result ModeSet Fault
+with_names key set no_items = Ok set
+with_names key set (item value rest) =
+    and_then (mode_in key (as_str value)) (λ mode. with_names key (either set (modes (bit_of mode))) rest)
+
+-- the modes on the way to a goal by its entry: those of the profile, and those that the entry's list names
+abbrev pub way_with : List ℕ → Mode → Option Items → Result ModeSet Fault
+way_with key goal None = Err (NoModes key)
+way_with key goal (Some names) = with_names key (way goal) names
+
+-- the ways to the goals in the order of the modes, with those of some entries in place of theirs; or what is wrong with the first
+-- entry that is wrong, in the order of the keys
+abbrev pub passes_of : List ModeSet → Members → Result (List ModeSet) Fault
+passes_of ways no_members = Ok ways
+passes_of ways (member key value rest) =
+    and_then (ok_or (mode_named key) (NoGoal key))
+    (λ goal. and_then (way_with key goal (as_array value)) (λ way. passes_of (slice_set ways (index_of goal) way) rest))
+
+-- the profile's own ways
+abbrev pub own_ways : List ModeSet
+own_ways = map way every_mode
+
+-- what the key `passes` says: the profile's own ways where it is not there
+abbrev pub passes_in : Option Data → Result (List ModeSet) Fault
+passes_in None = Ok own_ways
+passes_in (Some value) = in_table (as_table value)
+  where
+    in_table : Option Members → Result (List ModeSet) Fault
+    in_table None = Err PassesNoTable
+    in_table (Some entries) = passes_of own_ways entries

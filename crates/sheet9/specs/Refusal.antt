@@ -1,0 +1,64 @@
+-- What may be wrong with the text of a sheet, and how it is told.
+use Rattle.std.specs.Prelude.{◌≡◌, ℕ, ◌+◌, ◌≤◌, ◌==◌, List, length, take, ⊤, IfSome, Option, Some, None, Result, Ok, Err, string_bytes}
+use Rattle.std.specs.List.{count_by}
+use Rattle.std.specs.Str.{IsUtf8, IsValidUpTo}
+use Rattle.sheet9.specs.declared.refusal.ForgetsFault.{ForgetsFault}
+use Rattle.sheet9.specs.declared.refusal.Refusal.{Refusal}
+use Rattle.sheet9.specs.declared.refusal.Refusal.TheVariants as refusal
+use Rattle.sheet9.specs.declared.refusal.SheetError.{SheetError}
+use Rattle.sheet9.specs.declared.refusal.SheetError.TheVariants as error
+
+-- what is wrong with a text, with the bytes of the keys and names that it has there
+pub data Fault : Type 0 where
+  NotToml : Fault
+  UnknownKey : List ℕ → Fault
+  ForgetsNoTable : Fault
+  Forgets : List ℕ → ForgetsFault → Fault
+  PassesNoTable : Fault
+  NoGoal : List ℕ → Fault
+  NoModes : List ℕ → Fault
+  NoMode : List ℕ → List ℕ → Fault
+
+-- what is made of a value, where nothing is wrong until then
+abbrev pub and_then : {A B : Type 0} → Result A Fault → (A → Result B Fault) → Result B Fault
+and_then (Ok value) f = f value
+and_then (Err fault) f = Err fault
+
+-- what a refusal says is wrong
+abbrev pub fault_of : Refusal → Fault
+fault_of (refusal.NotToml line) = NotToml
+fault_of (refusal.UnknownKey key) = UnknownKey (string_bytes key)
+fault_of refusal.ForgetsNoTable = ForgetsNoTable
+fault_of (refusal.Forgets key fault) = Forgets (string_bytes key) fault
+fault_of refusal.PassesNoTable = PassesNoTable
+fault_of (refusal.NoGoal goal) = NoGoal (string_bytes goal)
+fault_of (refusal.NoModes goal) = NoModes (string_bytes goal)
+fault_of (refusal.NoMode goal name) = NoMode (string_bytes goal) (string_bytes name)
+
+-- where there is this meaning or fault, the error is about that fault; that memory was refused says nothing of the text
+abbrev pub Tells : {A : Type 0} → Result A Fault → SheetError → Type 0
+Tells meaning (error.Refused r) = meaning ≡ Err (fault_of r)
+Tells meaning error.OutOfMemory = ⊤
+
+-- the line, counted from 1, of the place after these bytes
+abbrev pub line_after : List ℕ → ℕ
+line_after bytes = 1 + count_by (λ byte. byte == 10) bytes
+
+-- the text has a line with this number
+abbrev pub HasLine : List ℕ → ℕ → Type 0
+HasLine text line = (n : ℕ) × (n ≤ length text) × (line ≡ line_after (take n text))
+
+-- a line at which a text is not TOML: one that it has, and where it is not UTF-8, the line of the first byte that is not
+pub record IsFaultLine (text : List ℕ) (line : ℕ) : Type 0 where
+  pub has : HasLine text line
+  pub not_utf8 : ¬ (IsUtf8 text) → (n : ℕ) × IsValidUpTo text n × (line ≡ line_after (take n text))
+
+-- the line that a refusal names
+abbrev pub line_in : Refusal → Option ℕ
+line_in (refusal.NotToml line) = Some line
+line_in _ = None
+
+-- a refusal that names a line names such a one
+abbrev pub NamesFaultLine : List ℕ → SheetError → Type 0
+NamesFaultLine text (error.Refused r) = IfSome (line_in r) (IsFaultLine text)
+NamesFaultLine text error.OutOfMemory = ⊤

@@ -1,0 +1,111 @@
+//! The table `[passes]`.
+ghost use Rattle.std.specs.Prelude.{◌≡◌, IfOk, IfErr, Ok, option_map};
+ghost use Rattle.toml.specs.Data.{as_array, as_str};
+ghost use Rattle.toml.specs.View.{array_view, table_view, view};
+ghost use Rattle.sheet9.specs.Passes.{mode_named, own_ways, passes_in, passes_of, way_with, with_names};
+ghost use Rattle.sheet9.specs.Refusal.{NoMode, NoModes};
+ghost use Rattle.sheet9.specs.Working.{Says, TellsOf};
+
+use crate::refusal::{Refusal, SheetError};
+use deck9::{Mode, ModeSet};
+use std::alloc::Global;
+use toml::value::Array;
+use toml::{Table, Value};
+
+/// What the value of the key `passes` says, where the key is there: the modes on the way to each goal.
+pub(crate) fn read_passes(alloc: Global, value: Option<&Value>) -> Result<[ModeSet; 10], SheetError>
+    ensures ok { IfOk result (λ ways. passes_in (option_map (λ v. view v.now) value.entry) ≡ Ok ways) }
+    ensures err { IfErr result (TellsOf (passes_in (option_map (λ v. view v.now) value.entry))) }
+{
+    let Some(value) = value else {
+        return Ok(own_ways());
+    };
+    match value.as_table() {
+        Some(entries) => read_entries(alloc, entries),
+        None => Err(SheetError::Refused(Refusal::PassesNoTable)),
+    }
+}
+
+/// The ways of the profile.
+fn own_ways() -> [ModeSet; 10]
+    ensures { result ≡ own_ways }
+{
+    Mode::ALL.map(ModeSet::on_the_way)
+}
+
+/// The profile's own ways, with what the entries say.
+fn read_entries(alloc: Global, entries: &Table) -> Result<[ModeSet; 10], SheetError>
+    ensures ok { IfOk result (λ ways. passes_of own_ways (table_view entries.now) ≡ Ok ways) }
+    ensures err { IfErr result (TellsOf (passes_of own_ways (table_view entries.now))) }
+{
+    let mut ways = own_ways();
+    'entries: for (key, value) in entries.iter() {
+        let Some(goal) = mode_named(key.as_str()) else {
+            let goal = String::from_str(alloc, key.as_str())?;
+            return Err(SheetError::Refused(Refusal::NoGoal { goal }));
+        };
+        ways[goal.index()] = read_way(alloc, key.as_str(), goal, value)?;
+    }
+    Ok(ways)
+}
+
+/// The modes on the way to a goal, by its entry.
+fn read_way(alloc: Global, key: &str, goal: Mode, value: &Value) -> Result<ModeSet, SheetError>
+    ensures ok { IfOk result (λ way. way_with key.now goal (as_array (view value.now)) ≡ Ok way) }
+    ensures err { IfErr result (TellsOf (way_with key.now goal (as_array (view value.now)))) }
+{
+    match value.as_array() {
+        Some(names) => with_names(alloc, key, ModeSet::on_the_way(goal), names),
+        None => Err(no_modes(alloc, key)),
+    }
+}
+
+/// A set with the modes that a list names.
+fn with_names(alloc: Global, key: &str, set: ModeSet, names: &Array) -> Result<ModeSet, SheetError>
+    ensures ok { IfOk result (λ way. with_names key.now set (array_view names.now) ≡ Ok way) }
+    ensures err { IfErr result (TellsOf (with_names key.now set (array_view names.now))) }
+{
+    let mut way = set;
+    'names: for value in names {
+        let Some(name) = value.as_str() else {
+            return Err(no_modes(alloc, key));
+        };
+        let Some(mode) = mode_named(name) else {
+            return Err(no_mode(alloc, key, name));
+        };
+        way = way.or(ModeSet::just(mode));
+    }
+    Ok(way)
+}
+
+/// The mode with this name.
+fn mode_named(name: &str) -> Option<Mode>
+    ensures { result ≡ mode_named name.now }
+{
+    for mode in &Mode::ALL {
+        if name == mode.name() {
+            return Some(*mode);
+        }
+    }
+    None
+}
+
+/// The error for a value that is no list of texts.
+fn no_modes(alloc: Global, goal: &str) -> SheetError
+    ensures { Says (NoModes goal.now) result }
+{
+    match String::from_str(alloc, goal) {
+        Ok(goal) => SheetError::Refused(Refusal::NoModes { goal }),
+        Err(_) => SheetError::OutOfMemory,
+    }
+}
+
+/// The error for a text that is no name of a mode.
+fn no_mode(alloc: Global, goal: &str, name: &str) -> SheetError
+    ensures { Says (NoMode goal.now name.now) result }
+{
+    match (String::from_str(alloc, goal), String::from_str(alloc, name)) {
+        (Ok(goal), Ok(name)) => SheetError::Refused(Refusal::NoMode { goal, name }),
+        _ => SheetError::OutOfMemory,
+    }
+}

@@ -1,0 +1,171 @@
+//! Decks that do things of their own, by sheets that are drawn.
+
+use super::{Course, NOON, agree_from_first};
+use crate::tests::drawn::Draw;
+use crate::tests::own_deck::profile_of;
+use crate::tests::plain_deck::Sheet;
+use crate::tests::same;
+use block9::Command;
+use deck9::{Forgotten, Hands, Mode, Register};
+use std::alloc::{AllocError, Global};
+use std::ops::Range;
+use std::process::Abort;
+use std::test::Fail;
+
+/// Commands that are not listed, of which a sheet may name each: two of group 2 that differ in the last bit, and one at least of
+/// every group that has a rule of its own.
+const HEADS: [u32; 8] = [
+    0x00_50, 0x20_42, 0x20_61, 0x20_62, 0x40_50, 0x41_50, 0x60_50, 0x80_00,
+];
+
+/// A command that a sheet may name.
+pub(super) fn unlisted(draw: &mut Draw) -> Command {
+    let place = draw.below(8) as usize;
+    let head = HEADS.get(place).copied().unwrap_or(0x00_50);
+    Command::Unlisted { head }
+}
+
+/// What a sheet names for a command, if it names something.
+fn drawn_forgotten(draw: &mut Draw) -> Option<Forgotten> {
+    match draw.below(6) {
+        0 => Some(Forgotten::Nothing),
+        1 => Some(Forgotten::Motion),
+        2 => Some(Forgotten::Registers),
+        3 => Some(Forgotten::Tape),
+        4 => Some(Forgotten::Everything),
+        _ => None,
+    }
+}
+
+fn drawn_names(alloc: Global, draw: &mut Draw) -> Result<Vec<(u32, Forgotten)>, AllocError> {
+    let mut named = Vec::new(alloc);
+    for head in HEADS {
+        if let Some(forgotten) = drawn_forgotten(draw) {
+            named.push((head, forgotten))?;
+        }
+    }
+    Ok(named)
+}
+
+/// A goal, STOP more often than each other one.
+fn drawn_goal(draw: &mut Draw) -> Mode {
+    if draw.one_in(3) {
+        Mode::Stop
+    } else {
+        draw.mode()
+    }
+}
+
+/// Up to six modes, each on the way to a goal.
+fn drawn_ways(alloc: Global, draw: &mut Draw) -> Result<Vec<(Mode, Mode)>, AllocError> {
+    let mut ways = Vec::new(alloc);
+    for _ in 0..draw.below(7) {
+        let goal = drawn_goal(draw);
+        ways.push((goal, draw.mode()))?;
+    }
+    Ok(ways)
+}
+
+/// A sheet that was drawn.
+#[derive(Drop)]
+struct DrawnSheet {
+    named: Vec<(u32, Forgotten)>,
+    ways: Vec<(Mode, Mode)>,
+}
+
+impl DrawnSheet {
+    fn new(alloc: Global, draw: &mut Draw) -> Result<DrawnSheet, AllocError> {
+        Ok(DrawnSheet {
+            named: drawn_names(alloc, draw)?,
+            ways: drawn_ways(alloc, draw)?,
+        })
+    }
+
+    fn sheet(&self) -> Sheet {
+        Sheet {
+            named: self.named.as_slice(),
+            ways: self.ways.as_slice(),
+        }
+    }
+}
+
+/// How many exchanges a course has at most.
+const TURNS: u32 = 12;
+
+/// Takes a course with a deck whose sheet is drawn.
+fn agree_with_sheet(
+    rt: &impl Abort,
+    alloc: Global,
+    hands: Hands,
+    registers: &'static [Register],
+    seed: u32,
+) -> Result<u32, AllocError> {
+    let mut draw = Draw::new(seed);
+    let drawn = DrawnSheet::new(alloc, &mut draw)?;
+    let profile = profile_of(alloc, hands, &drawn.sheet())?;
+    let mut course = Course::new(&profile, NOON, registers, draw);
+    course.sheet = drawn.sheet();
+    course.turns = TURNS;
+    agree_from_first(rt, alloc, &mut course)
+}
+
+/// Takes as many courses as these seeds, each with a sheet of its own.
+fn agree_on_sheets(
+    rt: &impl Abort,
+    alloc: Global,
+    hands: Hands,
+    registers: &'static [Register],
+    seeds: Range<u32>,
+) -> Result<(), AllocError> {
+    let courses = seeds.end.saturating_sub(seeds.start);
+    let mut left = 0u32;
+    for seed in seeds {
+        let turns = agree_with_sheet(rt, alloc, hands, registers, seed)?;
+        left = left.saturating_add(turns);
+    }
+    // The draws have to leave states.
+    same(rt, left / 6 >= courses, true, ("exchanges", left));
+    Ok(())
+}
+
+// There are 1,000 courses in all.
+
+#[test]
+fn modes(rt: HostRuntime) -> Result<(), Fail> {
+    agree_on_sheets(&rt, rt.alloc(), Hands::None, &[], 0..300)?;
+    Ok(())
+}
+
+#[test]
+fn modes_with_hands(rt: HostRuntime) -> Result<(), Fail> {
+    agree_on_sheets(&rt, rt.alloc(), Hands::Allowed, &[], 300..600)?;
+    Ok(())
+}
+
+#[test]
+fn ins(rt: HostRuntime) -> Result<(), Fail> {
+    let registers = &[Register::RegIn];
+    agree_on_sheets(&rt, rt.alloc(), Hands::None, registers, 600..700)?;
+    Ok(())
+}
+
+#[test]
+fn audio_outs(rt: HostRuntime) -> Result<(), Fail> {
+    let registers = &[Register::RegAudioOut];
+    agree_on_sheets(&rt, rt.alloc(), Hands::None, registers, 700..800)?;
+    Ok(())
+}
+
+#[test]
+fn outs_with_hands(rt: HostRuntime) -> Result<(), Fail> {
+    let registers = &[Register::RegOut];
+    agree_on_sheets(&rt, rt.alloc(), Hands::Allowed, registers, 800..900)?;
+    Ok(())
+}
+
+#[test]
+fn audio_ins_with_hands(rt: HostRuntime) -> Result<(), Fail> {
+    let registers = &[Register::RegAudioIn];
+    agree_on_sheets(&rt, rt.alloc(), Hands::Allowed, registers, 900..1_000)?;
+    Ok(())
+}

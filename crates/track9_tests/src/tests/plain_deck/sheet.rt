@@ -1,0 +1,65 @@
+//! What a deck does of its own, in short lists that are read from the front.
+
+use super::WAYS;
+use block9::Command;
+use deck9::{Forgotten, Mode};
+
+/// What a deck does of its own.
+#[derive(Clone, Copy)]
+pub(in crate::tests) struct Sheet<'a> {
+    /// What it forgets at commands that are not listed, by the first two bytes of their blocks. No two are the same.
+    pub(in crate::tests) named: &'a [(u32, Forgotten)],
+    /// Goals, each with a mode that may be shown on the way to it beside those of every deck.
+    pub(in crate::tests) ways: &'a [(Mode, Mode)],
+}
+
+/// A deck does nothing of its own.
+pub(in crate::tests) const NO_SHEET: Sheet<'static> = Sheet {
+    named: &[],
+    ways: &[],
+};
+
+impl<'a> Sheet<'a> {
+    /// What is named for a command that is not listed, if something is.
+    pub(super) fn named_for(&self, command: &Command) -> Option<Forgotten> {
+        let Command::Unlisted { head } = command else {
+            return None;
+        };
+        for (named, forgotten) in self.named {
+            if named == head {
+                return Some(*forgotten);
+            }
+        }
+        None
+    }
+
+    /// The mode at a place, counted from 0, of those on the way to a goal.
+    pub(super) fn way_at(&self, goal: Mode, place: usize) -> Option<Mode> {
+        let mut rest = place;
+        for (other, mode) in self.ways {
+            if *other == goal && rest == 0 {
+                return Some(*mode);
+            }
+            if *other == goal {
+                rest = rest.saturating_sub(1);
+            }
+        }
+        None
+    }
+
+    /// How many modes there are on the way to a goal.
+    pub(super) fn count_ways(&self, goal: Mode) -> usize {
+        let mut count = 0usize;
+        for (other, _) in self.ways {
+            if *other == goal {
+                count = count.saturating_add(1);
+            }
+        }
+        count
+    }
+
+    /// No small step can be done in more ways.
+    pub(in crate::tests) fn most_ways(&self) -> usize {
+        WAYS.saturating_add(self.ways.len())
+    }
+}
