@@ -21,6 +21,7 @@ case $words[2] in
         options=(
             '--hands[somebody may have touched the panel of the deck]'
             '--rate[the frame rate of the machine, 25 if left out]:rate:(24 25 30 29.97df)'
+            '--deck[a sheet of what this deck does of its own]:sheet:_files'
         )
         [[ $words[2] == run ]] || options+=('--all[go on after each break, and judge the whole capture]')
         shift words

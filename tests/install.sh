@@ -153,12 +153,13 @@ done <<'END'
 ninecheck |check explain help run why|check explain help run why
 ninecheck e|explain|explain
 ninecheck -|--help --version -V -h|--help --version -V -h
-ninecheck why -|--all --hands --help --rate -h|--all --hands --help --rate -h
+ninecheck why -|--all --deck --hands --help --rate -h|--all --deck --hands --help --rate -h
 ninecheck check --a|--all|--all
-ninecheck run -|--hands --help --rate -h|--hands --help --rate -h
+ninecheck run -|--deck --hands --help --rate -h|--deck --hands --help --rate -h
 ninecheck check --rate |24 25 29.97df 30|24 25 29.97df 30
 ninecheck run --rate 2|24 25 29.97df|24 25 29.97df
 ninecheck explain capture.csv --rate 3|30|30
+ninecheck check --deck decks/edit|edit-session.toml|decks/edit-session.toml
 ninecheck help |check explain help run why|check explain help run why
 ninecheck run examples/play|play.csv|examples/play.csv
 END
@@ -213,13 +214,15 @@ expect 'a verb is completed' 0 'explain' ''
 complete_words ninecheck ''
 expect 'verbs are offered' 0 'check explain run why help --help --version' ''
 complete_words ninecheck run --
-expect 'options are offered' 0 '--hands --rate --help' ''
+expect 'options are offered' 0 '--hands --rate --deck --help' ''
 complete_words ninecheck explain --
-expect 'options are offered where the judging can go on' 0 '--hands --all --rate --help' ''
+expect 'options are offered where the judging can go on' 0 '--hands --all --rate --deck --help' ''
 complete_words ninecheck why --rate ''
 expect 'rates are offered' 0 '24 25 30 29.97df' ''
 complete_words ninecheck why --rate = 2
 expect 'rates are offered after an equals sign' 0 '24 25 29.97df' ''
+complete_words ninecheck check --deck decks/e
+expect 'a sheet is completed' 0 'decks/edit-session.toml' ''
 complete_words ninecheck check examples/play
 expect 'a file is completed' 0 'examples/play.csv' ''
 
@@ -230,7 +233,7 @@ expect 'the man page' 0 '' ''
 
 # Each subcommand and option that the program's help names stands in the man page and in each completion.
 program=${NINECHECK:-$PWD/crates/ninecheck/out/ninecheck}
-for word in $("$program" --help | awk '/^Commands:/ { on = 1; next } /^$/ { on = 0 } on { print $1 }') hands all rate version; do
+for word in $("$program" --help | awk '/^Commands:/ { on = 1; next } /^$/ { on = 0 } on { print $1 }') hands all rate deck version; do
     for file in man/ninecheck.1 completions/ninecheck.bash completions/ninecheck.zsh completions/ninecheck.fish; do
         holds "$word in $file" grep -qw -- "$word" "$file"
     done

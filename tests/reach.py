@@ -3,12 +3,12 @@ reach, and compares these with the tables of docs/ARCHITECTURE.md, section "What
 
 A definition reaches the names in its text, and a declared type the types of its fields. A name in a definition that also
 names a variable counts as reached: the page can say too much for it, but not too little. The library std is followed
-nowhere, clap to the names that the crates cite, and csv into its definitions where `rt doc` says where the kit is.
+nowhere, clap and toml to the names that the crates cite, and csv into its definitions where `rt doc` says where the kit is.
 
 The page has a table for each part, and before the table it names the part's functions, its declared types and its
 constants (in the sentences with 'that the code declares'). A part lists what the parts before it do not. Where a file is not reached
 whole, its row says '(all but `A` and `B`)', '`A` and `B` alone' or 'the first N lines', which are the definitions that begin
-there. A row of clap names what is cited. The last line is 'N passed, M failed'.
+there. A row of clap or of toml names what is cited. The last line is 'N passed, M failed'.
 """
 
 import os
@@ -71,11 +71,12 @@ class Uses:
 
 
 class Definitions:
-    """A file of specs/: the text of each definition, and the line at which it begins."""
+    """A file of specs/: the text of each definition, the line at which it begins, and the data type of each constructor."""
 
     def __init__(self, module, path):
         self.module, self.path = module, path
-        self.uses, self.texts, self.begins = Uses(), {}, {}
+        self.uses, self.texts, self.begins, self.data_of = Uses(), {}, {}, {}
+        is_data = False
         lines = read_lines(path)
         self.lines = len(lines)
         name = None
@@ -86,6 +87,9 @@ class Definitions:
                 if not line[0].isspace():
                     name = next((word for word in words(line) if word not in HEADS), name)
                     self.begins.setdefault(name, number)
+                    is_data = "data" in words(line)[:2]
+                elif is_data and re.match(r"  \w+ :", line):
+                    self.data_of[line.split()[0]] = name
                 self.texts[name] = self.texts.get(name, "") + "\n" + line
 
 
@@ -133,7 +137,7 @@ class Sources:
         """What a name of a module is, or None for what is not followed."""
         if len(path) < 4 or path[0] != "Rattle" or path[2] != "specs":
             return None
-        if path[1] == "clap" and path[3] != "declared":
+        if path[1] in ("clap", "toml") and path[3] != "declared":
             return LIBRARY, ".".join(path), name
         if path[1] not in self.followed:
             return None
@@ -144,7 +148,7 @@ class Sources:
             return (TYPE, path[1], path[: min(ends, default=len(path))][-1]) if path[1] in self.crates else None
         module, outer = ".".join(path), ".".join(path[:-1])
         if module in self.specs:
-            return DEFINITION, module, name
+            return DEFINITION, module, self.specs[module].data_of.get(name, name)
         # a constructor of a data type
         return DEFINITION, outer, path[-1]
 
