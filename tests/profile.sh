@@ -35,11 +35,14 @@ is_told() {
     judge "$command: $1" grep -q "$2" <(tail -n 2 "$work/out" | head -n 1)
 }
 
+# not_in_sheet COMMAND: the shipped sheet has no line for this command.
+not_in_sheet() { ! grep -q "^\"$1\"" decks/edit-session.toml; }
+
 # The deck is in remote, goes for STOP and shows it, and has IN at 10:00:00:00; then comes the command; and then the deck shows REC.
 known='C 61 20 01,D 71 20 00,C 20 00,D 10 01,C 61 20 12,D 72 20 20 00,C 44 14 00 00 00 10,D 10 01'
 recording='C 61 20 12,D 72 20 02 00'
 rows=0
-while IFS='|' read -r command name forgets; do
+while IFS='|' read -r command name forgets sheet; do
     first=${command%% *}
     data=$(printf "%$((0x$first % 16))s" '' | sed 's/ / 00/g')
     blocks "$known,C $command$data,D 10 01" | "$program" explain > "$work/out" 2>&1
@@ -51,6 +54,10 @@ while IFS='|' read -r command name forgets; do
         *) judge "$command: what is forgotten" false ;;
     esac
     blocks "$known,C $command$data,D 10 01,$recording" | "$program" check > "$work/out" 2>&1
+    case $sheet in
+        'not named') judge "$command: the shipped sheet does not name it" not_in_sheet "$command" ;;
+        *) judge "$command: the shipped sheet's word" grep -q "^\"$command\" = $sheet  *# $name\$" decks/edit-session.toml ;;
+    esac
     case $forgets in
         'the tape and the registers') judge "$command: the mode is forgotten" grep -q '^yes' "$work/out" ;;
         *) judge "$command: the mode is kept" grep -q ': M1 ' "$work/out" ;;
