@@ -1,3 +1,4 @@
+pub mod EmptyLemmas
 pub mod HeadLemmas
 pub mod PrintLemmas
-pub mod SheetLemmas
+pub mod Words

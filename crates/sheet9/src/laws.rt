@@ -1,10 +1,23 @@
-//! What the text of an error is, as the contract of a function that does nothing.
-ghost use Rattle.std.specs.Prelude.{◌≡◌, true};
+//! What an empty sheet means, and what the text of an error is: each the contract of a function that does nothing.
+ghost use Rattle.std.specs.Prelude.{◌≡◌, ◌↔◌, ℕ, true, List, None, Some, IsOkAnd};
 ghost use Rattle.std.specs.List.{list_all};
+ghost use Rattle.block9.specs.declared.pairer.Exchange.{Exchange};
+ghost use Rattle.deck9.specs.declared.deck.Deck.{Deck};
+ghost use Rattle.deck9.specs.declared.profile.Profile.{Profile};
+ghost use Rattle.deck9.specs.Run.{HasRun};
+ghost use Rattle.toml.specs.Data.{no_members};
 ghost use Rattle.sheet9.specs.declared.refusal.SheetError.{SheetError};
+ghost use Rattle.sheet9.specs.Sheet.{IsDeckOf, document_of, sheet_of};
 ghost use Rattle.sheet9.specs.Text.{error_text, is_printable};
 
 /// The text of an error is printable ASCII, whatever the sheet's keys hold: so it stays on one line, and has no control characters.
 pub fn errors_are_printable()
     ensures { (error : SheetError) → list_all is_printable (error_text error) ≡ true }
+{}
+
+/// A document with no keys, such as an empty text, is a sheet, and a deck that does what it says has exactly the runs of a deck
+/// without one.
+pub fn an_empty_sheet_is_the_profile()
+    ensures { (text : List ℕ) (p : Profile) (es : List Exchange) → document_of text ≡ Some no_members → IsOkAnd (sheet_of text)
+        (λ sheet. (deck : Deck) → IsDeckOf sheet deck → HasRun (record p { deck = Some deck }) es ↔ HasRun (record p { deck = None }) es) }
 {}

@@ -1,6 +1,4 @@
-use Rattle.std.proofs.Common.{◌∷◌, arith}
-use Rattle.std.proofs.lemmas.Bool.Decides.{nat_tests}
-use Rattle.std.proofs.lemmas.Grind.{common_steps}
+use Rattle.sheet9.proofs.Words.{arith, common_steps, nat_tests, ◌∷◌}
 use Rattle.sheet9.proofs.forgets.read_entries.Goals as goal
 
 pub entries-preserved : goal.entries-preserved

@@ -1,7 +1,6 @@
-use Rattle.std.proofs.Common.{◌≡◌, ℕ, List, [], nat_cmp}
-use Rattle.std.specs.BTreeMap.{get}
-use Rattle.toml.specs.View.{members_view}
+use Rattle.sheet9.proofs.Words.{[], List, members_view, nat_cmp, ℕ, ◌≡◌}
 use Rattle.deck9.specs.declared.deck.Forgotten.{Forgotten}
+use Rattle.std.specs.BTreeMap.{get}
 use Rattle.sheet9.specs.Forgets.{forgets_of, named_at}
 use Rattle.sheet9.proofs.forgets.read_entries.Given as goal
 

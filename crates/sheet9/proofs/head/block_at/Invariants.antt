@@ -1,4 +1,4 @@
-use Rattle.std.proofs.Common.{◌≡◌, ◌<◌, length, slice_index}
+use Rattle.sheet9.proofs.Words.{length, slice_index, ◌<◌, ◌≡◌}
 use Rattle.sheet9.proofs.head.block_at.Given as goal
 
 abbrev pub invariant-loop : goal.invariant-loop

@@ -1,7 +1,5 @@
-use Rattle.std.proofs.Common.{◌≡◌, drop, find}
-use Rattle.std.specs.Str.{bytes_eq}
+use Rattle.sheet9.proofs.Words.{bytes_eq, drop, find, mode_named, ◌≡◌}
 use Rattle.deck9.specs.Mode.{name_of}
-use Rattle.sheet9.specs.Passes.{mode_named}
 use Rattle.sheet9.proofs.passes.mode_named.Given as goal
 
 abbrev pub invariant-loop-mode : goal.invariant-loop-mode

@@ -1,10 +1,6 @@
-use Rattle.std.proofs.Common.{◌<◌, ◌∙◌, sym, arith}
+use Rattle.sheet9.proofs.Words.{arith, every_mode, modes, own_ways, Stop, sym, ◌<◌, ◌∙◌}
 use Rattle.std.proofs.lemmas.List.{ext_get_or, get_or-map}
-use Rattle.deck9.specs.declared.mode.Mode.TheVariants.{Stop}
-use Rattle.deck9.specs.Mode.{every_mode}
 use Rattle.deck9.specs.ModeCalls.{way}
-use Rattle.deck9.specs.ModeSet.{modes}
-use Rattle.sheet9.specs.Passes.{own_ways}
 use Rattle.sheet9.proofs.passes.own_ways.Goals as goal
 
 pub returns : goal.returns

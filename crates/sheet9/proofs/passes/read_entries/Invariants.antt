@@ -1,6 +1,4 @@
-use Rattle.std.proofs.Common.{◌≡◌}
-use Rattle.toml.specs.View.{members_view}
-use Rattle.sheet9.specs.Passes.{own_ways, passes_of}
+use Rattle.sheet9.proofs.Words.{members_view, own_ways, passes_of, ◌≡◌}
 use Rattle.sheet9.proofs.passes.read_entries.Given as goal
 
 -- the ways so far, with the entries that are left, are those with all of them

@@ -1,6 +1,4 @@
-use Rattle.std.proofs.Common.{◌≡◌, drop}
-use Rattle.toml.specs.View.{items_view}
-use Rattle.sheet9.specs.Passes.{with_names}
+use Rattle.sheet9.proofs.Words.{drop, items_view, with_names, ◌≡◌}
 use Rattle.sheet9.proofs.passes.with_names.Given as goal
 
 -- the set so far, with the names that are left, is the set with all of them

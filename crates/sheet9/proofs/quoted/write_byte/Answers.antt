@@ -1,4 +1,4 @@
-use Rattle.std.proofs.Common.{◌++◌, encode_utf8, encode_utf8_all, sym, ap, ◌∙◌, append_assoc, rules}
+use Rattle.sheet9.proofs.Words.{ap, append_assoc, encode_utf8, encode_utf8_all, rules, sym, ◌++◌, ◌∙◌}
 use Rattle.std.proofs.Output.{has_written_append}
 use Rattle.sheet9.proofs.quoted.write_byte.Goals as goal
 

@@ -1,7 +1,5 @@
-use Rattle.std.proofs.Common.{◌≡◌, ◌≤◌, ℕ, List, ◌++◌, encode_utf8_all}
-use Rattle.std.specs.Fmt.{HasWritten, IsPlainFormatter}
+use Rattle.sheet9.proofs.Words.{encode_utf8_all, escaped, HasWritten, IsPlainFormatter, List, ℕ, ◌++◌, ◌≡◌, ◌≤◌}
 use Rattle.std.specs.Char.Iter.{escape_byte_rest, escape_byte_left, escape_byte_end}
-use Rattle.sheet9.specs.Text.{escaped}
 use Rattle.sheet9.proofs.quoted.write_byte.Given as goal
 
 abbrev pub invariant-loop-escaped : goal.invariant-loop-escaped

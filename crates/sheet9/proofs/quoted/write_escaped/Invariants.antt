@@ -1,6 +1,4 @@
-use Rattle.std.proofs.Common.{take, flat_map}
-use Rattle.std.specs.Fmt.{HasWritten, IsPlainFormatter}
-use Rattle.sheet9.specs.Text.{escaped}
+use Rattle.sheet9.proofs.Words.{escaped, flat_map, HasWritten, IsPlainFormatter, take}
 use Rattle.sheet9.proofs.quoted.write_escaped.Given as goal
 
 abbrev pub invariant-loop-byte : goal.invariant-loop-byte

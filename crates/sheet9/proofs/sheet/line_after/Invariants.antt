@@ -1,5 +1,4 @@
-use Rattle.std.proofs.Common.{◌≡◌, ◌+◌, ◌≤◌, take}
-use Rattle.sheet9.specs.Refusal.{line_after}
+use Rattle.sheet9.proofs.Words.{line_after, take, ◌+◌, ◌≡◌, ◌≤◌}
 use Rattle.sheet9.proofs.sheet.line_after.Given as goal
 
 abbrev pub invariant-loop-byte : goal.invariant-loop-byte

@@ -1,13 +1,9 @@
-use Rattle.std.proofs.Common.{◌≡◌, None, arith}
-use Rattle.std.specs.Str.{IsValidUpTo}
-use Rattle.sheet9.specs.Sheet.{document_of}
-use Rattle.sheet9.proofs.SheetLemmas.{no_document}
+use Rattle.sheet9.proofs.Words.{arith, IsValidUpTo}
+use Rattle.std.proofs.lemmas.Str.{IsUtf8-from_is_utf8}
 use Rattle.sheet9.proofs.sheet.read_document.Goals as goal
 
 pub returns-in-Err-clause-err : goal.returns-in-Err-clause-err
-returns-in-Err-clause-err c =
-    let none : document_of c.args.text.now ≡ None = no_document c.args.text.now c.in-Err.ensures.cases.0 in
-    rw none
+returns-in-Err-clause-err c = grind (arith, IsUtf8-from_is_utf8, c.in-Err.ensures.cases.0)
 
 pub returns-in-Err-clause-line : goal.returns-in-Err-clause-line
 returns-in-Err-clause-line c =
