@@ -225,16 +225,7 @@ impl<'a, S: TimeSet> Tracker<'a, S> {
         requires { (s : AState) × Possible self.now.states s }
         ensures { IsKnowledge (Possible self.now.states) result }
     {
-        Knowledge {
-            goal: self.states.known_goal(),
-            shown: self.states.known_shown(),
-            ins: self.states.known_entry(Register::RegIn),
-            outs: self.states.known_entry(Register::RegOut),
-            ains: self.states.known_entry(Register::RegAudioIn),
-            aouts: self.states.known_entry(Register::RegAudioOut),
-            local: self.states.known_local(),
-            panel: self.states.known_panel(),
-        }
+        self.states.knowledge()
     }
 }
 

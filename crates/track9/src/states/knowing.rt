@@ -1,6 +1,6 @@
 //! What all states of a set agree on.
 ghost use Rattle.std.specs.Prelude.{◌≡◌, ◌||◌, false, true};
-ghost use Rattle.deck9.specs.Knowledge.{IsKnown, IsKnownEntry};
+ghost use Rattle.deck9.specs.Knowledge.{IsKnowledge, IsKnown, IsKnownEntry};
 ghost use Rattle.track9.specs.Tracker.{Possible};
 ghost use Rattle.track9.specs.Working.Knowing.{TwoKnow, goals_in, join_options, joined_known, known_fact, shown_in, two_goals, two_shown};
 ghost use Rattle.track9.specs.Working.Parts.{is_live};
@@ -9,12 +9,30 @@ ghost use Rattle.deck9.specs.declared.state.State.{State as AState};
 
 use crate::halves::Halves;
 use crate::states::States;
-use deck9::{Known, KnownEntry, Mode, ModeSet, Register};
+use deck9::{Knowledge, Known, KnownEntry, Mode, ModeSet, Register};
 use sets25::TimeSet;
 
 impl<S: TimeSet> States<S> {
+    /// What all states agree on, field by field. There is a state.
+    pub(crate) fn knowledge(&self) -> Knowledge
+        requires whole { AreWhole (rate_for self.now) self.now }
+        requires some { some_state self.now ≡ true }
+        ensures { IsKnowledge (Possible self.now) result }
+    {
+        Knowledge {
+            goal: self.known_goal(),
+            shown: self.known_shown(),
+            ins: self.known_entry(Register::RegIn),
+            outs: self.known_entry(Register::RegOut),
+            ains: self.known_entry(Register::RegAudioIn),
+            aouts: self.known_entry(Register::RegAudioOut),
+            local: self.known_local(),
+            panel: self.known_panel(),
+        }
+    }
+
     /// The goal, as far as all states agree. There is a state.
-    pub(crate) fn known_goal(&self) -> Known<Mode>
+    fn known_goal(&self) -> Known<Mode>
         requires whole { AreWhole (rate_for self.now) self.now }
         requires some { some_state self.now ≡ true }
         ensures { IsKnown (Possible self.now) (λ (s : AState). s.goal) result }
@@ -23,7 +41,7 @@ impl<S: TimeSet> States<S> {
     }
 
     /// The shown mode, as far as all states agree. There is a state.
-    pub(crate) fn known_shown(&self) -> Known<Mode>
+    fn known_shown(&self) -> Known<Mode>
         requires whole { AreWhole (rate_for self.now) self.now }
         requires some { some_state self.now ≡ true }
         ensures { IsKnown (Possible self.now) (λ (s : AState). s.shown) result }
@@ -32,7 +50,7 @@ impl<S: TimeSet> States<S> {
     }
 
     /// A register, as far as all states agree. There is a state.
-    pub(crate) fn known_entry(&self, register: Register) -> KnownEntry
+    fn known_entry(&self, register: Register) -> KnownEntry
         requires whole { AreWhole (rate_for self.now) self.now }
         requires some { some_state self.now ≡ true }
         ensures { IsKnownEntry (Possible self.now) register result }
@@ -47,7 +65,7 @@ impl<S: TimeSet> States<S> {
     }
 
     /// Whether the deck is in LOCAL, as far as all states agree. There is a state.
-    pub(crate) fn known_local(&self) -> Known<bool>
+    fn known_local(&self) -> Known<bool>
         requires whole { AreWhole (rate_for self.now) self.now }
         requires some { some_state self.now ≡ true }
         ensures { IsKnown (Possible self.now) (λ (s : AState). s.local) result }
@@ -56,7 +74,7 @@ impl<S: TimeSet> States<S> {
     }
 
     /// Whether the panel is on, as far as all states agree. There is a state.
-    pub(crate) fn known_panel(&self) -> Known<bool>
+    fn known_panel(&self) -> Known<bool>
         requires whole { AreWhole (rate_for self.now) self.now }
         requires some { some_state self.now ≡ true }
         ensures { IsKnown (Possible self.now) (λ (s : AState). s.panel) result }

@@ -7,38 +7,8 @@ live : (deck : Option Deck) (t : Tracked) (v : States) (n : Presets) → record 
     → some_state v ≡ true
 live deck t v n same w = let P : Tracked → Type 0 = λ t. some_state t.states ≡ true in subst P (sym same) (some_live t.states w.0 w.1)
 
-pub known_goal-requires-clause-some : goal.known_goal-requires-clause-some
-known_goal-requires-clause-some g c = live c.self.inside.own c.args.self.now c.self.inside.states c.self.inside.presets c.self.view_is c.requires
-
-pub known_shown-requires-clause-some : goal.known_shown-requires-clause-some
-known_shown-requires-clause-some g c = live c.self.inside.own c.args.self.now c.self.inside.states c.self.inside.presets c.self.view_is c.requires
-
-pub known_entry-requires-clause-some : goal.known_entry-requires-clause-some
-known_entry-requires-clause-some g c = live c.self.inside.own c.args.self.now c.self.inside.states c.self.inside.presets c.self.view_is c.requires
-
-pub known_entry-requires-2-clause-some : goal.known_entry-requires-2-clause-some
-known_entry-requires-2-clause-some g c = live c.self.inside.own c.args.self.now c.self.inside.states c.self.inside.presets c.self.view_is c.requires
-
-pub known_entry-requires-3-clause-some : goal.known_entry-requires-3-clause-some
-known_entry-requires-3-clause-some g c = live c.self.inside.own c.args.self.now c.self.inside.states c.self.inside.presets c.self.view_is c.requires
-
-pub known_entry-requires-4-clause-some : goal.known_entry-requires-4-clause-some
-known_entry-requires-4-clause-some g c = live c.self.inside.own c.args.self.now c.self.inside.states c.self.inside.presets c.self.view_is c.requires
-
-pub known_local-requires-clause-some : goal.known_local-requires-clause-some
-known_local-requires-clause-some g c = live c.self.inside.own c.args.self.now c.self.inside.states c.self.inside.presets c.self.view_is c.requires
-
-pub known_panel-requires-clause-some : goal.known_panel-requires-clause-some
-known_panel-requires-clause-some g c = live c.self.inside.own c.args.self.now c.self.inside.states c.self.inside.presets c.self.view_is c.requires
+pub knowledge-requires-clause-some : goal.knowledge-requires-clause-some
+knowledge-requires-clause-some g c = live c.self.inside.own c.args.self.now c.self.inside.states c.self.inside.presets c.self.view_is c.requires
 
 pub returns : goal.returns
-returns g c = rw (← c.self.view_is) (record {
-  goal = c.known_goal.ensures;
-  shown = c.known_shown.ensures;
-  ins = c.known_entry.ensures;
-  outs = c.known_entry-2.ensures;
-  ains = c.known_entry-3.ensures;
-  aouts = c.known_entry-4.ensures;
-  local = c.known_local.ensures;
-  panel = c.known_panel.ensures;
-})
+returns g c = rw (← c.self.view_is) c.knowledge.ensures
