@@ -1,28 +1,16 @@
 -- Words, the names of modes, and the bytes of a block in a row, some after others.
-use Rattle.report9.proofs.Words.{[], ap, append-nil, append_assoc, arith, Bool, codes, drop, drop-cons, get_or, hex_byte, hex_bytes, if◌then◌else◌, in_a_row, length, List}
-use Rattle.report9.proofs.Words.{list_all, list_all_more, Mode, name_of, names_of, next_before, refl, suc, sym, take, true, ℕ, ◌++◌, ◌+◌, ◌<◌, ◌∙◌, ◌∷◌}
-use Rattle.report9.proofs.Words.{◌≡◌}
+use Rattle.report9.proofs.Words.{[], ap, append_assoc, arith, Bool, codes, drop, drop-cons, get_or, hex_byte, hex_bytes, if◌then◌else◌, in_a_row, length, List}
+use Rattle.report9.proofs.Words.{list_all, list_all_more, Mode, name_of, names_of, next_before, refl, suc, take, true, ℕ, ◌++◌, ◌+◌, ◌<◌, ◌∙◌, ◌∷◌, ◌≡◌}
 
-next_is : (between : List ℕ) (words : List (List ℕ)) → next_before between between words ≡ between
-next_is between words = grind arith
-
-next_more : (before between : List ℕ) (words more : List (List ℕ))
+pub next_more : (before between : List ℕ) (words more : List (List ℕ))
     → next_before before between (words ++ more) ≡ next_before (next_before before between words) between more
 next_more before between [] more = refl
-next_more before between (word ∷ words) more = sym (next_is between more)
+next_more before between (word ∷ words) more = grind arith
 
-row_more : (before between : List ℕ) (words more : List (List ℕ)) → in_a_row before between (words ++ more)
+pub row_more : (before between : List ℕ) (words more : List (List ℕ)) → in_a_row before between (words ++ more)
     ≡ in_a_row before between words ++ in_a_row (next_before before between words) between more
 row_more before between [] more = refl
-row_more before between (word ∷ words) more = rw (row_more between between words more, next_is between words) (simp append_assoc)
-
--- three times some words
-pub row_pieces : (l before between second third : List ℕ) (us vs ws : List (List ℕ)) (x y z : List ℕ) → x ≡ l ++ in_a_row before between us
-    → second ≡ next_before before between us
-    → y ≡ x ++ in_a_row second between vs → third ≡ next_before second between vs → z ≡ y ++ in_a_row third between ws
-    → z ≡ l ++ in_a_row before between (us ++ vs ++ ws)
-row_pieces l before between second third us vs ws x y z p is_second q is_third r =
-    rw (r, is_third, q, is_second, p, row_more before between (us ++ vs) ws, row_more before between us vs, next_more before between us vs) (simp append_assoc)
+row_more before between (word ∷ words) more = grind (arith, append_assoc, row_more between between words more)
 
 -- ---- the chosen ones of some modes, and their names
 
@@ -49,12 +37,6 @@ names_more p ms i d before next between line new whole h so_far text is_next =
 
 -- ---- the bytes of a block
 
-hex_more : (bytes more : List ℕ) → hex_bytes (codes " ") (bytes ++ more) ≡ hex_bytes (codes " ") bytes ++ hex_bytes (codes " ") more
+pub hex_more : (bytes more : List ℕ) → hex_bytes (codes " ") (bytes ++ more) ≡ hex_bytes (codes " ") bytes ++ hex_bytes (codes " ") more
 hex_more [] more = refl
 hex_more (byte ∷ bytes) more = ap (λ t. codes " " ++ hex_byte byte ++ t) (hex_more bytes more)
-
--- the first byte, the code, the data and the sum
-pub block_pieces : (l : List ℕ) (first code last : ℕ) (items w x y z : List ℕ) → w ≡ l ++ hex_byte first → x ≡ w ++ (codes " " ++ hex_byte code)
-    → y ≡ x ++ hex_bytes (codes " ") items → z ≡ y ++ (codes " " ++ hex_byte last)
-    → z ≡ l ++ hex_bytes [] ((first ∷ code ∷ items) ++ last ∷ [])
-block_pieces l first code last items w x y z p q r s = rw (s, r, q, p, hex_more items (last ∷ [])) (simp (append_assoc, append-nil))

@@ -1,7 +1,6 @@
 -- The names from elsewhere that the proofs of this crate cite, passed on from one place. Declares nothing.
 pub use Rattle.block9.proofs.SpellingLemmas.{last_time-last}
 pub use Rattle.block9.specs.Line.{bytes_of}
-pub use Rattle.block9.specs.declared.command.Command.{Command}
 pub use Rattle.block9.specs.declared.pairer.Exchange.{Exchange}
 pub use Rattle.block9.specs.declared.reason.Reason.{Reason}
 pub use Rattle.capture9.specs.declared.line_byte.LineByte.{LineByte}
@@ -13,28 +12,26 @@ pub use Rattle.deck9.specs.declared.profile.Profile.{Profile}
 pub use Rattle.deck9.specs.declared.state.State.{State}
 pub use Rattle.report9.specs.RunText.{known_entry, known_state, lines_of_run}
 unfoldable pub use Rattle.report9.specs.RunText.{line_of_state}
-pub use Rattle.report9.specs.WhyText.{block_of, end_before, hex_bytes, in_a_row, line_if_ended, lines_at, local_said, records_in, names_of, own, progress_told, since_told, sum_told, words_if_whole}
-unfoldable pub use Rattle.report9.specs.WhyText.{line_of_breaking, line_of_contradicting, line_of_could_show, line_of_open, lines_of_break, text_of_reply_given, text_of_command_sent, text_of_modes}
+pub use Rattle.report9.specs.WhyText.{end_before, hex_bytes, in_a_row, lines_at, records_in, names_of, words_if_whole}
+unfoldable pub use Rattle.report9.specs.WhyText.{line_of_breaking, line_of_contradicting, line_of_could_show, line_of_open, lines_of_break, text_of_reply_given, text_of_command_sent}
 unfoldable pub use Rattle.report9.specs.WhyText.{line_of_before, text_of_block, text_of_records, text_of_reply, words_of}
 pub use Rattle.capture9.specs.declared.line_byte.Wire.{Wire}
 pub use Rattle.capture9.specs.declared.line_byte.Wire.TheVariants.{Controller, Deck}
-pub use Rattle.block9.specs.Line.{block_len}
 pub use Rattle.verdict9.specs.declared.why_verdict.EndedExchange.{EndedExchange}
 pub use Rattle.report9.specs.Working.WhyText.{next_before}
-pub use Rattle.std.proofs.Common.{[], ap, append_assoc, arith, Bool, codes, drop, drop-cons, false, get_or, if◌then◌else◌, inl, inr, length, length-append, List, Option, refl}
-pub use Rattle.std.proofs.Common.{Result, rules, slice_get, Some, suc, sym, take, true, ℕ, ◌%◌, ◌*◌, ◌++◌, ◌+◌, ◌-◌, ◌<◌, ◌∙◌, ◌∷◌, ◌≡◌, ◌≤◌, ◌⊎◌}
+pub use Rattle.std.proofs.Common.{[], ap, append_assoc, arith, Bool, codes, drop, drop-cons, get_or, if◌then◌else◌, inl, inr, length, length-append, List, Option, refl}
+pub use Rattle.std.proofs.Common.{Result, rules, slice_get, Some, suc, sym, take, true, ℕ, ◌*◌, ◌++◌, ◌+◌, ◌-◌, ◌<◌, ◌∙◌, ◌∷◌, ◌≡◌, ◌≤◌, ◌⊎◌}
 pub use Rattle.std.proofs.KnownBytes.{Appends-trans}
 pub use Rattle.std.proofs.lemmas.List.{append-nil}
 pub use Rattle.std.proofs.lemmas.List.Folds.{list_all_at, list_all_more}
-pub use Rattle.std.proofs.lemmas.Result.{on_ok_weaker}
+pub use Rattle.std.proofs.lemmas.Result.{IfOk-equal, on_ok_weaker}
 pub use Rattle.std.proofs.lemmas.Slice.Zip.{either_empty_from_Zip, Zip-more}
 pub use Rattle.std.specs.Fmt.{decimal}
 pub use Rattle.std.specs.Io.KnownBytes.{Appends}
-pub use Rattle.std.specs.List.{list_all, list_any, sum}
+pub use Rattle.std.specs.List.{list_all}
 pub use Rattle.std.specs.Result.{IsErr}
 pub use Rattle.tc25.specs.Day.{text_of}
-pub use Rattle.tc25.specs.declared.rate.Rate.{Rate}
-pub use Rattle.text9.proofs.PieceLemmas.{pieces2, pieces3, pieces4, pieces6, pieces_after, pieces_after2}
+pub use Rattle.text9.proofs.PieceLemmas.{pieces2, pieces4}
 pub use Rattle.text9.proofs.WriteLemmas.{begins, failed, first_part, in_pairs, joined, part_after, piece_after, writes}
 pub use Rattle.text9.specs.Explanation.{hex_byte, text_of_fields, text_of_local, text_of_mode, text_of_panel}
 unfoldable pub use Rattle.text9.specs.Explanation.{text_of_knowledge, text_of_register}
@@ -42,7 +39,6 @@ pub use Rattle.text9.specs.Writing.{AppendsPart, Writes}
 pub use Rattle.deck9.specs.declared.knowledge.Known.TheVariants.{the_data as Known}
 pub use Rattle.block9.specs.Exchange.{records_of}
 pub use Rattle.verdict9.specs.Lines.{line_of}
-pub use Rattle.verdict9.specs.OpenRecords.{reply_records, command_records}
 pub use Rattle.verdict9.specs.declared.verdict.Verdict.TheVariants.{the_data as Verdict}
 pub use denote.Shadow.{shadow}
 pub use denote.Text.{Utf8}

@@ -14,13 +14,6 @@ pub pieces6 : (l a b c d e f u v w x y z : List ℕ) → u ≡ l ++ a → v ≡ 
     → z ≡ l ++ (a ++ b ++ c ++ d ++ e ++ f)
 pieces6 l a b c d e f u v w x y z p q r s t o = pieces3 l (a ++ b ++ c ++ d) e f x y z (pieces4 l a b c d u v w x p q r s) t o
 
--- two pieces, and three, after a label
-pub pieces_after2 : (l a b c x y z : List ℕ) → x ≡ l ++ a → y ≡ x ++ b → z ≡ y ++ c → z ≡ l ++ (a ++ (b ++ c))
-pieces_after2 l a b c x y z p q r = pieces2 l a (b ++ c) x z p (pieces2 x b c y z q r)
-
-pub pieces_after : (l a b c d w x y z : List ℕ) → w ≡ l ++ a → x ≡ w ++ b → y ≡ x ++ c → z ≡ y ++ d → z ≡ l ++ (a ++ (b ++ c ++ d))
-pieces_after l a b c d w x y z p q r s = pieces2 l a (b ++ c ++ d) w z p (pieces3 w b c d x y z q r s)
-
 -- the line of a yes: three pieces of two, and a last one
 pub pieces_of_yes : (l a b c d e f g w x y z : List ℕ) → w ≡ l ++ (a ++ b) → x ≡ w ++ (c ++ d) → y ≡ x ++ (e ++ f) → z ≡ y ++ g
     → z ≡ l ++ (a ++ b ++ c ++ d ++ e ++ f ++ g)

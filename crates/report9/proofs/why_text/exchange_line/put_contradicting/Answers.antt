@@ -1,8 +1,6 @@
-use Rattle.report9.proofs.Words.{line_of_contradicting, on_ok_weaker, pieces4}
+use Rattle.report9.proofs.Words.{IfOk-equal, append_assoc, line_of_contradicting, rules}
 use Rattle.report9.proofs.why_text.exchange_line.put_contradicting.Goals as goal
 
 pub returns : goal.returns
 unfolding line_of_contradicting
-returns c =
-    on_ok_weaker c.put_text.result (λ last. pieces4 _ _ _ _ _ _ _ _ _ (rw c.records.ensures.records at c.in_ok-put_records.ensures)
-    c.in_ok-put_command_sent.ensures c.in_ok-put_reply_given.ensures last) c.put_text.ensures
+returns c = search (rules, IfOk-equal, append_assoc)
