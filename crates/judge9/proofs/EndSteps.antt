@@ -22,15 +22,13 @@ pub broken_with : (rate : Rate) (records : List LineByte) (at : ℕ) (left items
 broken_with rate records at left items r es end_us told same ended tells =
     let was = ended.0 in
     let cut = subst (λ (t : List LineByte). Cut rate was.before was.exchanges t) (sym same) was.cut in
-    let broken : IsBreakAfter rate records at items r =
-    record {
+    let broken : IsBreakAfter rate records at items r = record {
       before = was.before;
       after = was.after;
       split = was.split;
       number = was.number;
       exchanges = es;
-      cut =
-          subst (λ (l : List Exchange). Cut rate was.before l items) ended.1 cut;
+      cut = subst (λ (l : List Exchange). Cut rate was.before l items) ended.1 cut;
     } in
     (broken, tells was.before (λ nil. ended.2 (sym same ∙ nil)))
 
@@ -41,8 +39,7 @@ pub broken_why : (profile : Profile) (rows : Rows) (at : ℕ) (reason : Reason) 
     → (verdict_of why ≡ Verdict.No at reason) × HasItsWhy profile rows why
 broken_why profile rows at reason r left es end_us (WhyVerdict.Yes records exchanges tail) says other broken = absurd says
 broken_why profile rows at reason r left es end_us (WhyVerdict.Break number x tail command before breaking)
-    (number_is, x_is, r_is, tail_is, commands, told, _) other
-    broken =
+    (number_is, x_is, r_is, tail_is, commands, told, _) other broken =
     let both = broken_with profile.rate rows.records at left tail.items r es end_us before tail_is broken
     (λ records ended. rw tail_is (told records (λ nil. ended (tail_is ∙ nil)))) in
     rw (number_is, x_is, r_is) (refl, (other, rw tail_is commands, both.0, both.1))
@@ -92,8 +89,7 @@ module _ {R : Type 0} {profile : Profile} {rows : Option Rows} {j : Judging R} {
       → KeepsExchanges profile rows (Err x) left fs u
   keep-stopped k x (inl memory) = keep-memory (Err x) memory
   keep-stopped k x (inr refusal) =
-      let no_write = refusal_cases (λ y. (let r : Result Ending JudgeError = Err y in r) ≢ Err JudgeError.Write) refusal.0.kind refusal.0 (λ _ q. cc) (λ q. cc)
-      in
+      let no_write = refusal_cases (λ y. (let r : Result Ending JudgeError = Err y in r) ≢ Err JudgeError.Write) refusal.0.kind refusal.0 (λ _ q. cc) (λ q. cc) in
       record { judges = judges-refusal h refusal.1 refusal.2; ends = tt; no_write = rw refusal.2 no_write }
 
   -- a rule of pairing is broken
@@ -103,21 +99,18 @@ module _ {R : Type 0} {profile : Profile} {rows : Option Rows} {j : Judging R} {
   keep-break {k = k} {reason = reason} {next = next} ended (given, (same, broken)) =
       let spoils : Spoils j k reason next = rw same broken in
       let both = judges-no h {new = None} (Ok (Verdict.No k.rows.given reason)) spoils.gives (breaks-pairing h spoils) refl tt in
-      let is_break : IsBreakAfter profile.rate both.0.told.rows.records k.rows.given k.pairer.tail next =
-      record {
+      let is_break : IsBreakAfter profile.rate both.0.told.rows.records k.rows.given k.pairer.tail next = record {
         before = h.items;
         after = both.1.0;
         split = rw append_assoc at both.1.1;
         number = omega (arith, spoils.gives);
         exchanges = es;
-        cut =
-            rw spoils.refuses.tail h.cut;
+        cut = rw spoils.refuses.tail h.cut;
       } in
       record {
         judges = both.0;
         ends = (pairing_reason spoils.refuses.is_reason, is_break, refl, λ nil. ended (sym spoils.refuses.tail ∙ nil), spoils.refuses.rate ∙ h.same_rate);
-        no_write =
-            λ q. cc;
+        no_write = λ q. cc;
       }
 
   -- no run remains
@@ -128,10 +121,8 @@ module _ {R : Type 0} {profile : Profile} {rows : Option Rows} {j : Judging R} {
       let both = judges-no h {new = None} (Ok (Verdict.No k.rows.given Reason.NoRun)) feeds.gives (breaks-run h feeds observes) refl tt in
       let cut : Cut profile.rate read (es ++ e ∷ []) [] = cut-exchange profile.rate h.items es j.pairer.tail r e h.cut (step_on h feeds) in
       let number : k.rows.given ≡ length read = omega (arith, length_push h.items r) in
-      let up_to : take k.rows.given both.0.told.rows.records ≡ read =
-      rw both.1.1 (ap (λ n. take n (read ++ both.1.0)) number ∙ take-append_seam read both.1.0) in
-      let breaks : BreaksAtLast profile (es ++ e ∷ []) = record { before = es; last = e; is_split = refl; has_run = h.run; has_none = none_observed h observes }
-      in
+      let up_to : take k.rows.given both.0.told.rows.records ≡ read = rw both.1.1 (ap (λ n. take n (read ++ both.1.0)) number ∙ take-append_seam read both.1.0) in
+      let breaks : BreaksAtLast profile (es ++ e ∷ []) = record { before = es; last = e; is_split = refl; has_run = h.run; has_none = none_observed h observes } in
       record { judges = both.0; ends = record { cut = rw up_to cut; breaks = breaks }; no_write = λ q. cc }
 
   -- no row is left

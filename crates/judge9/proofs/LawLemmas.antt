@@ -92,38 +92,29 @@ answer_once profile rows a b i j = cc (i.0, j.0)
 
 -- ---- what one deck explains, another of its rate that has all its runs explains too, and no break comes earlier
 
--- a deck has all the runs of another
-abbrev HasMore : Profile → Profile → Type 0
-HasMore less more = (es : List Exchange) → HasRun less es → HasRun more es
+-- a deck, and one of its rate that has all its runs
+module _ (p : Profile) (h : Hands) (d : Option Deck) (has : (es : List Exchange) → HasRun p es → HasRun (record p { hands = h; deck = d }) es) where
+  pub yes_with_more : (rows : Rows) (records exchanges tail : ℕ) → IsAnswer p rows (Answer.judged (Verdict.Yes records exchanges tail))
+      → IsAnswer (record p { hands = h; deck = d }) rows (Answer.judged (Verdict.Yes records exchanges tail))
+  yes_with_more rows records exchanges tail (whole, c) = (
+    whole,
+    record {
+      cut_exchanges = c.cut_exchanges;
+      cut_tail = c.cut_tail;
+      cut = c.cut;
+      run = has c.cut_exchanges c.run;
+      number = c.number;
+      exchange_number = c.exchange_number;
+      tail_number = c.tail_number;
+    },
+  )
 
-ok_with_more : (rate : Rate) (h k : Hands) (d e : Option Deck) (p : List LineByte) → HasMore (record { rate = rate; hands = h; deck = d }) (record { rate = rate; hands = k; deck = e })
-    → IsOk (record { rate = rate; hands = h; deck = d }) p → IsOk (record { rate = rate; hands = k; deck = e }) p
-ok_with_more rate h k d e p more ok = record { exchanges = ok.exchanges; tail = ok.tail; cut = ok.cut; run = more ok.exchanges ok.run }
-
-pub yes_with_more : (rate : Rate) (h k : Hands) (d e : Option Deck) (rows : Rows) (records exchanges tail : ℕ)
-    → HasMore (record { rate = rate; hands = h; deck = d }) (record { rate = rate; hands = k; deck = e })
-    → IsAnswer (record { rate = rate; hands = h; deck = d }) rows (Answer.judged (Verdict.Yes records exchanges tail))
-    → IsAnswer (record { rate = rate; hands = k; deck = e }) rows (Answer.judged (Verdict.Yes records exchanges tail))
-yes_with_more rate h k d e rows records exchanges tail more (whole, c) = (
-  whole,
-  record {
-    cut_exchanges = c.cut_exchanges;
-    cut_tail = c.cut_tail;
-    cut = c.cut;
-    run = more c.cut_exchanges c.run;
-    number =
-        c.number;
-    exchange_number = c.exchange_number;
-    tail_number = c.tail_number;
-  },
-)
-
-pub no_with_more : (rate : Rate) (h k : Hands) (d e : Option Deck) (rows : Rows) (at other : ℕ) (reason another : Reason)
-    → HasMore (record { rate = rate; hands = h; deck = d }) (record { rate = rate; hands = k; deck = e })
-    → IsAnswer (record { rate = rate; hands = h; deck = d }) rows (Answer.judged (Verdict.No at reason))
-    → IsAnswer (record { rate = rate; hands = k; deck = e }) rows (Answer.judged (Verdict.No other another)) → at ≤ other
-no_with_more rate h k d e rows at other reason another more w v =
-    omega (arith, no_longer v w.before (w.next ∷ w.after) (ok_with_more rate h k d e w.before more (is_ok w)) w.split)
+  pub no_with_more : (rows : Rows) (at other : ℕ) (reason another : Reason) → IsAnswer p rows (Answer.judged (Verdict.No at reason))
+      → IsAnswer (record p { hands = h; deck = d }) rows (Answer.judged (Verdict.No other another)) → at ≤ other
+  no_with_more rows at other reason another w v =
+      let b = w.breaks in
+      let ok : IsOk (record p { hands = h; deck = d }) w.before = record { exchanges = b.exchanges; tail = b.tail; cut = b.cut; run = has b.exchanges b.run } in
+      omega (arith, no_longer v w.before (w.next ∷ w.after) ok w.split)
 
 -- ---- which reason a record gets: that of pairing where a rule of pairing is broken, and else that no run remains
 
@@ -203,8 +194,7 @@ some_reason profile p r ok later broken = by (pairing profile.rate ok.tail r) re
         exchanges = ok.exchanges;
         tail = ok.tail ++ r ∷ [];
         cut = cut-tail profile.rate p ok.exchanges ok.tail r ok.cut longer;
-        run =
-            ok.run;
+        run = ok.run;
       }))
       | inr whole ↦
           let cut = cut-exchange profile.rate p ok.exchanges ok.tail r whole.0 ok.cut whole.1 in

@@ -120,47 +120,46 @@ no_run_text {past = past} {front = front} {es = es} Telling.Why profile j f last
     (rw up_to cut) in
     rw f.explained (own.0, both.0, both.1, is ∙ ap (text_of_why profile) own.2)
 
+-- by which rule a turn breaks the part, and at which record
+abbrev pub IsBreak : Turn → Reason → LineByte → Type 0
+IsBreak (Turn.NoRun e r) reason last = (reason ≡ Reason.NoRun) × (last ≡ r)
+IsBreak (Turn.Break x r) reason last = (reason ≡ x) × (last ≡ r)
+IsBreak turn reason last = ⊥
+
 module _ {R : Type 0} {T : BrokenPart → List ℕ → Type 0} {view : View} {profile : Profile} {rows : Option Rows} {broken : List BrokenPart}
     {old now : Option (List ℕ)} {j : Judging R}
     {es : List Exchange} {end_us : Option ℕ} where
-  -- by a rule of pairing
-  pub at_break : (k : Judging R) (new : Option (List ℕ)) {reason : Reason} {last : LineByte} (text : List ℕ) (result : Result Turn JudgeError)
-      (h : AtTurn T view profile rows (Turn.Break reason last) j old now broken es end_us) → T (broken_at h.so_far h.turned.0 reason) (h.so_far.text ++ text)
-      → EndsPart text profile reason last j result k now new
-      → (b : BrokenPart) × (b.part.exchanges ≡ es) × Arrives T view profile rows old new (broken ++ b ∷ []) [] None result k
-  at_break k new {reason = reason} {last = last} text result h told ends =
-      let t = h.turned in (
-        broken_at h.so_far t.0 reason,
-        refl,
-        part_ends h.before h.so_far new j k t.0 reason text result told t.1.1.gives (breaks-pairing h.so_far t.1.1) h.ahead
-            (subst (λ r. EndsPart text profile reason r j result k now new) t.1.0 ends),
-      )
+  -- that record was read last and breaks the rule, and the pairer keeps the rate of the deck
+  pub breaks_by : {turn : Turn} (h : AtTurn T view profile rows turn j old now broken es end_us) (reason : Reason) (last : LineByte)
+      → IsBreak turn reason last → GivesRecord h.front.rows last j.rows × Breaks profile h.so_far.items last reason
+      × ((more : List LineByte) → Onward profile broken h.past (h.so_far.items ++ last ∷ more)) × (j.pairer.rate ≡ profile.rate)
+  breaks_by {turn = Turn.NoRun e r} h reason last is =
+      let t = h.turned in
+      rw (is.0, is.1, t.1.0) (t.1.1.gives, breaks-run h.so_far t.1.1 t.1.2, h.ahead, t.1.1.takes.rate ∙ h.so_far.same_rate)
+  breaks_by {turn = Turn.Break x r} h reason last is =
+      let t = h.turned in
+      rw (is.0, is.1, t.1.0) (t.1.1.gives, breaks-pairing h.so_far t.1.1, h.ahead, t.1.1.refuses.rate ∙ h.so_far.same_rate)
+  breaks_by h reason last is = absurd is
 
-  -- or by the deck
-  pub at_no_run : (k : Judging R) (new : Option (List ℕ)) {e : Exchange} {last : LineByte} (text : List ℕ) (result : Result Turn JudgeError)
-      (h : AtTurn T view profile rows (Turn.NoRun e last) j old now broken es end_us) → T (broken_at h.so_far h.turned.0 Reason.NoRun) (h.so_far.text ++ text)
-      → EndsPart text profile Reason.NoRun last j result k now new
+  pub break_read : {turn : Turn} (h : AtTurn T view profile rows turn j old now broken es end_us) (reason : Reason) (last : LineByte)
+      → IsBreak turn reason last → (before : Progress R) × GivesRecord before last j.rows
+  break_read h reason last is = (h.front.rows, (breaks_by h reason last is).0)
+
+  pub at_break : {turn : Turn} (k : Judging R) (new : Option (List ℕ)) (text : List ℕ) (result : Result Turn JudgeError)
+      (h : AtTurn T view profile rows turn j old now broken es end_us) (reason : Reason) (last : LineByte) → IsBreak turn reason last
+      → T (broken_at h.so_far last reason) (h.so_far.text ++ text) → EndsPart text profile reason last j result k now new
       → (b : BrokenPart) × (b.part.exchanges ≡ es) × Arrives T view profile rows old new (broken ++ b ∷ []) [] None result k
-  at_no_run k new {last = last} text result h told ends =
-      let t = h.turned in (
-        broken_at h.so_far t.0 Reason.NoRun,
-        refl,
-        part_ends h.before h.so_far new j k t.0 Reason.NoRun text result told t.1.1.gives (breaks-run h.so_far t.1.1 t.1.2) h.ahead
-            (subst (λ r. EndsPart text profile Reason.NoRun r j result k now new) t.1.0 ends),
-      )
+  at_break k new text result h reason last is told ends =
+      let by = breaks_by h reason last is in
+      (broken_at h.so_far last reason, refl, part_ends h.before h.so_far new j k last reason text result told by.0 by.1 by.2 ends)
 
   -- or there was no memory for its text
-  pub break_memory : {reason : Reason} {last : LineByte} → AtTurn T view profile rows (Turn.Break reason last) j old now broken es end_us
-      → JudgesParts T view profile rows (Err JudgeError.OutOfMemory) old now
-  break_memory h =
-      parts-memory broken h.before.texts h.before.are_texts h.so_far.keeps {left = j.rows.rows} (h.turned.0 ∷ []) (h.ahead [])
-      (seen_on h.so_far h.turned.1.1.gives) (wrote_all h.before now h.so_far.text h.so_far.wrote)
-
-  pub no_run_memory : {e : Exchange} {last : LineByte} → AtTurn T view profile rows (Turn.NoRun e last) j old now broken es end_us
-      → JudgesParts T view profile rows (Err JudgeError.OutOfMemory) old now
-  no_run_memory h =
-      parts-memory broken h.before.texts h.before.are_texts h.so_far.keeps {left = j.rows.rows} (h.turned.0 ∷ []) (h.ahead [])
-      (seen_on h.so_far h.turned.1.1.gives) (wrote_all h.before now h.so_far.text h.so_far.wrote)
+  pub break_memory : {turn : Turn} (h : AtTurn T view profile rows turn j old now broken es end_us) (reason : Reason) (last : LineByte)
+      → IsBreak turn reason last → JudgesParts T view profile rows (Err JudgeError.OutOfMemory) old now
+  break_memory h reason last is =
+      let by = breaks_by h reason last is in
+      parts-memory broken h.before.texts h.before.are_texts h.so_far.keeps {left = j.rows.rows} (last ∷ []) (by.2 [])
+      (seen_on h.so_far by.0) (wrote_all h.before now h.so_far.text h.so_far.wrote)
 
   -- the exchanges have a run without the last alone
   pub loses_its_runs : {e : Exchange} {last : LineByte} → AtTurn T view profile rows (Turn.NoRun e last) j old now broken es end_us
@@ -177,24 +176,6 @@ module _ {R : Type 0} {T : BrokenPart → List ℕ → Type 0} {view : View} {pr
       let on = onward-more profile broken h.past h.so_far.items t.0 h.ahead in
       parts-memory broken h.before.texts h.before.are_texts far.keeps {left = j.rows.rows} [] (on []) (rw append-nil (seen_now far))
       (wrote_all h.before new far.text far.wrote)
-
-  -- the record was read last
-  pub break_read : {reason : Reason} {last : LineByte} → AtTurn T view profile rows (Turn.Break reason last) j old now broken es end_us
-      → (before : Progress R) × GivesRecord before last j.rows
-  break_read h = (h.front.rows, rw h.turned.1.0 h.turned.1.1.gives)
-
-  pub no_run_read : {e : Exchange} {last : LineByte} → AtTurn T view profile rows (Turn.NoRun e last) j old now broken es end_us
-      → (before : Progress R) × GivesRecord before last j.rows
-  no_run_read h = (h.front.rows, rw h.turned.1.0 h.turned.1.1.gives)
-
-  -- the pairer keeps the rate of the deck
-  pub break_rate : {reason : Reason} {last : LineByte} → AtTurn T view profile rows (Turn.Break reason last) j old now broken es end_us
-      → j.pairer.rate ≡ profile.rate
-  break_rate h = h.turned.1.1.refuses.rate ∙ h.so_far.same_rate
-
-  pub no_run_rate : {e : Exchange} {last : LineByte} → AtTurn T view profile rows (Turn.NoRun e last) j old now broken es end_us
-      → j.pairer.rate ≡ profile.rate
-  no_run_rate h = h.turned.1.1.takes.rate ∙ h.so_far.same_rate
 
   -- an exchange, and what comes after it
   pub at_exchange : {k : Judging R} {new : Option (List ℕ)} {e : Exchange} (result : Result Turn JudgeError)
@@ -320,10 +301,10 @@ module _ {R : Type 0} {telling : Telling} {profile : Profile} {rows : Option Row
       → IsBreakText telling profile j.rows.given Reason.NoRun last j.pairer.tail fs us text → EndsPart text profile Reason.NoRun last j result k now new
       → (b : BrokenPart) × (b.part.exchanges ≡ es)
       × Arrives (IsTextOf telling profile) (view_of telling) profile rows old new (broken ++ b ∷ []) [] None result k
-  told_no_run {e = e} h fs us kept text said ends =
+  told_no_run {e = e} {last = last} h fs us kept text said ends =
       let t = h.turned in
-      let is = subst (λ r. IsBreakText telling profile j.rows.given Reason.NoRun r j.pairer.tail fs us text) t.1.0 said in
-      at_no_run k new text result h (no_run_text telling profile j h.so_far t.0 e t.1.1 fs us kept text is) ends
+      at_break k new text result h Reason.NoRun last (refl, refl)
+      (rw t.1.0 (no_run_text telling profile j h.so_far t.0 e t.1.1 fs us kept text (rw t.1.0 at said))) ends
 
   pub told_break : {reason : Reason} {last : LineByte}
       (h : AtTurn (IsTextOf telling profile) (view_of telling) profile rows (Turn.Break reason last) j old now broken es end_us) (fs : List Exchange)
@@ -332,9 +313,7 @@ module _ {R : Type 0} {telling : Telling} {profile : Profile} {rows : Option Row
       → EndsPart text profile reason last j result k now new
       → (b : BrokenPart) × (b.part.exchanges ≡ es)
       × Arrives (IsTextOf telling profile) (view_of telling) profile rows old new (broken ++ b ∷ []) [] None result k
-  told_break {reason = reason} h fs us kept text said ends =
+  told_break {reason = reason} {last = last} h fs us kept text said ends =
       let t = h.turned in
-      let is = subst (λ r. IsBreakText telling profile j.rows.given reason r j.pairer.tail fs us text) t.1.0 said in
-      at_break k new text result h (pairing_text telling profile j h.so_far t.0 reason t.1.1.gives t.1.1.refuses.tail
-      (pairing_reason t.1.1.refuses.is_reason) end_us
-      h.ended fs us kept text is) ends
+      at_break k new text result h reason last (refl, refl) (rw t.1.0 (pairing_text telling profile j h.so_far t.0 reason t.1.1.gives
+      t.1.1.refuses.tail (pairing_reason t.1.1.refuses.is_reason) end_us h.ended fs us kept text (rw t.1.0 at said))) ends

@@ -47,8 +47,7 @@ each_is_a_no profile items rest (b ∷ broken) left is (after, same, part, break
     let records : b.part.records ++ b.breaking ∷ after ≡ drop b.part.past items = rw same at is in
     let next = behind items b.part.past b.part.records b.breaking after records in
     let on = rest_after_rest items (b.part.past + length b.part.records) b.reason b.breaking after next.0 next.1 in
-    let no : IsOwnNo profile items b =
-    record { before = b.part.records; next = b.breaking; after = after; split = sym records; number = refl; breaks = breaks } in
+    let no : IsOwnNo profile items b = record { before = b.part.records; next = b.breaking; after = after; split = sym records; number = refl; breaks = breaks } in
     All-cons (IsOwnNo profile items) b broken no
     (each_is_a_no profile items (rest_after (b.part.past + length b.part.records) b.reason b.breaking after) broken left on others)
 

@@ -18,17 +18,11 @@ weight (Turn.Break reason r) = if takes_up_at reason then 2 else 1
 abbrev pub left_to_do : {R : Type 0} → Turn → Judging R → ℕ
 left_to_do turn j = 3 * (4000000 - j.rows.given) + weight turn
 
-at_most_two : (b : Bool) → (if b then 2 else 1) ≤ 2
-at_most_two true = omega arith
-at_most_two false = omega arith
-
 at_least_one : (b : Bool) → 1 ≤ (if b then 2 else 1)
-at_least_one true = omega arith
-at_least_one false = omega arith
+at_least_one b = grind arith
 
 first_true : (a b : Bool) → (a && b) ≡ true → a ≡ true
-first_true true b both = refl
-first_true false b both = both
+first_true a b both = grind arith
 
 -- the first record of a part breaks by none of the reasons for which it would be taken up again
 none_answered : (rate : Rate) (c : Command) (reply : List LineByte) → IsAnswered rate [] c reply → ⊥
@@ -56,16 +50,11 @@ less-taken j k r (Turn.NoRun e last) t = (t.1.gives.given, t.1.gives.within)
 less-taken j k r (Turn.Break reason b) t = (t.1.gives.given, t.1.gives.within)
 
 weight_small : (turn : Turn) → weight turn ≤ 2
-weight_small Turn.End = omega arith
-weight_small (Turn.Exchange e) = omega arith
-weight_small (Turn.NoRun e r) = omega arith
-weight_small (Turn.Break reason r) = at_most_two (takes_up_at reason)
+weight_small turn = grind arith
 
 less-turned : {R : Type 0} (j k : Judging R) (turn : Turn) → Turned j (Ok turn) k → left_to_do turn k ≤ 3 * (4000000 - j.rows.given)
 less-turned j k Turn.End t = omega (arith, t.ends.given)
-less-turned j k (Turn.Exchange e) t = omega (arith, less-taken j k t.0 (Turn.Exchange e) t.1)
-less-turned j k (Turn.NoRun e r) t = omega (arith, less-taken j k t.0 (Turn.NoRun e r) t.1)
-less-turned j k (Turn.Break reason r) t = omega (arith, less-taken j k t.0 (Turn.Break reason r) t.1, weight_small (Turn.Break reason r))
+less-turned j k turn t = omega (arith, less-taken j k t.0 turn t.1, weight_small turn)
 
 pub less-come : {R : Type 0} (j k : Judging R) (turn : Turn) → ComesTo j (Ok turn) k → left_to_do turn k ≤ 3 * (4000000 - j.rows.given)
 less-come j k turn c =
@@ -85,12 +74,11 @@ less-first profile before first turn k h = by h.with_first
 
     at_once : (turn : Turn) → IsTaken h.new first (Ok (Some turn)) k → left_to_do turn k + 2 ≤ 3 * (4000000 - before.given)
     at_once Turn.End t = absurd t
-    at_once (Turn.Exchange e) t = omega (arith, given, less-taken h.new k first (Turn.Exchange e) t)
-    at_once (Turn.NoRun e r) t = omega (arith, given, less-taken h.new k first (Turn.NoRun e r) t)
     at_once (Turn.Break reason r) t =
         let is : IsReason profile.rate [] first reason = subst (λ (p : Paired). IsReason p.rate p.tail first reason) h.begins.fed_nothing t.1.refuses.is_reason in
         let none = none_open profile.rate reason first (first_holds (λ x. Holds profile.rate x [] first) order reason is) in
         rw none (omega (arith, given, less-taken h.new k first (Turn.Break reason r) t))
+    at_once turn t = omega (arith, given, less-taken h.new k first turn t)
 
     by : BeginsWith h.new first (Ok turn) k → left_to_do turn k + 2 ≤ 3 * (4000000 - before.given)
     by (inl (x, is, rest)) = absurd (cc is)

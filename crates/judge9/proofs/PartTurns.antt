@@ -10,9 +10,7 @@ use Rattle.judge9.proofs.TurnSteps.{comes_with, ended-more, IsEnded}
 abbrev pub Ahead : {R : Type 0} (front j : Judging R) → Profile → List BrokenPart → List LineByte → List LineByte → (turn : Turn) → Turned front (Ok turn) j
     → Type 0
 Ahead front j profile broken past items Turn.End t = Onward profile broken past items
-Ahead front j profile broken past items (Turn.Exchange e) t = (more : List LineByte) → Onward profile broken past (items ++ t.0 ∷ more)
-Ahead front j profile broken past items (Turn.NoRun e r) t = (more : List LineByte) → Onward profile broken past (items ++ t.0 ∷ more)
-Ahead front j profile broken past items (Turn.Break reason r) t = (more : List LineByte) → Onward profile broken past (items ++ t.0 ∷ more)
+Ahead front j profile broken past items turn t = (more : List LineByte) → Onward profile broken past (items ++ t.0 ∷ more)
 
 -- the parts before this one, which break, and what was written of them
 pub record Before (T : BrokenPart → List ℕ → Type 0) (broken : List BrokenPart) (past : List LineByte) (old now : Option (List ℕ)) : Type 0 where
@@ -45,18 +43,14 @@ Arrives T view profile rows old now broken es end_us (Err x) j = JudgesParts T v
 all_ahead : {R : Type 0} (front j : Judging R) (profile : Profile) (broken : List BrokenPart) (past items : List LineByte) (turn : Turn)
     (t : Turned front (Ok turn) j) → OnwardAll profile broken past items → Ahead front j profile broken past items turn t
 all_ahead front j profile broken past items Turn.End t all = subst (Onward profile broken past) (append-nil items) (all [])
-all_ahead front j profile broken past items (Turn.Exchange e) t all = λ more. all (t.0 ∷ more)
-all_ahead front j profile broken past items (Turn.NoRun e r) t all = λ more. all (t.0 ∷ more)
-all_ahead front j profile broken past items (Turn.Break reason r) t all = λ more. all (t.0 ∷ more)
+all_ahead front j profile broken past items turn t all = λ more. all (t.0 ∷ more)
 
 -- with the first record of a part
 first_ahead : {R : Type 0} (j k : Judging R) (profile : Profile) (broken : List BrokenPart) (past : List LineByte) (first : LineByte) (turn : Turn)
     → IsTaken j first (Ok (Some turn)) k → ((more : List LineByte) → Onward profile broken past (first ∷ more))
     → (t : Turned j (Ok turn) k) × Ahead j k profile broken past [] turn t
 first_ahead j k profile broken past first Turn.End taken on = absurd taken
-first_ahead j k profile broken past first (Turn.Exchange e) taken on = ((first, taken), on)
-first_ahead j k profile broken past first (Turn.NoRun e r) taken on = ((first, taken), on)
-first_ahead j k profile broken past first (Turn.Break reason r) taken on = ((first, taken), on)
+first_ahead j k profile broken past first turn taken on = ((first, taken), on)
 
 -- what was written, with that of this part
 pub wrote_all : {T : BrokenPart → List ℕ → Type 0} {broken : List BrokenPart} {past : List LineByte} {old begun : Option (List ℕ)}
@@ -115,6 +109,5 @@ arrive_first view {T = T} {profile = profile} {rows = rows} {old = old} {now = n
         rw is (record { past = past; begun = now; before = before; front = j; so_far = h; turned = at.0; ahead = rw nil at.1; ended = λ none. refl })
     by h nil (inr (inr (mid, waits, come))) =
         let all = subst (OnwardAll profile broken past) (sym (so_far-open_items h waits ∙ ap (λ l. l ++ first ∷ []) nil))
-        (onward-more profile broken past [] first on)
-        in
+        (onward-more profile broken past [] first on) in
         arrive before None (so_far-open h waits) all (λ none. refl) come

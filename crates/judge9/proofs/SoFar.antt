@@ -66,8 +66,7 @@ seen None left items fault read can = record {
   all = record { records = items; fault = fault };
   is_known = tt;
   of_a_text = some-text _ can;
-  start =
-      ([], sym (append-nil items));
+  start = ([], sym (append-nil items));
   whole = λ _. refl;
 }
 seen (Some a) left items fault read can =

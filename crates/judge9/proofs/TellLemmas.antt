@@ -92,8 +92,7 @@ judges-told now line (Err (JudgeError.Capture e)) told can puts = absurd puts
 judges-told {rows = rows} now line r told can puts = record {
   told = told;
   stopped = of_known rows told.rows (λ all. ⊤) told.is_known tt;
-  is_kind =
-      λ e q. cc;
+  is_kind = λ e q. cc;
   can_be = can;
 }
 
@@ -165,24 +164,20 @@ module _ {R : Type 0} {which : View} {profile : Profile} {rows : Option Rows} {j
       let s = seen_now h in
       let whole : s.all ≡ record { records = h.items; fault = None } = s.whole t.ends.none_left in
       let some = cut_counts profile.rate h.items es j.pairer.tail h.cut in
-      let counts : AreCounts profile h.items k.rows.given n (length k.pairer.tail) =
-      record {
+      let counts : AreCounts profile h.items k.rows.given n (length k.pairer.tail) = record {
         cut_exchanges = es;
         cut_tail = j.pairer.tail;
         cut = h.cut;
         run = h.run;
         number = omega arith;
         exchange_number = count;
-        tail_number =
-            rw t.same_pairer;
+        tail_number = rw t.same_pairer;
       } in
-      let can : CanBeVerdict (Verdict.Yes k.rows.given n (length k.pairer.tail)) =
-      rw t.same_pairer (record {
+      let can : CanBeVerdict (Verdict.Yes k.rows.given n (length k.pairer.tail)) = rw t.same_pairer (record {
         few = omega arith;
         short = tail_short profile.rate j.pairer.tail (cut_tail profile.rate h.items es j.pairer.tail h.cut);
         enough = omega arith;
-        no_more =
-            omega arith;
+        no_more = omega arith;
       }) in
       let both = judges-verdict s (Verdict.Yes k.rows.given n (length k.pairer.tail)) r s.start (ap (λ (x : Rows). x.fault) whole, rw whole counts)
       (omega arith) can same puts in
@@ -233,8 +228,7 @@ module _ {R : Type 0} {which : View} {profile : Profile} {rows : Option Rows} {j
             items = h.items;
             start = (read.0.records, ap (λ (x : Rows). x.records) read.2);
             place = place;
-            has_header =
-                λ low. rw read.2 (has low);
+            has_header = λ low. rw read.2 (has low);
             is_ok = so_far-ok h;
           }
 

@@ -64,8 +64,7 @@ first_of_text which profile rows r old new a whole told is all = by r told.answe
 
     -- what the whole text begins with
     lines : (rest : List ℕ) × (all.text ≡ told.text ++ rest) × (more.0 ≡ [] → rest ≡ [])
-    lines =
-        let ok = answer_ok profile rows a is in
+    lines = let ok = answer_ok profile rows a is in
         let run = subst (HasRun profile) ((cut_once profile.rate (explained_of rows a) ok.exchanges all.exchanges ok.tail all.tail ok.cut all.cut).0 ∙ more.1) ok.run in
         explained_start which profile told.exchanges more.0 told.text all.text run told.explained (rw more.1 at all.explained)
 

@@ -1,5 +1,5 @@
 -- What the rows do that end no exchange, and what a turn of a judging brings.
-use Rattle.judge9.proofs.Words.{inr, refl, BeginsWith, Some, IsTaken, [], IsEnd, ◌++◌, ◌∙◌, ◌∷◌}
+use Rattle.judge9.proofs.Words.{Some, IsTaken, [], IsEnd, ◌++◌, ◌∙◌, ◌∷◌}
 use Rattle.judge9.proofs.Words.{ap, AreOpen, arith, ComesTo, Err, Exchange, false, Feeds, ForSome, GivesRecord, Profile, inl, IsErrAnd, IsObserved, IsOpen, JudgeError, Judging}
 use Rattle.judge9.proofs.Words.{LineByte, List, None, Observes, Ok, Option, Paired, Progress, Result, Rows, Step, subst, suc, sym, Takes, true, Turn, Turned, View, Waits, zero}
 use Rattle.judge9.proofs.Words.{ℕ, ◌-◌, ◌<◌, ◌≡◌, ◌≤◌}
@@ -107,8 +107,3 @@ pub taken_turned : {R : Type 0} (j k : Judging R) (r : LineByte) (result : Resul
 taken_turned j k r (Ok Turn.End) taken = absurd taken
 taken_turned j k r (Ok turn) taken = (r, taken)
 taken_turned j k r (Err x) taken = inl taken.0
-
--- and of the first record of a part
-pub taken_first : {R : Type 0} (j k : Judging R) (r : LineByte) (result : Result Turn JudgeError) → IsTaken j r (some_turn result) k → BeginsWith j r result k
-taken_first j k r (Ok turn) taken = inr (inl (turn, refl, taken))
-taken_first j k r (Err x) taken = inl (x, refl, taken)

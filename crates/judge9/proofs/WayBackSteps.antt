@@ -38,21 +38,10 @@ lead_ends profile es (f ∷ fs) t l =
     (λ u w. (ends_more profile es f).1 w.0 u w.1 w.2) l in
     subst (λ (x : List Exchange). Ends profile x t) (append_assoc es (f ∷ []) fs) (lead_ends profile (es ++ f ∷ []) fs t more)
 
--- the same from one exchange to the next, and through some and then others
-leads_more : (profile : Profile) (X : State → Type 0) (es : List Exchange) (e : Exchange) (t : State)
-    → Leads profile X (es ++ e ∷ []) t ↔ ((s : State) × Leads profile X es s × Exchanges profile e.command e.reply s t)
-leads_more profile X [] e t = (λ l. l, λ l. l)
-leads_more profile X (f ∷ fs) e t = leads_more profile (λ u. (s : State) × X s × Exchanges profile f.command f.reply s u) fs e t
-
-leads_then : (profile : Profile) (X : State → Type 0) (es fs : List Exchange) (t : State) → Leads profile X (es ++ fs) t → Leads profile (Leads profile X es) fs t
-leads_then profile X [] fs t l = leads_on profile fs X (Leads profile X []) t (λ s x. x) l
-leads_then profile X (e ∷ es) fs t l = leads_on profile fs (Leads profile (λ u. (s : State) × X s × Exchanges profile e.command e.reply s u) es) (Leads profile X (e ∷ es)) t (λ s x. x)
-    (leads_then profile (λ u. (s : State) × X s × Exchanges profile e.command e.reply s u) es fs t l)
-
-leads_join : (profile : Profile) (X : State → Type 0) (es fs : List Exchange) (t : State) → Leads profile (Leads profile X es) fs t → Leads profile X (es ++ fs) t
-leads_join profile X [] fs t l = leads_on profile fs (Leads profile X []) X t (λ s x. x) l
-leads_join profile X (e ∷ es) fs t l = leads_join profile (λ u. (s : State) × X s × Exchanges profile e.command e.reply s u) es fs t
-    (leads_on profile fs (Leads profile X (e ∷ es)) (Leads profile (λ u. (s : State) × X s × Exchanges profile e.command e.reply s u) es) t (λ s x. x) l)
+-- through some and then others
+leads_joined : (profile : Profile) (X : State → Type 0) (es fs : List Exchange) (t : State) → Leads profile X (es ++ fs) t ↔ Leads profile (Leads profile X es) fs t
+leads_joined profile X [] fs t = (λ l. l, λ l. l)
+leads_joined profile X (e ∷ es) fs t = leads_joined profile (λ u. (s : State) × X s × Exchanges profile e.command e.reply s u) es fs t
 
 -- ---- a tracker that follows another one
 
@@ -69,8 +58,8 @@ from-next first es k e old new low is f reached kept =
     let same = rw f.profile at reached in
     let next : FollowsFrom first (take k es ++ e ∷ []) new = record {
       states = λ t. (
-        λ p. let s = same.0 t p in (leads_more first.profile (Possible first.states) (take k es) e t).1 (s.0, (f.states s.0).0 s.1, s.2),
-        λ p. let s = (leads_more first.profile (Possible first.states) (take k es) e t).0 p in same.1 s.0 t ((f.states s.0).1 s.1) s.2,
+        λ p. let s = same.0 t p in (leads_joined first.profile (Possible first.states) (take k es) (e ∷ []) t).1 (s.0, (f.states s.0).0 s.1, s.2),
+        λ p. let s = (leads_joined first.profile (Possible first.states) (take k es) (e ∷ []) t).0 p in same.1 s.0 t ((f.states s.0).1 s.1) s.2,
       );
       profile = kept ∙ f.profile;
     } in
@@ -80,10 +69,10 @@ from-next first es k e old new low is f reached kept =
 follows-then : {first t u : Tracked} (es fs : List Exchange) → FollowsFrom first es t → FollowsFrom t fs u → FollowsFrom first (es ++ fs) u
 follows-then {first = first} {t = t} es fs f g = record {
   states = λ s. (
-    λ p. leads_join first.profile (Possible first.states) es fs s
+    λ p. (leads_joined first.profile (Possible first.states) es fs s).1
         (leads_on first.profile fs (Possible t.states) (LeadsFrom first es) s (λ v. (f.states v).0) (rw f.profile at ((g.states s).0 p))),
     λ l. (g.states s).1 (rw f.profile (leads_on first.profile fs (LeadsFrom first es) (Possible t.states) s (λ v. (f.states v).1)
-        (leads_then first.profile (Possible first.states) es fs s l))),
+        ((leads_joined first.profile (Possible first.states) es fs s).0 l))),
   );
   profile = g.profile ∙ f.profile;
 }
@@ -152,13 +141,6 @@ nearest_follows {first = first} {es = es} {marks = marks} are = by (last_mark ma
     by : (o : Option Mark) → last_mark marks ≡ o → FollowsFrom first (take (place_of o) es) (tracked_by first o)
     by None e = from-start first
     by (Some m) e = at_mark (λ n. FollowsFrom first (take n.place es) n.tracker) marks (length marks - 1) m are.follow e
-
-pub nearest_within : {first : Tracked} {es : List Exchange} {at : ℕ} {marks : List Mark} → AreMarks first es (at + 1) marks → place_of (last_mark marks) ≤ at
-nearest_within {at = at} {marks = marks} are = by (last_mark marks) refl
-  where
-    by : (o : Option Mark) → last_mark marks ≡ o → place_of o ≤ at
-    by None e = omega arith
-    by (Some m) e = let low = at_mark (λ x. x.place < at + 1) marks (length marks - 1) m are.within e in omega arith
 
 -- no mark is after the last
 before_last_mark : (marks : List Mark) → AllPairs (λ a b. a.place < b.place) marks → (k : ℕ) (d : Mark) → k < length marks
@@ -245,7 +227,7 @@ module _ {first before : Tracked} (es : List Exchange) (at : ℕ) (e : Exchange)
   pub step_from : (state : State) → LeadsFrom first (take (at + 1) es) state
       → (s : State) × Possible before.states s × Exchanges before.profile e.command e.reply s state
   step_from state leads =
-      let l = (leads_more first.profile (Possible first.states) (take at es) e state).0 (rw one_more at leads) in
+      let l = (leads_joined first.profile (Possible first.states) (take at es) (e ∷ []) state).0 (rw one_more at leads) in
       (l.0, (follows.states l.0).1 l.1, subst (λ h. Exchanges h e.command e.reply l.0 state) (sym follows.profile) l.2)
 
   -- through one exchange more

@@ -4,8 +4,8 @@ use Rattle.judge9.proofs.LawLemmas.{no_with_more, yes_with_more}
 
 pub returns-clause-yes : goal.returns-clause-yes
 returns-clause-yes c = λ p less more rows records exchanges tail forgets ways.
-    yes_with_more p.rate p.hands p.hands less more rows records exchanges tail (λ es. no_more_runs p less more forgets ways es)
+    yes_with_more (record p { deck = less }) p.hands more (no_more_runs p less more forgets ways) rows records exchanges tail
 
 pub returns-clause-no : goal.returns-clause-no
 returns-clause-no c = λ p less more rows at other reason another forgets ways.
-    no_with_more p.rate p.hands p.hands less more rows at other reason another (λ es. no_more_runs p less more forgets ways es)
+    no_with_more (record p { deck = less }) p.hands more (no_more_runs p less more forgets ways) rows at other reason another

@@ -4,7 +4,9 @@ use Rattle.judge9.proofs.laws.hands_judge_no_harder.Goals as goal
 use Rattle.judge9.proofs.LawLemmas.{no_with_more, yes_with_more}
 
 pub returns-clause-yes : goal.returns-clause-yes
-returns-clause-yes c = λ rate deck rows records exchanges tail. yes_with_more rate hands.None hands.Allowed deck deck rows records exchanges tail (run_with_hands rate deck)
+returns-clause-yes c = λ rate deck.
+    yes_with_more (record { rate = rate; hands = hands.None; deck = deck }) hands.Allowed deck (run_with_hands rate deck)
 
 pub returns-clause-no : goal.returns-clause-no
-returns-clause-no c = λ rate deck rows at other reason another. no_with_more rate hands.None hands.Allowed deck deck rows at other reason another (run_with_hands rate deck)
+returns-clause-no c = λ rate deck.
+    no_with_more (record { rate = rate; hands = hands.None; deck = deck }) hands.Allowed deck (run_with_hands rate deck)

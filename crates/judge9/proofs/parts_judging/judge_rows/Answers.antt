@@ -1,7 +1,7 @@
 use Rattle.judge9.proofs.Words.{[], arith, Err, exchanges_of, length_push, None, Ok, Reason, refl, ◌++◌, ◌∙◌, ◌∷◌}
 use Rattle.judge9.proofs.parts_judging.judge_rows.Goals as goal
-use Rattle.judge9.proofs.PartEnds.{all_exchanges, at_exchange, at_start, at_the_end, at_unexplained, at_unkept, break_memory, break_rate, break_read, count_more}
-use Rattle.judge9.proofs.PartEnds.{end_fits, exchange_fits, less-end, loses_its_runs, no_run_memory, no_run_rate, no_run_read, told_break, told_no_run}
+use Rattle.judge9.proofs.PartEnds.{all_exchanges, at_exchange, at_start, at_the_end, at_unexplained, at_unkept, break_memory, break_read, breaks_by, count_more}
+use Rattle.judge9.proofs.PartEnds.{end_fits, exchange_fits, less-end, loses_its_runs, told_break, told_no_run}
 use Rattle.judge9.proofs.PartMeasure.{less-come}
 use Rattle.judge9.proofs.TurnSteps.{handed}
 
@@ -74,13 +74,15 @@ rows-smaller-in_ok-turn-in-Exchange g c =
 pub returns-in_err-keep-in-NoRun : goal.returns-in_err-keep-in-NoRun
 returns-in_err-keep-in-NoRun g c =
     rw (handed c.from_residual-in_err-keep-in-NoRun.result c.from_residual-in_err-keep-in-NoRun.ensures.1)
-    (no_run_memory (rw c.in-NoRun.is at c.rows.invariant.at_turn))
+    (break_memory (rw c.in-NoRun.is at c.rows.invariant.at_turn) Reason.NoRun c.in-NoRun.last (refl, refl))
 
 pub put_break-requires-clause-rate : goal.put_break-requires-clause-rate
-put_break-requires-clause-rate g c = no_run_rate (rw c.in-NoRun.is at c.rows.invariant.at_turn)
+put_break-requires-clause-rate g c =
+    (breaks_by (rw c.in-NoRun.is at c.rows.invariant.at_turn) Reason.NoRun c.in-NoRun.last (refl, refl)).3
 
 pub put_break-requires-in-Break-clause-rate : goal.put_break-requires-in-Break-clause-rate
-put_break-requires-in-Break-clause-rate g c = break_rate (rw c.in-Break.is at c.rows.invariant.at_turn)
+put_break-requires-in-Break-clause-rate g c =
+    (breaks_by (rw c.in-Break.is at c.rows.invariant.at_turn) c.in-Break.reason c.in-Break.last (refl, refl)).3
 
 pub put_break-requires-clause-breaks : goal.put_break-requires-clause-breaks
 put_break-requires-clause-breaks g c = λ why no_run.
@@ -91,10 +93,10 @@ put_break-requires-clause-breaks g c = λ why no_run.
 pub returns-in_err-put_break-in-NoRun : goal.returns-in_err-put_break-in-NoRun
 returns-in_err-put_break-in-NoRun g c =
     rw (handed c.from_residual-in_err-put_break-in-NoRun.result c.from_residual-in_err-put_break-in-NoRun.ensures.1, c.in_err-put_break-in-NoRun.ensures.err)
-    (no_run_memory (rw c.in-NoRun.is at c.rows.invariant.at_turn))
+    (break_memory (rw c.in-NoRun.is at c.rows.invariant.at_turn) Reason.NoRun c.in-NoRun.last (refl, refl))
 
 pub end_part-requires : goal.end_part-requires
-end_part-requires g c = no_run_read (rw c.in-NoRun.is at c.rows.invariant.at_turn)
+end_part-requires g c = break_read (rw c.in-NoRun.is at c.rows.invariant.at_turn) Reason.NoRun c.in-NoRun.last (refl, refl)
 
 pub returns-in_err-turn-in-NoRun : goal.returns-in_err-turn-in-NoRun
 returns-in_err-turn-in-NoRun g c =
@@ -125,12 +127,12 @@ rows-preserved-in_ok-turn-in-NoRun g c =
       exchanges = rw all so_far.exchanges;
       in_exchanges = rw all so_far.in_exchanges;
       kept = λ _. rw c.replace-part.ensures.after (c.new.ensures.exchanges, c.new.ensures.end);
-      bound = omega (arith, bound, less-end _ c.args.profile.now Reason.NoRun c.in-NoRun.last c.rows.judging c.end_part.new.judging _ _ turn (no_run_read at) ends);
+      bound = omega (arith, bound, less-end _ c.args.profile.now Reason.NoRun c.in-NoRun.last c.rows.judging c.end_part.new.judging _ _ turn (break_read at Reason.NoRun _ (refl, refl)) ends);
     }
 
 pub rows-smaller-in_ok-turn-in-NoRun : goal.rows-smaller-in_ok-turn-in-NoRun
 rows-smaller-in_ok-turn-in-NoRun g c =
-    let read = no_run_read (rw c.in-NoRun.is at c.rows.invariant.at_turn) in
+    let read = break_read (rw c.in-NoRun.is at c.rows.invariant.at_turn) Reason.NoRun c.in-NoRun.last (refl, refl) in
     let less = less-end _ c.args.profile.now Reason.NoRun c.in-NoRun.last c.rows.judging c.end_part.new.judging _ _ c.in_ok-turn-in-NoRun.turn read
     c.in_ok-turn-in-NoRun.ensures in
     rw c.in-NoRun.is (omega (arith, less))
@@ -140,10 +142,10 @@ rows-smaller-in_ok-turn-in-NoRun g c =
 pub returns-in_err-put_break-in-Break : goal.returns-in_err-put_break-in-Break
 returns-in_err-put_break-in-Break g c =
     rw (handed c.from_residual-in_err-put_break-in-Break.result c.from_residual-in_err-put_break-in-Break.ensures.1, c.in_err-put_break-in-Break.ensures.err)
-    (break_memory (rw c.in-Break.is at c.rows.invariant.at_turn))
+    (break_memory (rw c.in-Break.is at c.rows.invariant.at_turn) c.in-Break.reason c.in-Break.last (refl, refl))
 
 pub end_part-requires-in-Break : goal.end_part-requires-in-Break
-end_part-requires-in-Break g c = break_read (rw c.in-Break.is at c.rows.invariant.at_turn)
+end_part-requires-in-Break g c = break_read (rw c.in-Break.is at c.rows.invariant.at_turn) c.in-Break.reason c.in-Break.last (refl, refl)
 
 pub returns-in_err-turn-in-Break : goal.returns-in_err-turn-in-Break
 returns-in_err-turn-in-Break g c =
@@ -178,13 +180,13 @@ rows-preserved g c =
         arith,
         bound,
         less-end _ c.args.profile.now c.in-Break.reason c.in-Break.last c.rows.judging c.end_part-in-Break.new.judging _ _ turn
-            (break_read at) ends,
+            (break_read at c.in-Break.reason _ (refl, refl)) ends,
       );
     }
 
 pub rows-smaller : goal.rows-smaller
 rows-smaller g c =
-    let read = break_read (rw c.in-Break.is at c.rows.invariant.at_turn) in
+    let read = break_read (rw c.in-Break.is at c.rows.invariant.at_turn) c.in-Break.reason c.in-Break.last (refl, refl) in
     let less = less-end _ c.args.profile.now c.in-Break.reason c.in-Break.last c.rows.judging c.end_part-in-Break.new.judging _ _ c.in_ok-turn-in-Break.turn read
     c.in_ok-turn-in-Break.ensures in
     rw c.in-Break.is less

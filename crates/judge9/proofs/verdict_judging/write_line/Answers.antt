@@ -5,6 +5,5 @@ pub returns-in_default : goal.returns-in_default
 returns-in_default g c = record {
   line = _;
   is_line = (c.knowledge-knowledge.result, c.knowledge-knowledge.ensures, refl);
-  puts =
-      Appends-nil _;
+  puts = Appends-nil _;
 }

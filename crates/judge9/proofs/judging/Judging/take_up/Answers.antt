@@ -27,8 +27,7 @@ returns-in_err-first g c =
       none_begins = over.none_begins;
       mid = over.mid;
       gives = over.gives;
-      goes_on =
-          rw (handed c.from_residual.result c.from_residual.ensures.1) (inr (inr (over.goes_on.0, over.goes_on.1, ap Err over.goes_on.2)));
+      goes_on = rw (handed c.from_residual.result c.from_residual.ensures.1) (inr (inr (over.goes_on.0, over.goes_on.1, ap Err over.goes_on.2)));
     }))
 
 pub begin-requires-in-Some-clause-read : goal.begin-requires-in-Some-clause-read
