@@ -6,7 +6,7 @@ use Rattle.block9.proofs.Words.{length-append, LineByte, List, None, nothing, op
 use Rattle.block9.proofs.Words.{◌≢◌, ◌≤◌}
 use Rattle.block9.proofs.LineLemmas.{first_time-push_any, whole_len, whole_long}
 use Rattle.block9.proofs.BlockSteps.{begun_push, whole_now}
-use Rattle.block9.proofs.TailLemmas.{after_command_quiet, answered, asked_block, idle_quiet, in_command_quiet, in_reply_quiet, last_time-append, place_in_command, place_of_command}
+use Rattle.block9.proofs.TailLemmas.{after_command_quiet, answered, asked_block, idle_quiet, in_command_quiet, in_reply_quiet, place_in_command, place_of_command}
 use Rattle.tc25.specs.declared.rate.Rate.{Rate}
 
 module _ (rate : Rate) where
@@ -126,11 +126,8 @@ module _ (rate : Rate) where
   pub tail_short : (t : List LineByte) → IsTail rate t → length t ≤ 35
   tail_short t h = grind (arith, whole_len, block_len_low, length-append)
 
-  -- what it leaves is a tail, with no record after the one that was fed
+  -- what it leaves is a tail
   pub still_tail : (t : List LineByte) (r : LineByte) (s : Step) → IsStep rate t r s → IsTail rate (tail_after t r s)
   still_tail t r Step.Waiting h = h.0
   still_tail t r Step.Command h = after_command h.0 h.1 h.2
   still_tail t r (Step.Exchange e) h = nothing refl
-
-  pub last_time-tail_after : (t : List LineByte) (r : LineByte) (s : Step) → last_time (tail_after t r s) ≤ r.time_us
-  last_time-tail_after t r s = let e = last_time-append rate t (r ∷ []) (omega arith) in grind arith

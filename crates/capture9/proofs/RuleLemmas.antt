@@ -18,8 +18,7 @@ first-of P before after k none holds = record {
   after = after;
   split = refl;
   holds = holds;
-  none_before =
-      All-from_recursion (λ j. ¬ (P j)) before none;
+  none_before = All-from_recursion (λ j. ¬ (P j)) before none;
 }
 
 record-read : (number before : ℕ) (a b c : List ℕ) (time : Option ℕ) (wire : Option Wire) (byte : Option ℕ) → ¬ (most_rows < number)
@@ -70,8 +69,7 @@ part-from number before (fields ∷ rest) =
       good = fields ∷ m.good;
       left = m.left;
       split = ap (λ (l : List (List (List ℕ))). fields ∷ l) m.split;
-      are_good =
-          (read.0, read.1, m.are_good);
+      are_good = (read.0, read.1, m.are_good);
       are_left = λ n e. m.are_left n (omega arith);
     }) (λ k e.
     let read = rw e at (row-read number before fields) in

@@ -22,8 +22,7 @@ by_nak profile c s t same = (
   record {
     block = record { group = omega arith; data_bytes = omega arith };
     code_byte = omega arith;
-    data_bytes =
-        one_byte 0 [] (omega arith) no_bytes;
+    data_bytes = one_byte 0 [] (omega arith) no_bytes;
     kind = grind arith;
     valid_time = grind arith;
   },
@@ -46,8 +45,7 @@ pass_steps profile c s t (inr does) = elim (acked profile.rate profile.deck c) [
       block = record { group = omega arith; data_bytes = omega arith };
       code_byte = omega arith;
       data_bytes = no_bytes;
-      kind =
-          kind;
+      kind = kind;
       valid_time = valid_time;
     },
     done refl (subst (λ a. Agrees profile.rate a s (block 1 0x01 [])) (sym silent) tt) does,
@@ -117,8 +115,7 @@ believing_fewer profile more fewer es le w = record {
   first = w.first;
   is_first = w.is_first;
   after = w.after;
-  is_run =
-      runs_fewer profile more fewer es w.first w.after le w.is_run;
+  is_run = runs_fewer profile more fewer es w.first w.after le w.is_run;
 }
 
 -- ---- what comes before

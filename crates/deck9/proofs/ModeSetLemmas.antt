@@ -88,8 +88,7 @@ same_modes a b p q same = same_from_bits_below 10 a b p q (λ i h. same_bit (bit
 pub some_mode : (s : ModeSet) → is_some s ≡ true → (m : Mode) × (has s.0 m ≡ true)
 some_mode s h = elim (some_or_none (has s.0)) [
   | inl w ↦ w
-  | inr none ↦ let no : bit_and s.0 1023 ≡ 0 = same_modes (bit_and s.0 1023) 0 (ten_bits s.0) (pow_pos 10) (λ m. has_ten s.0 m ∙ none m ∙ sym (nothing_has m))
-      in
+  | inr none ↦ let no : bit_and s.0 1023 ≡ 0 = same_modes (bit_and s.0 1023) 0 (ten_bits s.0) (pow_pos 10) (λ m. has_ten s.0 m ∙ none m ∙ sym (nothing_has m)) in
       absurd (false≢true (ap (λ n. not (n == 0)) (sym no) ∙ h))
 ]
 

@@ -58,8 +58,7 @@ least_union s t a b m to_a to_b is in_s in_t = record {
 -- a part of the set of one time is that or empty
 part_of_just : (s : Times) (t : ℕ) → ((f : ℕ) → set.contains s f ≡ true → f ≡ t) → (s ≡ set.empty → ⊥) → s ≡ just t
 part_of_just s t part some =
-    let there : set.contains s t ≡ true =
-    true_from_ne_false (set.contains s t) (λ no. some (no_member s (λ f. let is = part f in grind arith))) in
+    let there : set.contains s t ≡ true = true_from_ne_false (set.contains s t) (λ no. some (no_member s (λ f. let is = part f in grind arith))) in
     same_times s (just t) (λ f. let is = part f in grind (arith, nat_tests, contains-just))
 
 -- two sets with a member each have one member together where both have that one alone

@@ -76,8 +76,7 @@ grown f s = record { first = min s.first f; last = max s.last f }
 pub canonical_with : (low f : ℕ) (xs : List Span) → IsCanonical low xs → low ≤ f → f < longest_day → IsCanonical low (with_frame f xs)
 canonical_with low f [] c le in_day = (le, (omega arith, in_day), tt)
 canonical_with low f (s ∷ xs) c le in_day =
-    let glued = λ (touch : f ≤ s.last + 1). canonical_glue low (grown f s) xs (omega arith) (omega arith) (canonical_from _ (s.last + 2) xs (omega arith) c.2)
-    in
+    let glued = λ (touch : f ≤ s.last + 1). canonical_glue low (grown f s) xs (omega arith) (omega arith) (canonical_from _ (s.last + 2) xs (omega arith) c.2) in
     grind (arith, nat_tests, canonical_with (s.last + 2) f xs c.2)
 
 pub covered_with : (g low f : ℕ) (xs : List Span) → IsCanonical low xs → f < longest_day → is_covered g (with_frame f xs) ≡ (eqb g f || is_covered g xs)

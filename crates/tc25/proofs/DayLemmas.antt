@@ -1,8 +1,8 @@
 -- Which label names a frame, and what four bytes read as.
-use Rattle.std.proofs.Common.{[], ap, arith, Bool, false, List, None, not, Option, refl, Some, suc, sym, true, zero, ◌&&◌, ◌*◌, ◌+◌, ◌-◌, ◌/◌, ◌%◌, ◌<◌, ◌≤◌, ◌==◌, ◌∙◌, ◌∷◌, ◌≡◌, ◌≢◌, nat_lt, if◌then◌else◌, ℕ}
+use Rattle.std.proofs.Common.{[], ap, arith, List, None, not, Option, refl, Some, suc, sym, true, zero, ◌&&◌, ◌*◌, ◌+◌, ◌-◌, ◌/◌, ◌%◌, ◌<◌, ◌≤◌, ◌==◌, ◌∙◌, ◌∷◌, ◌≡◌, ◌≢◌, nat_lt, if◌then◌else◌, ℕ}
 use Rattle.std.proofs.lemmas.Grind.{common_steps}
 use Rattle.std.specs.Prelude.{option_and_then}
-use Rattle.tc25.specs.Day.{bcd, bytes_of, bytes_of_label, day, digits_of, frame_named, frames_of, hours_of, in_second, is_label, label_of, label_spelled, labels_before, labels_in_day, longest_day, masked, minutes_of, Names, ReadsAs, seconds_of, time_of}
+use Rattle.tc25.specs.Day.{bcd, bytes_of, bytes_of_label, day, digits_of, frame_named, frames_of, hours_of, is_label, label_of, label_spelled, labels_before, labels_in_day, longest_day, masked, minutes_of, ReadsAs, seconds_of, time_of}
 use Rattle.tc25.specs.declared.rate.Rate.{Rate}
 use Rattle.tc25.specs.declared.rate.Rate.TheVariants.{Fps24, Fps25, Fps30, DropFrame}
 
@@ -25,9 +25,6 @@ some_day rate = grind arith
 -- a byte of two digits spells a number where it is the byte of that number
 digits_spell : (greatest byte n : ℕ) → digits_of greatest byte ≡ Some n → (n ≤ greatest) × (byte ≡ bcd n)
 digits_spell greatest byte n e = grind (arith, common_steps)
-
-spelled_digits : (greatest n : ℕ) → n ≤ greatest → digits_of greatest (bcd n) ≡ Some n
-spelled_digits greatest n low = grind (arith, common_steps)
 
 -- the bytes of a label spell it, and no others do
 label_bytes : (rate : Rate) (bytes : List ℕ) (label : ℕ) → label_spelled rate bytes ≡ Some label → (label < labels_in_day rate) × (bytes ≡ bytes_of_label rate label)

@@ -68,8 +68,7 @@ leads rate Goes count keeps f h whole few each = leads_by rate Goes count keeps 
       from = λ t i. not_live _ t dead i;
       to = λ s t i goes. not_live _ s dead i;
       whole = λ k. whole_in rate h whole l;
-      few =
-          λ k n. few l n;
+      few = λ k n. few l n;
     }
 
 -- what is read leaves the states of which it is true
@@ -466,8 +465,7 @@ set_exactly_where (Some set) p t = (
 status_exactly : (status : Status) (p : Part) (t : State) → InPart (status_part t.local status p) t ↔ (InPart p t × ShowsStatus t status)
 status_exactly status p t = let q = masked_part status.shown p in (
   λ i. cond_both (is_as_wanted status.local t.local) (reported_part status p) (no_states (rate_of p)) (λ q. InPart q t → InPart p t × ShowsStatus t status) (λ here i.
-      let a = (set_exactly_where status.registers q t).0 ((settled_exactly (set_where status.registers q) t).0 i) in let b =
-      (masked_exactly status.shown p t).0 a.0 in
+      let a = (set_exactly_where status.registers q t).0 ((settled_exactly (set_where status.registers q) t).0 i) in let b = (masked_exactly status.shown p t).0 a.0 in
       (b.0, record { local = (local_exactly status.local t.local).0 here; shown = b.1; registers = a.1 })) (λ e i. in_none (rate_of p) t i) i,
   λ (i, h). rw ((local_exactly status.local t.local).1 h.local)
       ((settled_exactly (set_where status.registers q) t).1 ((set_exactly_where status.registers q t).1

@@ -3,7 +3,7 @@ use Rattle.track9.proofs.Words.{Deck}
 use Rattle.track9.proofs.Words.{[], after_panel, all_drifted, all_or_none, AllLeadOn, ap, AreBelow, AreFew, AreReached, AreWhole, BelowDay, Block, Bool}
 use Rattle.track9.proofs.Words.{CanPass, Command, cond_both, counted, counts_after, Does, DoesOrNot, done, Drift, drift_from_pairs, DriftsAndGoes, Effect, effect_of, effect_taken, either_panel, entries_of}
 use Rattle.track9.proofs.Words.{false, false≢true, first_states, Follows, FollowsDrift, goes, Hands, hands_by, hands_of, has, HasEffect, if◌then◌else◌}
-use Rattle.track9.proofs.Words.{in_local, inl, InPart, inr, InTwo, is_nak, is_of_goal_or_register, is_panel_live, is_wide, IsIn, IsKept, IsState}
+use Rattle.track9.proofs.Words.{in_local, inl, InPart, inr, InTwo, is_nak, is_panel_live, is_wide, IsIn, IsKept, IsState}
 use Rattle.track9.proofs.Words.{LeadsOn, None, on_two, Option, panel_passed, Possible, Presets, presets_after, refl, RegIn}
 use Rattle.track9.proofs.Words.{Register, sense_of, Some, some_state, State, States, DeckStep, subst, switched, sym, Taken, StepOrPass, true, two_drifted, two_of, TwoBelow, TwoFew, Halves}
 use Rattle.track9.proofs.Words.{Profile, profile_of, Rate, rate_for, rate_in, untouched, TwoWhole, with_command, ◌↔◌, ◌∙◌, ◌≡◌, ◌⊎◌}
@@ -137,9 +137,6 @@ wide_step deck rate c reply e was wide = (
 
     asks_nothing : sense_of c ≡ sense.Nothing
     asks_nothing = elim (asks_or_acts deck c) [ inl e ↦ e | inr none ↦ absurd (false≢true (ap is_wide (sym none ∙ ok.1) ∙ wide)) ]
-
-    never_both : (e : Effect) → is_wide e ≡ true → is_of_goal_or_register e ≡ true → ⊥
-    never_both e wide may = grind arith
 
     back : (d t : State) → DeckStep (touched deck rate) c reply d t → Does (touched deck rate) e d t
     back d t h = grind arith

@@ -135,8 +135,7 @@ module _ (es : List Exchange) (low place : ℕ) (ascend : low ≤ place) (within
   range_length = length-take-le (place - low) (drop low es) (simp length-drop (omega arith))
 
   range_rest : slice_range es low place ++ drop place es ≡ drop low es
-  range_rest =
-      let whole = take-append-drop (place - low) (drop low es) in
+  range_rest = let whole = take-append-drop (place - low) (drop low es) in
       let rest = drop-drop (place - low) low es in
       let same : low + (place - low) ≡ place = omega arith in
       cc

@@ -247,8 +247,7 @@ reached-all profile X es place found at past = record {
     first = w.first;
     is_first = w.is_first;
     after = w.after;
-    is_run =
-        same_places profile _ _ es w.first w.after (λ k below. grind (arith, nat_tests)) w.is_run;
+    is_run = same_places profile _ _ es w.first w.after (λ k below. grind (arith, nat_tests)) w.is_run;
   });
   needed = at.found.needed;
   ascend = at.found.ascend;

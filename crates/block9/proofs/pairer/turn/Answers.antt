@@ -11,8 +11,7 @@ overflow_sub-line_byte c =
 
 pub returns-then-line_byte-tail-gt-BYTE_GAP_US-clause-err : goal.returns-then-line_byte-tail-gt-BYTE_GAP_US-clause-err
 returns-then-line_byte-tail-gt-BYTE_GAP_US-clause-err c =
-    let turn : wire_fault (place_at c.args.block) c.args.line_byte.wire (is_soon c.args.tail.now c.args.line_byte) ≡ None =
-    elim c.if-ne.branch [
+    let turn : wire_fault (place_at c.args.block) c.args.line_byte.wire (is_soon c.args.tail.now c.args.line_byte) ≡ None = elim c.if-ne.branch [
       | then-ne+in_default w ↦ search rules
       | else-ne w ↦ its_turn c.args.tail.now c.args.line_byte c.args.block (search rules)
     ] in
@@ -24,8 +23,7 @@ returns-then-line_byte-tail-gt-BYTE_GAP_US-clause-err c =
 
 pub returns-clause-ok : goal.returns-clause-ok
 returns-clause-ok c =
-    let turn : wire_fault (place_at c.args.block) c.args.line_byte.wire (is_soon c.args.tail.now c.args.line_byte) ≡ None =
-    elim c.if-ne.branch [
+    let turn : wire_fault (place_at c.args.block) c.args.line_byte.wire (is_soon c.args.tail.now c.args.line_byte) ≡ None = elim c.if-ne.branch [
       | then-ne+in_default w ↦ search rules
       | else-ne w ↦ its_turn c.args.tail.now c.args.line_byte c.args.block (search rules)
     ] in
