@@ -1,6 +1,6 @@
 -- What the reading of one CSV record does to a `Records`, as its callers see it.
-use Rattle.capture9.proofs.Words.{arith, bad_row, Bool, CaptureError, CaptureKind, Err, false, GivesRecord, GivesRefusal, HasHeader, HoldsInRecords, IfSome, is_of_text, IsAfter}
-use Rattle.capture9.proofs.Words.{IsAtItsRow, IsPlaced, IsTrue, length, LineByte, List, most_rows, nil_from_length, None, Ok, Option, option_map, Progress, Reader, refl, row_of}
+use Rattle.capture9.proofs.Words.{arith, bad_row, Bool, CaptureError, CaptureKind, Err, false, GivesRecord, GivesRefusal, HasHeader, HoldsInRecords, IfSome, is_of_text, is_past_header, IsAfter}
+use Rattle.capture9.proofs.Words.{IsAtItsRow, IsPlaced, IsTrue, length, LineByte, List, most_rows, nat_tests, nil_from_length, None, Ok, Option, option_map, Progress, Reader, refl, row_of}
 use Rattle.capture9.proofs.Words.{rows_from, rows_to_come, Some, Standing, TakesFields, TakesRecord, true, unread_rows, ℕ, ◌+◌, ◌<◌, ◌≡◌, ◌≤◌}
 use Rattle.capture9.proofs.RuleLemmas.{at-its-row, row_of-err, row_of-ok, rows_from-has_header}
 
@@ -49,15 +49,15 @@ bad-first given last_time unread after fields k within read bad =
 pub refuses-row : {R : Type 0} (source left : R) (s new : Standing) (headed : Bool) (given last_time : ℕ) (unread after : Option (List (List (List ℕ))))
     (k : CaptureKind) (e : CaptureError)
     → s ≡ Standing.Reading → headed ≡ true → e ≡ record { kind = k; row = given + 1 } → new ≡ Standing.Refused e → IsRowFault given last_time unread k
-    → GivesRefusal (progress_of s headed given last_time unread source) e (progress_of new headed given last_time after left)
+    → GivesRefusal (progress_of s headed given last_time unread source) e (progress_of new (is_past_header new false) given last_time after left)
 refuses-row source left s new headed given last_time unread after k e reads past is marked wrong =
-    rw (reads, past, marked, is) (grind (arith, past-header given last_time unread))
+    rw (reads, past, marked, is) (grind (arith, nat_tests, past-header given last_time unread))
 
 -- what stands inside a `Records` that was refused at a row
-pub refused-holds : {R : Type 0} (left : Reader R) (new : Standing) (headed : Bool) (given last_time : ℕ) (k : CaptureKind) (e : CaptureError)
-    → headed ≡ true → given ≤ most_rows → e ≡ record { kind = k; row = given + 1 } → new ≡ Standing.Refused e
-    → (IsTrue (is_of_text k) → IsAtItsRow (record { kind = k; row = given + 1 })) → HoldsInRecords new headed given last_time left
-refused-holds left new headed given last_time k e past within is marked at_its_row = rw (past, marked, is) (grind arith)
+pub refused-holds : {R : Type 0} (left : Reader R) (new : Standing) (given last_time : ℕ) (k : CaptureKind) (e : CaptureError)
+    → given ≤ most_rows → e ≡ record { kind = k; row = given + 1 } → new ≡ Standing.Refused e
+    → (IsTrue (is_of_text k) → IsAtItsRow (record { kind = k; row = given + 1 })) → HoldsInRecords new false given last_time left
+refused-holds left new given last_time k e within is marked at_its_row = rw (marked, is) (grind (arith, nat_tests))
 
 -- a refusal is told again, and nothing changes
 pub refuses-again : {R : Type 0} (source : R) (s : Standing) (headed : Bool) (given last_time : ℕ) (unread : Option (List (List (List ℕ)))) (e : CaptureError)

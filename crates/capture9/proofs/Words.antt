@@ -5,7 +5,7 @@ pub use Rattle.capture9.specs.Records.{GivesRecord, GivesRefusal, IsPlaced, Prog
 pub use Rattle.capture9.specs.RowRules.{AreGood, AreLeft, HasFirstPart, IsFirstOf, last_time, row_kinds, RowBreaks, Spell}
 pub use Rattle.capture9.specs.Rows.{bad_row, fields_record, good_row, HasHeader, headed_rows, no_rows, record_of, row_of, row_then, Rows, rows_from, rows_of}
 pub use Rattle.capture9.specs.SomeText.{CanBeRows, CanFollow, IsOfSomeText}
-pub use Rattle.capture9.specs.Working.{digits_after, HoldsInRecords, IsPlain, records_at, rows_to_come, TakesFields, unread_records, unread_rows}
+pub use Rattle.capture9.specs.Working.{digits_after, HoldsInRecords, is_past_header, IsPlain, records_at, rows_to_come, TakesFields, unread_records, unread_rows}
 pub use Rattle.capture9.specs.declared.error.CaptureError.{CaptureError}
 pub use Rattle.capture9.specs.declared.error.CaptureKind.{CaptureKind}
 pub use Rattle.capture9.specs.declared.line_byte.LineByte.{LineByte}
@@ -43,6 +43,7 @@ pub use Rattle.std.specs.Char.{digit_value, is_ascii_digit}
 pub use Rattle.std.specs.Fmt.{decimal}
 pub use Rattle.std.specs.List.{AllByRecursion}
 pub use Rattle.std.specs.List.Sorted.{IsNonDecreasingBy}
-pub use Rattle.std.specs.Prelude.{IfSome, if◌then◌else◌, IsTrue, ⊤, ◌↔◌}
+pub use Rattle.std.specs.Prelude.{IfErr, IfSome, if◌then◌else◌, IsTrue, ⊤, ◌↔◌}
+pub use Rattle.std.specs.Result.{result_ok}
 pub use Rattle.std.specs.Simd.Lanes.{Each1, fold_l, mask_l, top, zip2}
 pub use Rattle.std.specs.Str.{all_ascii_digits}

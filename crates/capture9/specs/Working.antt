@@ -1,6 +1,6 @@
 -- What the clauses of private functions cite, and what stands inside a `Records`. No public contract reaches it, so
 -- no reader has to believe it.
-use Rattle.std.specs.Prelude.{◌≡◌, ℕ, ◌+◌, ◌*◌, ◌^◌, ◌≤◌, Bool, true, false, List, [], ◌∷◌, Option, Some, None, length, option_map, IfSome, if◌then◌else◌}
+use Rattle.std.specs.Prelude.{◌≡◌, ℕ, ◌+◌, ◌*◌, ◌^◌, ◌≤◌, Bool, true, false, List, [], ◌∷◌, Option, Some, None, length, nat_lt, option_map, IfSome, if◌then◌else◌}
 use Rattle.csv.specs.Reading.{Ready, default_config, is_flexible, reader_config, reader_state, reader_trim, records_from, source_of}
 use Rattle.csv.specs.declared.parser.State.{State}
 use Rattle.csv.specs.declared.reader.Reader.{Reader}
@@ -39,13 +39,20 @@ pub record IsPlain {R : Type 0} (r : Reader R) : Type 0 where
   pub flexible : is_flexible r ≡ true
   pub ready : Ready r
 
+-- whether the header was read, by how the reading stands and whether data rows are being read: before an end it was, and
+-- before each refusal but one at row 0
+abbrev pub is_past_header : Standing → Bool → Bool
+is_past_header standing.Reading is_in_rows = is_in_rows
+is_past_header standing.Ended is_in_rows = true
+is_past_header (standing.Refused e) is_in_rows = nat_lt 0 e.row
+
 -- what always holds of the fields of a `Records`
-pub record HoldsInRecords {R : Type 0} (s : Standing) (is_headed : Bool) (given last_time : ℕ) (r : Reader R) : Type 0 where
+pub record HoldsInRecords {R : Type 0} (s : Standing) (is_in_rows : Bool) (given last_time : ℕ) (r : Reader R) : Type 0 where
   pub plain : s ≡ standing.Reading → IsPlain r
+  pub in_rows : is_in_rows ≡ true → s ≡ standing.Reading
   pub within : given ≤ most_rows
-  pub fresh : is_headed ≡ false → (given ≡ 0) × (last_time ≡ 0)
-  pub ended : s ≡ standing.Ended → is_headed ≡ true
-  pub refused : (e : CaptureError) → s ≡ standing.Refused e → IsPlaced is_headed given e
+  pub fresh : is_past_header s is_in_rows ≡ false → (given ≡ 0) × (last_time ≡ 0)
+  pub refused : (e : CaptureError) → s ≡ standing.Refused e → IsPlaced (is_past_header s is_in_rows) given e
 
 -- what a read of a CSV record did: there was one, with these fields, or there was none
 abbrev pub TakesFields : List (List (List ℕ)) → Bool → List (List ℕ) → Option (List (List (List ℕ))) → Type 0
@@ -54,7 +61,8 @@ TakesFields unread false fields after = unread ≡ []
 
 -- the header was read, and the rows to come are those that were
 pub record PassesHeader {R : Type 0} (old new : Progress R) : Type 0 where
-  pub standing : new.standing ≡ standing.Reading
+  pub was_reading : old.standing ≡ standing.Reading
+  pub is_reading : new.standing ≡ standing.Reading
   pub is_headed : new.is_headed ≡ true
   pub given : new.given ≡ old.given
   pub last_time : new.last_time ≡ old.last_time

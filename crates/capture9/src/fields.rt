@@ -1,7 +1,8 @@
 //! The fields of a row: from bytes to the record that they spell.
 
-ghost use Rattle.std.specs.Prelude.{◌≡◌, ◌≢◌, ◌+◌, ◌*◌, ◌^◌, ◌≤◌, ◌∷◌, [], ◌&&◌, length, MatchOption};
+ghost use Rattle.std.specs.Prelude.{◌≡◌, ◌≢◌, ◌+◌, ◌*◌, ◌^◌, ◌≤◌, ◌∷◌, [], ◌&&◌, ℕ, length, IfErr, MatchOption};
 ghost use Rattle.std.specs.Char.{is_ascii_digit};
+ghost use Rattle.std.specs.Result.{result_ok};
 ghost use Rattle.csv.specs.Records.{fields_of};
 ghost use Rattle.capture9.specs.Fields.{byte_in, hex_digit_of, is_header, time_in, wire_in};
 ghost use Rattle.capture9.specs.Rows.{row_of};
@@ -58,27 +59,51 @@ pub(crate) fn is_header(row: &ByteRecord) -> bool
     }
 }
 
-/// The record of the data row with this number, after a row of the time `before`, or the first rule
-/// that the row breaks.
+/// The record of the data row with this number, after a row of the time `before`, or None where the row
+/// breaks a rule.
 #[inline(always)] // else each record is handed on through memory
-pub(crate) fn read_row(number: u32, before: u64, row: &ByteRecord) -> Result<LineByte, CaptureKind>
-    ensures { result ≡ row_of number before (fields_of row.now) }
+pub(crate) fn read_row(number: u32, before: u64, row: &ByteRecord) -> Option<LineByte>
+    ensures { result ≡ result_ok (row_of number before (fields_of row.now)) }
 {
-    if number > MAX_ROWS {
-        return Err(CaptureKind::TooMany);
+    let columns = three_columns(row)?;
+    let time_us = read_time(columns.time)?;
+    let wire = read_wire(columns.wire)?;
+    let byte = read_byte(columns.byte)?;
+    if time_us < before || number > MAX_ROWS {
+        return None;
     }
-    let columns = three_columns(row).ok_or(CaptureKind::Fields)?;
-    let time_us = read_time(columns.time).ok_or(CaptureKind::Time)?;
-    let wire = read_wire(columns.wire).ok_or(CaptureKind::Wire)?;
-    let byte = read_byte(columns.byte).ok_or(CaptureKind::Byte)?;
-    if time_us < before {
-        return Err(CaptureKind::Backwards);
-    }
-    Ok(LineByte {
+    Some(LineByte {
         time_us,
         wire,
         byte,
     })
+}
+
+/// The first rule that the data row with this number breaks, where it breaks one.
+///
+/// It reads the fields again, so that `read_row` says nothing of rules: nearly every row keeps them all.
+#[cold]
+#[inline(never)]
+pub(crate) fn fault_in(number: u32, row: &ByteRecord) -> CaptureKind
+    ensures { (before : ℕ) → IfErr (row_of number before (fields_of row.now)) (λ k. result ≡ k) }
+{
+    if number > MAX_ROWS {
+        return CaptureKind::TooMany;
+    }
+    let Some(columns) = three_columns(row) else {
+        return CaptureKind::Fields;
+    };
+    if read_time(columns.time).is_none() {
+        return CaptureKind::Time;
+    }
+    if read_wire(columns.wire).is_none() {
+        return CaptureKind::Wire;
+    }
+    if read_byte(columns.byte).is_none() {
+        return CaptureKind::Byte;
+    }
+    // No other rule is left.
+    CaptureKind::Backwards
 }
 
 /// The time that a field tells, in microseconds: 1 to 15 decimal digits.

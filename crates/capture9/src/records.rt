@@ -1,6 +1,6 @@
 //! The records of a text, one at a time.
 
-ghost use Rattle.std.specs.Prelude.{◌≡◌, ◌≢◌, ◌+◌, ◌≤◌, ◌↔◌, true, false, IfErr, IfNone, IfOk, IfSome, OnErr, OnOk, option_map};
+ghost use Rattle.std.specs.Prelude.{◌≡◌, ◌≢◌, ◌+◌, ◌≤◌, ◌↔◌, true, false, IfErr, IfNone, IfOk, IfSome, MatchBool, OnErr, OnOk, option_map};
 ghost use Rattle.csv.specs.Reading.{error_kind};
 ghost use Rattle.csv.specs.Records.{fields_of};
 ghost use Rattle.csv.specs.declared.error.ErrorKind.TheVariants.{OutOfMemory};
@@ -38,7 +38,9 @@ pub struct Records<R: Read + Drop> {
     reader: Reader<R>,
     row: ByteRecord,
     given: u32,
-    is_headed: bool,
+    /// Whether data rows are being read: the header was read, and neither the end nor a refusal has come since. So one
+    /// test is enough for each record.
+    is_in_rows: bool,
     last_time: u64,
     standing: Standing,
 }
@@ -49,18 +51,19 @@ impl<R: Read + Drop> Model for Records<R> {
     ghost Value = { Progress R };
 
     ghost use Rattle.csv.specs.Reading.{reader_source};
-    ghost use Rattle.capture9.specs.Working.{HoldsInRecords, rows_to_come, unread_records};
+    ghost use Rattle.capture9.specs.Working.{HoldsInRecords, is_past_header, rows_to_come, unread_records};
 
     ghost view = { λ r. record {
-      rows = rows_to_come r.standing r.is_headed r.given r.last_time (unread_records R.remaining r.reader);
+      rows = rows_to_come r.standing (is_past_header r.standing r.is_in_rows) r.given r.last_time
+          (unread_records R.remaining r.reader);
       given = r.given;
-      is_headed = r.is_headed;
+      is_headed = is_past_header r.standing r.is_in_rows;
       last_time = r.last_time;
       standing = r.standing;
       source = reader_source r.reader;
     } };
 
-    ghost invariant = { λ r. HoldsInRecords r.standing r.is_headed r.given r.last_time r.reader };
+    ghost invariant = { λ r. HoldsInRecords r.standing r.is_in_rows r.given r.last_time r.reader };
 }
 
 impl<R: Read + Drop> Records<R> {
@@ -84,7 +87,7 @@ impl<R: Read + Drop> Records<R> {
                 .from_reader(alloc, reader),
             row: ByteRecord::new(alloc),
             given: 0,
-            is_headed: false,
+            is_in_rows: false,
             last_time: 0,
             standing: Standing::Reading,
         }
@@ -110,13 +113,8 @@ impl<R: Read + Drop> Records<R> {
             → (result ≡ Err e) × (self.new ≡ self.old) }
         ensures within { self.new.given ≤ most_rows }
     {
-        match self.standing {
-            Standing::Reading => {}
-            Standing::Ended => return Ok(None),
-            Standing::Refused(error) => return Err(error),
-        }
-        if !self.is_headed {
-            self.read_header()?;
+        if !self.is_in_rows && !self.enter_rows()? {
+            return Ok(None);
         }
         self.read_row()
     }
@@ -126,6 +124,29 @@ impl<R: Read + Drop> Records<R> {
         ensures { result ≡ self.now.given }
     {
         self.given
+    }
+
+    /// Comes to the data rows by reading the header, and answers true. After the end it answers false, and after a
+    /// refusal it gives the same refusal again.
+    #[inline(always)] // else the room for its result is cleared before each record
+    fn enter_rows(&mut self) -> Result<bool, CaptureError>
+        requires { self.old.standing ≡ Standing.Reading → self.old.is_headed ≡ false }
+        ensures entered { IfOk result
+            (λ b. MatchBool b (PassesHeader self.old self.new) (GivesEnd self.old self.new)) }
+        ensures refused { IfErr result (λ e. GivesRefusal self.old e self.new) }
+        ensures after_end { self.old.standing ≡ Standing.Ended
+            → (result ≡ Ok false) × (self.new ≡ self.old) }
+        ensures after_refusal { (e : CaptureError) → self.old.standing ≡ Standing.Refused e
+            → (result ≡ Err e) × (self.new ≡ self.old) }
+    {
+        match self.standing {
+            Standing::Reading => {
+                self.read_header()?;
+                Ok(true)
+            }
+            Standing::Ended => Ok(false),
+            Standing::Refused(error) => Err(error),
+        }
     }
 
     /// Reads the first CSV record, which has to be the header.
@@ -140,7 +161,7 @@ impl<R: Read + Drop> Records<R> {
         let kind = match read_record(&mut self.reader, &mut self.row) {
             Ok(found) => {
                 if found && fields::is_header(&self.row) {
-                    self.is_headed = true;
+                    self.is_in_rows = true;
                     return Ok(());
                 }
                 CaptureKind::Header
@@ -164,19 +185,21 @@ impl<R: Read + Drop> Records<R> {
         let number = self.given + 1;
         let fault = match read_record(&mut self.reader, &mut self.row) {
             Ok(true) => match fields::read_row(number, self.last_time, &self.row) {
-                Ok(record) => {
+                Some(record) => {
                     self.given = number;
                     self.last_time = record.time_us;
                     return Ok(Some(record));
                 }
-                Err(kind) => kind,
+                None => fields::fault_in(number, &self.row),
             },
             Ok(false) => {
                 self.standing = Standing::Ended;
+                self.is_in_rows = false;
                 return Ok(None);
             }
             Err(kind) => kind,
         };
+        self.is_in_rows = false;
         Err(refuse(&mut self.standing, fault, number))
     }
 }

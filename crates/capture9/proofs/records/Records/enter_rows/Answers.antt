@@ -1,7 +1,7 @@
 -- The same refusal again.
 use Rattle.capture9.proofs.Words.{unread_records}
 use Rattle.capture9.proofs.RecordsLemmas.{refuses-again}
-use Rattle.capture9.proofs.records.Records.next.Goals as goal
+use Rattle.capture9.proofs.records.Records.enter_rows.Goals as goal
 
 pub returns-in-Refused-clause-refused : goal.returns-in-Refused-clause-refused
 returns-in-Refused-clause-refused g c =
