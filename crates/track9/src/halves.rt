@@ -165,6 +165,9 @@ impl<S: TimeSet> Halves<S> {
         ensures ok { OnOk result (self.new ≡ two_sensed register time.now self.old) }
         ensures err { OnErr result (self.new ≡ self.old) }
     {
+        if self.remote.knows(register, time) && self.local.knows(register, time) {
+            return Ok(());
+        }
         let remote = self.remote.sense_aside(alloc, register, time)?;
         let local = self.local.sense_aside(alloc, register, time)?;
         self.remote.put_settled(alloc, register, remote);

@@ -1,5 +1,5 @@
 //! The states with one value of local and one of panel.
-ghost use Rattle.std.specs.Prelude.{◌≡◌, IfOk, OnErr, OnOk, false, true};
+ghost use Rattle.std.specs.Prelude.{◌≡◌, IfOk, IsTrue, OnErr, OnOk, false, true};
 ghost use Rattle.sets25.specs.Times.{BelowDay, span_count};
 ghost use Rattle.track9.specs.Tracker.{entries_of};
 ghost use Rattle.track9.specs.Working.Entries.{agreeing};
@@ -231,8 +231,18 @@ impl<S: TimeSet> Part<S> {
         Ok(Some(after))
     }
 
-    /// The entries of a register that agree with a time that was read, in a set of their own: None where there is no state, or
-    /// where the register's only time is the one that was read.
+    /// Whether a time that was read of a register tells nothing new: there is no state, or it is the register's only time.
+    #[inline(always)] // most times that are read are known
+    pub(crate) fn knows(&self, register: Register, time: &Option<TimeCode>) -> bool
+        requires { (rate : ARate) × Whole rate self.now }
+        ensures known { IsTrue result → put_settled register (aside self.now (agreeing time.now (entries_of register self.now))) self.now ≡ self.now }
+        ensures new { result ≡ false → is_live self.now ≡ true }
+    {
+        self.below_day();
+        !self.is_live() || self.entries(register).has_only(time)
+    }
+
+    /// The entries of a register that agree with a time that was read, in a set of their own: None where it tells nothing new.
     pub(crate) fn sense_aside(
         &self,
         alloc: Global,
@@ -242,15 +252,10 @@ impl<S: TimeSet> Part<S> {
         requires { (rate : ARate) × Whole rate self.now }
         ensures { IfOk result (λ o. put_settled register o self.now ≡ put_settled register (aside self.now (agreeing time.now (entries_of register self.now))) self.now) }
     {
-        self.below_day();
-        if !self.is_live() {
+        if self.knows(register, time) {
             return Ok(None);
         }
-        let entries = self.entries(register);
-        if entries.has_only(time) {
-            return Ok(None);
-        }
-        Ok(Some(entries.agreeing(alloc, time)?))
+        Ok(Some(self.entries(register).agreeing(alloc, time)?))
     }
 
     /// Goal and shown mode become anything, where there is a state.
