@@ -1,9 +1,10 @@
 -- What a pairer answers, and what it holds, after one more record.
+use Rattle.block9.proofs.Words.{append_assoc, asked_on, asks, completed, completed_by, completes, IsOf, leaves_open}
 use Rattle.block9.proofs.Words.{Deck, early_fault, next_of, to_come, ends_block, grown, last_fed, length_push, OpenBlock, refl, ◌<◌, ◌≢◌}
 use Rattle.block9.proofs.Words.{append-nil, ap, BeginsWith, ◌↔◌, ◌∙◌, ◌+◌, length, length-append, block_len, inl, inr}
-use Rattle.block9.proofs.Words.{[], arith, block_of, bytes_of, Closes, Command, command_of, Controller, IsStep, Exchange, false, ForSome, HoldsInPairer}
+use Rattle.block9.proofs.Words.{[], arith, block_of, bytes_of, Closes, Command, command_of, Controller, Does, Exchange, false, ForSome, HoldsInPairer}
 use Rattle.block9.proofs.Words.{IsCommand, IsExchange, IsHeld, IsTurn, last_time, LineByte, List, nat_tests, None, open_at, Option, Paired, pairing}
-use Rattle.block9.proofs.Words.{place_of, Reason, Refuses, reply_fault, Some, Step, sum, sym, tail_after, Takes, true, ℕ, ◌%◌, ◌++◌, ◌∷◌, ◌≡◌, ◌≤◌}
+use Rattle.block9.proofs.Words.{place_of, Reason, Refuses, reply_fault, Some, Outcome, sum, sym, tail_after, Takes, true, ℕ, ◌%◌, ◌++◌, ◌∷◌, ◌≡◌, ◌≤◌}
 use Rattle.block9.proofs.LineLemmas.{block_len-append, whole_len, whole_long, whole_parts}
 use Rattle.block9.proofs.TailLemmas.{answered, last_time-append, place_in_command, place_of_command}
 use Rattle.block9.proofs.StandsLemmas.{ends_by_left, stands_after, stands_push}
@@ -33,22 +34,38 @@ module _ (rate : Rate) where
       let quiet : pairing rate t r ≡ None = grind (arith, nat_tests) in
       record { whole = rw place (commands rate t r held later quiet (sym turn.1)).1.whole; meaning = meant }
 
-  -- a complete command is held
-  pub held_command : (t : List LineByte) (r : LineByte) (c : Command) → IsHeld rate t None → last_time t ≤ r.time_us → IsTurn t r true
-      → r.byte ≡ sum (bytes_of (open_at (place_of t) t)) % 256 → command_of rate (block_of (bytes_of t)) ≡ Some c
-      → IsCommand rate (t ++ r ∷ []) (block_of (bytes_of t)) c
-      × HoldsInPairer rate (t ++ r ∷ []) (Some c) (to_come Deck)
-  held_command t r c held later turn right meant =
-      let place = place_in_command rate Controller t (begun_now rate t held (sym turn.1)) in
-      let command : IsCommand rate (t ++ r ∷ []) (block_of (bytes_of t)) c = rw place at (ends_command t r c held later turn right (rw place meant)) in
-      (command, record { held = inl (_, command); stands = stands_after (t ++ r ∷ []) (place_of_command rate Controller (t ++ r ∷ []) _ command.whole) })
+  -- what is held by the wire whose turn it is
+  pub none_held : (t : List LineByte) (b : OpenBlock) (e : Exchange) → HoldsInPairer rate t b e → b.wire ≡ Controller → IsHeld rate t None
+  none_held t b e h wire = rw wire at h.held
 
-  pub ends_exchange : (t : List LineByte) (c : Command) (r : LineByte) (e : Exchange) → IsHeld rate t (Some c) → last_time t ≤ r.time_us → IsTurn t r true
-      → r.byte ≡ sum (bytes_of (open_at (place_of t) t)) % 256
-      → Closes t c e → reply_fault rate (Some c) (block_of (bytes_of (open_at (place_of t) t))) ≡ None → IsExchange rate (t ++ r ∷ []) e
-  ends_exchange t c r e held later turn right read none =
-      let now = reply_now rate t c held (sym turn.1) in
-      rw read (closes rate t now.0 c r now.1 later (reply_says t c r None held turn right none) (sym turn.1))
+  pub command_held : (t : List LineByte) (b : OpenBlock) (e : Exchange) → HoldsInPairer rate t b e → b.wire ≡ Deck → IsHeld rate t (Some e.command)
+  command_held t b e h wire = rw wire at h.held
+
+  -- a complete command is held
+  pub held_command : (t : List LineByte) (r : LineByte) (e : Exchange) → IsHeld rate t None → last_time t ≤ r.time_us → IsTurn t r true
+      → r.byte ≡ sum (bytes_of (open_at (place_of t) t)) % 256 → e.block ≡ block_of (bytes_of t) → command_of rate (block_of (bytes_of t)) ≡ Some e.command
+      → IsCommand rate (t ++ r ∷ []) e.block e.command × HoldsInPairer rate (t ++ r ∷ []) (to_come Deck) e
+  held_command t r e held later turn right block meant =
+      let place = place_in_command rate Controller t (begun_now rate t held (sym turn.1)) in
+      let command : IsCommand rate (t ++ r ∷ []) e.block e.command = rw block (rw place at (ends_command t r e.command held later turn right (rw place meant))) in (
+        command,
+        record {
+          held = inl (_, command);
+          stands = stands_after (t ++ r ∷ []) (place_of_command rate Controller (t ++ r ∷ []) _ command.whole);
+          asked = λ wire. (t ++ r ∷ [], [], sym (append-nil (t ++ r ∷ [])), command);
+        },
+      )
+
+  pub ends_exchange : (t : List LineByte) (b : OpenBlock) (r : LineByte) (old new : Exchange) → HoldsInPairer rate t b old → b.wire ≡ Deck → last_time t ≤ r.time_us
+      → IsTurn t r true → r.byte ≡ sum (bytes_of (open_at (place_of t) t)) % 256 → Closes t old new
+      → reply_fault rate (Some old.command) (block_of (bytes_of (open_at (place_of t) t))) ≡ None → IsExchange rate (t ++ r ∷ []) new
+  ends_exchange t b r old new h wire later turn right read none =
+      let held = command_held t b old h wire in
+      let now = reply_now rate t old.command held (sym turn.1) in
+      let asked = h.asked wire in
+      let same : now.1.block ≡ old.block =
+      (whole_parts Controller now.1.command asked.0 now.0 asked.1 now.1.block old.block now.1.is_command.whole asked.3.whole (sym now.1.split ∙ asked.2)).2 in
+      rw (read, ← same) (closes rate t now.0 old.command r now.1 later (reply_says t old.command r None held turn right none) (sym turn.1))
 
   -- ---- what is held afterwards
 
@@ -72,39 +89,66 @@ module _ (rate : Rate) where
   fed_waiting [] r passed = refl
   fed_waiting (a ∷ t) r passed = ap Some (last_time-append rate (a ∷ t) (r ∷ []) (omega arith))
 
-  pub fed_step : (t : List LineByte) (r : LineByte) (s : Step) → last_fed (tail_after t r s) None (Some r.time_us) ≡ Some r.time_us
-  fed_step t r Step.Waiting = fed_waiting t r (Some r.time_us)
-  fed_step t r Step.Command = fed_waiting t r (Some r.time_us)
-  fed_step t r (Step.Exchange e) = refl
+  pub fed_step : (t : List LineByte) (r : LineByte) (o : Outcome) → last_fed (tail_after t r o) None (Some r.time_us) ≡ Some r.time_us
+  fed_step t r leaves_open = fed_waiting t r (Some r.time_us)
+  fed_step t r asks = fed_waiting t r (Some r.time_us)
+  fed_step t r (completes e) = refl
 
   pub fed_refused : (t : List LineByte) (reason : Reason) (passed : Option ℕ) → last_fed t (Some reason) passed ≡ passed
   fed_refused [] reason passed = refl
   fed_refused (a ∷ t) reason passed = refl
 
-  pub held_waiting : (t : List LineByte) (o : Option Command) (b : OpenBlock) (r : LineByte) (next : OpenBlock) → HoldsInPairer rate t o b → last_time t ≤ r.time_us
+  -- whether there is an exchange that the last record completed
+  open_completed : (t : List LineByte) (r : LineByte) (passed : Option ℕ) (e : Exchange) → completed (t ++ r ∷ []) None passed e ≡ None
+  open_completed [] r passed e = refl
+  open_completed (a ∷ t) r passed e = refl
+
+  pub completed_waiting : (t : List LineByte) (r : LineByte) (passed : Option ℕ) (e : Exchange) → completed (t ++ r ∷ []) None passed e ≡ completed_by leaves_open
+  completed_waiting t r passed e = open_completed t r passed e
+
+  pub completed_step : (t : List LineByte) (r : LineByte) (o : Outcome) (e : Exchange) → IsOf e o → completed (tail_after t r o) None (Some r.time_us) e ≡ completed_by o
+  completed_step t r leaves_open e is = open_completed t r _ e
+  completed_step t r asks e is = open_completed t r _ e
+  completed_step t r (completes f) e is = ap Some (sym is)
+
+  pub completed_refused : (t : List LineByte) (reason : Reason) (passed : Option ℕ) (e : Exchange) → completed t (Some reason) passed e ≡ None
+  completed_refused [] reason passed e = refl
+  completed_refused (a ∷ t) reason passed e = refl
+
+  -- a block's next record leaves it on its wire
+  grown_wire : (b : OpenBlock) (byte : ℕ) → (grown b byte).wire ≡ b.wire
+  grown_wire b byte = grind (arith, nat_tests)
+
+  pub held_waiting : (t : List LineByte) (b : OpenBlock) (e : Exchange) (r : LineByte) (next : OpenBlock) → HoldsInPairer rate t b e → last_time t ≤ r.time_us
       → early_fault (place_of t) t r ≡ None → Some next ≡ next_of b r.byte → r.byte < 256
-      → HoldsInPairer rate (t ++ r ∷ []) o next × (length t < 35) × IsStep rate t r Step.Waiting
-  held_waiting t o b r next h later quiet is_next byte =
+      → HoldsInPairer rate (t ++ r ∷ []) next e × (length t < 35) × Does rate t r leaves_open
+  held_waiting t b e r next h later quiet is_next byte =
       let more : b.left ≢ 1 = λ one. grind (arith, nat_tests) in
       let same : next ≡ grown b r.byte = grind (arith, nat_tests) in
       let goes_on : ends_block (open_at (place_of t) t) ≡ false = let ends = ends_by_left t b h.stands in grind (arith, nat_tests) in
-      let still = waits rate t o r h.held later (grind (arith, nat_tests)) goes_on in
-      let tail = held_tail rate (t ++ r ∷ []) o still.0 in (
-        record { held = still.0; stands = rw same (stands_push t r b h.stands more byte) },
+      let still = waits rate t (asked_on b.wire e.command) r h.held later (grind (arith, nat_tests)) goes_on in
+      let tail = held_tail rate (t ++ r ∷ []) (asked_on b.wire e.command) still.0 in
+      let wire : next.wire ≡ b.wire = rw same (grown_wire b r.byte) in (
+        record {
+          held = rw wire still.0;
+          stands = rw same (stands_push t r b h.stands more byte);
+          asked = λ deck. let asked = h.asked (sym wire ∙ deck) in (asked.0, asked.1 ++ r ∷ [], ap (λ l. l ++ r ∷ []) asked.2 ∙ append_assoc asked.0 asked.1 (r ∷ []), asked.3);
+        },
         (omega (arith, tail_short rate _ tail, length_push t r)),
         (tail, λ b c k. still.1 (place_of_command rate Controller (t ++ r ∷ []) b k.whole)),
       )
 
   -- ---- what a caller is told
 
-  pub takes : (was old new : Paired) (r : LineByte) (s : Step) → was ≡ old → was.rate ≡ rate → new.rate ≡ rate → IsStep rate was.tail r s → new.tail ≡ tail_after was.tail r s
-      → new.last_time ≡ Some r.time_us → new.reason ≡ None → Takes old r s new
-  takes was old new r s same at now done tail time reason =
-      rw (← same) (record { rate = now ∙ sym at; does = rw at done; tail = tail; last_time = time; reason = reason })
+  pub takes : (was old new : Paired) (r : LineByte) (o : Outcome) → was ≡ old → was.rate ≡ rate → new.rate ≡ rate → Does rate was.tail r o → new.tail ≡ tail_after was.tail r o
+      → new.last_time ≡ Some r.time_us → new.reason ≡ None → new.exchange ≡ completed_by o → Takes old r o new
+  takes was old new r o same at now done tail time reason exchange =
+      rw (← same) (record { rate = now ∙ sym at; does = rw at done; tail = tail; last_time = time; reason = reason; exchange = exchange })
 
   pub refuses : (o : Option Command) (was old new : Paired) (r : LineByte) (reason : Reason) → was ≡ old → was.rate ≡ rate → new.rate ≡ rate → IsHeld rate was.tail o → last_time was.tail ≤ r.time_us
-      → pairing rate was.tail r ≡ Some reason → new.tail ≡ was.tail → new.last_time ≡ Some r.time_us → new.reason ≡ Some reason → Refuses old r reason new
-  refuses o was old new r reason same at now held later told tail_same time known =
+      → pairing rate was.tail r ≡ Some reason → new.tail ≡ was.tail → new.last_time ≡ Some r.time_us → new.reason ≡ Some reason → new.exchange ≡ None
+      → Refuses old r reason new
+  refuses o was old new r reason same at now held later told tail_same time known none =
       let tail = held_tail rate was.tail o held in
       let why = table_reason rate was.tail r reason tail later told in
       rw (← same) (record {
@@ -114,6 +158,7 @@ module _ (rate : Rate) where
         tail = tail_same;
         last_time = time;
         known = known;
+        none_complete = none;
       })
 
   -- ---- the command that is open
@@ -152,7 +197,3 @@ module _ (rate : Rate) where
   pub open_told : (o : Option Command) (was old : Paired) → was ≡ old → was.rate ≡ rate → IsHeld rate was.tail o → (c : Command)
       → (o ≡ Some c) ↔ BeginsWith old.rate old.tail c
   open_told o was old same at held c = rw (← same, at) (open_is was.tail o c held)
-
-  -- the command that was held is held of the same records
-  pub asked_held : (t seen : List LineByte) (o : Option Command) (c : Command) → IsHeld rate t o → o ≡ Some c → seen ≡ t → IsHeld rate seen (Some c)
-  asked_held t seen o c held was same = rw same (rw was at held)

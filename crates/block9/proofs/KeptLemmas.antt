@@ -13,4 +13,4 @@ module _ (rate : Rate) where
       by : (b : Bool) → ends_block (open_at (place_of t) t) ≡ b → (o : Option Command) → IsHeld rate t o → IsKept rate (t ++ r ∷ [])
       by false e o held = tail_kept rate (t ++ r ∷ []) (held_tail rate (t ++ r ∷ []) o (waits rate t o r held later quiet e).0)
       by true e None held = let c = commands rate t r held later quiet e in tail_kept rate (t ++ r ∷ []) (after_command _ c.0 c.1)
-      by true e (Some c) held = let now = reply_now rate t c held e in exchange_kept rate (t ++ r ∷ []) (closed_of t c) (closes rate t now.0 c r now.1 later quiet e)
+      by true e (Some c) held = let now = reply_now rate t c held e in exchange_kept rate (t ++ r ∷ []) (closed_of t c now.1.block) (closes rate t now.0 c r now.1 later quiet e)

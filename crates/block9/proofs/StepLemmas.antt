@@ -1,12 +1,12 @@
 -- What a record that breaks no rule makes of a tail.
-use Rattle.block9.proofs.Words.{common_steps, InReply, ◌-◌, ◌<◌}
-use Rattle.block9.proofs.Words.{[], after_command, AfterCommand, ap, append_assoc, arith, block_len, block_of, bytes_of, closed_of, Command, Controller, Deck, IsStep, drop}
+use Rattle.block9.proofs.Words.{asks, common_steps, completes, InReply, leaves_open, ◌<◌}
+use Rattle.block9.proofs.Words.{[], after_command, AfterCommand, ap, append_assoc, arith, block_len, block_of, bytes_of, closed_of, Command, Controller, Deck, Does, drop}
 use Rattle.block9.proofs.Words.{ends_block, false, first_time, in_command, in_reply, inl, inr, IsAnswered, IsBegun, IsCommand, IsExchange, IsHeld, IsTail, last_time, length}
-use Rattle.block9.proofs.Words.{length-append, LineByte, List, None, nothing, open_at, Option, pairing, place_of, refl, Some, Step, tail_after, take, true, ◌++◌, ◌∙◌, ◌∷◌, ◌≡◌}
+use Rattle.block9.proofs.Words.{length-append, LineByte, List, None, nothing, open_at, Option, pairing, place_of, refl, Some, Outcome, tail_after, take, true, ◌++◌, ◌∙◌, ◌∷◌, ◌≡◌}
 use Rattle.block9.proofs.Words.{◌≢◌, ◌≤◌}
 use Rattle.block9.proofs.LineLemmas.{first_time-push_any, whole_len, whole_long}
 use Rattle.block9.proofs.BlockSteps.{begun_push, whole_now}
-use Rattle.block9.proofs.TailLemmas.{after_command_quiet, answered, asked_block, idle_quiet, in_command_quiet, in_reply_quiet, place_in_command, place_of_command}
+use Rattle.block9.proofs.TailLemmas.{after_command_quiet, answered, idle_quiet, in_command_quiet, in_reply_quiet, place_in_command, place_of_command}
 use Rattle.tc25.specs.declared.rate.Rate.{Rate}
 
 module _ (rate : Rate) where
@@ -97,10 +97,9 @@ module _ (rate : Rate) where
 
   -- a record that ends a reply
   pub closes : (t reply : List LineByte) (c : Command) (r : LineByte) (is : IsAnswered rate t c reply) → last_time t ≤ r.time_us
-      → pairing rate t r ≡ None → ends_block (open_at (place_of t) t) ≡ true → IsExchange rate (t ++ r ∷ []) (closed_of t c)
+      → pairing rate t r ≡ None → ends_block (open_at (place_of t) t) ≡ true → IsExchange rate (t ++ r ∷ []) (closed_of t c is.block)
   closes t reply c r is later quiet ends =
       let parts = answered rate t reply c is in
-      let asked : block_of (bytes_of (take (block_len t - 1) t)) ≡ is.block = rw is.split (asked_block rate is.command reply is.block is.is_command.whole) in
       let now : ends_block reply ≡ true = rw (parts.place, parts.current) at ends in
       let next = (in_reply_quiet rate is.command reply t c r parts later).0 quiet in
       let right = next.1 now in
@@ -110,7 +109,7 @@ module _ (rate : Rate) where
         asked = is.command;
         answered = reply ++ r ∷ [];
         split = ap (λ l. l ++ r ∷ []) is.split ∙ append_assoc is.command reply (r ∷ []);
-        command = rw asked is.is_command;
+        command = is.is_command;
         reply = rw (parts.place, parts.current) (whole_now Deck reply r is.begun next.0 now right.0);
         in_time = omega arith;
         time = grind arith;
@@ -127,7 +126,7 @@ module _ (rate : Rate) where
   tail_short t h = grind (arith, whole_len, block_len_low, length-append)
 
   -- what it leaves is a tail
-  pub still_tail : (t : List LineByte) (r : LineByte) (s : Step) → IsStep rate t r s → IsTail rate (tail_after t r s)
-  still_tail t r Step.Waiting h = h.0
-  still_tail t r Step.Command h = after_command h.0 h.1 h.2
-  still_tail t r (Step.Exchange e) h = nothing refl
+  pub still_tail : (t : List LineByte) (r : LineByte) (o : Outcome) → Does rate t r o → IsTail rate (tail_after t r o)
+  still_tail t r leaves_open h = h.0
+  still_tail t r asks h = after_command h.0 h.1 h.2
+  still_tail t r (completes e) h = nothing refl

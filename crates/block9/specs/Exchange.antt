@@ -1,6 +1,6 @@
 -- Exchanges, tails, and how a list of records is cut into them.
 use Rattle.tc25.specs.declared.rate.Rate.{Rate}
-use Rattle.std.specs.Prelude.{ℕ, ◌+◌, ◌≤◌, ◌≡◌, true, Some, List, [], ◌∷◌, ◌++◌, length}
+use Rattle.std.specs.Prelude.{ℕ, ◌+◌, ◌≤◌, ◌≡◌, true, None, Option, Some, List, [], ◌∷◌, ◌++◌, length}
 use Rattle.capture9.specs.declared.line_byte.LineByte.{LineByte}
 use Rattle.capture9.specs.declared.line_byte.Wire.TheVariants.{Controller, Deck}
 use Rattle.block9.specs.declared.block.Block.{Block}
@@ -58,14 +58,32 @@ pub record IsKept (rate : Rate) (records : List LineByte) : Type 0 where
   pub tail : List LineByte
   pub cut : Cut rate records exchanges tail
 
--- the tail that a step leaves: it grows by the record, and a complete exchange leaves nothing open
-abbrev pub tail_after : List LineByte → LineByte → Step → List LineByte
-tail_after tail r step.Waiting = tail ++ r ∷ []
-tail_after tail r step.Command = tail ++ r ∷ []
-tail_after tail r (step.Exchange e) = []
+-- what a record does that keeps the rules: it begins a block or goes on with one, it ends a command, or it ends a reply and so completes this exchange
+pub data Outcome : Type 0 where
+  leaves_open : Outcome
+  asks : Outcome
+  completes : Exchange → Outcome
 
--- what a record does that keeps the rules after a tail
-abbrev pub IsStep : Rate → List LineByte → LineByte → Step → Type 0
-IsStep rate tail r step.Waiting = IsTail rate (tail ++ r ∷ []) × ((b : Block) (c : Command) → ¬ IsCommand rate (tail ++ r ∷ []) b c)
-IsStep rate tail r step.Command = (b : Block) × (c : Command) × IsCommand rate (tail ++ r ∷ []) b c
-IsStep rate tail r (step.Exchange e) = IsExchange rate (tail ++ r ∷ []) e
+-- the step that it is
+abbrev pub step_of : Outcome → Step
+step_of leaves_open = step.Waiting
+step_of asks = step.Command
+step_of (completes e) = step.Exchange
+
+-- the exchange that it completes
+abbrev pub completed_by : Outcome → Option Exchange
+completed_by leaves_open = None
+completed_by asks = None
+completed_by (completes e) = Some e
+
+-- the tail that it leaves: the tail grows by the record, and a complete exchange leaves nothing open
+abbrev pub tail_after : List LineByte → LineByte → Outcome → List LineByte
+tail_after tail r leaves_open = tail ++ r ∷ []
+tail_after tail r asks = tail ++ r ∷ []
+tail_after tail r (completes e) = []
+
+-- a record after a tail does this, and keeps the rules
+abbrev pub Does : Rate → List LineByte → LineByte → Outcome → Type 0
+Does rate tail r leaves_open = IsTail rate (tail ++ r ∷ []) × ((b : Block) (c : Command) → ¬ IsCommand rate (tail ++ r ∷ []) b c)
+Does rate tail r asks = (b : Block) × (c : Command) × IsCommand rate (tail ++ r ∷ []) b c
+Does rate tail r (completes e) = IsExchange rate (tail ++ r ∷ []) e

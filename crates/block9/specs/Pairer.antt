@@ -1,11 +1,11 @@
 -- A `Pairer` as its callers see it, and what a call of `feed` does to it.
 use Rattle.std.specs.Prelude.{◌≡◌, ℕ, Option, Some, None, List, [], ◌∷◌, ◌++◌}
 use Rattle.capture9.specs.declared.line_byte.LineByte.{LineByte}
-use Rattle.block9.specs.declared.pairer.Step.{Step}
+use Rattle.block9.specs.declared.pairer.Exchange.{Exchange}
 use Rattle.block9.specs.declared.reason.Reason.{Reason}
 use Rattle.block9.specs.declared.block.Block.{Block}
 use Rattle.block9.specs.declared.command.Command.{Command}
-use Rattle.block9.specs.Exchange.{IsStep, IsCommand, IsKept, tail_after}
+use Rattle.block9.specs.Exchange.{Does, IsCommand, IsKept, Outcome, completed_by, tail_after}
 use Rattle.block9.specs.Reason.{IsReason}
 use Rattle.tc25.specs.declared.rate.Rate.{Rate}
 
@@ -19,14 +19,17 @@ pub record Paired : Type 0 where
   pub last_time : Option ℕ
   -- the reason, once a rule was broken
   pub reason : Option Reason
+  -- the exchange that the last record completed
+  pub exchange : Option Exchange
 
 -- a record that keeps the rules was taken
-pub record Takes (old : Paired) (r : LineByte) (step : Step) (new : Paired) : Type 0 where
+pub record Takes (old : Paired) (r : LineByte) (outcome : Outcome) (new : Paired) : Type 0 where
   pub rate : new.rate ≡ old.rate
-  pub does : IsStep old.rate old.tail r step
-  pub tail : new.tail ≡ tail_after old.tail r step
+  pub does : Does old.rate old.tail r outcome
+  pub tail : new.tail ≡ tail_after old.tail r outcome
   pub last_time : new.last_time ≡ Some r.time_us
   pub reason : new.reason ≡ None
+  pub exchange : new.exchange ≡ completed_by outcome
 
 -- a record that breaks a rule was refused: the records with it are not kept, and this is the reason
 pub record Refuses (old : Paired) (r : LineByte) (reason : Reason) (new : Paired) : Type 0 where
@@ -36,6 +39,7 @@ pub record Refuses (old : Paired) (r : LineByte) (reason : Reason) (new : Paired
   pub tail : new.tail ≡ old.tail
   pub last_time : new.last_time ≡ Some r.time_us
   pub known : new.reason ≡ Some reason
+  pub none_complete : new.exchange ≡ None
 
 -- a tail begins with a complete command, and this is what it means
 pub record BeginsWith (rate : Rate) (tail : List LineByte) (c : Command) : Type 0 where

@@ -130,21 +130,43 @@ impl Block {
         }
     }
 
-    /// The block whose bytes before the checksum are those of these records.
-    pub(crate) fn of_records(records: &[LineByte]) -> Block
+    /// An equal block.
+    pub fn copy(&self) -> Block
+        ensures { result ≡ self.now }
+    {
+        let mut bytes = ArrayVec::new();
+        for byte in self.bytes.as_slice() {
+            bytes.push(*byte);
+        }
+        Block {
+            group: self.group,
+            code: self.code,
+            bytes,
+        }
+    }
+
+    /// A block with nothing in it, which is filled later.
+    pub(crate) fn blank() -> Block {
+        Block {
+            group: 0,
+            code: 0,
+            bytes: ArrayVec::new(),
+        }
+    }
+
+    /// Makes it the block whose bytes before the checksum are those of these records.
+    #[inline(always)] // else the block is built elsewhere and then copied
+    pub(crate) fn fill_from(&mut self, records: &[LineByte])
         requires code { 2 ≤ length records.now }
         requires data { length records.now ≤ most_body }
-        ensures { result ≡ block_of (bytes_of records.now) }
+        ensures { self.new ≡ block_of (bytes_of records.now) }
     {
-        let mut block = Block {
-            group: records[0].byte / 16,
-            code: records[1].byte,
-            bytes: ArrayVec::new(),
-        };
+        self.group = records[0].byte / 16;
+        self.code = records[1].byte;
+        self.bytes = ArrayVec::new();
         for record in &records[2..] {
-            block.bytes.push(record.byte);
+            self.bytes.push(record.byte);
         }
-        block
     }
 }
 

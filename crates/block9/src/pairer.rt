@@ -1,12 +1,12 @@
 //! Pairs commands with replies, one record at a time.
 ghost use Rattle.std.specs.List.{sum};
 ghost use Rattle.std.specs.Prelude.{◌≡◌, ◌≤◌, ◌%◌, ◌++◌, ◌∷◌, true, [], IfOk, IfErr, OnErr, OnOk, None, Some};
-ghost use Rattle.tc25.specs.declared.rate.Rate.{Rate as ARate};
-ghost use Rattle.block9.specs.Exchange.{IsStep, tail_after};
+ghost use Rattle.block9.specs.Exchange.{Does, Outcome, step_of, tail_after};
+ghost use Rattle.block9.specs.Exchange.Outcome.{asks};
 ghost use Rattle.block9.specs.declared.place.Place.TheVariants.{InReply};
 ghost use Rattle.block9.specs.Line.{bytes_of, last_time};
 ghost use Rattle.block9.specs.Working.Body.{block_of};
-ghost use Rattle.block9.specs.Working.Held.{Closes, HoldsInPairer, IsHeld, IsTurn, Stands, next_of, place_on};
+ghost use Rattle.block9.specs.Working.Held.{Closes, HoldsInPairer, IsOf, IsTurn, Stands, next_of, place_on, to_come};
 ghost use Rattle.block9.specs.Working.Table.{early_fault, ends_block, is_soon, open_at, pairing, place_of, reply_fault};
 
 use crate::block::Block;
@@ -42,6 +42,30 @@ impl Exchange {
     ghost use Rattle.std.specs.Prelude.{◌≡◌, ◌≤◌};
     ghost use Rattle.block9.specs.Exchange.{records_of};
 
+    /// An equal exchange.
+    pub fn copy(&self) -> Exchange
+        ensures { result ≡ self.now }
+    {
+        Exchange {
+            command: self.command,
+            block: self.block.copy(),
+            reply: self.reply.copy(),
+            time_us: self.time_us,
+            delay_us: self.delay_us,
+        }
+    }
+
+    /// What a pairer holds before the first exchange.
+    fn blank() -> Exchange {
+        Exchange {
+            command: Command::Stop,
+            block: Block::blank(),
+            reply: Block::blank(),
+            time_us: 0,
+            delay_us: 0,
+        }
+    }
+
     /// How many records the exchange has: those of its two blocks, at most 36.
     pub fn records(&self) -> usize
         ensures records { result ≡ records_of self.now }
@@ -52,14 +76,14 @@ impl Exchange {
 }
 
 /// What a record does that keeps the rules.
-#[derive(Debug, Drop, PartialEq, Eq)]
+#[derive(Clone, Copy, Debug, PartialEq, Eq)]
 pub enum Step {
     /// It begins a block or goes on with one.
     Waiting,
     /// It is the last record of a command, whose reply is still to come.
     Command,
-    /// It is the last record of a reply: this exchange is complete.
-    Exchange(Exchange),
+    /// It is the last record of a reply: an exchange is complete, which [`Pairer::exchange`] shows up to the next record.
+    Exchange,
 }
 
 /// Whether the record comes within the reply limit after the last one of the tail.
@@ -148,96 +172,103 @@ fn reply_in<'a>(tail: &'a [LineByte]) -> &'a [LineByte]
     &tail[block_len(tail)..]
 }
 
-/// The exchange that the tail and a complete reply to its command are.
-#[inline(always)] // else an exchange is handed on through memory
-fn exchange_of(tail: &[LineByte], command: Command, reply: Block) -> Exchange
-    requires held { (rate : ARate) × IsHeld rate tail.now (Some command) }
-    requires ends { ends_block (open_at (place_of tail.now) tail.now) ≡ true }
-    requires reply { reply ≡ block_of (bytes_of (open_at (place_of tail.now) tail.now)) }
-    ensures { Closes tail.now command result }
-{
-    let begin = block_len(tail);
-    Exchange {
-        command,
-        block: Block::of_records(&tail[..begin - 1]),
-        reply,
-        time_us: tail[0].time_us,
-        delay_us: tail[begin].time_us - tail[begin - 1].time_us,
-    }
-}
-
-/// Takes the last record of a command, whose meaning is kept; or the rule that the command breaks, and then all stays.
+/// Takes the last record of a command: the exchange gets its block and its meaning. An error is the rule that the command breaks,
+/// and what is open stays.
 #[inline(always)]
 fn end_command(
     rate: Rate,
     tail: &mut Tail,
     block: &mut OpenBlock,
-    open_command: &mut Option<Command>,
+    exchange: &mut Exchange,
     line_byte: LineByte,
 ) -> Result<(), Reason>
-    requires held { IsHeld rate tail.old None }
-    requires none { open_command.old ≡ None }
+    requires held { HoldsInPairer rate tail.old block.old exchange.old }
+    requires wire { block.old.wire ≡ Wire.Controller }
     requires later { last_time tail.old ≤ line_byte.time_us }
     requires ends { IsTurn tail.old line_byte true }
     requires right_sum { line_byte.byte ≡ sum (bytes_of (open_at (place_of tail.old) tail.old)) % 256 }
-    ensures ok { OnOk result (IsStep rate tail.old line_byte Step.Command × (tail.new ≡ tail.old ++ line_byte ∷ []) × HoldsInPairer rate tail.new open_command.new block.new) }
+    ensures ok { OnOk result (Does rate tail.old line_byte asks × (tail.new ≡ tail.old ++ line_byte ∷ []) × HoldsInPairer rate tail.new block.new exchange.new) }
     ensures err { IfErr result (λ reason. pairing rate tail.old line_byte ≡ Some reason) }
-    ensures same { OnErr result ((tail.new ≡ tail.old) × (block.new ≡ block.old) × (open_command.new ≡ open_command.old)) }
+    ensures same { OnErr result ((tail.new ≡ tail.old) × (block.new ≡ block.old)) }
 {
-    let sent = Block::of_records(tail.as_slice());
-    let Some(command) = Command::of_at(rate, &sent) else {
+    exchange.block.fill_from(tail.as_slice());
+    let Some(command) = Command::of_at(rate, &exchange.block) else {
         return Err(Reason::InvalidCommandTime);
     };
-    *open_command = Some(command);
+    exchange.command = command;
     *block = OpenBlock::to_come(Wire::Deck);
     tail.push(line_byte);
     Ok(())
 }
 
+/// Takes the last record of a reply: the exchange gets the reply and the times, and is complete. An error is the rule that the
+/// reply breaks, and what is open stays.
+#[inline(always)]
+fn end_reply(
+    rate: Rate,
+    tail: &mut Tail,
+    block: &mut OpenBlock,
+    exchange: &mut Exchange,
+) -> Result<(), Reason>
+    requires held { HoldsInPairer rate tail.old block.old exchange.old }
+    requires wire { block.old.wire ≡ Wire.Deck }
+    requires ends { ends_block (open_at (place_of tail.old) tail.old) ≡ true }
+    ensures ok { OnOk result ((reply_fault rate (Some exchange.old.command) (block_of (bytes_of (open_at (place_of tail.old) tail.old))) ≡ None)
+        × Closes tail.old exchange.old exchange.new × (tail.new ≡ []) × (block.new ≡ to_come Wire.Controller)) }
+    ensures err { IfErr result (λ reason. reply_fault rate (Some exchange.old.command) (block_of (bytes_of (open_at (place_of tail.old) tail.old))) ≡ Some reason) }
+    ensures same { OnErr result ((tail.new ≡ tail.old) × (block.new ≡ block.old) × HoldsInPairer rate tail.new block.new exchange.new) }
+{
+    let records = tail.as_slice();
+    let begin = block_len(records);
+    exchange.reply.fill_from(reply_in(records));
+    if let Some(reason) = reply_fault(rate, &exchange.command, &exchange.reply) {
+        return Err(reason);
+    }
+    exchange.time_us = records[0].time_us;
+    exchange.delay_us = records[begin].time_us - records[begin - 1].time_us;
+    *block = OpenBlock::to_come(Wire::Controller);
+    tail.clear();
+    Ok(())
+}
+
 /// What the last record of a block does, or the first rule that it breaks by its sum or by what the block means. A record that
-/// breaks a rule leaves all as it is.
+/// breaks a rule leaves what is open as it is.
 #[inline(always)] // as above
 fn end(
     rate: Rate,
     tail: &mut Tail,
     block: &mut OpenBlock,
-    open_command: &mut Option<Command>,
+    exchange: &mut Exchange,
     kept: &mut Option<Reason>,
     line_byte: LineByte,
 ) -> Result<Step, Reason>
-    requires held { HoldsInPairer rate tail.old open_command.old block.old }
+    requires held { HoldsInPairer rate tail.old block.old exchange.old }
     requires later { last_time tail.old ≤ line_byte.time_us }
     requires ends { IsTurn tail.old line_byte true }
-    ensures ok { IfOk result (λ step. IsStep rate tail.old line_byte step × (tail.new ≡ tail_after tail.old line_byte step) × HoldsInPairer rate tail.new open_command.new block.new × (kept.new ≡ kept.old)) }
+    ensures ok { IfOk result (λ step. (outcome : Outcome) × (step ≡ step_of outcome) × Does rate tail.old line_byte outcome × IsOf exchange.new outcome × (tail.new ≡ tail_after tail.old line_byte outcome) × (kept.new ≡ kept.old)) }
     ensures err { IfErr result (λ reason. (pairing rate tail.old line_byte ≡ Some reason) × (kept.new ≡ Some reason) × (tail.new ≡ tail.old)) }
-    ensures same { OnErr result ((tail.new ≡ tail.old) × (block.new ≡ block.old) × (open_command.new ≡ open_command.old)) }
+    ensures holds { HoldsInPairer rate tail.new block.new exchange.new }
 {
     if block.sum != line_byte.byte {
         return refuse(kept, Reason::WrongSum);
     }
-    let Some(command) = *open_command else {
-        if let Err(reason) = end_command(rate, tail, block, open_command, line_byte) {
-            return refuse(kept, reason);
-        }
-        return Ok(Step::Command);
-    };
-    let records = tail.as_slice();
-    let reply = Block::of_records(reply_in(records));
-    if let Some(reason) = reply_fault(rate, &command, &reply) {
-        return refuse(kept, reason);
+    match block.wire {
+        Wire::Controller => match end_command(rate, tail, block, exchange, line_byte) {
+            Ok(()) => Ok(Step::Command),
+            Err(reason) => refuse(kept, reason),
+        },
+        Wire::Deck => match end_reply(rate, tail, block, exchange) {
+            Ok(()) => Ok(Step::Exchange),
+            Err(reason) => refuse(kept, reason),
+        },
     }
-    let exchange = exchange_of(records, command, reply);
-    *open_command = None;
-    *block = OpenBlock::to_come(Wire::Controller);
-    tail.clear();
-    Ok(Step::Exchange(exchange))
 }
 
 /// Pairs commands with replies, one record at a time.
 ///
 /// It holds its tail, which is the records since the last complete exchange: at most a command of 18 records
-/// and 17 of its reply. Once a record broke a rule it holds the reason too, and the tail before that record. No call
-/// takes memory.
+/// and 17 of its reply. Right after a record that completes an exchange it holds that exchange. Once a record broke a rule it
+/// holds the reason, and the tail before that record. No call takes memory.
 #[derive(Drop)]
 pub struct Pairer {
     /// The rate at which times are read.
@@ -245,8 +276,8 @@ pub struct Pairer {
     tail: Tail,
     /// The block that is open at the tail's end.
     block: OpenBlock,
-    /// The command with which the tail begins, once it is complete.
-    open_command: Option<Command>,
+    /// The exchange that is under way, where its command is complete, or the one that the last record completed.
+    exchange: Exchange,
     /// The time of the last record that is not in the tail: it ended an exchange, or broke a rule.
     passed_us: Option<u64>,
     reason: Option<Reason>,
@@ -255,36 +286,43 @@ pub struct Pairer {
 impl Model for Pairer {
     ghost use Rattle.std.specs.Prelude.{◌≡◌, None};
     ghost use Rattle.block9.specs.Pairer.{Paired};
-    ghost use Rattle.block9.specs.Working.Held.{HoldsInPairer, last_fed};
+    ghost use Rattle.block9.specs.Working.Held.{HoldsInPairer, completed, last_fed};
 
     ghost Value = { Paired };
 
-    ghost view = { λ p. record { rate = p.rate; tail = p.tail; last_time = last_fed p.tail p.reason p.passed_us; reason = p.reason } };
+    ghost view = { λ p. record {
+      rate = p.rate;
+      tail = p.tail;
+      last_time = last_fed p.tail p.reason p.passed_us;
+      reason = p.reason;
+      exchange = completed p.tail p.reason p.passed_us p.exchange;
+    } };
 
-    ghost invariant = { λ p. HoldsInPairer p.rate p.tail p.open_command p.block };
+    ghost invariant = { λ p. HoldsInPairer p.rate p.tail p.block p.exchange };
 }
 
 impl Pairer {
-    ghost use Rattle.std.specs.Prelude.{◌≡◌, ◌≤◌, ◌↔◌, length, None, Some, [], IfOk, IfErr};
+    ghost use Rattle.std.specs.Prelude.{◌≡◌, ◌≤◌, ◌↔◌, length, option_map, None, Some, [], IfOk, IfErr};
     ghost use Rattle.std.specs.Option.{ForSome};
+    ghost use Rattle.block9.specs.Exchange.{Outcome, step_of};
     ghost use Rattle.block9.specs.Pairer.{BeginsWith, Takes, Refuses};
 
-    /// A pairer that was fed nothing, of a deck of 25 frames a second: it has no tail, no last time and no reason.
+    /// A pairer that was fed nothing, of a deck of 25 frames a second: it has no tail, no last time, no reason and no exchange.
     pub fn new() -> Pairer
-        ensures { result ≡ record { rate = Rate.Fps25; tail = []; last_time = None; reason = None } }
+        ensures { result ≡ record { rate = Rate.Fps25; tail = []; last_time = None; reason = None; exchange = None } }
     {
         Pairer::at(Rate::Fps25)
     }
 
-    /// A pairer that was fed nothing, and reads times at this rate: it has no tail, no last time and no reason.
+    /// A pairer that was fed nothing, and reads times at this rate: it has no tail, no last time, no reason and no exchange.
     pub fn at(rate: Rate) -> Pairer
-        ensures { result ≡ record { rate = rate; tail = []; last_time = None; reason = None } }
+        ensures { result ≡ record { rate = rate; tail = []; last_time = None; reason = None; exchange = None } }
     {
         Pairer {
             rate,
             tail: Tail::new(),
             block: OpenBlock::to_come(Wire::Controller),
-            open_command: None,
+            exchange: Exchange::blank(),
             passed_us: None,
             reason: None,
         }
@@ -293,7 +331,7 @@ impl Pairer {
     /// Takes the next record, whose time is not below the last one's.
     ///
     /// `Ok` says what the record does. The tail then has it at its end, and is empty after a whole
-    /// exchange.
+    /// exchange, which is at hand up to the next call.
     ///
     /// `Err` is the first rule that the record breaks, in the order that [`Reason`] gives and
     /// `specs/Reason.antt` states, a line for each: the records so far keep the rules, and with this one they
@@ -304,7 +342,7 @@ impl Pairer {
     #[inline(always)] // two loops over records call it, and else it would be inlined in neither
     pub fn feed(&mut self, line_byte: LineByte) -> Result<Step, Reason>
         requires { ForSome self.old.last_time (λ before. before ≤ line_byte.time_us) }
-        ensures takes { self.old.reason ≡ None → IfOk result (λ step. Takes self.old line_byte step self.new) }
+        ensures takes { self.old.reason ≡ None → IfOk result (λ step. (outcome : Outcome) × (step ≡ step_of outcome) × Takes self.old line_byte outcome self.new) }
         ensures refuses { self.old.reason ≡ None → IfErr result (λ reason. Refuses self.old line_byte reason self.new) }
         ensures again { (reason : Reason) → self.old.reason ≡ Some reason
             → (result ≡ Err reason) × (self.new ≡ self.old) }
@@ -329,7 +367,7 @@ impl Pairer {
             self.rate,
             &mut self.tail,
             &mut self.block,
-            &mut self.open_command,
+            &mut self.exchange,
             &mut self.reason,
             line_byte,
         )
@@ -361,7 +399,21 @@ impl Pairer {
     pub fn open_command(&self) -> Option<Command>
         ensures { (c : Command) → (result ≡ Some c) ↔ BeginsWith self.now.rate self.now.tail c }
     {
-        self.open_command
+        match self.block.wire {
+            Wire::Controller => None,
+            Wire::Deck => Some(self.exchange.command),
+        }
+    }
+
+    /// The exchange that the last record completed, and `None` where it completed none or broke a rule, or where there was none.
+    #[inline(always)] // so that it costs nothing right after `feed` answered an exchange
+    pub fn exchange(&self) -> Option<&Exchange>
+        ensures { option_map (λ e. e.now) result ≡ self.now.exchange }
+    {
+        match (self.tail.len(), self.reason, self.passed_us) {
+            (0, None, Some(_)) => Some(&self.exchange),
+            _ => None,
+        }
     }
 
     /// How many records came since the last complete exchange, at most 35.
@@ -378,7 +430,7 @@ impl Default for Pairer {
 
     /// A pairer that was fed nothing, of a deck of 25 frames a second.
     fn default() -> Pairer
-        ensures { result ≡ record { rate = Rate.Fps25; tail = []; last_time = None; reason = None } }
+        ensures { result ≡ record { rate = Rate.Fps25; tail = []; last_time = None; reason = None; exchange = None } }
     {
         Pairer::new()
     }

@@ -1,5 +1,5 @@
 -- A cut that gets one record more.
-use Rattle.judge9.proofs.Words.{Rate, [], append-nil, arith, Cut, cut_joined, IsStep, Exchange, inl, inr, IsExchange, IsKept, IsTail, last_apart, LineByte, List, refl, Step}
+use Rattle.judge9.proofs.Words.{Rate, [], append-nil, arith, Cut, cut_joined, Does, Exchange, inl, inr, IsExchange, IsKept, IsTail, last_apart, LineByte, List, refl, Outcome}
 use Rattle.judge9.proofs.Words.{still_tail, subst, sym, tail_after, tail_no_exchange, ◌++◌, ◌∙◌, ◌∷◌, ◌⊎◌}
 
 -- a tail that grows
@@ -13,14 +13,14 @@ pub cut-exchange : (rate : Rate) (p : List LineByte) (es : List Exchange) (t : L
 cut-exchange rate p es t r e h more = cut_joined rate p es (e ∷ []) t (r ∷ []) [] h (t ++ r ∷ [], [], sym (append-nil (t ++ r ∷ [])), more, (refl, IsTail.nothing refl))
 
 -- the exchanges after a step
-abbrev pub exchanges_after : List Exchange → Step → List Exchange
-exchanges_after es Step.Waiting = es
-exchanges_after es Step.Command = es
-exchanges_after es (Step.Exchange e) = es ++ e ∷ []
+abbrev pub exchanges_after : List Exchange → Outcome → List Exchange
+exchanges_after es Outcome.leaves_open = es
+exchanges_after es Outcome.asks = es
+exchanges_after es (Outcome.completes e) = es ++ e ∷ []
 
-pub cut-step : (rate : Rate) (p : List LineByte) (es : List Exchange) (t : List LineByte) (r : LineByte) (s : Step) → Cut rate p es t → IsStep rate t r s
+pub cut-step : (rate : Rate) (p : List LineByte) (es : List Exchange) (t : List LineByte) (r : LineByte) (s : Outcome) → Cut rate p es t → Does rate t r s
     → Cut rate (p ++ r ∷ []) (exchanges_after es s) (tail_after t r s)
-cut-step rate p es t r (Step.Exchange e) h done = cut-exchange rate p es t r e h done
+cut-step rate p es t r (Outcome.completes e) h done = cut-exchange rate p es t r e h done
 cut-step rate p es t r s h done = cut-tail rate p es t r h (still_tail rate t r s done)
 
 -- what a record makes of a tail where the rules of pairing are kept: a longer tail, or an exchange

@@ -2,7 +2,7 @@
 use Rattle.judge9.proofs.Words.{Paired, Rate, Spoils, EndedExchange, IsBefore, IsEnd, subst, sym, ℕ}
 use Rattle.judge9.proofs.Words.{[], ap, append_assoc, arith, BreaksAtLast, Cut, Ending, Err, Exchange, Profile, inl, inr, IsBreakAfter, IsErrAnd}
 use Rattle.judge9.proofs.Words.{JudgeError, Judging, KeepsExchanges, length, length_push, LineByte, List, None, Ok, Option, Reason, refl, Result, Rows, some_end}
-use Rattle.judge9.proofs.Words.{take, take-append_seam, Tracked, Turn, Turned, Verdict, View, ◌++◌, ◌∙◌, ◌∷◌, ◌≡◌, ◌≢◌}
+use Rattle.judge9.proofs.Words.{take, take-append_seam, Tracked, Event, Turned, Verdict, View, ◌++◌, ◌∙◌, ◌∷◌, ◌≡◌, ◌≢◌}
 use Rattle.judge9.proofs.Words.{HasItsWhy, SaysWhy, WhyVerdict, ◌+◌}
 use Rattle.judge9.specs.WhyVerdict.{moved, verdict_of}
 use Rattle.judge9.specs.Working.{Judges}
@@ -94,7 +94,7 @@ module _ {R : Type 0} {profile : Profile} {rows : Option Rows} {j : Judging R} {
 
   -- a rule of pairing is broken
   pub keep-break : {k : Judging R} {u : Tracked} {reason : Reason} {next : LineByte} {end_us : Option ℕ}
-      → (j.pairer.tail ≡ [] → IsEnd h.items es end_us) → Turned j (Ok (Turn.Break reason next)) k
+      → (j.pairer.tail ≡ [] → IsEnd h.items es end_us) → Turned j (Ok (Event.Break reason next)) k
       → KeepsExchanges profile rows (Ok (Ending.Break k.rows.given reason next end_us)) k.pairer es u
   keep-break {k = k} {reason = reason} {next = next} ended (given, (same, broken)) =
       let spoils : Spoils j k reason next = rw same broken in
@@ -114,7 +114,7 @@ module _ {R : Type 0} {profile : Profile} {rows : Option Rows} {j : Judging R} {
       }
 
   -- no run remains
-  pub keep-no_run : {k : Judging R} {u : Tracked} {e : Exchange} {last : LineByte} → Turned j (Ok (Turn.NoRun e last)) k
+  pub keep-no_run : {k : Judging R} {u : Tracked} {e : Exchange} {last : LineByte} → Turned j (Ok (Event.NoRun e last)) k
       → KeepsExchanges profile rows (Ok (Ending.NoRun k.rows.given)) k.pairer (es ++ e ∷ []) u
   keep-no_run {k = k} {e = e} (r, (same, feeds, observes)) =
       let read : List LineByte = h.items ++ r ∷ [] in
@@ -126,7 +126,7 @@ module _ {R : Type 0} {profile : Profile} {rows : Option Rows} {j : Judging R} {
       record { judges = both.0; ends = record { cut = rw up_to cut; breaks = breaks }; no_write = λ q. cc }
 
   -- no row is left
-  pub keep-end : {k : Judging R} {spans : ℕ} → Turned j (Ok Turn.End) k
+  pub keep-end : {k : Judging R} {spans : ℕ} → Turned j (Ok Event.End) k
       → KeepsExchanges profile rows (Ok (Ending.End k.rows.given (length k.pairer.tail) spans)) k.pairer es k.tracker
   keep-end {k = k} t =
       let both = judges-end h (Ok (Verdict.Yes k.rows.given (length es) (length k.pairer.tail))) t refl refl tt in

@@ -3,7 +3,7 @@ use Rattle.judge9.proofs.Words.{[], ap, append-nil, append_assoc, Appends, Appen
 use Rattle.judge9.proofs.Words.{CaptureError, Err, Exchange, exchanges_of, false, GivesAll, GivesEnd, GivesRecord, GivesRefusal, Profile, inl, inr, JudgeError}
 use Rattle.judge9.proofs.Words.{JudgesParts, Judging, last_of, length, length-append, length_push, line_of, LineByte, List, may_begin, NoneBegins, None, Ok}
 use Rattle.judge9.proofs.Words.{Option, Progress, Reason, records_in, refl, refusal_of, Rest, rest_after, Result, Resumes, ResumesAfter, Rows, subst, sym}
-use Rattle.judge9.proofs.Words.{TakesUp, true, Turn, Verdict, View, ℕ, ◌++◌, ◌+◌, ◌∙◌, ◌∷◌, ◌≡◌, ◌≤◌, ◌⊎◌}
+use Rattle.judge9.proofs.Words.{TakesUp, true, Event, Verdict, View, ℕ, ◌++◌, ◌+◌, ◌∙◌, ◌∷◌, ◌≡◌, ◌≤◌, ◌⊎◌}
 use Rattle.std.specs.Bool.{MatchBool}
 use Rattle.judge9.proofs.LineSteps.{cut_len}
 use Rattle.judge9.proofs.PartLemmas.{Onward, parts-memory, parts-refusal, parts-write}
@@ -156,14 +156,14 @@ module _ {R : Type 0} {T : BrokenPart → List ℕ → Type 0} {view : View} {pr
   break-memory wrote = stopped (λ past keeps more nil on s. parts-memory broken texts h.are_texts keeps more on s (rw (nil, append-nil) wrote))
 
   -- or the next turn comes
-  pub resume : (old now : Option (List ℕ)) (k : Judging R) (r : Result Turn JudgeError) → Appends old now texts → TakesUp profile reason breaking j r k
+  pub resume : (old now : Option (List ℕ)) (k : Judging R) (r : Result Event JudgeError) → Appends old now texts → TakesUp profile reason breaking j r k
       → Arrives T view profile rows old now broken [] None r k
   resume old now k r wrote (inl (is, rest)) = rw is (break-memory wrote)
   resume old now k r wrote (inr taken) = by (begins_next_part reason breaking) refl taken
     where
       goes_on : (passed : List LineByte) (mid : Progress R) → begins_next_part reason breaking ≡ false → NoneBegins breaking passed → GivesAll j.rows passed mid
           → ((first : LineByte) × (may_begin (last_of breaking passed) first ≡ true) × Resumes profile mid first r k)
-          ⊎ ((r ≡ Ok Turn.End) × GivesEnd mid k.rows × Begins profile k)
+          ⊎ ((r ≡ Ok Event.End) × GivesEnd mid k.rows × Begins profile k)
           ⊎ ((e : CaptureError) × GivesRefusal mid e k.rows × (r ≡ Err (refusal_of e)))
           → Arrives T view profile rows old now broken [] None r k
       goes_on passed mid after none gives (inl (first, may, new)) =

@@ -1,15 +1,15 @@
 -- Where the judging of all parts stands at each turn, and what takes it to the next.
 use Rattle.judge9.proofs.Words.{[], ap, append-nil, Appends, Appends-trans, AreTextsOf, Begins, BeginsWith, BrokenPart, ComesTo, Err, Exchange, exchanges_of, Profile, inl, inr, IsTaken, JudgeError}
-use Rattle.judge9.proofs.Words.{JudgesParts, Judging, length, LineByte, List, None, Ok, Option, records_in, refl, Result, Rows, Some, subst, sym, Turn, Turned, View, ℕ, ◌++◌, ◌∙◌, ◌∷◌, ◌≡◌, ◌≤◌}
+use Rattle.judge9.proofs.Words.{JudgesParts, Judging, length, LineByte, List, None, Ok, Option, records_in, refl, Result, Rows, Some, subst, sym, Event, Turned, View, ℕ, ◌++◌, ◌∙◌, ◌∷◌, ◌≡◌, ◌≤◌}
 use Rattle.judge9.proofs.PartLemmas.{Onward, onward-more, OnwardAll, parts-memory, parts-refusal}
 use Rattle.judge9.proofs.PartSteps.{AreRead}
 use Rattle.judge9.proofs.SoFar.{seen_now, seen_on, so_far-begin, so_far-open, so_far-open_items, SoFar}
 use Rattle.judge9.proofs.TurnSteps.{comes_with, ended-more, IsEnded}
 
 -- what is ahead of the records that were judged, where this turn came
-abbrev pub Ahead : {R : Type 0} (front j : Judging R) → Profile → List BrokenPart → List LineByte → List LineByte → (turn : Turn) → Turned front (Ok turn) j
+abbrev pub Ahead : {R : Type 0} (front j : Judging R) → Profile → List BrokenPart → List LineByte → List LineByte → (turn : Event) → Turned front (Ok turn) j
     → Type 0
-Ahead front j profile broken past items Turn.End t = Onward profile broken past items
+Ahead front j profile broken past items Event.End t = Onward profile broken past items
 Ahead front j profile broken past items turn t = (more : List LineByte) → Onward profile broken past (items ++ t.0 ∷ more)
 
 -- the parts before this one, which break, and what was written of them
@@ -21,7 +21,7 @@ pub record Before (T : BrokenPart → List ℕ → Type 0) (broken : List Broken
   pub fits : records_in (exchanges_of broken) ≤ length past
 
 -- a turn came in a part that has these exchanges
-pub record AtTurn {R : Type 0} (T : BrokenPart → List ℕ → Type 0) (view : View) (profile : Profile) (rows : Option Rows) (turn : Turn) (j : Judging R)
+pub record AtTurn {R : Type 0} (T : BrokenPart → List ℕ → Type 0) (view : View) (profile : Profile) (rows : Option Rows) (turn : Event) (j : Judging R)
     (old now : Option (List ℕ))
     (broken : List BrokenPart) (es : List Exchange) (end_us : Option ℕ) : Type 0 where
   pub past : List LineByte
@@ -35,21 +35,21 @@ pub record AtTurn {R : Type 0} (T : BrokenPart → List ℕ → Type 0) (view : 
 
 -- or the judging stopped
 abbrev pub Arrives : {R : Type 0} → (BrokenPart → List ℕ → Type 0) → View → Profile → Option Rows → Option (List ℕ) → Option (List ℕ) → List BrokenPart
-    → List Exchange → Option ℕ → Result Turn JudgeError → Judging R → Type 0
+    → List Exchange → Option ℕ → Result Event JudgeError → Judging R → Type 0
 Arrives T view profile rows old now broken es end_us (Ok turn) j = AtTurn T view profile rows turn j old now broken es end_us
 Arrives T view profile rows old now broken es end_us (Err x) j = JudgesParts T view profile rows (Err x) old now
 
 -- what is ahead is so whatever it is
-all_ahead : {R : Type 0} (front j : Judging R) (profile : Profile) (broken : List BrokenPart) (past items : List LineByte) (turn : Turn)
+all_ahead : {R : Type 0} (front j : Judging R) (profile : Profile) (broken : List BrokenPart) (past items : List LineByte) (turn : Event)
     (t : Turned front (Ok turn) j) → OnwardAll profile broken past items → Ahead front j profile broken past items turn t
-all_ahead front j profile broken past items Turn.End t all = subst (Onward profile broken past) (append-nil items) (all [])
+all_ahead front j profile broken past items Event.End t all = subst (Onward profile broken past) (append-nil items) (all [])
 all_ahead front j profile broken past items turn t all = λ more. all (t.0 ∷ more)
 
 -- with the first record of a part
-first_ahead : {R : Type 0} (j k : Judging R) (profile : Profile) (broken : List BrokenPart) (past : List LineByte) (first : LineByte) (turn : Turn)
+first_ahead : {R : Type 0} (j k : Judging R) (profile : Profile) (broken : List BrokenPart) (past : List LineByte) (first : LineByte) (turn : Event)
     → IsTaken j first (Ok (Some turn)) k → ((more : List LineByte) → Onward profile broken past (first ∷ more))
     → (t : Turned j (Ok turn) k) × Ahead j k profile broken past [] turn t
-first_ahead j k profile broken past first Turn.End taken on = absurd taken
+first_ahead j k profile broken past first Event.End taken on = absurd taken
 first_ahead j k profile broken past first turn taken on = ((first, taken), on)
 
 -- what was written, with that of this part
@@ -62,7 +62,7 @@ module _ {R : Type 0} {T : BrokenPart → List ℕ → Type 0} {view : View} {pr
     {broken : List BrokenPart} {past : List LineByte}
     (before : Before T broken past old begun) where
   -- the next turn comes
-  pub arrive : {j k : Judging R} {es : List Exchange} {r : Result Turn JudgeError} (end_us : Option ℕ) (h : SoFar view profile rows past j begun now es)
+  pub arrive : {j k : Judging R} {es : List Exchange} {r : Result Event JudgeError} (end_us : Option ℕ) (h : SoFar view profile rows past j begun now es)
       → OnwardAll profile broken past h.items → IsEnded es end_us j h.items → ComesTo j r k → Arrives T view profile rows old now broken es end_us r k
   arrive {k = k} {es = es} {r = r} end_us h all ended come =
       comes_with Kept (λ i k items r kept waits.
@@ -72,7 +72,7 @@ module _ {R : Type 0} {T : BrokenPart → List ℕ → Type 0} {view : View} {pr
       Kept : Judging R → List LineByte → Type 0
       Kept i items = OnwardAll profile broken past items × IsEnded es end_us i items
 
-      by : (r : Result Turn JudgeError) (front : Judging R) (f : SoFar view profile rows past front begun now es) → Kept front f.items
+      by : (r : Result Event JudgeError) (front : Judging R) (f : SoFar view profile rows past front begun now es) → Kept front f.items
           → Turned front r k → Arrives T view profile rows old now broken es end_us r k
       by (Ok turn) front f (all, ended) t = record {
         past = past;
@@ -94,7 +94,7 @@ module _ {R : Type 0} {T : BrokenPart → List ℕ → Type 0} {view : View} {pr
 -- the first record of a part comes
 pub arrive_first : {R : Type 0} (view : View) {T : BrokenPart → List ℕ → Type 0} {profile : Profile} {rows : Option Rows} {old now : Option (List ℕ)}
     {broken : List BrokenPart}
-    {past : List LineByte} {j k : Judging R} {first : LineByte} {r : Result Turn JudgeError} → Before T broken past old now → Begins profile j
+    {past : List LineByte} {j k : Judging R} {first : LineByte} {r : Result Event JudgeError} → Before T broken past old now → Begins profile j
     → AreRead rows past j.rows → ((more : List LineByte) → Onward profile broken past (first ∷ more)) → BeginsWith j first r k
     → Arrives T view profile rows old now broken [] None r k
 arrive_first view {T = T} {profile = profile} {rows = rows} {old = old} {now = now} {broken = broken} {past = past} {j = j} {k = k} {first = first} {r = r}

@@ -1,9 +1,9 @@
 -- Where the judging of a text stands: the invariant of its loop, the rows that it speaks of, and what a row more does.
-use Rattle.judge9.proofs.Words.{IsKept, IsReason, IsStep, Rate, Reason, Spoils, length-append, records_in, Begins, IsEnd, last_time, last_time-append}
+use Rattle.judge9.proofs.Words.{IsKept, IsReason, Does, Rate, Reason, Spoils, length-append, records_in, Begins, IsEnd, last_time, last_time-append}
 use Rattle.judge9.proofs.Words.{[], ap, append-nil, append_assoc, Appends, Appends-nil, Appends-trans, AreGiven, arith, Bool, CanBeRows, CaptureError, Cut, Exchange, Feeds}
 use Rattle.judge9.proofs.Words.{KeepsEnds, ForSome, given-more, given-none, GivesRecord, Profile, HasRun, IfNone, IfSome, IsExplained, IsFresh, IsLineOf, IsOfSomeText, IsOk, IsOpen}
 use Rattle.judge9.proofs.Words.{IsStartOf, IsTail, Judging, length, length_push, LineByte, List, None, Observes, Option, Paired, Possible, Progress, refl, Rows, run_start, Some}
-use Rattle.judge9.proofs.Words.{some-text, some_end, Standing, Step, subst, sym, Takes, TakesRecord, Tracked, true, View, Waits, ℕ, ⊤, ◌++◌, ◌+◌, ◌∙◌, ◌∷◌, ◌≡◌, ◌≤◌}
+use Rattle.judge9.proofs.Words.{some-text, some_end, Standing, Outcome, subst, sym, Takes, TakesRecord, Tracked, true, View, Waits, ℕ, ⊤, ◌++◌, ◌+◌, ◌∙◌, ◌∷◌, ◌≡◌, ◌≤◌}
 use Rattle.judge9.proofs.RunSteps.{follows-more, follows-start}
 use Rattle.judge9.proofs.CutSteps.{cut-step, exchanges_after}
 use Rattle.judge9.proofs.LineSteps.{cut_len, explained_more}
@@ -95,7 +95,7 @@ read-more (Some rows) (Some left) after items r h k =
 
 -- ---- a row that is judged and keeps the rules: the records so far with one more
 
-pub later : {R : Type 0} {progress after : Progress R} {paired next : Paired} {r : LineByte} {s : Step} → GivesRecord progress r after → Takes paired r s next
+pub later : {R : Type 0} {progress after : Progress R} {paired next : Paired} {r : LineByte} {s : Outcome} → GivesRecord progress r after → Takes paired r s next
     → (x : ℕ) → next.last_time ≡ Some x → x ≤ after.last_time
 later {r = r} given takes x e =
     let same : Some x ≡ Some r.time_us = sym e ∙ takes.last_time in
@@ -151,8 +151,8 @@ module _ {R : Type 0} {which : View} {profile : Profile} {rows : Option Rows} {p
   seen_on {after = after} {r = r} gives = seen rows after.rows (past ++ (h.items ++ r ∷ [])) None (read_on gives) (given_on gives).can_be
 
   -- what a record more does, at the rate of the deck
-  pub step_on : {k : Judging R} {r : LineByte} {s : Step} → Feeds j k r s → IsStep profile.rate j.pairer.tail r s
-  step_on {r = r} {s = s} feeds = subst (λ (rate : Rate). IsStep rate j.pairer.tail r s) h.same_rate feeds.takes.does
+  pub step_on : {k : Judging R} {r : LineByte} {s : Outcome} → Feeds j k r s → Does profile.rate j.pairer.tail r s
+  step_on {r = r} {s = s} feeds = subst (λ (rate : Rate). Does rate j.pairer.tail r s) h.same_rate feeds.takes.does
 
   -- and which rule it breaks
   pub reason_of : {k : Judging R} {r : LineByte} {x : Reason} → Spoils j k x r → IsReason profile.rate j.pairer.tail r x
@@ -162,7 +162,7 @@ module _ {R : Type 0} {which : View} {profile : Profile} {rows : Option Rows} {p
   not_kept {r = r} spoils = subst (λ (rate : Rate). ¬ IsKept rate (j.pairer.tail ++ r ∷ [])) h.same_rate spoils.refuses.not_kept
 
   -- after a row, after which the exchanges have a run and this line was written
-  unfoldable pub so_far-more : {k : Judging R} {new : Option (List ℕ)} {r : LineByte} {s : Step} (line : List ℕ) → Feeds j k r s
+  unfoldable pub so_far-more : {k : Judging R} {new : Option (List ℕ)} {r : LineByte} {s : Outcome} (line : List ℕ) → Feeds j k r s
       → HasRun profile (exchanges_after es s) → KeepsEnds profile (exchanges_after es s) k.tracker
       → IsExplained which profile (length past) (exchanges_after es s) (h.text ++ line) → Appends now new line
       → length (exchanges_after es s) ≤ length es + 1 → SoFar which profile rows past k old new (exchanges_after es s)
@@ -186,31 +186,31 @@ module _ {R : Type 0} {which : View} {profile : Profile} {rows : Option Rows} {p
   }
 
   -- one that ends no exchange
-  so_far-by : {k : Judging R} {r : LineByte} (s : Step) → Feeds j k r s → IsOpen s → k.tracker ≡ j.tracker → (f : SoFar which profile rows past k old now es)
+  so_far-by : {k : Judging R} {r : LineByte} (s : Outcome) → Feeds j k r s → IsOpen s → k.tracker ≡ j.tracker → (f : SoFar which profile rows past k old now es)
       × (f.items ≡ h.items ++ r ∷ [])
   unfolding so_far-more
-  so_far-by (Step.Exchange e) feeds is_open same = absurd is_open
+  so_far-by (Outcome.completes e) feeds is_open same = absurd is_open
   so_far-by s feeds is_open same =
       (so_far-more [] feeds h.run (rw same h.follows) (rw append-nil h.explained) (Appends-nil now) (omega arith), refl)
 
   pub so_far-open : {k : Judging R} {r : LineByte} → Waits j k r → SoFar which profile rows past k old now es
-  so_far-open w = (so_far-by w.step w.feeds w.is_open w.same_tracker).0
+  so_far-open w = (so_far-by w.outcome w.feeds w.is_open w.same_tracker).0
 
   pub so_far-open_items : {k : Judging R} {r : LineByte} (w : Waits j k r) → (so_far-open w).items ≡ h.items ++ r ∷ []
   unfolding so_far-open
-  so_far-open_items w = (so_far-by w.step w.feeds w.is_open w.same_tracker).1
+  so_far-open_items w = (so_far-by w.outcome w.feeds w.is_open w.same_tracker).1
 
   -- the tracker has observed one exchange more
   pub observed_more : {k : Tracked} {e : Exchange} {b : Bool} → Observes j.tracker k e b → KeepsEnds profile (es ++ e ∷ []) k
   observed_more {k = k} {e = e} o = follows-more profile es e j.tracker k h.follows o.reached o.profile
 
   -- one that ends an exchange, which the tracker has seen and whose line was written
-  unfoldable pub so_far-exchange : {k : Judging R} {new : Option (List ℕ)} {r : LineByte} {e : Exchange} (line : List ℕ) → Feeds j k r (Step.Exchange e)
+  unfoldable pub so_far-exchange : {k : Judging R} {new : Option (List ℕ)} {r : LineByte} {e : Exchange} (line : List ℕ) → Feeds j k r (Outcome.completes e)
       → Observes j.tracker k.tracker e true
       → IsLineOf which profile k.rows.given e (Possible k.tracker.states) line → Appends now new line → SoFar which profile rows past k old new (es ++ e ∷ [])
   so_far-exchange {k = k} {r = r} {e = e} line feeds observes is wrote =
       let follows = observed_more observes in
-      let cut = cut-step profile.rate h.items es j.pairer.tail r (Step.Exchange e) h.cut (step_on feeds) in
+      let cut = cut-step profile.rate h.items es j.pairer.tail r (Outcome.completes e) h.cut (step_on feeds) in
       let number : k.rows.given ≡ length past + records_in (es ++ e ∷ []) = omega
       (arith, length-append past (h.items ++ r ∷ []), cut_len profile.rate (h.items ++ r ∷ []) (es ++ e ∷ []) [] cut, given_on feeds.gives) in
       let end = observes.remains.0 refl in
@@ -218,7 +218,7 @@ module _ {R : Type 0} {which : View} {profile : Profile} {rows : Option Rows} {p
       (explained_more which profile (length past) es e k.rows.given h.text line k.tracker follows h.explained is number) wrote
       (omega (arith, length_push es e))
 
-  pub so_far-exchange_items : {k : Judging R} (new : Option (List ℕ)) {r : LineByte} {e : Exchange} (line : List ℕ) (feeds : Feeds j k r (Step.Exchange e))
+  pub so_far-exchange_items : {k : Judging R} (new : Option (List ℕ)) {r : LineByte} {e : Exchange} (line : List ℕ) (feeds : Feeds j k r (Outcome.completes e))
       (observes : Observes j.tracker k.tracker e true)
       (is : IsLineOf which profile k.rows.given e (Possible k.tracker.states) line) (wrote : Appends now new line)
       → (so_far-exchange {new = new} line feeds observes is wrote).items ≡ h.items ++ r ∷ []
@@ -226,7 +226,7 @@ module _ {R : Type 0} {which : View} {profile : Profile} {rows : Option Rows} {p
   so_far-exchange_items new line feeds observes is wrote = refl
 
   -- so its last record's time is that at which the exchanges end
-  pub exchange_ended : {k : Judging R} (new : Option (List ℕ)) {r : LineByte} {e : Exchange} (line : List ℕ) (feeds : Feeds j k r (Step.Exchange e))
+  pub exchange_ended : {k : Judging R} (new : Option (List ℕ)) {r : LineByte} {e : Exchange} (line : List ℕ) (feeds : Feeds j k r (Outcome.completes e))
       (observes : Observes j.tracker k.tracker e true)
       (is : IsLineOf which profile k.rows.given e (Possible k.tracker.states) line) (wrote : Appends now new line)
       → IsEnd (so_far-exchange {new = new} line feeds observes is wrote).items (es ++ e ∷ []) k.pairer.last_time

@@ -4,8 +4,8 @@ use Rattle.judge9.proofs.Words.{CanBeVerdict, CaptureError, CaptureKind, Cut, cu
 use Rattle.judge9.proofs.Words.{given-refused, GivesRecord, GivesRefusal, Profile, HasHeader, HasRun, IfErr, IfSome, if◌then◌else◌, inl, inr, is_of_text, IsAfter, IsAnswer}
 use Rattle.judge9.proofs.Words.{IsFirstBreak, IsOk, IsOkBefore, IsPlaced, IsSame, IsStartOf, IsTheAnswer, IsVerdictAfter, JudgeError, Judges, Judging, length, length_push}
 use Rattle.judge9.proofs.Words.{length-append, line_of, LineByte, List, no_rows-can_be, None, Observes, Ok, Option, option_map, part_after, Possible, Progress, Puts, Reason}
-use Rattle.judge9.proofs.Words.{refl, refusal_by, refusal_of, refused-after, Result, Rows, rows_of, Some, some_end, Spoils, Step, StoppedBefore, subst, tail_by_kept, tail_short}
-use Rattle.judge9.proofs.Words.{Told, Tracked, true, Turn, Turned, Verdict, View, Written, ℕ, ⊤, ◌*◌, ◌++◌, ◌+◌, ◌∙◌, ◌∷◌, ◌≡◌, ◌≢◌, ◌≤◌}
+use Rattle.judge9.proofs.Words.{refl, refusal_by, refusal_of, refused-after, Result, Rows, rows_of, Some, some_end, Spoils, Outcome, StoppedBefore, subst, tail_by_kept, tail_short}
+use Rattle.judge9.proofs.Words.{Told, Tracked, true, Event, Turned, Verdict, View, Written, ℕ, ⊤, ◌*◌, ◌++◌, ◌+◌, ◌∙◌, ◌∷◌, ◌≡◌, ◌≢◌, ◌≤◌}
 use Rattle.std.specs.Result.{result_map_both}
 use Rattle.judge9.proofs.CutSteps.{cut-exchange}
 use Rattle.judge9.proofs.LineSteps.{appended, exchange_len, none_after}
@@ -112,7 +112,7 @@ module _ {R : Type 0} {which : View} {profile : Profile} {rows : Option Rows} {p
       let end = (some_end profile (es ++ e ∷ [])).1 run in
       false≢true (o.remains.1 (end.0, ((observed_more h o).states end.0).1 end.1))
 
-  pub breaks-run : {k : Judging R} {r : LineByte} {e : Exchange} (feeds : Feeds j k r (Step.Exchange e)) → Observes j.tracker k.tracker e false
+  pub breaks-run : {k : Judging R} {r : LineByte} {e : Exchange} (feeds : Feeds j k r (Outcome.completes e)) → Observes j.tracker k.tracker e false
       → Breaks profile h.items r Reason.NoRun
   breaks-run {r = r} {e = e} feeds observes =
       let whole = step_on h feeds in
@@ -242,7 +242,7 @@ module _ {R : Type 0} {which : View} {profile : Profile} {rows : Option Rows} {j
           }
 
   -- an exchange, whose line was not written whole
-  pub judges-explained : {k : Judging R} {new : Option (List ℕ)} {e : Exchange} (x : JudgeError) → Turned j (Ok (Turn.Exchange e)) k
+  pub judges-explained : {k : Judging R} {new : Option (List ℕ)} {e : Exchange} (x : JudgeError) → Turned j (Ok (Event.Exchange e)) k
       → Explains which profile k.rows.given e (Possible k.tracker.states) (Err x) now new → Judges which profile rows (Err x) old new
   unfolding so_far-exchange so_far-more
   judges-explained (JudgeError.Capture c) t line = absurd line.puts

@@ -9,7 +9,8 @@ pub use Rattle.verdict9.specs.OpenRecords.{IsBefore}
 pub use Rattle.verdict9.specs.declared.why_verdict.EndedExchange.{EndedExchange}
 pub use Rattle.block9.specs.Command.{meaning_in, Row}
 unfoldable pub use Rattle.block9.specs.Command.{command_of}
-pub use Rattle.block9.specs.Exchange.{IsStep, IsExchange, IsKept, IsTail, tail_after}
+pub use Rattle.block9.specs.Exchange.{Does, IsExchange, IsKept, IsTail, step_of, tail_after}
+pub use Rattle.block9.specs.declared.pairer.Step.TheVariants.{the_data as Step}
 pub use Rattle.block9.specs.Line.{bytes_of, last_time}
 pub use Rattle.block9.specs.Pairer.{Paired}
 pub use Rattle.block9.specs.Reason.{Holds, IsFirst, IsReason, order}
@@ -43,7 +44,7 @@ pub use Rattle.judge9.specs.WhyVerdict.{CouldBe, CouldShow}
 pub use Rattle.judge9.specs.Working.{[], All, Appends, AppendsPart, AreReached, Bool, BreaksAtLast, CanBeResult, CaptureError, CaptureKind, Cut, Ending, Ends, Err, Exchange}
 pub use Rattle.judge9.specs.Working.{Exchanges, Explains, false, GivesEnd, GivesRecord, GivesRefusal, Profile, IfErr, IfOk, IfSome, IsBreakAfter, IsKnowledge, IsLineOf, IsSame}
 pub use Rattle.judge9.specs.Working.{JudgeError, Judges, Judging, Knowledge, last_state, length, line_of_exchange, LineByte, List, None, Ok, Option, Possible, Puts, Reason}
-pub use Rattle.judge9.specs.Working.{refusal_of, Result, reverse, Rows, slice_get, Some, Standing, State, Step, StoppedBefore, suc, take, Takes, Told, Tracked, true}
+pub use Rattle.judge9.specs.Working.{refusal_of, Result, reverse, Rows, slice_get, Some, Standing, State, Outcome, StoppedBefore, suc, take, Takes, Told, Tracked, true}
 pub use Rattle.judge9.specs.Working.{HasItsWhy, IsTrue, Verdict, WhyVerdict, View, zero, ℕ, ⊤}
 pub use Rattle.block9.proofs.TailLemmas.{last_time-append}
 pub use Rattle.block9.specs.Line.{last_time}
@@ -54,8 +55,8 @@ pub use Rattle.judge9.specs.Parts.{AreParts, AreTotals, BrokenPart, exchanges_of
 pub use Rattle.judge9.specs.Parts.{begins_next_part}
 pub use Rattle.judge9.specs.PartsReport.{AreTextsOf, InParts, PartsTold, IsRefusedAfter, IsTextOf, IsToTheEnd, ToldInParts, WrittenInParts}
 pub use Rattle.report9.specs.WhyText.{records_in, text_of_why}
-pub use Rattle.judge9.specs.Working.Parts.{BeginsWith, EndsPart, IsBreakText, SaysWhy, GivesAll, JudgesParts, last_of, GoesOn, NoneBegins, Resumes, PassesOver, ResumesAfter, TakesUp}
-pub use Rattle.judge9.specs.Working.Turn.{AreOpen, Begins, ComesTo, EndsRows, Feeds, IsFresh, IsObserved, IsOpen, IsTaken, Observes, Spoils, Turned, Waits}
+pub use Rattle.judge9.specs.Working.Parts.{BeginsAfter, BeginsWith, EndsPart, IsBreakText, SaysWhy, GivesAll, JudgesParts, last_of, GoesOn, NoneBegins, Resumes, PassesOver, ResumesAfter, TakesUp}
+pub use Rattle.judge9.specs.Working.Turn.{AreOpen, Begins, Brings, ComesTo, EndsRows, Event, Feeds, IsFresh, IsObserved, IsOpen, IsTaken, Observes, Shows, Spoils, Turned, Waits}
 pub use Rattle.judge9.specs.declared.judging.Turn.TheVariants.{the_data as Turn}
 pub use Rattle.std.proofs.Common.{ap, arith, drop, get_or, if◌then◌else◌, inl, inr, length-append, OnOk, option_map, refl, slice_range, subst, sym, take-add}
 pub use Rattle.std.proofs.Common.{◌*◌, ◌+◌, ◌++◌, ◌-◌, ◌/◌, ◌<◌, ◌^◌, ◌↔◌, ◌∙◌, ◌∷◌, ◌≡◌, ◌≢◌, ◌≤◌, ◌⊎◌}

@@ -7,7 +7,7 @@ pub mod WayBack
 pub use Rattle.block9.specs.Exchange.{Cut}
 pub use Rattle.block9.specs.Pairer.{Refuses, Takes}
 pub use Rattle.block9.specs.declared.pairer.Exchange.{Exchange}
-pub use Rattle.block9.specs.declared.pairer.Step.TheVariants.{the_data as Step}
+pub use Rattle.block9.specs.Exchange.{Outcome}
 pub use Rattle.block9.specs.declared.reason.Reason.TheVariants.{the_data as Reason}
 pub use Rattle.capture9.specs.Records.{GivesEnd, GivesRecord, GivesRefusal, Progress}
 pub use Rattle.capture9.specs.Rows.{Rows}

@@ -28,13 +28,13 @@ pub(crate) fn keep_exchanges<R: Read + Drop>(
     let mut end_us = None;
     'rows: loop {
         match judging.next()? {
-            Turn::Exchange(exchange) => {
-                keep(exchanges, exchange)?;
+            Turn::Exchange => {
+                keep(exchanges, judging.exchange())?;
                 end_us = judging.pairer.last_time();
                 spans = most_spans(spans, exchanges.len(), &judging.tracker);
             }
-            Turn::NoRun(exchange, _) => {
-                keep(exchanges, exchange)?;
+            Turn::NoRun(_) => {
+                keep(exchanges, judging.exchange())?;
                 return Ok(Ending::NoRun {
                     at: judging.rows.given(),
                 });
@@ -59,10 +59,10 @@ pub(crate) fn keep_exchanges<R: Read + Drop>(
 }
 
 /// Keeps an exchange. An error comes where memory is refused.
-fn keep(exchanges: &mut Vec<Exchange>, exchange: Exchange) -> Result<(), AllocError>
-    ensures { OnOk result (exchanges.new.items ≡ exchanges.old.items ++ exchange ∷ []) }
+fn keep(exchanges: &mut Vec<Exchange>, exchange: &Exchange) -> Result<(), AllocError>
+    ensures { OnOk result (exchanges.new.items ≡ exchanges.old.items ++ exchange.now ∷ []) }
 {
-    exchanges.push(exchange)?;
+    exchanges.push(exchange.copy())?;
     Ok(())
 }
 

@@ -1,13 +1,14 @@
 //! How far the judging of a capture has come, and what it comes to next: rows are read and their records fed to the pairer up to
 //! the one that makes an exchange complete, which the tracker then observes. Whoever judges a capture asks for what is next, and
 //! does its own with what that is; after a break it may take up again, where the next part of the capture begins.
-ghost use Rattle.std.specs.Prelude.{◌≡◌, ◌≤◌, IfErr, IfOk, None, OnOk, option_map};
+ghost use Rattle.std.specs.Prelude.{◌≡◌, ◌≤◌, IfErr, IfOk, None, OnOk, Some, option_map};
 ghost use Rattle.std.specs.Option.{ForSome};
 ghost use Rattle.capture9.specs.Records.{GivesRecord, Progress};
 ghost use Rattle.capture9.specs.Rows.{rows_of};
 ghost use Rattle.deck9.specs.declared.profile.Profile.{Profile as AProfile};
-ghost use Rattle.judge9.specs.Working.Parts.{BeginsWith, TakesUp};
-ghost use Rattle.judge9.specs.Working.Turn.{Begins, ComesTo, IsFresh, IsObserved};
+ghost use Rattle.judge9.specs.Working.Parts.{BeginsAfter, TakesUp};
+ghost use Rattle.block9.specs.declared.pairer.Exchange.{Exchange as AnExchange};
+ghost use Rattle.judge9.specs.Working.Turn.{Begins, Brings, ComesTo, IsFresh, IsObserved};
 
 use crate::parts::{begins_next_part, pass_over};
 use block9::{Exchange, Pairer, Reason, Step};
@@ -20,13 +21,13 @@ use std::mem::replace;
 use track9::Tracker;
 use verdict9::JudgeError;
 
-/// What a judging comes to next.
-#[derive(Drop)]
+/// What a judging comes to next. An exchange is the one that the pairer has, up to the next turn.
+#[derive(Clone, Copy)]
 pub(crate) enum Turn {
     /// An exchange, whose reply some run of the deck gives after those before it.
-    Exchange(Exchange),
+    Exchange,
     /// An exchange, whose reply no run of the deck gives after those before it, and its last record.
-    NoRun(Exchange, LineByte),
+    NoRun(LineByte),
     /// A record that breaks this rule of blocks, pairing or timing.
     Break(Reason, LineByte),
     /// The end of the rows.
@@ -64,11 +65,11 @@ impl<'a, R: Read + Drop> Judging<'a, R> {
 
     /// Reads on to the next exchange, the first record that breaks a rule, or the end of the rows. Errors are those of the
     /// rows, and `OutOfMemory` where the tracker finds no room; nothing is asked for after one, nor after a break or the end.
-    #[inline(always)] // two loops ask, and else each exchange would be handed on through memory
+    #[inline(always)] // two loops ask, and else each turn would be handed on through memory
     pub(crate) fn next(&mut self) -> Result<Turn, JudgeError>
         requires no_reason { self.old.pairer.reason ≡ None }
         requires in_order { ForSome self.old.pairer.last_time (λ time. time ≤ self.old.rows.last_time) }
-        ensures { ComesTo self.old result self.new }
+        ensures { Brings (λ event. ComesTo self.old event self.new) self.new result }
     {
         'open: loop {
             // by arms, since `?` would put each record aside
@@ -80,24 +81,34 @@ impl<'a, R: Read + Drop> Judging<'a, R> {
             match self.pairer.feed(line_byte) {
                 Ok(Step::Waiting) => {}
                 Ok(Step::Command) => {}
-                Ok(Step::Exchange(exchange)) => return self.observe(exchange, line_byte),
+                Ok(Step::Exchange) => return self.observe(line_byte),
                 Err(reason) => return Ok(Turn::Break(reason, line_byte)),
             }
         }
     }
 
-    /// Whether a state of the deck remains with this exchange, which ends with this record.
+    /// Whether a state of the deck remains with the exchange that the pairer has, which ends with this record.
     #[inline(always)] // as above
-    fn observe(&mut self, exchange: Exchange, last: LineByte) -> Result<Turn, JudgeError>
+    fn observe(&mut self, last: LineByte) -> Result<Turn, JudgeError>
+        requires { (e : AnExchange) × (self.old.pairer.exchange ≡ Some e) }
         ensures rows { self.new.rows ≡ self.old.rows }
         ensures pairer { self.new.pairer ≡ self.old.pairer }
-        ensures observed { IsObserved self.old.tracker exchange last result self.new.tracker }
+        ensures observed { (e : AnExchange) → self.old.pairer.exchange ≡ Some e → IsObserved self.old.tracker e last result self.new.tracker }
     {
+        let exchange = self.pairer.exchange().unwrap();
         match self.tracker.observe(&exchange.command, &exchange.reply) {
-            Ok(true) => Ok(Turn::Exchange(exchange)),
-            Ok(false) => Ok(Turn::NoRun(exchange, last)),
+            Ok(true) => Ok(Turn::Exchange),
+            Ok(false) => Ok(Turn::NoRun(last)),
             Err(_) => Err(JudgeError::OutOfMemory),
         }
+    }
+
+    /// The exchange that it came to last, which the pairer has up to the next turn.
+    pub(crate) fn exchange(&self) -> &Exchange
+        requires { (e : AnExchange) × (self.now.pairer.exchange ≡ Some e) }
+        ensures { self.now.pairer.exchange ≡ Some result.now }
+    {
+        self.pairer.exchange().unwrap()
     }
 
     /// Takes up where the next part of the capture begins, after `last`, the record that was read last, broke a rule for this
@@ -110,7 +121,7 @@ impl<'a, R: Read + Drop> Judging<'a, R> {
         last: LineByte,
     ) -> Result<Turn, JudgeError>
         requires { (before : Progress R) × GivesRecord before last self.old.rows }
-        ensures { TakesUp profile.now reason last self.old result self.new }
+        ensures { Brings (λ event. TakesUp profile.now reason last self.old event self.new) self.new result }
     {
         let Ok(()) = self.forget(alloc, profile) else {
             return Err(JudgeError::OutOfMemory);
@@ -139,13 +150,12 @@ impl<'a, R: Read + Drop> Judging<'a, R> {
     fn begin(&mut self, first: LineByte) -> Result<Turn, JudgeError>
         requires begins { (profile : AProfile) × Begins profile self.old }
         requires read { (before : Progress R) × GivesRecord before first self.old.rows }
-        ensures { (before : Progress R) → GivesRecord before first self.old.rows
-            → BeginsWith (record { rows = before; pairer = self.old.pairer; tracker = self.old.tracker }) first result self.new }
+        ensures { Brings (λ event. BeginsAfter self.old first event self.new) self.new result }
     {
         match self.pairer.feed(first) {
             Ok(Step::Waiting) => self.next(),
             Ok(Step::Command) => self.next(),
-            Ok(Step::Exchange(exchange)) => self.observe(exchange, first),
+            Ok(Step::Exchange) => self.observe(first),
             Err(reason) => Ok(Turn::Break(reason, first)),
         }
     }

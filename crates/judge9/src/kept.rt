@@ -30,15 +30,15 @@ impl Kept {
     pub(crate) fn keep(
         &mut self,
         telling: Telling,
-        exchange: Exchange,
+        exchange: &Exchange,
         end_us: Option<u64>,
     ) -> Result<(), AllocError>
-        ensures { telling ≡ Telling.Why → OnOk result ((self.new.exchanges.items ≡ self.old.exchanges.items ++ exchange ∷ []) × (self.new.end_us ≡ end_us)) }
+        ensures { telling ≡ Telling.Why → OnOk result ((self.new.exchanges.items ≡ self.old.exchanges.items ++ exchange.now ∷ []) × (self.new.end_us ≡ end_us)) }
     {
         match telling {
             Telling::Shown(_) => Ok(()),
             Telling::Why => {
-                self.exchanges.push(exchange)?;
+                self.exchanges.push(exchange.copy())?;
                 self.end_us = end_us;
                 Ok(())
             }

@@ -8,7 +8,7 @@ ghost use Rattle.why9.specs.Contradiction.{BreaksAtLast};
 ghost use Rattle.judge9.specs.Working.{Puts};
 ghost use Rattle.capture9.specs.Records.{GivesRecord, Progress};
 ghost use Rattle.judge9.specs.Working.Parts.{EndsPart, IsBreakText, JudgesParts};
-ghost use Rattle.judge9.specs.Working.Turn.{IsFresh};
+ghost use Rattle.judge9.specs.Working.Turn.{Brings, IsFresh};
 
 use crate::judging::{Judging, Turn};
 use crate::kept::Kept;
@@ -106,24 +106,17 @@ fn judge_rows<'a, R: Read + Drop, W: Write>(
     let mut turn = judging.next()?;
     'rows: loop {
         turn = match turn {
-            Turn::Exchange(exchange) => {
+            Turn::Exchange => {
                 exchanges += 1;
-                in_exchanges += exchange.records() as u32;
-                explain(
-                    line,
-                    writer,
-                    telling.view(),
-                    profile,
-                    judging.rows.given(),
-                    &exchange,
-                    &judging.tracker,
-                )?;
-                kept.keep(telling, exchange, judging.pairer.last_time())?;
+                in_exchanges += judging.exchange().records() as u32;
+                explain(line, writer, telling.view(), profile, judging)?;
+                let end_us = judging.pairer.last_time();
+                kept.keep(telling, judging.exchange(), end_us)?;
                 judging.next()?
             }
-            Turn::NoRun(exchange, last) => {
+            Turn::NoRun(last) => {
                 breaks += 1;
-                kept.keep(telling, exchange, None)?;
+                kept.keep(telling, judging.exchange(), None)?;
                 let part = replace(&mut kept, Kept::new(alloc));
                 let reason = Reason::NoRun;
                 put_break(alloc, line, judging, telling, profile, reason, last, part)?;
@@ -221,7 +214,7 @@ fn end_part<'a, R: Read + Drop, W: Write>(
     last: LineByte,
 ) -> Result<Turn, JudgeError>
     requires { (before : Progress R) × GivesRecord before last judging.old.rows }
-    ensures { EndsPart text.now profile.now reason last judging.old result judging.new (W.contents writer.old) (W.contents writer.new) }
+    ensures { Brings (λ event. EndsPart text.now profile.now reason last judging.old event judging.new (W.contents writer.old) (W.contents writer.new)) judging.new result }
 {
     let Ok(()) = put_all(writer, text) else {
         return Err(JudgeError::Write);

@@ -1,5 +1,6 @@
 //! Judges a capture as it is read, turn by turn, and tells the line of each exchange.
-ghost use Rattle.std.specs.Prelude.{◌≡◌, ◌≢◌, IfSome, IfErr, option_map, None};
+ghost use Rattle.std.specs.Prelude.{◌≡◌, ◌≢◌, IfSome, IfErr, option_map, None, Some};
+ghost use Rattle.block9.specs.declared.pairer.Exchange.{Exchange as AnExchange};
 ghost use Rattle.capture9.specs.Rows.{rows_of};
 ghost use Rattle.judge9.specs.Judging.{CanBeResult, IsTheAnswer, StoppedBefore, answer_of};
 ghost use Rattle.verdict9.specs.Lines.{line_of};
@@ -11,15 +12,13 @@ ghost use Rattle.deck9.specs.declared.state.State.{State as AState};
 ghost use Rattle.track9.specs.Tracker.{Possible};
 
 use crate::judging::{Judging, Turn};
-use block9::{Exchange, Reason};
+use block9::Reason;
 use capture9::{CaptureError, CaptureKind};
 use deck9::{Hands, Profile};
-use sets25::SpanSet;
 use std::alloc::Global;
 use std::io::{Read, Write};
 use tc25::Rate;
 use text9::{put_all, put_exchange_line_for};
-use track9::Tracker;
 use verdict9::{JudgeError, Verdict, View, put_verdict_line};
 
 /// Judges the capture that the reader gives, and writes the report that the view asks for.
@@ -127,17 +126,9 @@ fn judge_rows<R: Read + Drop, W: Write>(
     let mut exchanges = 0u32;
     'rows: loop {
         match judging.next()? {
-            Turn::Exchange(exchange) => {
+            Turn::Exchange => {
                 exchanges += 1;
-                explain(
-                    line,
-                    writer,
-                    view,
-                    profile,
-                    judging.rows.given(),
-                    &exchange,
-                    &judging.tracker,
-                )?;
+                explain(line, writer, view, profile, judging)?;
             }
             Turn::NoRun(..) => return tell_no(line, writer, judging.rows.given(), Reason::NoRun),
             Turn::Break(reason, _) => return tell_no(line, writer, judging.rows.given(), reason),
@@ -188,40 +179,41 @@ pub(crate) fn tell_no<W: Write>(
     tell(line, writer, Verdict::No { at, reason })
 }
 
-/// Writes what the view shows of an exchange, whose reply ends with the record of this number, after the tracker
-/// observed it: for a verdict alone nothing, else its line.
+/// Writes what the view shows of the exchange that the judging came to last: for a verdict alone nothing, else its line.
 #[inline(always)] // asks for the view where the exchange is at hand: most captures are judged for a verdict alone
-pub(crate) fn explain<W: Write>(
+pub(crate) fn explain<R: Read + Drop, W: Write>(
     line: &mut Vec<u8>,
     writer: &mut W,
     view: View,
     profile: &Profile,
-    number: u32,
-    exchange: &Exchange,
-    tracker: &Tracker<SpanSet>,
+    judging: &Judging<R>,
 ) -> Result<(), JudgeError>
-    requires { (s : AState) × Possible tracker.now.states s }
-    ensures { Explains view profile.now number exchange.now (Possible tracker.now.states) result (W.contents writer.old) (W.contents writer.new) }
+    requires some { (s : AState) × Possible judging.now.tracker.states s }
+    requires whole { (e : AnExchange) × (judging.now.pairer.exchange ≡ Some e) }
+    ensures { (e : AnExchange) → judging.now.pairer.exchange ≡ Some e
+        → Explains view profile.now judging.now.rows.given e (Possible judging.now.tracker.states) result (W.contents writer.old) (W.contents writer.new) }
 {
     match view {
         View::Verdict => Ok(()),
-        View::Explain => write_line(line, writer, profile, number, exchange, tracker),
+        View::Explain => write_line(line, writer, profile, judging),
     }
 }
 
 /// Writes the line of an exchange, as `explain` does.
-fn write_line<W: Write>(
+fn write_line<R: Read + Drop, W: Write>(
     line: &mut Vec<u8>,
     writer: &mut W,
     profile: &Profile,
-    number: u32,
-    exchange: &Exchange,
-    tracker: &Tracker<SpanSet>,
+    judging: &Judging<R>,
 ) -> Result<(), JudgeError>
-    requires { (s : AState) × Possible tracker.now.states s }
-    ensures { Explains View.Explain profile.now number exchange.now (Possible tracker.now.states) result (W.contents writer.old) (W.contents writer.new) }
+    requires some { (s : AState) × Possible judging.now.tracker.states s }
+    requires whole { (e : AnExchange) × (judging.now.pairer.exchange ≡ Some e) }
+    ensures { (e : AnExchange) → judging.now.pairer.exchange ≡ Some e
+        → Explains View.Explain profile.now judging.now.rows.given e (Possible judging.now.tracker.states) result (W.contents writer.old) (W.contents writer.new) }
 {
-    let knowledge = tracker.knowledge();
+    let number = judging.rows.given();
+    let exchange = judging.exchange();
+    let knowledge = judging.tracker.knowledge();
     line.clear();
     let Ok(()) = put_exchange_line_for(line, profile, number, exchange, &knowledge) else {
         return Err(JudgeError::OutOfMemory);

@@ -1,6 +1,6 @@
 -- What a `Pairer` holds, which callers do not see, and what a record does to it.
 use Rattle.tc25.specs.declared.rate.Rate.{Rate}
-use Rattle.std.specs.Prelude.{ℕ, ◌≡◌, ◌<◌, ◌+◌, ◌-◌, ◌%◌, ◌==◌, ◌⊎◌, if◌then◌else◌, length, Bool, true, false, Option, Some, None, List, [], ◌∷◌, take, drop}
+use Rattle.std.specs.Prelude.{ℕ, ◌≡◌, ◌<◌, ◌+◌, ◌-◌, ◌%◌, ◌==◌, ◌⊎◌, ◌++◌, if◌then◌else◌, length, ⊤, Bool, true, false, Option, Some, None, List, [], ◌∷◌, take, drop}
 use Rattle.std.specs.List.{sum}
 use Rattle.capture9.specs.declared.line_byte.LineByte.{LineByte}
 use Rattle.capture9.specs.declared.line_byte.Wire.{Wire}
@@ -12,7 +12,8 @@ use Rattle.block9.specs.declared.pairer.Exchange.{Exchange}
 use Rattle.block9.specs.declared.place.Place.{Place}
 use Rattle.block9.specs.declared.place.Place.TheVariants.{Idle, InCommand, AfterCommand, InReply}
 use Rattle.block9.specs.declared.reason.Reason.{Reason}
-use Rattle.block9.specs.Exchange.{IsCommand}
+use Rattle.block9.specs.Exchange.{IsCommand, Outcome}
+use Rattle.block9.specs.Exchange.Outcome.{asks, completes, leaves_open}
 use Rattle.block9.specs.Line.{IsBegun, block_len, bytes_of, first_time, last_time}
 use Rattle.block9.specs.Reason.{IsAnswered}
 use Rattle.block9.specs.Working.Body.{block_of}
@@ -26,6 +27,15 @@ IsWholeOf rate records c = (b : Block) × IsCommand rate records b c
 abbrev pub IsHeld : Rate → List LineByte → Option Command → Type 0
 IsHeld rate records None = (records ≡ []) ⊎ IsBegun Controller records
 IsHeld rate records (Some c) = IsWholeOf rate records c ⊎ ((reply : List LineByte) × IsAnswered rate records c reply)
+
+-- the command of an exchange is complete where its reply is to come
+abbrev pub asked_on : Wire → Command → Option Command
+asked_on Controller c = None
+asked_on Deck c = Some c
+
+-- the records begin with a complete command of this block and meaning
+abbrev pub BeginWith : Rate → List LineByte → Block → Command → Type 0
+BeginWith rate records b c = (command : List LineByte) × (reply : List LineByte) × (records ≡ command ++ reply) × IsCommand rate command b c
 
 -- a block on a wire that is not begun
 abbrev pub to_come : Wire → OpenBlock
@@ -67,24 +77,38 @@ last_fed (r ∷ records) (Some reason) passed = passed
 abbrev pub most_open : ℕ
 most_open = 35
 
--- what holds inside a `Pairer`
-pub record HoldsInPairer (rate : Rate) (records : List LineByte) (asked : Option Command) (b : OpenBlock) : Type 0 where
-  pub held : IsHeld rate records asked
+-- the exchange that the last record completed: nothing is open since, and no record broke a rule
+abbrev pub completed : List LineByte → Option Reason → Option ℕ → Exchange → Option Exchange
+completed [] None None e = None
+completed [] None (Some passed) e = Some e
+completed [] (Some reason) passed e = None
+completed (r ∷ records) reason passed e = None
+
+-- what holds inside a `Pairer`, with the exchange that is under way
+pub record HoldsInPairer (rate : Rate) (records : List LineByte) (b : OpenBlock) (e : Exchange) : Type 0 where
+  pub held : IsHeld rate records (asked_on b.wire e.command)
   pub stands : Stands records b
+  pub asked : b.wire ≡ Deck → BeginWith rate records e.block e.command
+
+-- the exchange that a record completes is the one that was under way
+abbrev pub IsOf : Exchange → Outcome → Type 0
+IsOf e leaves_open = ⊤
+IsOf e asks = ⊤
+IsOf e (completes f) = f ≡ e
 
 -- a record that breaks no rule before its block is complete, and whether it is the last one of its block
 abbrev pub IsTurn : List LineByte → LineByte → Bool → Type 0
 IsTurn tail r ends = (early_fault (place_of tail) tail r ≡ None) × (ends ≡ ends_block (open_at (place_of tail) tail))
 
--- an exchange is the one that a tail inside a reply and one more record are, as it is read
-abbrev pub closed_of : List LineByte → Command → Exchange
-closed_of tail c = record {
+-- an exchange is the one that a tail inside a reply and one more record are, as it is read, with this command and block
+abbrev pub closed_of : List LineByte → Command → Block → Exchange
+closed_of tail c b = record {
   command = c;
-  block = block_of (bytes_of (take (block_len tail - 1) tail));
+  block = b;
   reply = block_of (bytes_of (open_at (place_of tail) tail));
   time_us = first_time tail;
   delay_us = first_time (drop (block_len tail) tail) - last_time (take (block_len tail) tail);
 }
 
-abbrev pub Closes : List LineByte → Command → Exchange → Type 0
-Closes tail c e = e ≡ closed_of tail c
+abbrev pub Closes : List LineByte → Exchange → Exchange → Type 0
+Closes tail old new = new ≡ closed_of tail old.command old.block

@@ -57,17 +57,44 @@ fn a_command_and_its_reply_are_an_exchange(rt: HostRuntime) {
         (record(1_200, Controller, 0x21), (Step::Command, 3), true),
         (record(1_600, Deck, 0x10), (Step::Waiting, 4), true),
         (record(2_000, Deck, 0x01), (Step::Waiting, 5), true),
-        (
-            record(2_400, Deck, 0x11),
-            (Step::Exchange(exchange), 0),
-            false,
-        ),
+        (record(2_400, Deck, 0x11), (Step::Exchange, 0), false),
+        (record(2_800, Controller, 0x20), (Step::Waiting, 1), false),
     ] {
-        same(&rt, &take(&rt, &mut pairer, *line_byte), taken, *line_byte);
+        same(&rt, take(&rt, &mut pairer, *line_byte), *taken, *line_byte);
         let open = is_open.then_some(Command::Play);
         same(&rt, pairer.open_command(), open, *line_byte);
         same(&rt, pairer.last_time(), Some(line_byte.time_us), *line_byte);
+        let whole = match taken {
+            (Step::Exchange, _) => Some(&exchange),
+            _ => None,
+        };
+        same(&rt, pairer.exchange(), whole, *line_byte);
     }
+    same(&rt, &exchange.copy(), &exchange, "a copy");
+}
+
+#[test]
+fn a_record_that_breaks_a_rule_leaves_no_exchange(rt: HostRuntime) {
+    let mut pairer = Pairer::new();
+    for (at, wire, byte) in [
+        (400, Controller, 0x20),
+        (800, Controller, 0x01),
+        (1_200, Controller, 0x21),
+        (1_600, Deck, 0x10),
+        (2_000, Deck, 0x01),
+        (2_400, Deck, 0x11),
+    ] {
+        assert!(rt; feed(&rt, &mut pairer, record(at, wire, byte)).is_ok());
+    }
+    assert!(rt; pairer.exchange().is_some());
+    let stray = record(2_800, Deck, 0x10);
+    same(
+        &rt,
+        feed(&rt, &mut pairer, stray),
+        Err(Reason::ReplyWithoutCommand),
+        stray,
+    );
+    assert!(rt; pairer.exchange().is_none());
 }
 
 #[test]
@@ -160,10 +187,9 @@ fn a_preset_is_read_at_the_rate(rt: HostRuntime) {
             same(&rt, answer.err(), fault, (rate, time_us));
         }
         same(&rt, frame_in(pairer.open_command()), frame, rate);
-        let exchange = match feed(&rt, &mut pairer, record(4_000, Deck, 0x11)) {
-            Ok(Step::Exchange(exchange)) => Some(exchange.command),
-            _ => None,
-        };
-        same(&rt, frame_in(exchange), frame, rate);
+        let last = feed(&rt, &mut pairer, record(4_000, Deck, 0x11));
+        same(&rt, last.is_ok(), is_time, rate);
+        let command = pairer.exchange().map(|exchange| exchange.command);
+        same(&rt, frame_in(command), frame, rate);
     }
 }

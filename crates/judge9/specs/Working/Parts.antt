@@ -17,8 +17,7 @@ use Rattle.verdict9.specs.declared.verdict.Telling.TheVariants.{Shown, Why}
 use Rattle.why9.specs.Contradiction.{IsContradiction}
 use Rattle.capture9.specs.Rows.{HasHeader}
 use Rattle.judge9.specs.Parts.{begins_next_part, BrokenPart, may_begin}
-use Rattle.judge9.specs.Working.Turn.{Begins, ComesTo, IsTaken, Waits}
-use Rattle.judge9.specs.declared.judging.Turn.TheVariants.{the_data as Turn}
+use Rattle.judge9.specs.Working.Turn.{Begins, ComesTo, Event, IsTaken, Waits}
 
 -- these records were given, one after another
 abbrev pub GivesAll : {R : Type 0} → Progress R → List LineByte → Progress R → Type 0
@@ -49,32 +48,37 @@ pub record PassesOver {R : Type 0} (old : Progress R) (last : LineByte) (result 
   pub goes_on : GoesOn (last_of last passed) mid result new
 
 -- what the first record of a part comes to, of which the rows before it were read up to here: at once, or with those after it
-abbrev pub BeginsWith : {R : Type 0} → Judging R → LineByte → Result Turn JudgeError → Judging R → Type 0
+abbrev pub BeginsWith : {R : Type 0} → Judging R → LineByte → Result Event JudgeError → Judging R → Type 0
 BeginsWith {R} j first result k =
     ((x : JudgeError) × (result ≡ Err x) × IsTaken j first (Err x) k)
-    ⊎ ((turn : Turn) × (result ≡ Ok turn) × IsTaken j first (Ok (Some turn)) k)
+    ⊎ ((turn : Event) × (result ≡ Ok turn) × IsTaken j first (Ok (Some turn)) k)
     ⊎ ((mid : Judging R) × Waits j mid first × ComesTo mid result k)
 
+-- the same, whatever rows it was read after
+abbrev pub BeginsAfter : {R : Type 0} → Judging R → LineByte → Result Event JudgeError → Judging R → Type 0
+BeginsAfter {R} j first result k =
+    (before : Progress R) → GivesRecord before first j.rows → BeginsWith (record { rows = before; pairer = j.pairer; tracker = j.tracker }) first result k
+
 -- the first record of the next part is this one, and was read after these rows
-pub record Resumes {R : Type 0} (profile : Profile) (before : Progress R) (first : LineByte) (result : Result Turn JudgeError) (k : Judging R) : Type 0 where
+pub record Resumes {R : Type 0} (profile : Profile) (before : Progress R) (first : LineByte) (result : Result Event JudgeError) (k : Judging R) : Type 0 where
   pub new : Judging R
   pub rows : new.rows ≡ before
   pub begins : Begins profile new
   pub with_first : BeginsWith new first result k
 
 -- records were passed over after `last`, and then came the first one of the next part, the end of the rows, or a refusal
-pub record ResumesAfter {R : Type 0} (profile : Profile) (last : LineByte) (old : Progress R) (result : Result Turn JudgeError) (k : Judging R) : Type 0 where
+pub record ResumesAfter {R : Type 0} (profile : Profile) (last : LineByte) (old : Progress R) (result : Result Event JudgeError) (k : Judging R) : Type 0 where
   pub passed : List LineByte
   pub none_begins : NoneBegins last passed
   pub mid : Progress R
   pub gives : GivesAll old passed mid
   pub goes_on :
       ((first : LineByte) × (may_begin (last_of last passed) first ≡ true) × Resumes profile mid first result k)
-      ⊎ ((result ≡ Ok Turn.End) × GivesEnd mid k.rows × Begins profile k)
+      ⊎ ((result ≡ Ok Event.End) × GivesEnd mid k.rows × Begins profile k)
       ⊎ ((e : CaptureError) × GivesRefusal mid e k.rows × (result ≡ Err (refusal_of e)))
 
 -- the judging takes up again after `last`, the record that was read last, or memory is refused
-abbrev pub TakesUp : {R : Type 0} → Profile → Reason → LineByte → Judging R → Result Turn JudgeError → Judging R → Type 0
+abbrev pub TakesUp : {R : Type 0} → Profile → Reason → LineByte → Judging R → Result Event JudgeError → Judging R → Type 0
 TakesUp {R} profile reason last j result k =
     ((result ≡ Err JudgeError.OutOfMemory) × (k.rows ≡ j.rows))
     ⊎ MatchBool (begins_next_part reason last) ((before : Progress R) → GivesRecord before last j.rows → Resumes profile before last result k)
@@ -97,7 +101,7 @@ IsBreakText Why profile at reason r left es end_us text =
     (why : WhyVerdict) × SaysWhy profile at reason r left es end_us why × (text ≡ text_of_why profile why)
 
 -- a first part of the text of a break was written, or it was and the judging took up again
-abbrev pub EndsPart : {R : Type 0} → List ℕ → Profile → Reason → LineByte → Judging R → Result Turn JudgeError → Judging R → Option (List ℕ) → Option (List ℕ)
+abbrev pub EndsPart : {R : Type 0} → List ℕ → Profile → Reason → LineByte → Judging R → Result Event JudgeError → Judging R → Option (List ℕ) → Option (List ℕ)
     → Type 0
 EndsPart text profile reason last j result k old new =
     ((result ≡ Err JudgeError.Write) × AppendsPart old new text) ⊎ (Appends old new text × TakesUp profile reason last j result k)
