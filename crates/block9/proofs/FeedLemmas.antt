@@ -1,7 +1,7 @@
 -- What a pairer answers, and what it holds, after one more record.
 use Rattle.block9.proofs.Words.{append_assoc, asked_on, asks, completed, completed_by, completes, IsOf, leaves_open}
 use Rattle.block9.proofs.Words.{Deck, early_fault, next_of, to_come, ends_block, grown, last_fed, length_push, OpenBlock, refl, ◌<◌, ◌≢◌}
-use Rattle.block9.proofs.Words.{append-nil, ap, BeginsWith, ◌↔◌, ◌∙◌, ◌+◌, length, length-append, block_len, inl, inr}
+use Rattle.block9.proofs.Words.{append-nil, ap, BeginsWith, Block, ◌↔◌, ◌∙◌, ◌+◌, length, length-append, block_len, inl, inr}
 use Rattle.block9.proofs.Words.{[], arith, block_of, bytes_of, Closes, Command, command_of, Controller, Does, Exchange, false, ForSome, HoldsInPairer}
 use Rattle.block9.proofs.Words.{IsCommand, IsExchange, IsHeld, IsTurn, last_time, LineByte, List, nat_tests, None, open_at, Option, Paired, pairing}
 use Rattle.block9.proofs.Words.{place_of, Reason, Refuses, reply_fault, Some, Outcome, sum, sym, tail_after, Takes, true, ℕ, ◌%◌, ◌++◌, ◌∷◌, ◌≡◌, ◌≤◌}
@@ -52,7 +52,7 @@ module _ (rate : Rate) where
         record {
           held = inl (_, command);
           stands = stands_after (t ++ r ∷ []) (place_of_command rate Controller (t ++ r ∷ []) _ command.whole);
-          asked = λ wire. (t ++ r ∷ [], [], sym (append-nil (t ++ r ∷ [])), command);
+          asked = λ wire. (record { records = t ++ r ∷ []; reply = []; split = sym (append-nil (t ++ r ∷ [])); block = _; command = command }, refl);
         },
       )
 
@@ -64,7 +64,8 @@ module _ (rate : Rate) where
       let now = reply_now rate t old.command held (sym turn.1) in
       let asked = h.asked wire in
       let same : now.1.block ≡ old.block =
-      (whole_parts Controller now.1.command asked.0 now.0 asked.1 now.1.block old.block now.1.is_command.whole asked.3.whole (sym now.1.split ∙ asked.2)).2 in
+      (whole_parts Controller now.1.command asked.0.records now.0 asked.0.reply now.1.block asked.0.block now.1.is_command.whole asked.0.command.whole
+      (sym now.1.split ∙ asked.0.split)).2 ∙ asked.1 in
       rw (read, ← same) (closes rate t now.0 old.command r now.1 later (reply_says t old.command r None held turn right none) (sym turn.1))
 
   -- ---- what is held afterwards
@@ -99,12 +100,9 @@ module _ (rate : Rate) where
   fed_refused (a ∷ t) reason passed = refl
 
   -- whether there is an exchange that the last record completed
-  open_completed : (t : List LineByte) (r : LineByte) (passed : Option ℕ) (e : Exchange) → completed (t ++ r ∷ []) None passed e ≡ None
+  pub open_completed : (t : List LineByte) (r : LineByte) (passed : Option ℕ) (e : Exchange) → completed (t ++ r ∷ []) None passed e ≡ None
   open_completed [] r passed e = refl
   open_completed (a ∷ t) r passed e = refl
-
-  pub completed_waiting : (t : List LineByte) (r : LineByte) (passed : Option ℕ) (e : Exchange) → completed (t ++ r ∷ []) None passed e ≡ completed_by leaves_open
-  completed_waiting t r passed e = open_completed t r passed e
 
   pub completed_step : (t : List LineByte) (r : LineByte) (o : Outcome) (e : Exchange) → IsOf e o → completed (tail_after t r o) None (Some r.time_us) e ≡ completed_by o
   completed_step t r leaves_open e is = open_completed t r _ e
@@ -119,6 +117,20 @@ module _ (rate : Rate) where
   grown_wire : (b : OpenBlock) (byte : ℕ) → (grown b byte).wire ≡ b.wire
   grown_wire b byte = grind (arith, nat_tests)
 
+  -- the command with which a tail begins is the one with which it begins with one record more
+  longer : {t : List LineByte} {c : Command} {b : Block} → (h : BeginsWith rate t c) × (h.block ≡ b) → (r : LineByte)
+      → (h : BeginsWith rate (t ++ r ∷ []) c) × (h.block ≡ b)
+  longer (h, same) r = (
+    record {
+      records = h.records;
+      reply = h.reply ++ r ∷ [];
+      split = ap (λ l. l ++ r ∷ []) h.split ∙ append_assoc h.records h.reply (r ∷ []);
+      block = h.block;
+      command = h.command;
+    },
+    same,
+  )
+
   pub held_waiting : (t : List LineByte) (b : OpenBlock) (e : Exchange) (r : LineByte) (next : OpenBlock) → HoldsInPairer rate t b e → last_time t ≤ r.time_us
       → early_fault (place_of t) t r ≡ None → Some next ≡ next_of b r.byte → r.byte < 256
       → HoldsInPairer rate (t ++ r ∷ []) next e × (length t < 35) × Does rate t r leaves_open
@@ -132,7 +144,7 @@ module _ (rate : Rate) where
         record {
           held = rw wire still.0;
           stands = rw same (stands_push t r b h.stands more byte);
-          asked = λ deck. let asked = h.asked (sym wire ∙ deck) in (asked.0, asked.1 ++ r ∷ [], ap (λ l. l ++ r ∷ []) asked.2 ∙ append_assoc asked.0 asked.1 (r ∷ []), asked.3);
+          asked = λ deck. longer (h.asked (sym wire ∙ deck)) r;
         },
         (omega (arith, tail_short rate _ tail, length_push t r)),
         (tail, λ b c k. still.1 (place_of_command rate Controller (t ++ r ∷ []) b k.whole)),

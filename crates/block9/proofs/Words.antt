@@ -8,7 +8,7 @@ pub use Rattle.block9.specs.Line.{block_len, byte_gap, bytes_of, first_time, IsB
 pub use Rattle.block9.specs.Pairer.{BeginsWith, Paired, Refuses, Takes}
 pub use Rattle.block9.specs.Reason.{EndsReply, Holds, IsAnswered, IsFirst, IsReason, IsWholeCommand, order}
 pub use Rattle.block9.specs.Working.Body.{block_of}
-pub use Rattle.block9.specs.Working.Held.{asked_on, BeginWith, closed_of, Closes, completed, grown, HoldsInPairer, IsHeld, IsOf, IsTurn, IsWholeOf, last_fed, next_of, place_at, place_on, Stands, to_come}
+pub use Rattle.block9.specs.Working.Held.{asked_on, closed_of, Closes, completed, grown, HoldsInPairer, IsHeld, IsOf, IsTurn, IsWholeOf, last_fed, next_of, place_at, place_on, Stands, to_come}
 pub use Rattle.block9.specs.Working.Table.{early_fault, ends_block, fault_at, is_soon, open_at, pairing, place_of, reply_fault, wire_fault}
 pub use Rattle.block9.specs.declared.block.Block.{Block}
 pub use Rattle.block9.specs.declared.command.Command.{Command}

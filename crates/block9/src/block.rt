@@ -1,6 +1,7 @@
 //! A block of the protocol.
 ghost use Rattle.std.specs.Prelude.{◌≡◌, ℕ, ◌%◌, ◌≤◌, IfSome, IfNone, length};
 ghost use Rattle.std.specs.List.{sum};
+ghost use Rattle.block9.specs.Block.{most_data};
 
 use crate::reply::{ACK, NAK};
 use arrayvec::ArrayVec;
@@ -119,14 +120,10 @@ impl Block {
         requires data { length body.now ≤ most_body }
         ensures { result ≡ block_of body.now }
     {
-        let mut bytes = ArrayVec::new();
-        for byte in &body[2..] {
-            bytes.push(*byte);
-        }
         Block {
             group: body[0] / 16,
             code: body[1],
-            bytes,
+            bytes: data_of(&body[2..]),
         }
     }
 
@@ -134,14 +131,10 @@ impl Block {
     pub fn copy(&self) -> Block
         ensures { result ≡ self.now }
     {
-        let mut bytes = ArrayVec::new();
-        for byte in self.bytes.as_slice() {
-            bytes.push(*byte);
-        }
         Block {
             group: self.group,
             code: self.code,
-            bytes,
+            bytes: data_of(self.bytes.as_slice()),
         }
     }
 
@@ -179,4 +172,16 @@ pub(crate) fn sum_of(bytes: &[u8]) -> u8
         total = total.wrapping_add(*byte);
     }
     total
+}
+
+/// These bytes as the data of a block.
+fn data_of(bytes: &[u8]) -> ArrayVec<u8, MOST_DATA>
+    requires room { length bytes.now ≤ most_data }
+    ensures { result.items ≡ bytes.now }
+{
+    let mut copied = ArrayVec::new();
+    for byte in bytes {
+        copied.push(*byte);
+    }
+    copied
 }

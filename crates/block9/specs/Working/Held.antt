@@ -1,6 +1,6 @@
 -- What a `Pairer` holds, which callers do not see, and what a record does to it.
 use Rattle.tc25.specs.declared.rate.Rate.{Rate}
-use Rattle.std.specs.Prelude.{ℕ, ◌≡◌, ◌<◌, ◌+◌, ◌-◌, ◌%◌, ◌==◌, ◌⊎◌, ◌++◌, if◌then◌else◌, length, ⊤, Bool, true, false, Option, Some, None, List, [], ◌∷◌, take, drop}
+use Rattle.std.specs.Prelude.{ℕ, ◌≡◌, ◌<◌, ◌+◌, ◌-◌, ◌%◌, ◌==◌, ◌⊎◌, if◌then◌else◌, length, ⊤, Bool, true, false, Option, Some, None, List, [], ◌∷◌, take, drop}
 use Rattle.std.specs.List.{sum}
 use Rattle.capture9.specs.declared.line_byte.LineByte.{LineByte}
 use Rattle.capture9.specs.declared.line_byte.Wire.{Wire}
@@ -15,6 +15,7 @@ use Rattle.block9.specs.declared.reason.Reason.{Reason}
 use Rattle.block9.specs.Exchange.{IsCommand, Outcome}
 use Rattle.block9.specs.Exchange.Outcome.{asks, completes, leaves_open}
 use Rattle.block9.specs.Line.{IsBegun, block_len, bytes_of, first_time, last_time}
+use Rattle.block9.specs.Pairer.{BeginsWith}
 use Rattle.block9.specs.Reason.{IsAnswered}
 use Rattle.block9.specs.Working.Body.{block_of}
 use Rattle.block9.specs.Working.Table.{early_fault, ends_block, open_at, place_of}
@@ -32,10 +33,6 @@ IsHeld rate records (Some c) = IsWholeOf rate records c ⊎ ((reply : List LineB
 abbrev pub asked_on : Wire → Command → Option Command
 asked_on Controller c = None
 asked_on Deck c = Some c
-
--- the records begin with a complete command of this block and meaning
-abbrev pub BeginWith : Rate → List LineByte → Block → Command → Type 0
-BeginWith rate records b c = (command : List LineByte) × (reply : List LineByte) × (records ≡ command ++ reply) × IsCommand rate command b c
 
 -- a block on a wire that is not begun
 abbrev pub to_come : Wire → OpenBlock
@@ -88,7 +85,7 @@ completed (r ∷ records) reason passed e = None
 pub record HoldsInPairer (rate : Rate) (records : List LineByte) (b : OpenBlock) (e : Exchange) : Type 0 where
   pub held : IsHeld rate records (asked_on b.wire e.command)
   pub stands : Stands records b
-  pub asked : b.wire ≡ Deck → BeginWith rate records e.block e.command
+  pub asked : b.wire ≡ Deck → (begins : BeginsWith rate records e.command) × (begins.block ≡ e.block)
 
 -- the exchange that a record completes is the one that was under way
 abbrev pub IsOf : Exchange → Outcome → Type 0

@@ -1,6 +1,6 @@
 use Rattle.block9.proofs.Words.{early_fault, leaves_open, place_of, refl, rules, Some, ◌≡◌, ◌∙◌}
 use Rattle.std.proofs.lemmas.Result.{IfErr-weaker, IfOk-weaker}
-use Rattle.block9.proofs.FeedLemmas.{completed_refused, completed_step, completed_waiting, early_told, fed_in_order, fed_refused, fed_step, fed_waiting, held_waiting, refuses, takes}
+use Rattle.block9.proofs.FeedLemmas.{completed_refused, completed_step, early_told, fed_in_order, fed_refused, fed_step, fed_waiting, held_waiting, open_completed, refuses, takes}
 use Rattle.block9.proofs.pairer.Pairer.feed.Goals as goal
 
 -- a record that begins a block or goes on with one
@@ -22,7 +22,7 @@ returns-in-Ok-Some-clause-takes c = λ known.
       refl,
       takes c.self.inside.rate _ _ _ _ leaves_open c.self.view_is refl refl held.2 c.push.ensures
           (rw (c.push.ensures, c.in_default.is) (fed_waiting c.self.inside.rate c.self.inside.tail c.args.line_byte _)) c.in_default.is
-          (rw (c.push.ensures, c.in_default.is) (completed_waiting c.self.inside.rate c.self.inside.tail c.args.line_byte _ _)),
+          (rw (c.push.ensures, c.in_default.is) (open_completed c.self.inside.rate c.self.inside.tail c.args.line_byte _ _)),
     )
 
 -- the last record of a block
