@@ -141,7 +141,7 @@ fn turn(
 }
 
 /// Keeps the reason why a record is refused, and refuses it.
-#[inline(always)] // as below
+#[inline(always)] // else the answer is handed on through memory
 fn refuse(kept: &mut Option<Reason>, reason: Reason) -> Result<Step, Reason>
     ensures refused { result ≡ Err reason }
     ensures kept { kept.new ≡ Some reason }
@@ -233,7 +233,7 @@ fn end_reply(
 
 /// What the last record of a block does, or the first rule that it breaks by its sum or by what the block means. A record that
 /// breaks a rule leaves what is open as it is.
-#[inline(always)] // as above
+#[inline(always)] // else the answer is handed on through memory
 fn end(
     rate: Rate,
     tail: &mut Tail,
@@ -331,7 +331,7 @@ impl Pairer {
     /// Takes the next record, whose time is not below the last one's.
     ///
     /// `Ok` says what the record does. The tail then has it at its end, and is empty after a whole
-    /// exchange, which is at hand up to the next call.
+    /// exchange, which [`Pairer::exchange`] shows up to the next call.
     ///
     /// `Err` is the first rule that the record breaks, in the order that [`Reason`] gives and
     /// `specs/Reason.antt` states, a line for each: the records so far keep the rules, and with this one they
@@ -405,7 +405,7 @@ impl Pairer {
         }
     }
 
-    /// The exchange that the last record completed, and `None` where it completed none or broke a rule, or where there was none.
+    /// The exchange that the last record completed, and `None` where it completed none or broke a rule, and before the first one.
     #[inline(always)] // so that it costs nothing right after `feed` answered an exchange
     pub fn exchange(&self) -> Option<&Exchange>
         ensures { option_map (λ e. e.now) result ≡ self.now.exchange }

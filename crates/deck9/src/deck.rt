@@ -70,7 +70,7 @@ impl Deck {
 
     /// The modes that it may show on the way to each goal, in the order of the modes: this profile's where the deck has nothing
     /// of its own.
-    #[inline(always)] // as above
+    #[inline(always)] // it is asked of every exchange
     pub fn ways<'a>(deck: Option<&'a Deck>) -> &'a [ModeSet; 10]
         ensures { (g : AMode) → slice_index_or result.now (index_of g) (modes 0) ≡ way_of (option_map (λ d. d.now) deck.entry) g }
     {

@@ -88,7 +88,7 @@ impl<'a, R: Read + Drop> Judging<'a, R> {
     }
 
     /// Whether a state of the deck remains with the exchange that the pairer has, which ends with this record.
-    #[inline(always)] // as above
+    #[inline(always)] // else each turn would be handed on through memory
     fn observe(&mut self, last: LineByte) -> Result<Turn, JudgeError>
         requires { (e : AnExchange) × (self.old.pairer.exchange ≡ Some e) }
         ensures rows { self.new.rows ≡ self.old.rows }

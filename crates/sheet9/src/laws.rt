@@ -15,8 +15,7 @@ pub fn errors_are_printable()
     ensures { (error : SheetError) → list_all is_printable (error_text error) ≡ true }
 {}
 
-/// A document with no keys, such as an empty text, is a sheet, and a deck that does what it says has exactly the runs of a deck
-/// without one.
+/// A document with no keys is a sheet, and a deck that does what it says has exactly the runs of a deck without one.
 pub fn an_empty_sheet_is_the_profile()
     ensures { (text : List ℕ) (p : Profile) (es : List Exchange) → document_of text ≡ Some no_members → IsOkAnd (sheet_of text)
         (λ sheet. (deck : Deck) → IsDeckOf sheet deck → HasRun (record p { deck = Some deck }) es ↔ HasRun (record p { deck = None }) es) }

@@ -58,7 +58,7 @@ impl<'a> Own<'a> {
     }
 
     /// The modes that it may show on the way to each goal, in the order of the modes.
-    #[inline(always)] // as above
+    #[inline(always)] // it is asked of every exchange
     pub(crate) fn ways(&self) -> &[ModeSet; 10]
         ensures { (g : AMode) → slice_index_or result.now (index_of g) (modes 0) ≡ way_of self.entry.now g }
     {

@@ -94,7 +94,7 @@ impl<S: TimeSet> Halves<S> {
     }
 
     /// The states after a drift that agree with a reply to STATUS SENSE. It answers whether there is one.
-    #[inline(never)] // as above
+    #[inline(never)] // so that an exchange that takes no memory needs no room on the stack
     fn report(&mut self, alloc: Global, own: &Own, asked: u8, reply: &Block) -> bool
         ensures kept { self.new ≡ two_status (status_of asked reply.now) (two_drifted own.now self.old) }
         ensures some { result ≡ some_two self.new }
@@ -106,7 +106,7 @@ impl<S: TimeSet> Halves<S> {
 
     /// The states after a drift and a command's effect, which a deck in LOCAL may ignore, and any where `may_stay`. It answers
     /// whether there is one.
-    #[inline(always)] // as `exchange`
+    #[inline(always)] // each acknowledged command comes here
     fn apply(
         &mut self,
         alloc: Global,
