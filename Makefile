@@ -4,7 +4,7 @@
 #   make install [PREFIX=/usr/local] [DESTDIR=]    make uninstall, with the same
 #   make deb     out/ninecheck_VERSION_amd64.deb
 #   make dist    out/ninecheck-VERSION-linux-x86_64.tar.gz
-#   make audit   tries every edit of must-fail/ and audit/, which takes about half an hour
+#   make audit   tries every edit of must-fail/ and audit/, which takes about an hour on four cores
 #
 # Only `make` and `make audit` prove: the others take what `make` or `.ci/run` built.
 
