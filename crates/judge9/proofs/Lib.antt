@@ -1,7 +1,8 @@
 pub mod CutSteps
-pub mod EndSteps
+pub mod FirstSteps
 pub mod LawLemmas
 pub mod LineSteps
+pub mod LogSteps
 pub mod PartBreaks
 pub mod PartEnds
 pub mod PartLaws
@@ -9,6 +10,7 @@ pub mod PartLemmas
 pub mod PartMeasure
 pub mod PartSteps
 pub mod PartTurns
+pub mod PutSteps
 pub mod RunSteps
 pub mod ShowLemmas
 pub mod SoFar
@@ -16,4 +18,5 @@ pub mod TellLemmas
 pub mod TextLemmas
 pub mod TurnSteps
 pub mod WayBackSteps
+pub mod WhySteps
 pub mod Words

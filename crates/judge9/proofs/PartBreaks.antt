@@ -1,32 +1,106 @@
--- What comes after a break, and how far there is to go.
-use Rattle.judge9.proofs.Words.{[], ap, append-nil, append_assoc, Appends, AppendsPart, AreParts, AreTextsOf, arith, Begins, begins_next_part, Bool, Breaks, BrokenPart}
-use Rattle.judge9.proofs.Words.{CaptureError, Err, Exchange, exchanges_of, false, GivesAll, GivesEnd, GivesRecord, GivesRefusal, Profile, inl, inr, JudgeError}
-use Rattle.judge9.proofs.Words.{JudgesParts, Judging, last_of, length, length-append, length_push, line_of, LineByte, List, may_begin, NoneBegins, None, Ok}
-use Rattle.judge9.proofs.Words.{Option, Progress, Reason, records_in, refl, refusal_of, Rest, rest_after, Result, Resumes, ResumesAfter, Rows, subst, sym}
-use Rattle.judge9.proofs.Words.{TakesUp, true, Event, Verdict, View, ℕ, ◌++◌, ◌+◌, ◌∙◌, ◌∷◌, ◌≡◌, ◌≤◌, ◌⊎◌}
+-- What comes before a part, and after a break: where the next part begins, and how far there is to go.
+use Rattle.judge9.proofs.Words.{[], ap, append-nil, append_assoc, Appends, AppendsPart, AreParts, AreTextsOf, arith, begins_next_part, BeginsAt, Bool, Break, Breaks, BrokenPart}
+use Rattle.judge9.proofs.Words.{CaptureError, Comes, ComesTo, Err, Exchange, exchanges_of, false, Follower, GivesAll, GivesEnd, GivesRecord, GivesRefusal, KnowsNothing, Profile, inl, inr, JudgeError}
+use Rattle.judge9.proofs.Words.{JudgesParts, Judging, last_of, length, length-append, length_push, LineByte, List, may_begin, NoneBegins, None, Ok}
+use Rattle.judge9.proofs.Words.{Option, Progress, Reason, records_in, refl, refusal_of, Rest, rest_after, Result, Resumes, ResumesAfter, Rows, Some, subst, sym}
+use Rattle.judge9.proofs.Words.{Appends-trans, TakesUp, true, Turn, Turned, View, ℕ, ◌++◌, ◌+◌, ◌∙◌, ◌∷◌, ◌≡◌, ◌≤◌, ◌⊎◌}
 use Rattle.std.specs.Bool.{MatchBool}
 use Rattle.judge9.proofs.LineSteps.{cut_len}
+use Rattle.judge9.proofs.LogSteps.{records_joined}
 use Rattle.judge9.proofs.PartLemmas.{Onward, parts-memory, parts-refusal, parts-write}
 use Rattle.judge9.proofs.PartSteps.{AreRead, passed_all, passed_to, read_all, read_one}
-use Rattle.judge9.proofs.PartTurns.{arrive_first, Arrives, Before}
-use Rattle.judge9.proofs.SoFar.{Keeps, keeps-none, Seen, seen, so_far-begin, SoFar}
+use Rattle.judge9.proofs.PartTurns.{Ahead, arrive, AtTurn, came, HoldsOn, holds-more}
+use Rattle.judge9.proofs.SoFar.{Keeps, keeps-none, Seen, seen, seen_now, seen_on, so_far-begin, so_far-open, so_far-open_items, SoFar}
 use Rattle.judge9.proofs.TellLemmas.{cut_counts}
+use Rattle.judge9.proofs.TurnSteps.{turned_by}
+
+-- ---- before a part
+
+-- the parts before this one, which break, and what was written of them
+pub record Before (T : BrokenPart → List ℕ → Type 0) (broken : List BrokenPart) (past : List LineByte) (old now : Option (List ℕ)) : Type 0 where
+  pub texts : List ℕ
+  pub are_texts : AreTextsOf T broken texts
+  pub wrote : Appends old now texts
+  pub few : length (exchanges_of broken) ≤ length past
+  pub fits : records_in (exchanges_of broken) ≤ length past
+
+-- a turn came with which the next part begins, or the judging stopped
+abbrev pub Arrives : {R : Type 0} → (BrokenPart → List ℕ → Type 0) → View → Profile → Option Rows → Option (List ℕ) → Option (List ℕ) → List BrokenPart
+    → Result Turn JudgeError → Judging R → Type 0
+Arrives T view profile rows old now broken (Ok turn) k =
+    (past : List LineByte) × Before T broken past old now × AtTurn (Onward profile broken past) view profile rows past turn k now now [] None
+Arrives T view profile rows old now broken (Err x) k = JudgesParts T view profile rows (Err x) old now
+
+-- what was written, with that of this part
+pub wrote_all : {T : BrokenPart → List ℕ → Type 0} {broken : List BrokenPart} {past : List LineByte} {old begun : Option (List ℕ)}
+    (before : Before T broken past old begun) (new : Option (List ℕ)) (text : List ℕ) → Appends begun new text
+    → Appends old new (before.texts ++ text)
+wrote_all {old = old} {begun = begun} before new text wrote = Appends-trans old begun new before.texts text before.wrote wrote
+
+-- the judging stopped at its rows
+pub part_stops : {R : Type 0} {T : BrokenPart → List ℕ → Type 0} {view : View} {profile : Profile} {rows : Option Rows} {old begun now : Option (List ℕ)}
+    {broken : List BrokenPart} {past : List LineByte} {es : List Exchange} {front : Judging R} (k : Judging R) (before : Before T broken past old begun) (x : JudgeError)
+    (f : SoFar view profile rows past front begun now es) → HoldsOn (Onward profile broken past) f.items → Turned front (Err x) k
+    → JudgesParts T view profile rows (Err x) old now
+part_stops {now = now} {broken = broken} {past = past} {front = front} k before x f all (inl memory) =
+    rw memory (parts-memory broken before.texts before.are_texts f.keeps {left = front.rows.rows} [] (all []) (rw append-nil (seen_now f))
+    (wrote_all before now f.text f.wrote))
+part_stops {profile = profile} {now = now} {broken = broken} {past = past} k before x f all (inr refused) =
+    parts-refusal broken before.texts before.are_texts f.keeps (record { is_reading = f.is_reading; read = f.read; are_given = f.are_given })
+    (subst (Onward profile broken past) (append-nil f.items) (all [])) refused.1 refused.2 (wrote_all before now f.text f.wrote)
+
+-- with the first record of a part
+first_ahead : {R : Type 0} (j k : Judging R) (Q : List LineByte → Type 0) (first : LineByte) (turn : Turn) → Comes j k first (Some turn)
+    → ((more : List LineByte) → Q (first ∷ more)) → (t : Turned j (Ok turn) k) × Ahead j k Q [] turn t
+first_ahead j k Q first Turn.End comes on = absurd comes.took
+first_ahead j k Q first turn comes on = ((first, comes), on)
+
+-- the first record of a part comes
+arrive_first : {R : Type 0} (view : View) {T : BrokenPart → List ℕ → Type 0} {profile : Profile} {rows : Option Rows} {old now : Option (List ℕ)}
+    {broken : List BrokenPart} {past : List LineByte} {before_rows : Progress R} {follower : Follower} {k : Judging R} {first : LineByte} {r : Result Turn JudgeError}
+    → Before T broken past old now → KnowsNothing profile follower → AreRead rows past before_rows
+    → ((more : List LineByte) → Onward profile broken past (first ∷ more)) → BeginsAt (record { rows = before_rows; follower = follower }) first r k
+    → Arrives T view profile rows old now broken r k
+arrive_first {R = R} view {T = T} {profile = profile} {rows = rows} {old = old} {now = now} {broken = broken} {past = past} {before_rows = before_rows} {follower = follower} {k = k} {first = first} {r = r}
+    before knows read on with_first = by (so_far-begin knows read.is_reading read.read read.are_given) refl with_first
+  where
+    j : Judging R
+    j = record { rows = before_rows; follower = follower }
+
+    Q : List LineByte → Type 0
+    Q = Onward profile broken past
+
+    by : (h : SoFar view profile rows past j now now []) → h.items ≡ [] → BeginsAt j first r k → Arrives T view profile rows old now broken r k
+    by h nil (inl (is, gives)) =
+        rw is (parts-memory broken before.texts before.are_texts h.keeps {left = k.rows.rows} (first ∷ []) (rw nil (on [])) (seen_on h gives)
+        (wrote_all before now h.text h.wrote))
+    by h nil (inr (inl (turn, is, comes))) =
+        let at = first_ahead j k Q first turn comes on in
+        rw is (past, before, record { front = j; so_far = h; turned = at.0; ahead = rw nil at.1; ended = λ none. refl })
+    by h nil (inr (inr (mid, comes, come))) =
+        let f = so_far-open h comes in
+        let all : HoldsOn Q f.items = subst (HoldsOn Q) (sym (so_far-open_items h comes ∙ ap (λ l. l ++ first ∷ []) nil)) (holds-more Q [] first on) in
+        on_result r f all come
+      where
+        on_result : (result : Result Turn JudgeError) → (f : SoFar view profile rows past mid now now []) → HoldsOn Q f.items → ComesTo mid result k
+            → Arrives T view profile rows old now broken result k
+        on_result (Ok turn) f all come = (past, before, arrive Q None f all (λ none. refl) come)
+        on_result (Err x) f all come = came Q None f all (λ none. refl) come (λ front g kept ended t. part_stops k before x g kept t)
 
 -- ---- after the line of a break
 
 -- a record broke a rule, the last one that was read, and these are the texts of the parts up to that break
-pub record AfterBreak {R : Type 0} (T : BrokenPart → List ℕ → Type 0) (view : View) (profile : Profile) (rows : Option Rows) (j : Judging R) (reason : Reason)
-    (breaking : LineByte)
+pub record AfterBreak {R : Type 0} (T : BrokenPart → List ℕ → Type 0) (view : View) (profile : Profile) (rows : Option Rows) (j : Judging R) (b : Break)
     (broken : List BrokenPart) (texts : List ℕ) : Type 0 where
   pub items : List LineByte
   pub front : Progress R
   pub read : AreRead rows items front
-  pub gives : GivesRecord front breaking j.rows
+  pub gives : GivesRecord front b.record j.rows
   pub are_texts : AreTextsOf T broken texts
   pub few : length (exchanges_of broken) ≤ length items
   pub fits : records_in (exchanges_of broken) ≤ length items
-  pub onward : (after : List LineByte) (others : List BrokenPart) (left : Rest) → AreParts profile (rest_after (length items) reason breaking after) others left
-      → AreParts profile (record { past = 0; records = items ++ breaking ∷ after }) (broken ++ others) left
+  pub onward : (after : List LineByte) (others : List BrokenPart) (left : Rest) → AreParts profile (rest_after (length items) b.reason b.record after) others left
+      → AreParts profile (record { past = 0; records = items ++ b.record ∷ after }) (broken ++ others) left
 
 -- one part more
 pub exchanges_push : (broken : List BrokenPart) (b : BrokenPart) → exchanges_of (broken ++ b ∷ []) ≡ exchanges_of broken ++ b.part.exchanges
@@ -40,81 +114,73 @@ texts_push T [] b texts text are is = (text, [], is, refl, rw are (sym (append-n
 texts_push T (x ∷ broken) b texts text are is =
     (are.0, are.1 ++ text, are.2, texts_push T broken b are.1 text are.3 is, ap (λ t. t ++ text) are.4 ∙ append_assoc are.0 are.1 text)
 
-pub records_joined : (es fs : List Exchange) → records_in (es ++ fs) ≡ records_in es + records_in fs
-records_joined [] fs = omega arith
-records_joined (e ∷ es) fs = omega (arith, records_joined es fs)
-
 -- the part that breaks at a record
 abbrev pub broken_at : {R : Type 0} {view : View} {profile : Profile} {rows : Option Rows} {past : List LineByte} {front : Judging R} {old now : Option (List ℕ)}
-    {es : List Exchange} → SoFar view profile rows past front old now es → LineByte → Reason → BrokenPart
-broken_at {past = past} {front = front} {es = es} f r reason = record {
-  part = record { past = length past; records = f.items; exchanges = es; tail = front.pairer.tail };
-  breaking = r;
-  reason = reason;
+    {es : List Exchange} → SoFar view profile rows past front old now es → Break → BrokenPart
+broken_at {past = past} {front = front} {es = es} f b = record {
+  part = record { past = length past; records = f.items; exchanges = es; tail = front.follower.pairer.tail };
+  breaking = b.record;
+  reason = b.reason;
 }
-
--- the line of its break
-abbrev pub break_line : ℕ → Reason → List ℕ
-break_line at reason = line_of (Verdict.No at reason)
 
 pub after_break : {R : Type 0} {T : BrokenPart → List ℕ → Type 0} {view : View} {profile : Profile} {rows : Option Rows} {broken : List BrokenPart}
     {past : List LineByte}
     {old begun now : Option (List ℕ)} {front : Judging R} {es : List Exchange} (j : Judging R) (before : Before T broken past old begun)
-    (f : SoFar view profile rows past front begun now es) (r : LineByte) (reason : Reason) (text : List ℕ) → T (broken_at f r reason) text
-    → GivesRecord front.rows r j.rows → Breaks profile f.items r reason
-    → ((more : List LineByte) → Onward profile broken past (f.items ++ r ∷ more))
-    → AfterBreak T view profile rows j reason r (broken ++ broken_at f r reason ∷ []) (before.texts ++ text)
-after_break {T = T} {view = view} {profile = profile} {broken = broken} {past = past} {front = front} {es = es} j before f r reason text is gives breaks on =
-    let b : BrokenPart = broken_at f r reason in
+    (f : SoFar view profile rows past front begun now es) (b : Break) (text : List ℕ) → T (broken_at f b) text
+    → GivesRecord front.rows b.record j.rows → Breaks profile f.items b.record b.reason
+    → ((more : List LineByte) → Onward profile broken past (f.items ++ b.record ∷ more))
+    → AfterBreak T view profile rows j b (broken ++ broken_at f b ∷ []) (before.texts ++ text)
+after_break {T = T} {view = view} {profile = profile} {broken = broken} {past = past} {front = front} {es = es} j before f b text is gives breaks on =
+    let part : BrokenPart = broken_at f b in
+    let tail = front.follower.pairer.tail in
     let size = length-append past f.items in
-    let counts = cut_counts profile.rate f.items es front.pairer.tail f.cut in
+    let counts = cut_counts profile.rate f.items es tail f.cut in
     record {
       items = past ++ f.items;
       front = front.rows;
       read = record { is_reading = f.is_reading; read = f.read; are_given = f.are_given };
       gives = gives;
-      are_texts = texts_push T broken b before.texts text before.are_texts is;
-      few = rw (exchanges_push broken b) (omega (arith, before.few, size, counts.0, length-append (exchanges_of broken) es));
-      fits = rw (exchanges_push broken b)
-          (omega (arith, before.fits, size, cut_len profile.rate f.items es front.pairer.tail f.cut, records_joined (exchanges_of broken) es));
+      are_texts = texts_push T broken part before.texts text before.are_texts is;
+      few = rw (exchanges_push broken part) (omega (arith, before.few, size, counts.0, length-append (exchanges_of broken) es));
+      fits = rw (exchanges_push broken part)
+          (omega (arith, before.fits, size, cut_len profile.rate f.items es tail f.cut, records_joined (exchanges_of broken) es));
       onward = λ after others left parts.
-          let rest : AreParts profile (rest_after (length past + length f.items) reason r after) others left =
-          subst (λ n. AreParts profile (rest_after n reason r after) others left) size parts in
-          let all = on after (b ∷ others) left (after, refl, record { cut = f.cut; run = f.run }, breaks, rest) in
-          rw (append_assoc past f.items (r ∷ after), append_assoc broken (b ∷ []) others) all;
+          let rest : AreParts profile (rest_after (length past + length f.items) b.reason b.record after) others left =
+          subst (λ n. AreParts profile (rest_after n b.reason b.record after) others left) size parts in
+          let all = on after (part ∷ others) left (after, refl, record { cut = f.cut; run = f.run }, breaks, rest) in
+          rw (append_assoc past f.items (b.record ∷ after), append_assoc broken (part ∷ []) others) all;
     }
 
-module _ {R : Type 0} {T : BrokenPart → List ℕ → Type 0} {view : View} {profile : Profile} {rows : Option Rows} {j : Judging R} {reason : Reason}
-    {breaking : LineByte} {broken : List BrokenPart}
-    {texts : List ℕ} (h : AfterBreak T view profile rows j reason breaking broken texts) where
+module _ {R : Type 0} {T : BrokenPart → List ℕ → Type 0} {view : View} {profile : Profile} {rows : Option Rows} {j : Judging R} {b : Break}
+    {broken : List BrokenPart} {texts : List ℕ} (h : AfterBreak T view profile rows j b broken texts) where
   -- the record that broke is the first of the next part
-  at_breaking : begins_next_part reason breaking ≡ true → (more : List LineByte) → Onward profile broken h.items (breaking ∷ more)
+  at_breaking : begins_next_part b.reason b.record ≡ true → (more : List LineByte) → Onward profile broken h.items (b.record ∷ more)
   at_breaking begins more others left parts = h.onward more others left (rw begins parts)
 
   -- or those after it were passed over
   abbrev past_of : List LineByte → List LineByte
-  past_of passed = (h.items ++ breaking ∷ []) ++ passed
+  past_of passed = (h.items ++ b.record ∷ []) ++ passed
 
-  past_joined : (passed more : List LineByte) → past_of passed ++ more ≡ h.items ++ breaking ∷ (passed ++ more)
-  past_joined passed more = append_assoc (h.items ++ breaking ∷ []) passed more ∙ append_assoc h.items (breaking ∷ []) (passed ++ more)
+  past_joined : (passed more : List LineByte) → past_of passed ++ more ≡ h.items ++ b.record ∷ (passed ++ more)
+  past_joined passed more = append_assoc (h.items ++ b.record ∷ []) passed more ∙ append_assoc h.items (b.record ∷ []) (passed ++ more)
 
   past_size : (passed : List LineByte) → length (past_of passed) ≡ (length h.items + 1) + length passed
-  past_size passed = omega (arith, length-append (h.items ++ breaking ∷ []) passed, length_push h.items breaking)
+  past_size passed = omega (arith, length-append (h.items ++ b.record ∷ []) passed, length_push h.items b.record)
 
   read_past : {mid : Progress R} (passed : List LineByte) → GivesAll j.rows passed mid → AreRead rows (past_of passed) mid
   read_past {mid = mid} passed gives =
-      read_all rows (h.items ++ breaking ∷ []) j.rows mid passed (read_one rows h.items h.front j.rows breaking h.read h.gives) gives
+      read_all rows (h.items ++ b.record ∷ []) j.rows mid passed (read_one rows h.items h.front j.rows b.record h.read h.gives) gives
 
-  at_first : (passed : List LineByte) (first : LineByte) → begins_next_part reason breaking ≡ false → NoneBegins breaking passed
-      → may_begin (last_of breaking passed) first ≡ true → (more : List LineByte) → Onward profile broken (past_of passed) (first ∷ more)
+  at_first : (passed : List LineByte) (first : LineByte) → begins_next_part b.reason b.record ≡ false → NoneBegins b.record passed
+      → may_begin (last_of b.record passed) first ≡ true → (more : List LineByte) → Onward profile broken (past_of passed) (first ∷ more)
   at_first passed first after none begins more others left parts =
-      let rest = passed_to (length h.items + 1) breaking passed first more none begins in
+      let rest = passed_to (length h.items + 1) b.record passed first more none begins in
       let on = h.onward (passed ++ first ∷ more) others left (rw (after, rest) (rw (past_size passed) at parts)) in
       rw (past_joined passed (first ∷ more)) on
 
-  at_end : (passed : List LineByte) → begins_next_part reason breaking ≡ false → NoneBegins breaking passed → Onward profile broken (past_of passed) []
+  at_end : (passed : List LineByte) → begins_next_part b.reason b.record ≡ false → NoneBegins b.record passed → Onward profile broken (past_of passed) []
   at_end passed after none others left parts =
-      let rest = passed_all (length h.items + 1) breaking passed none in
+      let rest = passed_all (length h.items + 1) b.record passed none in
       let on = h.onward passed others left (rw (after, rest) (rw (past_size passed) at parts)) in
       rw (past_joined passed [], append-nil) on
 
@@ -131,14 +197,14 @@ module _ {R : Type 0} {T : BrokenPart → List ℕ → Type 0} {view : View} {pr
   -- the judging stops before the next part
   stopped : {P : Type 0} → ((past : List LineByte) (keeps : Keeps view profile past [] []) (more : List LineByte) → keeps.text ≡ []
       → Onward profile broken past (keeps.items ++ more) → Seen rows j.rows.rows (past ++ (keeps.items ++ more)) None → P) → P
-  stopped {P = P} told = by (begins_next_part reason breaking) refl
+  stopped {P = P} told = by (begins_next_part b.reason b.record) refl
     where
-      read : AreRead rows (h.items ++ breaking ∷ []) j.rows
-      read = read_one rows h.items h.front j.rows breaking h.read h.gives
+      read : AreRead rows (h.items ++ b.record ∷ []) j.rows
+      read = read_one rows h.items h.front j.rows b.record h.read h.gives
 
-      by : (b : Bool) → begins_next_part reason breaking ≡ b → P
-      by true begins = told h.items (keeps-none view profile h.items refl) (breaking ∷ []) refl (at_breaking begins [])
-          (seen rows j.rows.rows (h.items ++ breaking ∷ []) None read.read read.are_given.can_be)
+      by : (c : Bool) → begins_next_part b.reason b.record ≡ c → P
+      by true begins = told h.items (keeps-none view profile h.items refl) (b.record ∷ []) refl (at_breaking begins [])
+          (seen rows j.rows.rows (h.items ++ b.record ∷ []) None read.read read.are_given.can_be)
       by false after =
           let all = read_past [] refl in
           told (past_of []) (keeps-none view profile (past_of []) refl) [] refl (at_end [] after tt)
@@ -156,41 +222,36 @@ module _ {R : Type 0} {T : BrokenPart → List ℕ → Type 0} {view : View} {pr
   break-memory wrote = stopped (λ past keeps more nil on s. parts-memory broken texts h.are_texts keeps more on s (rw (nil, append-nil) wrote))
 
   -- or the next turn comes
-  pub resume : (old now : Option (List ℕ)) (k : Judging R) (r : Result Event JudgeError) → Appends old now texts → TakesUp profile reason breaking j r k
-      → Arrives T view profile rows old now broken [] None r k
+  pub resume : (old now : Option (List ℕ)) (k : Judging R) (r : Result Turn JudgeError) → Appends old now texts → TakesUp profile b j r k
+      → Arrives T view profile rows old now broken r k
   resume old now k r wrote (inl (is, rest)) = rw is (break-memory wrote)
-  resume old now k r wrote (inr taken) = by (begins_next_part reason breaking) refl taken
+  resume old now k r wrote (inr taken) = by (begins_next_part b.reason b.record) refl taken
     where
-      goes_on : (passed : List LineByte) (mid : Progress R) → begins_next_part reason breaking ≡ false → NoneBegins breaking passed → GivesAll j.rows passed mid
-          → ((first : LineByte) × (may_begin (last_of breaking passed) first ≡ true) × Resumes profile mid first r k)
-          ⊎ ((r ≡ Ok Event.End) × GivesEnd mid k.rows × Begins profile k)
+      resumed : (passed : List LineByte) (mid : Progress R) → begins_next_part b.reason b.record ≡ false → NoneBegins b.record passed → GivesAll j.rows passed mid
+          → ((first : LineByte) × (may_begin (last_of b.record passed) first ≡ true) × Resumes profile mid first r k)
+          ⊎ ((r ≡ Ok Turn.End) × GivesEnd mid k.rows × KnowsNothing profile k.follower)
           ⊎ ((e : CaptureError) × GivesRefusal mid e k.rows × (r ≡ Err (refusal_of e)))
-          → Arrives T view profile rows old now broken [] None r k
-      goes_on passed mid after none gives (inl (first, may, new)) =
-          arrive_first view (before_next (past_of passed) (longer passed) wrote) new.begins (rw new.rows (read_past passed gives))
+          → Arrives T view profile rows old now broken r k
+      resumed passed mid after none gives (inl (first, may, new)) =
+          arrive_first view (before_next (past_of passed) (longer passed) wrote) new.knows_nothing (read_past passed gives)
           (at_first passed first after none may) new.with_first
-      goes_on passed mid after none gives (inr (inl (is, ends, begins))) =
+      resumed passed mid after none gives (inr (inl (is, ends, knows))) =
           let read = read_past passed gives in
-          let begins_so : Begins profile (record { rows = mid; pairer = k.pairer; tracker = k.tracker }) =
-          record { fed_nothing = begins.fed_nothing; states = begins.states; profile = begins.profile } in
-          rw is (record {
-            past = past_of passed;
-            begun = now;
-            before = before_next (past_of passed) (longer passed) wrote;
-            front = record { rows = mid; pairer = k.pairer; tracker = k.tracker };
-            so_far = so_far-begin begins_so read.is_reading read.read read.are_given;
-            turned = record { ends = ends; same_pairer = refl; same_tracker = refl };
-            ahead = at_end passed after none;
-            ended = λ nil. refl;
-          })
-      goes_on passed mid after none gives (inr (inr (e, refusal, is))) =
+          rw is (past_of passed, before_next (past_of passed) (longer passed) wrote, record {
+              front = record { rows = mid; follower = k.follower };
+              so_far = so_far-begin knows read.is_reading read.read read.are_given;
+              turned = record { ends = ends; same_follower = refl };
+              ahead = at_end passed after none;
+              ended = λ nil. refl;
+            })
+      resumed passed mid after none gives (inr (inr (e, refusal, is))) =
           rw is (parts-refusal broken texts h.are_texts (keeps-none view profile (past_of passed) refl) (rw append-nil (read_past passed gives))
           (at_end passed after none) refusal refl
           (rw append-nil wrote))
 
-      by : (b : Bool) → begins_next_part reason breaking ≡ b → MatchBool b ((before : Progress R) → GivesRecord before breaking j.rows
-          → Resumes profile before breaking r k) (ResumesAfter profile breaking j.rows r k) → Arrives T view profile rows old now broken [] None r k
+      by : (c : Bool) → begins_next_part b.reason b.record ≡ c → MatchBool c ((before : Progress R) → GivesRecord before b.record j.rows
+          → Resumes profile before b.record r k) (ResumesAfter profile b.record j.rows r k) → Arrives T view profile rows old now broken r k
       by true begins up =
           let new = up h.front h.gives in
-          arrive_first view (before_next h.items (omega arith) wrote) new.begins (rw new.rows h.read) (at_breaking begins) new.with_first
-      by false after up = goes_on up.passed up.mid after up.none_begins up.gives up.goes_on
+          arrive_first view (before_next h.items (omega arith) wrote) new.knows_nothing h.read (at_breaking begins) new.with_first
+      by false after up = resumed up.passed up.mid after up.none_begins up.gives up.then

@@ -1,25 +1,14 @@
 -- Each turn of a judging of all parts leaves less to do: rows that are still to come, or the same record in a part of its own.
-use Rattle.judge9.proofs.Words.{Rate, [], ap, arith, Begins, begins_next_part, BeginsWith, Bool, CaptureError, Command, ComesTo, Err, false, first_holds, GivesEnd, GivesRecord, GivesRefusal, Profile, if◌then◌else◌, inl, inr}
-use Rattle.judge9.proofs.Words.{IsTaken, JudgeError, Judging, last_of, length, length-append, LineByte, List, may_begin, Ok, Paired, Progress, Reason, refl, refusal_of, Result, Resumes, ResumesAfter, Some, subst}
-use Rattle.judge9.proofs.Words.{TakesUp, takes_up_at, true, Event, Shows, Turn, Turned, ℕ, ◌*◌, ◌+◌, ◌-◌, ◌<◌, ◌≡◌, ◌≤◌, ◌⊎◌}
+use Rattle.judge9.proofs.Words.{Rate, [], ap, arith, begins_next_part, BeginsAt, Bool, Break, CaptureError, Command, Comes, ComesTo, Completes, Err, false, first_holds, Follower, GivesEnd, GivesRecord}
+use Rattle.judge9.proofs.Words.{GivesRefusal, GoesThrough, IsJudgedPart, PartLog, turn_of, Profile, if◌then◌else◌, inl, inr, JudgeError, Judging, KnowsNothing, last_of, length, length-append, LineByte, List, may_begin, None, Ok, Option, Exchange}
+use Rattle.judge9.proofs.Words.{Paired, Progress, Reason, refl, Refuses, refusal_of, Result, Resumes, ResumesAfter, Some, Spoils, subst, suc, TakesUp, takes_up_at, true, Turn, Turned, View, zero, ℕ, ◌*◌, ◌+◌, ◌-◌, ◌<◌, ◌≡◌, ◌≤◌, ◌⊎◌}
 use Rattle.std.proofs.Common.{◌&&◌}
+use Rattle.verdict9.specs.Telling.{view_of}
+use Rattle.verdict9.specs.declared.verdict.Telling.{Telling}
 use Rattle.std.specs.Bool.{MatchBool}
 use Rattle.block9.specs.Reason.{Holds, IsAnswered, IsOpen as IsOpenBlock, IsReason, order}
 use Rattle.judge9.proofs.PartSteps.{none_fewer}
-use Rattle.judge9.proofs.TurnSteps.{event_in, opened, turn_of}
-
--- two breaks can name one record: the second is of another reason
-abbrev pub weight : Turn → ℕ
-weight Turn.End = 0
-weight Turn.Exchange = 1
-weight (Turn.NoRun r) = 1
-weight (Turn.Break reason r) = if takes_up_at reason then 2 else 1
-
-abbrev pub left_at : {R : Type 0} → Turn → Judging R → ℕ
-left_at turn j = 3 * (4000000 - j.rows.given) + weight turn
-
-abbrev pub left_to_do : {R : Type 0} → Event → Judging R → ℕ
-left_to_do event j = left_at (turn_of event) j
+use Rattle.judge9.proofs.TurnSteps.{left_at, none_lost, weight}
 
 at_least_one : (b : Bool) → 1 ≤ (if b then 2 else 1)
 at_least_one b = grind arith
@@ -44,77 +33,83 @@ none_open rate reason r h = refl
 
 -- ---- a turn after rows
 
--- a record that was given
-less-taken : {R : Type 0} (j k : Judging R) (r : LineByte) (turn : Event) → IsTaken j r (Ok (Some turn)) k → (k.rows.given ≡ j.rows.given + 1)
-    × (k.rows.given ≤ 4000000)
-less-taken j k r Event.End t = absurd t
-less-taken j k r (Event.Exchange e) t = (t.0.gives.given, t.0.gives.within)
-less-taken j k r (Event.NoRun e last) t = (t.1.gives.given, t.1.gives.within)
-less-taken j k r (Event.Break reason b) t = (t.1.gives.given, t.1.gives.within)
-
 weight_small : (turn : Turn) → weight turn ≤ 2
-weight_small turn = grind arith
+weight_small Turn.End = omega arith
+weight_small Turn.Exchange = omega arith
+weight_small (Turn.Break b) = grind arith
 
-less-turned : {R : Type 0} (j k : Judging R) (turn : Event) → Turned j (Ok turn) k → left_to_do turn k ≤ 3 * (4000000 - j.rows.given)
-less-turned j k Event.End t = omega (arith, t.ends.given)
-less-turned j k turn t = omega (arith, less-taken j k t.0 turn t.1, weight_small (turn_of turn))
+less-turned : {R : Type 0} (j k : Judging R) (turn : Turn) → Turned j (Ok turn) k → left_at turn k ≤ 3 * (4000000 - j.rows.given)
+less-turned j k Turn.End t = omega (arith, t.ends.given)
+less-turned j k turn t = omega (arith, t.1.gives.given, t.1.gives.within, weight_small turn)
 
-pub less-come : {R : Type 0} (j k : Judging R) (turn : Event) → ComesTo j (Ok turn) k → left_to_do turn k ≤ 3 * (4000000 - j.rows.given)
-less-come j k turn c =
-    let low : j.rows.given ≤ c.front.rows.given = opened (λ k. j.rows.given ≤ k.rows.given) (λ i k r low waits. omega (arith, waits.feeds.gives))
-    c.are_open.0 c.front (omega arith) c.are_open.1 in
-    omega (arith, low, less-turned c.front k turn c.turned)
+pub less-come : {R : Type 0} (j k : Judging R) (turn : Turn) → ComesTo j (Ok turn) k → left_at turn k ≤ 3 * (4000000 - j.rows.given)
+less-come j k turn c = omega (arith, none_lost c, less-turned c.front k turn c.turned)
 
-pub less-shown : {R : Type 0} (j k : Judging R) (turn : Turn) → Shows (λ event. ComesTo j (Ok event) k) k turn → left_at turn k ≤ 3 * (4000000 - j.rows.given)
-less-shown j k turn s = let is = event_in (λ event. ComesTo j (Ok event) k) k turn s in rw (← is.1) (less-come j k is.0 is.3)
+-- the exchanges of a part
+pub less-through : {R : Type 0} (view : View) (profile : Profile) (first : Turn) (j : Judging R) (old : Option (List ℕ)) (n : ℕ) (es : List Exchange) (end_us : Option ℕ)
+    (turn : Turn) (k : Judging R) (new : Option (List ℕ)) → GoesThrough view profile first j old n es end_us turn k new → left_at turn k ≤ left_at first j
+less-through view profile first j old zero es end_us turn k new (_, _, turn_is, k_is, _) = rw (turn_is, k_is) (omega arith)
+less-through view profile first j old (suc n) es end_us turn k new (before, us, mid, now, goes, e, tells, come, _, _) =
+    omega (arith, less-through view profile first j old n before us Turn.Exchange mid now goes, less-come mid k turn come)
+
+pub less-part : {R : Type 0} (telling : Telling) (profile : Profile) (first : Turn) (j : Judging R) (old : Option (List ℕ)) (end : Option Break) (k : Judging R)
+    (log : PartLog) (new : Option (List ℕ)) → IsJudgedPart telling profile first j old (Ok end) k log new → left_at (turn_of end) k ≤ left_at first j
+less-part telling profile first j old end k log new (n, es, end_us, goes, logged) =
+    less-through (view_of telling) profile first j old n es end_us (turn_of end) k new goes
 
 -- ---- a turn after a break
 
+-- the first record of the next part breaks it for another reason
+first_break : {after : Follower} (profile : Profile) (f : Follower) (first : LineByte) (b : Break) → KnowsNothing profile f → b.record ≡ first → Spoils f after b
+    → takes_up_at b.reason ≡ false
+first_break profile f first b knows same (inl refused) =
+    let is : IsReason profile.rate [] b.record b.reason = subst (λ (p : Paired). IsReason p.rate p.tail b.record b.reason) knows.fed_nothing refused.0.is_reason in
+    none_open profile.rate b.reason b.record (first_holds (λ x. Holds profile.rate x [] b.record) order b.reason is)
+first_break profile f first b knows same (inr none) = rw none.0 refl
+
+less-at_once : {R : Type 0} (profile : Profile) (j k : Judging R) (first : LineByte) (turn : Turn) → KnowsNothing profile j.follower → Comes j k first (Some turn)
+    → left_at turn k + 2 ≤ 3 * (4000000 - j.rows.given)
+less-at_once profile j k first Turn.End knows c = absurd c.took
+less-at_once profile j k first Turn.Exchange knows c = omega (arith, c.gives.given, c.gives.within)
+less-at_once profile j k first (Turn.Break b) knows c =
+    rw (first_break profile j.follower first b knows c.took.0 c.took.1) (omega (arith, c.gives.given, c.gives.within))
+
 -- with the first record of the next part
-less-first : {R : Type 0} (profile : Profile) (before : Progress R) (first : LineByte) (turn : Event) (k : Judging R) → Resumes profile before first (Ok turn) k
-    → left_to_do turn k + 2 ≤ 3 * (4000000 - before.given)
-less-first profile before first turn k h = by h.with_first
+less-first : {R : Type 0} (profile : Profile) (before : Progress R) (first : LineByte) (turn : Turn) (k : Judging R) → Resumes profile before first (Ok turn) k
+    → left_at turn k + 2 ≤ 3 * (4000000 - before.given)
+less-first {R = R} profile before first turn k h = by h.with_first
   where
-    given : h.new.rows.given ≡ before.given
-    given = ap (λ p. p.given) h.rows
+    j : Judging R
+    j = record { rows = before; follower = h.follower }
 
-    at_once : (turn : Event) → IsTaken h.new first (Ok (Some turn)) k → left_to_do turn k + 2 ≤ 3 * (4000000 - before.given)
-    at_once Event.End t = absurd t
-    at_once (Event.Break reason r) t =
-        let is : IsReason profile.rate [] first reason = subst (λ (p : Paired). IsReason p.rate p.tail first reason) h.begins.fed_nothing t.1.refuses.is_reason in
-        let none = none_open profile.rate reason first (first_holds (λ x. Holds profile.rate x [] first) order reason is) in
-        rw none (omega (arith, given, less-taken h.new k first (Event.Break reason r) t))
-    at_once turn t = omega (arith, given, less-taken h.new k first turn t)
-
-    by : BeginsWith h.new first (Ok turn) k → left_to_do turn k + 2 ≤ 3 * (4000000 - before.given)
-    by (inl (x, is, rest)) = absurd (cc is)
-    by (inr (inl (other, is, taken))) = let same : turn ≡ other = cc in rw same (at_once other taken)
-    by (inr (inr (mid, waits, come))) = omega (arith, given, waits.feeds.gives.given, waits.feeds.gives.within, less-come mid k turn come)
+    by : BeginsAt j first (Ok turn) k → left_at turn k + 2 ≤ 3 * (4000000 - before.given)
+    by (inl (is, rest)) = absurd (cc is)
+    by (inr (inl (other, is, comes))) = let same : turn ≡ other = cc in rw same (less-at_once profile j k first other h.knows_nothing comes)
+    by (inr (inr (mid, comes, come))) = omega (arith, comes.gives.given, comes.gives.within, less-come mid k turn come)
 
 -- after records were passed over
-less-passed : {R : Type 0} (profile : Profile) (last : LineByte) (old : Progress R) (turn : Event) (k : Judging R) → ResumesAfter profile last old (Ok turn) k
-    → left_to_do turn k ≤ 3 * (4000000 - old.given)
-less-passed profile last old turn k h = by h.goes_on
+less-passed : {R : Type 0} (profile : Profile) (last : LineByte) (old : Progress R) (turn : Turn) (k : Judging R) → ResumesAfter profile last old (Ok turn) k
+    → left_at turn k ≤ 3 * (4000000 - old.given)
+less-passed profile last old turn k h = by h.then
   where
     more : old.given ≤ h.mid.given
     more = none_fewer old h.mid h.passed h.gives
 
     by : ((first : LineByte) × (may_begin (last_of last h.passed) first ≡ true) × Resumes profile h.mid first (Ok turn) k)
-        ⊎ ((let r : Result Event JudgeError = Ok turn in r) ≡ Ok Event.End) × GivesEnd h.mid k.rows × Begins profile k
-        ⊎ ((e : CaptureError) × GivesRefusal h.mid e k.rows × ((let r : Result Event JudgeError = Ok turn in r) ≡ Err (refusal_of e)))
-        → left_to_do turn k ≤ 3 * (4000000 - old.given)
+        ⊎ ((let r : Result Turn JudgeError = Ok turn in r) ≡ Ok Turn.End) × GivesEnd h.mid k.rows × KnowsNothing profile k.follower
+        ⊎ ((e : CaptureError) × GivesRefusal h.mid e k.rows × ((let r : Result Turn JudgeError = Ok turn in r) ≡ Err (refusal_of e)))
+        → left_at turn k ≤ 3 * (4000000 - old.given)
     by (inl (first, may, new)) = omega (arith, more, less-first profile h.mid first turn k new)
-    by (inr (inl (is, ends, begins))) = let same : turn ≡ Event.End = cc in rw same (omega (arith, more, ends.given))
+    by (inr (inl (is, ends, begins))) = let same : turn ≡ Turn.End = cc in rw same (omega (arith, more, ends.given))
     by (inr (inr (e, refusal, is))) = absurd (cc is)
 
-pub less-up : {R : Type 0} (profile : Profile) (before : Progress R) (reason : Reason) (last : LineByte) (j : Judging R) (turn : Event) (k : Judging R)
-    → GivesRecord before last j.rows → TakesUp profile reason last j (Ok turn) k
-    → left_to_do turn k < 3 * (4000000 - j.rows.given) + (if takes_up_at reason then 2 else 1)
-less-up profile before reason last j turn k gives (inl (is, rest)) = absurd (cc is)
-less-up profile before reason last j turn k gives (inr taken) = by (begins_next_part reason last) refl taken
+pub less-up : {R : Type 0} (profile : Profile) (before : Progress R) (b : Break) (j : Judging R) (turn : Turn) (k : Judging R)
+    → GivesRecord before b.record j.rows → TakesUp profile b j (Ok turn) k → left_at turn k < left_at (Turn.Break b) j
+less-up profile before b j turn k gives (inl (is, rest)) = absurd (cc is)
+less-up profile before b j turn k gives (inr taken) = by (begins_next_part b.reason b.record) refl taken
   where
-    by : (b : Bool) → begins_next_part reason last ≡ b → MatchBool b ((p : Progress _) → GivesRecord p last j.rows → Resumes profile p last (Ok turn) k)
-        (ResumesAfter profile last j.rows (Ok turn) k) → left_to_do turn k < 3 * (4000000 - j.rows.given) + (if takes_up_at reason then 2 else 1)
+    by : (c : Bool) → begins_next_part b.reason b.record ≡ c → MatchBool c ((p : Progress _) → GivesRecord p b.record j.rows → Resumes profile p b.record (Ok turn) k)
+        (ResumesAfter profile b.record j.rows (Ok turn) k) → left_at turn k < left_at (Turn.Break b) j
     by true is up =
-        rw (first_true (takes_up_at reason) _ is) (omega (arith, gives.given, gives.within, less-first profile before last turn k (up before gives)))
-    by false is up = omega (arith, at_least_one (takes_up_at reason), less-passed profile last j.rows turn k up)
+        rw (first_true (takes_up_at b.reason) _ is) (omega (arith, gives.given, gives.within, less-first profile before b.record turn k (up before gives)))
+    by false is up = omega (arith, at_least_one (takes_up_at b.reason), less-passed profile b.record j.rows turn k up)

@@ -1,6 +1,6 @@
 -- Where the judging of a text stands: the invariant of its loop, the rows that it speaks of, and what a row more does.
-use Rattle.judge9.proofs.Words.{IsKept, IsReason, Does, Rate, Reason, Spoils, length-append, records_in, Begins, IsEnd, last_time, last_time-append}
-use Rattle.judge9.proofs.Words.{[], ap, append-nil, append_assoc, Appends, Appends-nil, Appends-trans, AreGiven, arith, Bool, CanBeRows, CaptureError, Cut, Exchange, Feeds}
+use Rattle.judge9.proofs.Words.{Comes, Completes, Follower, IsKept, IsReason, Does, KnowsNothing, Rate, Reason, Refuses, length-append, records_in, IsEnd, last_time, last_time-append}
+use Rattle.judge9.proofs.Words.{[], ap, append-nil, append_assoc, Appends, Appends-nil, Appends-trans, AreGiven, arith, Bool, CanBeRows, CaptureError, Cut, Exchange}
 use Rattle.judge9.proofs.Words.{KeepsEnds, ForSome, given-more, given-none, GivesRecord, Profile, HasRun, IfNone, IfSome, IsExplained, IsFresh, IsLineOf, IsOfSomeText, IsOk, IsOpen}
 use Rattle.judge9.proofs.Words.{IsStartOf, IsTail, Judging, length, length_push, LineByte, List, None, Observes, Option, Paired, Possible, Progress, refl, Rows, run_start, Some}
 use Rattle.judge9.proofs.Words.{some-text, some_end, Standing, Outcome, subst, sym, Takes, TakesRecord, Tracked, true, View, Waits, ℕ, ⊤, ◌++◌, ◌+◌, ◌∙◌, ◌∷◌, ◌≡◌, ◌≤◌}
@@ -38,15 +38,15 @@ keeps-none which profile past e = record {
 -- has their tail, the tracker keeps the states that the runs of their exchanges end in, and what the view shows of these was written
 pub record SoFar {R : Type 0} (view : View) (profile : Profile) (rows : Option Rows) (past : List LineByte) (j : Judging R) (old now : Option (List ℕ))
     (es : List Exchange) : Type 0 where
-  pub keeps : Keeps view profile past es j.pairer.tail
+  pub keeps : Keeps view profile past es j.follower.pairer.tail
   pub open keeps use {items, cut, run, text, explained}
-  pub follows : KeepsEnds profile es j.tracker
+  pub follows : KeepsEnds profile es j.follower.tracker
   pub wrote : Appends old now text
   pub few : length es ≤ j.rows.given
   pub is_reading : j.rows.standing ≡ Standing.Reading
-  pub no_reason : j.pairer.reason ≡ None
-  pub same_rate : j.pairer.rate ≡ profile.rate
-  pub in_order : ForSome j.pairer.last_time (λ time. time ≤ j.rows.last_time)
+  pub no_reason : j.follower.pairer.reason ≡ None
+  pub same_rate : j.follower.pairer.rate ≡ profile.rate
+  pub in_order : ForSome j.follower.pairer.last_time (λ time. time ≤ j.rows.last_time)
   pub read : WereRead rows (past ++ items) j.rows.rows
   pub are_given : AreGiven (past ++ items) j.rows
 
@@ -103,10 +103,10 @@ later {r = r} given takes x e =
 
 -- before the first row of a part
 abbrev pub so_far-begin : {R : Type 0} {which : View} {profile : Profile} {rows : Option Rows} {past : List LineByte} {j : Judging R} {now : Option (List ℕ)}
-    → Begins profile j → j.rows.standing ≡ Standing.Reading → WereRead rows past j.rows.rows → AreGiven past j.rows → SoFar which profile rows past j now now []
+    → KnowsNothing profile j.follower → j.rows.standing ≡ Standing.Reading → WereRead rows past j.rows.rows → AreGiven past j.rows → SoFar which profile rows past j now now []
 so_far-begin {which = which} {profile = profile} {past = past} {j = j} {now = now} begins is_reading read are_given = record {
   keeps = keeps-none which profile past (ap (λ (p : Paired). p.tail) begins.fed_nothing);
-  follows = follows-start profile j.tracker begins.states begins.profile;
+  follows = follows-start profile j.follower.tracker begins.states begins.profile;
   wrote = Appends-nil now;
   few = omega arith;
   is_reading = is_reading;
@@ -120,7 +120,7 @@ so_far-begin {which = which} {profile = profile} {past = past} {j = j} {now = no
 -- before the first row
 abbrev pub so_far-start : {R : Type 0} {which : View} {profile : Profile} {j : Judging R} {now : Option (List ℕ)} → IsFresh profile j
     → SoFar which profile j.rows.rows [] j now now []
-so_far-start {j = j} fresh = so_far-begin fresh.begins fresh.is_reading (unread j.rows.rows) (given-none j.rows fresh.none_given fresh.no_time)
+so_far-start {j = j} fresh = so_far-begin fresh.knows_nothing fresh.is_reading (unread j.rows.rows) (given-none j.rows fresh.none_given fresh.no_time)
 
 -- the time at which exchanges end, one of them last
 ends-more : (records : List LineByte) (es : List Exchange) (e : Exchange) (end_us : Option ℕ) → end_us ≡ Some (last_time records)
@@ -135,7 +135,7 @@ module _ {R : Type 0} {which : View} {profile : Profile} {rows : Option Rows} {p
   seen_now = seen rows j.rows.rows (past ++ h.items) None h.read h.are_given.can_be
 
   pub so_far-ok : IsOk profile h.items
-  so_far-ok = record { exchanges = es; tail = j.pairer.tail; cut = h.cut; run = h.run }
+  so_far-ok = record { exchanges = es; tail = j.follower.pairer.tail; cut = h.cut; run = h.run }
 
   -- a record more was read
   pub read_on : {after : Progress R} {r : LineByte} → GivesRecord j.rows r after → WereRead rows (past ++ (h.items ++ r ∷ [])) after.rows
@@ -151,25 +151,25 @@ module _ {R : Type 0} {which : View} {profile : Profile} {rows : Option Rows} {p
   seen_on {after = after} {r = r} gives = seen rows after.rows (past ++ (h.items ++ r ∷ [])) None (read_on gives) (given_on gives).can_be
 
   -- what a record more does, at the rate of the deck
-  pub step_on : {k : Judging R} {r : LineByte} {s : Outcome} → Feeds j k r s → Does profile.rate j.pairer.tail r s
-  step_on {r = r} {s = s} feeds = subst (λ (rate : Rate). Does rate j.pairer.tail r s) h.same_rate feeds.takes.does
+  pub step_on : {next : Paired} {r : LineByte} {s : Outcome} → Takes j.follower.pairer r s next → Does profile.rate j.follower.pairer.tail r s
+  step_on {r = r} {s = s} takes = subst (λ (rate : Rate). Does rate j.follower.pairer.tail r s) h.same_rate takes.does
 
   -- and which rule it breaks
-  pub reason_of : {k : Judging R} {r : LineByte} {x : Reason} → Spoils j k x r → IsReason profile.rate j.pairer.tail r x
-  reason_of {r = r} {x = x} spoils = subst (λ (rate : Rate). IsReason rate j.pairer.tail r x) h.same_rate spoils.refuses.is_reason
+  pub reason_of : {next : Paired} {r : LineByte} {x : Reason} → Refuses j.follower.pairer r x next → IsReason profile.rate j.follower.pairer.tail r x
+  reason_of {r = r} {x = x} refuses = subst (λ (rate : Rate). IsReason rate j.follower.pairer.tail r x) h.same_rate refuses.is_reason
 
-  pub not_kept : {k : Judging R} {r : LineByte} {x : Reason} → Spoils j k x r → ¬ IsKept profile.rate (j.pairer.tail ++ r ∷ [])
-  not_kept {r = r} spoils = subst (λ (rate : Rate). ¬ IsKept rate (j.pairer.tail ++ r ∷ [])) h.same_rate spoils.refuses.not_kept
+  pub not_kept : {next : Paired} {r : LineByte} {x : Reason} → Refuses j.follower.pairer r x next → ¬ IsKept profile.rate (j.follower.pairer.tail ++ r ∷ [])
+  not_kept {r = r} refuses = subst (λ (rate : Rate). ¬ IsKept rate (j.follower.pairer.tail ++ r ∷ [])) h.same_rate refuses.not_kept
 
   -- after a row, after which the exchanges have a run and this line was written
-  unfoldable pub so_far-more : {k : Judging R} {new : Option (List ℕ)} {r : LineByte} {s : Outcome} (line : List ℕ) → Feeds j k r s
-      → HasRun profile (exchanges_after es s) → KeepsEnds profile (exchanges_after es s) k.tracker
+  unfoldable pub so_far-more : {k : Judging R} {new : Option (List ℕ)} {r : LineByte} {s : Outcome} (line : List ℕ) → GivesRecord j.rows r k.rows
+      → Takes j.follower.pairer r s k.follower.pairer → HasRun profile (exchanges_after es s) → KeepsEnds profile (exchanges_after es s) k.follower.tracker
       → IsExplained which profile (length past) (exchanges_after es s) (h.text ++ line) → Appends now new line
       → length (exchanges_after es s) ≤ length es + 1 → SoFar which profile rows past k old new (exchanges_after es s)
-  so_far-more {k = k} {new = new} {r = r} {s = s} line feeds run follows explained wrote few = record {
+  so_far-more {k = k} {new = new} {r = r} {s = s} line gives takes run follows explained wrote few = record {
     keeps = record {
       items = h.items ++ r ∷ [];
-      cut = rw feeds.takes.tail (cut-step profile.rate h.items es j.pairer.tail r s h.cut (step_on feeds));
+      cut = rw takes.tail (cut-step profile.rate h.items es j.follower.pairer.tail r s h.cut (step_on takes));
       run = run;
       text = h.text ++ line;
       explained = explained;
@@ -177,60 +177,62 @@ module _ {R : Type 0} {which : View} {profile : Profile} {rows : Option Rows} {p
     follows = follows;
     wrote = Appends-trans old now new h.text line h.wrote wrote;
     few = omega arith;
-    is_reading = feeds.gives.is_reading;
-    no_reason = feeds.takes.reason;
-    same_rate = feeds.takes.rate ∙ h.same_rate;
-    in_order = λ x e. later feeds.gives feeds.takes x e;
-    read = read_on feeds.gives;
-    are_given = given_on feeds.gives;
+    is_reading = gives.is_reading;
+    no_reason = takes.reason;
+    same_rate = takes.rate ∙ h.same_rate;
+    in_order = λ x e. later gives takes x e;
+    read = read_on gives;
+    are_given = given_on gives;
   }
 
   -- one that ends no exchange
-  so_far-by : {k : Judging R} {r : LineByte} (s : Outcome) → Feeds j k r s → IsOpen s → k.tracker ≡ j.tracker → (f : SoFar which profile rows past k old now es)
-      × (f.items ≡ h.items ++ r ∷ [])
+  so_far-by : {k : Judging R} {r : LineByte} (s : Outcome) → GivesRecord j.rows r k.rows → Takes j.follower.pairer r s k.follower.pairer → IsOpen s
+      → k.follower.tracker ≡ j.follower.tracker → (f : SoFar which profile rows past k old now es) × (f.items ≡ h.items ++ r ∷ [])
   unfolding so_far-more
-  so_far-by (Outcome.completes e) feeds is_open same = absurd is_open
-  so_far-by s feeds is_open same =
-      (so_far-more [] feeds h.run (rw same h.follows) (rw append-nil h.explained) (Appends-nil now) (omega arith), refl)
+  so_far-by (Outcome.completes e) gives takes is_open same = absurd is_open
+  so_far-by s gives takes is_open same =
+      (so_far-more [] gives takes h.run (rw same h.follows) (rw append-nil h.explained) (Appends-nil now) (omega arith), refl)
 
-  pub so_far-open : {k : Judging R} {r : LineByte} → Waits j k r → SoFar which profile rows past k old now es
-  so_far-open w = (so_far-by w.outcome w.feeds w.is_open w.same_tracker).0
+  pub so_far-open : {k : Judging R} {r : LineByte} → Comes j k r None → SoFar which profile rows past k old now es
+  so_far-open c = let w = c.took in (so_far-by w.outcome c.gives w.takes w.is_open w.same_tracker).0
 
-  pub so_far-open_items : {k : Judging R} {r : LineByte} (w : Waits j k r) → (so_far-open w).items ≡ h.items ++ r ∷ []
+  pub so_far-open_items : {k : Judging R} {r : LineByte} (c : Comes j k r None) → (so_far-open c).items ≡ h.items ++ r ∷ []
   unfolding so_far-open
-  so_far-open_items w = (so_far-by w.outcome w.feeds w.is_open w.same_tracker).1
+  so_far-open_items c = let w = c.took in (so_far-by w.outcome c.gives w.takes w.is_open w.same_tracker).1
 
   -- the tracker has observed one exchange more
-  pub observed_more : {k : Tracked} {e : Exchange} {b : Bool} → Observes j.tracker k e b → KeepsEnds profile (es ++ e ∷ []) k
-  observed_more {k = k} {e = e} o = follows-more profile es e j.tracker k h.follows o.reached o.profile
+  pub observed_more : {k : Tracked} {e : Exchange} {b : Bool} → Observes j.follower.tracker k e b → KeepsEnds profile (es ++ e ∷ []) k
+  observed_more {k = k} {e = e} o = follows-more profile es e j.follower.tracker k h.follows o.reached o.profile
 
   -- one that ends an exchange, which the tracker has seen and whose line was written
-  unfoldable pub so_far-exchange : {k : Judging R} {new : Option (List ℕ)} {r : LineByte} {e : Exchange} (line : List ℕ) → Feeds j k r (Outcome.completes e)
-      → Observes j.tracker k.tracker e true
-      → IsLineOf which profile k.rows.given e (Possible k.tracker.states) line → Appends now new line → SoFar which profile rows past k old new (es ++ e ∷ [])
-  so_far-exchange {k = k} {r = r} {e = e} line feeds observes is wrote =
-      let follows = observed_more observes in
-      let cut = cut-step profile.rate h.items es j.pairer.tail r (Outcome.completes e) h.cut (step_on feeds) in
+  unfoldable pub so_far-exchange : {k : Judging R} {new : Option (List ℕ)} {r : LineByte} (line : List ℕ) → GivesRecord j.rows r k.rows
+      → (c : Completes j.follower k.follower r true)
+      → IsLineOf which profile k.rows.given c.exchange (Possible k.follower.tracker.states) line → Appends now new line
+      → SoFar which profile rows past k old new (es ++ c.exchange ∷ [])
+  so_far-exchange {k = k} {r = r} line gives c is wrote =
+      let e = c.exchange in
+      let follows = observed_more c.observes in
+      let cut = cut-step profile.rate h.items es j.follower.pairer.tail r (Outcome.completes e) h.cut (step_on c.takes) in
       let number : k.rows.given ≡ length past + records_in (es ++ e ∷ []) = omega
-      (arith, length-append past (h.items ++ r ∷ []), cut_len profile.rate (h.items ++ r ∷ []) (es ++ e ∷ []) [] cut, given_on feeds.gives) in
-      let end = observes.remains.0 refl in
-      so_far-more line feeds ((some_end profile (es ++ e ∷ [])).0 (end.0, (follows.states end.0).0 end.1)) follows
-      (explained_more which profile (length past) es e k.rows.given h.text line k.tracker follows h.explained is number) wrote
+      (arith, length-append past (h.items ++ r ∷ []), cut_len profile.rate (h.items ++ r ∷ []) (es ++ e ∷ []) [] cut, given_on gives) in
+      let end = c.observes.remains.0 refl in
+      so_far-more line gives c.takes ((some_end profile (es ++ e ∷ [])).0 (end.0, (follows.states end.0).0 end.1)) follows
+      (explained_more which profile (length past) es e k.rows.given h.text line k.follower.tracker follows h.explained is number) wrote
       (omega (arith, length_push es e))
 
-  pub so_far-exchange_items : {k : Judging R} (new : Option (List ℕ)) {r : LineByte} {e : Exchange} (line : List ℕ) (feeds : Feeds j k r (Outcome.completes e))
-      (observes : Observes j.tracker k.tracker e true)
-      (is : IsLineOf which profile k.rows.given e (Possible k.tracker.states) line) (wrote : Appends now new line)
-      → (so_far-exchange {new = new} line feeds observes is wrote).items ≡ h.items ++ r ∷ []
+  pub so_far-exchange_items : {k : Judging R} (new : Option (List ℕ)) {r : LineByte} (line : List ℕ) (gives : GivesRecord j.rows r k.rows)
+      (c : Completes j.follower k.follower r true)
+      (is : IsLineOf which profile k.rows.given c.exchange (Possible k.follower.tracker.states) line) (wrote : Appends now new line)
+      → (so_far-exchange {new = new} line gives c is wrote).items ≡ h.items ++ r ∷ []
   unfolding so_far-exchange so_far-more
-  so_far-exchange_items new line feeds observes is wrote = refl
+  so_far-exchange_items new line gives c is wrote = refl
 
   -- so its last record's time is that at which the exchanges end
-  pub exchange_ended : {k : Judging R} (new : Option (List ℕ)) {r : LineByte} {e : Exchange} (line : List ℕ) (feeds : Feeds j k r (Outcome.completes e))
-      (observes : Observes j.tracker k.tracker e true)
-      (is : IsLineOf which profile k.rows.given e (Possible k.tracker.states) line) (wrote : Appends now new line)
-      → IsEnd (so_far-exchange {new = new} line feeds observes is wrote).items (es ++ e ∷ []) k.pairer.last_time
-  exchange_ended {k = k} new {r = r} {e = e} line feeds observes is wrote =
-      ends-more (so_far-exchange {new = new} line feeds observes is wrote).items es e k.pairer.last_time
-      (feeds.takes.last_time ∙ ap Some (sym (ap last_time (so_far-exchange_items new line feeds observes is wrote)
+  pub exchange_ended : {k : Judging R} (new : Option (List ℕ)) {r : LineByte} (line : List ℕ) (gives : GivesRecord j.rows r k.rows)
+      (c : Completes j.follower k.follower r true)
+      (is : IsLineOf which profile k.rows.given c.exchange (Possible k.follower.tracker.states) line) (wrote : Appends now new line)
+      → IsEnd (so_far-exchange {new = new} line gives c is wrote).items (es ++ c.exchange ∷ []) k.follower.pairer.last_time
+  exchange_ended {k = k} new {r = r} line gives c is wrote =
+      ends-more (so_far-exchange {new = new} line gives c is wrote).items es c.exchange k.follower.pairer.last_time
+      (c.takes.last_time ∙ ap Some (sym (ap last_time (so_far-exchange_items new line gives c is wrote)
       ∙ last_time-append profile.rate h.items (r ∷ []) (omega arith))))

@@ -1,11 +1,11 @@
 -- What the result of a judging tells at each of its ends, and what it can bring whatever the reader tells of its bytes.
-use Rattle.judge9.proofs.Words.{Rate, [], Answer, answer_of, ap, append_assoc, Appends, Appends-nil, Appends-trans, AreCounts, arith, Bool, Breaks, CanBeResult}
-use Rattle.judge9.proofs.Words.{CanBeVerdict, CaptureError, CaptureKind, Cut, cut_once, EndsRows, Err, Exchange, exchange_less, Explains, false, false≢true, Feeds, given-more}
+use Rattle.judge9.proofs.Words.{ComesTo, Follower, Paired, Rate, [], Answer, answer_of, ap, append_assoc, Appends, Appends-nil, Appends-trans, AreCounts, arith, Bool, Breaks, CanBeResult}
+use Rattle.judge9.proofs.Words.{Break, CanBeVerdict, CaptureError, CaptureKind, Completes, Cut, cut_once, EndsRows, Err, Exchange, exchange_less, Explains, false, false≢true, given-more}
 use Rattle.judge9.proofs.Words.{given-refused, GivesRecord, GivesRefusal, Profile, HasHeader, HasRun, IfErr, IfSome, if◌then◌else◌, inl, inr, is_of_text, IsAfter, IsAnswer}
 use Rattle.judge9.proofs.Words.{IsFirstBreak, IsOk, IsOkBefore, IsPlaced, IsSame, IsStartOf, IsTheAnswer, IsVerdictAfter, JudgeError, Judges, Judging, length, length_push}
 use Rattle.judge9.proofs.Words.{length-append, line_of, LineByte, List, no_rows-can_be, None, Observes, Ok, Option, option_map, part_after, Possible, Progress, Puts, Reason}
-use Rattle.judge9.proofs.Words.{refl, refusal_by, refusal_of, refused-after, Result, Rows, rows_of, Some, some_end, Spoils, Outcome, StoppedBefore, subst, tail_by_kept, tail_short}
-use Rattle.judge9.proofs.Words.{Told, Tracked, true, Event, Turned, Verdict, View, Written, ℕ, ⊤, ◌*◌, ◌++◌, ◌+◌, ◌∙◌, ◌∷◌, ◌≡◌, ◌≢◌, ◌≤◌}
+use Rattle.judge9.proofs.Words.{refl, refusal_by, refusal_of, refused-after, Refuses, Result, Rows, rows_of, Some, some_end, Outcome, StoppedBefore, subst, sym, tail_by_kept, tail_short}
+use Rattle.judge9.proofs.Words.{Spoils, Told, Tracked, true, Turn, Turned, Verdict, View, Written, ℕ, ⊤, ◌*◌, ◌++◌, ◌+◌, ◌∙◌, ◌∷◌, ◌≡◌, ◌≢◌, ◌≤◌}
 use Rattle.std.specs.Result.{result_map_both}
 use Rattle.judge9.proofs.CutSteps.{cut-exchange}
 use Rattle.judge9.proofs.LineSteps.{appended, exchange_len, none_after}
@@ -40,6 +40,14 @@ pub refusal_cases : (P : JudgeError → Type 0) (k : CaptureKind) (e : CaptureEr
     → P JudgeError.OutOfMemory → P (refusal_by k e)
 refusal_cases P CaptureKind.OutOfMemory e whole memory = memory
 refusal_cases P k e whole memory = whole (λ same. cc)
+
+-- a judging that stops at its rows writes nothing
+pub stopped_unwritten : {R : Type 0} {j k : Judging R} (x : JudgeError) → ComesTo j (Err x) k → x ≢ JudgeError.Write
+stopped_unwritten {j = j} {k = k} x c = by c.turned
+  where
+    by : Turned c.front (Err x) k → x ≢ JudgeError.Write
+    by (inl memory) = λ q. cc
+    by (inr refused) = rw refused.2 (refusal_cases (λ y. y ≢ JudgeError.Write) refused.0.kind refused.0 (λ _ q. cc) (λ q. cc))
 
 -- what is told after these records, of these rows
 unfoldable pub told_after : {which : View} {profile : Profile} {es : List Exchange} {tail items : List LineByte} {rows left : Option Rows}
@@ -98,31 +106,52 @@ judges-told {rows = rows} now line r told can puts = record {
 
 -- ---- what a record breaks
 
+-- the record that breaks is the one that was given
+pub break_given : {R : Type 0} {j k : Judging R} {b : Break} → Turned j (Ok (Turn.Break b)) k → GivesRecord j.rows b.record k.rows
+break_given {j = j} {k = k} t = subst (λ r. GivesRecord j.rows r k.rows) (sym t.1.took.0) t.1.gives
+
 module _ {R : Type 0} {which : View} {profile : Profile} {rows : Option Rows} {past : List LineByte} {j : Judging R} {old now : Option (List ℕ)}
     {es : List Exchange} (h : SoFar which profile rows past j old now es) where
-  -- of pairing
-  pub breaks-pairing : {k : Judging R} {next : LineByte} {reason : Reason} → Spoils j k reason next → Breaks profile h.items next reason
-  breaks-pairing {next = next} {reason = reason} spoils =
-      tail_breaks profile h.items es j.pairer.tail next reason h.cut h.run
-      (λ kept. not_kept h spoils (tail_by_kept profile.rate h.items es j.pairer.tail (next ∷ []) h.cut kept)) (reason_of h spoils)
+  -- a rule of pairing
+  breaks-pairing : {paired : Paired} {next : LineByte} {reason : Reason} → Refuses j.follower.pairer next reason paired
+      → Breaks profile h.items next reason
+  breaks-pairing {next = next} {reason = reason} refuses =
+      tail_breaks profile h.items es j.follower.pairer.tail next reason h.cut h.run
+      (λ kept. not_kept h refuses (tail_by_kept profile.rate h.items es j.follower.pairer.tail (next ∷ []) h.cut kept)) (reason_of h refuses)
 
   -- or it ends an exchange with which no run remains
-  pub none_observed : {k : Tracked} {e : Exchange} → Observes j.tracker k e false → ¬ HasRun profile (es ++ e ∷ [])
+  pub none_observed : {k : Tracked} {e : Exchange} → Observes j.follower.tracker k e false → ¬ HasRun profile (es ++ e ∷ [])
   none_observed {e = e} o run =
       let end = (some_end profile (es ++ e ∷ [])).1 run in
       false≢true (o.remains.1 (end.0, ((observed_more h o).states end.0).1 end.1))
 
-  pub breaks-run : {k : Judging R} {r : LineByte} {e : Exchange} (feeds : Feeds j k r (Outcome.completes e)) → Observes j.tracker k.tracker e false
-      → Breaks profile h.items r Reason.NoRun
-  breaks-run {r = r} {e = e} feeds observes =
-      let whole = step_on h feeds in
-      let cut = cut-exchange profile.rate h.items es j.pairer.tail r e h.cut whole in
-      let first = no_run_first profile es j.pairer.tail r e (exchange_less profile.rate j.pairer.tail r e whole).1 whole
-      (none_observed observes) in
+  breaks-run : {after : Follower} {r : LineByte} (c : Completes j.follower after r false) → Breaks profile h.items r Reason.NoRun
+  breaks-run {r = r} c =
+      let e = c.exchange in
+      let whole = step_on h c.takes in
+      let cut = cut-exchange profile.rate h.items es j.follower.pairer.tail r e h.cut whole in
+      let first = no_run_first profile es j.follower.pairer.tail r e (exchange_less profile.rate j.follower.pairer.tail r e whole).1 whole
+      (none_observed c.observes) in
       let not_ok : ¬ IsOk profile (h.items ++ r ∷ []) =
-      λ ok. none_observed observes (subst (HasRun profile) (cut_once profile.rate (h.items ++ r ∷ []) ok.exchanges (es ++ e ∷ []) ok.tail [] ok.cut cut).0
+      λ ok. none_observed c.observes (subst (HasRun profile) (cut_once profile.rate (h.items ++ r ∷ []) ok.exchanges (es ++ e ∷ []) ok.tail [] ok.cut cut).0
       ok.run) in
-      record { exchanges = es; tail = j.pairer.tail; cut = h.cut; run = h.run; not_ok = not_ok; is_reason = first }
+      record { exchanges = es; tail = j.follower.pairer.tail; cut = h.cut; run = h.run; not_ok = not_ok; is_reason = first }
+
+  -- either way
+  pub breaks : {k : Judging R} {b : Break} → Turned j (Ok (Turn.Break b)) k → Breaks profile h.items b.record b.reason
+  breaks {k = k} {b = b} t = by t.1.took.1
+    where
+      by : Spoils j.follower k.follower b → Breaks profile h.items b.record b.reason
+      by (inl refused) = breaks-pairing refused.0
+      by (inr none) = rw none.0 (breaks-run none.1)
+
+  -- and the pairer keeps the rate of the deck
+  pub break_rate : {k : Judging R} {b : Break} → Turned j (Ok (Turn.Break b)) k → k.follower.pairer.rate ≡ profile.rate
+  break_rate {k = k} {b = b} t = by t.1.took.1
+    where
+      by : Spoils j.follower k.follower b → k.follower.pairer.rate ≡ profile.rate
+      by (inl refused) = refused.0.rate ∙ h.same_rate
+      by (inr none) = none.1.takes.rate ∙ h.same_rate
 
 module _ {R : Type 0} {which : View} {profile : Profile} {rows : Option Rows} {j : Judging R} {old now : Option (List ℕ)} {es : List Exchange}
     (h : SoFar which profile rows [] j old now es) where
@@ -158,28 +187,28 @@ module _ {R : Type 0} {which : View} {profile : Profile} {rows : Option Rows} {j
 
   -- there is no row left
   pub judges-end : {k : Judging R} {new : Option (List ℕ)} {n : ℕ} (r : Result Verdict JudgeError) → EndsRows j k → n ≡ length es
-      → IsSame (Verdict.Yes k.rows.given n (length k.pairer.tail)) r → Puts (line_of (Verdict.Yes k.rows.given n (length k.pairer.tail))) r now new
+      → IsSame (Verdict.Yes k.rows.given n (length k.follower.pairer.tail)) r → Puts (line_of (Verdict.Yes k.rows.given n (length k.follower.pairer.tail))) r now new
       → (judges : Judges which profile rows r old new) × (judges.told.rows.records ≡ h.items)
   judges-end {k = k} {n = n} r t count same puts =
       let s = seen_now h in
       let whole : s.all ≡ record { records = h.items; fault = None } = s.whole t.ends.none_left in
-      let some = cut_counts profile.rate h.items es j.pairer.tail h.cut in
-      let counts : AreCounts profile h.items k.rows.given n (length k.pairer.tail) = record {
+      let some = cut_counts profile.rate h.items es j.follower.pairer.tail h.cut in
+      let counts : AreCounts profile h.items k.rows.given n (length k.follower.pairer.tail) = record {
         cut_exchanges = es;
-        cut_tail = j.pairer.tail;
+        cut_tail = j.follower.pairer.tail;
         cut = h.cut;
         run = h.run;
         number = omega arith;
         exchange_number = count;
-        tail_number = rw t.same_pairer;
+        tail_number = rw t.same_follower;
       } in
-      let can : CanBeVerdict (Verdict.Yes k.rows.given n (length k.pairer.tail)) = rw t.same_pairer (record {
+      let can : CanBeVerdict (Verdict.Yes k.rows.given n (length k.follower.pairer.tail)) = rw t.same_follower (record {
         few = omega arith;
-        short = tail_short profile.rate j.pairer.tail (cut_tail profile.rate h.items es j.pairer.tail h.cut);
+        short = tail_short profile.rate j.follower.pairer.tail (cut_tail profile.rate h.items es j.follower.pairer.tail h.cut);
         enough = omega arith;
         no_more = omega arith;
       }) in
-      let both = judges-verdict s (Verdict.Yes k.rows.given n (length k.pairer.tail)) r s.start (ap (λ (x : Rows). x.fault) whole, rw whole counts)
+      let both = judges-verdict s (Verdict.Yes k.rows.given n (length k.follower.pairer.tail)) r s.start (ap (λ (x : Rows). x.fault) whole, rw whole counts)
       (omega arith) can same puts in
       (both.0, rw (both.1, whole))
 
@@ -242,12 +271,12 @@ module _ {R : Type 0} {which : View} {profile : Profile} {rows : Option Rows} {j
           }
 
   -- an exchange, whose line was not written whole
-  pub judges-explained : {k : Judging R} {new : Option (List ℕ)} {e : Exchange} (x : JudgeError) → Turned j (Ok (Event.Exchange e)) k
-      → Explains which profile k.rows.given e (Possible k.tracker.states) (Err x) now new → Judges which profile rows (Err x) old new
+  pub judges-explained : {k : Judging R} {new : Option (List ℕ)} (x : JudgeError) (t : Turned j (Ok Turn.Exchange) k)
+      → Explains which profile k.rows.given t.1.took.exchange (Possible k.follower.tracker.states) (Err x) now new → Judges which profile rows (Err x) old new
   unfolding so_far-exchange so_far-more
   judges-explained (JudgeError.Capture c) t line = absurd line.puts
   judges-explained {new = new} JudgeError.Write t line =
-      let far = so_far-exchange h line.line t.1.0 t.1.1 line.is_line (appended now line.line) in
+      let far = so_far-exchange h line.line t.1.gives t.1.took line.is_line (appended now line.line) in
       let s = seen_now far in
       judges-told now line.line (Err JudgeError.Write) (told_after far.keeps s (Err JudgeError.Write) s.start tt
       (inl (part_after old now new h.text line.line h.wrote line.puts))) tt line.puts

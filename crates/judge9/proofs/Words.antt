@@ -41,23 +41,24 @@ pub use Rattle.judge9.specs.Judging.{Answer, answer_of, IsAnswer, IsOkBefore, Is
 pub use Rattle.judge9.specs.Report.{AreLines, explained_of, IsExplained, IsText, IsVerdictAfter, last_line, Written}
 pub use Rattle.judge9.specs.Verdict.{Applies, AreCounts, Breaks, CanBeVerdict, IsFirstBreak, IsOk}
 pub use Rattle.judge9.specs.WhyVerdict.{CouldBe, CouldShow}
-pub use Rattle.judge9.specs.Working.{[], All, Appends, AppendsPart, AreReached, Bool, BreaksAtLast, CanBeResult, CaptureError, CaptureKind, Cut, Ending, Ends, Err, Exchange}
+pub use Rattle.judge9.specs.Working.{[], All, Appends, AppendsPart, AreReached, Bool, BreaksAtLast, Break, CanBeResult, CaptureError, CaptureKind, Cut, Ends, Err, Exchange, Follower}
 pub use Rattle.judge9.specs.Working.{Exchanges, Explains, false, GivesEnd, GivesRecord, GivesRefusal, Profile, IfErr, IfOk, IfSome, IsBreakAfter, IsKnowledge, IsLineOf, IsSame}
 pub use Rattle.judge9.specs.Working.{JudgeError, Judges, Judging, Knowledge, last_state, length, line_of_exchange, LineByte, List, None, Ok, Option, Possible, Puts, Reason}
-pub use Rattle.judge9.specs.Working.{refusal_of, Result, reverse, Rows, slice_get, Some, Standing, State, Outcome, StoppedBefore, suc, take, Takes, Told, Tracked, true}
-pub use Rattle.judge9.specs.Working.{HasItsWhy, IsTrue, Verdict, WhyVerdict, View, zero, ℕ, ⊤}
+pub use Rattle.judge9.specs.Working.{Refuses, refusal_of, Result, reverse, Rows, slice_get, Some, Standing, State, Outcome, RunVerdict, StoppedBefore, suc, take, Takes, Told, Tracked, true}
+pub use Rattle.judge9.specs.Working.{HasItsRun, HasItsWhy, IsTrue, judged_of, Turn, Verdict, verdict_at, WhyVerdict, View, zero, ℕ, ⊤}
 pub use Rattle.block9.proofs.TailLemmas.{last_time-append}
 pub use Rattle.block9.specs.Line.{last_time}
-pub use Rattle.judge9.specs.Working.Endings.{IsEnd, KeepsEnds, KeepsExchanges, KeepsRuns}
+pub use Rattle.judge9.specs.Working.Endings.{IsEnd, JudgesRun, JudgesWhy, KeepsEnds}
 pub use Rattle.judge9.specs.Working.WayBack.{AreMarks, FollowsFrom, GoesBack, IsNextMark, last_mark, Leads, LeadsFrom, place_of, tracked_by}
 pub use Rattle.judge9.specs.declared.way_back.Mark.{Mark}
 pub use Rattle.judge9.specs.Parts.{AreParts, AreTotals, BrokenPart, exchanges_of, from_command, IsPart, may_begin, number_of, Part, Rest, rest_after, takes_up_at}
 pub use Rattle.judge9.specs.Parts.{begins_next_part}
 pub use Rattle.judge9.specs.PartsReport.{AreTextsOf, InParts, PartsTold, IsRefusedAfter, IsTextOf, IsToTheEnd, ToldInParts, WrittenInParts}
 pub use Rattle.report9.specs.WhyText.{records_in, text_of_why}
-pub use Rattle.judge9.specs.Working.Parts.{BeginsAfter, BeginsWith, EndsPart, IsBreakText, SaysWhy, GivesAll, JudgesParts, last_of, GoesOn, NoneBegins, Resumes, PassesOver, ResumesAfter, TakesUp}
-pub use Rattle.judge9.specs.Working.Turn.{AreOpen, Begins, Brings, ComesTo, EndsRows, Event, Feeds, IsFresh, IsObserved, IsOpen, IsTaken, Observes, Shows, Spoils, Turned, Waits}
-pub use Rattle.judge9.specs.declared.judging.Turn.TheVariants.{the_data as Turn}
+pub use Rattle.judge9.specs.Working.Parts.{BeginsAfter, BeginsAt, ComesThen, IsBreakText, SaysNoRun, SaysWhy, GivesAll, JudgesParts, last_of, NoneBegins, Resumes, PassesOver, ResumesAfter, TakesUp}
+pub use Rattle.judge9.specs.Working.Turns.{AreOpen, Comes, Completes, ComesTo, EndsRows, IsFresh, IsObserved, IsOpen, KnowsNothing, Observes, Spoils, Took, Turned, Waits}
+pub use Rattle.judge9.specs.declared.part.PartLog.{PartLog}
+pub use Rattle.judge9.specs.Working.Part.{GoesThrough, IsAtExchange, IsJudgedFirst, IsJudgedPart, IsLogOf, IsLogged, TellsAt, turn_of}
 pub use Rattle.std.proofs.Common.{ap, arith, drop, get_or, if◌then◌else◌, inl, inr, length-append, OnOk, option_map, refl, slice_range, subst, sym, take-add}
 pub use Rattle.std.proofs.Common.{◌*◌, ◌+◌, ◌++◌, ◌-◌, ◌/◌, ◌<◌, ◌^◌, ◌↔◌, ◌∙◌, ◌∷◌, ◌≡◌, ◌≢◌, ◌≤◌, ◌⊎◌}
 pub use Rattle.std.proofs.KnownBytes.{Appends-nil, Appends-trans}

@@ -1,11 +1,12 @@
 -- What the clauses of private functions cite, and the names from elsewhere that its parts need, passed on from here. No public
 -- contract reaches it, so no reader has to believe it.
 pub mod Endings
+pub mod Part
 pub mod Parts
-pub mod Turn
+pub mod Turns
 pub mod WayBack
 pub use Rattle.block9.specs.Exchange.{Cut}
-pub use Rattle.block9.specs.Pairer.{Refuses, Takes}
+pub use Rattle.block9.specs.Pairer.{Paired, Refuses, Takes}
 pub use Rattle.block9.specs.declared.pairer.Exchange.{Exchange}
 pub use Rattle.block9.specs.Exchange.{Outcome}
 pub use Rattle.block9.specs.declared.reason.Reason.TheVariants.{the_data as Reason}
@@ -24,8 +25,10 @@ pub use Rattle.judge9.specs.Judging.{CanBeResult, StoppedBefore}
 pub use Rattle.judge9.specs.Report.{Told}
 pub use Rattle.judge9.specs.RunVerdict.{HasItsRun, judged_of}
 pub use Rattle.judge9.specs.WhyVerdict.{HasItsWhy}
-pub use Rattle.judge9.specs.declared.ending.Ending.TheVariants.{the_data as Ending}
+pub use Rattle.judge9.specs.declared.follower.Follower.{Follower}
 pub use Rattle.judge9.specs.declared.judging.Judging.{Judging}
+pub use Rattle.judge9.specs.declared.turn.Break.{Break}
+pub use Rattle.judge9.specs.declared.turn.Turn.TheVariants.{the_data as Turn}
 pub use Rattle.std.specs.Io.KnownBytes.{Appends}
 pub use Rattle.std.specs.List.{All}
 pub use Rattle.std.specs.Option.{IfSome}
@@ -77,3 +80,8 @@ pub record Judges (which : View) (profile : Profile) (rows : Option Rows) (resul
   pub stopped : IfSome rows (λ all. IfErr result (StoppedBefore profile all))
   pub is_kind : (e : CaptureError) → result ≡ Err (JudgeError.Capture e) → e.kind ≢ CaptureKind.OutOfMemory
   pub can_be : CanBeResult result
+
+-- the verdict where a part that came to so many exchanges, all of whose records come first, ends so
+abbrev pub verdict_at : {R : Type 0} → Judging R → ℕ → Option Break → Verdict
+verdict_at j exchanges None = Verdict.Yes j.rows.given exchanges (length j.follower.pairer.tail)
+verdict_at j exchanges (Some b) = Verdict.No j.rows.given b.reason

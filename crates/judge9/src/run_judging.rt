@@ -4,22 +4,19 @@ ghost use Rattle.capture9.specs.Rows.{rows_of};
 ghost use Rattle.judge9.specs.Judging.{CanBeResult, IsTheAnswer, StoppedBefore, answer_of};
 ghost use Rattle.judge9.specs.RunVerdict.{IsJudgedRun, judged_of};
 ghost use Rattle.judge9.specs.Working.Endings.{JudgesRun};
-ghost use Rattle.judge9.specs.Working.Turn.{IsFresh};
+ghost use Rattle.judge9.specs.Working.Turns.{IsFresh};
 
-use crate::ending::Ending;
-use crate::exchanges_judging::keep_exchanges;
 use crate::fewest_hands::states_of_run;
 use crate::judging::Judging;
+use crate::part::{PartLog, judge_first_part};
 use crate::way_back::Pace;
-use block9::Reason;
 use capture9::{CaptureError, CaptureKind};
-use deck9::{Hands, Profile};
+use deck9::Profile;
 use std::alloc::Global;
-use std::io::Read;
-use tc25::Rate;
-use verdict9::{JudgeError, RunVerdict};
+use std::io::{self, Read};
+use verdict9::{JudgeError, RunVerdict, Telling};
 
-/// Judges the capture that the reader gives, as [`judge`](crate::judge) does, and gives a yes with a run of the
+/// Judges the capture that the reader gives, as [`judge_for`](crate::judge_for) does, and gives a yes with a run of the
 /// deck: the exchanges, and a state of the deck after each of them, such that some first state, drifts and steps of
 /// the deck lead through all of them and give exactly the replies. With hands it is one with the fewest moves of a hand,
 /// at each of which the hand keeps what it can, which is tested and not proved; beyond that, which of several runs it is,
@@ -31,32 +28,13 @@ use verdict9::{JudgeError, RunVerdict};
 /// halved; with hands once or twice more, and after a move of a hand seven times more.
 ///
 /// Where the reader tells its bytes, the verdict, its counts and the refusals of the text are those that
-/// [`judge`](crate::judge) gives, and the exchanges are those that the records are cut into. Errors come as there, but
+/// [`judge_for`](crate::judge_for) gives, and the exchanges are those that the records are cut into. Errors come as there, but
 /// for `Err(Write)`, which never comes:
 ///
 /// * `Err(Capture(e))` with a fault of the text exactly where e is the fault of its first bad row, or of the header,
 ///   and all records before that row keep the rules; of the kind `Read` where the reader fails or is interrupted at
 ///   row `e.row`.
 /// * `Err(OutOfMemory)` where a growth of memory is refused.
-pub fn judge_with_run<R: Read + Drop>(
-    alloc: Global,
-    reader: R,
-    hands: Hands,
-) -> Result<RunVerdict, JudgeError>
-    ensures answer { IfSome (R.remaining reader)
-        (λ text. IfSome (answer_of (judged_of result)) (IsTheAnswer (record { rate = Rate.Fps25; hands = hands; deck = None }) (rows_of text))) }
-    ensures run { IsJudgedRun (record { rate = Rate.Fps25; hands = hands; deck = None }) (option_map rows_of (R.remaining reader)) result }
-    ensures stopped { IfSome (R.remaining reader)
-        (λ text. IfErr result (StoppedBefore (record { rate = Rate.Fps25; hands = hands; deck = None }) (rows_of text))) }
-    ensures kind { (e : CaptureError) → result ≡ Err (JudgeError.Capture e)
-        → e.kind ≢ CaptureKind.OutOfMemory }
-    ensures write { result ≢ Err JudgeError.Write }
-    ensures can_be { CanBeResult (judged_of result) }
-{
-    judge_with_run_for(alloc, reader, &Profile::of(hands))
-}
-
-/// Judges the capture of a deck that is taken for this, and gives a yes with a run: [`judge_with_run`] at any rate.
 pub fn judge_with_run_for<R: Read + Drop>(
     alloc: Global,
     reader: R,
@@ -72,15 +50,14 @@ pub fn judge_with_run_for<R: Read + Drop>(
     ensures write { result ≢ Err JudgeError.Write }
     ensures can_be { CanBeResult (judged_of result) }
 {
-    let Ok(mut judging) = Judging::new(alloc, reader, profile) else {
-        return Err(JudgeError::OutOfMemory);
-    };
+    let mut judging = Judging::new(alloc, reader, profile)?;
     let verdict = judge_rows(alloc, &mut judging, profile);
     drop(judging);
     verdict
 }
 
-/// Judges all the rows that are to come and finds a run where the verdict is a yes.
+/// Judges all the rows that are to come and finds a run where the verdict is a yes. A run is found from the same exchanges by which
+/// a break is told, so they are kept alike.
 fn judge_rows<R: Read + Drop>(
     alloc: Global,
     judging: &mut Judging<R>,
@@ -89,32 +66,24 @@ fn judge_rows<R: Read + Drop>(
     requires { IsFresh profile.now judging.old }
     ensures { JudgesRun profile.now judging.old.rows.rows result }
 {
-    let mut exchanges = Vec::new(alloc);
-    match keep_exchanges(judging, &mut exchanges, profile) {
-        Ok(
-            Ending::End {
-                records,
-                tail,
-                spans,
-            },
-        ) => {
-            let pace = Pace::of(exchanges.len(), spans);
-            let Ok(states) = states_of_run(alloc, profile, &exchanges, &judging.tracker, pace)
-            else {
-                return Err(JudgeError::OutOfMemory);
-            };
+    let mut log = PartLog::new(alloc, Telling::Why);
+    let mut line = Vec::new(alloc);
+    let end = judge_first_part(judging, &mut log, &mut line, &mut io::sink(), profile)?;
+    match end {
+        Some(broken) => Ok(RunVerdict::No {
+            at: judging.rows.given(),
+            reason: broken.reason,
+        }),
+        None => {
+            let pace = Pace::of(log.kept.len(), log.spans);
+            let tracker = &judging.follower.tracker;
+            let states = states_of_run(alloc, profile, &log.kept, tracker, pace)?;
             Ok(RunVerdict::Yes {
-                records,
-                tail,
-                exchanges,
+                records: judging.rows.given(),
+                tail: judging.follower.pairer.tail_len() as u32,
+                exchanges: log.kept,
                 states,
             })
         }
-        Ok(Ending::Break { at, reason, .. }) => Ok(RunVerdict::No { at, reason }),
-        Ok(Ending::NoRun { at }) => Ok(RunVerdict::No {
-            at,
-            reason: Reason::NoRun,
-        }),
-        Err(e) => Err(e),
     }
 }

@@ -1,25 +1,23 @@
-//! Judges a capture as it is read, turn by turn, and tells the line of each exchange.
-ghost use Rattle.std.specs.Prelude.{◌≡◌, ◌≢◌, IfSome, IfErr, option_map, None, Some};
-ghost use Rattle.block9.specs.declared.pairer.Exchange.{Exchange as AnExchange};
+//! Judges a capture as it is read, up to its first break, and tells the line of each exchange.
+ghost use Rattle.std.specs.Prelude.{◌≡◌, ◌≢◌, [], IfSome, IfErr, option_map, None};
 ghost use Rattle.capture9.specs.Rows.{rows_of};
 ghost use Rattle.judge9.specs.Judging.{CanBeResult, IsTheAnswer, StoppedBefore, answer_of};
 ghost use Rattle.verdict9.specs.Lines.{line_of};
 ghost use Rattle.judge9.specs.Report.{Told};
-ghost use Rattle.judge9.specs.Verdict.{CanBeVerdict};
-ghost use Rattle.judge9.specs.Working.{Explains, IsSame, Judges, Puts};
-ghost use Rattle.judge9.specs.Working.Turn.{IsFresh};
-ghost use Rattle.deck9.specs.declared.state.State.{State as AState};
-ghost use Rattle.track9.specs.Tracker.{Possible};
+ghost use Rattle.judge9.specs.Working.{IsSame, Judges, Puts, verdict_at};
+ghost use Rattle.verdict9.specs.Telling.{view_of};
+ghost use Rattle.judge9.specs.Working.Part.{IsLogOf};
+ghost use Rattle.judge9.specs.Working.Turns.{IsFresh};
 
-use crate::judging::{Judging, Turn};
-use block9::Reason;
+use crate::judging::Judging;
+use crate::part::{PartLog, judge_first_part};
+use crate::turn::Break;
 use capture9::{CaptureError, CaptureKind};
-use deck9::{Hands, Profile};
+use deck9::Profile;
 use std::alloc::Global;
 use std::io::{Read, Write};
-use tc25::Rate;
-use text9::{put_all, put_exchange_line_for};
-use verdict9::{JudgeError, Verdict, View, put_verdict_line};
+use text9::put_all;
+use verdict9::{JudgeError, Telling, Verdict, View, put_verdict_line};
 
 /// Judges the capture that the reader gives, and writes the report that the view asks for.
 ///
@@ -27,7 +25,7 @@ use verdict9::{JudgeError, Verdict, View, put_verdict_line};
 /// list of records. With `View::Explain` each exchange has a line, written in one piece once the exchange is complete; the
 /// line of the verdict is written last. The writer is not flushed.
 ///
-/// `hands` says whether somebody may have touched the deck's panel: with `Hands::Allowed` the deck has more runs.
+/// The profile says what the deck is taken for: its rate, whether somebody may have touched its panel, and what it does of its own.
 ///
 /// Where the reader tells its bytes, they are the text, and the result is the one that is right for it:
 ///
@@ -65,27 +63,6 @@ use verdict9::{JudgeError, Verdict, View, put_verdict_line};
 /// * A fault of the text is at row 0 exactly where it is the header's, at row 4,000,001 exactly where that is a
 ///   row too many, and else between; a read fault is at row 4,000,001 at most. No `Capture` has the kind
 ///   `OutOfMemory`.
-pub fn judge<R: Read + Drop, W: Write>(
-    alloc: Global,
-    reader: R,
-    writer: &mut W,
-    view: View,
-    hands: Hands,
-) -> Result<Verdict, JudgeError>
-    ensures answer { IfSome (R.remaining reader)
-        (λ text. IfSome (answer_of result) (IsTheAnswer (record { rate = Rate.Fps25; hands = hands; deck = None }) (rows_of text))) }
-    ensures told { Told view (record { rate = Rate.Fps25; hands = hands; deck = None }) (option_map rows_of (R.remaining reader)) result
-        (W.contents writer.old) (W.contents writer.new) }
-    ensures stopped { IfSome (R.remaining reader)
-        (λ text. IfErr result (StoppedBefore (record { rate = Rate.Fps25; hands = hands; deck = None }) (rows_of text))) }
-    ensures kind { (e : CaptureError) → result ≡ Err (JudgeError.Capture e)
-        → e.kind ≢ CaptureKind.OutOfMemory }
-    ensures can_be { CanBeResult result }
-{
-    judge_for(alloc, reader, writer, view, &Profile::of(hands))
-}
-
-/// Judges the capture of a deck that is taken for this: [`judge`] at any rate.
 pub fn judge_for<R: Read + Drop, W: Write>(
     alloc: Global,
     reader: R,
@@ -103,11 +80,11 @@ pub fn judge_for<R: Read + Drop, W: Write>(
         → e.kind ≢ CaptureKind.OutOfMemory }
     ensures can_be { CanBeResult result }
 {
-    let Ok(mut judging) = Judging::new(alloc, reader, profile) else {
-        return Err(JudgeError::OutOfMemory);
-    };
+    let mut judging = Judging::new(alloc, reader, profile)?;
     let mut line = Vec::new(alloc);
-    let verdict = judge_rows(&mut judging, &mut line, writer, view, profile);
+    let mut log = PartLog::new(alloc, Telling::Shown(view));
+    let verdict = judge_rows(&mut judging, &mut log, &mut line, writer, profile);
+    drop(log);
     drop(judging);
     verdict
 }
@@ -115,36 +92,39 @@ pub fn judge_for<R: Read + Drop, W: Write>(
 /// Judges all the rows that are to come and tells of them. `line` is room for a line, whose content is not kept.
 fn judge_rows<R: Read + Drop, W: Write>(
     judging: &mut Judging<R>,
+    log: &mut PartLog,
     line: &mut Vec<u8>,
     writer: &mut W,
-    view: View,
     profile: &Profile,
 ) -> Result<Verdict, JudgeError>
-    requires { IsFresh profile.now judging.old }
-    ensures { Judges view profile.now judging.old.rows.rows result (W.contents writer.old) (W.contents writer.new) }
+    requires fresh { IsFresh profile.now judging.old }
+    requires begun { IsLogOf log.old.telling [] None log.old }
+    ensures { Judges (view_of log.old.telling) profile.now judging.old.rows.rows result (W.contents writer.old) (W.contents writer.new) }
 {
-    let mut exchanges = 0u32;
-    'rows: loop {
-        match judging.next()? {
-            Turn::Exchange => {
-                exchanges += 1;
-                explain(line, writer, view, profile, judging)?;
-            }
-            Turn::NoRun(..) => return tell_no(line, writer, judging.rows.given(), Reason::NoRun),
-            Turn::Break(reason, _) => return tell_no(line, writer, judging.rows.given(), reason),
-            Turn::End => break 'rows,
-        }
-    }
-    let tail = judging.pairer.tail_len() as u32;
-    tell(
-        line,
-        writer,
-        Verdict::Yes {
+    let end = judge_first_part(judging, log, line, writer, profile)?;
+    let verdict = verdict_at(judging, log.exchanges, end);
+    tell(line, writer, verdict)
+}
+
+/// The verdict where a part ends so, after this many exchanges, of which all records came before it are the capture's.
+pub(crate) fn verdict_at<R: Read + Drop>(
+    judging: &Judging<R>,
+    exchanges: u32,
+    end: Option<Break>,
+) -> Verdict
+    ensures { result ≡ verdict_at judging.now exchanges end }
+{
+    match end {
+        None => Verdict::Yes {
             records: judging.rows.given(),
             exchanges,
-            tail,
+            tail: judging.follower.pairer.tail_len() as u32,
         },
-    )
+        Some(broken) => Verdict::No {
+            at: judging.rows.given(),
+            reason: broken.reason,
+        },
+    }
 }
 
 /// Writes the line of the verdict and answers the verdict, or why the line was not written whole.
@@ -157,69 +137,7 @@ fn tell<W: Write>(
     ensures puts { Puts (line_of verdict) result (W.contents writer.old) (W.contents writer.new) }
 {
     line.clear();
-    let Ok(()) = put_verdict_line(line, verdict) else {
-        return Err(JudgeError::OutOfMemory);
-    };
-    let Ok(()) = put_all(writer, line.as_slice()) else {
-        return Err(JudgeError::Write);
-    };
+    put_verdict_line(line, verdict)?;
+    put_all(writer, line.as_slice())?;
     Ok(verdict)
-}
-
-/// Writes the line of a no at the record of this number and answers it, as `tell` does.
-pub(crate) fn tell_no<W: Write>(
-    line: &mut Vec<u8>,
-    writer: &mut W,
-    at: u32,
-    reason: Reason,
-) -> Result<Verdict, JudgeError>
-    ensures same { IsSame (Verdict.No at reason) result }
-    ensures puts { Puts (line_of (Verdict.No at reason)) result (W.contents writer.old) (W.contents writer.new) }
-{
-    tell(line, writer, Verdict::No { at, reason })
-}
-
-/// Writes what the view shows of the exchange that the judging came to last: for a verdict alone nothing, else its line.
-#[inline(always)] // asks for the view where the exchange is at hand: most captures are judged for a verdict alone
-pub(crate) fn explain<R: Read + Drop, W: Write>(
-    line: &mut Vec<u8>,
-    writer: &mut W,
-    view: View,
-    profile: &Profile,
-    judging: &Judging<R>,
-) -> Result<(), JudgeError>
-    requires some { (s : AState) × Possible judging.now.tracker.states s }
-    requires whole { (e : AnExchange) × (judging.now.pairer.exchange ≡ Some e) }
-    ensures { (e : AnExchange) → judging.now.pairer.exchange ≡ Some e
-        → Explains view profile.now judging.now.rows.given e (Possible judging.now.tracker.states) result (W.contents writer.old) (W.contents writer.new) }
-{
-    match view {
-        View::Verdict => Ok(()),
-        View::Explain => write_line(line, writer, profile, judging),
-    }
-}
-
-/// Writes the line of an exchange, as `explain` does.
-fn write_line<R: Read + Drop, W: Write>(
-    line: &mut Vec<u8>,
-    writer: &mut W,
-    profile: &Profile,
-    judging: &Judging<R>,
-) -> Result<(), JudgeError>
-    requires some { (s : AState) × Possible judging.now.tracker.states s }
-    requires whole { (e : AnExchange) × (judging.now.pairer.exchange ≡ Some e) }
-    ensures { (e : AnExchange) → judging.now.pairer.exchange ≡ Some e
-        → Explains View.Explain profile.now judging.now.rows.given e (Possible judging.now.tracker.states) result (W.contents writer.old) (W.contents writer.new) }
-{
-    let number = judging.rows.given();
-    let exchange = judging.exchange();
-    let knowledge = judging.tracker.knowledge();
-    line.clear();
-    let Ok(()) = put_exchange_line_for(line, profile, number, exchange, &knowledge) else {
-        return Err(JudgeError::OutOfMemory);
-    };
-    let Ok(()) = put_all(writer, line.as_slice()) else {
-        return Err(JudgeError::Write);
-    };
-    Ok(())
 }

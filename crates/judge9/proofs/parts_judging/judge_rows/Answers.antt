@@ -1,223 +1,163 @@
-use Rattle.judge9.proofs.Words.{ap, length, records_in, sym}
-use Rattle.judge9.proofs.Words.{[], arith, ComesTo, Err, exchanges_of, IsTextOf, None, Ok, Reason, refl, ◌++◌, ◌∙◌, ◌∷◌}
+use Rattle.judge9.proofs.Words.{[], ap, arith, Err, exchanges_of, length-append, length_push, None, Ok, refl, Some, ◌++◌, ◌∙◌, ◌∷◌}
 use Rattle.judge9.proofs.parts_judging.judge_rows.Goals as goal
-use Rattle.judge9.proofs.PartEnds.{after_break_by, after_no_run, at_exchange, at_start, at_the_end, at_unexplained, at_unkept, bound_break, break_memory, break_read, breaks_by, count_break, count_more}
-use Rattle.judge9.proofs.PartEnds.{end_fits, exchange_fits, less-end_shown, loses_its_runs, told_break, told_no_run}
-use Rattle.judge9.proofs.PartMeasure.{less-shown}
-use Rattle.judge9.proofs.PartTurns.{AtTurn}
-use Rattle.verdict9.specs.Telling.{view_of}
-use Rattle.judge9.proofs.TurnSteps.{handed, same_exchange, shows_more}
+use Rattle.judge9.proofs.LogSteps.{records_joined}
+use Rattle.judge9.proofs.PartBreaks.{broken_at}
+use Rattle.judge9.proofs.PartEnds.{at_start, at_the_end, break_memory, break_over, break_told, break_unwritten, counted, end_fits, log_loses_its_runs, part_ends, part_fails, part_fits}
+use Rattle.judge9.proofs.PartMeasure.{less-come, less-part, less-up}
+use Rattle.judge9.proofs.TellLemmas.{break_given, break_rate}
+use Rattle.judge9.proofs.TurnSteps.{at_completed, handed}
 
 pub returns-in_err-turn : goal.returns-in_err-turn
-returns-in_err-turn g c = rw (handed c.from_residual.result c.from_residual.ensures.1) (at_start _ _ _ _ _ _ (Err _) c.requires c.in_err-turn.ensures)
+returns-in_err-turn g c =
+    rw (handed c.from_residual.result c.from_residual.ensures.1) (at_start _ _ _ _ _ _ (Err _) c.requires c.in_err-turn.ensures)
 
-pub rows-init : goal.rows-init
-rows-init g c = record {
-  broken = [];
-  es = [];
-  end_us = None;
-  at_turn = shows_more (λ event. ComesTo c.args.judging.now (Ok event) c.next.new.self)
-      (λ event. AtTurn (IsTextOf c.args.telling c.args.profile.now) (view_of c.args.telling) c.args.profile.now c.args.judging.now.rows.rows event c.next.new.self (g.W.Write.contents c.args.writer.now)
-      (g.W.Write.contents c.args.writer.now) [] [] None) c.next.new.self (λ event come. at_start _ _ _ _ _ _ (Ok event) c.requires come) c.in_ok-turn.turn c.in_ok-turn.ensures;
-  breaks = refl;
-  exchanges = refl;
-  in_exchanges = refl;
-  kept = λ _. (c.new-kept.ensures.exchanges, c.new-kept.ensures.end);
-  bound = omega (arith, less-shown _ _ c.in_ok-turn.turn c.in_ok-turn.ensures);
-}
+pub parts-init : goal.parts-init
+parts-init g c =
+    let start = at_start _ _ _ _ _ _ (Ok c.in_ok-turn.turn) c.requires c.in_ok-turn.ensures in
+    record {
+      broken = [];
+      past = start.0;
+      before = start.1;
+      at_turn = start.2;
+      breaks = refl;
+      exchanges = refl;
+      in_exchanges = refl;
+      bound = omega (arith, less-come _ _ _ c.in_ok-turn.ensures);
+    }
+
+pub returns-in_err-end : goal.returns-in_err-end
+returns-in_err-end g c =
+    let so_far = c.parts.invariant in
+    let judged = rw c.new-log.ensures.tells at c.in_err-end.ensures.judged in
+    rw (handed c.from_residual-in_err-end.result c.from_residual-in_err-end.ensures.1)
+    (part_fails so_far.before c.args.telling _ _ _ _ c.judge_part.new.log _ so_far.at_turn judged)
+
+pub overflow_add-exchanges : goal.overflow_add-exchanges
+overflow_add-exchanges g c =
+    let so_far = c.parts.invariant in
+    let judged = rw c.new-log.ensures.tells at c.in_ok-end.ensures.judged in
+    let ended = part_ends so_far.before c.args.telling _ _ _ c.in_ok-end.end c.judge_part.new.log _ so_far.at_turn judged in
+    omega (arith, so_far.exchanges, ended.3.exchanges, length-append (exchanges_of so_far.broken) ended.0, (part_fits so_far.before ended.2).1)
 
 pub overflow_add-in_exchanges : goal.overflow_add-in_exchanges
 overflow_add-in_exchanges g c =
-    let so_far = c.rows.invariant in
-    let it = rw c.in-Exchange.is at so_far.at_turn in
-    let records = rw (← same_exchange it.1 c.exchange.ensures) at c.records.ensures.records in
-    let fits = exchange_fits it.2 in
-    omega (arith, so_far.in_exchanges, records, count_more (exchanges_of so_far.broken) so_far.es it.0, fits)
+    let so_far = c.parts.invariant in
+    let judged = rw c.new-log.ensures.tells at c.in_ok-end.ensures.judged in
+    let ended = part_ends so_far.before c.args.telling _ _ _ c.in_ok-end.end c.judge_part.new.log _ so_far.at_turn judged in
+    omega (arith, so_far.in_exchanges, ended.3.records, records_joined (exchanges_of so_far.broken) ended.0, (part_fits so_far.before ended.2).0)
 
--- ---- an exchange
-
-pub returns-in_err-explain-in-Exchange : goal.returns-in_err-explain-in-Exchange
-returns-in_err-explain-in-Exchange g c =
-    let it = rw c.in-Exchange.is at c.rows.invariant.at_turn in
-    let explains = rw c.view.ensures at (c.in_err-explain-in-Exchange.ensures it.0 it.1) in
-    rw (handed c.from_residual-in_err-explain-in-Exchange.result c.from_residual-in_err-explain-in-Exchange.ensures.1)
-    (at_unexplained _ it.2 explains)
-
-pub returns-in_err-keep-in-Exchange : goal.returns-in_err-keep-in-Exchange
-returns-in_err-keep-in-Exchange g c =
-    let it = rw c.in-Exchange.is at c.rows.invariant.at_turn in
-    let explains = rw c.view.ensures at (c.in_ok-explain-in-Exchange.ensures it.0 it.1) in
-    rw (handed c.from_residual-in_err-keep-in-Exchange.result c.from_residual-in_err-keep-in-Exchange.ensures.1)
-    (at_unkept it.2 explains)
-
-pub returns-in_err-turn-in-Exchange : goal.returns-in_err-turn-in-Exchange
-returns-in_err-turn-in-Exchange g c =
-    let it = rw c.in-Exchange.is at c.rows.invariant.at_turn in
-    let explains = rw c.view.ensures at (c.in_ok-explain-in-Exchange.ensures it.0 it.1) in
-    rw (handed c.from_residual-in_err-turn-in-Exchange.result c.from_residual-in_err-turn-in-Exchange.ensures.1)
-    (at_exchange (Err _) it.2 explains c.in_err-turn-in-Exchange.ensures)
-
-pub rows-preserved-in_ok-turn-in-Exchange : goal.rows-preserved-in_ok-turn-in-Exchange
-rows-preserved-in_ok-turn-in-Exchange g c =
-    let so_far = c.rows.invariant in
-    let it = rw c.in-Exchange.is at so_far.at_turn in
-    let explains = rw c.view.ensures at (c.in_ok-explain-in-Exchange.ensures it.0 it.1) in
-    let records = rw (← same_exchange it.1 c.exchange.ensures) at c.records.ensures.records in
-    let more = count_more (exchanges_of so_far.broken) so_far.es it.0 in
-    let turn = c.in_ok-turn-in-Exchange.turn in
-    record {
-      broken = so_far.broken;
-      es = so_far.es ++ it.0 ∷ [];
-      end_us = c.rows.judging.pairer.last_time;
-      at_turn = shows_more (λ event. ComesTo c.rows.judging (Ok event) c.next-in-Exchange.new.self)
-          (λ event. AtTurn (IsTextOf c.args.telling c.args.profile.now) (view_of c.args.telling) c.args.profile.now c.args.judging.now.rows.rows event c.next-in-Exchange.new.self (g.W.Write.contents c.args.writer.now)
-          (g.W.Write.contents c.explain.new.writer) so_far.broken (so_far.es ++ it.0 ∷ []) c.rows.judging.pairer.last_time) c.next-in-Exchange.new.self (λ event come. at_exchange (Ok event) it.2 explains come) turn c.in_ok-turn-in-Exchange.ensures;
-      breaks = so_far.breaks;
-      exchanges = omega (arith, so_far.exchanges, more);
-      in_exchanges = omega (arith, so_far.in_exchanges, records, more);
-      kept = λ why.
-          let is = rw (← same_exchange it.1 c.exchange-in-Exchange.ensures) at (c.in_ok-keep-in-Exchange.ensures why) in (rw (so_far.kept why).0 at is.0, is.1 ∙ c.last_time-end_us.ensures);
-      bound = omega (arith, so_far.bound, less-shown _ _ turn c.in_ok-turn-in-Exchange.ensures);
-    }
-
-pub rows-smaller-in_ok-turn-in-Exchange : goal.rows-smaller-in_ok-turn-in-Exchange
-rows-smaller-in_ok-turn-in-Exchange g c =
-    let less = less-shown _ _ c.in_ok-turn-in-Exchange.turn c.in_ok-turn-in-Exchange.ensures in rw c.in-Exchange.is (omega (arith, less))
-
--- ---- no run remains
-
-pub returns-in_err-keep-in-NoRun : goal.returns-in_err-keep-in-NoRun
-returns-in_err-keep-in-NoRun g c =
-    rw (handed c.from_residual-in_err-keep-in-NoRun.result c.from_residual-in_err-keep-in-NoRun.ensures.1)
-    (break_memory (let it = rw c.in-NoRun.is at c.rows.invariant.at_turn in rw (same_exchange it.1 c.exchange-in-NoRun.ensures) at it.2) Reason.NoRun c.in-NoRun.last (refl, refl))
+-- ---- a break
 
 pub put_break-requires-clause-rate : goal.put_break-requires-clause-rate
 put_break-requires-clause-rate g c =
-    (breaks_by (let it = rw c.in-NoRun.is at c.rows.invariant.at_turn in rw (same_exchange it.1 c.exchange-in-NoRun.ensures) at it.2) Reason.NoRun c.in-NoRun.last (refl, refl)).3
-
-pub put_break-requires-in-Break-clause-rate : goal.put_break-requires-in-Break-clause-rate
-put_break-requires-in-Break-clause-rate g c =
-    (breaks_by (rw c.in-Break.is at c.rows.invariant.at_turn) c.in-Break.reason c.in-Break.last (refl, refl)).3
+    let so_far = c.parts.invariant in
+    let judged = rw (c.new-log.ensures.tells, c.in-Some.is) at c.in_ok-end.ensures.judged in
+    let ended = part_ends so_far.before c.args.telling _ _ _ (Some c.in-Some.broken) c.judge_part.new.log _ so_far.at_turn judged in
+    break_rate ended.2.so_far ended.2.turned
 
 pub put_break-requires-clause-breaks : goal.put_break-requires-clause-breaks
-put_break-requires-clause-breaks g c = λ why no_run.
-    let so_far = c.rows.invariant in
-    let is = c.in_ok-keep-in-NoRun.ensures why in
-    rw (c.replace-part.ensures.value, is.0, (so_far.kept why).0) (loses_its_runs (let it = rw c.in-NoRun.is at so_far.at_turn in rw (same_exchange it.1 c.exchange-in-NoRun.ensures) at it.2))
+put_break-requires-clause-breaks g c =
+    let so_far = c.parts.invariant in
+    let judged = rw (c.new-log.ensures.tells, c.in-Some.is) at c.in_ok-end.ensures.judged in
+    let ended = part_ends so_far.before c.args.telling _ _ _ (Some c.in-Some.broken) c.judge_part.new.log _ so_far.at_turn judged in
+    log_loses_its_runs c.args.telling c.judge_part.new.log ended.2 ended.3
 
-pub returns-in_err-put_break-in-NoRun : goal.returns-in_err-put_break-in-NoRun
-returns-in_err-put_break-in-NoRun g c =
-    rw (handed c.from_residual-in_err-put_break-in-NoRun.result c.from_residual-in_err-put_break-in-NoRun.ensures.1, c.in_err-put_break-in-NoRun.ensures.err)
-    (break_memory (let it = rw c.in-NoRun.is at c.rows.invariant.at_turn in rw (same_exchange it.1 c.exchange-in-NoRun.ensures) at it.2) Reason.NoRun c.in-NoRun.last (refl, refl))
+pub returns-in_err-put_break : goal.returns-in_err-put_break
+returns-in_err-put_break g c =
+    let so_far = c.parts.invariant in
+    let judged = rw (c.new-log.ensures.tells, c.in-Some.is) at c.in_ok-end.ensures.judged in
+    let ended = part_ends so_far.before c.args.telling _ _ _ (Some c.in-Some.broken) c.judge_part.new.log _ so_far.at_turn judged in
+    rw (handed c.from_residual-in_err-put_break.result c.from_residual-in_err-put_break.ensures.1) (break_memory so_far.before ended.2)
 
-pub end_part-requires : goal.end_part-requires
-end_part-requires g c = break_read (let it = rw c.in-NoRun.is at c.rows.invariant.at_turn in rw (same_exchange it.1 c.exchange-in-NoRun.ensures) at it.2) Reason.NoRun c.in-NoRun.last (refl, refl)
+pub returns-in_err-put_all : goal.returns-in_err-put_all
+returns-in_err-put_all g c =
+    let so_far = c.parts.invariant in
+    let judged = rw (c.new-log.ensures.tells, c.in-Some.is) at c.in_ok-end.ensures.judged in
+    let ended = part_ends so_far.before c.args.telling _ _ _ (Some c.in-Some.broken) c.judge_part.new.log _ so_far.at_turn judged in
+    let told = break_told c.args.telling _ c.judge_part.new.log ended.2 ended.3 c.put_break.new.line.items c.in_ok-put_break.ensures in
+    let part = rw c.as_slice.ensures.value at c.in_err-put_all.ensures.err in
+    rw (handed c.from_residual-in_err-put_all.result c.from_residual-in_err-put_all.ensures.1) (break_unwritten so_far.before ended.2 _ _ told part)
 
-pub returns-in_err-turn-in-NoRun : goal.returns-in_err-turn-in-NoRun
-returns-in_err-turn-in-NoRun g c =
-    let so_far = c.rows.invariant in
-    let ends = rw c.as_slice.ensures.value at c.in_err-turn-in-NoRun.ensures in
-    rw (handed c.from_residual-in_err-turn-in-NoRun.result c.from_residual-in_err-turn-in-NoRun.ensures.1)
-    (told_no_run c.end_part.new.judging _ (Err _) (let it = rw c.in-NoRun.is at so_far.at_turn in rw (same_exchange it.1 c.exchange-in-NoRun.ensures) at it.2) c.replace-part.result.exchanges.items c.replace-part.result.end_us
-    (λ why. rw (c.replace-part.ensures.value, (c.in_ok-keep-in-NoRun.ensures why).0, (so_far.kept why).0) refl) c.put_break.new.line.items
-    c.in_ok-put_break-in-NoRun.ensures.ok ends).2
+pub take_up-requires : goal.take_up-requires
+take_up-requires g c =
+    let so_far = c.parts.invariant in
+    let judged = rw (c.new-log.ensures.tells, c.in-Some.is) at c.in_ok-end.ensures.judged in
+    let ended = part_ends so_far.before c.args.telling _ _ _ (Some c.in-Some.broken) c.judge_part.new.log _ so_far.at_turn judged in
+    (ended.2.front.rows, break_given ended.2.turned)
 
-pub rows-preserved-in_ok-turn-in-NoRun : goal.rows-preserved-in_ok-turn-in-NoRun
-rows-preserved-in_ok-turn-in-NoRun g c =
-    let so_far = c.rows.invariant in
-    let it = rw c.in-NoRun.is at so_far.at_turn in
-    let ends = rw c.as_slice.ensures.value at c.in_ok-turn-in-NoRun.ensures in
-    let next = after_no_run c.end_part.new.judging _ c.in_ok-turn-in-NoRun.turn it.2 c.replace-part.result.exchanges.items c.replace-part.result.end_us
-    (λ why. rw (c.replace-part.ensures.value, (c.in_ok-keep-in-NoRun.ensures why).0, (so_far.kept why).0, same_exchange it.1 c.exchange-in-NoRun.ensures) refl)
-    c.put_break.new.line.items c.in_ok-put_break-in-NoRun.ensures.ok ends in
-    let bound = rw c.in-NoRun.is at so_far.bound in
+pub returns-in_err-turn-2 : goal.returns-in_err-turn-2
+returns-in_err-turn-2 g c =
+    let so_far = c.parts.invariant in
+    let judged = rw (c.new-log.ensures.tells, c.in-Some.is) at c.in_ok-end.ensures.judged in
+    let ended = part_ends so_far.before c.args.telling _ _ _ (Some c.in-Some.broken) c.judge_part.new.log _ so_far.at_turn judged in
+    let told = break_told c.args.telling _ c.judge_part.new.log ended.2 ended.3 c.put_break.new.line.items c.in_ok-put_break.ensures in
+    let wrote = rw c.as_slice.ensures.value at c.in_ok-put_all.ensures.ok in
+    rw (handed c.from_residual-in_err-turn-2.result c.from_residual-in_err-turn-2.ensures.1)
+    (break_over so_far.before ended.2 _ _ c.take_up.new.self (Err _) told wrote c.in_err-turn-2.ensures)
+
+pub parts-smaller : goal.parts-smaller
+parts-smaller g c =
+    let so_far = c.parts.invariant in
+    let judged = rw (c.new-log.ensures.tells, c.in-Some.is) at c.in_ok-end.ensures.judged in
+    let ended = part_ends so_far.before c.args.telling _ _ _ (Some c.in-Some.broken) c.judge_part.new.log _ so_far.at_turn judged in
+    let less = less-up _ ended.2.front.rows c.in-Some.broken c.judge_part.new.judging c.in_ok-turn-2.turn c.take_up.new.self (break_given ended.2.turned) c.in_ok-turn-2.ensures in
+    omega (arith, less, less-part c.args.telling _ _ _ _ (Some c.in-Some.broken) _ c.judge_part.new.log _ judged)
+
+pub parts-preserved : goal.parts-preserved
+parts-preserved g c =
+    let so_far = c.parts.invariant in
+    let judged = rw (c.new-log.ensures.tells, c.in-Some.is) at c.in_ok-end.ensures.judged in
+    let ended = part_ends so_far.before c.args.telling _ _ _ (Some c.in-Some.broken) c.judge_part.new.log _ so_far.at_turn judged in
+    let told = break_told c.args.telling _ c.judge_part.new.log ended.2 ended.3 c.put_break.new.line.items c.in_ok-put_break.ensures in
+    let wrote = rw c.as_slice.ensures.value at c.in_ok-put_all.ensures.ok in
+    let next = break_over so_far.before ended.2 _ _ c.take_up.new.self (Ok c.in_ok-turn-2.turn) told wrote c.in_ok-turn-2.ensures in
+    let b = broken_at ended.2.so_far c.in-Some.broken in
+    let counts = counted so_far.broken b in
+    let less = less-up _ ended.2.front.rows c.in-Some.broken c.judge_part.new.judging c.in_ok-turn-2.turn c.take_up.new.self (break_given ended.2.turned) c.in_ok-turn-2.ensures in
     record {
-      broken = so_far.broken ++ next.0 ∷ [];
-      es = [];
-      end_us = None;
-      at_turn = next.1.1;
-      breaks = count_break _ so_far.broken next.0 so_far.breaks;
-      exchanges = so_far.exchanges ∙ ap length (sym next.1.0);
-      in_exchanges = so_far.in_exchanges ∙ ap records_in (sym next.1.0);
-      kept = λ _. rw c.replace-part.ensures.after (c.new.ensures.exchanges, c.new.ensures.end);
-      bound = bound_break _ _ _ bound
-          (less-end_shown _ c.args.profile.now Reason.NoRun c.in-NoRun.last c.rows.judging c.end_part.new.judging _ _ c.in_ok-turn-in-NoRun.turn
-          (break_read it.2 Reason.NoRun _ (refl, refl)) ends);
+      broken = so_far.broken ++ b ∷ [];
+      past = next.0;
+      before = next.1;
+      at_turn = next.2;
+      breaks = omega (arith, so_far.breaks, length_push so_far.broken b);
+      exchanges = omega (arith, so_far.exchanges, ended.3.exchanges, length-append (exchanges_of so_far.broken) ended.0, counts.0);
+      in_exchanges = omega (arith, so_far.in_exchanges, ended.3.records, records_joined (exchanges_of so_far.broken) ended.0, counts.1);
+      bound = omega (arith, so_far.bound, less, less-part c.args.telling _ _ _ _ (Some c.in-Some.broken) _ c.judge_part.new.log _ judged);
     }
-
-pub rows-smaller-in_ok-turn-in-NoRun : goal.rows-smaller-in_ok-turn-in-NoRun
-rows-smaller-in_ok-turn-in-NoRun g c =
-    let read = break_read (let it = rw c.in-NoRun.is at c.rows.invariant.at_turn in rw (same_exchange it.1 c.exchange-in-NoRun.ensures) at it.2) Reason.NoRun c.in-NoRun.last (refl, refl) in
-    let less = less-end_shown _ c.args.profile.now Reason.NoRun c.in-NoRun.last c.rows.judging c.end_part.new.judging _ _ c.in_ok-turn-in-NoRun.turn read
-    c.in_ok-turn-in-NoRun.ensures in
-    rw c.in-NoRun.is (omega (arith, less))
-
--- ---- a rule of pairing is broken
-
-pub returns-in_err-put_break-in-Break : goal.returns-in_err-put_break-in-Break
-returns-in_err-put_break-in-Break g c =
-    rw (handed c.from_residual-in_err-put_break-in-Break.result c.from_residual-in_err-put_break-in-Break.ensures.1, c.in_err-put_break-in-Break.ensures.err)
-    (break_memory (rw c.in-Break.is at c.rows.invariant.at_turn) c.in-Break.reason c.in-Break.last (refl, refl))
-
-pub end_part-requires-in-Break : goal.end_part-requires-in-Break
-end_part-requires-in-Break g c = break_read (rw c.in-Break.is at c.rows.invariant.at_turn) c.in-Break.reason c.in-Break.last (refl, refl)
-
-pub returns-in_err-turn-in-Break : goal.returns-in_err-turn-in-Break
-returns-in_err-turn-in-Break g c =
-    let so_far = c.rows.invariant in
-    let ends = rw c.as_slice-in-Break.ensures.value at c.in_err-turn-in-Break.ensures in
-    rw (handed c.from_residual-in_err-turn-in-Break.result c.from_residual-in_err-turn-in-Break.ensures.1)
-    (told_break c.end_part-in-Break.new.judging _ (Err _) (rw c.in-Break.is at so_far.at_turn) c.replace-part-in-Break.result.exchanges.items
-    c.replace-part-in-Break.result.end_us (λ why. rw c.replace-part-in-Break.ensures.value (so_far.kept why)) c.put_break-in-Break.new.line.items
-    c.in_ok-put_break-in-Break.ensures.ok ends).2
-
-pub rows-preserved : goal.rows-preserved
-rows-preserved g c =
-    let so_far = c.rows.invariant in
-    let at = rw c.in-Break.is at so_far.at_turn in
-    let ends = rw c.as_slice-in-Break.ensures.value at c.in_ok-turn-in-Break.ensures in
-    let next = after_break_by c.end_part-in-Break.new.judging _ c.in_ok-turn-in-Break.turn at c.replace-part-in-Break.result.exchanges.items
-    c.replace-part-in-Break.result.end_us (λ why. rw c.replace-part-in-Break.ensures.value (so_far.kept why)) c.put_break-in-Break.new.line.items
-    c.in_ok-put_break-in-Break.ensures.ok ends in
-    let bound = rw c.in-Break.is at so_far.bound in
-    record {
-      broken = so_far.broken ++ next.0 ∷ [];
-      es = [];
-      end_us = None;
-      at_turn = next.1.1;
-      breaks = count_break _ so_far.broken next.0 so_far.breaks;
-      exchanges = so_far.exchanges ∙ ap length (sym next.1.0);
-      in_exchanges = so_far.in_exchanges ∙ ap records_in (sym next.1.0);
-      kept = λ _. rw c.replace-part-in-Break.ensures.after (c.new-in-Break.ensures.exchanges, c.new-in-Break.ensures.end);
-      bound = bound_break _ _ _ bound
-          (less-end_shown _ c.args.profile.now c.in-Break.reason c.in-Break.last c.rows.judging c.end_part-in-Break.new.judging _ _ c.in_ok-turn-in-Break.turn
-          (break_read at c.in-Break.reason _ (refl, refl)) ends);
-    }
-
-pub rows-smaller : goal.rows-smaller
-rows-smaller g c =
-    let read = break_read (rw c.in-Break.is at c.rows.invariant.at_turn) c.in-Break.reason c.in-Break.last (refl, refl) in
-    let less = less-end_shown _ c.args.profile.now c.in-Break.reason c.in-Break.last c.rows.judging c.end_part-in-Break.new.judging _ _ c.in_ok-turn-in-Break.turn read
-    c.in_ok-turn-in-Break.ensures in
-    rw c.in-Break.is less
 
 -- ---- the end
 
-pub overflow_sub-records : goal.overflow_sub-records
-overflow_sub-records g c =
-    let fits = end_fits (rw c.in-End.is at c.rows.invariant.at_turn) in omega (arith, fits, c.rows.invariant.in_exchanges, c.given-records.ensures)
+pub overflow_sub-totals : goal.overflow_sub-totals
+overflow_sub-totals g c =
+    let so_far = c.parts.invariant in
+    let judged = rw (c.new-log.ensures.tells, c.in-None.is) at c.in_ok-end.ensures.judged in
+    let ended = part_ends so_far.before c.args.telling _ _ _ None c.judge_part.new.log _ so_far.at_turn judged in
+    omega (arith, so_far.in_exchanges, ended.3.records, records_joined (exchanges_of so_far.broken) ended.0, end_fits so_far.before ended.2, c.given-records.ensures)
 
-pub overflow_sub-records-2 : goal.overflow_sub-records-2
-overflow_sub-records-2 g c =
-    let fits = end_fits (rw c.in-End.is at c.rows.invariant.at_turn) in
-    omega (arith, fits, c.rows.invariant.in_exchanges, c.given-records.ensures, c.tail_len-tail.ensures.len)
+pub overflow_sub-totals-2 : goal.overflow_sub-totals-2
+overflow_sub-totals-2 g c =
+    let so_far = c.parts.invariant in
+    let judged = rw (c.new-log.ensures.tells, c.in-None.is) at c.in_ok-end.ensures.judged in
+    let ended = part_ends so_far.before c.args.telling _ _ _ None c.judge_part.new.log _ so_far.at_turn judged in
+    omega (
+      arith,
+      so_far.in_exchanges,
+      ended.3.records,
+      records_joined (exchanges_of so_far.broken) ended.0,
+      end_fits so_far.before ended.2,
+      c.given-records.ensures,
+      c.tail_len-tail.ensures.len,
+    )
 
 pub returns : goal.returns
 returns g c =
-    let so_far = c.rows.invariant in
-    let at = rw c.in-End.is at so_far.at_turn in
-    let fits = end_fits at in
-    let counted = c.given-records.ensures in
+    let so_far = c.parts.invariant in
+    let judged = rw (c.new-log.ensures.tells, c.in-None.is) at c.in_ok-end.ensures.judged in
+    let ended = part_ends so_far.before c.args.telling _ _ _ None c.judge_part.new.log _ so_far.at_turn judged in
+    let exchanges = length-append (exchanges_of so_far.broken) ended.0 in
+    let records = records_joined (exchanges_of so_far.broken) ended.0 in
+    let fits = end_fits so_far.before ended.2 in
+    let given = c.given-records.ensures in
     let tail = c.tail_len-tail.ensures.len in
-    at_the_end _ _ at so_far.breaks counted so_far.exchanges tail (omega (arith, fits, so_far.in_exchanges, counted, tail)) c.tell_totals.ensures.same
-    c.tell_totals.ensures.puts
+    at_the_end so_far.before ended.2 _ _ so_far.breaks given (omega (arith, so_far.exchanges, ended.3.exchanges, exchanges)) tail
+    (omega (arith, so_far.in_exchanges, ended.3.records, records, fits, given, tail)) c.tell_totals.ensures.same c.tell_totals.ensures.puts

@@ -1,24 +1,24 @@
-use Rattle.judge9.proofs.Words.{BrokenPart, Exchange, exchanges_of, IsTextOf, length, List, Option, records_in, Shows, ℕ, ◌++◌, ◌+◌, ◌≡◌, ◌≤◌}
+use Rattle.judge9.proofs.Words.{[], BrokenPart, exchanges_of, IsTextOf, length, LineByte, List, None, records_in, ◌+◌, ◌≡◌, ◌≤◌}
 use Rattle.verdict9.specs.Telling.{view_of}
-use Rattle.verdict9.specs.declared.verdict.Telling.TheVariants as Telling
 use Rattle.judge9.proofs.parts_judging.judge_rows.Given as goal
-use Rattle.judge9.proofs.PartMeasure.{left_at}
+use Rattle.judge9.proofs.PartBreaks.{Before}
+use Rattle.judge9.proofs.PartLemmas.{Onward}
 use Rattle.judge9.proofs.PartTurns.{AtTurn}
+use Rattle.judge9.proofs.TurnSteps.{left_at}
 
--- a turn came, these were counted, and the exchanges of the part were kept where it is asked why it breaks
-abbrev pub invariant-rows : goal.invariant-rows
-invariant-rows g l = record {
+-- the parts so far broke and were told, and this is the turn with which the next begins
+abbrev pub invariant-parts : goal.invariant-parts
+invariant-parts g l = record {
   broken : List BrokenPart;
-  es : List Exchange;
-  end_us : Option ℕ;
-  at_turn : Shows (λ event. AtTurn (IsTextOf l.telling l.profile) (view_of l.telling) l.profile l.fn.judging.rows.rows event l.judging (g.W.Write.contents l.fn.writer)
-      (g.W.Write.contents l.writer) broken es end_us) l.judging l.turn;
+  past : List LineByte;
+  before : Before (IsTextOf l.telling l.profile) broken past (g.W.Write.contents l.fn.writer) (g.W.Write.contents l.writer);
+  at_turn : AtTurn (Onward l.profile broken past) (view_of l.telling) l.profile l.fn.judging.rows.rows past l.turn l.judging (g.W.Write.contents l.writer)
+      (g.W.Write.contents l.writer) [] None;
   breaks : l.breaks ≡ length broken;
-  exchanges : l.exchanges ≡ length (exchanges_of broken ++ es);
-  in_exchanges : l.in_exchanges ≡ records_in (exchanges_of broken ++ es);
-  kept : l.telling ≡ Telling.Why → (l.kept.exchanges.items ≡ es) × (l.kept.end_us ≡ end_us);
+  exchanges : l.exchanges ≡ length (exchanges_of broken);
+  in_exchanges : l.in_exchanges ≡ records_in (exchanges_of broken);
   bound : l.breaks + left_at l.turn l.judging ≤ 12000002;
 }
 
-abbrev pub decreases-rows : goal.decreases-rows
-decreases-rows g l = left_at l.turn l.judging
+abbrev pub decreases-parts : goal.decreases-parts
+decreases-parts g l = left_at l.turn l.judging

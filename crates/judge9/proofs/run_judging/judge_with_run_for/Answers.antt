@@ -2,14 +2,16 @@ use Rattle.judge9.proofs.Words.{ap, None, View}
 use Rattle.judge9.specs.RunVerdict.{judged_of, verdict_of}
 use Rattle.judge9.proofs.run_judging.judge_with_run_for.Goals as goal
 use Rattle.judge9.proofs.TellLemmas.{answer_of_text, stopped_of_text, told-nothing}
+use Rattle.judge9.proofs.TurnSteps.{handed}
 
-pub returns-in_default-clause-run : goal.returns-in_default-clause-run
-returns-in_default-clause-run g c = let told = told-nothing View.Verdict c.args.profile.now _ None in
-    record { rows = told.rows; is_known = told.is_known; of_a_text = told.of_a_text; answer = tt; run = tt }
+pub returns-in_err-judging-clause-run : goal.returns-in_err-judging-clause-run
+returns-in_err-judging-clause-run g c =
+    rw (handed c.from_residual.result c.from_residual.ensures.1) (let told = told-nothing View.Verdict c.args.profile.now _ None in
+    record { rows = told.rows; is_known = told.is_known; of_a_text = told.of_a_text; answer = tt; run = tt })
 
 pub returns : goal.returns
 returns g c =
-    let judged = rw c.in-Ok.ensures.rows at c.judge_rows-verdict.ensures in
+    let judged = rw c.in_ok-judging.ensures.rows at c.judge_rows-verdict.ensures in
     let told = judged.judges.told in record {
       answer = answer_of_text _ judged.judges;
       run = record { rows = told.rows; is_known = told.is_known; of_a_text = told.of_a_text; answer = told.answer; run = judged.run };

@@ -1,26 +1,44 @@
-use Rattle.judge9.proofs.Words.{[], None}
-use Rattle.capture9.specs.declared.line_byte.Wire.TheVariants as Wire
+use Rattle.judge9.proofs.Words.{refl, sym, ◌∙◌}
+use Rattle.verdict9.specs.declared.verdict.Telling.TheVariants as Telling
 use Rattle.judge9.proofs.why_judging.judge_rows.Goals as goal
-use Rattle.judge9.proofs.EndSteps.{broken_why, judges_why, no_run_why}
+use Rattle.judge9.proofs.FirstSteps.{first_end, first_memory, first_stop, loses_its_runs, no_why_verdict, not_written, why_logged, why_missing}
+use Rattle.judge9.proofs.TellLemmas.{break_rate}
+use Rattle.judge9.proofs.TurnSteps.{handed}
 
-pub why_broken-requires : goal.why_broken-requires
-why_broken-requires g c = (rw c.in-Ok-Break.field-0-is at c.in-Ok-Break.ensures).ends.0
+pub returns-in_err-end : goal.returns-in_err-end
+returns-in_err-end g c =
+    let judged = rw c.new-log.ensures.tells at c.in_err-end.ensures.judged in
+    rw (handed c.from_residual.result c.from_residual.ensures.1)
+    (no_why_verdict _ (first_stop Telling.Why _ _ _ _ _ _ c.judge_first_part.new.log c.requires judged)
+    (not_written _ (c.in_err-end.ensures.write c.new-log.ensures.tells)))
 
-pub why_no_run-requires : goal.why_no_run-requires
-why_no_run-requires g c =
-    let ended = rw c.in-Ok-NoRun.field-0-is at c.in-Ok-NoRun.ensures in ended.ends.breaks
+pub why_of-requires-clause-rate : goal.why_of-requires-clause-rate
+why_of-requires-clause-rate g c =
+    let judged = rw (c.new-log.ensures.tells, c.in-Some.is) at c.in_ok-end.ensures.judged in
+    let ended = first_end Telling.Why _ _ _ _ _ _ c.judge_first_part.new.log c.requires judged in
+    break_rate ended.2.so_far ended.2.turned
 
-pub returns-in-Ok : goal.returns-in-Ok
-returns-in-Ok g c =
-    let ended = rw c.in-Ok-Break.field-0-is at c.in-Ok-Break.ensures in
-    let says = c.in-Ok.ensures.ok c.args.profile.now ended.ends.4 in
-    let both = broken_why c.args.profile.now ended.judges.told.rows c.in-Ok-Break.at c.in-Ok-Break.reason _ _ _ _ c.in-Ok.why says ended.ends.0
-    (ended.ends.1, ended.ends.2, ended.ends.3) in
-    judges_why _ c.in-Ok.why both.0 ended.judges both.1
+pub why_of-requires-clause-breaks : goal.why_of-requires-clause-breaks
+why_of-requires-clause-breaks g c =
+    let judged = rw (c.new-log.ensures.tells, c.in-Some.is) at c.in_ok-end.ensures.judged in
+    let ended = first_end Telling.Why _ _ _ _ _ _ c.judge_first_part.new.log c.requires judged in
+    λ no_run. rw (ended.3.kept refl).0 (loses_its_runs ended.2 no_run)
 
-pub returns-in-Ok-why_no_run : goal.returns-in-Ok-why_no_run
-returns-in-Ok-why_no_run g c =
-    let ended = rw c.in-Ok-NoRun.field-0-is at c.in-Ok-NoRun.ensures in
-    let says = c.in-Ok-why_no_run.ensures.ok (record { time_us = 0; wire = Wire.Deck; byte = 0 }) [] None in
-    let both = no_run_why c.args.profile.now ended.judges.told.rows c.in-Ok-NoRun.at _ _ _ _ c.in-Ok-why_no_run.why says ended.ends.cut in
-    judges_why _ c.in-Ok-why_no_run.why both.0 ended.judges both.1
+pub returns-in_err-why_of-in-Some : goal.returns-in_err-why_of-in-Some
+returns-in_err-why_of-in-Some g c =
+    let judged = rw (c.new-log.ensures.tells, c.in-Some.is) at c.in_ok-end.ensures.judged in
+    let ended = first_end Telling.Why _ _ _ _ _ _ c.judge_first_part.new.log c.requires judged in
+    rw (handed c.from_residual-in_err-why_of-in-Some.result c.from_residual-in_err-why_of-in-Some.ensures.1)
+    (no_why_verdict _ (first_memory ended.2) (λ q. cc q))
+
+pub returns-in_ok-why_of-in-Some : goal.returns-in_ok-why_of-in-Some
+returns-in_ok-why_of-in-Some g c =
+    let judged = rw (c.new-log.ensures.tells, c.in-Some.is) at c.in_ok-end.ensures.judged in
+    let ended = first_end Telling.Why _ _ _ _ _ _ c.judge_first_part.new.log c.requires judged in
+    why_logged c.in_ok-why_of-in-Some.field-0 c.judge_first_part.new.log ended.2 ended.3 c.in_ok-why_of-in-Some.ensures
+
+pub returns-in-None : goal.returns-in-None
+returns-in-None g c =
+    let judged = rw (c.new-log.ensures.tells, c.in-None.is) at c.in_ok-end.ensures.judged in
+    let ended = first_end Telling.Why _ _ _ _ _ _ c.judge_first_part.new.log c.requires judged in
+    rw (c.given.ensures, c.tail_len.ensures.len) (why_missing _ ended.2 ended.3.exchanges)

@@ -1,15 +1,11 @@
-use Rattle.judge9.proofs.Words.{ap, BeginsAfter, ComesTo, inr, Judging, Paired, refl, Step}
+use Rattle.judge9.proofs.Words.{ap, Err, inl, inr, None, Paired, refl, Some}
 use Rattle.judge9.proofs.judging.Judging.begin.Goals as goal
-use Rattle.judge9.proofs.TurnSteps.{brought, open_outcome}
+use Rattle.judge9.proofs.TurnSteps.{handed}
 
-pub returns-in-Ok-Waiting : goal.returns-in-Ok-Waiting
-returns-in-Ok-Waiting g c =
-    let no_reason = ap (λ (p : Paired). p.reason) c.requires.begins.1.fed_nothing in
-    let takes = rw c.in-Ok-Waiting.field-0-is at (c.in-Ok-Waiting.ensures.takes no_reason) in
-    let mid : Judging _ = record { rows = c.args.self.now.rows; pairer = c.feed.new.self; tracker = c.args.self.now.tracker } in
-    brought (λ event. ComesTo mid event c.next.new.self) (λ event. BeginsAfter c.args.self.now c.args.first event c.next.new.self) c.next.new.self
-    (λ event comes. λ before gives. inr (inr (
-      mid,
-      record { outcome = takes.0; feeds = record { gives = gives; takes = takes.2 }; is_open = open_outcome Step.Waiting takes.0 takes.1 (λ e. cc e); same_tracker = refl },
-      comes,
-    ))) c.next.result c.next.ensures
+pub returns-in-Some : goal.returns-in-Some
+returns-in-Some g c = λ before gives.
+    inr (inl (c.in-Some.turn, refl, record { gives = gives; took = rw c.in-Some.is at c.in_ok-turn.ensures }))
+
+pub returns-in-None : goal.returns-in-None
+returns-in-None g c = λ before gives.
+    inr (inr (_, record { gives = gives; took = rw c.in-None.is at c.in_ok-turn.ensures }, c.next.ensures))

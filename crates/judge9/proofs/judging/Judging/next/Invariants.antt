@@ -5,8 +5,8 @@ use Rattle.judge9.proofs.judging.Judging.next.Given as goal
 abbrev pub invariant-open : goal.invariant-open
 invariant-open g l = record {
   are_open : (n : ℕ) × AreOpen n l.fn.self l.self;
-  no_reason : l.self.pairer.reason ≡ None;
-  in_order : ForSome l.self.pairer.last_time (λ time. time ≤ l.self.rows.last_time);
+  no_reason : l.self.follower.pairer.reason ≡ None;
+  in_order : ForSome l.self.follower.pairer.last_time (λ time. time ≤ l.self.rows.last_time);
 }
 
 abbrev pub decreases-open : goal.decreases-open

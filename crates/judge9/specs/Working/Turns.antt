@@ -1,0 +1,93 @@
+-- What a judging comes to next: what rows do to those that are still to come, and their records to what follows them.
+use Rattle.std.specs.Prelude.{◌↔◌, ◌≡◌, ◌⊎◌}
+use Rattle.std.specs.declared.alloc.AllocError.{AllocError}
+use Rattle.judge9.specs.Working.{[], AreReached, Bool, Break, CaptureError, Err, Exchange, Exchanges, false, Follower, GivesEnd, GivesRecord, GivesRefusal, Profile, IsFirst, IsTrue, JudgeError}
+use Rattle.judge9.specs.Working.{Judging, LineByte, None, Ok, Option, Possible, Reason, refusal_of, Refuses, Result, Some, Standing, State, Outcome, suc, Takes, Tracked, true, Turn, zero, ℕ, ⊤}
+
+-- nothing is open, and nothing is known of the deck
+pub record KnowsNothing (p : Profile) (f : Follower) : Type 0 where
+  pub fed_nothing : f.pairer ≡ record { tail = []; last_time = None; reason = None; exchange = None; rate = p.rate }
+  pub states : (s : State) → Possible f.tracker.states s ↔ IsFirst p s
+  pub profile : f.tracker.profile ≡ p
+
+-- nothing was judged yet
+pub record IsFresh {R : Type 0} (profile : Profile) (j : Judging R) : Type 0 where
+  pub none_given : j.rows.given ≡ 0
+  pub no_time : j.rows.last_time ≡ 0
+  pub is_reading : j.rows.standing ≡ Standing.Reading
+  pub knows_nothing : KnowsNothing profile j.follower
+
+-- ---- a record
+
+-- a step that ends no exchange
+abbrev pub IsOpen : Outcome → Type 0
+IsOpen Outcome.leaves_open = ⊤
+IsOpen Outcome.asks = ⊤
+IsOpen (Outcome.completes e) = ⊥
+
+-- an exchange was observed, and this is whether a state remains
+pub record Observes (old new : Tracked) (e : Exchange) (b : Bool) : Type 0 where
+  pub reached : AreReached (Possible old.states) (Exchanges old.profile e.command e.reply) (Possible new.states)
+  pub profile : new.profile ≡ old.profile
+  pub remains : IsTrue b ↔ ((s : State) × Possible new.states s)
+
+-- what the tracker makes of an exchange that ends with this record
+abbrev pub IsObserved : Tracked → Exchange → LineByte → Result (Option Turn) AllocError → Tracked → Type 0
+IsObserved old e last (Ok (Some Turn.Exchange)) new = Observes old new e true
+IsObserved old e last (Ok (Some (Turn.Break b))) new = (b.record ≡ last) × (b.reason ≡ Reason.NoRun) × Observes old new e false
+IsObserved old e last (Err x) new = ⊤
+IsObserved old e last _ new = ⊥
+
+-- a record that ends no exchange
+pub record Waits (f g : Follower) (r : LineByte) : Type 0 where
+  pub outcome : Outcome
+  pub takes : Takes f.pairer r outcome g.pairer
+  pub is_open : IsOpen outcome
+  pub same_tracker : g.tracker ≡ f.tracker
+
+-- one that ends an exchange, and whether a state of the deck remains with it
+pub record Completes (f g : Follower) (r : LineByte) (b : Bool) : Type 0 where
+  pub exchange : Exchange
+  pub takes : Takes f.pairer r (Outcome.completes exchange) g.pairer
+  pub observes : Observes f.tracker g.tracker exchange b
+
+-- one that breaks this rule: one of blocks, pairing and timing, or no state of the deck remains with its exchange
+abbrev pub Spoils : Follower → Follower → Break → Type 0
+Spoils f g b = (Refuses f.pairer b.record b.reason g.pairer × (g.tracker ≡ f.tracker)) ⊎ ((b.reason ≡ Reason.NoRun) × Completes f g b.record false)
+
+-- what a record comes to that was taken
+abbrev pub Took : Follower → LineByte → Result (Option Turn) AllocError → Follower → Type 0
+Took f r (Ok None) g = Waits f g r
+Took f r (Ok (Some Turn.Exchange)) g = Completes f g r true
+Took f r (Ok (Some (Turn.Break b))) g = (b.record ≡ r) × Spoils f g b
+Took f r (Ok (Some Turn.End)) g = ⊥
+Took f r (Err x) g = ⊤
+
+-- ---- rows
+
+-- a row was read, and its record came to this turn, or to none
+pub record Comes {R : Type 0} (j k : Judging R) (r : LineByte) (turn : Option Turn) : Type 0 where
+  pub gives : GivesRecord j.rows r k.rows
+  pub took : Took j.follower r (Ok turn) k.follower
+
+-- there was no row
+pub record EndsRows {R : Type 0} (j k : Judging R) : Type 0 where
+  pub ends : GivesEnd j.rows k.rows
+  pub same_follower : k.follower ≡ j.follower
+
+-- this many rows were read, whose records come to nothing yet
+abbrev pub AreOpen : {R : Type 0} → ℕ → Judging R → Judging R → Type 0
+AreOpen zero j k = k ≡ j
+AreOpen {R} (suc n) j k = (mid : Judging R) × AreOpen n j mid × (r : LineByte) × Comes mid k r None
+
+-- what the next row does
+abbrev pub Turned : {R : Type 0} → Judging R → Result Turn JudgeError → Judging R → Type 0
+Turned j (Ok Turn.End) k = EndsRows j k
+Turned j (Ok turn) k = (r : LineByte) × Comes j k r (Some turn)
+Turned j (Err x) k = (x ≡ JudgeError.OutOfMemory) ⊎ ((e : CaptureError) × GivesRefusal j.rows e k.rows × (x ≡ refusal_of e))
+
+-- rows were read whose records come to nothing yet, and then came this
+pub record ComesTo {R : Type 0} (j : Judging R) (result : Result Turn JudgeError) (k : Judging R) : Type 0 where
+  pub front : Judging R
+  pub are_open : (n : ℕ) × AreOpen n j front
+  pub turned : Turned front result k

@@ -1,0 +1,89 @@
+//! What follows a capture, one record at a time: what is open on the line, and what is known of the deck.
+ghost use Rattle.std.specs.Prelude.{◌≡◌, ◌≤◌, IfOk, None, OnOk};
+ghost use Rattle.std.specs.Option.{ForSome};
+ghost use Rattle.block9.specs.declared.pairer.Exchange.{Exchange as AnExchange};
+ghost use Rattle.judge9.specs.Working.Turns.{IsObserved, KnowsNothing, Took};
+
+use crate::turn::{Break, Turn};
+use block9::{Exchange, Pairer, Reason, Step};
+use capture9::LineByte;
+use deck9::Profile;
+use sets25::SpanSet;
+use std::alloc::{AllocError, Global};
+use std::mem::replace;
+use track9::Tracker;
+
+/// What follows a capture, for a deck that is taken for one profile.
+#[derive(Drop)]
+pub(crate) struct Follower<'a> {
+    /// The records that are open, and the exchange that the last one completed.
+    pub(crate) pairer: Pairer,
+    /// The states that the deck could be in.
+    pub(crate) tracker: Tracker<'a, SpanSet>,
+}
+
+impl<'a> Follower<'a> {
+    /// Before the first record: nothing is open, and nothing is known of the deck. An error comes where memory is refused.
+    pub(crate) fn of(alloc: Global, profile: &'a Profile) -> Result<Follower<'a>, AllocError>
+        ensures { IfOk result (KnowsNothing profile.now) }
+    {
+        let tracker = Tracker::of(alloc, profile)?;
+        Ok(Follower {
+            pairer: Pairer::at(profile.rate),
+            tracker,
+        })
+    }
+
+    /// Takes the next record, and answers what it comes to, if it does: an exchange, or a break. An error comes where the tracker
+    /// finds no room. Nothing is taken after an error, nor after a break.
+    #[inline(always)] // else each answer is handed on through memory
+    pub(crate) fn take(&mut self, line_byte: LineByte) -> Result<Option<Turn>, AllocError>
+        requires no_reason { self.old.pairer.reason ≡ None }
+        requires in_order { ForSome self.old.pairer.last_time (λ time. time ≤ line_byte.time_us) }
+        ensures { Took self.old line_byte result self.new }
+    {
+        match self.pairer.feed(line_byte) {
+            Ok(Step::Waiting) | Ok(Step::Command) => Ok(None),
+            Ok(Step::Exchange) => self.observe(line_byte),
+            Err(reason) => Ok(Some(Turn::Break(Break { reason, record: line_byte }))),
+        }
+    }
+
+    /// What the exchange comes to that the last record, this one, completed: it is a break where no state of the deck remains.
+    #[inline(always)] // else each answer is handed on through memory
+    fn observe(&mut self, last: LineByte) -> Result<Option<Turn>, AllocError>
+        requires { (e : AnExchange) × (self.old.pairer.exchange ≡ Some e) }
+        ensures pairer { self.new.pairer ≡ self.old.pairer }
+        ensures observed { (e : AnExchange) → self.old.pairer.exchange ≡ Some e → IsObserved self.old.tracker e last result self.new.tracker }
+    {
+        let exchange = self.pairer.exchange().unwrap();
+        if self.tracker.observe(&exchange.command, &exchange.reply)? {
+            return Ok(Some(Turn::Exchange));
+        }
+        let reason = Reason::NoRun;
+        Ok(Some(Turn::Break(Break { reason, record: last })))
+    }
+
+    /// The exchange that the last record completed.
+    #[inline(always)]
+    pub(crate) fn exchange(&self) -> &Exchange
+        requires { (e : AnExchange) × (self.now.pairer.exchange ≡ Some e) }
+        ensures { self.now.pairer.exchange ≡ Some result.now }
+    {
+        self.pairer.exchange().unwrap()
+    }
+
+    /// Begins anew: nothing is open from here on, and nothing is known of the deck. An error comes where memory is refused.
+    pub(crate) fn begin_anew(
+        &mut self,
+        alloc: Global,
+        profile: &'a Profile,
+    ) -> Result<(), AllocError>
+        ensures { OnOk result (KnowsNothing profile.now self.new) }
+    {
+        let tracker = Tracker::of(alloc, profile)?;
+        drop(replace(&mut self.tracker, tracker));
+        self.pairer = Pairer::at(profile.rate);
+        Ok(())
+    }
+}

@@ -1,0 +1,200 @@
+//! A part of a capture: its exchanges are told as they come, up to the first record that breaks a rule, or the end of the rows.
+//!
+//! This is the one loop over what a judging comes to. Whoever judges a capture does its own with what ends a part.
+ghost use Rattle.std.specs.Prelude.{◌≡◌, ◌≢◌, ◌≤◌, ◌<◌, ◌+◌, ◌*◌, ◌++◌, [], ◌∷◌, Err, None, OnOk, Some};
+ghost use Rattle.block9.specs.declared.pairer.Exchange.{Exchange as AnExchange};
+ghost use Rattle.judge9.specs.Working.Part.{IsAtExchange, IsJudgedFirst, IsJudgedPart, IsLogOf, IsLogged, TellsAt};
+ghost use Rattle.judge9.specs.Working.Turns.{IsFresh};
+ghost use Rattle.judge9.specs.Working.{Explains};
+ghost use Rattle.judge9.specs.declared.turn.Turn.TheVariants as ATurn;
+ghost use Rattle.block9.specs.Exchange.{records_of};
+ghost use Rattle.track9.specs.Tracker.{Possible};
+ghost use Rattle.verdict9.specs.Telling.{view_of};
+ghost use Rattle.verdict9.specs.declared.verdict.View.TheVariants as AView;
+
+use crate::judging::Judging;
+use crate::turn::{Break, Turn};
+use block9::Exchange;
+use deck9::{Profile, Register};
+use sets25::SpanSet;
+use std::alloc::{AllocError, Global};
+use std::io::{Read, Write};
+use text9::{put_all, put_exchange_line_for};
+use track9::Tracker;
+use verdict9::{JudgeError, Telling, View};
+
+/// What is counted of the exchanges of a part, and what is kept of them.
+#[derive(Drop)]
+pub(crate) struct PartLog {
+    /// What is told of the part: to say why it breaks, its exchanges are kept.
+    pub(crate) telling: Telling,
+    /// How many exchanges there are.
+    pub(crate) exchanges: u32,
+    /// How many records they have.
+    pub(crate) records: u32,
+    /// The exchanges, where they are kept.
+    pub(crate) kept: Vec<Exchange>,
+    /// The time of the last record of the last exchange that is kept, in microseconds, if there is one.
+    pub(crate) end_us: Option<u64>,
+    /// About how many spans of times the tracker had when it had most, where exchanges are kept. It bears on speed and memory alone.
+    pub(crate) spans: usize,
+}
+
+impl PartLog {
+    /// Of a part that has no exchange yet.
+    pub(crate) fn new(alloc: Global, telling: Telling) -> PartLog
+        ensures { IsLogOf telling [] None result }
+    {
+        PartLog {
+            telling,
+            exchanges: 0,
+            records: 0,
+            kept: Vec::new(alloc),
+            end_us: None,
+            spans: 0,
+        }
+    }
+
+    /// Counts the exchange that the judging came to last.
+    #[inline(always)] // it is done with every exchange
+    fn count(&mut self, exchange: &Exchange)
+        requires few { self.old.exchanges < 4000000 }
+        requires short { self.old.records ≤ 36 * self.old.exchanges }
+        ensures exchanges { self.new.exchanges ≡ self.old.exchanges + 1 }
+        ensures records { self.new.records ≡ self.old.records + records_of exchange.now }
+        ensures short { self.new.records ≤ 36 * self.new.exchanges }
+        ensures telling { self.new.telling ≡ self.old.telling }
+        ensures kept { (self.new.kept ≡ self.old.kept) × (self.new.end_us ≡ self.old.end_us) }
+    {
+        self.exchanges += 1;
+        self.records += exchange.records() as u32;
+    }
+
+    /// Keeps the exchange that the judging came to last. An error comes where memory is refused.
+    fn keep<R: Read + Drop>(&mut self, judging: &Judging<R>) -> Result<(), AllocError>
+        requires { IsAtExchange judging.now }
+        ensures kept { (e : AnExchange) → judging.now.follower.pairer.exchange ≡ Some e → OnOk result (self.new.kept.items ≡ self.old.kept.items ++ e ∷ []) }
+        ensures end { OnOk result (self.new.end_us ≡ judging.now.follower.pairer.last_time) }
+        ensures counts { (self.new.exchanges ≡ self.old.exchanges) × (self.new.records ≡ self.old.records) × (self.new.telling ≡ self.old.telling) }
+    {
+        self.kept.push(judging.follower.exchange().copy())?;
+        self.end_us = judging.follower.pairer.last_time();
+        self.spans = most_spans(self.spans, self.kept.len(), &judging.follower.tracker);
+        Ok(())
+    }
+}
+
+/// Judges the first part of a capture, of which nothing was judged yet, as [`judge_part`] does.
+pub(crate) fn judge_first_part<R: Read + Drop, W: Write>(
+    judging: &mut Judging<R>,
+    log: &mut PartLog,
+    line: &mut Vec<u8>,
+    writer: &mut W,
+    profile: &Profile,
+) -> Result<Option<Break>, JudgeError>
+    requires fresh { IsFresh profile.now judging.old }
+    requires begun { IsLogOf log.old.telling [] None log.old }
+    ensures judged { IsJudgedFirst log.old.telling profile.now judging.old (W.contents writer.old) result judging.new log.new (W.contents writer.new) }
+    ensures write { log.old.telling ≡ Telling.Why → result ≢ Err JudgeError.Write }
+{
+    let first = judging.next()?;
+    judge_part(judging, first, log, line, writer, profile)
+}
+
+/// Judges a part that begins with this turn, which the judging came to last, and tells of its exchanges: up to the break that ends
+/// it, or to the end of the rows, where there is none. `line` is room for a line, whose content is not kept.
+#[inline(always)] // so that the loop is made for what each caller tells
+pub(crate) fn judge_part<R: Read + Drop, W: Write>(
+    judging: &mut Judging<R>,
+    first: Turn,
+    log: &mut PartLog,
+    line: &mut Vec<u8>,
+    writer: &mut W,
+    profile: &Profile,
+) -> Result<Option<Break>, JudgeError>
+    requires at { first ≡ ATurn.Exchange → IsAtExchange judging.old }
+    requires begun { IsLogOf log.old.telling [] None log.old }
+    ensures judged { IsJudgedPart log.old.telling profile.now first judging.old (W.contents writer.old) result judging.new log.new (W.contents writer.new) }
+    ensures write { log.old.telling ≡ Telling.Why → result ≢ Err JudgeError.Write }
+{
+    let mut turn = first;
+    'exchanges: loop {
+        turn = match turn {
+            Turn::Exchange => {
+                tell(judging, log, line, writer, profile)?;
+                judging.next()?
+            }
+            Turn::Break(broken) => return Ok(Some(broken)),
+            Turn::End => return Ok(None),
+        };
+    }
+}
+
+/// Tells of the exchange that the judging came to last, and counts it: for a verdict alone nothing is told, for an explanation its
+/// line is written, and to say why the part breaks it is kept.
+#[inline(always)] // it is done with every exchange, and most captures are judged for a verdict alone
+fn tell<R: Read + Drop, W: Write>(
+    judging: &Judging<R>,
+    log: &mut PartLog,
+    line: &mut Vec<u8>,
+    writer: &mut W,
+    profile: &Profile,
+) -> Result<(), JudgeError>
+    requires at { IsAtExchange judging.now }
+    requires few { log.old.exchanges < 4000000 }
+    requires short { log.old.records ≤ 36 * log.old.exchanges }
+    ensures told { (e : AnExchange) → judging.now.follower.pairer.exchange ≡ Some e
+        → TellsAt (view_of log.old.telling) profile.now judging.now e result (W.contents writer.old) (W.contents writer.new) }
+    ensures logged { (e : AnExchange) → judging.now.follower.pairer.exchange ≡ Some e
+        → OnOk result (IsLogged e judging.now.follower.pairer.last_time log.old log.new) }
+    ensures short { log.new.records ≤ 36 * log.new.exchanges }
+    ensures write { log.old.telling ≡ Telling.Why → result ≢ Err JudgeError.Write }
+{
+    log.count(judging.follower.exchange());
+    match log.telling {
+        Telling::Shown(View::Verdict) => Ok(()),
+        Telling::Shown(View::Explain) => write_line(line, writer, profile, judging),
+        Telling::Why => Ok(log.keep(judging)?),
+    }
+}
+
+/// Writes the line of the exchange that the judging came to last.
+fn write_line<R: Read + Drop, W: Write>(
+    line: &mut Vec<u8>,
+    writer: &mut W,
+    profile: &Profile,
+    judging: &Judging<R>,
+) -> Result<(), JudgeError>
+    requires { IsAtExchange judging.now }
+    ensures { (e : AnExchange) → judging.now.follower.pairer.exchange ≡ Some e
+        → Explains AView.Explain profile.now judging.now.rows.given e (Possible judging.now.follower.tracker.states) result (W.contents writer.old) (W.contents writer.new) }
+{
+    let number = judging.rows.given();
+    let exchange = judging.follower.exchange();
+    let knowledge = judging.follower.tracker.knowledge();
+    line.clear();
+    put_exchange_line_for(line, profile, number, exchange, &knowledge)?;
+    put_all(writer, line.as_slice())?;
+    Ok(())
+}
+
+/// The most spans of times that a tracker had so far: they are counted after each 128th exchange. An exchange adds one at most, so
+/// they are never many more.
+fn most_spans(before: usize, exchanges: usize, tracker: &Tracker<SpanSet>) -> usize {
+    if exchanges % 128 == 0 {
+        before.max(spans_of(tracker))
+    } else {
+        before
+    }
+}
+
+/// How many spans of times a tracker has of all registers, each counted where it has most.
+fn spans_of(tracker: &Tracker<SpanSet>) -> usize {
+    let ins = tracker.spans(Register::RegIn);
+    let outs = tracker.spans(Register::RegOut);
+    let ains = tracker.spans(Register::RegAudioIn);
+    let aouts = tracker.spans(Register::RegAudioOut);
+    ins.saturating_add(outs)
+        .saturating_add(ains)
+        .saturating_add(aouts)
+}
