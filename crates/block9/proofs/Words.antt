@@ -1,7 +1,7 @@
 -- The names from elsewhere that the proofs of this crate cite, passed on from one place. Declares nothing.
 pub use Rattle.block9.specs.Block.{body_of, spelling, Spells}
 pub use Rattle.block9.specs.Command.{command_of, fits, is_reply_time_valid}
-pub use Rattle.block9.specs.Exchange.{completed_by, Cut, Does, IsCommand, IsExchange, IsInTime, IsKept, IsTail, Outcome, step_of, tail_after}
+pub use Rattle.block9.specs.Exchange.{completed_by, Cut, Does, IsCommand, IsExchange, IsInTime, IsKept, IsTail, Outcome, records_in, step_of, tail_after}
 pub use Rattle.block9.specs.Exchange.Outcome.{asks, completes, leaves_open}
 pub use Rattle.block9.specs.Exchange.IsTail.{after_command, in_command, in_reply, nothing}
 pub use Rattle.block9.specs.Line.{block_len, byte_gap, bytes_of, first_time, IsBegun, IsLinked, IsWhole, last_time}
@@ -13,7 +13,7 @@ pub use Rattle.block9.specs.Working.Table.{early_fault, ends_block, fault_at, is
 pub use Rattle.block9.specs.declared.block.Block.{Block}
 pub use Rattle.block9.specs.declared.command.Command.{Command}
 pub use Rattle.block9.specs.declared.open_block.OpenBlock.{OpenBlock}
-pub use Rattle.block9.specs.declared.pairer.Exchange.{Exchange}
+pub use Rattle.block9.specs.declared.exchange.Exchange.{Exchange}
 pub use Rattle.block9.specs.declared.place.Place.{Place}
 pub use Rattle.block9.specs.declared.place.Place.TheVariants.{AfterCommand, Idle, InCommand, InReply}
 pub use Rattle.block9.specs.declared.reason.Reason.{Reason}

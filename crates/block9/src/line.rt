@@ -25,7 +25,7 @@ pub(crate) fn last_time(records: &[LineByte]) -> u64
     }
 }
 
-/// The sum of the records' bytes, modulo 256. They are added where they stand, since a block's end comes every few records.
+/// The sum of the records' bytes, modulo 256.
 pub fn byte_sum(records: &[LineByte]) -> u8
     ensures { result ≡ sum (bytes_of records.now) % 256 }
 {

@@ -3,7 +3,7 @@
 use crate::place::Place;
 use capture9::Wire;
 
-/// What is kept of the block that is open at the end of a tail, so that no record is read again before the block's end.
+/// What a pairer keeps of the block that is open at the end of its tail, so that it reads no record again before the block's end.
 #[derive(Clone, Copy, Debug, PartialEq, Eq)]
 pub(crate) struct OpenBlock {
     /// The wire whose turn it is: the controller's for a command, the deck's for its reply.

@@ -9,7 +9,7 @@ const MOST_OPEN: usize = 35;
 
 /// The records since the last complete exchange.
 ///
-/// They are no `ArrayVec`, which writes blanks over all that it is cleared of: an exchange comes every few records.
+/// Not an `ArrayVec`: its `clear` overwrites every element, and an exchange comes every few records.
 #[derive(Drop)]
 pub(crate) struct Tail {
     records: [LineByte; MOST_OPEN],

@@ -6,7 +6,7 @@ pub mod Turn
 pub mod WayBack
 pub use Rattle.block9.specs.Exchange.{Cut}
 pub use Rattle.block9.specs.Pairer.{Refuses, Takes}
-pub use Rattle.block9.specs.declared.pairer.Exchange.{Exchange}
+pub use Rattle.block9.specs.declared.exchange.Exchange.{Exchange}
 pub use Rattle.block9.specs.Exchange.{Outcome}
 pub use Rattle.block9.specs.declared.reason.Reason.TheVariants.{the_data as Reason}
 pub use Rattle.capture9.specs.Records.{GivesEnd, GivesRecord, GivesRefusal, Progress}

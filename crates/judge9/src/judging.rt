@@ -7,7 +7,7 @@ ghost use Rattle.capture9.specs.Records.{GivesRecord, Progress};
 ghost use Rattle.capture9.specs.Rows.{rows_of};
 ghost use Rattle.deck9.specs.declared.profile.Profile.{Profile as AProfile};
 ghost use Rattle.judge9.specs.Working.Parts.{BeginsAfter, TakesUp};
-ghost use Rattle.block9.specs.declared.pairer.Exchange.{Exchange as AnExchange};
+ghost use Rattle.block9.specs.declared.exchange.Exchange.{Exchange as AnExchange};
 ghost use Rattle.judge9.specs.Working.Turn.{Begins, Brings, ComesTo, IsFresh, IsObserved};
 
 use crate::parts::{begins_next_part, pass_over};

@@ -1,7 +1,7 @@
 -- The names from elsewhere that the proofs of this crate cite, passed on from one place. Declares nothing.
 pub use Rattle.block9.proofs.SpellingLemmas.{last_time-last}
 pub use Rattle.block9.specs.Line.{bytes_of}
-pub use Rattle.block9.specs.declared.pairer.Exchange.{Exchange}
+pub use Rattle.block9.specs.declared.exchange.Exchange.{Exchange}
 pub use Rattle.block9.specs.declared.reason.Reason.{Reason}
 pub use Rattle.capture9.specs.declared.line_byte.LineByte.{LineByte}
 pub use Rattle.deck9.proofs.ModeSetLemmas.{some_any}
@@ -12,7 +12,7 @@ pub use Rattle.deck9.specs.declared.profile.Profile.{Profile}
 pub use Rattle.deck9.specs.declared.state.State.{State}
 pub use Rattle.report9.specs.RunText.{known_entry, known_state, lines_of_run}
 unfoldable pub use Rattle.report9.specs.RunText.{line_of_state}
-pub use Rattle.report9.specs.WhyText.{end_before, hex_bytes, in_a_row, lines_at, records_in, names_of, words_if_whole}
+pub use Rattle.report9.specs.WhyText.{end_before, hex_bytes, in_a_row, lines_at, names_of, words_if_whole}
 unfoldable pub use Rattle.report9.specs.WhyText.{line_of_breaking, line_of_contradicting, line_of_could_show, line_of_open, lines_of_break, text_of_reply_given, text_of_command_sent}
 unfoldable pub use Rattle.report9.specs.WhyText.{line_of_before, text_of_block, text_of_records, text_of_reply, words_of}
 pub use Rattle.capture9.specs.declared.line_byte.Wire.{Wire}
@@ -37,7 +37,7 @@ pub use Rattle.text9.specs.Explanation.{hex_byte, text_of_fields, text_of_local,
 unfoldable pub use Rattle.text9.specs.Explanation.{text_of_knowledge, text_of_register}
 pub use Rattle.text9.specs.Writing.{AppendsPart, Writes}
 pub use Rattle.deck9.specs.declared.knowledge.Known.TheVariants.{the_data as Known}
-pub use Rattle.block9.specs.Exchange.{records_of}
+pub use Rattle.block9.specs.Exchange.{records_in, records_of}
 pub use Rattle.verdict9.specs.Lines.{line_of}
 pub use Rattle.verdict9.specs.declared.verdict.Verdict.TheVariants.{the_data as Verdict}
 pub use denote.Shadow.{shadow}

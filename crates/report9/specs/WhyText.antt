@@ -11,7 +11,7 @@ use Rattle.capture9.specs.declared.line_byte.Wire.{Wire}
 use Rattle.capture9.specs.declared.line_byte.Wire.TheVariants.{Controller, Deck}
 use Rattle.block9.specs.declared.block.Block.{Block}
 use Rattle.block9.specs.declared.command.Command.{Command}
-use Rattle.block9.specs.declared.pairer.Exchange.{Exchange}
+use Rattle.block9.specs.declared.exchange.Exchange.{Exchange}
 use Rattle.block9.specs.declared.reason.Reason.{Reason}
 use Rattle.block9.specs.declared.reason.Reason.TheVariants.{NoRun, WrongSum}
 use Rattle.block9.specs.Block.{spelling}
@@ -38,7 +38,7 @@ use Rattle.verdict9.specs.declared.why_verdict.WhyVerdict.{WhyVerdict}
 use Rattle.verdict9.specs.declared.why_verdict.WhyVerdict.TheVariants as why
 use Rattle.text9.specs.Explanation.{hex_byte, text_of_fields}
 use Rattle.verdict9.specs.OpenRecords.{reply_records, command_records}
-use Rattle.block9.specs.Exchange.{records_of}
+use Rattle.block9.specs.Exchange.{records_in, records_of}
 use Rattle.verdict9.specs.Lines.{line_of}
 
 -- ---- pieces
@@ -146,11 +146,6 @@ abbrev pub lines_at : Rate → List ℕ → ℕ → ℕ → List Exchange → Li
 lines_at rate places place at [] = []
 lines_at rate places place at (e ∷ es) =
     (if is_among places place then line_of_contradicting rate at e else []) ++ lines_at rate places (place + 1) (at + records_of e) es
-
--- how many records exchanges have
-abbrev pub records_in : List Exchange → ℕ
-records_in [] = 0
-records_in (e ∷ es) = records_of e + records_in es
 
 -- the modes that the deck could show, and `any` where that is every one
 unfoldable pub text_of_shown : ModeSet → List ℕ
