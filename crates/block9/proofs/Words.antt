@@ -5,13 +5,14 @@ pub use Rattle.block9.specs.Exchange.{completed_by, Cut, Does, IsCommand, IsExch
 pub use Rattle.block9.specs.Exchange.Outcome.{asks, completes, leaves_open}
 pub use Rattle.block9.specs.Exchange.IsTail.{after_command, in_command, in_reply, nothing}
 pub use Rattle.block9.specs.Line.{block_len, byte_gap, bytes_of, first_time, IsBegun, IsLinked, IsWhole, last_time}
-pub use Rattle.block9.specs.Pairer.{BeginsWith, Paired, Refuses, Takes}
+pub use Rattle.block9.specs.Pairer.{BeginsWith, IsOpenAfter, Paired, Refuses, Takes}
 pub use Rattle.block9.specs.Reason.{EndsReply, Holds, IsAnswered, IsFirst, IsReason, IsWholeCommand, order}
 pub use Rattle.block9.specs.Working.Body.{block_of}
-pub use Rattle.block9.specs.Working.Held.{asked_on, closed_of, Closes, completed, grown, HoldsInPairer, IsHeld, IsOf, IsTurn, IsWholeOf, last_fed, next_of, place_at, place_on, Stands, to_come}
+pub use Rattle.block9.specs.Working.Inside.{asked_on, closed_of, Closes, completed, grown, IsInside, IsTailWith, IsOf, IsTurn, IsWholeOf, last_fed, next_of, place_at, place_on, Stands, to_come}
 pub use Rattle.block9.specs.Working.Table.{early_fault, ends_block, fault_at, is_soon, open_at, pairing, place_of, reply_fault, wire_fault}
 pub use Rattle.block9.specs.declared.block.Block.{Block}
 pub use Rattle.block9.specs.declared.command.Command.{Command}
+pub use Rattle.block9.specs.declared.open.Open.{Open}
 pub use Rattle.block9.specs.declared.open_block.OpenBlock.{OpenBlock}
 pub use Rattle.block9.specs.declared.exchange.Exchange.{Exchange}
 pub use Rattle.block9.specs.declared.place.Place.{Place}

@@ -3,4 +3,4 @@
 pub mod Body
 pub mod Row
 pub mod Table
-pub mod Held
+pub mod Inside

@@ -16,7 +16,7 @@ pub(crate) struct OpenBlock {
 
 impl OpenBlock {
     ghost use Rattle.std.specs.Prelude.{◌≡◌, ◌≢◌};
-    ghost use Rattle.block9.specs.Working.Held.{grown, next_of, place_at, to_come};
+    ghost use Rattle.block9.specs.Working.Inside.{grown, next_of, place_at, to_come};
 
     /// A block on this wire that is not begun.
     pub(crate) fn to_come(wire: Wire) -> OpenBlock

@@ -6,13 +6,15 @@ ghost use Rattle.block9.specs.Exchange.Outcome.{asks};
 ghost use Rattle.block9.specs.declared.place.Place.TheVariants.{InReply};
 ghost use Rattle.block9.specs.Line.{bytes_of, last_time};
 ghost use Rattle.block9.specs.Working.Body.{block_of};
-ghost use Rattle.block9.specs.Working.Held.{Closes, HoldsInPairer, IsOf, IsTurn, to_come};
+ghost use Rattle.block9.specs.Working.Inside.{Closes, IsInside, IsOf, IsTurn, to_come};
 ghost use Rattle.block9.specs.Working.Table.{ends_block, open_at, pairing, place_of, reply_fault};
 
 use crate::command::Command;
 use crate::exchange::Exchange;
 use crate::line::{block_len, last_time};
+use crate::open::Open;
 use crate::open_block::OpenBlock;
+use crate::place::Place;
 use crate::reason::Reason;
 use crate::rules::{meaning, reply_fault, sum_fault, turn};
 use crate::tail::Tail;
@@ -42,7 +44,7 @@ pub struct Pairer {
 impl Model for Pairer {
     ghost use Rattle.std.specs.Prelude.{◌≡◌, None};
     ghost use Rattle.block9.specs.Pairer.{Paired};
-    ghost use Rattle.block9.specs.Working.Held.{HoldsInPairer, completed, last_fed};
+    ghost use Rattle.block9.specs.Working.Inside.{IsInside, completed, last_fed};
 
     ghost Value = { Paired };
 
@@ -54,7 +56,7 @@ impl Model for Pairer {
       exchange = completed p.tail p.reason p.passed_us p.exchange;
     } };
 
-    ghost invariant = { λ p. HoldsInPairer p.rate p.tail p.block p.exchange };
+    ghost invariant = { λ p. IsInside p.rate p.tail p.block p.exchange };
 }
 
 /// What a record does that keeps the rules.
@@ -72,7 +74,7 @@ impl Pairer {
     ghost use Rattle.std.specs.Prelude.{◌≡◌, ◌≤◌, ◌↔◌, length, option_map, None, Some, [], IfOk, IfErr};
     ghost use Rattle.std.specs.Option.{ForSome};
     ghost use Rattle.block9.specs.Exchange.{Outcome, step_of};
-    ghost use Rattle.block9.specs.Pairer.{BeginsWith, Takes, Refuses};
+    ghost use Rattle.block9.specs.Pairer.{BeginsWith, IsOpenAfter, Takes, Refuses};
 
     /// A pairer that was fed nothing, and reads times at this rate: it has no tail, no last time, no reason and no exchange.
     pub fn at(rate: Rate) -> Pairer
@@ -165,6 +167,46 @@ impl Pairer {
         }
     }
 
+    /// What is open since the last complete exchange. After a reason it is what was open before the record which broke the rule.
+    pub fn open(&self) -> Open
+        ensures { IsOpenAfter self.now.rate self.now.tail result }
+    {
+        let tail = self.tail.as_slice();
+        match self.block.place() {
+            Place::Idle => Open {
+                command: None,
+                asked: 0,
+                answered: 0,
+                wanted: 0,
+                sum: 0,
+            },
+            Place::InCommand => Open {
+                command: None,
+                asked: tail.len(),
+                answered: 0,
+                wanted: block_len(tail),
+                sum: self.block.sum,
+            },
+            Place::AfterCommand => Open {
+                command: Some(self.exchange.command),
+                asked: tail.len(),
+                answered: 0,
+                wanted: 0,
+                sum: 0,
+            },
+            Place::InReply => {
+                let reply = reply_in(tail);
+                Open {
+                    command: Some(self.exchange.command),
+                    asked: block_len(tail),
+                    answered: reply.len(),
+                    wanted: block_len(reply),
+                    sum: self.block.sum,
+                }
+            }
+        }
+    }
+
     /// The exchange that the last record completed, and `None` where it completed none or broke a rule, and before the first record.
     #[inline(always)] // so that it costs nothing right after `feed` answered an exchange
     pub fn exchange(&self) -> Option<&Exchange>
@@ -213,12 +255,12 @@ fn end_command(
     exchange: &mut Exchange,
     line_byte: LineByte,
 ) -> Result<(), Reason>
-    requires held { HoldsInPairer rate tail.old block.old exchange.old }
+    requires held { IsInside rate tail.old block.old exchange.old }
     requires wire { block.old.wire ≡ Wire.Controller }
     requires later { last_time tail.old ≤ line_byte.time_us }
     requires ends { IsTurn tail.old line_byte true }
     requires right_sum { line_byte.byte ≡ sum (bytes_of (open_at (place_of tail.old) tail.old)) % 256 }
-    ensures ok { OnOk result (Does rate tail.old line_byte asks × (tail.new ≡ tail.old ++ line_byte ∷ []) × HoldsInPairer rate tail.new block.new exchange.new) }
+    ensures ok { OnOk result (Does rate tail.old line_byte asks × (tail.new ≡ tail.old ++ line_byte ∷ []) × IsInside rate tail.new block.new exchange.new) }
     ensures err { IfErr result (λ reason. pairing rate tail.old line_byte ≡ Some reason) }
     ensures same { OnErr result ((tail.new ≡ tail.old) × (block.new ≡ block.old)) }
 {
@@ -238,13 +280,13 @@ fn end_reply(
     block: &mut OpenBlock,
     exchange: &mut Exchange,
 ) -> Result<(), Reason>
-    requires held { HoldsInPairer rate tail.old block.old exchange.old }
+    requires held { IsInside rate tail.old block.old exchange.old }
     requires wire { block.old.wire ≡ Wire.Deck }
     requires ends { ends_block (open_at (place_of tail.old) tail.old) ≡ true }
     ensures ok { OnOk result ((reply_fault rate (Some exchange.old.command) (block_of (bytes_of (open_at (place_of tail.old) tail.old))) ≡ None)
         × Closes tail.old exchange.old exchange.new × (tail.new ≡ []) × (block.new ≡ to_come Wire.Controller)) }
     ensures err { IfErr result (λ reason. reply_fault rate (Some exchange.old.command) (block_of (bytes_of (open_at (place_of tail.old) tail.old))) ≡ Some reason) }
-    ensures same { OnErr result ((tail.new ≡ tail.old) × (block.new ≡ block.old) × HoldsInPairer rate tail.new block.new exchange.new) }
+    ensures same { OnErr result ((tail.new ≡ tail.old) × (block.new ≡ block.old) × IsInside rate tail.new block.new exchange.new) }
 {
     let records = tail.as_slice();
     let begin = block_len(records);
@@ -270,12 +312,12 @@ fn end(
     kept: &mut Option<Reason>,
     line_byte: LineByte,
 ) -> Result<Step, Reason>
-    requires held { HoldsInPairer rate tail.old block.old exchange.old }
+    requires held { IsInside rate tail.old block.old exchange.old }
     requires later { last_time tail.old ≤ line_byte.time_us }
     requires ends { IsTurn tail.old line_byte true }
     ensures ok { IfOk result (λ step. (outcome : Outcome) × (step ≡ step_of outcome) × Does rate tail.old line_byte outcome × IsOf exchange.new outcome × (tail.new ≡ tail_after tail.old line_byte outcome) × (kept.new ≡ kept.old)) }
     ensures err { IfErr result (λ reason. (pairing rate tail.old line_byte ≡ Some reason) × (kept.new ≡ Some reason) × (tail.new ≡ tail.old)) }
-    ensures holds { HoldsInPairer rate tail.new block.new exchange.new }
+    ensures holds { IsInside rate tail.new block.new exchange.new }
 {
     if let Some(reason) = sum_fault(*block, line_byte.byte) {
         return refuse(kept, reason);

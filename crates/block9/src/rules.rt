@@ -3,7 +3,7 @@
 ghost use Rattle.std.specs.Prelude.{◌≡◌, ◌≢◌, ◌≤◌, ◌<◌, true, None, Some, IfNone, IfOk, IfErr, IfSome};
 ghost use Rattle.block9.specs.Command.{command_of};
 ghost use Rattle.block9.specs.Line.{allows, last_time};
-ghost use Rattle.block9.specs.Working.Held.{Stands, next_of, place_on};
+ghost use Rattle.block9.specs.Working.Inside.{Stands, next_of, place_on};
 ghost use Rattle.block9.specs.Working.Table.{early_fault, group_fault, is_soon, place_of, reply_fault, time_fault, wire_fault};
 
 use crate::block::Block;

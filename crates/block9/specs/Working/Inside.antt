@@ -1,4 +1,4 @@
--- What a `Pairer` holds, which callers do not see, and what a record does to it.
+-- What is inside a `Pairer`, which callers do not see, and what a record does to it.
 use Rattle.tc25.specs.declared.rate.Rate.{Rate}
 use Rattle.std.specs.Prelude.{ℕ, ◌≡◌, ◌<◌, ◌+◌, ◌-◌, ◌%◌, ◌==◌, ◌⊎◌, if◌then◌else◌, length, ⊤, Bool, true, false, Option, Some, None, List, [], ◌∷◌, take, drop}
 use Rattle.std.specs.List.{sum}
@@ -25,9 +25,9 @@ abbrev pub IsWholeOf : Rate → List LineByte → Command → Type 0
 IsWholeOf rate records c = (b : Block) × IsCommand rate records b c
 
 -- the records are a tail, and what is kept beside them is the complete command with which they begin, if they do
-abbrev pub IsHeld : Rate → List LineByte → Option Command → Type 0
-IsHeld rate records None = (records ≡ []) ⊎ IsBegun Controller records
-IsHeld rate records (Some c) = IsWholeOf rate records c ⊎ ((reply : List LineByte) × IsAnswered rate records c reply)
+abbrev pub IsTailWith : Rate → List LineByte → Option Command → Type 0
+IsTailWith rate records None = (records ≡ []) ⊎ IsBegun Controller records
+IsTailWith rate records (Some c) = IsWholeOf rate records c ⊎ ((reply : List LineByte) × IsAnswered rate records c reply)
 
 -- the command of an exchange is complete where its reply is to come
 abbrev pub asked_on : Wire → Command → Option Command
@@ -81,9 +81,9 @@ completed [] None (Some passed) e = Some e
 completed [] (Some reason) passed e = None
 completed (r ∷ records) reason passed e = None
 
--- what holds inside a `Pairer`, with the exchange that is under way
-pub record HoldsInPairer (rate : Rate) (records : List LineByte) (b : OpenBlock) (e : Exchange) : Type 0 where
-  pub held : IsHeld rate records (asked_on b.wire e.command)
+-- what is inside a `Pairer` fits together: its tail, the block that is open at its end, and the exchange that is under way
+pub record IsInside (rate : Rate) (records : List LineByte) (b : OpenBlock) (e : Exchange) : Type 0 where
+  pub held : IsTailWith rate records (asked_on b.wire e.command)
   pub stands : Stands records b
   pub asked : b.wire ≡ Deck → (begins : BeginsWith rate records e.command) × (begins.block ≡ e.block)
 
