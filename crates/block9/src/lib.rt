@@ -25,7 +25,6 @@ pub use at_25::reply_time_valid;
 pub use block::Block;
 pub use command::Command;
 pub use exchange::{Exchange, records_in};
-pub use line::byte_sum;
 pub use nak::NakBits;
 pub use open::Open;
 pub use pairer::{Pairer, Step};

@@ -115,24 +115,8 @@ pub fn put_why_for(
                 tail: *tail,
             },
         ),
-        WhyVerdict::Break {
-            at,
-            reason,
-            tail,
-            command,
-            before,
-            breaking,
-        } => {
-            put_break(
-                text,
-                profile.rate,
-                *at,
-                *reason,
-                tail.as_slice(),
-                command,
-                before,
-                *breaking,
-            )?;
+        WhyVerdict::Break { at, reason, .. } => {
+            put_break(text, profile.rate, verdict)?;
             put_no(text, *at, *reason)
         }
         WhyVerdict::Contradiction {
