@@ -1,9 +1,11 @@
--- What a pairer answers, and what it holds, after one more record.
+-- What a pairer answers, and what is inside it, after one more record.
 use Rattle.block9.proofs.Words.{append_assoc, asked_on, asks, completed, completed_by, completes, IsOf, leaves_open}
+use Rattle.block9.proofs.Words.{AfterCommand, Bool, InReply, IsOpenAfter, Open, place_at, place_on}
+use Rattle.block9.specs.Pairer.IsOpenAfter.{after_command as is_after_command, in_reply as is_in_reply}
 use Rattle.block9.proofs.Words.{Deck, early_fault, next_of, to_come, ends_block, grown, last_fed, length_push, OpenBlock, refl, ◌<◌, ◌≢◌}
 use Rattle.block9.proofs.Words.{append-nil, ap, BeginsWith, Block, ◌↔◌, ◌∙◌, ◌+◌, length, length-append, block_len, inl, inr}
-use Rattle.block9.proofs.Words.{[], arith, block_of, bytes_of, Closes, Command, command_of, Controller, Does, Exchange, false, ForSome, HoldsInPairer}
-use Rattle.block9.proofs.Words.{IsCommand, IsExchange, IsHeld, IsTurn, last_time, LineByte, List, nat_tests, None, open_at, Option, Paired, pairing}
+use Rattle.block9.proofs.Words.{[], arith, block_of, bytes_of, Closes, Command, command_of, Controller, Does, Exchange, false, ForSome, IsInside}
+use Rattle.block9.proofs.Words.{IsCommand, IsExchange, IsTailWith, IsTurn, last_time, LineByte, List, nat_tests, None, open_at, Option, Paired, pairing}
 use Rattle.block9.proofs.Words.{place_of, Reason, Refuses, reply_fault, Some, Outcome, sum, sym, tail_after, Takes, true, ℕ, ◌%◌, ◌++◌, ◌∷◌, ◌≡◌, ◌≤◌}
 use Rattle.block9.proofs.LineLemmas.{block_len-append, whole_len, whole_long, whole_parts}
 use Rattle.block9.proofs.TailLemmas.{answered, last_time-append, place_in_command, place_of_command}
@@ -15,8 +17,8 @@ use Rattle.tc25.specs.declared.rate.Rate.{Rate}
 module _ (rate : Rate) where
   -- ---- what the last record of a block does
 
-  -- with a right sum, the table says at the end of a reply what it says of a reply to the command that is held
-  pub reply_says : (t : List LineByte) (c : Command) (r : LineByte) (m : Option Reason) → IsHeld rate t (Some c) → IsTurn t r true
+  -- with a right sum, the table says at the end of a reply what it says of a reply to the command that is kept
+  pub reply_says : (t : List LineByte) (c : Command) (r : LineByte) (m : Option Reason) → IsTailWith rate t (Some c) → IsTurn t r true
       → r.byte ≡ sum (bytes_of (open_at (place_of t) t)) % 256
       → reply_fault rate (Some c) (block_of (bytes_of (open_at (place_of t) t))) ≡ m → pairing rate t r ≡ m
   reply_says t c r m held turn right meant =
@@ -26,7 +28,7 @@ module _ (rate : Rate) where
       let read = parts.meant in
       grind (arith, nat_tests)
 
-  pub ends_command : (t : List LineByte) (r : LineByte) (c : Command) → IsHeld rate t None → last_time t ≤ r.time_us → IsTurn t r true
+  pub ends_command : (t : List LineByte) (r : LineByte) (c : Command) → IsTailWith rate t None → last_time t ≤ r.time_us → IsTurn t r true
       → r.byte ≡ sum (bytes_of (open_at (place_of t) t)) % 256
       → command_of rate (block_of (bytes_of (open_at (place_of t) t))) ≡ Some c → IsCommand rate (t ++ r ∷ []) (block_of (bytes_of (open_at (place_of t) t))) c
   ends_command t r c held later turn right meant =
@@ -34,17 +36,17 @@ module _ (rate : Rate) where
       let quiet : pairing rate t r ≡ None = grind (arith, nat_tests) in
       record { whole = rw place (commands rate t r held later quiet (sym turn.1)).1.whole; meaning = meant }
 
-  -- what is held by the wire whose turn it is
-  pub none_held : (t : List LineByte) (b : OpenBlock) (e : Exchange) → HoldsInPairer rate t b e → b.wire ≡ Controller → IsHeld rate t None
+  -- what is kept beside a tail, by the wire whose turn it is
+  pub none_held : (t : List LineByte) (b : OpenBlock) (e : Exchange) → IsInside rate t b e → b.wire ≡ Controller → IsTailWith rate t None
   none_held t b e h wire = rw wire at h.held
 
-  pub command_held : (t : List LineByte) (b : OpenBlock) (e : Exchange) → HoldsInPairer rate t b e → b.wire ≡ Deck → IsHeld rate t (Some e.command)
+  pub command_held : (t : List LineByte) (b : OpenBlock) (e : Exchange) → IsInside rate t b e → b.wire ≡ Deck → IsTailWith rate t (Some e.command)
   command_held t b e h wire = rw wire at h.held
 
-  -- a complete command is held
-  pub held_command : (t : List LineByte) (r : LineByte) (e : Exchange) → IsHeld rate t None → last_time t ≤ r.time_us → IsTurn t r true
+  -- a complete command is kept
+  pub held_command : (t : List LineByte) (r : LineByte) (e : Exchange) → IsTailWith rate t None → last_time t ≤ r.time_us → IsTurn t r true
       → r.byte ≡ sum (bytes_of (open_at (place_of t) t)) % 256 → e.block ≡ block_of (bytes_of t) → command_of rate (block_of (bytes_of t)) ≡ Some e.command
-      → IsCommand rate (t ++ r ∷ []) e.block e.command × HoldsInPairer rate (t ++ r ∷ []) (to_come Deck) e
+      → IsCommand rate (t ++ r ∷ []) e.block e.command × IsInside rate (t ++ r ∷ []) (to_come Deck) e
   held_command t r e held later turn right block meant =
       let place = place_in_command rate Controller t (begun_now rate t held (sym turn.1)) in
       let command : IsCommand rate (t ++ r ∷ []) e.block e.command = rw block (rw place at (ends_command t r e.command held later turn right (rw place meant))) in (
@@ -56,7 +58,7 @@ module _ (rate : Rate) where
         },
       )
 
-  pub ends_exchange : (t : List LineByte) (b : OpenBlock) (r : LineByte) (old new : Exchange) → HoldsInPairer rate t b old → b.wire ≡ Deck → last_time t ≤ r.time_us
+  pub ends_exchange : (t : List LineByte) (b : OpenBlock) (r : LineByte) (old new : Exchange) → IsInside rate t b old → b.wire ≡ Deck → last_time t ≤ r.time_us
       → IsTurn t r true → r.byte ≡ sum (bytes_of (open_at (place_of t) t)) % 256 → Closes t old new
       → reply_fault rate (Some old.command) (block_of (bytes_of (open_at (place_of t) t))) ≡ None → IsExchange rate (t ++ r ∷ []) new
   ends_exchange t b r old new h wire later turn right read none =
@@ -68,7 +70,7 @@ module _ (rate : Rate) where
       (sym now.1.split ∙ asked.0.split)).2 ∙ asked.1 in
       rw (read, ← same) (closes rate t now.0 old.command r now.1 later (reply_says t old.command r None held turn right none) (sym turn.1))
 
-  -- ---- what is held afterwards
+  -- ---- what is kept afterwards
 
   -- a time that is fed is not before the tail's last one
   pub fed_later : (t : List LineByte) (reason : Option Reason) (passed : Option ℕ) (r : LineByte) → reason ≡ None
@@ -131,9 +133,9 @@ module _ (rate : Rate) where
     same,
   )
 
-  pub held_waiting : (t : List LineByte) (b : OpenBlock) (e : Exchange) (r : LineByte) (next : OpenBlock) → HoldsInPairer rate t b e → last_time t ≤ r.time_us
+  pub held_waiting : (t : List LineByte) (b : OpenBlock) (e : Exchange) (r : LineByte) (next : OpenBlock) → IsInside rate t b e → last_time t ≤ r.time_us
       → early_fault (place_of t) t r ≡ None → Some next ≡ next_of b r.byte → r.byte < 256
-      → HoldsInPairer rate (t ++ r ∷ []) next e × (length t < 35) × Does rate t r leaves_open
+      → IsInside rate (t ++ r ∷ []) next e × (length t < 35) × Does rate t r leaves_open
   held_waiting t b e r next h later quiet is_next byte =
       let more : b.left ≢ 1 = λ one. grind (arith, nat_tests) in
       let same : next ≡ grown b r.byte = grind (arith, nat_tests) in
@@ -157,7 +159,7 @@ module _ (rate : Rate) where
   takes was old new r o same at now done tail time reason exchange =
       rw (← same) (record { rate = now ∙ sym at; does = rw at done; tail = tail; last_time = time; reason = reason; exchange = exchange })
 
-  pub refuses : (o : Option Command) (was old new : Paired) (r : LineByte) (reason : Reason) → was ≡ old → was.rate ≡ rate → new.rate ≡ rate → IsHeld rate was.tail o → last_time was.tail ≤ r.time_us
+  pub refuses : (o : Option Command) (was old new : Paired) (r : LineByte) (reason : Reason) → was ≡ old → was.rate ≡ rate → new.rate ≡ rate → IsTailWith rate was.tail o → last_time was.tail ≤ r.time_us
       → pairing rate was.tail r ≡ Some reason → new.tail ≡ was.tail → new.last_time ≡ Some r.time_us → new.reason ≡ Some reason → new.exchange ≡ None
       → Refuses old r reason new
   refuses o was old new r reason same at now held later told tail_same time known none =
@@ -175,8 +177,8 @@ module _ (rate : Rate) where
 
   -- ---- the command that is open
 
-  -- a tail with no command held begins with no complete one
-  none_begun : (t : List LineByte) (c : Command) → IsHeld rate t None → ¬ BeginsWith rate t c
+  -- a tail with no command kept begins with no complete one
+  none_begun : (t : List LineByte) (c : Command) → IsTailWith rate t None → ¬ BeginsWith rate t c
   none_begun t c held begins =
       let len = whole_len Controller begins.records begins.block begins.command.whole in
       let long = whole_long Controller begins.records begins.block begins.command.whole in
@@ -184,16 +186,16 @@ module _ (rate : Rate) where
       let all = length-append begins.records begins.reply in
       by held long (rw (← begins.split) at first ∙ sym len) (rw (← begins.split) at all)
     where
-      by : IsHeld rate t None → 3 ≤ length begins.records → block_len t ≡ length begins.records → length t ≡ length begins.records + length begins.reply → ⊥
+      by : IsTailWith rate t None → 3 ≤ length begins.records → block_len t ≡ length begins.records → length t ≡ length begins.records + length begins.reply → ⊥
       by (inl e) long first all = omega (arith, ap length e)
       by (inr h) long first all = let short = h.short in omega arith
 
-  -- what a tail holds is the complete command with which it begins, and no other
-  pub held_begins : (t : List LineByte) (c : Command) → IsHeld rate t (Some c) → BeginsWith rate t c
+  -- what is kept is the complete command with which the tail begins, and no other
+  pub held_begins : (t : List LineByte) (c : Command) → IsTailWith rate t (Some c) → BeginsWith rate t c
   held_begins t c (inl (b, h)) = record { records = t; reply = []; split = sym (append-nil t); block = b; command = h }
   held_begins t c (inr (reply, is)) = record { records = is.command; reply = reply; split = is.split; block = is.block; command = is.is_command }
 
-  one_begun : (t : List LineByte) (a c : Command) → IsHeld rate t (Some a) → BeginsWith rate t c → a ≡ c
+  one_begun : (t : List LineByte) (a c : Command) → IsTailWith rate t (Some a) → BeginsWith rate t c → a ≡ c
   one_begun t a c held begins =
       let own = held_begins t a held in
       let same = (whole_parts Controller own.records begins.records own.reply begins.reply own.block begins.block own.command.whole begins.command.whole
@@ -202,10 +204,57 @@ module _ (rate : Rate) where
       let other = begins.command.meaning in
       cc
 
-  open_is : (t : List LineByte) (o : Option Command) (c : Command) → IsHeld rate t o → o ≡ Some c ↔ BeginsWith rate t c
+  open_is : (t : List LineByte) (o : Option Command) (c : Command) → IsTailWith rate t o → o ≡ Some c ↔ BeginsWith rate t c
   open_is t None c held = (λ same. absurd (cc), λ begins. absurd (none_begun t c held begins))
   open_is t (Some a) c held = (λ same. let mine : a ≡ c = cc in rw mine at (held_begins t a held), λ begins. ap Some (one_begun t a c held begins))
 
-  pub open_told : (o : Option Command) (was old : Paired) → was ≡ old → was.rate ≡ rate → IsHeld rate was.tail o → (c : Command)
+  pub open_told : (o : Option Command) (was old : Paired) → was ≡ old → was.rate ≡ rate → IsTailWith rate was.tail o → (c : Command)
       → (o ≡ Some c) ↔ BeginsWith old.rate old.tail c
   open_told o was old same at held c = rw (← same, at) (open_is was.tail o c held)
+
+  -- ---- what is open
+
+  deck_turn : (b : OpenBlock) (first : Bool) → place_at b ≡ place_on Deck first → b.wire ≡ Deck
+  deck_turn b first place = grind (arith, nat_tests)
+
+  -- a complete command
+  pub command_open : (t : List LineByte) (b : OpenBlock) (e : Exchange) → IsInside rate t b e → place_at b ≡ AfterCommand
+      → IsOpenAfter rate t (record { command = Some e.command; asked = length t; answered = 0; wanted = 0; sum = 0 })
+  command_open t b e h place = by (command_held t b e h (deck_turn b true place))
+    where
+      by : IsTailWith rate t (Some e.command) → IsOpenAfter rate t (record { command = Some e.command; asked = length t; answered = 0; wanted = 0; sum = 0 })
+      by (inl (block, is)) = is_after_command block e.command is refl
+      by (inr (reply, is)) = absurd (let inside = (answered rate t reply e.command is).place in let stands = h.stands.place in cc)
+
+  -- a reply that is begun
+  pub reply_open : (t : List LineByte) (b : OpenBlock) (e : Exchange) → IsInside rate t b e → place_at b ≡ InReply
+      → IsOpenAfter rate t (record {
+        command = Some e.command;
+        asked = block_len t;
+        answered = length (open_at (place_of t) t);
+        wanted = block_len (open_at (place_of t) t);
+        sum = b.sum;
+      })
+  reply_open t b e h place = by (command_held t b e h (deck_turn b false place))
+    where
+      by : IsTailWith rate t (Some e.command)
+          → IsOpenAfter rate t (record {
+            command = Some e.command;
+            asked = block_len t;
+            answered = length (open_at (place_of t) t);
+            wanted = block_len (open_at (place_of t) t);
+            sum = b.sum;
+          })
+      by (inl (block, is)) = absurd (let after = place_of_command rate Controller t block is.whole in let stands = h.stands.place in cc)
+      by (inr (reply, is)) =
+          let parts = answered rate t reply e.command is in
+          let len = whole_len Controller is.command is.block is.is_command.whole in
+          let long = whole_long Controller is.command is.block is.is_command.whole in
+          let short = is.begun.short in
+          let asked : block_len t ≡ length is.command = ap block_len is.split ∙ block_len-append is.command reply (omega (arith, long)) ∙ sym len in
+          let count : length reply + b.left ≡ block_len reply = rw (parts.place, parts.current) at h.stands.left in
+          let total : b.sum ≡ sum (bytes_of reply) % 256 = rw (parts.place, parts.current) at (h.stands.sum_so_far (omega (arith, count, short))) in
+          is_in_reply is.command reply is.block e.command is.split is.is_command is.begun is.in_time (rw (parts.place, parts.current, asked, total) refl)
+
+  pub open_after_told : (o : Open) (was old : Paired) → was ≡ old → was.rate ≡ rate → IsOpenAfter rate was.tail o → IsOpenAfter old.rate old.tail o
+  open_after_told o was old same at told = rw (← same, at) told

@@ -1,7 +1,7 @@
 -- What a record that breaks no rule makes of a tail.
 use Rattle.block9.proofs.Words.{asks, common_steps, completes, InReply, leaves_open, ◌<◌}
 use Rattle.block9.proofs.Words.{[], after_command, AfterCommand, ap, append_assoc, arith, block_len, block_of, bytes_of, closed_of, Command, Controller, Deck, Does, drop}
-use Rattle.block9.proofs.Words.{ends_block, false, first_time, in_command, in_reply, inl, inr, IsAnswered, IsBegun, IsCommand, IsExchange, IsHeld, IsTail, last_time, length}
+use Rattle.block9.proofs.Words.{ends_block, false, first_time, in_command, in_reply, inl, inr, IsAnswered, IsBegun, IsCommand, IsExchange, IsTailWith, IsTail, last_time, length}
 use Rattle.block9.proofs.Words.{length-append, LineByte, List, None, nothing, open_at, Option, pairing, place_of, refl, Some, Outcome, tail_after, take, true, ◌++◌, ◌∙◌, ◌∷◌, ◌≡◌}
 use Rattle.block9.proofs.Words.{◌≢◌, ◌≤◌}
 use Rattle.block9.proofs.LineLemmas.{first_time-push_any, whole_len, whole_long}
@@ -10,34 +10,34 @@ use Rattle.block9.proofs.TailLemmas.{after_command_quiet, answered, idle_quiet, 
 use Rattle.tc25.specs.declared.rate.Rate.{Rate}
 
 module _ (rate : Rate) where
-  -- ---- what is held
+  -- ---- what is kept beside a tail
 
-  -- what is held is a tail, and something is held beside each tail
-  pub held_tail : (t : List LineByte) (o : Option Command) → IsHeld rate t o → IsTail rate t
+  -- something is kept beside each tail, and only beside a tail
+  pub held_tail : (t : List LineByte) (o : Option Command) → IsTailWith rate t o → IsTail rate t
   held_tail t None (inl e) = nothing e
   held_tail t None (inr h) = in_command h
   held_tail t (Some c) (inl (b, h)) = after_command b c h
   held_tail t (Some c) (inr (reply, is)) = in_reply is.command reply is.block c is.split is.is_command is.begun is.in_time
 
-  pub tail_held : (t : List LineByte) → IsTail rate t → (o : Option Command) × IsHeld rate t o
+  pub tail_held : (t : List LineByte) → IsTail rate t → (o : Option Command) × IsTailWith rate t o
   tail_held t (nothing e) = (None, inl e)
   tail_held t (in_command h) = (None, inr h)
   tail_held t (after_command b c h) = (Some c, inl (b, h))
   tail_held t (in_reply command reply b c e hc hd soon) =
       (Some c, inr (reply, record { command = command; block = b; split = e; is_command = hc; begun = hd; in_time = soon }))
 
-  -- where the last record of a block is to come and no command is held, a command is begun
-  pub begun_now : (t : List LineByte) → IsHeld rate t None → ends_block (open_at (place_of t) t) ≡ true → IsBegun Controller t
+  -- where the last record of a block is to come and no command is kept, a command is begun
+  pub begun_now : (t : List LineByte) → IsTailWith rate t None → ends_block (open_at (place_of t) t) ≡ true → IsBegun Controller t
   begun_now t h ends = grind arith
 
-  -- and where one is held, its reply is begun
-  pub reply_now : (t : List LineByte) (c : Command) → IsHeld rate t (Some c) → ends_block (open_at (place_of t) t) ≡ true
+  -- and where one is kept, its reply is begun
+  pub reply_now : (t : List LineByte) (c : Command) → IsTailWith rate t (Some c) → ends_block (open_at (place_of t) t) ≡ true
       → (reply : List LineByte) × IsAnswered rate t c reply
   reply_now t c (inl (b, h)) ends = absurd (let place = place_of_command rate Controller t b h.whole in cc)
   reply_now t c (inr parts) ends = parts
 
   -- the reply begins in the tail after a command's length
-  pub reply_begin : (t : List LineByte) (c : Command) → IsHeld rate t (Some c) → ends_block (open_at (place_of t) t) ≡ true
+  pub reply_begin : (t : List LineByte) (c : Command) → IsTailWith rate t (Some c) → ends_block (open_at (place_of t) t) ≡ true
       → (2 < block_len t) × (block_len t < length t) × (place_of t ≡ InReply)
   reply_begin t c held ends =
       let now = reply_now t c held ends in
@@ -54,17 +54,17 @@ module _ (rate : Rate) where
 
   -- ---- one more record
 
-  -- what is held inside a block, which is no command: a begun command, or one whose reply is begun
-  still_begun : (t : List LineByte) → IsBegun Controller t → IsHeld rate t None × (place_of t ≢ AfterCommand)
+  -- what is kept inside a block: no command where one is begun, and the command whose reply is begun
+  still_begun : (t : List LineByte) → IsBegun Controller t → IsTailWith rate t None × (place_of t ≢ AfterCommand)
   still_begun t h = (inr h, let place = place_in_command rate Controller t h in λ p. cc)
 
-  still_answered : (t reply : List LineByte) (c : Command) → IsAnswered rate t c reply → IsHeld rate t (Some c) × (place_of t ≢ AfterCommand)
+  still_answered : (t reply : List LineByte) (c : Command) → IsAnswered rate t c reply → IsTailWith rate t (Some c) × (place_of t ≢ AfterCommand)
   still_answered t reply c is = (inr (reply, is), let place = (answered rate t reply c is).place in λ p. cc)
 
   -- a record that does not end its block
-  pub waits : (t : List LineByte) (o : Option Command) (r : LineByte) → IsHeld rate t o → last_time t ≤ r.time_us → pairing rate t r ≡ None
+  pub waits : (t : List LineByte) (o : Option Command) (r : LineByte) → IsTailWith rate t o → last_time t ≤ r.time_us → pairing rate t r ≡ None
       → ends_block (open_at (place_of t) t) ≡ false
-      → IsHeld rate (t ++ r ∷ []) o × (place_of (t ++ r ∷ []) ≢ AfterCommand)
+      → IsTailWith rate (t ++ r ∷ []) o × (place_of (t ++ r ∷ []) ≢ AfterCommand)
   waits t None r (inl e) later quiet ends = rw e (still_begun (r ∷ []) ((idle_quiet rate r).0 (rw e at quiet)))
   waits t None r (inr h) later quiet ends =
       let goes_on = ((in_command_quiet rate t r h later).0 quiet).0 in
@@ -86,7 +86,7 @@ module _ (rate : Rate) where
       })
 
   -- a record that ends a command
-  pub commands : (t : List LineByte) (r : LineByte) → IsHeld rate t None → last_time t ≤ r.time_us → pairing rate t r ≡ None → ends_block (open_at (place_of t) t) ≡ true
+  pub commands : (t : List LineByte) (r : LineByte) → IsTailWith rate t None → last_time t ≤ r.time_us → pairing rate t r ≡ None → ends_block (open_at (place_of t) t) ≡ true
       → (c : Command) × IsCommand rate (t ++ r ∷ []) (block_of (bytes_of t)) c
   commands t r held later quiet ends =
       let h = begun_now t held ends in

@@ -1,8 +1,9 @@
 -- What a block of the controller means, its name, and which replies go with it: the tables of commands and replies.
-use Rattle.std.specs.Prelude.{ℕ, ◌%◌, ◌==◌, ◌&&◌, ◌||◌, nat_le, if◌then◌else◌, Bool, true, Option, Some, None, option_map, List, [], ◌∷◌, length, codes}
+use Rattle.std.specs.Prelude.{ℕ, ◌%◌, ◌/◌, ◌==◌, ◌&&◌, ◌||◌, nat_le, if◌then◌else◌, Bool, true, Option, Some, None, option_map, List, [], ◌∷◌, length, codes}
 use Rattle.std.specs.List.{list_any}
 use Rattle.tc25.specs.Day.{time_of, is_valid_time}
 use Rattle.tc25.specs.declared.rate.Rate.{Rate}
+use Rattle.tc25.specs.declared.rate.Rate.TheVariants.{Fps25}
 use Rattle.block9.specs.declared.block.Block.{Block}
 use Rattle.block9.specs.declared.command.Command.{Command}
 use Rattle.block9.specs.declared.command.Command.TheVariants.{LocalDisable, DeviceType, LocalEnable, Stop, Play, Record, StandbyOff, StandbyOn, Eject, FastForward, JogForward, VarForward, ShuttleForward, Rewind, JogReverse, VarReverse, ShuttleReverse, Preroll, CueUpWithData, SyncPlay, InEntry, OutEntry, AudioInEntry, AudioOutEntry, InDataPreset, OutDataPreset, AudioInDataPreset, AudioOutDataPreset, InShiftPlus, InShiftMinus, OutShiftPlus, OutShiftMinus, AudioInShiftPlus, AudioInShiftMinus, AudioOutShiftPlus, AudioOutShiftMinus, InFlagReset, OutFlagReset, AudioInFlagReset, AudioOutFlagReset, InRecall, OutRecall, AudioInRecall, AudioOutRecall, EditPreset, PrerollPreset, TimerModeSelect, AutoModeOff, AutoModeOn, CurrentTimeSense, InDataSense, OutDataSense, AudioInDataSense, AudioOutDataSense, StatusSense, Unlisted}
@@ -128,6 +129,18 @@ table_of rate group =
     else (if group == 2 then transport_control rate
     else (if group == 4 then preset_control rate
     else (if group == 6 then sense_requests else [])))
+
+-- some row of a table has these first two bytes
+abbrev pub has_row : List Row → ℕ → Bool
+has_row rows head = list_any (λ row. row.head == head) rows
+
+-- the group of a block with these first two bytes: the high four bits of the first one
+abbrev pub group_of : ℕ → ℕ
+group_of head = head / 0x1000
+
+-- a command with these first two bytes is listed: its group's table has a row for them; the rate plays no part in that
+abbrev pub is_listed_head : ℕ → Bool
+is_listed_head head = has_row (table_of Fps25 (group_of head)) head
 
 -- what a table says of a block with these first two bytes: a block that it has no row for is a command that is not listed
 abbrev pub meaning_in : List Row → ℕ → Block → Option Command

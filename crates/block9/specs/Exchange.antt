@@ -5,7 +5,7 @@ use Rattle.capture9.specs.declared.line_byte.LineByte.{LineByte}
 use Rattle.capture9.specs.declared.line_byte.Wire.TheVariants.{Controller, Deck}
 use Rattle.block9.specs.declared.block.Block.{Block}
 use Rattle.block9.specs.declared.command.Command.{Command}
-use Rattle.block9.specs.declared.pairer.Exchange.{Exchange}
+use Rattle.block9.specs.declared.exchange.Exchange.{Exchange}
 use Rattle.block9.specs.declared.pairer.Step.{Step}
 use Rattle.block9.specs.declared.pairer.Step.TheVariants as step
 use Rattle.block9.specs.Block.{spelling}
@@ -38,6 +38,11 @@ pub record IsExchange (rate : Rate) (records : List LineByte) (e : Exchange) : T
 -- how many records an exchange has
 abbrev pub records_of : Exchange → ℕ
 records_of e = length (spelling e.block) + length (spelling e.reply)
+
+-- how many records exchanges have
+abbrev pub records_in : List Exchange → ℕ
+records_in [] = 0
+records_in (e ∷ es) = records_of e + records_in es
 
 -- what may be open at the end: nothing, a command that is begun or complete, or a command and the beginning of its reply
 pub data IsTail (rate : Rate) (records : List LineByte) : Type 0 where

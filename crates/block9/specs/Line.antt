@@ -1,5 +1,5 @@
 -- Blocks on a wire: lists of captured records.
-use Rattle.std.specs.Prelude.{ℕ, ◌+◌, ◌/◌, ◌%◌, ◌<◌, ◌≤◌, ◌≡◌, ◌&&◌, ◌==◌, nat_lt, not, Bool, true, List, [], ◌∷◌, map, length}
+use Rattle.std.specs.Prelude.{ℕ, ◌+◌, ◌/◌, ◌%◌, ◌<◌, ◌≤◌, ◌≡◌, ◌&&◌, ◌==◌, nat_lt, not, Bool, true, false, List, [], ◌∷◌, map, length}
 use Rattle.capture9.specs.declared.line_byte.LineByte.{LineByte}
 use Rattle.capture9.specs.declared.line_byte.Wire.{Wire}
 use Rattle.capture9.specs.declared.line_byte.Wire.TheVariants.{Controller, Deck}
@@ -31,6 +31,11 @@ abbrev pub last_time : List LineByte → ℕ
 last_time [] = 0
 last_time (r ∷ []) = r.time_us
 last_time (r ∷ s ∷ records) = last_time (s ∷ records)
+
+-- a command comes on the controller's wire
+abbrev pub is_commands_wire : Wire → Bool
+is_commands_wire Controller = true
+is_commands_wire Deck = false
 
 -- the groups that may begin a block on a wire
 abbrev pub allows : Wire → ℕ → Bool

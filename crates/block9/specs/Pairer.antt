@@ -1,11 +1,15 @@
 -- A `Pairer` as its callers see it, and what a call of `feed` does to it.
-use Rattle.std.specs.Prelude.{◌≡◌, ℕ, Option, Some, None, List, [], ◌∷◌, ◌++◌}
+use Rattle.std.specs.Prelude.{◌≡◌, ℕ, ◌%◌, Option, Some, None, List, [], ◌∷◌, ◌++◌, length}
+use Rattle.std.specs.List.{sum}
 use Rattle.capture9.specs.declared.line_byte.LineByte.{LineByte}
-use Rattle.block9.specs.declared.pairer.Exchange.{Exchange}
+use Rattle.capture9.specs.declared.line_byte.Wire.TheVariants.{Controller, Deck}
+use Rattle.block9.specs.declared.exchange.Exchange.{Exchange}
+use Rattle.block9.specs.declared.open.Open.{Open}
 use Rattle.block9.specs.declared.reason.Reason.{Reason}
 use Rattle.block9.specs.declared.block.Block.{Block}
 use Rattle.block9.specs.declared.command.Command.{Command}
-use Rattle.block9.specs.Exchange.{Does, IsCommand, IsKept, Outcome, completed_by, tail_after}
+use Rattle.block9.specs.Exchange.{Does, IsCommand, IsInTime, IsKept, Outcome, completed_by, tail_after}
+use Rattle.block9.specs.Line.{IsBegun, block_len, bytes_of}
 use Rattle.block9.specs.Reason.{IsReason}
 use Rattle.tc25.specs.declared.rate.Rate.{Rate}
 
@@ -48,3 +52,15 @@ pub record BeginsWith (rate : Rate) (tail : List LineByte) (c : Command) : Type 
   pub split : tail ≡ records ++ reply
   pub block : Block
   pub command : IsCommand rate records block c
+
+-- what is open after a tail: a line for each kind of tail
+pub data IsOpenAfter (rate : Rate) (tail : List LineByte) (o : Open) : Type 0 where
+  nothing : tail ≡ [] → o ≡ record { command = None; asked = 0; answered = 0; wanted = 0; sum = 0 } → IsOpenAfter rate tail o
+  in_command : IsBegun Controller tail
+      → o ≡ record { command = None; asked = length tail; answered = 0; wanted = block_len tail; sum = sum (bytes_of tail) % 256 } → IsOpenAfter rate tail o
+  after_command : (b : Block) (c : Command) → IsCommand rate tail b c
+      → o ≡ record { command = Some c; asked = length tail; answered = 0; wanted = 0; sum = 0 } → IsOpenAfter rate tail o
+  in_reply : (command reply : List LineByte) (b : Block) (c : Command) → tail ≡ command ++ reply → IsCommand rate command b c → IsBegun Deck reply
+      → IsInTime command reply
+      → o ≡ record { command = Some c; asked = length command; answered = length reply; wanted = block_len reply; sum = sum (bytes_of reply) % 256 }
+      → IsOpenAfter rate tail o

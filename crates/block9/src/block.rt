@@ -107,13 +107,6 @@ impl Block {
         TimeCode::from_bytes_at(rate, *bytes)
     }
 
-    /// The time that the data are at 25 frames a second: [`Block::time_at`].
-    pub fn time(&self) -> Option<TimeCode>
-        ensures { result ≡ time_of Rate.Fps25 self.now.bytes.items }
-    {
-        self.time_at(Rate::Fps25)
-    }
-
     /// The block with this body: the bytes before the checksum.
     pub(crate) fn of_body(body: &[u8]) -> Block
         requires code { 2 ≤ length body.now }

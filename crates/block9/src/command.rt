@@ -1,13 +1,13 @@
 //! What a controller's block means: the commands, by the first two bytes of their blocks, and their names.
 //!
-//! To add a command, write its variant, its name, its arm in its group's table (`command/tables.rt`) and, where its reply is
-//! no acknowledgement, its arm in `fits`. The definitions have a row and a line for it in
-//! `specs/Command.antt`.
+//! To add a command, write its variant, its name, its arm in its group's table (`command/tables.rt`) and, where it has data that
+//! are not free, its arm in `with_data`, and where its reply is no acknowledgement, its arm in `fits`. The definitions have a row
+//! and a line for it in `specs/Command.antt`.
 mod tables;
 
 use crate::block::Block;
 use crate::reply::{is_status, is_time};
-use tables::{preset_control, sense_requests, system_control, transport_control};
+use tables::listed;
 use tc25::{Rate, TimeCode};
 
 /// What a block on the controller's wire is.
@@ -157,7 +157,9 @@ pub enum Command {
 
 impl Command {
     ghost use Rattle.std.specs.Prelude.{◌≡◌, option_map};
-    ghost use Rattle.block9.specs.Command.{command_of, fits, name_of, time_in};
+    ghost use Rattle.block9.specs.Command.{command_of, fits, is_listed_head, name_of, time_in};
+    ghost use Rattle.block9.specs.Block.{head_of};
+    ghost use Rattle.block9.specs.Working.Row.{with_data};
 
     /// The command that a block of the controller is, by its first two bytes, and of CURRENT TIME SENSE by
     /// its selector too.
@@ -168,20 +170,49 @@ impl Command {
         ensures { result ≡ command_of rate block.now }
     {
         let head = block.head();
-        match block.group {
-            0 => system_control(head),
-            2 => transport_control(rate, head, block),
-            4 => preset_control(rate, head, block),
-            6 => sense_requests(head, block),
-            _ => Some(Command::Unlisted { head }),
+        match listed(u32::from(block.group), head) {
+            Some(command) => command.with_data(rate, block),
+            None => Some(Command::Unlisted { head }),
         }
     }
 
-    /// The command that a block of the controller is at 25 frames a second: [`Command::of_at`].
-    pub fn of(block: &Block) -> Option<Command>
-        ensures { result ≡ command_of Rate.Fps25 block.now }
+    /// The command that a table has for a block, with what the block's data say in the place of the blank: `None` where they have
+    /// to be a time and are none. A request for a time with an unknown selector is not listed.
+    fn with_data(self, rate: Rate, block: &Block) -> Option<Command>
+        ensures { result ≡ with_data rate (head_of block.now) block.now self }
     {
-        Command::of_at(Rate::Fps25, block)
+        match self {
+            Command::CueUpWithData { .. } => Some(Command::CueUpWithData {
+                time: block.time_at(rate)?,
+            }),
+            Command::InDataPreset { .. } => Some(Command::InDataPreset {
+                time: block.time_at(rate)?,
+            }),
+            Command::OutDataPreset { .. } => Some(Command::OutDataPreset {
+                time: block.time_at(rate)?,
+            }),
+            Command::AudioInDataPreset { .. } => Some(Command::AudioInDataPreset {
+                time: block.time_at(rate)?,
+            }),
+            Command::AudioOutDataPreset { .. } => Some(Command::AudioOutDataPreset {
+                time: block.time_at(rate)?,
+            }),
+            Command::CurrentTimeSense { .. } => match block.first_datum() {
+                selector @ (0x01..=0x04 | 0x08) => Some(Command::CurrentTimeSense { selector }),
+                _ => Some(Command::Unlisted { head: block.head() }),
+            },
+            Command::StatusSense { .. } => Some(Command::StatusSense {
+                asked: block.first_datum(),
+            }),
+            command => Some(command),
+        }
+    }
+
+    /// Whether the tables list a command with these first two bytes of its block, as [`Block::head`] has them.
+    pub fn is_listed_head(head: u32) -> bool
+        ensures { result ≡ is_listed_head head }
+    {
+        listed(head / 0x10_00, head).is_some()
     }
 
     /// The name that the protocol manual gives to the command, and `None` for one that is not listed.

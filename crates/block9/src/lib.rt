@@ -5,11 +5,14 @@
 //! `Reason` why a record breaks the rules.
 #![tactic(auto)]
 
+mod at_25;
 mod block;
 mod command;
+mod exchange;
 pub mod laws;
 mod line;
 mod nak;
+mod open;
 mod open_block;
 mod pairer;
 mod place;
@@ -18,13 +21,15 @@ mod reply;
 mod rules;
 mod tail;
 
+pub use at_25::reply_time_valid;
 pub use block::Block;
 pub use command::Command;
-pub use line::byte_sum;
+pub use exchange::{Exchange, records_in};
 pub use nak::NakBits;
-pub use pairer::{Exchange, Pairer, Step};
+pub use open::Open;
+pub use pairer::{Pairer, Step};
 pub use reason::Reason;
-pub use reply::{reply_time_valid, reply_time_valid_at};
+pub use reply::reply_time_valid_at;
 
 /// The time that a byte takes on the line, in microseconds: eleven bits at 38,400 a second, rounded up.
 pub const BYTE_TIME_US: u64 = 287;

@@ -1,7 +1,6 @@
-//! Lists of records: the block that they begin, the sum of their bytes, and the time at which they end.
-ghost use Rattle.std.specs.Prelude.{◌≡◌, ◌+◌, ◌%◌};
-ghost use Rattle.std.specs.List.{sum};
-ghost use Rattle.block9.specs.Line.{block_len, bytes_of, last_time};
+//! Lists of records: the block that they begin, and the time at which they end.
+ghost use Rattle.std.specs.Prelude.{◌≡◌};
+ghost use Rattle.block9.specs.Line.{block_len, last_time};
 
 use capture9::LineByte;
 
@@ -23,15 +22,4 @@ pub(crate) fn last_time(records: &[LineByte]) -> u64
         Some(last) => last.time_us,
         None => 0,
     }
-}
-
-/// The sum of the records' bytes, modulo 256. They are added where they stand, since a block's end comes every few records.
-pub fn byte_sum(records: &[LineByte]) -> u8
-    ensures { result ≡ sum (bytes_of records.now) % 256 }
-{
-    let mut total = 0u8;
-    for record in records {
-        total = total.wrapping_add(record.byte);
-    }
-    total
 }

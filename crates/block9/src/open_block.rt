@@ -3,7 +3,7 @@
 use crate::place::Place;
 use capture9::Wire;
 
-/// What is kept of the block that is open at the end of a tail, so that no record is read again before the block's end.
+/// What a pairer keeps of the block that is open at the end of its tail, so that it reads no record again before the block's end.
 #[derive(Clone, Copy, Debug, PartialEq, Eq)]
 pub(crate) struct OpenBlock {
     /// The wire whose turn it is: the controller's for a command, the deck's for its reply.
@@ -16,7 +16,7 @@ pub(crate) struct OpenBlock {
 
 impl OpenBlock {
     ghost use Rattle.std.specs.Prelude.{◌≡◌, ◌≢◌};
-    ghost use Rattle.block9.specs.Working.Held.{grown, next_of, place_at, to_come};
+    ghost use Rattle.block9.specs.Working.Inside.{grown, next_of, place_at, to_come};
 
     /// A block on this wire that is not begun.
     pub(crate) fn to_come(wire: Wire) -> OpenBlock

@@ -2,7 +2,7 @@
 
 /// Where a tail stands: the records since the last complete exchange.
 #[derive(Clone, Copy, Debug, PartialEq, Eq)]
-pub enum Place {
+pub(crate) enum Place {
     /// No command is begun.
     Idle,
     /// Inside a command.

@@ -55,10 +55,3 @@ pub fn reply_time_valid_at(rate: Rate, command: &Command, reply: &Block) -> bool
         _ => true,
     }
 }
-
-/// Whether the time in a reply is valid at 25 frames a second, where it has to be: [`reply_time_valid_at`].
-pub fn reply_time_valid(command: &Command, reply: &Block) -> bool
-    ensures { result ≡ is_reply_time_valid Rate.Fps25 command.now reply.now }
-{
-    reply_time_valid_at(Rate::Fps25, command, reply)
-}

@@ -9,7 +9,7 @@ const MOST_OPEN: usize = 35;
 
 /// The records since the last complete exchange.
 ///
-/// They are no `ArrayVec`, which writes blanks over all that it is cleared of: an exchange comes every few records.
+/// Not an `ArrayVec`: its `clear` overwrites every element, and an exchange comes every few records.
 #[derive(Drop)]
 pub(crate) struct Tail {
     records: [LineByte; MOST_OPEN],
@@ -19,7 +19,7 @@ pub(crate) struct Tail {
 impl Model for Tail {
     ghost use Rattle.std.specs.Prelude.{◌≡◌, ◌≤◌, List, length, take};
     ghost use Rattle.capture9.specs.declared.line_byte.LineByte.{LineByte};
-    ghost use Rattle.block9.specs.Working.Held.{most_open};
+    ghost use Rattle.block9.specs.Working.Inside.{most_open};
 
     ghost Value = { List LineByte };
 
@@ -30,7 +30,7 @@ impl Model for Tail {
 
 impl Tail {
     ghost use Rattle.std.specs.Prelude.{◌≡◌, ◌≤◌, ◌<◌, length, [], ◌∷◌, ◌++◌};
-    ghost use Rattle.block9.specs.Working.Held.{most_open};
+    ghost use Rattle.block9.specs.Working.Inside.{most_open};
 
     /// No record.
     pub(crate) fn new() -> Tail

@@ -3,7 +3,7 @@ pub use Rattle.block9.specs.Command.{is_nak}
 unfoldable pub use Rattle.block9.specs.Command.{fits, is_reply_time_valid, name_of}
 pub use Rattle.block9.specs.declared.block.Block.{Block}
 pub use Rattle.block9.specs.declared.command.Command.{Command}
-pub use Rattle.block9.specs.declared.pairer.Exchange.{Exchange}
+pub use Rattle.block9.specs.declared.exchange.Exchange.{Exchange}
 pub use Rattle.deck9.specs.Contradict.{behind_first, CanPass, HasBelieving, IsBelievingFrom, MayDo}
 pub use Rattle.deck9.specs.Drift.{arrives, ComesToShow, Drift, DriftsTo, halts, handled, Move, Moves, PairReaches, passes}
 pub use Rattle.deck9.specs.Effect.{Becomes, Does, effect_of, forgetting, KeepsPanel, listed_effect, moved_entry, switched}

@@ -5,7 +5,7 @@ use Rattle.tc25.specs.Day.{day}
 use Rattle.tc25.specs.declared.rate.Rate.{Rate}
 use Rattle.block9.specs.declared.block.Block.{Block}
 use Rattle.block9.specs.declared.command.Command.{Command}
-use Rattle.block9.specs.declared.pairer.Exchange.{Exchange}
+use Rattle.block9.specs.declared.exchange.Exchange.{Exchange}
 use Rattle.block9.specs.Block.{IsBlock}
 use Rattle.block9.specs.Command.{fits, is_reply_time_valid}
 use Rattle.deck9.specs.declared.effect.Effect.TheVariants as effect

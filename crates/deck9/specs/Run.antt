@@ -1,6 +1,6 @@
 -- Runs of the deck, and the states that they can end in.
 use Rattle.std.specs.Prelude.{◌≡◌, ⊤, List, [], ◌∷◌}
-use Rattle.block9.specs.declared.pairer.Exchange.{Exchange}
+use Rattle.block9.specs.declared.exchange.Exchange.{Exchange}
 use Rattle.deck9.specs.declared.profile.Profile.{Profile}
 use Rattle.deck9.specs.declared.state.State.{State}
 use Rattle.deck9.specs.State.{IsFirst}

@@ -1,6 +1,6 @@
 -- What the clauses of the search for a run cite.
 use Rattle.std.specs.Prelude.{◌≡◌, Bool, true}
-use Rattle.block9.specs.declared.pairer.Exchange.{Exchange}
+use Rattle.block9.specs.declared.exchange.Exchange.{Exchange}
 use Rattle.tc25.specs.Day.{next_frame, prev_frame}
 use Rattle.tc25.specs.declared.rate.Rate.{Rate}
 use Rattle.deck9.specs.declared.effect.Change.TheVariants.{Next, Prev}

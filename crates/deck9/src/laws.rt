@@ -5,7 +5,7 @@ ghost use Rattle.std.specs.List.{All};
 ghost use Rattle.block9.specs.Command.{is_nak, name_of};
 ghost use Rattle.block9.specs.declared.block.Block.{Block};
 ghost use Rattle.block9.specs.declared.command.Command.{Command};
-ghost use Rattle.block9.specs.declared.pairer.Exchange.{Exchange};
+ghost use Rattle.block9.specs.declared.exchange.Exchange.{Exchange};
 ghost use Rattle.deck9.specs.Contradict.{CanPass, HasBelieving};
 ghost use Rattle.deck9.specs.declared.deck.Deck.{Deck as ADeck};
 ghost use Rattle.deck9.specs.Drift.{Drift, DriftsTo};

@@ -54,7 +54,8 @@ pub use Rattle.judge9.specs.declared.way_back.Mark.{Mark}
 pub use Rattle.judge9.specs.Parts.{AreParts, AreTotals, BrokenPart, exchanges_of, from_command, IsPart, may_begin, number_of, Part, Rest, rest_after, takes_up_at}
 pub use Rattle.judge9.specs.Parts.{begins_next_part}
 pub use Rattle.judge9.specs.PartsReport.{AreTextsOf, InParts, PartsTold, IsRefusedAfter, IsTextOf, IsToTheEnd, ToldInParts, WrittenInParts}
-pub use Rattle.report9.specs.WhyText.{records_in, text_of_why}
+pub use Rattle.block9.specs.Exchange.{records_in}
+pub use Rattle.report9.specs.WhyText.{text_of_why}
 pub use Rattle.judge9.specs.Working.Parts.{BeginsAfter, BeginsAt, ComesThen, IsBreakText, SaysNoRun, SaysWhy, GivesAll, JudgesParts, last_of, NoneBegins, Resumes, PassesOver, ResumesAfter, TakesUp}
 pub use Rattle.judge9.specs.Working.Turns.{AreOpen, Comes, Completes, ComesTo, EndsRows, IsFresh, IsObserved, IsOpen, KnowsNothing, Observes, Spoils, Took, Turned, Waits}
 pub use Rattle.judge9.specs.declared.part.PartLog.{PartLog}
@@ -80,5 +81,5 @@ pub use Rattle.deck9.specs.declared.knowledge.Known.TheVariants.{the_data as Kno
 pub use Rattle.deck9.specs.declared.knowledge.KnownEntry.TheVariants.{the_data as KnownEntry}
 pub use Rattle.deck9.specs.declared.mode_set.ModeSet.{ModeSet}
 pub use Rattle.verdict9.specs.Error.{refusal_by}
-pub use Rattle.block9.specs.Exchange.{records_of}
+pub use Rattle.block9.specs.Exchange.{records_in, records_of}
 pub use Rattle.verdict9.specs.Lines.{line_of}

@@ -2,15 +2,14 @@
 -- nothing is known of the deck where it begins. Its records keep the numbers that they have in the whole capture.
 use Rattle.std.specs.Prelude.{◌≡◌, ℕ, ◌+◌, nat_lt, not, ◌&&◌, ◌||◌, Bool, true, false, if◌then◌else◌, List, [], ◌∷◌, ◌++◌, length}
 use Rattle.capture9.specs.declared.line_byte.LineByte.{LineByte}
-use Rattle.block9.specs.declared.pairer.Exchange.{Exchange}
+use Rattle.block9.specs.declared.exchange.Exchange.{Exchange}
 use Rattle.block9.specs.declared.reason.Reason.{Reason}
 use Rattle.block9.specs.declared.reason.Reason.TheVariants.{ByteGap, CommandBeforeReply, CommandInsideReply, NoReply}
-use Rattle.block9.specs.Exchange.{Cut}
+use Rattle.block9.specs.Exchange.{Cut, records_in}
 use Rattle.block9.specs.Line.{byte_gap}
 use Rattle.deck9.specs.declared.profile.Profile.{Profile}
 use Rattle.deck9.specs.Run.{HasRun}
 use Rattle.verdict9.specs.declared.totals.Totals.{Totals}
-use Rattle.report9.specs.WhyText.{records_in}
 use Rattle.verdict9.specs.OpenRecords.{is_commands_wire}
 use Rattle.judge9.specs.Verdict.{Breaks}
 

@@ -5,7 +5,7 @@ use Rattle.std.specs.Result.{IfOk}
 use Rattle.capture9.specs.Rows.{Rows}
 use Rattle.capture9.specs.SomeText.{IsOfSomeText}
 use Rattle.block9.specs.declared.reason.Reason.TheVariants.{NoRun}
-use Rattle.block9.specs.declared.pairer.Exchange.{Exchange}
+use Rattle.block9.specs.declared.exchange.Exchange.{Exchange}
 use Rattle.block9.specs.Exchange.{Cut}
 use Rattle.block9.specs.Pairer.{BeginsWith}
 use Rattle.block9.specs.declared.command.Command.{Command}

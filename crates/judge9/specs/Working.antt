@@ -7,7 +7,7 @@ pub mod Turns
 pub mod WayBack
 pub use Rattle.block9.specs.Exchange.{Cut}
 pub use Rattle.block9.specs.Pairer.{Paired, Refuses, Takes}
-pub use Rattle.block9.specs.declared.pairer.Exchange.{Exchange}
+pub use Rattle.block9.specs.declared.exchange.Exchange.{Exchange}
 pub use Rattle.block9.specs.Exchange.{Outcome}
 pub use Rattle.block9.specs.declared.reason.Reason.TheVariants.{the_data as Reason}
 pub use Rattle.capture9.specs.Records.{GivesEnd, GivesRecord, GivesRefusal, Progress}

@@ -1,7 +1,7 @@
 //! What follows a capture, one record at a time: what is open on the line, and what is known of the deck.
 ghost use Rattle.std.specs.Prelude.{◌≡◌, ◌≤◌, IfOk, None, OnOk};
 ghost use Rattle.std.specs.Option.{ForSome};
-ghost use Rattle.block9.specs.declared.pairer.Exchange.{Exchange as AnExchange};
+ghost use Rattle.block9.specs.declared.exchange.Exchange.{Exchange as AnExchange};
 ghost use Rattle.judge9.specs.Working.Turns.{IsObserved, KnowsNothing, Took};
 
 use crate::turn::{Break, Turn};

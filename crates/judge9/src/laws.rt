@@ -4,7 +4,7 @@ ghost use Rattle.std.specs.Prelude.{◌≡◌, ◌≤◌, ◌+◌, ◌↔◌, �
 ghost use Rattle.block9.specs.Exchange.{Cut, IsKept};
 ghost use Rattle.block9.specs.Line.{last_time};
 ghost use Rattle.block9.specs.Reason.{IsReason};
-ghost use Rattle.block9.specs.declared.pairer.Exchange.{Exchange};
+ghost use Rattle.block9.specs.declared.exchange.Exchange.{Exchange};
 ghost use Rattle.capture9.specs.Rows.{Rows};
 ghost use Rattle.judge9.specs.Judging.{Answer, IsAnswer};
 ghost use Rattle.judge9.specs.Judging.Answer.{judged};

@@ -2,7 +2,7 @@
 //!
 //! This is the one loop over what a judging comes to. Whoever judges a capture does its own with what ends a part.
 ghost use Rattle.std.specs.Prelude.{◌≡◌, ◌≢◌, ◌≤◌, ◌<◌, ◌+◌, ◌*◌, ◌++◌, [], ◌∷◌, Err, None, OnOk, Some};
-ghost use Rattle.block9.specs.declared.pairer.Exchange.{Exchange as AnExchange};
+ghost use Rattle.block9.specs.declared.exchange.Exchange.{Exchange as AnExchange};
 ghost use Rattle.judge9.specs.Working.Part.{IsAtExchange, IsJudgedFirst, IsJudgedPart, IsLogOf, IsLogged, TellsAt};
 ghost use Rattle.judge9.specs.Working.Turns.{IsFresh};
 ghost use Rattle.judge9.specs.Working.{Explains};

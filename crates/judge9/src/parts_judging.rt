@@ -1,7 +1,7 @@
 //! Judges the whole capture, part by part: after a record that breaks a rule the judging goes on with the next part, and the totals
 //! come last.
 ghost use Rattle.std.specs.Prelude.{◌≡◌, ◌≢◌, ◌++◌, [], ◌∷◌, IfOk, IfSome, OnOk, option_map, None, Some};
-ghost use Rattle.block9.specs.declared.pairer.Exchange.{Exchange as AnExchange};
+ghost use Rattle.block9.specs.declared.exchange.Exchange.{Exchange as AnExchange};
 ghost use Rattle.capture9.specs.Rows.{HasHeader, rows_of};
 ghost use Rattle.judge9.specs.PartsReport.{IsTextOf, ToldInParts};
 ghost use Rattle.verdict9.specs.Lines.{line_of_totals};

@@ -2,7 +2,7 @@
 //! where no run of the deck remains.
 ghost use Rattle.std.specs.Prelude.{◌≡◌, ◌≢◌, ◌++◌, ◌∷◌, [], IfOk, List, Some};
 ghost use Rattle.verdict9.specs.OpenRecords.{IsBefore};
-ghost use Rattle.block9.specs.declared.pairer.Exchange.{Exchange as AnExchange};
+ghost use Rattle.block9.specs.declared.exchange.Exchange.{Exchange as AnExchange};
 ghost use Rattle.why9.specs.Contradiction.{BreaksAtLast};
 ghost use Rattle.deck9.specs.declared.profile.Profile.{Profile as AProfile};
 ghost use Rattle.judge9.specs.Working.Parts.{SaysNoRun, SaysWhy};

@@ -1,7 +1,9 @@
 -- The lines of a run, and those of a record that breaks a rule of pairing, one after another.
 use Rattle.report9.proofs.Words.{[], ap, append-nil, append_assoc, Appends, Appends-trans, AppendsPart, begins, end_before, EndedExchange, Exchange, failed, first_part}
 use Rattle.report9.proofs.Words.{inl, inr, IsErr, joined, last_time-last, length, line_of_open, line_of_state, LineByte, lines_of_run, List, Option, part_after}
-use Rattle.report9.proofs.Words.{Profile, records_of, refl, Result, slice_get, Some, State, sym, Wire, Writes, ℕ, ◌++◌, ◌+◌, ◌-◌, ◌∷◌, ◌≡◌, ◌⊎◌}
+use Rattle.report9.proofs.Words.{Global, lines_of_break, Open, Rate, Reason, Vec, WhyVerdict, ◌≢◌}
+use Rattle.verdict9.specs.declared.why_verdict.WhyVerdict.TheVariants as why
+use Rattle.report9.proofs.Words.{Profile, records_of, refl, Result, slice_get, Some, State, sym, Writes, ℕ, ◌++◌, ◌+◌, ◌-◌, ◌∷◌, ◌≡◌, ◌⊎◌}
 
 -- all the lines were written but those of these exchanges and states, which are left
 pub record LinesSoFar (profile : Profile) (exchanges : List Exchange) (states : List State) (es : List Exchange) (ss : List State) (at : ℕ)
@@ -50,11 +52,20 @@ stops r old now new a b later err h part = failed r old new _ err (begins old ne
 -- ---- the lines of a record that breaks a rule of pairing
 
 -- where no record is open, no line is put
-pub no_line : (before : ℕ) (words : List ℕ) (wire breaking : Wire) (records : List LineByte) (l : List ℕ) → length records ≡ 0
-    → l ≡ l ++ line_of_open before words wire breaking records
+pub no_line : (before : ℕ) (words progress : List ℕ) (records : List LineByte) (l : List ℕ) → length records ≡ 0
+    → l ≡ l ++ line_of_open before words progress records
 unfolding line_of_open
-no_line before words wire breaking [] l none = sym (append-nil l)
-no_line before words wire breaking (r ∷ records) l none = cc
+no_line before words progress [] l none = sym (append-nil l)
+no_line before words progress (r ∷ records) l none = cc
+
+-- for another verdict than a break no line is put
+pub no_break : (rate : Rate) (v : WhyVerdict) (l : List ℕ)
+    → ((at : ℕ) (reason : Reason) (tail : Vec LineByte Global) (o : Open) (before : Option EndedExchange) (r : LineByte) → v ≢ why.Break at reason tail o before r)
+    → l ≡ l ++ lines_of_break rate v
+unfolding lines_of_break
+no_break rate (why.Yes records exchanges tail) l other = sym (append-nil l)
+no_break rate (why.Break at reason tail o before r) l other = absurd (other at reason tail o before r refl)
+no_break rate (why.Contradiction at exchanges places known shown) l other = sym (append-nil l)
 
 -- the time of the last open record, or of the last of the exchange before
 pub end_of_tail : (tail : List LineByte) (before : Option EndedExchange) (last : LineByte) → Some last ≡ slice_get tail (length tail - 1)

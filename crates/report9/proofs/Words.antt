@@ -1,8 +1,10 @@
 -- The names from elsewhere that the proofs of this crate cite, passed on from one place. Declares nothing.
 pub use Rattle.block9.proofs.SpellingLemmas.{last_time-last}
 pub use Rattle.block9.specs.Line.{bytes_of}
-pub use Rattle.block9.specs.declared.pairer.Exchange.{Exchange}
+pub use Rattle.block9.specs.declared.exchange.Exchange.{Exchange}
+pub use Rattle.block9.specs.declared.open.Open.{Open}
 pub use Rattle.block9.specs.declared.reason.Reason.{Reason}
+pub use Rattle.tc25.specs.declared.rate.Rate.{Rate}
 pub use Rattle.capture9.specs.declared.line_byte.LineByte.{LineByte}
 pub use Rattle.deck9.proofs.ModeSetLemmas.{some_any}
 pub use Rattle.deck9.specs.Mode.{every_mode, name_of}
@@ -12,14 +14,14 @@ pub use Rattle.deck9.specs.declared.profile.Profile.{Profile}
 pub use Rattle.deck9.specs.declared.state.State.{State}
 pub use Rattle.report9.specs.RunText.{known_entry, known_state, lines_of_run}
 unfoldable pub use Rattle.report9.specs.RunText.{line_of_state}
-pub use Rattle.report9.specs.WhyText.{end_before, hex_bytes, in_a_row, lines_at, records_in, names_of, words_if_whole}
-unfoldable pub use Rattle.report9.specs.WhyText.{line_of_breaking, line_of_contradicting, line_of_could_show, line_of_open, lines_of_break, text_of_reply_given, text_of_command_sent}
+pub use Rattle.report9.specs.WhyText.{end_before, hex_bytes, in_a_row, lines_at, names_of}
+unfoldable pub use Rattle.report9.specs.WhyText.{line_of_breaking, line_of_contradicting, line_of_could_show, line_of_open, lines_of_break, lines_of_open, text_of_reply_given, text_of_command_sent}
 unfoldable pub use Rattle.report9.specs.WhyText.{line_of_before, text_of_block, text_of_records, text_of_reply, words_of}
-pub use Rattle.capture9.specs.declared.line_byte.Wire.{Wire}
-pub use Rattle.capture9.specs.declared.line_byte.Wire.TheVariants.{Controller, Deck}
 pub use Rattle.verdict9.specs.declared.why_verdict.EndedExchange.{EndedExchange}
+pub use Rattle.verdict9.specs.declared.why_verdict.WhyVerdict.{WhyVerdict}
 pub use Rattle.report9.specs.Working.WhyText.{next_before}
 pub use Rattle.std.proofs.Common.{[], ap, append_assoc, arith, Bool, codes, drop, drop-cons, get_or, if◌then◌else◌, inl, inr, length, length-append, List, Option, refl}
+pub use Rattle.std.proofs.Common.{Global, Vec, ◌≢◌}
 pub use Rattle.std.proofs.Common.{Result, rules, slice_get, Some, suc, sym, take, true, ℕ, ◌*◌, ◌++◌, ◌+◌, ◌-◌, ◌<◌, ◌∙◌, ◌∷◌, ◌≡◌, ◌≤◌, ◌⊎◌}
 pub use Rattle.std.proofs.KnownBytes.{Appends-trans}
 pub use Rattle.std.proofs.lemmas.List.{append-nil}
@@ -37,7 +39,7 @@ pub use Rattle.text9.specs.Explanation.{hex_byte, text_of_fields, text_of_local,
 unfoldable pub use Rattle.text9.specs.Explanation.{text_of_knowledge, text_of_register}
 pub use Rattle.text9.specs.Writing.{AppendsPart, Writes}
 pub use Rattle.deck9.specs.declared.knowledge.Known.TheVariants.{the_data as Known}
-pub use Rattle.block9.specs.Exchange.{records_of}
+pub use Rattle.block9.specs.Exchange.{records_in, records_of}
 pub use Rattle.verdict9.specs.Lines.{line_of}
 pub use Rattle.verdict9.specs.declared.verdict.Verdict.TheVariants.{the_data as Verdict}
 pub use denote.Shadow.{shadow}

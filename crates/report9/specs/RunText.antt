@@ -1,7 +1,7 @@
 -- The text of a run: a line for each exchange with the deck's state after it, and the line of the verdict.
 use Rattle.std.specs.Prelude.{ℕ, ◌+◌, List, [], ◌∷◌, ◌++◌, length, codes}
 use Rattle.std.specs.Fmt.{decimal}
-use Rattle.block9.specs.declared.pairer.Exchange.{Exchange}
+use Rattle.block9.specs.declared.exchange.Exchange.{Exchange}
 use Rattle.deck9.specs.declared.knowledge.Known.TheVariants as known
 use Rattle.deck9.specs.declared.knowledge.KnownEntry.{KnownEntry}
 use Rattle.deck9.specs.declared.knowledge.KnownEntry.TheVariants as entry

@@ -2,21 +2,22 @@
 -- what the deck could show before the last of them; where a rule of pairing is broken a line for the records of the open
 -- command and one for those of its reply, or one for the exchange before where none is open, and one for the record that
 -- breaks; and the line of the verdict.
-use Rattle.std.specs.Prelude.{ℕ, ◌+◌, ◌-◌, ◌%◌, nat_lt, Bool, if◌then◌else◌, Option, Some, None, List, [], ◌∷◌, ◌++◌, length, codes}
+use Rattle.std.specs.Prelude.{ℕ, ◌+◌, ◌-◌, ◌==◌, ◌&&◌, nat_lt, not, Bool, false, if◌then◌else◌, Option, Some, None, is_none, List, [], ◌∷◌, ◌++◌, length, take, drop, codes}
 use Rattle.std.specs.Fmt.{decimal}
-use Rattle.std.specs.List.{list_all, list_any, sum}
+use Rattle.std.specs.List.{list_all, list_any}
 use Rattle.tc25.specs.Day.{text_of, time_of}
 use Rattle.capture9.specs.declared.line_byte.LineByte.{LineByte}
 use Rattle.capture9.specs.declared.line_byte.Wire.{Wire}
 use Rattle.capture9.specs.declared.line_byte.Wire.TheVariants.{Controller, Deck}
 use Rattle.block9.specs.declared.block.Block.{Block}
 use Rattle.block9.specs.declared.command.Command.{Command}
-use Rattle.block9.specs.declared.pairer.Exchange.{Exchange}
+use Rattle.block9.specs.declared.exchange.Exchange.{Exchange}
+use Rattle.block9.specs.declared.open.Open.{Open}
 use Rattle.block9.specs.declared.reason.Reason.{Reason}
 use Rattle.block9.specs.declared.reason.Reason.TheVariants.{NoRun, WrongSum}
 use Rattle.block9.specs.Block.{spelling}
 use Rattle.block9.specs.Command.{is_nak, name_of, time_in}
-use Rattle.block9.specs.Line.{block_len, bytes_of, last_time}
+use Rattle.block9.specs.Line.{bytes_of, last_time}
 use Rattle.block9.specs.Reason.{limit_of}
 use Rattle.deck9.specs.declared.knowledge.Knowledge.{Knowledge}
 use Rattle.deck9.specs.declared.mode_set.ModeSet.{ModeSet}
@@ -37,8 +38,7 @@ use Rattle.verdict9.specs.declared.why_verdict.EndedExchange.{EndedExchange}
 use Rattle.verdict9.specs.declared.why_verdict.WhyVerdict.{WhyVerdict}
 use Rattle.verdict9.specs.declared.why_verdict.WhyVerdict.TheVariants as why
 use Rattle.text9.specs.Explanation.{hex_byte, text_of_fields}
-use Rattle.verdict9.specs.OpenRecords.{reply_records, command_records}
-use Rattle.block9.specs.Exchange.{records_of}
+use Rattle.block9.specs.Exchange.{records_in, records_of}
 use Rattle.verdict9.specs.Lines.{line_of}
 
 -- ---- pieces
@@ -147,11 +147,6 @@ lines_at rate places place at [] = []
 lines_at rate places place at (e ∷ es) =
     (if is_among places place then line_of_contradicting rate at e else []) ++ lines_at rate places (place + 1) (at + records_of e) es
 
--- how many records exchanges have
-abbrev pub records_in : List Exchange → ℕ
-records_in [] = 0
-records_in (e ∷ es) = records_of e + records_in es
-
 -- the modes that the deck could show, and `any` where that is every one
 unfoldable pub text_of_shown : ModeSet → List ℕ
 text_of_shown set = if list_all (has set.0) every_mode then codes "any" else text_of_modes set
@@ -175,26 +170,23 @@ abbrev pub line_if_ended : Rate → ℕ → Option EndedExchange → List ℕ
 line_if_ended rate at None = []
 line_if_ended rate at (Some ended) = line_of_before rate at ended.exchange
 
--- a record is on a wire, as a number of records
-abbrev pub own : Wire → Wire → ℕ
-own Controller Controller = 1
-own Deck Deck = 1
-own _ _ = 0
+-- the record that breaks would end a block on this wire: it is on it, and the block wants one byte more than came
+abbrev pub would_end : Wire → Wire → ℕ → ℕ → Bool
+would_end Controller Controller came wanted = came + 1 == wanted
+would_end Deck Deck came wanted = came + 1 == wanted
+would_end _ _ came wanted = false
 
--- how many of a block's bytes came on this wire, and how many its first byte tells, where the block would not be whole even
--- with a record on the wire that breaks
-abbrev pub progress_told : Wire → List LineByte → Wire → List ℕ
-progress_told wire records breaking =
-    if nat_lt (length records + own wire breaking) (block_len records)
-    then (codes ", " ++ decimal (length records)) ++ (codes " of " ++ decimal (block_len records)) ++ codes " bytes" else []
+-- how many bytes came of a block on this wire, and how many it wants, where more are missing than the one that breaks
+abbrev pub progress_told : Wire → Wire → ℕ → ℕ → List ℕ
+progress_told wire breaking came wanted =
+    if nat_lt came wanted && not (would_end wire breaking came wanted)
+    then (codes ", " ++ decimal came) ++ (codes " of " ++ decimal wanted) ++ codes " bytes" else []
 
--- the line of a block that is unfinished, or whose reply is not: these words, and the bytes of its records, which are on this
--- wire; the record that breaks is on the other one given
-unfoldable pub line_of_open : ℕ → List ℕ → Wire → Wire → List LineByte → List ℕ
-line_of_open at words wire breaking [] = []
-line_of_open at words wire breaking (r ∷ records) =
-    text_of_records at (length (r ∷ records)) r.time_us ++ (codes ": " ++ words) ++ hex_bytes [] (bytes_of (r ∷ records))
-    ++ progress_told wire (r ∷ records) breaking ++ codes "\n"
+-- the line of a block that is unfinished, or whose reply is not: these words, the bytes of its records, and how far it has come
+unfoldable pub line_of_open : ℕ → List ℕ → List ℕ → List LineByte → List ℕ
+line_of_open at words progress [] = []
+line_of_open at words progress (r ∷ records) =
+    text_of_records at (length (r ∷ records)) r.time_us ++ (codes ": " ++ words) ++ hex_bytes [] (bytes_of (r ∷ records)) ++ progress ++ codes "\n"
 
 -- what comes before the bytes of a command: its words, where it is complete
 abbrev pub words_if_whole : Rate → Option Command → List ℕ
@@ -221,34 +213,40 @@ limit_told None = []
 limit_told (Some limit) = codes ", limit " ++ decimal limit
 
 -- the right checksum of the block whose last record breaks, where its byte is a wrong one
-abbrev pub block_of : Wire → List LineByte → List LineByte
-block_of Controller tail = command_records tail
-block_of Deck tail = reply_records tail
-
-abbrev pub sum_told : Reason → List LineByte → Wire → List ℕ
-sum_told WrongSum tail wire = codes ", sum " ++ hex_byte (sum (bytes_of (block_of wire tail)) % 256)
-sum_told _ tail wire = []
+abbrev pub sum_told : Reason → ℕ → List ℕ
+sum_told WrongSum total = codes ", sum " ++ hex_byte total
+sum_told _ total = []
 
 -- the line of the record that breaks: its wire and byte, how long after the record before it comes, the limit, and the sum
-unfoldable pub line_of_breaking : ℕ → Reason → List LineByte → Option EndedExchange → LineByte → List ℕ
-line_of_breaking at reason tail before r =
+unfoldable pub line_of_breaking : ℕ → Reason → LineByte → Option ℕ → ℕ → List ℕ
+line_of_breaking at reason r end_us total =
     (codes "record " ++ decimal at) ++ (codes " at " ++ decimal r.time_us)
     ++ (codes ": " ++ letter_of r.wire) ++ hex_byte r.byte
-    ++ since_told (end_before tail before) r ++ limit_told (limit_of reason) ++ sum_told reason tail r.wire ++ codes "\n"
+    ++ since_told end_us r ++ limit_told (limit_of reason) ++ sum_told reason total ++ codes "\n"
 
--- these lines; so many records come before the open ones
-unfoldable pub lines_of_break : Rate → ℕ → ℕ → Reason → List LineByte → Option Command → Option EndedExchange → LineByte → List ℕ
-lines_of_break rate count at reason tail command before r =
-    line_if_ended rate count before
-    ++ line_of_open count (words_if_whole rate command) Controller r.wire (command_records tail)
-    ++ line_of_open (count + length (command_records tail)) (codes "-> ") Deck r.wire (reply_records tail)
-    ++ line_of_breaking at reason tail before r
+-- how many records a command has that is not complete
+abbrev pub wanted_of_command : Open → ℕ
+wanted_of_command o = if is_none o.command then o.wanted else 0
+
+-- the lines of the open records, which are those of a command, and after them those of its reply; so many come before them
+unfoldable pub lines_of_open : Rate → ℕ → List LineByte → Open → Wire → List ℕ
+lines_of_open rate count tail o breaking =
+    line_of_open count (words_if_whole rate o.command) (progress_told Controller breaking o.asked (wanted_of_command o)) (take o.asked tail)
+    ++ line_of_open (count + o.asked) (codes "-> ") (progress_told Deck breaking o.answered o.wanted) (drop o.asked tail)
+
+-- the lines of a break: that of the exchange before, or those of the open records, and that of the record that breaks
+unfoldable pub lines_of_break : Rate → WhyVerdict → List ℕ
+lines_of_break rate (why.Break at reason tail o before r) =
+    line_if_ended rate (at - (length tail.items + 1)) before
+    ++ lines_of_open rate (at - (length tail.items + 1)) tail.items o r.wire
+    ++ line_of_breaking at reason r (end_before tail.items before) o.sum
+lines_of_break rate _ = []
 
 -- ---- the whole text
 
 abbrev pub text_of_why : Profile → WhyVerdict → List ℕ
 text_of_why profile (why.Yes records exchanges tail) = line_of (verdict.Yes records exchanges tail)
-text_of_why profile (why.Break at reason tail command before r) =
-    lines_of_break profile.rate (at - (length tail.items + 1)) at reason tail.items command before r ++ line_of (verdict.No at reason)
+text_of_why profile (why.Break at reason tail o before r) =
+    lines_of_break profile.rate (why.Break at reason tail o before r) ++ line_of (verdict.No at reason)
 text_of_why profile (why.Contradiction at exchanges places known shown) =
     lines_at profile.rate places.items 0 (at - records_in exchanges.items) exchanges.items ++ line_of_could_show profile known shown ++ line_of (verdict.No at NoRun)

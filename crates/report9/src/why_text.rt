@@ -11,9 +11,10 @@ ghost use Rattle.std.specs.Io.KnownBytes.{Appends};
 ghost use Rattle.verdict9.specs.Lines.{line_of};
 ghost use Rattle.text9.specs.Writing.{AppendsPart};
 ghost use Rattle.verdict9.specs.declared.verdict.Verdict.TheVariants as verdict;
-ghost use Rattle.report9.specs.WhyText.{line_of_could_show, lines_at, records_in, text_of_shown, text_of_why};
+ghost use Rattle.block9.specs.Exchange.{records_in};
+ghost use Rattle.report9.specs.WhyText.{line_of_could_show, lines_at, text_of_shown, text_of_why};
 
-use block9::{Exchange, Reason};
+use block9::{Exchange, Reason, records_in};
 use break_lines::put_break;
 use deck9::{Hands, Knowledge, ModeSet, Profile};
 use exchange_line::put_contradicting;
@@ -114,24 +115,8 @@ pub fn put_why_for(
                 tail: *tail,
             },
         ),
-        WhyVerdict::Break {
-            at,
-            reason,
-            tail,
-            command,
-            before,
-            breaking,
-        } => {
-            put_break(
-                text,
-                profile.rate,
-                *at,
-                *reason,
-                tail.as_slice(),
-                command,
-                before,
-                *breaking,
-            )?;
+        WhyVerdict::Break { at, reason, .. } => {
+            put_break(text, profile.rate, verdict)?;
             put_no(text, *at, *reason)
         }
         WhyVerdict::Contradiction {
@@ -180,17 +165,6 @@ fn put_lines(
         at += exchange.records() as u128;
     }
     Ok(())
-}
-
-/// How many records these exchanges have.
-fn records_in(exchanges: &[Exchange]) -> u128
-    ensures { result ≡ records_in exchanges.now }
-{
-    let mut records = 0u128;
-    for exchange in exchanges.iter() {
-        records += exchange.records() as u128;
-    }
-    records
 }
 
 /// Puts the line of what the deck could show.

@@ -1,4 +1,3 @@
 pub mod EmptyLemmas
-pub mod HeadLemmas
 pub mod PrintLemmas
 pub mod Words

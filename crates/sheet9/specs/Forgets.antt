@@ -3,11 +3,12 @@ use Rattle.std.specs.Prelude.{ℕ, ◌==◌, if◌then◌else◌, List, [], ◌�
 use Rattle.std.specs.Map.{lookup}
 use Rattle.std.specs.Str.{bytes_eq}
 use Rattle.toml.specs.Data.{Data, Members, no_members, member, as_str, as_table}
+use Rattle.block9.specs.Command.{is_listed_head}
 use Rattle.deck9.specs.declared.deck.Forgotten.{Forgotten}
 use Rattle.deck9.specs.declared.deck.Forgotten.TheVariants.{Nothing, Motion, Registers, Tape, Everything}
 use Rattle.sheet9.specs.declared.refusal.ForgetsFault.{ForgetsFault}
 use Rattle.sheet9.specs.declared.refusal.ForgetsFault.TheVariants.{NotTwoBytes, Reply, Listed, NamedTwice, NotForgotten}
-use Rattle.sheet9.specs.Head.{head_named, is_reply, is_listed}
+use Rattle.sheet9.specs.Head.{head_named, is_reply}
 use Rattle.sheet9.specs.Refusal.{Fault, ForgetsNoTable, Forgets, and_then}
 
 -- the words for what is forgotten
@@ -32,7 +33,7 @@ entry_of key value = entry (head_named key) (option_and_then forgotten_named (as
     entry None forgotten = Err NotTwoBytes
     entry (Some head) forgotten =
         if is_reply head then Err Reply
-        else (if is_listed head then Err Listed else forgets_at head forgotten)
+        else (if is_listed_head head then Err Listed else forgets_at head forgotten)
 
 -- what is named for a command
 abbrev pub named_at : List (ℕ × Forgotten) → ℕ → Option Forgotten

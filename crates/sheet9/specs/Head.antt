@@ -1,9 +1,7 @@
 -- The command that a key of [forgets] names, and which commands it may name.
-use Rattle.std.specs.Prelude.{ℕ, ◌+◌, ◌*◌, ◌/◌, ◌==◌, ◌||◌, if◌then◌else◌, Bool, List, [], ◌∷◌, Option, Some, None}
-use Rattle.std.specs.List.{list_any}
-use Rattle.tc25.specs.declared.rate.Rate.TheVariants.{Fps25}
+use Rattle.std.specs.Prelude.{ℕ, ◌+◌, ◌*◌, ◌==◌, ◌||◌, if◌then◌else◌, Bool, List, [], ◌∷◌, Option, Some, None}
 use Rattle.capture9.specs.Fields.{byte_in}
-use Rattle.block9.specs.Command.{table_of}
+use Rattle.block9.specs.Command.{group_of}
 
 -- a block's first two bytes as one number
 abbrev pub head_from : Option ℕ → Option ℕ → Option ℕ
@@ -15,14 +13,6 @@ abbrev pub head_named : List ℕ → Option ℕ
 head_named (a ∷ b ∷ blank ∷ c ∷ d ∷ []) = if blank == 32 then head_from (byte_in (a ∷ b ∷ [])) (byte_in (c ∷ d ∷ [])) else None
 head_named _ = None
 
--- the group of a command: the high four bits of its first byte
-abbrev pub group_of : ℕ → ℕ
-group_of head = head / 0x1000
-
 -- blocks of groups 1 and 7 are a deck's replies
 abbrev pub is_reply : ℕ → Bool
 is_reply head = group_of head == 1 || group_of head == 7
-
--- some row of its group's table has these first two bytes; the rate plays no part in that
-abbrev pub is_listed : ℕ → Bool
-is_listed head = list_any (λ row. row.head == head) (table_of Fps25 (group_of head))

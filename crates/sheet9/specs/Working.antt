@@ -1,9 +1,7 @@
 -- Words that only private functions cite.
-use Rattle.std.specs.Prelude.{◌≡◌, ℕ, List, Bool, true, false, Option, Some, None, Result, Err, ⊤, IsOkAnd}
+use Rattle.std.specs.Prelude.{◌≡◌, ℕ, List, None, Result, Err, ⊤, IsOkAnd}
 use Rattle.std.specs.BTreeMap.{BTreeMap, get}
 use Rattle.std.specs.Ordering.{nat_cmp}
-use Rattle.block9.specs.declared.command.Command.{Command}
-use Rattle.block9.specs.declared.command.Command.TheVariants.{Unlisted}
 use Rattle.deck9.specs.declared.deck.Forgotten.{Forgotten}
 use Rattle.sheet9.specs.declared.refusal.SheetError.{SheetError}
 use Rattle.sheet9.specs.declared.refusal.SheetError.TheVariants as error
@@ -23,8 +21,3 @@ TellsOf meaning error.OutOfMemory = ⊤
 -- a map has what is named, and nothing else
 abbrev pub Holds : Result (List (ℕ × Forgotten)) Fault → BTreeMap ℕ Forgotten → Type 0
 Holds meaning m = IsOkAnd meaning (λ named. (head : ℕ) → get nat_cmp m head ≡ named_at named head)
-
--- a block is a command that is not listed
-abbrev pub is_unlisted : Option Command → Bool
-is_unlisted (Some (Unlisted head)) = true
-is_unlisted _ = false

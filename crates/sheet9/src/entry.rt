@@ -4,8 +4,9 @@ ghost use Rattle.toml.specs.Data.{as_str};
 ghost use Rattle.toml.specs.View.{view};
 ghost use Rattle.sheet9.specs.Forgets.{entry_of, forgotten_named};
 
-use crate::head::{head_named, is_listed, is_reply};
+use crate::head::{head_named, is_reply};
 use crate::refusal::ForgetsFault;
+use block9::Command;
 use deck9::Forgotten;
 use toml::Value;
 
@@ -20,7 +21,7 @@ pub(crate) fn entry_of(key: &str, value: &Value) -> Result<(u32, Forgotten), For
     if is_reply(head) {
         return Err(ForgetsFault::Reply);
     }
-    if is_listed(head) {
+    if Command::is_listed_head(head) {
         return Err(ForgetsFault::Listed);
     }
     match forgotten_in(value) {

@@ -1,7 +1,7 @@
 //! What an empty sheet means, and what the text of an error is: each the contract of a function that does nothing.
 ghost use Rattle.std.specs.Prelude.{◌≡◌, ◌↔◌, ℕ, true, List, None, Some, IsOkAnd};
 ghost use Rattle.std.specs.List.{list_all};
-ghost use Rattle.block9.specs.declared.pairer.Exchange.{Exchange};
+ghost use Rattle.block9.specs.declared.exchange.Exchange.{Exchange};
 ghost use Rattle.deck9.specs.declared.deck.Deck.{Deck};
 ghost use Rattle.deck9.specs.declared.profile.Profile.{Profile};
 ghost use Rattle.deck9.specs.Run.{HasRun};

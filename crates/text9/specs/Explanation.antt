@@ -4,7 +4,7 @@ use Rattle.std.specs.Fmt.{decimal}
 use Rattle.tc25.specs.Day.{text_of}
 use Rattle.tc25.specs.declared.rate.Rate.{Rate}
 use Rattle.block9.specs.declared.block.Block.{Block}
-use Rattle.block9.specs.declared.pairer.Exchange.{Exchange}
+use Rattle.block9.specs.declared.exchange.Exchange.{Exchange}
 use Rattle.block9.specs.Block.{first_datum, head_of}
 use Rattle.block9.specs.Command.{is_ack, is_nak, name_of}
 use Rattle.block9.specs.Nak.{nak_bits}

@@ -1,5 +1,5 @@
 -- The names from elsewhere that the proofs of this crate cite, passed on from one place. Declares nothing.
-pub use Rattle.block9.specs.declared.pairer.Exchange.{Exchange}
+pub use Rattle.block9.specs.declared.exchange.Exchange.{Exchange}
 pub use Rattle.deck9.proofs.DriftLemmas.{drift_from_pairs, pairs_from_drift, same_entries}
 pub use Rattle.deck9.proofs.ModeLemmas.{is_mode-same}
 pub use Rattle.deck9.proofs.ModeSetLemmas.{all_has, any_mode, find_mode, has-and, has-or, just_has, just_mode, mode_just, mode_self, mode_some, nothing_has}

@@ -1,6 +1,6 @@
 //! The law of what is known, the contract of a function that does nothing.
 ghost use Rattle.std.specs.Prelude.{◌≡◌, List};
-ghost use Rattle.block9.specs.declared.pairer.Exchange.{Exchange};
+ghost use Rattle.block9.specs.declared.exchange.Exchange.{Exchange};
 ghost use Rattle.deck9.specs.Knowledge.{IsKnowledge};
 ghost use Rattle.deck9.specs.Run.{Ends, HasRun};
 

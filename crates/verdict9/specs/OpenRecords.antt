@@ -1,9 +1,7 @@
 -- The records that are open where a record breaks a rule: those after the last complete exchange before it.
-use Rattle.std.specs.Prelude.{◌≡◌, ℕ, ◌+◌, Bool, if◌then◌else◌, true, false, Option, Some, None, List, [], ◌∷◌, ◌++◌, length}
+use Rattle.std.specs.Prelude.{◌≡◌, ℕ, ◌+◌, Option, Some, None, List, [], ◌∷◌, ◌++◌, length}
 use Rattle.capture9.specs.declared.line_byte.LineByte.{LineByte}
-use Rattle.capture9.specs.declared.line_byte.Wire.{Wire}
-use Rattle.capture9.specs.declared.line_byte.Wire.TheVariants.{Controller, Deck}
-use Rattle.block9.specs.declared.pairer.Exchange.{Exchange}
+use Rattle.block9.specs.declared.exchange.Exchange.{Exchange}
 use Rattle.block9.specs.Exchange.{Cut}
 use Rattle.block9.specs.Line.{last_time}
 use Rattle.tc25.specs.declared.rate.Rate.{Rate}
@@ -25,17 +23,3 @@ IsBefore records exchanges (r ∷ tail) told = told ≡ None
 IsBefore records exchanges [] None = exchanges ≡ []
 IsBefore records exchanges [] (Some last) =
     (first : List Exchange) × (exchanges ≡ first ++ last.exchange ∷ []) × (last.end_us ≡ last_time records)
-
--- a command comes on the controller's wire
-abbrev pub is_commands_wire : Wire → Bool
-is_commands_wire Controller = true
-is_commands_wire Deck = false
-
--- the records of the command come first, and after them are those of its reply
-abbrev pub command_records : List LineByte → List LineByte
-command_records [] = []
-command_records (r ∷ records) = if is_commands_wire r.wire then r ∷ command_records records else []
-
-abbrev pub reply_records : List LineByte → List LineByte
-reply_records [] = []
-reply_records (r ∷ records) = if is_commands_wire r.wire then reply_records records else r ∷ records

@@ -1,6 +1,6 @@
 //! What is answered to a capture where it is asked why no run of the deck remains.
 
-use block9::{Command, Exchange, Reason};
+use block9::{Exchange, Open, Reason};
 use capture9::LineByte;
 use deck9::{Knowledge, ModeSet};
 
@@ -36,8 +36,9 @@ pub enum WhyVerdict {
         /// The records after the last complete exchange, without this one: those of a command, at most 18, and after them
         /// those of its reply, at most 17.
         tail: Vec<LineByte>,
-        /// What the open command means, where it is complete.
-        command: Option<Command>,
+        /// What these records are: what the command means, where it is complete, how many records are its own and how many its
+        /// reply's, and how far the block has come that is not complete.
+        open: Open,
         /// The last complete exchange, where no record is open: then it ends with the record before this one. None where one
         /// is open, and where there is no exchange.
         before: Option<EndedExchange>,

@@ -1,5 +1,5 @@
 -- The names from elsewhere that the proofs of this crate cite, passed on from one place. Declares nothing.
-pub use Rattle.block9.specs.declared.pairer.Exchange.{Exchange}
+pub use Rattle.block9.specs.declared.exchange.Exchange.{Exchange}
 pub use Rattle.block9.specs.Command.{is_nak}
 pub use Rattle.deck9.proofs.LawLemmas.{drift_join}
 pub use Rattle.deck9.specs.Drift.{Drift}

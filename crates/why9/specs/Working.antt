@@ -1,6 +1,6 @@
 -- What the clauses of the search cite.
 use Rattle.std.specs.Prelude.{ℕ, ◌≡◌, ◌<◌, ◌≤◌, ◌+◌, ◌↔◌, ◌++◌, nat_le, Bool, false, List, length, drop}
-use Rattle.block9.specs.declared.pairer.Exchange.{Exchange}
+use Rattle.block9.specs.declared.exchange.Exchange.{Exchange}
 use Rattle.deck9.specs.declared.profile.Profile.{Profile}
 use Rattle.deck9.specs.declared.state.State.{State}
 use Rattle.deck9.specs.Contradict.{IsBelievingFrom, MayDo}

@@ -1,6 +1,6 @@
 //! The law of replies that contradict one another, the contract of a function that does nothing.
 ghost use Rattle.std.specs.Prelude.{◌≡◌, ℕ, List};
-ghost use Rattle.block9.specs.declared.pairer.Exchange.{Exchange};
+ghost use Rattle.block9.specs.declared.exchange.Exchange.{Exchange};
 ghost use Rattle.why9.specs.Contradiction.{IsContradiction};
 
 use deck9::Profile;

@@ -1,28 +1,47 @@
-//! The tables of commands: which command the first two bytes of a block spell, a function for each group.
-ghost use Rattle.std.specs.Prelude.{◌≡◌};
+//! The tables of commands: which command the first two bytes of a block spell, a function for each group. What the data of the
+//! block say is not in a table: there a blank stands in its place.
+ghost use Rattle.std.specs.Prelude.{◌≡◌, ◌==◌, is_some};
+ghost use Rattle.tc25.specs.declared.rate.Rate.{Rate as ARate};
 ghost use Rattle.block9.specs.declared.block.Block.{Block as ABlock};
-ghost use Rattle.block9.specs.Command.{meaning_in, preset_control, selected, sense_requests, system_control, transport_control};
+ghost use Rattle.block9.specs.Command.{has_row, meaning_in, preset_control, sense_requests, system_control, table_of, transport_control};
+ghost use Rattle.block9.specs.Working.Row.{read_off};
 
-use crate::block::Block;
 use crate::command::Command;
-use tc25::Rate;
+use tc25::{Rate, TimeCode};
+
+/// The command that a group's table has for the first two bytes of a block, and `None` where it has none.
+pub(super) fn listed(group: u32, head: u32) -> Option<Command>
+    ensures meaning { (rate : ARate) (b : ABlock) → meaning_in (table_of rate group) head b ≡ read_off rate head b result }
+    ensures listed { is_some result ≡ has_row (table_of Rate.Fps25 group) head }
+{
+    match group {
+        0 => system_control(head),
+        2 => transport_control(head),
+        4 => preset_control(head),
+        6 => sense_requests(head),
+        _ => None,
+    }
+}
 
 /// The system control commands: group 0.
-pub(super) fn system_control(head: u32) -> Option<Command>
-    ensures { (b : ABlock) → result ≡ meaning_in system_control head b }
+fn system_control(head: u32) -> Option<Command>
+    ensures meaning { (rate : ARate) (b : ABlock) → meaning_in system_control head b ≡ read_off rate head b result }
+    ensures listed { is_some result ≡ has_row system_control head }
 {
     match head {
         0x00_0C => Some(Command::LocalDisable),
         0x00_11 => Some(Command::DeviceType),
         0x00_1D => Some(Command::LocalEnable),
-        _ => Some(Command::Unlisted { head }),
+        _ => None,
     }
 }
 
 /// The transport control commands: group 2.
-pub(super) fn transport_control(rate: Rate, head: u32, block: &Block) -> Option<Command>
-    ensures { result ≡ meaning_in (transport_control rate) head block.now }
+fn transport_control(head: u32) -> Option<Command>
+    ensures meaning { (rate : ARate) (b : ABlock) → meaning_in (transport_control rate) head b ≡ read_off rate head b result }
+    ensures listed { is_some result ≡ has_row (transport_control Rate.Fps25) head }
 {
+    let time = TimeCode::default();
     match head {
         0x20_00 => Some(Command::Stop),
         0x20_01 => Some(Command::Play),
@@ -39,35 +58,27 @@ pub(super) fn transport_control(rate: Rate, head: u32, block: &Block) -> Option<
         0x21_22 | 0x22_22 => Some(Command::VarReverse),
         0x21_23 | 0x22_23 => Some(Command::ShuttleReverse),
         0x20_30 => Some(Command::Preroll),
-        0x24_31 => Some(Command::CueUpWithData {
-            time: block.time_at(rate)?,
-        }),
+        0x24_31 => Some(Command::CueUpWithData { time }),
         0x20_34 => Some(Command::SyncPlay),
-        _ => Some(Command::Unlisted { head }),
+        _ => None,
     }
 }
 
 /// The preset and select control commands: group 4.
-pub(super) fn preset_control(rate: Rate, head: u32, block: &Block) -> Option<Command>
-    ensures { result ≡ meaning_in (preset_control rate) head block.now }
+fn preset_control(head: u32) -> Option<Command>
+    ensures meaning { (rate : ARate) (b : ABlock) → meaning_in (preset_control rate) head b ≡ read_off rate head b result }
+    ensures listed { is_some result ≡ has_row (preset_control Rate.Fps25) head }
 {
+    let time = TimeCode::default();
     match head {
         0x40_10 => Some(Command::InEntry),
         0x40_11 => Some(Command::OutEntry),
         0x40_12 => Some(Command::AudioInEntry),
         0x40_13 => Some(Command::AudioOutEntry),
-        0x44_14 => Some(Command::InDataPreset {
-            time: block.time_at(rate)?,
-        }),
-        0x44_15 => Some(Command::OutDataPreset {
-            time: block.time_at(rate)?,
-        }),
-        0x44_16 => Some(Command::AudioInDataPreset {
-            time: block.time_at(rate)?,
-        }),
-        0x44_17 => Some(Command::AudioOutDataPreset {
-            time: block.time_at(rate)?,
-        }),
+        0x44_14 => Some(Command::InDataPreset { time }),
+        0x44_15 => Some(Command::OutDataPreset { time }),
+        0x44_16 => Some(Command::AudioInDataPreset { time }),
+        0x44_17 => Some(Command::AudioOutDataPreset { time }),
         0x40_18 => Some(Command::InShiftPlus),
         0x40_19 => Some(Command::InShiftMinus),
         0x40_1A => Some(Command::OutShiftPlus),
@@ -89,33 +100,22 @@ pub(super) fn preset_control(rate: Rate, head: u32, block: &Block) -> Option<Com
         0x41_36 => Some(Command::TimerModeSelect),
         0x40_40 => Some(Command::AutoModeOff),
         0x40_41 => Some(Command::AutoModeOn),
-        _ => Some(Command::Unlisted { head }),
+        _ => None,
     }
 }
 
 /// The sense requests: group 6.
-pub(super) fn sense_requests(head: u32, block: &Block) -> Option<Command>
-    ensures { result ≡ meaning_in sense_requests head block.now }
+fn sense_requests(head: u32) -> Option<Command>
+    ensures meaning { (rate : ARate) (b : ABlock) → meaning_in sense_requests head b ≡ read_off rate head b result }
+    ensures listed { is_some result ≡ has_row sense_requests head }
 {
     match head {
-        0x61_0C => time_sense(block),
+        0x61_0C => Some(Command::CurrentTimeSense { selector: 0 }),
         0x60_10 => Some(Command::InDataSense),
         0x60_11 => Some(Command::OutDataSense),
         0x60_12 => Some(Command::AudioInDataSense),
         0x60_13 => Some(Command::AudioOutDataSense),
-        0x61_20 => Some(Command::StatusSense {
-            asked: block.first_datum(),
-        }),
-        _ => Some(Command::Unlisted { head }),
-    }
-}
-
-/// The request for a time. One with another selector is not listed.
-fn time_sense(block: &Block) -> Option<Command>
-    ensures { result ≡ (selected 0x61_0C Command.CurrentTimeSense).meaning block.now }
-{
-    match block.first_datum() {
-        selector @ (0x01..=0x04 | 0x08) => Some(Command::CurrentTimeSense { selector }),
-        _ => Some(Command::Unlisted { head: 0x61_0C }),
+        0x61_20 => Some(Command::StatusSense { asked: 0 }),
+        _ => None,
     }
 }

@@ -2,7 +2,7 @@
 use Rattle.std.specs.Prelude.{◌+◌, ◌++◌, ◌∷◌, ◌≡◌, ◌≤◌, ◌⊎◌}
 use Rattle.std.specs.Option.{ForSome}
 use Rattle.block9.specs.Exchange.{records_of}
-use Rattle.report9.specs.WhyText.{records_in}
+use Rattle.block9.specs.Exchange.{records_in}
 use Rattle.verdict9.specs.Telling.{view_of}
 use Rattle.verdict9.specs.declared.verdict.Telling.{Telling}
 use Rattle.verdict9.specs.declared.verdict.Telling.TheVariants.{Why}

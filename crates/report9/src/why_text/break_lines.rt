@@ -1,40 +1,44 @@
 //! The lines of a record that breaks a rule of blocks, pairing or timing, and of the records that are open before it or the
 //! exchange before it.
-ghost use Rattle.std.specs.Prelude.{◌≡◌, ◌+◌, ◌-◌, ◌≤◌, ◌^◌, ◌++◌, ◌∷◌, [], OnOk, codes, length};
+ghost use Rattle.std.specs.Prelude.{◌≡◌, ◌+◌, ◌-◌, ◌≤◌, ◌<◌, ◌^◌, ◌++◌, ◌∷◌, [], OnOk, codes, length};
 ghost use Rattle.block9.specs.Line.{bytes_of};
 ghost use Rattle.capture9.specs.declared.line_byte.Wire.TheVariants.{Controller, Deck};
-ghost use Rattle.report9.specs.WhyText.{block_of, end_before, hex_bytes, letter_of, limit_told, line_if_ended, line_of_breaking, line_of_open, lines_of_break, own, progress_told, since_told, sum_told, words_if_whole};
+ghost use Rattle.report9.specs.WhyText.{end_before, hex_bytes, letter_of, limit_told, line_if_ended, line_of_breaking, line_of_open, lines_of_break, lines_of_open, progress_told, since_told, sum_told, wanted_of_command, words_if_whole, would_end};
 
 use crate::why_text::block_bytes::put_next;
 use crate::why_text::exchange_line::{put_before, put_records, put_words};
-use block9::{Command, Reason, byte_sum};
+use block9::{Command, Open, Reason};
 use capture9::{LineByte, Wire};
 use std::alloc::AllocError;
 use tc25::Rate;
 use text9::{put_count, put_hex, put_text, put_word};
-use verdict9::{EndedExchange, command_len};
+use verdict9::{EndedExchange, WhyVerdict};
 
 /// Puts the line of the exchange before, where none is open, or that of the open command and that of its reply, each where it
-/// has records; and that of the record that breaks.
+/// has records; and that of the record that breaks. Puts nothing for another verdict than a break.
 pub(super) fn put_break(
     line: &mut Vec<u8>,
     rate: Rate,
-    at: u32,
-    reason: Reason,
-    tail: &[LineByte],
-    command: &Option<Command>,
-    before: &Option<EndedExchange>,
-    breaking: LineByte,
+    verdict: &WhyVerdict,
 ) -> Result<(), AllocError>
-    ensures { OnOk result (line.new.items ≡ line.old.items
-        ++ lines_of_break rate (at - (length tail.now + 1)) at reason tail.now command.now before.now breaking) }
+    ensures { OnOk result (line.new.items ≡ line.old.items ++ lines_of_break rate verdict.now) }
 {
-    let count = u128::from(at).saturating_sub(tail.len() as u128 + 1);
-    let (asked, answered) = tail.split_at(command_len(tail));
+    let WhyVerdict::Break {
+        at,
+        reason,
+        tail,
+        open: so_far,
+        before,
+        breaking,
+    } = verdict
+    else {
+        return Ok(());
+    };
+    let count = u128::from(*at).saturating_sub(tail.len() as u128 + 1);
+    let end_us = end_before(tail.as_slice(), before);
     put_if_ended(line, rate, count, before)?;
-    put_open_command(line, rate, count, command, asked, breaking.wire)?;
-    put_open_reply(line, count + asked.len() as u128, answered, breaking.wire)?;
-    put_breaking(line, at, reason, tail, before, breaking)
+    put_open(line, rate, count, tail.as_slice(), so_far, breaking.wire)?;
+    put_breaking(line, *at, *reason, *breaking, end_us, so_far.sum)
 }
 
 /// Puts the line of the exchange before, where there is one. Its last record has this number.
@@ -53,79 +57,107 @@ fn put_if_ended(
     }
 }
 
+/// Puts the line of the open command and that of its reply, each where it has records. So many records come before them.
+fn put_open(
+    line: &mut Vec<u8>,
+    rate: Rate,
+    count: u128,
+    tail: &[LineByte],
+    so_far: &Open,
+    breaking: Wire,
+) -> Result<(), AllocError>
+    requires { count ≤ 2 ^ 99 }
+    ensures { OnOk result (line.new.items ≡ line.old.items ++ lines_of_open rate count tail.now so_far.now breaking) }
+{
+    let came = so_far.asked;
+    let (asked, answered) = tail.split_at(came.min(tail.len()));
+    put_open_command(line, rate, count, asked, so_far, breaking)?;
+    put_open_reply(line, count + came as u128, answered, so_far, breaking)
+}
+
 /// Puts the line of a command's records: its name and time where it is complete, its bytes, and how far it has come. So many
 /// records come before them.
 fn put_open_command(
     line: &mut Vec<u8>,
     rate: Rate,
-    before: u128,
-    command: &Option<Command>,
+    count: u128,
     asked: &[LineByte],
+    so_far: &Open,
     breaking: Wire,
 ) -> Result<(), AllocError>
-    requires { before ≤ 2 ^ 100 }
+    requires { count ≤ 2 ^ 100 }
     ensures { OnOk result (line.new.items ≡ line.old.items
-        ++ line_of_open before (words_if_whole rate command.now) Controller breaking asked.now) }
+        ++ line_of_open count (words_if_whole rate so_far.now.command) (progress_told Controller breaking so_far.now.asked (wanted_of_command so_far.now)) asked.now) }
 {
     let Some((first, rest)) = asked.split_first() else {
         return Ok(());
     };
-    put_records(line, before, asked.len(), first.time_us)?;
-    put_words_if_whole(line, rate, ": ", command)?;
+    let wanted = wanted_of_command(so_far);
+    put_records(line, count, asked.len(), first.time_us)?;
+    put_words_if_whole(line, rate, ": ", &so_far.command)?;
     put_bytes(line, *first, rest)?;
-    put_progress(line, Wire::Controller, asked, breaking)?;
+    put_progress(line, Wire::Controller, breaking, so_far.asked, wanted)?;
     put_text(line, "\n")
 }
 
-/// Puts the line of a reply's records: its bytes, and how far it has come.
+/// How many records the command has, where it is not complete.
+fn wanted_of_command(so_far: &Open) -> usize
+    ensures { result ≡ wanted_of_command so_far.now }
+{
+    match so_far.command {
+        None => so_far.wanted,
+        Some(_) => 0,
+    }
+}
+
+/// Puts the line of a reply's records: its bytes, and how far it has come. So many records come before them.
 fn put_open_reply(
     line: &mut Vec<u8>,
-    before: u128,
+    count: u128,
     answered: &[LineByte],
+    so_far: &Open,
     breaking: Wire,
 ) -> Result<(), AllocError>
-    requires { before ≤ 2 ^ 100 }
+    requires { count ≤ 2 ^ 100 }
     ensures { OnOk result (line.new.items ≡ line.old.items
-        ++ line_of_open before (codes "-> ") Deck breaking answered.now) }
+        ++ line_of_open count (codes "-> ") (progress_told Deck breaking so_far.now.answered so_far.now.wanted) answered.now) }
 {
     let Some((first, rest)) = answered.split_first() else {
         return Ok(());
     };
-    put_records(line, before, answered.len(), first.time_us)?;
+    put_records(line, count, answered.len(), first.time_us)?;
     put_word(line, ": ", "-> ")?;
     put_bytes(line, *first, rest)?;
-    put_progress(line, Wire::Deck, answered, breaking)?;
+    put_progress(line, Wire::Deck, breaking, so_far.answered, so_far.wanted)?;
     put_text(line, "\n")
 }
 
-/// Puts how many of a block's bytes came on a wire, and how many there are, where more are missing than the one that breaks.
+/// Puts how many bytes of a block came on a wire, and how many it wants, where more are missing than the one that breaks.
 fn put_progress(
     line: &mut Vec<u8>,
     wire: Wire,
-    records: &[LineByte],
     breaking: Wire,
+    came: usize,
+    wanted: usize,
 ) -> Result<(), AllocError>
-    ensures { OnOk result (line.new.items ≡ line.old.items ++ progress_told wire records.now breaking) }
+    ensures { OnOk result (line.new.items ≡ line.old.items ++ progress_told wire breaking came wanted) }
 {
-    let Some(first) = records.first() else {
-        return Ok(());
-    };
-    let whole = usize::from(first.byte % 16) + 3;
-    if records.len() + own(wire, breaking) >= whole {
+    if came >= wanted || would_end(wire, breaking, came, wanted) {
         return Ok(());
     }
-    put_count(line, ", ", records.len() as u64)?;
-    put_count(line, " of ", whole as u64)?;
+    put_count(line, ", ", came as u64)?;
+    put_count(line, " of ", wanted as u64)?;
     put_text(line, " bytes")
 }
 
-/// A record on a wire, counted where it is on this one.
-fn own(wire: Wire, other: Wire) -> usize
-    ensures { result ≡ own wire other }
+/// Whether the record that breaks would end a block on this wire.
+fn would_end(wire: Wire, breaking: Wire, came: usize, wanted: usize) -> bool
+    requires { came < wanted }
+    ensures { result ≡ would_end wire breaking came wanted }
 {
-    match (wire, other) {
-        (Wire::Controller, Wire::Controller) | (Wire::Deck, Wire::Deck) => 1,
-        _ => 0,
+    match (wire, breaking) {
+        (Wire::Controller, Wire::Controller) | (Wire::Deck, Wire::Deck) => came + 1 == wanted,
+        _ => false,
     }
 }
 
@@ -169,19 +201,19 @@ fn put_breaking(
     line: &mut Vec<u8>,
     at: u32,
     reason: Reason,
-    tail: &[LineByte],
-    before: &Option<EndedExchange>,
     breaking: LineByte,
+    end_us: Option<u64>,
+    sum: u8,
 ) -> Result<(), AllocError>
-    ensures { OnOk result (line.new.items ≡ line.old.items ++ line_of_breaking at reason tail.now before.now breaking) }
+    ensures { OnOk result (line.new.items ≡ line.old.items ++ line_of_breaking at reason breaking end_us sum) }
 {
     put_count(line, "record ", u64::from(at))?;
     put_count(line, " at ", breaking.time_us)?;
     put_word(line, ": ", letter_of(breaking.wire))?;
     put_hex(line, u32::from(breaking.byte))?;
-    put_since(line, end_before(tail, before), breaking)?;
+    put_since(line, end_us, breaking)?;
     put_limit(line, reason.limit_us())?;
-    put_sum(line, reason, tail, breaking.wire)?;
+    put_sum(line, reason, sum)?;
     put_text(line, "\n")
 }
 
@@ -229,31 +261,15 @@ fn put_limit(line: &mut Vec<u8>, limit_us: Option<u64>) -> Result<(), AllocError
     }
 }
 
-/// Puts the right checksum of the block that a record on this wire would end, where its byte is a wrong one.
-fn put_sum(
-    line: &mut Vec<u8>,
-    reason: Reason,
-    tail: &[LineByte],
-    wire: Wire,
-) -> Result<(), AllocError>
-    ensures { OnOk result (line.new.items ≡ line.old.items ++ sum_told reason tail.now wire) }
+/// Puts the right checksum, where the record's byte is a wrong one.
+fn put_sum(line: &mut Vec<u8>, reason: Reason, sum: u8) -> Result<(), AllocError>
+    ensures { OnOk result (line.new.items ≡ line.old.items ++ sum_told reason sum) }
 {
     match reason {
         Reason::WrongSum => {
             put_text(line, ", sum ")?;
-            put_hex(line, u32::from(byte_sum(block_of(wire, tail))))
+            put_hex(line, u32::from(sum))
         }
         _ => Ok(()),
-    }
-}
-
-/// The open records on a wire.
-fn block_of<'a>(wire: Wire, tail: &'a [LineByte]) -> &'a [LineByte]
-    ensures { result.now ≡ block_of wire tail.entry.now }
-{
-    let (asked, answered) = tail.split_at(command_len(tail));
-    match wire {
-        Wire::Controller => asked,
-        Wire::Deck => answered,
     }
 }

@@ -1,9 +1,9 @@
-use Rattle.report9.proofs.Words.{append_assoc, Controller, IfOk-equal, line_of_open, rules, words_if_whole}
+use Rattle.report9.proofs.Words.{append_assoc, IfOk-equal, line_of_open, rules}
 use Rattle.report9.proofs.why_text.break_lines.put_open_command.Goals as goal
 use Rattle.report9.proofs.Lines.{no_line}
 
 pub returns-in_default : goal.returns-in_default
-returns-in_default c = no_line c.args.before (words_if_whole c.args.rate c.args.command.now) Controller c.args.breaking c.args.asked.now _ c.in_default.ensures.cases
+returns-in_default c = no_line c.args.count _ _ c.args.asked.now _ c.in_default.ensures.cases
 
 pub returns : goal.returns
 unfolding line_of_open

@@ -1,9 +1,9 @@
-use Rattle.report9.proofs.Words.{append_assoc, codes, Deck, IfOk-equal, line_of_open, rules}
+use Rattle.report9.proofs.Words.{append_assoc, IfOk-equal, line_of_open, rules}
 use Rattle.report9.proofs.why_text.break_lines.put_open_reply.Goals as goal
 use Rattle.report9.proofs.Lines.{no_line}
 
 pub returns-in_default : goal.returns-in_default
-returns-in_default c = no_line c.args.before (codes "-> ") Deck c.args.breaking c.args.answered.now _ c.in_default.ensures.cases
+returns-in_default c = no_line c.args.count _ _ c.args.answered.now _ c.in_default.ensures.cases
 
 pub returns : goal.returns
 unfolding line_of_open
