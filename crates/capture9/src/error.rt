@@ -5,7 +5,7 @@ use std::fmt;
 
 /// What is wrong with a capture, or with its reading.
 ///
-/// The rules of the text are this profile's choice. Where several hold at one row, the first of this
+/// What a text must be is a choice of these rules. Where several are wrong at one row, the first of this
 /// order is told: `Read` or `OutOfMemory`, whichever happened, and then `TooMany`, `Fields`, `Time`,
 /// `Wire`, `Byte`, `Backwards`.
 #[derive(Clone, Copy, Debug, PartialEq, Eq)]

@@ -80,7 +80,7 @@ fn shown_by(datum1: Option<u8>, datum2: Option<u8>) -> Option<ModeSet>
     Some(modes_allowed(datum1, datum2))
 }
 
-/// The modes that data 1 and 2 allow, from the last to the first.
+/// The modes that data 1 and 2 allow, put together from the last to the first.
 fn modes_allowed(datum1: Option<u8>, datum2: Option<u8>) -> ModeSet
     ensures { result ≡ of_modes (filter (may_show datum1 datum2) every_mode) }
 {
