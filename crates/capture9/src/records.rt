@@ -1,6 +1,6 @@
 //! The records of a text, one at a time.
 
-ghost use Rattle.std.specs.Prelude.{◌≡◌, ◌≢◌, ◌+◌, ◌≤◌, ◌↔◌, true, false, IfErr, IfNone, IfOk, IfSome, MatchBool, OnErr, OnOk, option_map};
+ghost use Rattle.std.specs.Prelude.{◌≡◌, ◌≢◌, ◌+◌, ◌≤◌, ◌↔◌, true, false, IfErr, IfNone, IfOk, IfSome, IsTrue, MatchBool, OnErr, OnOk, option_map};
 ghost use Rattle.csv.specs.Reading.{error_kind};
 ghost use Rattle.csv.specs.Records.{fields_of};
 ghost use Rattle.csv.specs.declared.error.ErrorKind.TheVariants.{OutOfMemory};
@@ -88,8 +88,8 @@ impl<R: Read + Drop> Records<R> {
         } }
     {
         Records {
-            // A row may have any number of fields here, since the number is a rule of its own; a byte
-            // order mark before the header is taken away by `csv` itself, and is no part of the text.
+            // A row may have any number of fields here, since a rule of the rows limits it. `csv` itself takes
+            // a byte order mark before the header away, so it is no part of the text.
             reader: ReaderBuilder::new()
                 .has_headers(false)
                 .flexible(true)
@@ -108,8 +108,8 @@ impl<R: Read + Drop> Records<R> {
     /// 0 while the header is being read, which the first call does.
     ///
     /// After the end it gives None each time, and after a refusal the same refusal each time, and reads
-    /// no more. As a call asks `csv` for one record, and for the header before the first, these are
-    /// 4,000,002 at most, a row too many included.
+    /// no more. A call asks `csv` for one record, and the first call for the header too. So `csv` is asked
+    /// for 4,000,002 at most: the header, the rows, and one row too many.
     #[inline(always)] // each loop over records calls it, and else it would be inlined in none
     pub fn next(&mut self) -> Result<Option<LineByte>, CaptureError>
         ensures given { IfOk result (λ o. IfSome o (λ r. GivesRecord self.old r self.new)) }
@@ -134,8 +134,8 @@ impl<R: Read + Drop> Records<R> {
         self.given
     }
 
-    /// Comes to the data rows, past the header where it was not yet read, and answers true. After the end it answers
-    /// false, and after a refusal it gives the same refusal again.
+    /// Comes to the data rows, by reading the header where that was not yet done, and answers true. After the end it
+    /// answers false, and after a refusal it gives the same refusal again.
     #[inline(always)] // else the room for its result is cleared before each record
     fn enter_rows(&mut self) -> Result<bool, CaptureError>
         ensures entered { IfOk result
@@ -146,14 +146,14 @@ impl<R: Read + Drop> Records<R> {
         ensures after_refusal { (e : CaptureError) → self.old.standing ≡ Standing.Refused e
             → (result ≡ Err e) × (self.new ≡ self.old) }
     {
+        if is_before_header(&self.stage) {
+            self.read_header()?;
+            return Ok(true);
+        }
         match self.stage {
-            Stage::BeforeHeader => {
-                self.read_header()?;
-                Ok(true)
-            }
-            Stage::InRows => Ok(true),
+            Stage::BeforeHeader | Stage::InRows => Ok(true),
             Stage::Ended => Ok(false),
-            Stage::Refused(error) => Err(error),
+            Stage::Refused(error) => return Err(error),
         }
     }
 
@@ -208,6 +208,15 @@ impl<R: Read + Drop> Records<R> {
         };
         Err(refuse(&mut self.stage, fault, number))
     }
+}
+
+/// Whether the header is the next CSV record.
+#[cold]
+#[inline(never)] // else each record goes by a table of the stages, which takes longer than one test
+fn is_before_header(stage: &Stage) -> bool
+    ensures { IsTrue result ↔ stage.now ≡ Stage.BeforeHeader }
+{
+    matches!(stage, Stage::BeforeHeader)
 }
 
 /// Reads the next CSV record into `row`, and answers whether there was one.
