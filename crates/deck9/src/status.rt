@@ -130,7 +130,7 @@ fn fits(mode: Mode, datum1: Option<u8>, datum2: Option<u8>) -> bool
     fits1 && fits2
 }
 
-/// Whether a bit of a datum is 1.
+/// Whether a bit of a byte is 1.
 fn has_bit(bit: u8, byte: u8) -> bool
     ensures { result ≡ has_bit bit byte }
 {
