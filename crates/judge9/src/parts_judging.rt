@@ -22,7 +22,7 @@ use std::alloc::Global;
 use std::io::{Read, Write};
 use std::mem::replace;
 use tc25::Rate;
-use text9::put_all;
+use text9::write_all;
 use verdict9::{JudgeError, Telling, Totals, Verdict, put_totals_line, put_verdict_line};
 
 /// Judges the capture that the reader gives, part by part, and writes what is asked for.
@@ -216,7 +216,7 @@ fn end_part<'a, R: Read + Drop, W: Write>(
     requires { (before : Progress R) × GivesRecord before last judging.old.rows }
     ensures { Brings (λ event. EndsPart text.now profile.now reason last judging.old event judging.new (W.contents writer.old) (W.contents writer.new)) judging.new result }
 {
-    let Ok(()) = put_all(writer, text) else {
+    let Ok(()) = write_all(writer, text) else {
         return Err(JudgeError::Write);
     };
     judging.take_up(alloc, profile, reason, last)
@@ -235,7 +235,7 @@ fn tell_totals<W: Write>(
     let Ok(()) = put_totals_line(line, &totals) else {
         return Err(JudgeError::OutOfMemory);
     };
-    let Ok(()) = put_all(writer, line.as_slice()) else {
+    let Ok(()) = write_all(writer, line.as_slice()) else {
         return Err(JudgeError::Write);
     };
     Ok(totals)

@@ -18,7 +18,7 @@ use deck9::{Hands, Profile};
 use std::alloc::Global;
 use std::io::{Read, Write};
 use tc25::Rate;
-use text9::{put_all, put_exchange_line_for};
+use text9::{put_exchange_line_for, write_all};
 use verdict9::{JudgeError, Verdict, View, put_verdict_line};
 
 /// Judges the capture that the reader gives, and writes the report that the view asks for.
@@ -160,7 +160,7 @@ fn tell<W: Write>(
     let Ok(()) = put_verdict_line(line, verdict) else {
         return Err(JudgeError::OutOfMemory);
     };
-    let Ok(()) = put_all(writer, line.as_slice()) else {
+    let Ok(()) = write_all(writer, line.as_slice()) else {
         return Err(JudgeError::Write);
     };
     Ok(verdict)
@@ -218,7 +218,7 @@ fn write_line<R: Read + Drop, W: Write>(
     let Ok(()) = put_exchange_line_for(line, profile, number, exchange, &knowledge) else {
         return Err(JudgeError::OutOfMemory);
     };
-    let Ok(()) = put_all(writer, line.as_slice()) else {
+    let Ok(()) = write_all(writer, line.as_slice()) else {
         return Err(JudgeError::Write);
     };
     Ok(())

@@ -10,7 +10,7 @@ pub use Rattle.deck9.specs.ModeSet.{has}
 pub use Rattle.deck9.specs.declared.mode.Mode.{Mode}
 pub use Rattle.deck9.specs.declared.profile.Profile.{Profile}
 pub use Rattle.deck9.specs.declared.state.State.{State}
-pub use Rattle.report9.specs.RunText.{known_entry, known_state, lines_of_run}
+pub use Rattle.report9.specs.RunText.{lines_of_run}
 unfoldable pub use Rattle.report9.specs.RunText.{line_of_state}
 pub use Rattle.report9.specs.WhyText.{end_before, hex_bytes, in_a_row, lines_at, records_in, names_of, words_if_whole}
 unfoldable pub use Rattle.report9.specs.WhyText.{line_of_breaking, line_of_contradicting, line_of_could_show, line_of_open, lines_of_break, text_of_reply_given, text_of_command_sent}
@@ -32,9 +32,8 @@ pub use Rattle.std.specs.List.{list_all}
 pub use Rattle.std.specs.Result.{IsErr}
 pub use Rattle.tc25.specs.Day.{text_of}
 pub use Rattle.text9.proofs.PieceLemmas.{pieces2, pieces4}
-pub use Rattle.text9.proofs.WriteLemmas.{begins, failed, first_part, in_pairs, joined, part_after, piece_after, writes}
-pub use Rattle.text9.specs.Explanation.{hex_byte, text_of_fields, text_of_local, text_of_mode, text_of_panel}
-unfoldable pub use Rattle.text9.specs.Explanation.{text_of_knowledge, text_of_register}
+pub use Rattle.text9.proofs.WriteLemmas.{failed, first_part, none_written, part_after, piece_after, writes}
+pub use Rattle.text9.specs.Explanation.{hex_byte, text_of_fields}
 pub use Rattle.text9.specs.Writing.{AppendsPart, Writes}
 pub use Rattle.deck9.specs.declared.knowledge.Known.TheVariants.{the_data as Known}
 pub use Rattle.block9.specs.Exchange.{records_of}

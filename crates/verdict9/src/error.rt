@@ -3,6 +3,7 @@ ghost use Rattle.std.specs.Prelude.{◌≡◌};
 
 use capture9::{CaptureError, CaptureKind};
 use std::alloc::AllocError;
+use text9::WriteFault;
 use thiserror::Error;
 
 /// Why there is no verdict.
@@ -44,5 +45,16 @@ impl From<AllocError> for JudgeError {
 
     fn from(_: AllocError) -> JudgeError {
         JudgeError::OutOfMemory
+    }
+}
+
+impl From<WriteFault> for JudgeError {
+    ghost use Rattle.std.specs.Prelude.{◌≡◌};
+    ghost use Rattle.verdict9.specs.declared.error.JudgeError.TheVariants.{Write};
+
+    ghost from_gives = { λ e refusal. refusal ≡ Write };
+
+    fn from(_: WriteFault) -> JudgeError {
+        JudgeError::Write
     }
 }
