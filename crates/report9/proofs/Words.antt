@@ -12,7 +12,7 @@ pub use Rattle.deck9.specs.declared.profile.Profile.{Profile}
 pub use Rattle.deck9.specs.declared.state.State.{State}
 pub use Rattle.report9.specs.RunText.{lines_of_run}
 unfoldable pub use Rattle.report9.specs.RunText.{line_of_state}
-pub use Rattle.report9.specs.WhyText.{end_before, hex_bytes, in_a_row, lines_at, records_in, names_of, words_if_whole}
+pub use Rattle.report9.specs.WhyText.{end_before, hex_bytes, lines_at, records_in, words_if_whole}
 unfoldable pub use Rattle.report9.specs.WhyText.{line_of_breaking, line_of_contradicting, line_of_could_show, line_of_open, lines_of_break, text_of_reply_given, text_of_command_sent}
 unfoldable pub use Rattle.report9.specs.WhyText.{line_of_before, text_of_block, text_of_records, text_of_reply, words_of}
 pub use Rattle.capture9.specs.declared.line_byte.Wire.{Wire}
@@ -34,7 +34,9 @@ pub use Rattle.tc25.specs.Day.{text_of}
 pub use Rattle.text9.proofs.PieceLemmas.{pieces2, pieces4}
 pub use Rattle.text9.proofs.WriteLemmas.{failed, first_part, none_written, part_after, piece_after, writes}
 pub use Rattle.text9.specs.Explanation.{hex_byte, text_of_fields}
-pub use Rattle.text9.specs.Writing.{AppendsPart, Writes}
+pub use Rattle.text9.specs.Row.{in_a_row, names_of}
+pub use Rattle.text9.proofs.RowLemmas.{names_more}
+pub use Rattle.text9.specs.Writing.{AppendsPart}
 pub use Rattle.deck9.specs.declared.knowledge.Known.TheVariants.{the_data as Known}
 pub use Rattle.block9.specs.Exchange.{records_of}
 pub use Rattle.verdict9.specs.Lines.{line_of}

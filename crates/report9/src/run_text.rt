@@ -13,7 +13,7 @@ use std::io::Write;
 use text9::{WriteFault, put_knowledge, put_text, put_wide, write_all};
 use verdict9::{JudgeError, RunVerdict, put_no_line, put_yes_line};
 
-/// A line of a run. The longest has fewer than 200 bytes.
+/// A line of a run. By count the longest has 166 bytes.
 type Line = ArrayVec<u8, 256>;
 
 /// Writes the text of a run: for a yes a line for each exchange, with the number of its last record and the state after

@@ -18,6 +18,7 @@ use Rattle.deck9.specs.declared.profile.Profile.{Profile}
 use Rattle.deck9.specs.declared.state.Hands.{Hands}
 use Rattle.deck9.specs.declared.state.Hands.TheVariants as hands
 use Rattle.deck9.specs.Mode.{name_of as name_of_mode}
+use Rattle.text9.specs.Row.{in_a_row, names_of}
 
 -- ---- bytes
 
@@ -43,15 +44,13 @@ text_of_command e = unwrap_or (name_of e.command) (text_of_head e.block)
 abbrev pub has_bit : ℕ → ℕ → Bool
 has_bit byte bit = bit_and byte bit == bit
 
--- the names of the bits that are set, in the order of the table: `before` comes before the first, and a plus sign before each other
-abbrev pub names_after : List ℕ → ℕ → List (List ℕ × ℕ) → List ℕ
-names_after before byte [] = []
-names_after before byte (row ∷ rows) =
-    if has_bit byte row.1 then before ++ row.0 ++ names_after (codes "+") byte rows else names_after before byte rows
+-- the names of the bits of a table that are set in a byte
+abbrev pub names_set : ℕ → List (List ℕ × ℕ) → List (List ℕ)
+names_set byte = names_of {A = List ℕ × ℕ} (λ row. has_bit byte row.1) (λ row. row.0)
 
 -- a NAK with this byte of reasons, as in NAK 14 checksum+parity; a bit without a name is not told
 unfoldable pub text_of_nak : ℕ → List ℕ
-text_of_nak byte = codes "NAK " ++ hex_byte byte ++ names_after (codes " ") byte nak_bits
+text_of_nak byte = codes "NAK " ++ hex_byte byte ++ in_a_row (codes " ") (codes "+") (names_set byte nak_bits)
 
 -- a reply: an acknowledgement, a NAK with its reasons, or the first two bytes of what was sent
 unfoldable pub text_of_reply : Block → List ℕ

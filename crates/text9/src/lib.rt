@@ -11,6 +11,7 @@ mod at_25;
 mod buffer;
 mod explanation;
 mod pieces;
+mod row;
 mod writing;
 
 pub use at_25::{put_exchange_line, put_fields};
@@ -18,4 +19,5 @@ pub use buffer::TextBuffer;
 pub use explanation::known::{put_fields_for, put_knowledge};
 pub use explanation::put_exchange_line_for;
 pub use pieces::{put_count, put_hex, put_text, put_wide, put_word};
+pub use row::{put_chosen, put_in_row};
 pub use writing::{WriteFault, write_all, write_some};
