@@ -19,7 +19,7 @@ use deck9::{Profile, Register};
 use sets25::SpanSet;
 use std::alloc::{AllocError, Global};
 use std::io::{Read, Write};
-use text9::{put_all, put_exchange_line_for};
+use text9::{write_all, put_exchange_line_for};
 use track9::Tracker;
 use verdict9::{JudgeError, Telling, View};
 
@@ -174,7 +174,7 @@ fn write_line<R: Read + Drop, W: Write>(
     let knowledge = judging.follower.tracker.knowledge();
     line.clear();
     put_exchange_line_for(line, profile, number, exchange, &knowledge)?;
-    put_all(writer, line.as_slice())?;
+    write_all(writer, line.as_slice())?;
     Ok(())
 }
 

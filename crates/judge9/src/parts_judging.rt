@@ -21,7 +21,7 @@ use deck9::Profile;
 use report9::put_why_for;
 use std::alloc::{AllocError, Global};
 use std::io::{Read, Write};
-use text9::put_all;
+use text9::write_all;
 use verdict9::{JudgeError, Telling, Totals, Verdict, put_totals_line, put_verdict_line};
 
 /// Judges the capture that the reader gives, part by part, and writes what is asked for.
@@ -93,7 +93,7 @@ fn judge_rows<'a, R: Read + Drop, W: Write>(
         };
         breaks += 1;
         put_break(alloc, line, judging, log, broken, profile)?;
-        put_all(writer, line.as_slice())?;
+        write_all(writer, line.as_slice())?;
         turn = judging.take_up(alloc, profile, broken)?;
     }
     let records = judging.rows.given();
@@ -147,6 +147,6 @@ fn tell_totals<W: Write>(
 {
     line.clear();
     put_totals_line(line, &totals)?;
-    put_all(writer, line.as_slice())?;
+    write_all(writer, line.as_slice())?;
     Ok(totals)
 }

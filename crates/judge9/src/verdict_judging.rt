@@ -16,7 +16,7 @@ use capture9::{CaptureError, CaptureKind};
 use deck9::Profile;
 use std::alloc::Global;
 use std::io::{Read, Write};
-use text9::put_all;
+use text9::write_all;
 use verdict9::{JudgeError, Telling, Verdict, View, put_verdict_line};
 
 /// Judges the capture that the reader gives, and writes the report that the view asks for.
@@ -138,6 +138,6 @@ fn tell<W: Write>(
 {
     line.clear();
     put_verdict_line(line, verdict)?;
-    put_all(writer, line.as_slice())?;
+    write_all(writer, line.as_slice())?;
     Ok(verdict)
 }

@@ -3,7 +3,7 @@ ghost use Rattle.std.specs.Prelude.{◌≡◌, ◌-◌, ◌≤◌, [], drop, IfE
 
 use std::alloc::Global;
 use std::io::{self, Write};
-use text9::put_some;
+use text9::write_some;
 
 /// How many bytes a buffer holds.
 const CAPACITY: usize = 8192;
@@ -46,7 +46,7 @@ impl<W: Write + Drop> Buffered<W> {
         ensures kept { Keeps (held_contents W.contents self.old) (held_contents W.contents self.new) }
         ensures empty { OnOk result (self.new.held.items ≡ []) }
     {
-        let (sent, result) = put_some(&mut self.to, self.held.as_slice());
+        let (sent, result) = write_some(&mut self.to, self.held.as_slice());
         remove_front(&mut self.held, sent);
         result
     }

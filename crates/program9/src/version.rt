@@ -3,7 +3,7 @@ ghost use Rattle.program9.specs.Version.{TellsVersion};
 
 use crate::ending::{Message, Outcome};
 use std::io::Write;
-use text9::put_all;
+use text9::write_all;
 use words9::VERSION_LINE;
 
 /// Writes the program's name and version: the end, and the writer as it is left. Takes no memory.
@@ -11,7 +11,7 @@ pub(crate) fn tell_version<W: Write + Drop>(out: W) -> (Outcome, W)
     ensures { TellsVersion (W.contents out) result.0 (W.contents result.1) }
 {
     let mut writer = out;
-    let Ok(()) = put_all(&mut writer, VERSION_LINE.as_bytes()) else {
+    let Ok(()) = write_all(&mut writer, VERSION_LINE.as_bytes()) else {
         return (Outcome::new(4, Message::WriteFault), writer);
     };
     match writer.flush() {

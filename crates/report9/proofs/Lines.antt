@@ -1,9 +1,9 @@
 -- The lines of a run, and those of a record that breaks a rule of pairing, one after another.
-use Rattle.report9.proofs.Words.{[], ap, append-nil, append_assoc, Appends, Appends-trans, AppendsPart, begins, end_before, EndedExchange, Exchange, failed, first_part}
-use Rattle.report9.proofs.Words.{inl, inr, IsErr, joined, last_time-last, length, line_of_open, line_of_state, LineByte, lines_of_run, List, Option, part_after}
+use Rattle.report9.proofs.Words.{[], ap, append-nil, append_assoc, Appends, Appends-trans, AppendsPart, end_before, EndedExchange, Exchange, first_part}
+use Rattle.report9.proofs.Words.{inl, inr, last_time-last, length, line_of_open, line_of_state, LineByte, lines_of_run, List, Option, part_after}
 use Rattle.report9.proofs.Words.{Global, lines_of_break, Open, Rate, Reason, Vec, WhyVerdict, ◌≢◌}
 use Rattle.verdict9.specs.declared.why_verdict.WhyVerdict.TheVariants as why
-use Rattle.report9.proofs.Words.{Profile, records_of, refl, Result, slice_get, Some, State, sym, Writes, ℕ, ◌++◌, ◌+◌, ◌-◌, ◌∷◌, ◌≡◌, ◌⊎◌}
+use Rattle.report9.proofs.Words.{Profile, records_of, refl, slice_get, Some, State, sym, ℕ, ◌++◌, ◌+◌, ◌-◌, ◌∷◌, ◌≡◌, ◌⊎◌}
 
 -- all the lines were written but those of these exchanges and states, which are left
 pub record LinesSoFar (profile : Profile) (exchanges : List Exchange) (states : List State) (es : List Exchange) (ss : List State) (at : ℕ)
@@ -41,13 +41,6 @@ no-more profile at _ _ none = refl
 pub lines-end : {profile : Profile} {exchanges es : List Exchange} {states ss : List State} {at : ℕ} {old now : Option (List ℕ)}
     → LinesSoFar profile exchanges states es ss at old now → (es ≡ []) ⊎ (ss ≡ []) → Appends old now (lines_of_run profile 0 exchanges states)
 lines-end {profile = profile} {es = es} {ss = ss} {at = at} h none = rw (h.rest, no-more profile at es ss none, append-nil) h.written
-
--- ---- a text that is written piece by piece
-
--- writing stops in a piece after others, and before these
-pub stops : {A E : Type 0} (r : Result A E) (old now new : Option (List ℕ)) (a b : List ℕ) (later : List (List ℕ)) → IsErr r → Appends old now a
-    → AppendsPart now new b → Writes (joined (a ++ b) later) r old new
-stops r old now new a b later err h part = failed r old new _ err (begins old new (a ++ b) later (part_after old now new a b h part))
 
 -- ---- the lines of a record that breaks a rule of pairing
 

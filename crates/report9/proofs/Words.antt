@@ -12,9 +12,9 @@ pub use Rattle.deck9.specs.ModeSet.{has}
 pub use Rattle.deck9.specs.declared.mode.Mode.{Mode}
 pub use Rattle.deck9.specs.declared.profile.Profile.{Profile}
 pub use Rattle.deck9.specs.declared.state.State.{State}
-pub use Rattle.report9.specs.RunText.{known_entry, known_state, lines_of_run}
+pub use Rattle.report9.specs.RunText.{lines_of_run}
 unfoldable pub use Rattle.report9.specs.RunText.{line_of_state}
-pub use Rattle.report9.specs.WhyText.{end_before, hex_bytes, in_a_row, lines_at, names_of}
+pub use Rattle.report9.specs.WhyText.{end_before, hex_bytes, lines_at}
 unfoldable pub use Rattle.report9.specs.WhyText.{line_of_breaking, line_of_contradicting, line_of_could_show, line_of_open, lines_of_break, lines_of_open, text_of_reply_given, text_of_command_sent}
 unfoldable pub use Rattle.report9.specs.WhyText.{line_of_before, text_of_block, text_of_records, text_of_reply, words_of}
 pub use Rattle.verdict9.specs.declared.why_verdict.EndedExchange.{EndedExchange}
@@ -34,10 +34,11 @@ pub use Rattle.std.specs.List.{list_all}
 pub use Rattle.std.specs.Result.{IsErr}
 pub use Rattle.tc25.specs.Day.{text_of}
 pub use Rattle.text9.proofs.PieceLemmas.{pieces2, pieces4}
-pub use Rattle.text9.proofs.WriteLemmas.{begins, failed, first_part, in_pairs, joined, part_after, piece_after, writes}
-pub use Rattle.text9.specs.Explanation.{hex_byte, text_of_fields, text_of_local, text_of_mode, text_of_panel}
-unfoldable pub use Rattle.text9.specs.Explanation.{text_of_knowledge, text_of_register}
-pub use Rattle.text9.specs.Writing.{AppendsPart, Writes}
+pub use Rattle.text9.proofs.WriteLemmas.{failed, first_part, none_written, part_after, piece_after, writes}
+pub use Rattle.text9.specs.Explanation.{hex_byte, text_of_fields}
+pub use Rattle.text9.specs.Row.{in_a_row, names_of}
+pub use Rattle.text9.proofs.RowLemmas.{names_more}
+pub use Rattle.text9.specs.Writing.{AppendsPart}
 pub use Rattle.deck9.specs.declared.knowledge.Known.TheVariants.{the_data as Known}
 pub use Rattle.block9.specs.Exchange.{records_in, records_of}
 pub use Rattle.verdict9.specs.Lines.{line_of}

@@ -22,7 +22,6 @@ use Rattle.block9.specs.Reason.{limit_of}
 use Rattle.deck9.specs.declared.knowledge.Knowledge.{Knowledge}
 use Rattle.deck9.specs.declared.mode_set.ModeSet.{ModeSet}
 use Rattle.deck9.specs.ModeSet.{has}
-use Rattle.deck9.specs.declared.mode.Mode.{Mode}
 use Rattle.deck9.specs.declared.sense.Sense.{Sense}
 use Rattle.deck9.specs.declared.sense.Sense.TheVariants as sense
 use Rattle.deck9.specs.declared.profile.Profile.{Profile}
@@ -38,15 +37,11 @@ use Rattle.verdict9.specs.declared.why_verdict.EndedExchange.{EndedExchange}
 use Rattle.verdict9.specs.declared.why_verdict.WhyVerdict.{WhyVerdict}
 use Rattle.verdict9.specs.declared.why_verdict.WhyVerdict.TheVariants as why
 use Rattle.text9.specs.Explanation.{hex_byte, text_of_fields}
+use Rattle.text9.specs.Row.{in_a_row, names_of}
 use Rattle.block9.specs.Exchange.{records_in, records_of}
 use Rattle.verdict9.specs.Lines.{line_of}
 
 -- ---- pieces
-
--- words in a row, with this before the first and that between two
-abbrev pub in_a_row : List ℕ → List ℕ → List (List ℕ) → List ℕ
-in_a_row before between [] = []
-in_a_row before between (word ∷ words) = before ++ word ++ in_a_row between between words
 
 -- a block's bytes as they were captured, as in 61 20 01 82
 abbrev pub hex_bytes : List ℕ → List ℕ → List ℕ
@@ -66,14 +61,9 @@ abbrev pub time_with_space : Rate → Option ℕ → List ℕ
 time_with_space rate None = []
 time_with_space rate (Some time) = text_of rate time ++ codes " "
 
--- the names of those of some modes that are chosen
-abbrev pub names_of : (Mode → Bool) → List Mode → List (List ℕ)
-names_of is_chosen [] = []
-names_of is_chosen (m ∷ ms) = if is_chosen m then name_of_mode m ∷ names_of is_chosen ms else names_of is_chosen ms
-
 -- the modes of a set, with bars between them, and `none` where there is none
 unfoldable pub text_of_modes : ModeSet → List ℕ
-text_of_modes set = if list_any (has set.0) every_mode then in_a_row [] (codes "|") (names_of (has set.0) every_mode) else codes "none"
+text_of_modes set = if list_any (has set.0) every_mode then in_a_row [] (codes "|") (names_of (has set.0) name_of_mode every_mode) else codes "none"
 
 -- ---- what was asked, and what was answered
 
@@ -88,7 +78,7 @@ text_of_command_sent rate e = words_of rate e.command ++ text_of_block e.block
 -- what a status says by itself, each part where it is reported: LOCAL; the modes that may be shown; the registers
 abbrev pub local_said : Option Bool → List (List ℕ)
 local_said None = []
-local_said (Some local) = (codes "local " ++ (if local then codes "yes" else codes "no")) ∷ []
+local_said (Some local) = (if local then codes "local yes" else codes "local no") ∷ []
 
 abbrev pub shown_said : Option ModeSet → List (List ℕ)
 shown_said None = []

@@ -1,20 +1,20 @@
-//! The text of a run of the deck, written piece by piece: that takes no memory, however long the run is.
-mod state_line;
-
-ghost use Rattle.std.specs.Prelude.{◌≡◌, OnErr, OnOk, IfErr, None};
+//! The text of a run of the deck, written line by line: that takes no memory, however long the run is.
+ghost use Rattle.std.specs.Prelude.{◌≡◌, ◌++◌, OnErr, OnOk, IfErr};
 ghost use Rattle.std.specs.Io.KnownBytes.{Appends};
 ghost use Rattle.verdict9.specs.Lines.{line_of};
 ghost use Rattle.text9.specs.Writing.{AppendsPart, Writes};
-ghost use Rattle.report9.specs.RunText.{lines_of_run, text_of_run};
+ghost use Rattle.report9.specs.RunText.{known_entry, known_state, line_of_state, lines_of_run, text_of_run};
 ghost use Rattle.verdict9.specs.declared.verdict.Verdict.TheVariants as verdict;
 
+use arrayvec::{ArrayVec, CapacityError};
 use block9::{Exchange, Reason};
-use deck9::{Hands, Profile, State};
-use state_line::write_state_line;
+use deck9::{Entry, Knowledge, Known, KnownEntry, Profile, State};
 use std::io::Write;
-use tc25::Rate;
-use text9::{WriteFault, write_count, write_text, write_word};
-use verdict9::{JudgeError, RunVerdict};
+use text9::{WriteFault, put_knowledge, put_text, put_wide, write_all};
+use verdict9::{JudgeError, RunVerdict, put_no_line, put_yes_line};
+
+/// A line of a run. By count the longest has 166 bytes.
+type Line = ArrayVec<u8, 256>;
 
 /// Writes the text of a run: for a yes a line for each exchange, with the number of its last record and the state after
 /// it, and then the line of the verdict; for a no that line alone.
@@ -24,17 +24,6 @@ use verdict9::{JudgeError, RunVerdict};
 ///
 /// The one error is `Write`: the writer failed, was interrupted or took no byte. No call is tried again, and what was
 /// taken until then is a first part of the text.
-pub fn write_run<W: Write>(writer: &mut W, run: &RunVerdict, hands: Hands) -> Result<(), JudgeError>
-    ensures ok { OnOk result
-        (Appends (W.contents writer.old) (W.contents writer.new) (text_of_run (record { rate = Rate.Fps25; hands = hands; deck = None }) run.now)) }
-    ensures err { OnErr result
-        (AppendsPart (W.contents writer.old) (W.contents writer.new) (text_of_run (record { rate = Rate.Fps25; hands = hands; deck = None }) run.now)) }
-    ensures write { IfErr result (λ e. e ≡ JudgeError.Write) }
-{
-    write_run_for(writer, run, &Profile::of(hands))
-}
-
-/// Writes the text of a run of a deck that is taken for this: [`write_run`] at any rate.
 pub fn write_run_for<W: Write>(
     writer: &mut W,
     run: &RunVerdict,
@@ -46,10 +35,7 @@ pub fn write_run_for<W: Write>(
         (AppendsPart (W.contents writer.old) (W.contents writer.new) (text_of_run profile.now run.now)) }
     ensures write { IfErr result (λ e. e ≡ JudgeError.Write) }
 {
-    match write_lines_and_verdict(writer, run, profile) {
-        Ok(()) => Ok(()),
-        Err(WriteFault) => Err(JudgeError::Write),
-    }
+    Ok(write_lines_and_verdict(writer, run, profile)?)
 }
 
 /// Writes the text of a run.
@@ -68,7 +54,7 @@ fn write_lines_and_verdict<W: Write>(
             states,
         } => {
             write_lines(writer, exchanges.as_slice(), states.as_slice(), profile)?;
-            write_yes(writer, *records, exchanges.len(), *tail)
+            write_yes(writer, *records, exchanges.len() as u64, *tail)
         }
         RunVerdict::No { at, reason } => write_no(writer, *at, *reason),
     }
@@ -91,27 +77,79 @@ fn write_lines<W: Write>(
     Ok(())
 }
 
+/// Writes the line of an exchange whose reply ends with the record of this number: the state after it.
+fn write_state_line<W: Write>(
+    writer: &mut W,
+    profile: &Profile,
+    at: u128,
+    state: &State,
+) -> Result<(), WriteFault>
+    ensures { Writes (line_of_state profile.now at state.now) result (W.contents writer.old) (W.contents writer.new) }
+{
+    let mut line = Line::new();
+    put_state_line(&mut line, profile, at, state)?;
+    write_all(writer, line.as_slice())
+}
+
 /// Writes the line of a yes.
 fn write_yes<W: Write>(
     writer: &mut W,
     records: u32,
-    exchanges: usize,
+    exchanges: u64,
     tail: u32,
 ) -> Result<(), WriteFault>
     ensures { Writes (line_of (verdict.Yes records exchanges tail)) result (W.contents writer.old) (W.contents writer.new) }
 {
-    write_count(writer, "yes: records ", u128::from(records))?;
-    write_count(writer, ", exchanges ", exchanges as u128)?;
-    write_count(writer, ", open ", u128::from(tail))?;
-    write_text(writer, "\n")
+    let mut line = Line::new();
+    put_yes_line(&mut line, records, exchanges, tail)?;
+    write_all(writer, line.as_slice())
 }
 
 /// Writes the line of a no.
 fn write_no<W: Write>(writer: &mut W, at: u32, reason: Reason) -> Result<(), WriteFault>
     ensures { Writes (line_of (verdict.No at reason)) result (W.contents writer.old) (W.contents writer.new) }
 {
-    write_count(writer, "no at record ", u128::from(at))?;
-    write_word(writer, ": ", reason.name())?;
-    write_word(writer, " ", reason.text())?;
-    write_text(writer, "\n")
+    let mut line = Line::new();
+    put_no_line(&mut line, at, reason)?;
+    write_all(writer, line.as_slice())
+}
+
+/// Puts the line of an exchange with the state after it.
+fn put_state_line(
+    line: &mut Line,
+    profile: &Profile,
+    at: u128,
+    state: &State,
+) -> Result<(), CapacityError>
+    ensures { OnOk result (line.new.items ≡ line.old.items ++ line_of_state profile.now at state.now) }
+{
+    put_wide(line, "record ", at)?;
+    put_knowledge(line, ": ", profile, &known_state(state))?;
+    put_text(line, "\n")
+}
+
+/// All that can be known of a deck: its state.
+fn known_state(state: &State) -> Knowledge
+    ensures { result ≡ known_state state.now }
+{
+    Knowledge {
+        goal: Known::Is(state.goal),
+        shown: Known::Is(state.shown),
+        ins: known_entry(state.ins),
+        outs: known_entry(state.outs),
+        ains: known_entry(state.ains),
+        aouts: known_entry(state.aouts),
+        local: Known::Is(state.local),
+        panel: Known::Is(state.panel),
+    }
+}
+
+/// All that can be known of a register: what it holds.
+fn known_entry(entry: Entry) -> KnownEntry
+    ensures { result ≡ known_entry entry }
+{
+    match entry {
+        Entry::Clear => KnownEntry::Clear,
+        Entry::At(time) => KnownEntry::At(time),
+    }
 }

@@ -6,24 +6,22 @@ mod exchange_line;
 mod modes;
 mod said;
 
-ghost use Rattle.std.specs.Prelude.{◌≡◌, ◌⊎◌, ◌-◌, ◌++◌, [], OnOk, IfErr, None};
+ghost use Rattle.std.specs.Prelude.{◌≡◌, ◌⊎◌, ◌-◌, ◌++◌, [], OnOk, IfErr};
 ghost use Rattle.std.specs.Io.KnownBytes.{Appends};
-ghost use Rattle.verdict9.specs.Lines.{line_of};
 ghost use Rattle.text9.specs.Writing.{AppendsPart};
-ghost use Rattle.verdict9.specs.declared.verdict.Verdict.TheVariants as verdict;
 ghost use Rattle.block9.specs.Exchange.{records_in};
 ghost use Rattle.report9.specs.WhyText.{line_of_could_show, lines_at, text_of_shown, text_of_why};
 
 use block9::{Exchange, Reason, records_in};
 use break_lines::put_break;
-use deck9::{Hands, Knowledge, ModeSet, Profile};
+use deck9::{Knowledge, ModeSet, Profile};
 use exchange_line::put_contradicting;
 use modes::{is_every, put_modes};
 use std::alloc::{AllocError, Global};
 use std::io::Write;
 use tc25::Rate;
-use text9::{WriteFault, put_all, put_fields_for, put_text};
-use verdict9::{JudgeError, Verdict, WhyVerdict, put_verdict_line};
+use text9::{put_fields_for, put_text, write_all};
+use verdict9::{JudgeError, WhyVerdict, put_no_line, put_yes_line};
 
 /// Writes why a capture is a no: where no run of the deck remains a line for each of the replies that contradict one
 /// another, then what the deck could show when it gave the last of them; where a rule of blocks, pairing or timing is
@@ -43,23 +41,6 @@ use verdict9::{JudgeError, Verdict, WhyVerdict, put_verdict_line};
 /// * `OutOfMemory` where a growth of memory is refused: nothing was written.
 /// * `Write` where the writer failed, was interrupted or took no byte. No call is tried again, and what was taken until
 ///   then is a first part of the text.
-pub fn write_why<W: Write>(
-    alloc: Global,
-    writer: &mut W,
-    verdict: &WhyVerdict,
-    hands: Hands,
-) -> Result<(), JudgeError>
-    ensures ok { OnOk result
-        (Appends (W.contents writer.old) (W.contents writer.new) (text_of_why (record { rate = Rate.Fps25; hands = hands; deck = None }) verdict.now)) }
-    ensures write { result ≡ Err JudgeError.Write
-        → AppendsPart (W.contents writer.old) (W.contents writer.new) (text_of_why (record { rate = Rate.Fps25; hands = hands; deck = None }) verdict.now) }
-    ensures memory { result ≡ Err JudgeError.OutOfMemory → writer.new ≡ writer.old }
-    ensures kinds { IfErr result (λ e. (e ≡ JudgeError.Write) ⊎ (e ≡ JudgeError.OutOfMemory)) }
-{
-    write_why_for(alloc, writer, verdict, &Profile::of(hands))
-}
-
-/// Writes the text of a deck that is taken for this: [`write_why`] at any rate.
 pub fn write_why_for<W: Write>(
     alloc: Global,
     writer: &mut W,
@@ -74,22 +55,8 @@ pub fn write_why_for<W: Write>(
     ensures kinds { IfErr result (λ e. (e ≡ JudgeError.Write) ⊎ (e ≡ JudgeError.OutOfMemory)) }
 {
     let mut text = Vec::new(alloc);
-    if put_why_for(&mut text, profile, verdict).is_err() {
-        return Err(JudgeError::OutOfMemory);
-    }
-    match put_all(writer, text.as_slice()) {
-        Ok(()) => Ok(()),
-        Err(WriteFault) => Err(JudgeError::Write),
-    }
-}
-
-/// Puts the text that [`write_why`] writes to the end of a buffer.
-///
-/// An error comes where the buffer has to grow and is refused; then a part of the text may be there.
-pub fn put_why(text: &mut Vec<u8>, hands: Hands, verdict: &WhyVerdict) -> Result<(), AllocError>
-    ensures { OnOk result (text.new.items ≡ text.old.items ++ text_of_why (record { rate = Rate.Fps25; hands = hands; deck = None }) verdict.now) }
-{
-    put_why_for(text, &Profile::of(hands), verdict)
+    put_why_for(&mut text, profile, verdict)?;
+    Ok(write_all(writer, text.as_slice())?)
 }
 
 /// Puts the text that [`write_why_for`] writes to the end of a buffer.
@@ -107,17 +74,10 @@ pub fn put_why_for(
             records,
             exchanges,
             tail,
-        } => put_verdict_line(
-            text,
-            Verdict::Yes {
-                records: *records,
-                exchanges: *exchanges,
-                tail: *tail,
-            },
-        ),
+        } => put_yes_line(text, *records, u64::from(*exchanges), *tail),
         WhyVerdict::Break { at, reason, .. } => {
             put_break(text, profile.rate, verdict)?;
-            put_no(text, *at, *reason)
+            put_no_line(text, *at, *reason)
         }
         WhyVerdict::Contradiction {
             at,
@@ -134,16 +94,9 @@ pub fn put_why_for(
                 exchanges.as_slice(),
             )?;
             put_could_show(text, profile, known, *shown)?;
-            put_no(text, *at, Reason::NoRun)
+            put_no_line(text, *at, Reason::NoRun)
         }
     }
-}
-
-/// Puts the line of a no.
-fn put_no(text: &mut Vec<u8>, at: u32, reason: Reason) -> Result<(), AllocError>
-    ensures { OnOk result (text.new.items ≡ text.old.items ++ line_of (verdict.No at reason)) }
-{
-    put_verdict_line(text, Verdict::No { at, reason })
 }
 
 /// Puts the lines of the exchanges at these places, the last of which ends with the record of this number.

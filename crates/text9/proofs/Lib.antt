@@ -1,2 +1,3 @@
 pub mod PieceLemmas
+pub mod RowLemmas
 pub mod WriteLemmas

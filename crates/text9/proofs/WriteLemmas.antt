@@ -1,6 +1,6 @@
 -- A text that is written piece by piece.
-use Rattle.std.proofs.Common.{◌≡◌, ℕ, List, [], ◌∷◌, ◌++◌, Option, Result, Ok, Err, OnOk, OnErr, sym, subst, arith, length-append, append_assoc, ◌+◌, length, take}
-use Rattle.std.proofs.KnownBytes.{Appends-trans}
+use Rattle.std.proofs.Common.{◌≡◌, ℕ, List, [], ◌++◌, Option, Result, Ok, Err, OnOk, OnErr, sym, subst, arith, length-append, ◌+◌, length, take}
+use Rattle.std.proofs.KnownBytes.{Appends-nil, Appends-trans}
 use Rattle.std.proofs.lemmas.Bool.{false≢true}
 use Rattle.std.proofs.lemmas.List.{take-append-le}
 use Rattle.std.proofs.Math.Seq.{take-append-add}
@@ -26,6 +26,10 @@ pub failed : {A E : Type 0} (r : Result A E) (old new : Option (List ℕ)) (a : 
 failed (Ok x) old new a h part = absurd (false≢true h)
 failed (Err e) old new a h part = part
 
+-- nothing was written, and an error that is handed on
+pub none_written : {A E : Type 0} (r : Result A E) (old new : Option (List ℕ)) (a : List ℕ) → IsErr r → new ≡ old → Writes a r old new
+none_written r old new a h same = failed r old new a h (0, omega arith, subst (λ n. Appends old n []) (sym same) (Appends-nil old))
+
 -- a first part of the first piece is one of both
 pub first_part : (old new : Option (List ℕ)) (a b : List ℕ) → AppendsPart old new a → AppendsPart old new (a ++ b)
 first_part old new a b h =
@@ -37,20 +41,3 @@ pub piece_after : {A E : Type 0} (r : Result A E) (old mid new : Option (List �
     → Writes (a ++ b) r old new
 piece_after (Ok x) old mid new a b whole rest = Appends-trans old mid new a b whole rest
 piece_after (Err e) old mid new a b whole rest = part_after old mid new a b whole rest
-
--- a text that goes on with these pieces
-abbrev pub joined : List ℕ → List (List ℕ) → List ℕ
-joined a [] = a
-joined a (b ∷ bs) = joined (a ++ b) bs
-
--- a first part of the first pieces is one of all
-pub begins : (old new : Option (List ℕ)) (a : List ℕ) (bs : List (List ℕ)) → AppendsPart old new a → AppendsPart old new (joined a bs)
-begins old new a [] h = h
-begins old new a (b ∷ bs) h = begins old new (a ++ b) bs (first_part old new a b h)
-
--- a verdict's line, of which two pieces each are written together
-pub in_pairs : {A E : Type 0} (r : Result A E) (old new : Option (List ℕ)) (a b c d e f g : List ℕ) → Writes ((a ++ b) ++ (c ++ d) ++ (e ++ f) ++ g) r old new
-    → Writes (a ++ b ++ c ++ d ++ e ++ f ++ g) r old new
-in_pairs r old new a b c d e f g h =
-    let same : (a ++ b) ++ (c ++ d) ++ (e ++ f) ++ g ≡ a ++ b ++ c ++ d ++ e ++ f ++ g = simp append_assoc in
-    subst (λ l. Writes l r old new) same h

@@ -19,6 +19,7 @@ use Rattle.deck9.specs.declared.state.Hands.{Hands}
 use Rattle.deck9.specs.declared.state.Hands.TheVariants as hands
 use Rattle.deck9.specs.Mode.{name_of as name_of_mode}
 use Rattle.deck9.specs.Status.{has_bit}
+use Rattle.text9.specs.Row.{in_a_row, names_of}
 
 -- ---- bytes
 
@@ -40,15 +41,13 @@ text_of_head b = hex_byte (head_of b / 256) ++ codes " " ++ hex_byte (head_of b 
 unfoldable pub text_of_command : Exchange → List ℕ
 text_of_command e = unwrap_or (name_of e.command) (text_of_head e.block)
 
--- the names of the bits that are set, in the order of the table: `before` comes before the first, and a plus sign before each other
-abbrev pub names_after : List ℕ → ℕ → List (List ℕ × ℕ) → List ℕ
-names_after before byte [] = []
-names_after before byte (row ∷ rows) =
-    if has_bit row.1 byte then before ++ row.0 ++ names_after (codes "+") byte rows else names_after before byte rows
+-- the names of the bits of a table that are set in a byte
+abbrev pub names_set : ℕ → List (List ℕ × ℕ) → List (List ℕ)
+names_set byte = names_of {A = List ℕ × ℕ} (λ row. has_bit row.1 byte) (λ row. row.0)
 
 -- a NAK with this byte of reasons, as in NAK 14 checksum+parity; a bit without a name is not told
 unfoldable pub text_of_nak : ℕ → List ℕ
-text_of_nak byte = codes "NAK " ++ hex_byte byte ++ names_after (codes " ") byte nak_bits
+text_of_nak byte = codes "NAK " ++ hex_byte byte ++ in_a_row (codes " ") (codes "+") (names_set byte nak_bits)
 
 -- a reply: an acknowledgement, a NAK with its reasons, or the first two bytes of what was sent
 unfoldable pub text_of_reply : Block → List ℕ

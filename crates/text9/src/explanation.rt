@@ -2,36 +2,21 @@
 mod asked;
 pub(crate) mod known;
 
-ghost use Rattle.std.specs.Prelude.{◌≡◌, ◌++◌, OnOk, None};
+ghost use Rattle.std.specs.Prelude.{◌≡◌, ◌++◌, OnOk};
 ghost use Rattle.text9.specs.Explanation.{line_of_exchange};
 
 use crate::pieces::{put_count, put_text};
 use asked::{put_command, put_reply};
 use block9::Exchange;
-use deck9::{Hands, Knowledge, Profile};
+use deck9::{Knowledge, Profile};
 use known::put_knowledge;
 use std::alloc::AllocError;
-use tc25::Rate;
 
 /// Puts the line of an exchange to the end of the buffer: what was asked, what was answered and after how long,
 /// and what is known of the deck after it. `at` is the number of the reply's last record, counted from 1.
 ///
 /// The panel is told where hands are allowed. An error comes where the buffer has to grow and is refused; then a
 /// part of the line may be there.
-pub fn put_exchange_line(
-    line: &mut Vec<u8>,
-    hands: Hands,
-    at: u32,
-    exchange: &Exchange,
-    knowledge: &Knowledge,
-) -> Result<(), AllocError>
-    ensures { OnOk result (line.new.items ≡ line.old.items
-        ++ line_of_exchange (record { rate = Rate.Fps25; hands = hands; deck = None }) at exchange.now knowledge.now) }
-{
-    put_exchange_line_for(line, &Profile::of(hands), at, exchange, knowledge)
-}
-
-/// Puts the line of an exchange with a deck that is taken for this: [`put_exchange_line`] at any rate.
 pub fn put_exchange_line_for(
     line: &mut Vec<u8>,
     profile: &Profile,

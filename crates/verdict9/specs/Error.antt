@@ -5,7 +5,7 @@ use Rattle.capture9.specs.declared.error.CaptureKind.TheVariants as kind
 use Rattle.verdict9.specs.declared.error.JudgeError.{JudgeError}
 use Rattle.verdict9.specs.declared.error.JudgeError.TheVariants as error
 
--- by its kind: out of memory is one thing wherever it comes; what the reader or the text bring stays whole
+-- by its kind: want of memory becomes `OutOfMemory`, and every other refusal is handed on as it is
 abbrev pub refusal_by : CaptureKind → CaptureError → JudgeError
 refusal_by kind.OutOfMemory e = error.OutOfMemory
 refusal_by _ e = error.Capture e

@@ -1,13 +1,14 @@
 //! The modes of a set, named in a row.
-ghost use Rattle.std.specs.Prelude.{◌≡◌, ◌++◌, [], codes, if◌then◌else◌, IfOk, OnOk};
+ghost use Rattle.std.specs.Prelude.{◌≡◌, ◌++◌, [], codes, OnOk};
 ghost use Rattle.std.specs.List.{list_all};
 ghost use Rattle.deck9.specs.Mode.{every_mode, name_of};
 ghost use Rattle.deck9.specs.ModeSet.{has};
-ghost use Rattle.report9.specs.WhyText.{in_a_row, names_of, text_of_modes};
+ghost use Rattle.report9.specs.WhyText.{text_of_modes};
+ghost use Rattle.text9.specs.Row.{in_a_row, names_of};
 
 use deck9::{Mode, ModeSet};
 use std::alloc::AllocError;
-use text9::put_text;
+use text9::{put_chosen, put_text};
 
 /// Whether every mode is in a set.
 pub(super) fn is_every(modes: ModeSet) -> bool
@@ -35,31 +36,11 @@ pub(super) fn put_modes(line: &mut Vec<u8>, modes: ModeSet) -> Result<(), AllocE
 /// Puts the names of the modes with bars between them.
 fn put_names(line: &mut Vec<u8>, modes: ModeSet) -> Result<(), AllocError>
     ensures { OnOk result (line.new.items ≡ line.old.items
-        ++ in_a_row [] (codes "|") (names_of (has modes.0) every_mode)) }
+        ++ in_a_row [] (codes "|") (names_of (has modes.0) name_of every_mode)) }
 {
     let mut before = "";
     for mode in &Mode::ALL {
-        before = put_name(line, modes, *mode, before)?;
+        before = put_chosen(line, before, "|", mode.name(), modes.has(*mode))?;
     }
     Ok(())
-}
-
-/// Puts the name of a mode that is in the set, after what comes before it, and answers what comes before the next name.
-fn put_name<'a>(
-    line: &mut Vec<u8>,
-    modes: ModeSet,
-    mode: Mode,
-    before: &'a str,
-) -> Result<&'a str, AllocError>
-    ensures text { OnOk result (line.new.items ≡ line.old.items
-        ++ (if has modes.0 mode then before.entry.now ++ name_of mode else codes "")) }
-    ensures next { IfOk result (λ s. s.now
-        ≡ (if has modes.0 mode then codes "|" else before.entry.now)) }
-{
-    if !modes.has(mode) {
-        return Ok(before);
-    }
-    put_text(line, before)?;
-    put_text(line, mode.name())?;
-    Ok("|")
 }

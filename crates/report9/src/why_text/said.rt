@@ -1,6 +1,7 @@
 //! What a status says of the deck by itself, in a row of words.
 ghost use Rattle.std.specs.Prelude.{◌≡◌, ◌++◌, codes, if◌then◌else◌, IfOk, OnOk};
-ghost use Rattle.report9.specs.WhyText.{in_a_row, local_said, register_said, registers_said, said, said_by_status, shown_said};
+ghost use Rattle.text9.specs.Row.{in_a_row};
+ghost use Rattle.report9.specs.WhyText.{local_said, register_said, registers_said, said, said_by_status, shown_said};
 ghost use Rattle.report9.specs.Working.WhyText.{next_before};
 ghost use Rattle.deck9.specs.Shows.{sense_of};
 
@@ -8,7 +9,7 @@ use crate::why_text::modes::put_modes;
 use block9::{Block, Exchange};
 use deck9::{ModeSet, RegistersSet, Sense, Status};
 use std::alloc::AllocError;
-use text9::{put_text, put_word};
+use text9::{put_in_row, put_text, put_word};
 
 /// Puts what an exchange's reply says of the deck, where it carries status data: the first words after `, says `.
 pub(super) fn put_said(line: &mut Vec<u8>, exchange: &Exchange) -> Result<(), AllocError>
@@ -52,12 +53,11 @@ fn put_local<'a>(
         ++ in_a_row before.entry.now (codes ", ") (local_said local)) }
     ensures next { IfOk result (λ s. s.now ≡ next_before before.entry.now (codes ", ") (local_said local)) }
 {
-    let Some(is_local) = local else {
-        return Ok(before);
-    };
-    put_text(line, before)?;
-    put_word(line, "local ", if is_local { "yes" } else { "no" })?;
-    Ok(", ")
+    match local {
+        Some(true) => put_in_row(line, before, ", ", "local yes"),
+        Some(false) => put_in_row(line, before, ", ", "local no"),
+        None => Ok(before),
+    }
 }
 
 /// Puts the modes that are reported, if they are, and answers what stands before the next words.
@@ -73,9 +73,9 @@ fn put_shown<'a>(
     let Some(modes) = shown else {
         return Ok(before);
     };
-    put_word(line, before, "shown ")?;
+    let next = put_in_row(line, before, ", ", "shown ")?;
     put_modes(line, modes)?;
-    Ok(", ")
+    Ok(next)
 }
 
 /// Puts which registers are reported to be Set, if they are.

@@ -1,11 +1,13 @@
 //! What was asked and what was answered, put to the end of a line.
-ghost use Rattle.std.specs.Prelude.{◌≡◌, ◌++◌, IfOk, OnOk, if◌then◌else◌, codes};
+ghost use Rattle.std.specs.Prelude.{◌≡◌, ◌++◌, OnOk, codes};
 ghost use Rattle.block9.specs.Nak.{nak_bits};
 ghost use Rattle.deck9.specs.Status.{has_bit};
-ghost use Rattle.text9.specs.Explanation.{names_after, text_of_command, text_of_head, text_of_nak, text_of_reply};
+ghost use Rattle.text9.specs.Explanation.{names_set, text_of_command, text_of_head, text_of_nak, text_of_reply};
+ghost use Rattle.text9.specs.Row.{in_a_row};
 
 use crate::pieces::{put_hex, put_text};
-use bitflags::{Flag, Flags};
+use crate::row::put_chosen;
+use bitflags::Flags;
 use block9::{Block, Exchange, NakBits};
 use std::alloc::AllocError;
 
@@ -51,34 +53,13 @@ fn put_nak(line: &mut Vec<u8>, nak: NakBits) -> Result<(), AllocError>
 
 /// Puts the names of the bits that are set: the first after a space, each other after a plus sign.
 fn put_nak_names(line: &mut Vec<u8>, nak: NakBits) -> Result<(), AllocError>
-    ensures { OnOk result (line.new.items ≡ line.old.items ++ names_after (codes " ") nak.0 nak_bits) }
+    ensures { OnOk result (line.new.items ≡ line.old.items ++ in_a_row (codes " ") (codes "+") (names_set nak.0 nak_bits)) }
 {
     let mut before = " ";
     for flag in NakBits::flags() {
-        before = put_nak_name(line, nak, flag, before)?;
+        before = put_chosen(line, before, "+", flag.name, nak.contains(flag.value))?;
     }
     Ok(())
-}
-
-/// Puts the name of a bit where it is set, after what comes before it, and answers what comes before the next
-/// name.
-fn put_nak_name<'a>(
-    line: &mut Vec<u8>,
-    nak: NakBits,
-    flag: &Flag<NakBits>,
-    before: &'a str,
-) -> Result<&'a str, AllocError>
-    ensures text { OnOk result (line.new.items ≡ line.old.items
-        ++ (if has_bit flag.now.value.0 nak.0 then before.entry.now ++ flag.now.name.now else codes "")) }
-    ensures next { IfOk result (λ s. s.now
-        ≡ (if has_bit flag.now.value.0 nak.0 then codes "+" else before.entry.now)) }
-{
-    if !nak.contains(flag.value) {
-        return Ok(before);
-    }
-    put_text(line, before)?;
-    put_text(line, flag.name)?;
-    Ok("+")
 }
 
 /// Puts the first two bytes of a block.

@@ -1,35 +1,35 @@
 //! What is known of the deck, put to the end of a line.
-ghost use Rattle.std.specs.Prelude.{◌≡◌, ◌++◌, OnOk, codes, None};
+ghost use Rattle.std.specs.Prelude.{◌≡◌, ◌++◌, OnOk, codes};
 ghost use Rattle.text9.specs.Explanation.{text_of_fields, text_of_knowledge, text_of_local, text_of_mode, text_of_panel, text_of_register, word_of};
 
+use crate::buffer::TextBuffer;
 use crate::pieces::{put_text, put_word};
 use deck9::{Hands, Knowledge, Known, KnownEntry, Mode, Profile};
-use std::alloc::AllocError;
 use tc25::Rate;
 
 /// The word for a field on which two possible states differ.
 const UNKNOWN: &str = "unknown";
 
 /// Puts a label and what is known, field by field; of the panel only where hands are allowed.
-pub(super) fn put_knowledge(
-    line: &mut Vec<u8>,
+pub fn put_knowledge<B: TextBuffer>(
+    line: &mut B,
     label: &str,
     profile: &Profile,
     knowledge: &Knowledge,
-) -> Result<(), AllocError>
-    ensures { OnOk result (line.new.items ≡ line.old.items ++ (label.now ++ text_of_knowledge profile.now knowledge.now)) }
+) -> Result<(), B::Refusal>
+    ensures { OnOk result (B.held line.new ≡ B.held line.old ++ (label.now ++ text_of_knowledge profile.now knowledge.now)) }
 {
     put_text(line, label)?;
     put_columns(line, profile, knowledge)
 }
 
 /// Puts what is known, field by field.
-fn put_columns(
-    line: &mut Vec<u8>,
+fn put_columns<B: TextBuffer>(
+    line: &mut B,
     profile: &Profile,
     knowledge: &Knowledge,
-) -> Result<(), AllocError>
-    ensures { OnOk result (line.new.items ≡ line.old.items ++ text_of_knowledge profile.now knowledge.now) }
+) -> Result<(), B::Refusal>
+    ensures { OnOk result (B.held line.new ≡ B.held line.old ++ text_of_knowledge profile.now knowledge.now) }
 {
     put_word(line, "goal ", mode_word(&knowledge.goal))?;
     put_word(line, ", shown ", mode_word(&knowledge.shown))?;
@@ -37,20 +37,13 @@ fn put_columns(
 }
 
 /// Puts what is known of the registers, of local and, where hands are allowed, of the panel. An error comes where the buffer has
-/// to grow and is refused; then a part of it may be there.
-pub fn put_fields(line: &mut Vec<u8>, hands: Hands, knowledge: &Knowledge) -> Result<(), AllocError>
-    ensures { OnOk result (line.new.items ≡ line.old.items ++ text_of_fields (record { rate = Rate.Fps25; hands = hands; deck = None }) knowledge.now) }
-{
-    put_fields_for(line, &Profile::of(hands), knowledge)
-}
-
-/// Puts what is known of a deck that is taken for this: [`put_fields`] at any rate.
-pub fn put_fields_for(
-    line: &mut Vec<u8>,
+/// no room and gets none; then a part of it may be there.
+pub fn put_fields_for<B: TextBuffer>(
+    line: &mut B,
     profile: &Profile,
     knowledge: &Knowledge,
-) -> Result<(), AllocError>
-    ensures { OnOk result (line.new.items ≡ line.old.items ++ text_of_fields profile.now knowledge.now) }
+) -> Result<(), B::Refusal>
+    ensures { OnOk result (B.held line.new ≡ B.held line.old ++ text_of_fields profile.now knowledge.now) }
 {
     put_register(line, ", in ", profile.rate, &knowledge.ins)?;
     put_register(line, ", out ", profile.rate, &knowledge.outs)?;
@@ -61,13 +54,13 @@ pub fn put_fields_for(
 }
 
 /// Puts a label and a register.
-fn put_register(
-    line: &mut Vec<u8>,
+fn put_register<B: TextBuffer>(
+    line: &mut B,
     label: &str,
     rate: Rate,
     register: &KnownEntry,
-) -> Result<(), AllocError>
-    ensures { OnOk result (line.new.items ≡ line.old.items ++ (label.now ++ text_of_register rate register.now)) }
+) -> Result<(), B::Refusal>
+    ensures { OnOk result (B.held line.new ≡ B.held line.old ++ (label.now ++ text_of_register rate register.now)) }
 {
     put_text(line, label)?;
     put_entry(line, rate, register)
@@ -75,12 +68,16 @@ fn put_register(
 
 /// Puts what is known of a register.
 #[tactic(auto, unfolding(crate::specs::Explanation::text_of_register))]
-fn put_entry(line: &mut Vec<u8>, rate: Rate, register: &KnownEntry) -> Result<(), AllocError>
-    ensures { OnOk result (line.new.items ≡ line.old.items ++ text_of_register rate register.now) }
+fn put_entry<B: TextBuffer>(
+    line: &mut B,
+    rate: Rate,
+    register: &KnownEntry,
+) -> Result<(), B::Refusal>
+    ensures { OnOk result (B.held line.new ≡ B.held line.old ++ text_of_register rate register.now) }
 {
     match register {
         KnownEntry::Clear => put_text(line, "clear"),
-        KnownEntry::At(time) => line.extend_from_slice(&time.text_at(rate)),
+        KnownEntry::At(time) => line.put(&time.text_at(rate)),
         KnownEntry::SetSomewhere => put_text(line, "set"),
         KnownEntry::Unknown => put_text(line, UNKNOWN),
     }
@@ -88,8 +85,12 @@ fn put_entry(line: &mut Vec<u8>, rate: Rate, register: &KnownEntry) -> Result<()
 
 /// Puts what is known of the panel, where it is told.
 #[tactic(auto, unfolding(crate::specs::Explanation::text_of_panel))]
-fn put_panel(line: &mut Vec<u8>, hands: Hands, panel: &Known<bool>) -> Result<(), AllocError>
-    ensures { OnOk result (line.new.items ≡ line.old.items ++ text_of_panel hands panel.now) }
+fn put_panel<B: TextBuffer>(
+    line: &mut B,
+    hands: Hands,
+    panel: &Known<bool>,
+) -> Result<(), B::Refusal>
+    ensures { OnOk result (B.held line.new ≡ B.held line.old ++ text_of_panel hands panel.now) }
 {
     match hands {
         Hands::None => Ok(()),

@@ -5,6 +5,6 @@ use Rattle.text9.proofs.explanation.known.put_columns.Goals as goal
 
 pub returns : goal.returns
 unfolding text_of_knowledge
-returns c =
+returns g c =
     on_ok_weaker c.put_fields_for.result (λ last. pieces3 _ _ _ _ _ _ _
     (rw c.mode_word.ensures at c.in_ok-put_word.ensures) (rw c.mode_word-2.ensures at c.in_ok-put_word-2.ensures) last) c.put_fields_for.ensures

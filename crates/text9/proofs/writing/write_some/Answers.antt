@@ -1,7 +1,7 @@
 use Rattle.std.proofs.Common.{arith, take-add}
 use Rattle.std.proofs.lemmas.List.{length-drop, take_rest}
 use Rattle.std.proofs.KnownBytes.{Appends-trans}
-use Rattle.text9.proofs.writing.put_some.Goals as goal
+use Rattle.text9.proofs.writing.write_some.Goals as goal
 
 -- a first part, and a first part of the rest
 pub loop-at-preserved : goal.loop-at-preserved

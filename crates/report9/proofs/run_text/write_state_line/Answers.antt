@@ -1,0 +1,10 @@
+use Rattle.report9.proofs.Words.{none_written, refl, writes, ◌∙◌}
+use Rattle.report9.proofs.run_text.write_state_line.Goals as goal
+
+pub returns-in_err-put_state_line : goal.returns-in_err-put_state_line
+returns-in_err-put_state_line g c = none_written c.from_residual.result _ _ _ c.from_residual.ensures.0 refl
+
+pub returns : goal.returns
+returns g c =
+    let text = c.as_slice.ensures.value ∙ rw c.new-line.ensures at c.in_ok-put_state_line.ensures in
+    writes c.write_all.result _ _ _ (rw text at c.write_all.ensures.ok) (rw text at c.write_all.ensures.err)
