@@ -34,11 +34,11 @@ broken_why : (profile : Profile) (rows : Rows) (at : ℕ) (b : Break) (paired : 
     → ((broken : IsBreakAfter profile.rate rows.records at paired.tail b.record) × (broken.exchanges ≡ es) × (paired.tail ≡ [] → IsEnd broken.before es end_us))
     → (verdict_of why ≡ Verdict.No at b.reason) × HasItsWhy profile rows why
 broken_why profile rows at b paired es end_us (WhyVerdict.Yes records exchanges tail) says other broken = absurd says
-broken_why profile rows at b paired es end_us (WhyVerdict.Break number x tail command before breaking)
-    (number_is, x_is, r_is, tail_is, commands, told, _) other broken =
+broken_why profile rows at b paired es end_us (WhyVerdict.Break number x tail o before breaking)
+    (number_is, x_is, r_is, tail_is, opened, told, _) other broken =
     let both = broken_with profile.rate rows.records at paired.tail tail.items b.record es end_us before tail_is broken
     (λ records ended. rw tail_is (told records (λ nil. ended (tail_is ∙ nil)))) in
-    rw (number_is, x_is, r_is) (refl, (other, rw tail_is commands, both.0, both.1))
+    rw (number_is, x_is, r_is) (refl, (other, rw tail_is opened, both.0, both.1))
 broken_why profile rows at b paired es end_us (WhyVerdict.Contradiction number exchanges places known shown) says other broken = absurd (other says.0)
 
 -- or no run remains with the exchange that the pairer shows
@@ -46,7 +46,7 @@ no_run_why : (profile : Profile) (rows : Rows) (at : ℕ) (b : Break) (paired : 
     → SaysWhy profile at b paired es end_us why → b.reason ≡ Reason.NoRun → paired.exchange ≡ Some e → Cut profile.rate (take at rows.records) (es ++ e ∷ []) []
     → (verdict_of why ≡ Verdict.No at b.reason) × HasItsWhy profile rows why
 no_run_why profile rows at b paired es end_us e (WhyVerdict.Yes records exchanges tail) says no_run shown cut = absurd says
-no_run_why profile rows at b paired es end_us e (WhyVerdict.Break number x tail command before breaking) says no_run shown cut = absurd (says.6 no_run)
+no_run_why profile rows at b paired es end_us e (WhyVerdict.Break number x tail o before breaking) says no_run shown cut = absurd (says.6 no_run)
 no_run_why profile rows at b paired es end_us e (WhyVerdict.Contradiction number exchanges places known modes) (_, f, is_f, (number_is, es_is, is, shows)) no_run shown cut =
     let same : f ≡ e = same_exchange is_f shown in
     rw (number_is, no_run, es_is, same) (refl, (cut, rw same at is, rw same at shows))
@@ -55,7 +55,7 @@ no_run_why profile rows at b paired es end_us e (WhyVerdict.Contradiction number
 pub no_run_said : (profile : Profile) (at : ℕ) (b : Break) (paired : Paired) (es : List Exchange) (end_us : Option ℕ) (e : Exchange) → b.reason ≡ Reason.NoRun
     → paired.exchange ≡ Some e → (r : Result WhyVerdict AllocError) → IfOk r (SaysNoRun profile at (es ++ e ∷ [])) → IfOk r (SaysWhy profile at b paired es end_us)
 no_run_said profile at b paired es end_us e no_run shown (Ok (WhyVerdict.Yes records exchanges tail)) says = absurd says
-no_run_said profile at b paired es end_us e no_run shown (Ok (WhyVerdict.Break number x tail command before breaking)) says = absurd says
+no_run_said profile at b paired es end_us e no_run shown (Ok (WhyVerdict.Break number x tail o before breaking)) says = absurd says
 no_run_said profile at b paired es end_us e no_run shown (Ok (WhyVerdict.Contradiction number exchanges places known modes)) says = (no_run, e, shown, says)
 no_run_said profile at b paired es end_us e no_run shown (Err x) says = tt
 
@@ -63,10 +63,10 @@ no_run_said profile at b paired es end_us e no_run shown (Err x) says = tt
 pub unmoved : (profile : Profile) (past at : ℕ) (b : Break) (paired : Paired) (es : List Exchange) (end_us : Option ℕ) (why : WhyVerdict)
     → SaysWhy profile (past + at) b paired es end_us why → (own : WhyVerdict) × SaysWhy profile at b paired es end_us own × (why ≡ moved past own)
 unmoved profile past at b paired es end_us (WhyVerdict.Yes records exchanges tail) says = absurd says
-unmoved profile past at b paired es end_us (WhyVerdict.Break number x tail command before breaking) (number_is, x_is, r_is, tail_is, commands, told, other) = (
-  WhyVerdict.Break at x tail command before breaking,
-  (refl, x_is, r_is, tail_is, commands, told, other),
-  ap (λ n. WhyVerdict.Break n x tail command before breaking) number_is,
+unmoved profile past at b paired es end_us (WhyVerdict.Break number x tail o before breaking) (number_is, x_is, r_is, tail_is, opened, told, other) = (
+  WhyVerdict.Break at x tail o before breaking,
+  (refl, x_is, r_is, tail_is, opened, told, other),
+  ap (λ n. WhyVerdict.Break n x tail o before breaking) number_is,
 )
 unmoved profile past at b paired es end_us (WhyVerdict.Contradiction number exchanges places known shown) (no_run, e, is_e, (number_is, es_is, is, shows)) = (
   WhyVerdict.Contradiction at exchanges places known shown,

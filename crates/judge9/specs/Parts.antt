@@ -6,11 +6,10 @@ use Rattle.block9.specs.declared.exchange.Exchange.{Exchange}
 use Rattle.block9.specs.declared.reason.Reason.{Reason}
 use Rattle.block9.specs.declared.reason.Reason.TheVariants.{ByteGap, CommandBeforeReply, CommandInsideReply, NoReply}
 use Rattle.block9.specs.Exchange.{Cut, records_in}
-use Rattle.block9.specs.Line.{byte_gap}
+use Rattle.block9.specs.Line.{byte_gap, is_commands_wire}
 use Rattle.deck9.specs.declared.profile.Profile.{Profile}
 use Rattle.deck9.specs.Run.{HasRun}
 use Rattle.verdict9.specs.declared.totals.Totals.{Totals}
-use Rattle.verdict9.specs.OpenRecords.{is_commands_wire}
 use Rattle.judge9.specs.Verdict.{Breaks}
 
 -- ---- where a part begins

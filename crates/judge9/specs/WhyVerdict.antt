@@ -7,8 +7,7 @@ use Rattle.capture9.specs.SomeText.{IsOfSomeText}
 use Rattle.block9.specs.declared.reason.Reason.TheVariants.{NoRun}
 use Rattle.block9.specs.declared.exchange.Exchange.{Exchange}
 use Rattle.block9.specs.Exchange.{Cut}
-use Rattle.block9.specs.Pairer.{BeginsWith}
-use Rattle.block9.specs.declared.command.Command.{Command}
+use Rattle.block9.specs.Pairer.{IsOpenAfter}
 use Rattle.deck9.specs.declared.mode.Mode.{Mode}
 use Rattle.deck9.specs.declared.profile.Profile.{Profile}
 use Rattle.deck9.specs.declared.state.State.{State}
@@ -30,13 +29,13 @@ use Rattle.verdict9.specs.OpenRecords.{IsBefore, IsBreakAfter}
 -- the verdict alone
 abbrev pub verdict_of : WhyVerdict → Verdict
 verdict_of (why.Yes records exchanges tail) = verdict.Yes records exchanges tail
-verdict_of (why.Break at reason tail command before r) = verdict.No at reason
+verdict_of (why.Break at reason tail o before r) = verdict.No at reason
 verdict_of (why.Contradiction at exchanges places known shown) = verdict.No at NoRun
 
 -- the same of records that come after so many others
 abbrev pub moved : ℕ → WhyVerdict → WhyVerdict
 moved past (why.Yes records exchanges tail) = why.Yes records exchanges tail
-moved past (why.Break at reason tail command before r) = why.Break (past + at) reason tail command before r
+moved past (why.Break at reason tail o before r) = why.Break (past + at) reason tail o before r
 moved past (why.Contradiction at exchanges places known shown) = why.Contradiction (past + at) exchanges places known shown
 
 -- the result of a judging with the verdict alone
@@ -57,15 +56,13 @@ pub record CouldShow (profile : Profile) (exchanges : List Exchange) (known : Kn
   pub ten : shown.0 < 2 ^ 10
   pub shows : (m : Mode) → (has shown.0 m ≡ true) ↔ ((s : State) × CouldBe profile before s × (s.shown ≡ m))
 
--- where a rule of pairing is broken, the record is the one that breaks it, with the records that are open before it, the
--- command that these begin with, if it is complete, and the exchange before it, where none is open; where no run
--- remains, the exchanges are those that the records up to
--- the break are cut into, the replies at these places contradict one another, and this is what the deck could show before
--- the last of them
+-- where a rule of pairing is broken, the record is the one that breaks it, with the records before it that are open, what is
+-- open in them, and, where none is, the exchange before; where no run remains, the exchanges are those that the records up to the
+-- break are cut into, the replies at these places contradict one another, and this is what the deck could show before the last
 abbrev pub HasItsWhy : Profile → Rows → WhyVerdict → Type 0
 HasItsWhy profile rows (why.Yes records exchanges tail) = ⊤
-HasItsWhy profile rows (why.Break at reason tail command before r) =
-    (reason ≢ NoRun) × ((c : Command) → (command ≡ Some c) ↔ BeginsWith profile.rate tail.items c)
+HasItsWhy profile rows (why.Break at reason tail o before r) =
+    (reason ≢ NoRun) × IsOpenAfter profile.rate tail.items o
     × (broken : IsBreakAfter profile.rate rows.records at tail.items r) × IsBefore broken.before broken.exchanges tail.items before
 HasItsWhy profile rows (why.Contradiction at exchanges places known shown) =
     Cut profile.rate (take at rows.records) exchanges.items [] × IsContradiction profile exchanges.items places.items × CouldShow profile exchanges.items known shown

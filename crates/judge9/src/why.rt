@@ -63,13 +63,12 @@ fn why_broken(
         → IfOk result (SaysWhy profile at broken pairer.now exchanges.items end_us) }
 {
     let tail = open_records(alloc, pairer)?;
-    let command = pairer.open_command();
     let before = ended_before(exchanges, tail.as_slice(), end_us);
     Ok(WhyVerdict::Break {
         at,
         reason: broken.reason,
         tail,
-        command,
+        open: pairer.open(),
         before,
         breaking: broken.record,
     })

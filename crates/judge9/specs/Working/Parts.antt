@@ -7,8 +7,7 @@ use Rattle.verdict9.specs.declared.totals.Totals.{Totals}
 use Rattle.judge9.specs.PartsReport.{PartsTold}
 use Rattle.judge9.specs.WhyVerdict.{CouldShow}
 use Rattle.judge9.specs.Working.Endings.{IsEnd}
-use Rattle.block9.specs.Pairer.{BeginsWith}
-use Rattle.block9.specs.declared.command.Command.{Command}
+use Rattle.block9.specs.Pairer.{IsOpenAfter}
 use Rattle.report9.specs.WhyText.{text_of_why}
 use Rattle.verdict9.specs.Lines.{line_of}
 use Rattle.verdict9.specs.OpenRecords.{IsBefore}
@@ -93,8 +92,8 @@ SaysNoRun profile at es why = ⊥
 -- them ended; or no run remains with the exchange that it completed
 abbrev pub SaysWhy : Profile → ℕ → Break → Paired → List Exchange → Option ℕ → WhyVerdict → Type 0
 SaysWhy profile at b paired es end_us (WhyVerdict.Yes records exchanges tail) = ⊥
-SaysWhy profile at b paired es end_us (WhyVerdict.Break number x tail command before breaking) =
-    (number ≡ at) × (x ≡ b.reason) × (breaking ≡ b.record) × (tail.items ≡ paired.tail) × ((c : Command) → (command ≡ Some c) ↔ BeginsWith profile.rate paired.tail c)
+SaysWhy profile at b paired es end_us (WhyVerdict.Break number x tail o before breaking) =
+    (number ≡ at) × (x ≡ b.reason) × (breaking ≡ b.record) × (tail.items ≡ paired.tail) × IsOpenAfter profile.rate paired.tail o
     × ((records : List LineByte) → (paired.tail ≡ [] → IsEnd records es end_us) → IsBefore records es paired.tail before) × (b.reason ≢ Reason.NoRun)
 SaysWhy profile at b paired es end_us (WhyVerdict.Contradiction number exchanges places known shown) =
     (b.reason ≡ Reason.NoRun) × (e : Exchange) × (paired.exchange ≡ Some e)

@@ -69,14 +69,14 @@ returns-in_err-put_break g c =
     let ended = part_ends so_far.before c.args.telling _ _ _ (Some c.in-Some.broken) c.judge_part.new.log _ so_far.at_turn judged in
     rw (handed c.from_residual-in_err-put_break.result c.from_residual-in_err-put_break.ensures.1) (break_memory so_far.before ended.2)
 
-pub returns-in_err-put_all : goal.returns-in_err-put_all
-returns-in_err-put_all g c =
+pub returns-in_err-write_all : goal.returns-in_err-write_all
+returns-in_err-write_all g c =
     let so_far = c.parts.invariant in
     let judged = rw (c.new-log.ensures.tells, c.in-Some.is) at c.in_ok-end.ensures.judged in
     let ended = part_ends so_far.before c.args.telling _ _ _ (Some c.in-Some.broken) c.judge_part.new.log _ so_far.at_turn judged in
     let told = break_told c.args.telling _ c.judge_part.new.log ended.2 ended.3 c.put_break.new.line.items c.in_ok-put_break.ensures in
-    let part = rw c.as_slice.ensures.value at c.in_err-put_all.ensures.err in
-    rw (handed c.from_residual-in_err-put_all.result c.from_residual-in_err-put_all.ensures.1) (break_unwritten so_far.before ended.2 _ _ told part)
+    let part = rw c.as_slice.ensures.value at c.in_err-write_all.ensures.err in
+    rw (handed c.from_residual-in_err-write_all.result c.from_residual-in_err-write_all.ensures.1) (break_unwritten so_far.before ended.2 _ _ told part)
 
 pub take_up-requires : goal.take_up-requires
 take_up-requires g c =
@@ -91,7 +91,7 @@ returns-in_err-turn-2 g c =
     let judged = rw (c.new-log.ensures.tells, c.in-Some.is) at c.in_ok-end.ensures.judged in
     let ended = part_ends so_far.before c.args.telling _ _ _ (Some c.in-Some.broken) c.judge_part.new.log _ so_far.at_turn judged in
     let told = break_told c.args.telling _ c.judge_part.new.log ended.2 ended.3 c.put_break.new.line.items c.in_ok-put_break.ensures in
-    let wrote = rw c.as_slice.ensures.value at c.in_ok-put_all.ensures.ok in
+    let wrote = rw c.as_slice.ensures.value at c.in_ok-write_all.ensures.ok in
     rw (handed c.from_residual-in_err-turn-2.result c.from_residual-in_err-turn-2.ensures.1)
     (break_over so_far.before ended.2 _ _ c.take_up.new.self (Err _) told wrote c.in_err-turn-2.ensures)
 
@@ -109,7 +109,7 @@ parts-preserved g c =
     let judged = rw (c.new-log.ensures.tells, c.in-Some.is) at c.in_ok-end.ensures.judged in
     let ended = part_ends so_far.before c.args.telling _ _ _ (Some c.in-Some.broken) c.judge_part.new.log _ so_far.at_turn judged in
     let told = break_told c.args.telling _ c.judge_part.new.log ended.2 ended.3 c.put_break.new.line.items c.in_ok-put_break.ensures in
-    let wrote = rw c.as_slice.ensures.value at c.in_ok-put_all.ensures.ok in
+    let wrote = rw c.as_slice.ensures.value at c.in_ok-write_all.ensures.ok in
     let next = break_over so_far.before ended.2 _ _ c.take_up.new.self (Ok c.in_ok-turn-2.turn) told wrote c.in_ok-turn-2.ensures in
     let b = broken_at ended.2.so_far c.in-Some.broken in
     let counts = counted so_far.broken b in
