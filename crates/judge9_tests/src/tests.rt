@@ -5,7 +5,6 @@ mod fewest_hands;
 mod hostile;
 mod kept_by_hand;
 mod long;
-mod open_records;
 mod parts;
 mod read_faults;
 mod readers;

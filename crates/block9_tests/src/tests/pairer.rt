@@ -1,7 +1,7 @@
 //! What a pairer answers to each record, by hand. Which record of a capture breaks which rule is in `tests/cases/`.
 
 use crate::tests::same;
-use block9::{Block, Command, Exchange, Pairer, Reason, Step};
+use block9::{Block, Command, Exchange, Open, Pairer, Reason, Step};
 use capture9::Wire::{Controller, Deck};
 use capture9::{LineByte, Wire};
 use std::process::Abort;
@@ -192,4 +192,56 @@ fn a_preset_is_read_at_the_rate(rt: HostRuntime) {
         let command = pairer.exchange().map(|exchange| exchange.command);
         same(&rt, frame_in(command), frame, rate);
     }
+}
+
+/// What is open: the command that is complete, the records of each block, how many the unfinished block has, and its sum so far.
+fn is_open(
+    command: Option<Command>,
+    asked: usize,
+    answered: usize,
+    wanted: usize,
+    sum: u8,
+) -> Open {
+    Open {
+        command,
+        asked,
+        answered,
+        wanted,
+        sum,
+    }
+}
+
+#[test]
+fn what_is_open_is_told_after_each_record(rt: HostRuntime) {
+    let play = Some(Command::Play);
+    let mut pairer = Pairer::new();
+    same(&rt, pairer.open(), is_open(None, 0, 0, 0, 0), "the start");
+    for (line_byte, open) in &[
+        (record(400, Controller, 0x20), is_open(None, 1, 0, 3, 0x20)),
+        (record(800, Controller, 0x01), is_open(None, 2, 0, 3, 0x21)),
+        (record(1_200, Controller, 0x21), is_open(play, 3, 0, 0, 0)),
+        (record(1_600, Deck, 0x10), is_open(play, 3, 1, 3, 0x10)),
+        (record(2_000, Deck, 0x01), is_open(play, 3, 2, 3, 0x11)),
+        (record(2_400, Deck, 0x11), is_open(None, 0, 0, 0, 0)),
+        (
+            record(2_800, Controller, 0x20),
+            is_open(None, 1, 0, 3, 0x20),
+        ),
+    ] {
+        take(&rt, &mut pairer, *line_byte);
+        same(&rt, pairer.open(), *open, line_byte);
+    }
+    let broken = feed(&rt, &mut pairer, record(3_200, Deck, 0x10));
+    same(
+        &rt,
+        broken,
+        Err(Reason::ReplyInsideCommand),
+        "the deck sends inside a command",
+    );
+    same(
+        &rt,
+        pairer.open(),
+        is_open(None, 1, 0, 3, 0x20),
+        "after a break",
+    );
 }
