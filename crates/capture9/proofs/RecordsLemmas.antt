@@ -1,37 +1,44 @@
 -- What the reading of one CSV record does to a `Records`, as its callers see it.
-use Rattle.capture9.proofs.Words.{arith, bad_row, Bool, CaptureError, CaptureKind, Err, false, GivesRecord, GivesRefusal, HasHeader, HoldsInRecords, IfSome, is_of_text, is_past_header, IsAfter}
+use Rattle.capture9.proofs.Words.{arith, bad_row, CaptureError, CaptureKind, Err, false, GivesRecord, GivesRefusal, HasHeader, HoldsInRecords, IfSome, is_of_text, is_past_header, IsAfter}
 use Rattle.capture9.proofs.Words.{IsAtItsRow, IsPlaced, IsTrue, length, LineByte, List, most_rows, nat_tests, nil_from_length, None, Ok, Option, option_map, Progress, Reader, refl, row_of}
-use Rattle.capture9.proofs.Words.{rows_from, rows_to_come, Some, Standing, TakesFields, TakesRecord, true, unread_rows, ℕ, ◌+◌, ◌<◌, ◌≡◌, ◌≤◌}
+use Rattle.capture9.proofs.Words.{rows_from, rows_to_come, Some, Stage, Standing, standing_at, sym, TakesFields, TakesRecord, true, true≢false, ℕ, ◌+◌, ◌<◌, ◌≡◌, ◌≤◌}
 use Rattle.capture9.proofs.RuleLemmas.{at-its-row, row_of-err, row_of-ok, rows_from-has_header}
 
 -- how callers see a `Records` with these fields, these CSV records unread, and this reader
-abbrev pub progress_of : {R : Type 0} → Standing → Bool → ℕ → ℕ → Option (List (List (List ℕ))) → R → Progress R
-progress_of stands headed count time unread reader =
-    record { rows = rows_to_come stands headed count time unread; given = count; is_headed = headed; last_time = time; standing = stands; source = reader }
+abbrev pub progress_of : {R : Type 0} → Stage → ℕ → ℕ → Option (List (List (List ℕ))) → R → Progress R
+progress_of stage count time unread reader =
+    record { rows = rows_to_come stage count time unread; given = count; is_headed = is_past_header stage; last_time = time; standing = standing_at stage; source = reader }
+
+-- one that reads on behind the header is in the rows
+pub in-rows : (s : Stage) → standing_at s ≡ Standing.Reading → is_past_header s ≡ true → s ≡ Stage.InRows
+in-rows Stage.BeforeHeader reads past = absurd (true≢false (sym past))
+in-rows Stage.InRows reads past = refl
+in-rows Stage.Ended reads past = grind arith
+in-rows (Stage.Refused e) reads past = grind arith
 
 -- a good row is the first of those to come
 takes-row : (given last_time : ℕ) (unread after : Option (List (List (List ℕ)))) (fields : List (List ℕ)) (r : LineByte)
     → IfSome unread (λ rows. TakesFields rows true fields after) → row_of (given + 1) last_time fields ≡ Ok r
-    → TakesRecord (option_map (unread_rows true given last_time) unread) r (option_map (unread_rows true (given + 1) r.time_us) after)
+    → TakesRecord (option_map (rows_from (given + 1) last_time) unread) r (option_map (rows_from (given + 1 + 1) r.time_us) after)
 takes-row given last_time None after fields r read good = tt
 takes-row given last_time (Some rows) after fields r read good = rw (read.1, read.2) (rows_from (given + 1 + 1) r.time_us read.0, refl, rw good refl)
 
 -- after the header none of the rows to come has the header's fault
-past-header : (given last_time : ℕ) (unread : Option (List (List (List ℕ)))) → IfSome (option_map (unread_rows true given last_time) unread) HasHeader
+past-header : (given last_time : ℕ) (unread : Option (List (List (List ℕ)))) → IfSome (option_map (rows_from (given + 1) last_time) unread) HasHeader
 past-header given last_time unread = grind (arith, rows_from-has_header)
 
-pub gives-record : {R : Type 0} (source left : R) (s : Standing) (headed : Bool) (given last_time : ℕ) (unread after : Option (List (List (List ℕ))))
+pub gives-record : {R : Type 0} (source left : R) (s : Stage) (given last_time : ℕ) (unread after : Option (List (List (List ℕ))))
     (fields : List (List ℕ)) (r : LineByte)
-    → s ≡ Standing.Reading → headed ≡ true
+    → standing_at s ≡ Standing.Reading → is_past_header s ≡ true
     → IfSome unread (λ rows. TakesFields rows true fields after) → row_of (given + 1) last_time fields ≡ Ok r
-    → GivesRecord (progress_of s headed given last_time unread source) r (progress_of s headed (given + 1) r.time_us after left)
-gives-record source left s headed given last_time unread after fields r reads past read good =
+    → GivesRecord (progress_of s given last_time unread source) r (progress_of s (given + 1) r.time_us after left)
+gives-record source left s given last_time unread after fields r reads past read good =
     let known = row_of-ok (given + 1) last_time fields r good in
-    rw (reads, past) (search (past-header given last_time unread, takes-row given last_time unread after fields r read good))
+    rw (in-rows s reads past) (search (past-header given last_time unread, takes-row given last_time unread after fields r read good))
 
 -- what is wrong with the first of the rows to come, if it is a fault of the text
 pub record IsRowFault (given last_time : ℕ) (unread : Option (List (List (List ℕ)))) (k : CaptureKind) : Type 0 where
-  pub fault : IsTrue (is_of_text k) → IfSome (option_map (unread_rows true given last_time) unread) (λ rows. rows ≡ bad_row k (given + 1))
+  pub fault : IsTrue (is_of_text k) → IfSome (option_map (rows_from (given + 1) last_time) unread) (λ rows. rows ≡ bad_row k (given + 1))
   pub at_its_row : IsTrue (is_of_text k) → IsAtItsRow (record { kind = k; row = given + 1 })
   pub backwards : k ≡ CaptureKind.Backwards → 0 < last_time
 
@@ -46,24 +53,24 @@ bad-first given last_time unread after fields k within read bad =
     let known = row_of-err (given + 1) last_time fields k bad in
     grind (arith, at-its-row (given + 1) last_time k (omega arith) (omega arith) known)
 
-pub refuses-row : {R : Type 0} (source left : R) (s new : Standing) (headed : Bool) (given last_time : ℕ) (unread after : Option (List (List (List ℕ))))
+pub refuses-row : {R : Type 0} (source left : R) (s new : Stage) (given last_time : ℕ) (unread after : Option (List (List (List ℕ))))
     (k : CaptureKind) (e : CaptureError)
-    → s ≡ Standing.Reading → headed ≡ true → e ≡ record { kind = k; row = given + 1 } → new ≡ Standing.Refused e → IsRowFault given last_time unread k
-    → GivesRefusal (progress_of s headed given last_time unread source) e (progress_of new (is_past_header new false) given last_time after left)
-refuses-row source left s new headed given last_time unread after k e reads past is marked wrong =
-    rw (reads, past, marked, is) (grind (arith, nat_tests, past-header given last_time unread))
+    → standing_at s ≡ Standing.Reading → is_past_header s ≡ true → e ≡ record { kind = k; row = given + 1 } → new ≡ Stage.Refused e → IsRowFault given last_time unread k
+    → GivesRefusal (progress_of s given last_time unread source) e (progress_of new given last_time after left)
+refuses-row source left s new given last_time unread after k e reads past is marked wrong =
+    rw (in-rows s reads past, marked, is) (grind (arith, nat_tests, past-header given last_time unread))
 
 -- what stands inside a `Records` that was refused at a row
-pub refused-holds : {R : Type 0} (left : Reader R) (new : Standing) (given last_time : ℕ) (k : CaptureKind) (e : CaptureError)
-    → given ≤ most_rows → e ≡ record { kind = k; row = given + 1 } → new ≡ Standing.Refused e
-    → (IsTrue (is_of_text k) → IsAtItsRow (record { kind = k; row = given + 1 })) → HoldsInRecords new false given last_time left
+pub refused-holds : {R : Type 0} (left : Reader R) (new : Stage) (given last_time : ℕ) (k : CaptureKind) (e : CaptureError)
+    → given ≤ most_rows → e ≡ record { kind = k; row = given + 1 } → new ≡ Stage.Refused e
+    → (IsTrue (is_of_text k) → IsAtItsRow (record { kind = k; row = given + 1 })) → HoldsInRecords new given last_time left
 refused-holds left new given last_time k e within is marked at_its_row = rw (marked, is) (grind (arith, nat_tests))
 
 -- a refusal is told again, and nothing changes
-pub refuses-again : {R : Type 0} (source : R) (s : Standing) (headed : Bool) (given last_time : ℕ) (unread : Option (List (List (List ℕ)))) (e : CaptureError)
-    → s ≡ Standing.Refused e → IsPlaced headed given e → GivesRefusal (progress_of s headed given last_time unread source) e
-    (progress_of s headed given last_time unread source)
-refuses-again source s headed given last_time unread e refused placed = rw refused (grind arith)
+pub refuses-again : {R : Type 0} (source : R) (s : Stage) (given last_time : ℕ) (unread : Option (List (List (List ℕ)))) (e : CaptureError)
+    → s ≡ Stage.Refused e → IsPlaced (is_past_header s) given e → GivesRefusal (progress_of s given last_time unread source) e
+    (progress_of s given last_time unread source)
+refuses-again source s given last_time unread e refused placed = rw refused (grind arith)
 
 -- where a refusal stands that came after these records
 pub refused-after : {R : Type 0} (old new : Progress R) (e : CaptureError) (items : List LineByte) → GivesRefusal old e new → old.given ≡ length items

@@ -5,12 +5,13 @@ pub use Rattle.capture9.specs.Records.{GivesRecord, GivesRefusal, IsPlaced, Prog
 pub use Rattle.capture9.specs.RowRules.{AreGood, AreLeft, HasFirstPart, IsFirstOf, last_time, row_kinds, RowBreaks, Spell}
 pub use Rattle.capture9.specs.Rows.{bad_row, fields_record, good_row, HasHeader, headed_rows, no_rows, record_of, row_of, row_then, Rows, rows_from, rows_of}
 pub use Rattle.capture9.specs.SomeText.{CanBeRows, CanFollow, IsOfSomeText}
-pub use Rattle.capture9.specs.Working.{digits_after, HoldsInRecords, is_past_header, IsPlain, records_at, rows_to_come, TakesFields, unread_records, unread_rows}
+pub use Rattle.capture9.specs.Working.{digits_after, HoldsInRecords, is_past_header, IsPlain, records_at, rows_to_come, standing_at, TakesFields, unread_records}
 pub use Rattle.capture9.specs.declared.error.CaptureError.{CaptureError}
 pub use Rattle.capture9.specs.declared.error.CaptureKind.{CaptureKind}
 pub use Rattle.capture9.specs.declared.line_byte.LineByte.{LineByte}
 pub use Rattle.capture9.specs.declared.line_byte.Wire.{Wire}
 pub use Rattle.capture9.specs.declared.line_byte.Wire.TheVariants.{Controller, Deck}
+pub use Rattle.capture9.specs.declared.records.Stage.{Stage}
 pub use Rattle.capture9.specs.declared.records.Standing.{Standing}
 pub use Rattle.capture9.specs.declared.records.Standing.TheVariants.{Reading}
 pub use Rattle.csv.proofs.RoundTrip.{read-write}
@@ -28,7 +29,7 @@ pub use Rattle.csv.specs.declared.parser.State.{State}
 pub use Rattle.csv.specs.declared.reader.Reader.{Reader}
 pub use Rattle.std.proofs.Common.{cond, Fits, ltb, replicate, w32, w8}
 pub use Rattle.std.proofs.Common.{[], add-one, add-zero, All, ap, append-nil, arith, Bool, codes, drop, Err, false, get_or, length, length-append, length-take-le, List, lit<}
-pub use Rattle.std.proofs.Common.{lit≤, map, nat_lt, None, Ok, Option, option_map, pow-add, pow-suc, refl, Result, rules, Some, suc, sym, take-append-drop, true, zero, ℕ, ◌%◌}
+pub use Rattle.std.proofs.Common.{lit≤, map, nat_lt, None, Ok, Option, option_map, pow-add, pow-suc, refl, Result, rules, Some, suc, sym, take-append-drop, true, true≢false, zero, ℕ, ◌%◌}
 pub use Rattle.std.proofs.Common.{◌&&◌, ◌*◌, ◌++◌, ◌+◌, ◌-◌, ◌/◌, ◌<◌, ◌^◌, ◌∙◌, ◌∷◌, ◌≡◌, ◌≢◌, ◌≤◌, ◌⊎◌}
 pub use Rattle.std.proofs.Math.Nat.{mul-le-mul_left, mul-le-mul_right, pow-le-pow_right}
 pub use Rattle.std.proofs.lemmas.Bool.{agree_below_at, and_parts, cond_both, le-leb}

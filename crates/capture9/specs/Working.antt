@@ -6,6 +6,8 @@ use Rattle.csv.specs.declared.parser.State.{State}
 use Rattle.csv.specs.declared.reader.Reader.{Reader}
 use Rattle.csv.specs.declared.reader.Trim.TheVariants as trim
 use Rattle.capture9.specs.declared.error.CaptureError.{CaptureError}
+use Rattle.capture9.specs.declared.records.Stage.{Stage}
+use Rattle.capture9.specs.declared.records.Stage.TheVariants as stage
 use Rattle.capture9.specs.declared.records.Standing.{Standing}
 use Rattle.capture9.specs.declared.records.Standing.TheVariants as standing
 use Rattle.std.specs.Str.{all_ascii_digits}
@@ -21,16 +23,26 @@ records_at s bytes = records_from default_config (length bytes + 1) s bytes
 abbrev pub unread_records : {R : Type 0} → (R → Option (List ℕ)) → Reader R → Option (List (List (List ℕ)))
 unread_records remaining r = option_map (records_at (reader_state r)) (source_of remaining r)
 
--- what those records hold, by whether the header was read, the rows given and the time of the last
-abbrev pub unread_rows : Bool → ℕ → ℕ → List (List (List ℕ)) → Rows
-unread_rows is_headed given last_time unread =
-    if is_headed then rows_from (given + 1) last_time unread else headed_rows unread
+-- whether a `Records` at this stage reads on
+abbrev pub standing_at : Stage → Standing
+standing_at stage.BeforeHeader = standing.Reading
+standing_at stage.InRows = standing.Reading
+standing_at stage.Ended = standing.Ended
+standing_at (stage.Refused e) = standing.Refused e
 
--- the rows that are still to come
-abbrev pub rows_to_come : Standing → Bool → ℕ → ℕ → Option (List (List (List ℕ))) → Option Rows
-rows_to_come standing.Reading is_headed given last_time unread = option_map (unread_rows is_headed given last_time) unread
-rows_to_come standing.Ended is_headed given last_time unread = Some no_rows
-rows_to_come (standing.Refused e) is_headed given last_time unread = None
+-- whether the header was read: before an end it was, and before each refusal but one at row 0
+abbrev pub is_past_header : Stage → Bool
+is_past_header stage.BeforeHeader = false
+is_past_header stage.InRows = true
+is_past_header stage.Ended = true
+is_past_header (stage.Refused e) = nat_lt 0 e.row
+
+-- the rows that are still to come, by the number of rows given, the time of the last one, and the CSV records left
+abbrev pub rows_to_come : Stage → ℕ → ℕ → Option (List (List (List ℕ))) → Option Rows
+rows_to_come stage.BeforeHeader given last_time unread = option_map headed_rows unread
+rows_to_come stage.InRows given last_time unread = option_map (rows_from (given + 1) last_time) unread
+rows_to_come stage.Ended given last_time unread = Some no_rows
+rows_to_come (stage.Refused e) given last_time unread = None
 
 -- a reader that takes every record as it stands: commas, no trimming, any number of fields, no header of its own
 pub record IsPlain {R : Type 0} (r : Reader R) : Type 0 where
@@ -39,20 +51,12 @@ pub record IsPlain {R : Type 0} (r : Reader R) : Type 0 where
   pub flexible : is_flexible r ≡ true
   pub ready : Ready r
 
--- whether the header was read, by how the reading stands and whether data rows are being read: before an end it was, and
--- before each refusal but one at row 0
-abbrev pub is_past_header : Standing → Bool → Bool
-is_past_header standing.Reading is_in_rows = is_in_rows
-is_past_header standing.Ended is_in_rows = true
-is_past_header (standing.Refused e) is_in_rows = nat_lt 0 e.row
-
 -- what always holds of the fields of a `Records`
-pub record HoldsInRecords {R : Type 0} (s : Standing) (is_in_rows : Bool) (given last_time : ℕ) (r : Reader R) : Type 0 where
-  pub plain : s ≡ standing.Reading → IsPlain r
-  pub in_rows : is_in_rows ≡ true → s ≡ standing.Reading
+pub record HoldsInRecords {R : Type 0} (s : Stage) (given last_time : ℕ) (r : Reader R) : Type 0 where
+  pub plain : standing_at s ≡ standing.Reading → IsPlain r
   pub within : given ≤ most_rows
-  pub fresh : is_past_header s is_in_rows ≡ false → (given ≡ 0) × (last_time ≡ 0)
-  pub refused : (e : CaptureError) → s ≡ standing.Refused e → IsPlaced (is_past_header s is_in_rows) given e
+  pub fresh : is_past_header s ≡ false → (given ≡ 0) × (last_time ≡ 0)
+  pub refused : (e : CaptureError) → s ≡ stage.Refused e → IsPlaced (is_past_header s) given e
 
 -- what a read of a CSV record did: there was one, with these fields, or there was none
 abbrev pub TakesFields : List (List (List ℕ)) → Bool → List (List ℕ) → Option (List (List (List ℕ))) → Type 0

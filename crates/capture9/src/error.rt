@@ -5,8 +5,8 @@ use std::fmt;
 
 /// What is wrong with a capture, or with its reading.
 ///
-/// The rules of the text are this profile's choice. Where several hold at one row, the first of this
-/// order is told: `Read` or `OutOfMemory`, whichever happened, and then `TooMany`, `Fields`, `Time`,
+/// What a text must be is a choice of these rules. Where a row has several of these faults, the first of
+/// this order is told: `Read` or `OutOfMemory`, whichever happened, and then `TooMany`, `Fields`, `Time`,
 /// `Wire`, `Byte`, `Backwards`.
 #[derive(Clone, Copy, Debug, PartialEq, Eq)]
 pub enum CaptureKind {

@@ -179,7 +179,7 @@ fn read_byte(field: &[u8]) -> Option<u8>
 fn hex_digit(byte: u8) -> Option<u8>
     ensures { result ≡ hex_digit_of byte }
 {
-    // By one test, and not among the arms, where it would be two.
+    // Tested apart, since a range among the arms takes two tests.
     if byte.is_ascii_digit() {
         return Some(byte - b'0');
     }

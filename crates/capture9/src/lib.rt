@@ -1,6 +1,6 @@
 //! The records of a capture, read from CSV text: one captured byte a row, with its time and wire.
 //!
-//! The form of the text is this profile's choice. Its first CSV record is the header
+//! The form of the text is a choice of these rules. Its first CSV record is the header
 //! `time_us,wire,byte`, and each further one is a data row of three fields: the time in microseconds as
 //! 1 to 15 decimal digits, the wire as `C` (controller) or `D` (deck), and the byte as two hexadecimal
 //! digits of either case. Times never fall, and there are at most 4,000,000 data rows. What a CSV record

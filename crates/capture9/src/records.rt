@@ -1,6 +1,6 @@
 //! The records of a text, one at a time.
 
-ghost use Rattle.std.specs.Prelude.{◌≡◌, ◌≢◌, ◌+◌, ◌≤◌, ◌↔◌, true, false, IfErr, IfNone, IfOk, IfSome, MatchBool, OnErr, OnOk, option_map};
+ghost use Rattle.std.specs.Prelude.{◌≡◌, ◌≢◌, ◌+◌, ◌≤◌, ◌↔◌, true, false, IfErr, IfNone, IfOk, IfSome, IsTrue, MatchBool, OnErr, OnOk, option_map};
 ghost use Rattle.csv.specs.Reading.{error_kind};
 ghost use Rattle.csv.specs.Records.{fields_of};
 ghost use Rattle.csv.specs.declared.error.ErrorKind.TheVariants.{OutOfMemory};
@@ -18,11 +18,24 @@ use std::alloc::Global;
 use std::io::Read;
 use std::marker::Model;
 
-/// Whether a `Records` reads on.
+/// Whether a `Records` reads on, as a contract sees it.
 #[derive(Clone, Copy, Debug, PartialEq, Eq)]
 pub enum Standing {
     /// It reads on.
     Reading,
+    /// The text has ended.
+    Ended,
+    /// Reading was refused.
+    Refused(CaptureError),
+}
+
+/// How far in the text a `Records` has come.
+#[derive(Clone, Copy)]
+enum Stage {
+    /// The header is the next CSV record.
+    BeforeHeader,
+    /// The header was read, and a data row is next.
+    InRows,
     /// The text has ended.
     Ended,
     /// Reading was refused.
@@ -38,11 +51,8 @@ pub struct Records<R: Read + Drop> {
     reader: Reader<R>,
     row: ByteRecord,
     given: u32,
-    /// Whether data rows are being read: the header was read, and neither the end nor a refusal has come since. So one
-    /// test is enough for each record.
-    is_in_rows: bool,
     last_time: u64,
-    standing: Standing,
+    stage: Stage,
 }
 
 impl<R: Read + Drop> Model for Records<R> {
@@ -51,19 +61,18 @@ impl<R: Read + Drop> Model for Records<R> {
     ghost Value = { Progress R };
 
     ghost use Rattle.csv.specs.Reading.{reader_source};
-    ghost use Rattle.capture9.specs.Working.{HoldsInRecords, is_past_header, rows_to_come, unread_records};
+    ghost use Rattle.capture9.specs.Working.{HoldsInRecords, is_past_header, rows_to_come, standing_at, unread_records};
 
     ghost view = { λ r. record {
-      rows = rows_to_come r.standing (is_past_header r.standing r.is_in_rows) r.given r.last_time
-          (unread_records R.remaining r.reader);
+      rows = rows_to_come r.stage r.given r.last_time (unread_records R.remaining r.reader);
       given = r.given;
-      is_headed = is_past_header r.standing r.is_in_rows;
+      is_headed = is_past_header r.stage;
       last_time = r.last_time;
-      standing = r.standing;
+      standing = standing_at r.stage;
       source = reader_source r.reader;
     } };
 
-    ghost invariant = { λ r. HoldsInRecords r.standing r.is_in_rows r.given r.last_time r.reader };
+    ghost invariant = { λ r. HoldsInRecords r.stage r.given r.last_time r.reader };
 }
 
 impl<R: Read + Drop> Records<R> {
@@ -79,17 +88,16 @@ impl<R: Read + Drop> Records<R> {
         } }
     {
         Records {
-            // A row may have any number of fields here, since the number is a rule of its own; a byte
-            // order mark before the header is taken away by `csv` itself, and is no part of the text.
+            // A row may have any number of fields here, since a rule of the rows limits it. `csv` itself takes
+            // a byte order mark before the header away, so it is no part of the text.
             reader: ReaderBuilder::new()
                 .has_headers(false)
                 .flexible(true)
                 .from_reader(alloc, reader),
             row: ByteRecord::new(alloc),
             given: 0,
-            is_in_rows: false,
             last_time: 0,
-            standing: Standing::Reading,
+            stage: Stage::BeforeHeader,
         }
     }
 
@@ -100,9 +108,9 @@ impl<R: Read + Drop> Records<R> {
     /// 0 while the header is being read, which the first call does.
     ///
     /// After the end it gives None each time, and after a refusal the same refusal each time, and reads
-    /// no more. As a call asks `csv` for one record, and for the header before the first, these are
-    /// 4,000,002 at most, a row too many included.
-    #[inline(always)] // two loops over records call it, and else it would be inlined in neither
+    /// no more. A call asks `csv` for one record, and the first call for the header too. So `csv` is asked
+    /// for 4,000,002 at most: the header, the rows, and one row too many.
+    #[inline(always)] // each loop over records calls it, and else it would be inlined in none
     pub fn next(&mut self) -> Result<Option<LineByte>, CaptureError>
         ensures given { IfOk result (λ o. IfSome o (λ r. GivesRecord self.old r self.new)) }
         ensures ended { IfOk result (λ o. IfNone o (GivesEnd self.old self.new)) }
@@ -113,7 +121,7 @@ impl<R: Read + Drop> Records<R> {
             → (result ≡ Err e) × (self.new ≡ self.old) }
         ensures within { self.new.given ≤ most_rows }
     {
-        if !self.is_in_rows && !self.enter_rows()? {
+        if !matches!(self.stage, Stage::InRows) && !self.enter_rows()? {
             return Ok(None);
         }
         self.read_row()
@@ -126,11 +134,10 @@ impl<R: Read + Drop> Records<R> {
         self.given
     }
 
-    /// Comes to the data rows by reading the header, and answers true. After the end it answers false, and after a
-    /// refusal it gives the same refusal again.
+    /// Comes to the data rows, by reading the header where that was not yet done, and answers true. After the end it
+    /// answers false, and after a refusal it gives the same refusal again.
     #[inline(always)] // else the room for its result is cleared before each record
     fn enter_rows(&mut self) -> Result<bool, CaptureError>
-        requires { self.old.standing ≡ Standing.Reading → self.old.is_headed ≡ false }
         ensures entered { IfOk result
             (λ b. MatchBool b (PassesHeader self.old self.new) (GivesEnd self.old self.new)) }
         ensures refused { IfErr result (λ e. GivesRefusal self.old e self.new) }
@@ -139,13 +146,14 @@ impl<R: Read + Drop> Records<R> {
         ensures after_refusal { (e : CaptureError) → self.old.standing ≡ Standing.Refused e
             → (result ≡ Err e) × (self.new ≡ self.old) }
     {
-        match self.standing {
-            Standing::Reading => {
-                self.read_header()?;
-                Ok(true)
-            }
-            Standing::Ended => Ok(false),
-            Standing::Refused(error) => Err(error),
+        if is_before_header(&self.stage) {
+            self.read_header()?;
+            return Ok(true);
+        }
+        match self.stage {
+            Stage::BeforeHeader | Stage::InRows => Ok(true),
+            Stage::Ended => Ok(false),
+            Stage::Refused(error) => return Err(error),
         }
     }
 
@@ -161,14 +169,14 @@ impl<R: Read + Drop> Records<R> {
         let kind = match read_record(&mut self.reader, &mut self.row) {
             Ok(found) => {
                 if found && fields::is_header(&self.row) {
-                    self.is_in_rows = true;
+                    self.stage = Stage::InRows;
                     return Ok(());
                 }
                 CaptureKind::Header
             }
             Err(kind) => kind,
         };
-        Err(refuse(&mut self.standing, kind, 0))
+        Err(refuse(&mut self.stage, kind, 0))
     }
 
     /// Reads the next CSV record, which is a data row.
@@ -193,15 +201,22 @@ impl<R: Read + Drop> Records<R> {
                 None => fields::fault_in(number, &self.row),
             },
             Ok(false) => {
-                self.standing = Standing::Ended;
-                self.is_in_rows = false;
+                self.stage = Stage::Ended;
                 return Ok(None);
             }
             Err(kind) => kind,
         };
-        self.is_in_rows = false;
-        Err(refuse(&mut self.standing, fault, number))
+        Err(refuse(&mut self.stage, fault, number))
     }
+}
+
+/// Whether the header is the next CSV record.
+#[cold]
+#[inline(never)] // else each record goes by a table of the stages, which takes longer than one test
+fn is_before_header(stage: &Stage) -> bool
+    ensures { IsTrue result ↔ stage.now ≡ Stage.BeforeHeader }
+{
+    matches!(stage, Stage::BeforeHeader)
 }
 
 /// Reads the next CSV record into `row`, and answers whether there was one.
@@ -233,11 +248,11 @@ fn kind_of(error: &csv::Error) -> CaptureKind
 }
 
 /// Marks a refusal at this row, and answers it.
-fn refuse(standing: &mut Standing, kind: CaptureKind, row: u32) -> CaptureError
+fn refuse(stage: &mut Stage, kind: CaptureKind, row: u32) -> CaptureError
     ensures error { result ≡ record { kind = kind; row = row } }
-    ensures marked { standing.new ≡ Standing.Refused result }
+    ensures marked { stage.new ≡ Stage.Refused result }
 {
     let error = CaptureError { kind, row };
-    *standing = Standing::Refused(error);
+    *stage = Stage::Refused(error);
     error
 }

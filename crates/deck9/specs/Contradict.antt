@@ -22,7 +22,7 @@ abbrev pub MayDo : Profile → Bool → Exchange → State → State → Type 0
 MayDo p true e s t = DeckStep p e.command e.reply s t
 MayDo p false e s t = CanPass p e.command s t
 
--- the places of a list's rest, of which the first is the list's second
+-- the same places, counted in the list without its first exchange
 abbrev pub behind_first : (ℕ → Bool) → ℕ → Bool
 behind_first is_believed k = is_believed (k + 1)
 

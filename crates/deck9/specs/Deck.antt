@@ -1,5 +1,5 @@
--- What a deck forgets at commands that are not listed, and the modes on the way to its goals: those that it has of its own, and this
--- profile's where it has none.
+-- What a deck forgets at commands that are not listed, and the modes on the way to its goals: as its `Deck` says, and where it has
+-- none, as the rules say of every deck.
 use Rattle.std.specs.Prelude.{ℕ, ◌==◌, ◌/◌, if◌then◌else◌, Option, Some, None, slice_index_or}
 use Rattle.std.specs.BTreeMap.{get}
 use Rattle.std.specs.Ordering.{nat_cmp}

@@ -22,7 +22,7 @@ use Rattle.deck9.specs.declared.effect.Change.TheVariants.{SetSomewhere, SetAt, 
 use Rattle.deck9.specs.Deck.{forgotten_at}
 use Rattle.deck9.specs.State.{IsEntry, IsState, entry_of, with_entry}
 
--- what becomes anything, of what is forgotten
+-- the effect that makes anything of what is forgotten
 abbrev pub forgetting : Forgotten → Effect
 forgetting forgotten.Nothing = effect.Nothing
 forgetting forgotten.Motion = effect.ForgetMotion
@@ -30,7 +30,7 @@ forgetting forgotten.Registers = effect.ForgetRegisters
 forgetting forgotten.Tape = effect.ForgetTape
 forgetting forgotten.Everything = effect.ForgetAll
 
--- the effect of each listed command
+-- the effect of each listed command; one that is not listed has its effect by `effect_of`
 abbrev pub listed_effect : Command → Effect
 listed_effect command.Stop = effect.Go mode.Stop
 listed_effect command.Play = effect.Go mode.Play
@@ -75,7 +75,19 @@ listed_effect command.AudioInRecall = effect.Change RegAudioIn Recall
 listed_effect command.AudioOutRecall = effect.Change RegAudioOut Recall
 listed_effect command.LocalEnable = effect.Panel true
 listed_effect command.LocalDisable = effect.Panel false
-listed_effect _ = effect.Nothing
+listed_effect command.DeviceType = effect.Nothing
+listed_effect command.EditPreset = effect.Nothing
+listed_effect command.PrerollPreset = effect.Nothing
+listed_effect command.TimerModeSelect = effect.Nothing
+listed_effect command.AutoModeOff = effect.Nothing
+listed_effect command.AutoModeOn = effect.Nothing
+listed_effect (command.CurrentTimeSense selector) = effect.Nothing
+listed_effect command.InDataSense = effect.Nothing
+listed_effect command.OutDataSense = effect.Nothing
+listed_effect command.AudioInDataSense = effect.Nothing
+listed_effect command.AudioOutDataSense = effect.Nothing
+listed_effect (command.StatusSense asked) = effect.Nothing
+listed_effect (command.Unlisted head) = effect.Nothing
 
 -- the effect of each command: one that is not listed makes the deck forget
 abbrev pub effect_of : Option Deck → Command → Effect

@@ -10,7 +10,12 @@ abbrev pub is_of_goal_or_register : Effect → Bool
 is_of_goal_or_register (effect.Go g) = true
 is_of_goal_or_register effect.KeepOrStop = true
 is_of_goal_or_register (effect.Change r c) = true
-is_of_goal_or_register _ = false
+is_of_goal_or_register effect.Nothing = false
+is_of_goal_or_register (effect.Panel on) = false
+is_of_goal_or_register effect.ForgetMotion = false
+is_of_goal_or_register effect.ForgetTape = false
+is_of_goal_or_register effect.ForgetRegisters = false
+is_of_goal_or_register effect.ForgetAll = false
 
 -- a deck in LOCAL may ignore it: the listed transport and preset commands that have an effect, and no other
 abbrev pub may_ignore : Command → Bool

@@ -14,7 +14,7 @@ use Rattle.deck9.specs.ModeSet.{of_modes}
 abbrev pub datum : ℕ → Block → ℕ → Option ℕ
 datum asked reply n = if nat_lt n (asked / 16) then None else slice_get reply.bytes.items (n - asked / 16)
 
--- a bit of a datum is 1
+-- a bit of a byte is 1
 abbrev pub has_bit : ℕ → ℕ → Bool
 has_bit bit byte = bit_and byte bit == bit
 

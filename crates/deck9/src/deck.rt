@@ -1,5 +1,5 @@
-//! What a deck does that this profile leaves open: what it forgets at commands that are not listed, and which modes it may show
-//! on the way to its goal.
+//! What the rules leave to each deck: what it forgets at commands that are not listed, and which modes it may show on the way
+//! to its goal.
 
 ghost use Rattle.std.specs.Prelude.{◌≡◌};
 ghost use Rattle.deck9.specs.Deck.{forgotten_by_group};
@@ -25,7 +25,7 @@ pub enum Forgotten {
     Everything,
 }
 
-/// What a deck does in place of what this profile says of every deck.
+/// What one deck does in place of what the rules say of every deck.
 #[derive(Drop)]
 pub struct Deck {
     /// What it forgets at a command that is not listed, by the first two bytes of the command's block as one number. At a
@@ -43,7 +43,7 @@ impl Deck {
     ghost use Rattle.deck9.specs.ModeSet.{modes};
     ghost use Rattle.deck9.specs.declared.mode.Mode.{Mode as AMode};
 
-    /// What a command does where it is acknowledged: by this profile alone where the deck has nothing of its own.
+    /// What a command does where it is acknowledged: by the rules alone where there is no `Deck`.
     #[inline(always)] // it is asked of every exchange
     pub fn effect(deck: Option<&Deck>, command: &Command) -> Effect
         ensures { result ≡ effect_of (option_map (λ d. d.now) deck.entry) command.now }
@@ -54,7 +54,7 @@ impl Deck {
         }
     }
 
-    /// What it forgets at the command, of those that are not listed, with these two bytes at its head.
+    /// What it forgets at the command with this head, which is not listed.
     fn forgotten_at(deck: Option<&Deck>, head: u32) -> Forgotten
         ensures { result ≡ forgotten_at (option_map (λ d. d.now) deck.entry) head }
     {
@@ -68,8 +68,8 @@ impl Deck {
         }
     }
 
-    /// The modes that it may show on the way to each goal, in the order of the modes: this profile's where the deck has nothing
-    /// of its own.
+    /// The modes that it may show on the way to each goal, in the order of the modes: those of the rules where there is no
+    /// `Deck`.
     #[inline(always)] // it is asked of every exchange
     pub fn ways<'a>(deck: Option<&'a Deck>) -> &'a [ModeSet; 10]
         ensures { (g : AMode) → slice_index_or result.now (index_of g) (modes 0) ≡ way_of (option_map (λ d. d.now) deck.entry) g }

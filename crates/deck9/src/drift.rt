@@ -65,7 +65,7 @@ fn passes_and_steps(profile: &Profile, exchange: &Exchange, before: &State, afte
     false
 }
 
-/// Whether the step of an exchange can take the deck to a state from any state at all with the panel so.
+/// Whether the step of an exchange can take the deck to a state from some state with the panel on or off, as given.
 ///
 /// Where it can, it can do so from the state itself, or from the one before a shift.
 pub(crate) fn steps_from_some(
@@ -79,8 +79,8 @@ pub(crate) fn steps_from_some(
     after.is_of(profile.rate) && steps_from_two(profile, exchange, panel, after)
 }
 
-/// Whether the step of an exchange can take the deck to a state of the day from that state itself, with the panel so, or from
-/// the one before a shift.
+/// Whether the step of an exchange can take the deck to a state of the day from that state itself, with the panel as given, or
+/// from the one before a shift.
 fn steps_from_two(profile: &Profile, exchange: &Exchange, panel: bool, after: &State) -> bool
     requires { IsState profile.now.rate after.now }
     ensures { IsTrue result ↔ StepsFromSome profile.now exchange.now panel after.now }

@@ -8,7 +8,7 @@ use tc25::TimeCode;
 /// What becomes of a register.
 #[derive(Clone, Copy, Debug, PartialEq, Eq)]
 pub enum Change {
-    /// Set, at any time: the deck takes its own time, which nobody knows.
+    /// Set, at any time: the deck takes its current time, which nobody knows.
     SetSomewhere,
     /// Set at this time.
     SetAt(TimeCode),
@@ -18,11 +18,11 @@ pub enum Change {
     Prev,
     /// Clear.
     Reset,
-    /// Anything: an earlier entry, which nobody knows.
+    /// Clear, or Set at any time: an earlier entry, which nobody knows.
     Recall,
 }
 
-/// What a command does to the deck. The effects are this profile's choice.
+/// What a command does to the deck. The effects are a choice of these rules.
 #[derive(Clone, Copy, Debug, PartialEq, Eq)]
 pub enum Effect {
     /// Nothing.
@@ -49,7 +49,7 @@ impl Effect {
     ghost use Rattle.std.specs.Prelude.{◌≡◌};
     ghost use Rattle.deck9.specs.Effect.{forgetting, listed_effect};
 
-    /// What it does to forget this.
+    /// The effect that forgets this.
     pub(crate) fn forgetting(forgotten: Forgotten) -> Effect
         ensures { result ≡ forgetting forgotten }
     {
@@ -114,7 +114,19 @@ impl Effect {
             Command::AudioOutRecall => Effect::Change(Register::RegAudioOut, Change::Recall),
             Command::LocalEnable => Effect::Panel(true),
             Command::LocalDisable => Effect::Panel(false),
-            _ => Effect::Nothing,
+            Command::DeviceType
+            | Command::EditPreset
+            | Command::PrerollPreset
+            | Command::TimerModeSelect
+            | Command::AutoModeOff
+            | Command::AutoModeOn
+            | Command::CurrentTimeSense { .. }
+            | Command::InDataSense
+            | Command::OutDataSense
+            | Command::AudioInDataSense
+            | Command::AudioOutDataSense
+            | Command::StatusSense { .. }
+            | Command::Unlisted { .. } => Effect::Nothing,
         }
     }
 }

@@ -41,7 +41,7 @@ pub fn a_drift_by_pairs()
     ensures { (p : Profile) (s t : State) → Drift p s t ↔ DriftsTo p s t }
 {}
 
-/// A NAK, whatever its reasons and whatever was asked, leaves the state as it is, and nothing else does it leave.
+/// A NAK, whatever its reasons and whatever was asked, leads from a state to the same state and to no other.
 pub fn a_nak_changes_nothing()
     ensures { (p : Profile) (command : Command) (reply : Block) (s t : State) → is_nak reply ≡ true → (DeckStep p command reply s t ↔ (t ≡ s)) }
 {}
@@ -51,27 +51,27 @@ pub fn local_ignores_listed_commands()
     ensures { (command : Command) → may_ignore command ≡ true → name_of command ≢ None }
 {}
 
-/// Replies that a deck can give that nobody touches, a deck can give too that somebody may touch.
+/// What a deck that nobody touches can reply, a deck that somebody may touch can reply too.
 pub fn hands_explain_no_less()
     ensures { (rate : Rate) (deck : Option ADeck) (es : List Exchange) → HasRun (record { rate = rate; hands = Hands.None; deck = deck }) es → HasRun (record { rate = rate; hands = Hands.Allowed; deck = deck }) es }
 {}
 
-/// A deck at which each command does no more than at another, and that has no more modes on the way to each goal, has no run that
-/// the other has not.
+/// A deck at which each command does no more than at another, and that has no more modes on the way to each goal, has a run only
+/// where the other has one.
 pub fn a_sheet_that_forgets_less()
     ensures { (p : Profile) (less more : Option ADeck) (es : List Exchange) → ForgetsNoMore p less more → PassesNoMore less more
         → HasRun (record p { deck = less }) es → HasRun (record p { deck = more }) es }
 {}
 
-/// The states that the runs of no exchange end in are the first states; and those of one exchange more are
-/// exactly the ones that it leads to from the states before.
+/// Without an exchange, the states in which runs end are the first states. One exchange more leads from the states in which
+/// runs end to exactly those in which the longer runs end.
 pub fn states_after_one_more()
     ensures none { (p : Profile) (s : State) → Ends p [] s ↔ IsFirst p s }
     ensures more { (p : Profile) (es : List Exchange) (e : Exchange)
         → AreReached (Ends p es) (Exchanges p e.command e.reply) (Ends p (es ++ e ∷ [])) }
 {}
 
-/// There is a state that runs end in exactly where there is a run.
+/// There is a state in which runs end exactly where there is a run.
 pub fn no_state_without_a_run()
     ensures { (p : Profile) (es : List Exchange) → ((s : State) × Ends p es s) ↔ HasRun p es }
 {}
@@ -81,8 +81,8 @@ pub fn rest_has_a_run()
     ensures { (p : Profile) (es fs : List Exchange) → HasRun p (es ++ fs) → HasRun p fs }
 {}
 
-/// A deck is never stuck: in each state each command has a right reply that is no NAK, and a step with it. (A preset carries
-/// a time of the day, as each does that is read at the deck's rate: a definition takes any number for one.)
+/// A deck is never stuck: in each state each command has a right reply that is no NAK, and a step with it. A preset has to
+/// carry a time of the day for that, as each does that was read at the deck's rate.
 pub fn never_stuck()
     ensures { (p : Profile) (command : Command) (s : State) → SetsInDay p.rate command → IsState p.rate s
         → (reply : Block) × IsRightReply p.rate command reply × (is_nak reply ≡ false) × (t : State) × DeckStep p command reply s t }
@@ -100,12 +100,12 @@ pub fn whatever_else_was_answered()
         → HasBelieving p is_believed es ↔ ((fs : List Exchange) × AreAnswered p.rate is_believed es fs × HasRun p fs) }
 {}
 
-/// A run that believes all replies is a run as ever.
+/// A run that believes all replies is an ordinary run.
 pub fn believing_all_is_a_run()
     ensures { (p : Profile) (es : List Exchange) → HasBelieving p (λ k. true) es ↔ HasRun p es }
 {}
 
-/// Who believes fewer replies has every run that he had.
+/// Believing fewer replies loses no run.
 pub fn believing_fewer_is_no_harder()
     ensures { (p : Profile) (more fewer : ℕ → Bool) (es : List Exchange) → ((k : ℕ) → fewer k ≡ true → more k ≡ true)
         → HasBelieving p more es → HasBelieving p fewer es }
@@ -118,8 +118,8 @@ pub fn before_the_first_believed()
         → (HasBelieving p is_believed (es ++ fs) ↔ HasBelieving p (λ k. is_believed (length es + k)) fs) }
 {}
 
-/// A mode that a status shows can be told, but for CUED: for each other mode there are two data that fit it alone. What fits
-/// CUED fits STOP or EJECT too, as some data fit CUED and STOP alone, and some CUED and EJECT alone.
+/// A status can tell each mode but CUED: there are data 1 and 2 that fit that mode alone. What fits CUED fits STOP or EJECT
+/// too: some data fit just CUED and STOP, and some just CUED and EJECT.
 pub fn a_status_tells_a_mode()
     ensures alone { (m : Mode) → m ≢ Mode.Cued → ShowJust (is_mode m) }
     ensures cued_or_stop { ShowJust (λ m. is_mode Mode.Cued m || is_mode Mode.Stop m) }

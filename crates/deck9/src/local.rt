@@ -10,8 +10,13 @@ use block9::Command;
 pub fn may_ignore(command: &Command) -> bool
     ensures { result ≡ may_ignore command.now }
 {
-    matches!(
-        Effect::listed(command),
-        Effect::Go(_) | Effect::KeepOrStop | Effect::Change(_, _)
-    )
+    match Effect::listed(command) {
+        Effect::Go(_) | Effect::KeepOrStop | Effect::Change(_, _) => true,
+        Effect::Nothing
+        | Effect::Panel(_)
+        | Effect::ForgetMotion
+        | Effect::ForgetTape
+        | Effect::ForgetRegisters
+        | Effect::ForgetAll => false,
+    }
 }

@@ -168,7 +168,7 @@ impl ModeSet {
         self.intersection(ModeSet::ALL)
     }
 
-    /// The mode of the set, where it has one alone. It has one.
+    /// The mode of the set, where it is the only one. There is at least one.
     pub fn known(self) -> Known<Mode>
         requires { is_some self ≡ true }
         ensures { KnowsModes self result }
@@ -183,7 +183,7 @@ impl ModeSet {
         }
     }
 
-    /// The first mode of the set, in the order of the modes. It has one.
+    /// The first mode of the set, in the order of the modes. There is at least one.
     pub fn first(self) -> Mode
         requires { is_some self ≡ true }
         ensures { has self.0 result ≡ true }

@@ -8,15 +8,16 @@ use crate::state::Hands;
 use block9::Command;
 use tc25::Rate;
 
-/// What a deck is taken for: the rate of its time code, whether hands may touch its panel, and what it does of its own.
+/// What a deck is taken for: the rate of its time code, whether hands may touch its panel, and what it does in place of what the
+/// rules say.
 #[derive(Drop)]
 pub struct Profile {
     /// The rate at which its times are counted.
     pub rate: Rate,
     /// Whether hands may touch its panel during a capture.
     pub hands: Hands,
-    /// What it forgets at commands that are not listed, and the modes on the way to its goals: this profile's own where it is
-    /// `None`.
+    /// What it forgets at commands that are not listed, and the modes on the way to its goals. Where it is `None`, these are what
+    /// the rules say of every deck.
     pub deck: Option<Deck>,
 }
 
@@ -25,14 +26,7 @@ impl Profile {
     ghost use Rattle.deck9.specs.Deck.{way_of};
     ghost use Rattle.deck9.specs.Effect.{effect_of};
 
-    /// A deck of 25 frames a second that does what this profile says of every deck.
-    pub fn of(hands: Hands) -> Profile
-        ensures { result ≡ record { rate = Rate.Fps25; hands = hands; deck = None } }
-    {
-        Profile::at(Rate::Fps25, hands)
-    }
-
-    /// A deck of this rate that does what this profile says of every deck.
+    /// A deck of this rate that does what the rules say of every deck.
     pub fn at(rate: Rate, hands: Hands) -> Profile
         ensures { result ≡ record { rate = rate; hands = hands; deck = None } }
     {

@@ -1,5 +1,5 @@
-//! Whether states are those of a run: a second opinion on the sets of states that a tracker keeps, with no set in it.
-ghost use Rattle.std.specs.Prelude.{◌↔◌, IsTrue, None};
+//! Whether states are those of a run: a second opinion on the sets of states that a tracker keeps, which uses no set.
+ghost use Rattle.std.specs.Prelude.{◌↔◌, IsTrue};
 ghost use Rattle.deck9.specs.Run.{IsRun, IsRunFrom};
 ghost use Rattle.deck9.specs.Working.{Begins};
 ghost use Rattle.deck9.specs.Step.{Exchanges};
@@ -8,14 +8,6 @@ use crate::drift::{drifts_and_steps, steps_from_some};
 use crate::profile::Profile;
 use crate::state::{Hands, State};
 use block9::Exchange;
-use tc25::Rate;
-
-/// Whether these are the states after each of the exchanges in some run of a deck of 25 frames a second: [`is_run_of`].
-pub fn is_run(exchanges: &[Exchange], states: &[State], hands: Hands) -> bool
-    ensures { IsTrue result ↔ IsRun (record { rate = Rate.Fps25; hands = hands; deck = None }) exchanges.now states.now }
-{
-    is_run_of(&Profile::of(hands), exchanges, states)
-}
 
 /// Whether these are the states after each of the exchanges in some run of the deck: true exactly where there are
 /// as many states as exchanges, and the deck can go from some first state by each exchange, with a drift before it,

@@ -28,7 +28,57 @@ impl Sense {
             Command::AudioInDataSense => Sense::Register(Register::RegAudioIn),
             Command::AudioOutDataSense => Sense::Register(Register::RegAudioOut),
             Command::StatusSense { asked } => Sense::Status(*asked),
-            _ => Sense::Nothing,
+            Command::LocalDisable
+            | Command::DeviceType
+            | Command::LocalEnable
+            | Command::Stop
+            | Command::Play
+            | Command::Record
+            | Command::StandbyOff
+            | Command::StandbyOn
+            | Command::Eject
+            | Command::FastForward
+            | Command::JogForward
+            | Command::VarForward
+            | Command::ShuttleForward
+            | Command::Rewind
+            | Command::JogReverse
+            | Command::VarReverse
+            | Command::ShuttleReverse
+            | Command::Preroll
+            | Command::CueUpWithData { .. }
+            | Command::SyncPlay
+            | Command::InEntry
+            | Command::OutEntry
+            | Command::AudioInEntry
+            | Command::AudioOutEntry
+            | Command::InDataPreset { .. }
+            | Command::OutDataPreset { .. }
+            | Command::AudioInDataPreset { .. }
+            | Command::AudioOutDataPreset { .. }
+            | Command::InShiftPlus
+            | Command::InShiftMinus
+            | Command::OutShiftPlus
+            | Command::OutShiftMinus
+            | Command::AudioInShiftPlus
+            | Command::AudioInShiftMinus
+            | Command::AudioOutShiftPlus
+            | Command::AudioOutShiftMinus
+            | Command::InFlagReset
+            | Command::OutFlagReset
+            | Command::AudioInFlagReset
+            | Command::AudioOutFlagReset
+            | Command::InRecall
+            | Command::OutRecall
+            | Command::AudioInRecall
+            | Command::AudioOutRecall
+            | Command::EditPreset
+            | Command::PrerollPreset
+            | Command::TimerModeSelect
+            | Command::AutoModeOff
+            | Command::AutoModeOn
+            | Command::CurrentTimeSense { .. }
+            | Command::Unlisted { .. } => Sense::Nothing,
         }
     }
 }

@@ -157,7 +157,7 @@ impl State {
     pub(crate) fn is(&self, other: &State) -> bool
         ensures { IsTrue result ↔ self.now ≡ other.now }
     {
-        // by fields: of the whole, the derived == has no clause that says so
+        // field by field, since the derived == has no clause for the whole
         let has_same_edit = self.ins == other.ins && self.outs == other.outs;
         let has_same_sound = self.ains == other.ains && self.aouts == other.aouts;
         has_same_edit && has_same_sound && self.keeps_all_but_registers(other)

@@ -80,7 +80,7 @@ fn shown_by(datum1: Option<u8>, datum2: Option<u8>) -> Option<ModeSet>
     Some(modes_allowed(datum1, datum2))
 }
 
-/// The modes that data 1 and 2 allow, from the last to the first.
+/// The modes that data 1 and 2 allow, put together from the last to the first.
 fn modes_allowed(datum1: Option<u8>, datum2: Option<u8>) -> ModeSet
     ensures { result ≡ of_modes (filter (may_show datum1 datum2) every_mode) }
 {
@@ -130,7 +130,7 @@ fn fits(mode: Mode, datum1: Option<u8>, datum2: Option<u8>) -> bool
     fits1 && fits2
 }
 
-/// Whether a bit of a datum is 1.
+/// Whether a bit of a byte is 1.
 fn has_bit(bit: u8, byte: u8) -> bool
     ensures { result ≡ has_bit bit byte }
 {

@@ -38,7 +38,7 @@ impl Direction {
         }
     }
 
-    /// The frame of the day at which it comes in again.
+    /// The frame at the other end of the day, where it comes in again.
     pub(crate) fn far_edge(self, rate: Rate) -> u32
         ensures value { result ≡ far_edge_of rate self }
         ensures below_day { result < day rate }

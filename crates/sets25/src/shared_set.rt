@@ -11,15 +11,15 @@ use std::alloc::{AllocError, Global};
 use std::rc::Rc;
 use tc25::{Rate, TimeCode};
 
-/// Up to so many spans beside a base are copied. Where there are more, a copy gets a new base, which has all
+/// A copy keeps the base of a set that has at most so many spans beside it. Else it gets a new base, which has all
 /// members.
 const MOST_COPIED: usize = 512;
 
 /// A set of times as a base, which it shares with its copies, and what it has besides.
 ///
 /// A copy costs little where few times were added since the base was made. Where there are many, or there is
-/// no base yet, the copy gets a new base, and the set itself stays as it is. So a caller that copies again and
-/// again goes on with the copy, and lays the set itself aside.
+/// no base yet, the copy gets a new base, and the set itself stays as it is. So a caller that copies often changes
+/// the copy, whose next copy is cheap, and leaves the set itself as it is.
 #[derive(Drop)]
 pub struct SharedSet {
     base: Option<Rc<SpanSet, Global>>,
@@ -33,7 +33,7 @@ impl SharedSet {
     ghost use Rattle.sets25.specs.SharedSet.{members_of, shared_members};
     ghost use Rattle.sets25.specs.SpanSet as spans;
 
-    /// The set of these members, which it shares with no other.
+    /// The set of these members, with no base.
     fn alone(own: SpanSet) -> SharedSet
         ensures base { result.base ≡ None }
         ensures rate { result.own.rate ≡ own.rate }
@@ -52,7 +52,7 @@ impl SharedSet {
         }
     }
 
-    /// How many of its own spans are copied at most, in place of a new base.
+    /// How many spans beside the base a copy takes over at most. It gets a new base where there are more.
     fn most_copied(&self) -> usize {
         match self.base {
             Some(_) => MOST_COPIED,
@@ -60,7 +60,7 @@ impl SharedSet {
         }
     }
 
-    /// All members, in a set of spans of their own.
+    /// All members in one set of spans.
     fn gathered(&self) -> Result<SpanSet, AllocError>
         ensures members { IfOk result (λ s. spans.members_of s ≡ members_of self.now) }
         ensures rate { IfOk result (λ s. s.rate ≡ self.now.own.rate) }
@@ -71,7 +71,7 @@ impl SharedSet {
         base.copy()?.with_all(&self.own)
     }
 
-    /// Makes all members its own.
+    /// Takes the members of the base over, and lets the base go.
     fn gather(&mut self) -> Result<(), AllocError>
         ensures same { members_of self.new ≡ members_of self.old }
         ensures rate { self.new.own.rate ≡ self.old.own.rate }

@@ -18,12 +18,12 @@ use tc25::Rate;
 
 /// A list of so many spans is cut in halves before one more is added to it.
 ///
-/// A vector doubles its room, so that one of as many spans as a power of two has no room unused.
+/// A vector doubles its room, so one whose length is a power of two has no room unused.
 const LONGEST: usize = 512;
 
 /// Spans in ascending order: those of one list, and then those of each of the rest.
 ///
-/// Most sets have few spans, and so one list. How long a list is bears on speed alone.
+/// Most sets have few spans, and so one list. How the spans are cut into lists matters for speed alone.
 #[derive(Drop)]
 pub(crate) struct SpanList {
     first: Vec<Span>,
@@ -97,7 +97,7 @@ impl SpanList {
         spans::contains(self.list(place), frame)
     }
 
-    /// The spans in a list of their own, in short lists of the same lengths.
+    /// A copy, in short lists of the same lengths.
     pub(crate) fn copy(&self) -> Result<SpanList, AllocError>
         ensures { IfOk result (λ l. lists_of l ≡ lists_of self.now) }
     {

@@ -1,4 +1,4 @@
-//! The set of times that a tracker keeps: a sorted list of spans.
+//! A set of times as a sorted list of spans.
 
 ghost use Rattle.sets25.specs.SpanList.{spans_of};
 ghost use Rattle.sets25.specs.Spans.{AreSpansOfDay, AreSpansOfDay-prop, IsCanonical, IsCanonical-prop};

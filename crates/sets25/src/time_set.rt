@@ -11,8 +11,8 @@ use tc25::{Rate, TimeCode};
 
 /// A set of times of the day.
 ///
-/// A contract sees it as the finite set of its members, `members`, and the rate, `own_rate`, at which they are counted: each is
-/// a time of its day, and a time that is none of its day is no member and can't be added. Each call has one contract for every
+/// A contract sees it as the finite set of its members, `members`, and the rate, `own_rate`, at which they are counted. Each
+/// member is a time of that rate's day, and adding a time outside the day changes nothing. Each call has one contract for every
 /// implementation: the set operation that it names. A call that may need memory answers an `AllocError` where memory was
 /// refused, and its set is then as it was before.
 pub trait TimeSet: Drop + Sized {
@@ -32,12 +32,12 @@ pub trait TimeSet: Drop + Sized {
         ensures members { IfOk result (λ s. members s ≡ every_time rate) }
         ensures rate { IfOk result (λ s. own_rate s ≡ rate) };
 
-    /// The set of one time of a rate's day, or of none where it is no time of that day.
+    /// The set of one time, or the empty set where the time is outside the rate's day.
     fn one_at(alloc: Global, rate: Rate, time: TimeCode) -> Result<Self, AllocError>
         ensures members { IfOk result (λ s. members s ≡ just_of rate time) }
         ensures rate { IfOk result (λ s. own_rate s ≡ rate) };
 
-    /// The empty set, of times of 25 frames a second. Takes no memory.
+    /// [`TimeSet::none_at`] at 25 frames a second. Takes no memory.
     fn none(alloc: Global) -> Self
         ensures members { members result ≡ set.empty }
         ensures rate { own_rate result ≡ Rate.Fps25 }
@@ -45,7 +45,7 @@ pub trait TimeSet: Drop + Sized {
         Self::none_at(alloc, Rate::Fps25)
     }
 
-    /// Every time of the day at 25 frames a second.
+    /// [`TimeSet::all_at`] at 25 frames a second.
     fn all(alloc: Global) -> Result<Self, AllocError>
         ensures members { IfOk result (λ s. members s ≡ every_time Rate.Fps25) }
         ensures rate { IfOk result (λ s. own_rate s ≡ Rate.Fps25) }
@@ -53,7 +53,7 @@ pub trait TimeSet: Drop + Sized {
         Self::all_at(alloc, Rate::Fps25)
     }
 
-    /// The set of one time at 25 frames a second.
+    /// [`TimeSet::one_at`] at 25 frames a second.
     fn one(alloc: Global, time: TimeCode) -> Result<Self, AllocError>
         ensures members { IfOk result (λ s. members s ≡ just_of Rate.Fps25 time) }
         ensures rate { IfOk result (λ s. own_rate s ≡ Rate.Fps25) }
@@ -105,7 +105,7 @@ pub trait TimeSet: Drop + Sized {
         ensures err { OnErr result (members self.new ≡ members self.old) }
         ensures rate { own_rate self.new ≡ own_rate self.old };
 
-    /// Adds a time, where it is one of the day.
+    /// Adds a time. One outside the day changes nothing.
     fn add(&mut self, time: TimeCode) -> Result<(), AllocError>
         ensures ok { OnOk result (members self.new ≡ with_time (own_rate self.old) (members self.old) time) }
         ensures err { OnErr result (members self.new ≡ members self.old) }

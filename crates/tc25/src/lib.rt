@@ -1,6 +1,7 @@
 //! Times of day in frames, at each frame rate.
 #![tactic(auto)]
 
+mod at_25;
 mod laws;
 mod rate;
 mod time_code;

@@ -4,12 +4,11 @@ ghost use Rattle.std.specs.Prelude.{◌≡◌, ◌<◌, ◌≤◌, ◌∷◌, []
 ghost use Rattle.tc25.specs.Day.{before_frames, day, frame_named, in_second, label_of, labels_in_day, last_frame, longest_day};
 
 /// A frame rate: how frames are counted in time code.
-#[derive(Clone, Copy, Debug, Default, PartialEq, Eq)]
+#[derive(Clone, Copy, Debug, PartialEq, Eq)]
 pub enum Rate {
     /// 24 frames a second: also 23.976, whose time code counts as if they were 24.
     Fps24,
     /// 25 frames a second.
-    #[default]
     Fps25,
     /// 30 frames a second: also 29.97 without drop frame, whose time code counts as if they were 30.
     Fps30,

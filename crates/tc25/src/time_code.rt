@@ -29,60 +29,6 @@ impl Model for TimeCode {
     ghost inverse = { λ n. record { frame = n } };
 }
 
-/// The calls at 25 frames a second.
-impl TimeCode {
-    /// The frames of a day: 25 a second, 24 hours.
-    pub const FRAMES_IN_DAY: u32 = 2_160_000;
-
-    /// The time that many frames after midnight, or `None` from 2,160,000 on.
-    pub fn from_frames(frames: u32) -> Option<TimeCode>
-        ensures { SomeIff result (frames < day Rate.Fps25) frames }
-    {
-        TimeCode::from_frames_at(Rate::Fps25, frames)
-    }
-
-    /// The time that four BCD bytes read as: [`TimeCode::from_bytes_at`] at 25 frames a second.
-    pub fn from_bytes(bytes: [u8; 4]) -> Option<TimeCode>
-        ensures value { result ≡ time_of Rate.Fps25 bytes }
-        ensures reads { IfSome result (ReadsAs Rate.Fps25 bytes) }
-        ensures unread { IfNone result ((t : ℕ) → ¬ ReadsAs Rate.Fps25 bytes t) }
-    {
-        TimeCode::from_bytes_at(Rate::Fps25, bytes)
-    }
-
-    /// The four BCD bytes of the time: frames, seconds, minutes and hours, with no flag set.
-    pub fn to_bytes(self) -> [u8; 4]
-        ensures value { result ≡ bytes_of Rate.Fps25 self }
-        ensures reads_back { self < day Rate.Fps25 → time_of Rate.Fps25 result ≡ Some self }
-    {
-        self.to_bytes_at(Rate::Fps25)
-    }
-
-    /// The time one frame later. After the last frame of the day comes frame 0.
-    pub fn next(self) -> TimeCode
-        ensures value { result ≡ next_frame Rate.Fps25 self }
-        ensures below_day { result < day Rate.Fps25 }
-    {
-        self.next_at(Rate::Fps25)
-    }
-
-    /// The time one frame earlier. Before frame 0 comes the last frame of the day.
-    pub fn prev(self) -> TimeCode
-        ensures value { result ≡ prev_frame Rate.Fps25 self }
-        ensures below_day { self < day Rate.Fps25 → result < day Rate.Fps25 }
-    {
-        self.prev_at(Rate::Fps25)
-    }
-
-    /// The time as the ASCII text `hh:mm:ss:ff`.
-    pub fn text(self) -> [u8; 11]
-        ensures { result ≡ text_of Rate.Fps25 self }
-    {
-        self.text_at(Rate::Fps25)
-    }
-}
-
-/// The calls at each rate.
 impl TimeCode {
     /// The number of frames since midnight.
     pub fn frames(self) -> u32

@@ -1,5 +1,5 @@
 -- The line that explains an exchange: what was asked and answered, and what is known of the deck after it.
-use Rattle.std.specs.Prelude.{ℕ, ◌/◌, ◌%◌, ◌==◌, if◌then◌else◌, Bool, true, false, List, [], ◌∷◌, ◌++◌, unwrap_or, slice_index, bit_and, codes}
+use Rattle.std.specs.Prelude.{ℕ, ◌/◌, ◌%◌, if◌then◌else◌, Bool, true, false, List, [], ◌∷◌, ◌++◌, unwrap_or, slice_index, codes}
 use Rattle.std.specs.Fmt.{decimal}
 use Rattle.tc25.specs.Day.{text_of}
 use Rattle.tc25.specs.declared.rate.Rate.{Rate}
@@ -18,6 +18,7 @@ use Rattle.deck9.specs.declared.profile.Profile.{Profile}
 use Rattle.deck9.specs.declared.state.Hands.{Hands}
 use Rattle.deck9.specs.declared.state.Hands.TheVariants as hands
 use Rattle.deck9.specs.Mode.{name_of as name_of_mode}
+use Rattle.deck9.specs.Status.{has_bit}
 
 -- ---- bytes
 
@@ -39,15 +40,11 @@ text_of_head b = hex_byte (head_of b / 256) ++ codes " " ++ hex_byte (head_of b 
 unfoldable pub text_of_command : Exchange → List ℕ
 text_of_command e = unwrap_or (name_of e.command) (text_of_head e.block)
 
--- the bit is set in the byte
-abbrev pub has_bit : ℕ → ℕ → Bool
-has_bit byte bit = bit_and byte bit == bit
-
 -- the names of the bits that are set, in the order of the table: `before` comes before the first, and a plus sign before each other
 abbrev pub names_after : List ℕ → ℕ → List (List ℕ × ℕ) → List ℕ
 names_after before byte [] = []
 names_after before byte (row ∷ rows) =
-    if has_bit byte row.1 then before ++ row.0 ++ names_after (codes "+") byte rows else names_after before byte rows
+    if has_bit row.1 byte then before ++ row.0 ++ names_after (codes "+") byte rows else names_after before byte rows
 
 -- a NAK with this byte of reasons, as in NAK 14 checksum+parity; a bit without a name is not told
 unfoldable pub text_of_nak : ℕ → List ℕ

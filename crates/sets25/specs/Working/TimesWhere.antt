@@ -1,4 +1,4 @@
--- That the sets which tests make are below the day: the law that each `TimeSet` keeps.
+-- The times of the day that pass a test are below the day, which is the law that each `TimeSet` keeps.
 use Rattle.std.proofs.Common.{ℕ, ◌≡◌, Bool, ltb, ◌&&◌, nat_eq, sym, ap, ◌∙◌, arith, zero, suc}
 use Rattle.std.proofs.lemmas.Bool.{and_parts, ltb-true}
 use Rattle.std.proofs.lemmas.Bool.Decides.{nat_tests}

@@ -1,7 +1,8 @@
 //! What was asked and what was answered, put to the end of a line.
 ghost use Rattle.std.specs.Prelude.{◌≡◌, ◌++◌, IfOk, OnOk, if◌then◌else◌, codes};
 ghost use Rattle.block9.specs.Nak.{nak_bits};
-ghost use Rattle.text9.specs.Explanation.{has_bit, names_after, text_of_command, text_of_head, text_of_nak, text_of_reply};
+ghost use Rattle.deck9.specs.Status.{has_bit};
+ghost use Rattle.text9.specs.Explanation.{names_after, text_of_command, text_of_head, text_of_nak, text_of_reply};
 
 use crate::pieces::{put_hex, put_text};
 use bitflags::{Flag, Flags};
@@ -68,9 +69,9 @@ fn put_nak_name<'a>(
     before: &'a str,
 ) -> Result<&'a str, AllocError>
     ensures text { OnOk result (line.new.items ≡ line.old.items
-        ++ (if has_bit nak.0 flag.now.value.0 then before.entry.now ++ flag.now.name.now else codes "")) }
+        ++ (if has_bit flag.now.value.0 nak.0 then before.entry.now ++ flag.now.name.now else codes "")) }
     ensures next { IfOk result (λ s. s.now
-        ≡ (if has_bit nak.0 flag.now.value.0 then codes "+" else before.entry.now)) }
+        ≡ (if has_bit flag.now.value.0 nak.0 then codes "+" else before.entry.now)) }
 {
     if !nak.contains(flag.value) {
         return Ok(before);

@@ -16,7 +16,7 @@ pub returns-in-Some-clause-given : goal.returns-in-Some-clause-given
 returns-in-Some-clause-given g c =
     let before = rw (← c.self.view_is) at c.requires in
     let read = rw c.in-Ok-true.field-0-test at c.in-Ok-true.ensures.next in
-    rw (← c.self.view_is) (gives-record _ _ _ _ _ _ _ _ (fields_of c.read_record.new.row) c.in-Some.record before.reading before.headed read
+    rw (← c.self.view_is) (gives-record _ _ _ _ _ _ _ (fields_of c.read_record.new.row) c.in-Some.record before.reading before.headed read
     (told-record _ _ c.in-Some.ensures))
 
 -- what is wrong with the row, or that the fault is not of the text
@@ -33,7 +33,7 @@ wrong g c =
 pub returns-clause-refused : goal.returns-clause-refused
 returns-clause-refused g c =
     let before = rw (← c.self.view_is) at c.requires in
-    rw (← c.self.view_is) (refuses-row _ _ _ _ _ _ _ _ _ _ c.refuse.result before.reading before.headed c.refuse.ensures.error c.refuse.ensures.marked
+    rw (← c.self.view_is) (refuses-row _ _ _ _ _ _ _ _ _ c.refuse.result before.reading before.headed c.refuse.ensures.error c.refuse.ensures.marked
     (wrong g c))
 
 pub invariant_of-self-2 : goal.invariant_of-self-2
