@@ -4,20 +4,12 @@
 # complete its words. The last line is 'N passed, M failed'.
 set -u
 cd "$(dirname "$0")/.." || exit 1
-
-. tests/lib/judge.sh
 . tests/lib/tools.sh
 need_tools mandoc make zsh fish jq objdump=binutils
+. tests/lib/judge.sh
+. tests/lib/program.sh
 
-work=$(mktemp -d)
-trap 'rm -rf "$work"' EXIT
 chmod 755 "$work"
-
-# expect NAME STATUS STDOUT STDERR: compares with the run whose status is in $status and whose streams are in
-# $work/out and $work/err.
-expect() {
-    judge "$1" is_text "${@:2}"
-}
 
 # holds NAME WORDS...: the command ends well.
 holds() {
@@ -232,7 +224,6 @@ status=$?
 expect 'the man page' 0 '' ''
 
 # Each subcommand and option that the program's help names stands in the man page and in each completion.
-program=${NINECHECK:-$PWD/crates/ninecheck/out/ninecheck}
 for word in $("$program" --help | awk '/^Commands:/ { on = 1; next } /^$/ { on = 0 } on { print $1 }') hands all rate deck version; do
     for file in package/ninecheck.1 package/ninecheck.bash package/ninecheck.zsh package/ninecheck.fish; do
         holds "$word in $file" grep -qw -- "$word" "$file"
