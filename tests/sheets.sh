@@ -45,13 +45,14 @@ ends() {
 # ---- A preset that got lost behind FULL EE ON.
 
 sheet empty ''
+: > "$work/no-bytes.toml"
 sheet ee '[forgets]' '"20 61" = "nothing"  # FULL EE ON'
 sheet next '[forgets]' '"20 62" = "nothing"' '"20 60" = "nothing"'
 lost_point="$stopped $preset $full_ee $lost"
 capture_of "$lost_point"
 yes='yes: records 36, exchanges 4, open 0'
 no='no at record 36: M1 no run remains'
-for sheet in '' "--deck $work/empty.toml" "--deck $work/next.toml"; do
+for sheet in '' "--deck $work/no-bytes.toml" "--deck $work/empty.toml" "--deck $work/next.toml"; do
     for verb in check explain run why; do ends "$verb $sheet" 0 "$yes"; done
 done
 says "check --deck $work/ee.toml" 1 "$no"
