@@ -47,11 +47,11 @@ install: built
 	install -D -m 644 -t "$(to)/share/ninecheck/examples/views" examples/views/*
 	install -D -m 644 -t "$(to)/share/doc/ninecheck" README.md docs/*.md
 	install -D -m 644 -t "$(to)/share/doc/ninecheck/pictures" docs/pictures/*.svg
-	install -D -m 644 man/ninecheck.1 "$(page)"
+	install -D -m 644 package/ninecheck.1 "$(page)"
 	sed -i 's/@VERSION@/$(VERSION)/; s|/usr/local/|$(PAGE_PREFIX)/|' "$(page)"
-	install -D -m 644 completions/ninecheck.bash "$(for_bash)"
-	install -D -m 644 completions/ninecheck.zsh "$(for_zsh)"
-	install -D -m 644 completions/ninecheck.fish "$(for_fish)"
+	install -D -m 644 package/ninecheck.bash "$(for_bash)"
+	install -D -m 644 package/ninecheck.zsh "$(for_zsh)"
+	install -D -m 644 package/ninecheck.fish "$(for_fish)"
 
 uninstall:
 	rm -f "$(to)/bin/ninecheck" "$(page)" "$(for_bash)" "$(for_zsh)" "$(for_fish)"
@@ -62,7 +62,7 @@ deb: built
 	$(MAKE) --no-print-directory install DESTDIR=out/deb PREFIX=/usr ZSH_FOLDER=vendor-completions
 	mkdir -p out/deb/DEBIAN
 	test -n "$(LIBC)"
-	sed 's/@VERSION@/$(VERSION)/; s/@LIBC@/$(LIBC)/' debian-control > out/deb/DEBIAN/control
+	sed 's/@VERSION@/$(VERSION)/; s/@LIBC@/$(LIBC)/' package/debian-control > out/deb/DEBIAN/control
 	dpkg-deb --root-owner-group --build out/deb out/ninecheck_$(VERSION)_amd64.deb
 
 dist: built

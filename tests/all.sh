@@ -6,6 +6,7 @@ cd "$(dirname "$0")/.." || exit 1
 . tests/lib/judge.sh
 . tests/lib/errors.sh
 . tests/lib/program.sh
+. tests/lib/blocks.sh
 awk=${AWK:-awk}
 
 # How many captures are drawn, every second of them with hands.
@@ -53,9 +54,7 @@ judge 'captures of five parts and more' at_least 50 ' of ([5-9]|[1-9][0-9]+) par
 judge 'captures of which nothing is passed over' at_least 10 'passed over 0$'
 
 # PLAY and two acknowledgements, 40,000 times: a part each, of which nothing is kept. The program has 64 MB.
-"$awk" 'BEGIN { split("C,20 C,01 C,21 D,10 D,01 D,11 D,10 D,01 D,11", row, " ")
-    print "time_us,wire,byte"
-    for (k = 0; k < 360000; k++) print 400 * (k + 1) "," row[k % 9 + 1] }' > "$work/many.csv"
+records "$second_reply" 40000 > "$work/many.csv"
 "$awk" 'BEGIN { for (k = 0; k < 40000; k++) print "no at record " 9 * k + 7 ": P1 reply without a command"
     print "breaks 40000: records 360000, exchanges 40000, passed over 120000, open 0" }' > "$work/want"
 (

@@ -3,25 +3,17 @@
 # last line is 'N passed, M failed'.
 set -u
 cd "$(dirname "$0")/.." || exit 1
-program=${NINECHECK:-$PWD/crates/ninecheck/out/ninecheck}
-
-. tests/lib/judge.sh
-. tests/lib/closed.sh
 . tests/lib/tools.sh
 need_tools mawk gawk busybox
-
-work=$(mktemp -d)
-trap 'rm -rf "$work"' EXIT
+. tests/lib/judge.sh
+. tests/lib/program.sh
+. tests/lib/awk.sh
+. tests/lib/closed.sh
 
 # clock WORDS: the view on $work/in; its streams are left in $work/out and $work/err.
 clock() {
     $awk $1 -f view/clock.awk < "$work/in" > "$work/out" 2> "$work/err"
     status=$?
-}
-
-# is_view FILE: the run made this text and said nothing.
-is_view() {
-    [ "$status" = 0 ] && cmp "$work/out" "$1" && [ ! -s "$work/err" ]
 }
 
 # Lines with printf's escapes, and what they are as a clock and with seconds; `same` where they pass unchanged.
@@ -33,12 +25,12 @@ lines() {
         [ "$as_seconds" != same ] || as_seconds=$text
         printf "$as_clock" > "$work/want"
         clock ''
-        judge "$awk: $name" is_view "$work/want"
+        judge "$awk: $name" is_made "$work/want"
         clock '-v form=clock'
-        judge "$awk: $name, by its name" is_view "$work/want"
+        judge "$awk: $name, by its name" is_made "$work/want"
         printf "$as_seconds" > "$work/want"
         clock '-v form=seconds'
-        judge "$awk: $name, in seconds" is_view "$work/want"
+        judge "$awk: $name, in seconds" is_made "$work/want"
     done <<'END'
 a block|records 1067 to 1070 at 52247440040: STATUS SENSE 61 20 03 84\n|records 1067 to 1070 at 14:30:47.440040: STATUS SENSE 61 20 03 84\n|records 1067 to 1070 at 52247.440040: STATUS SENSE 61 20 03 84\n
 a record|record 1071 at 2012588: D 73, 12088 after the record before, limit 9287\n|record 1071 at 00:00:02.012588: D 73, 12088 after the record before, limit 9287\n|record 1071 at 2.012588: D 73, 12088 after the record before, limit 9287\n
@@ -68,7 +60,7 @@ for awk in mawk 'gawk --posix' 'busybox awk'; do
     "$program" why examples/disputed-in-point.csv > "$work/in"
     sed 's/ at 400:/ at 00:00:00.000400:/; s/ at 3600:/ at 00:00:00.003600:/; s/ at 7600:/ at 00:00:00.007600:/' "$work/in" > "$work/want"
     clock ''
-    judge "$awk: why" is_view "$work/want"
+    judge "$awk: why" is_made "$work/want"
     judge "$awk: why had times" [ "$(grep -c ' at 00:00:00\.00[0-9]*: ' "$work/want")" = 3 ]
     clock '-v form=hours'
     judge "$awk: another form" [ "$status" = 1 -a ! -s "$work/out" ]

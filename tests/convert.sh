@@ -3,31 +3,17 @@
 # program on what they make. The last line is 'N passed, M failed'.
 set -u
 cd "$(dirname "$0")/.." || exit 1
-program=${NINECHECK:-$PWD/crates/ninecheck/out/ninecheck}
-
-. tests/lib/judge.sh
-. tests/lib/closed.sh
 . tests/lib/tools.sh
 need_tools mawk gawk busybox python3 ts=moreutils
-
-work=$(mktemp -d)
-trap 'rm -rf "$work"' EXIT
+. tests/lib/judge.sh
+. tests/lib/program.sh
+. tests/lib/awk.sh
+. tests/lib/closed.sh
 
 # convert CONVERTER WORDS: the converter on standard input; its streams are left in $work/out and $work/err.
 convert() {
     $awk $2 -f "convert/$1" > "$work/out" 2> "$work/err"
     status=$?
-}
-
-# is_capture FILE: the run made this capture and said nothing.
-is_capture() {
-    [ "$status" = 0 ] && cmp "$work/out" "$1" && [ ! -s "$work/err" ]
-}
-
-# is_refused LINE: the run wrote this line to standard error, and nothing to standard output.
-is_refused() {
-    printf '%s\n' "$1" > "$work/want"
-    [ "$status" = 1 ] && [ ! -s "$work/out" ] && cmp "$work/err" "$work/want"
 }
 
 # is_verdict STATUS LINE: the program answers this on what the run made.
@@ -42,7 +28,7 @@ stored_exports() {
     while IFS='|' read -r export converter words capture want_status want_line; do
         case "$export" in '#'* | '') continue ;; esac
         convert "$converter" "$words" < "examples/exports/$export"
-        judge "$awk: $export" is_capture "examples/exports/$capture"
+        judge "$awk: $export" is_made "examples/exports/$capture"
         judge "$awk: the program on $export" is_verdict "$want_status" "$want_line"
     done < examples/exports/ANSWERS
     convert sigrok.awk '-v rate=2000000' < examples/exports/sigrok-damaged.txt
@@ -66,7 +52,7 @@ good_exports() {
         printf "time_us,wire,byte\n$rows" > "$work/want"
         case $name in
             coarse*) judge "$awk: $name" is_coarse_capture "$work/want" ;;
-            *) judge "$awk: $name" is_capture "$work/want" ;;
+            *) judge "$awk: $name" is_made "$work/want" ;;
         esac
     done <<'END'
 sigrok: the deck's wire first|sigrok.awk|-v rate=1000000|1626-1834 uart-2: 10\n426-634 uart-1: 20\n|426,C,20\n1626,D,10\n

@@ -3,15 +3,13 @@
 # 'N passed, M failed'.
 set -u
 cd "$(dirname "$0")/.." || exit 1
-program=${NINECHECK:-$PWD/crates/ninecheck/out/ninecheck}
 . tests/lib/judge.sh
+. tests/lib/program.sh
+
 awk=${AWK:-awk}
 
 # How many captures are drawn, every second of them with hands.
 drawn=2400
-
-work=$(mktemp -d)
-trap 'rm -rf "$work"' EXIT
 
 # What the program says of each capture of the list.
 ask() {

@@ -2,30 +2,17 @@
 # Runs the built program's `explain` on captures whose lines are known. The last line is 'N passed, M failed'.
 set -u
 cd "$(dirname "$0")/.." || exit 1
-program=${NINECHECK:-$PWD/crates/ninecheck/out/ninecheck}
 . tests/lib/judge.sh
+. tests/lib/program.sh
 . tests/lib/errors.sh
+. tests/lib/blocks.sh
 
-work=$(mktemp -d)
-trap 'rm -rf "$work"' EXIT
-
-# What stands for blocks: an acknowledgement; a status reply that the deck is in REMOTE, and one that it is in LOCAL; a
-# preset of IN to 10:00:00:00.
-ack='D 10 01 11'
-remote='C 61 20 01 82 D 71 20 00 91'
-local='C 61 20 01 82 D 71 20 01 92'
-preset="C 44 14 00 00 00 10 68 $ack"
 # What stands for a line's end, where nothing is known of the audio registers.
 audio=', ain unknown, aout unknown'
 
-# explain RECORDS [WORDS...]: the program on records 400 microseconds apart: wire letters, each before the bytes that
-# it brings. Its report is left in $work/out.
+# explain RECORDS [WORDS...]: the program on a capture of these records.
 explain() {
-    {
-        echo 'time_us,wire,byte'
-        echo "$1" | tr -s ' ' '\n' | awk '/^$/ { next } /^[CD]$/ { wire = $0; next } { time += 400; print time "," wire "," $0 }'
-    } | "$program" explain "${@:2}" > "$work/out" 2> "$work/err"
-    status=$?
+    run explain "${@:2}" < <(records "$1")
 }
 
 # is_report STATUS: the whole report is $want, and nothing was said beside it.
@@ -37,11 +24,6 @@ is_report() {
 # has_line N LINE: line N of the report.
 has_line() {
     [ "$(sed -n "$1p" "$work/out")" = "$2" ]
-}
-
-# has_lines N: the report has so many lines.
-has_lines() {
-    [ "$(wc -l < "$work/out")" = "$1" ]
 }
 
 # The end of the tape: the deck may have reached PLAY and fallen to STOP between two replies.
@@ -111,19 +93,8 @@ judge 'a bad row, the line of PLAY' has_line 1 \
     "record 6: PLAY -> ACK, delay 400, goal unknown, shown unknown, in unknown, out unknown, local unknown$audio"
 
 # A pipe that closes while a long report is written ends the program, with two lines on standard error.
-{
-    echo 'time_us,wire,byte'
-    awk 'BEGIN { split("C,20 C,01 C,21 D,10 D,01 D,11", row, " ")
-        for (k = 1; k <= 600000; k++) print 400 * k "," row[(k - 1) % 6 + 1] }'
-} > "$work/long.csv"
-{
-    "$program" explain "$work/long.csv" 2> "$work/err"
-    echo $? > "$work/status"
-} | head -n 1 > "$work/out"
-status=$(cat "$work/status")
-judge 'a closed pipe, the status' [ "$status" = 4 ]
-judge 'a closed pipe, the lines on standard error' [ "$(cat "$work/err")" = "$(both_lines 'write fault')" ]
-judge 'a closed pipe, the first line' has_lines 1
+records "$play" 100000 > "$work/long.csv"
+judge_closed_pipe explain "$work/long.csv"
 "$program" explain "$work/long.csv" > "$work/out" 2> "$work/err"
 status=$?
 judge 'a long report, the status' [ "$status" = 0 ]

@@ -3,34 +3,25 @@
 # The last line is 'N passed, M failed', where a way to fail counts once.
 set -u
 cd "$(dirname "$0")/.." || exit 1
-program=${NINECHECK:-$PWD/crates/ninecheck/out/ninecheck}
-. tests/lib/judge.sh
-. tests/lib/errors.sh
 . tests/lib/tools.sh
 need_tools cc=gcc
+. tests/lib/judge.sh
+. tests/lib/program.sh
+. tests/lib/errors.sh
+. tests/lib/blocks.sh
 
-work=$(mktemp -d)
-trap 'rm -rf "$work"' EXIT
 cc -shared -fPIC -O2 -o "$work/fail_call.so" tests/fail_call.c -ldl || exit 1
 
 # PLAY and its reply, 1,000 times: more than the buffer holds, where each exchange has a line.
-{
-    echo 'time_us,wire,byte'
-    awk 'BEGIN { split("C,20 C,01 C,21 D,10 D,01 D,11", row, " ")
-        for (k = 1; k <= 6000; k++) print 400 * k "," row[(k - 1) % 6 + 1] }'
-} > "$work/long.csv"
+records "$play" 1000 > "$work/long.csv"
 
 # The same with two acknowledgements: a break each, and a part after it. `three.csv` has two breaks, and a part after them.
-{
-    echo 'time_us,wire,byte'
-    awk 'BEGIN { split("C,20 C,01 C,21 D,10 D,01 D,11 D,10 D,01 D,11", row, " ")
-        for (k = 1; k <= 6300; k++) print 400 * k "," row[(k - 1) % 9 + 1] }'
-} > "$work/parts.csv"
+records "$second_reply" 700 > "$work/parts.csv"
 head -n 25 "$work/parts.csv" > "$work/three.csv"
 
-# run WORDS FILE CALL N HOW: the program with call N failing. Leaves its status and its streams, and in $reads and
+# run_failing WORDS FILE CALL N HOW: the program with call N failing. Leaves its status and its streams, and in $reads and
 # $writes how often it called.
-run() {
+run_failing() {
     rm -f "$work/calls"
     CALLS="$work/calls" CALL=$3 FAIL_AT=$4 FAIL_HOW=$5 LD_PRELOAD="$work/fail_call.so" \
         "$program" $1 "$2" > "$work/out" 2> "$work/err"
@@ -85,7 +76,7 @@ is_read_fault_of_parts() {
 # try WORDS FILE CALL HOW CONDITION: each such call failing in turn, with what has to hold then.
 try() {
     local verb=$1 file=$2 call=$3 how=$4 condition=$5 count
-    run "$verb" "$file" none 0 none
+    run_failing "$verb" "$file" none 0 none
     cp "$work/out" "$work/whole"
     count=$reads
     [ "$call" = read ] || count=$writes
@@ -94,7 +85,7 @@ try() {
         return
     fi
     for at in $(seq "$count"); do
-        run "$verb" "$file" "$call" "$at" "$how"
+        run_failing "$verb" "$file" "$call" "$at" "$how"
         if ! "$condition"; then
             fail "$verb $(basename "$file"), $call $at $how"
             return
@@ -135,22 +126,22 @@ for verb in check explain why; do
         try_all "$verb --all" "$file" is_read_fault_of_parts
     done
 done
-run 'why --all' "$work/three.csv" none 0 none
+run_failing 'why --all' "$work/three.csv" none 0 none
 at=$reads
 cp "$work/out" "$work/whole"
-run 'why --all' "$work/three.csv" read "$at" EIO
+run_failing 'why --all' "$work/three.csv" read "$at" EIO
 judge 'a read that fails in the third part' is_read_fault_of_parts
 judge 'what was written of two parts' [ "$(wc -l < "$work/out")" = 6 ]
 answer=0
 
 # expect_row N WANT: the row that is named where read N of PLAY fails.
 expect_row() {
-    run check examples/play.csv read "$1" EIO
+    run_failing check examples/play.csv read "$1" EIO
     judge "read $1 of PLAY" is_text 4 '' "$(both_lines "read fault at row $2")"
 }
 
 # The first read fails in the header; the last, which finds the end, comes after the six rows.
-run check examples/play.csv none 0 none
+run_failing check examples/play.csv none 0 none
 last=$reads
 expect_row 1 0
 expect_row "$last" 7

@@ -5,41 +5,29 @@
 # The last line is 'N passed, M failed', where a test counts once, and so do the words of a program.
 set -u
 cd "$(dirname "$0")/.." || exit 1
-tests=${TRACK9_TESTS:-$PWD/crates/track9_tests/out/track9_tests_tests}
-program=${NINECHECK:-$PWD/crates/ninecheck/out/ninecheck}
-. tests/lib/errors.sh
 . tests/lib/tools.sh
 need_tools cc=gcc
+. tests/lib/judge.sh
+. tests/lib/program.sh
+. tests/lib/errors.sh
+. tests/lib/blocks.sh
+. tests/lib/growths.sh
 
-work=$(mktemp -d)
-trap 'rm -rf "$work"' EXIT
-cc -shared -fPIC -O2 -o "$work/refuse_growth.so" tests/refuse_growth.c -ldl || exit 1
-passed=0
-failed=0
-
-# grows NAME N: runs a test with growth N refused; answers in $count how many growths there were.
-grows() {
-    rm -f "$work/count"
-    GROWTHS="$work/count" FAIL_AT=$2 LD_PRELOAD="$work/refuse_growth.so" "$tests" "$1" > "$work/out" 2>&1
-    status=$?
-    count=$(cat "$work/count" 2> /dev/null || echo none)
-}
+tests=${TRACK9_TESTS:-$PWD/crates/track9_tests/out/track9_tests_tests}
 
 # try_each NAME: a test with each of its growths refused in turn.
 try_each() {
     local name=$1 n=0
     while :; do
         n=$((n + 1))
-        grows "$name" "$n"
+        refusing "$n" "$tests" "$name"
         if [ "$status" != 0 ] || [ "$count" = none ]; then
-            failed=$((failed + 1))
-            echo "FAILED $name with growth $n refused: status $status, growths $count"
-            cat "$work/out"
+            fail "$name with growth $n refused, growths $count"
             return
         fi
         [ "$count" -lt "$n" ] && break
     done
-    passed=$((passed + 1))
+    pass
     echo "$name: passed with each of $count growths refused"
 }
 
@@ -49,13 +37,9 @@ for name in $names; do
     try_each "$name"
 done
 
-# refuses N WORDS...: runs the program with growth N refused; answers in $count how many growths there were.
+# refuses N WORDS...: runs the program with growth N refused.
 refuses() {
-    rm -f "$work/count"
-    GROWTHS="$work/count" FAIL_AT=$1 LD_PRELOAD="$work/refuse_growth.so" \
-        "$program" "${@:2}" > "$work/out" 2> "$work/err" < examples/play.csv
-    status=$?
-    count=$(cat "$work/count" 2> /dev/null || echo none)
+    refusing "$1" "$program" "${@:2}" < examples/play.csv
 }
 
 out_of_memory=$(both_lines 'out of memory')
@@ -88,9 +72,7 @@ try_words() {
         n=$((n + step))
         refuses "$n" "$@"
         if ! is_answer "$@" || [ "$count" = none ]; then
-            failed=$((failed + 1))
-            echo "FAILED '$*' with growth $n refused: status $status, growths $count"
-            cat "$work/out" "$work/err"
+            fail "'$*' with growth $n refused, growths $count"
             return
         fi
         [ "$count" -lt "$n" ] && break
@@ -99,11 +81,10 @@ try_words() {
     done
     # The last run refused none.
     if [ "$status" = "$right" ] && [ "$refused" -gt 0 ]; then
-        passed=$((passed + 1))
+        pass
         echo "'$*': right with each of $count growths refused"
     else
-        failed=$((failed + 1))
-        echo "FAILED '$*': status $status where no growth is refused, and $refused times out of memory"
+        fail "'$*' where no growth is refused, $refused times out of memory"
     fi
 }
 
@@ -120,11 +101,7 @@ try_side_by_side() {
         ) &
     done
     wait
-    if [ "$(find "$work" -name passed | wc -l)" = $parts ]; then
-        passed=$((passed + 1))
-    else
-        failed=$((failed + 1))
-    fi
+    judge "'${*:2}' by $parts at a time" [ "$(find "$work" -name passed | wc -l)" = $parts ]
 }
 
 try_words 0 check examples/play.csv
@@ -150,27 +127,16 @@ try_words 1 why examples/late-reply.csv
 try_words 3 why examples/bad-byte.csv
 
 # PLAY and its reply more often than a run puts marks close together on its way back.
-{
-    echo 'time_us,wire,byte'
-    awk 'BEGIN { split("C,20 C,01 C,21 D,10 D,01 D,11", row, " ")
-        for (k = 1; k <= 6 * 257; k++) print 400 * k "," row[(k - 1) % 6 + 1] }'
-} > "$work/marks.csv"
+records "$play" 257 > "$work/marks.csv"
 try_side_by_side 0 run "$work/marks.csv"
 
-# try_blocks STATUS WORDS BLOCKS: the same on records 400 microseconds apart: wire letters, each before the bytes that
-# it brings.
+# try_blocks STATUS WORDS RECORDS: the same on a capture of these records.
 try_blocks() {
-    {
-        echo 'time_us,wire,byte'
-        echo "$3" | tr -s ' ' '\n' | awk '/^[CD]$/ { wire = $0; next } { time += 400; print time "," wire "," $0 }'
-    } > "$work/blocks.csv"
-    try_words "$1" $2 "$work/blocks.csv"
+    capture_of "$3"
+    try_words "$1" $2 "$work/capture.csv"
 }
 
-ack='D 10 01 11'
-remote='C 61 20 01 82 D 71 20 00 91'
 entry="C 40 10 50 $ack"
-local_at_10='C 61 20 04 85 D 74 20 01 20 00 01 B6 C 60 10 70 D 74 10 00 00 00 10 94'
 # An IN point that is captured and sensed twice, and in a remote deck sensed as two.
 try_blocks 0 explain "$entry C 60 10 70 D 74 10 00 00 00 05 89 C 60 10 70 D 74 10 00 00 00 05 89"
 try_blocks 1 check "$remote $entry C 60 10 70 D 74 10 00 00 00 05 89 C 60 10 70 D 74 10 01 00 00 05 8A"
@@ -180,7 +146,7 @@ try_blocks 0 explain "$local_at_10 C 40 18 58 $ack C 40 18 58 $ack C 40 18 58 $a
 try_blocks 1 check "$local_at_10 C 40 19 59 $ack C 60 10 70 D 74 10 01 00 00 10 95"
 # Runs that are found backwards: of shifts that a deck in local may do, and of a point that only a hand can have moved.
 try_blocks 0 run "$local_at_10 C 40 18 58 $ack C 40 18 58 $ack C 40 18 58 $ack C 60 10 70 D 74 10 02 00 00 10 96"
-moved="$remote C 44 14 00 00 00 10 68 $ack C 60 10 70 D 74 10 00 00 00 11 95"
+moved="$remote $preset C 60 10 70 D 74 10 00 00 00 11 95"
 try_blocks 1 run "$moved"
 try_blocks 0 'run --hands' "$moved"
 try_blocks 1 why "$moved"
@@ -188,11 +154,9 @@ try_blocks 0 'why --hands' "$moved"
 
 # Two parts that break, and a third with replies that contradict one another: what was written of whole parts stands. The last
 # growth is for what the deck could be after the third break, so all three have their lines then: three, three and five.
-play_twice="C 20 01 21 $ack D 10"
 for verb in check explain why; do
-    try_blocks 1 "$verb --all" "$play_twice $play_twice $moved"
+    try_blocks 1 "$verb --all" "$play D 10 $play D 10 $moved"
 done
-if [ "$written" = 11 ]; then passed=$((passed + 1)); else failed=$((failed + 1)); echo "FAILED why --all: $written lines of three parts"; fi
+judge "why --all: $written lines of three parts" [ "$written" = 11 ]
 
-echo "$passed passed, $failed failed"
-[ "$failed" = 0 ]
+tell_counts

@@ -4,20 +4,12 @@
 # complete its words. The last line is 'N passed, M failed'.
 set -u
 cd "$(dirname "$0")/.." || exit 1
-
-. tests/lib/judge.sh
 . tests/lib/tools.sh
 need_tools mandoc make zsh fish jq objdump=binutils
+. tests/lib/judge.sh
+. tests/lib/program.sh
 
-work=$(mktemp -d)
-trap 'rm -rf "$work"' EXIT
 chmod 755 "$work"
-
-# expect NAME STATUS STDOUT STDERR: compares with the run whose status is in $status and whose streams are in
-# $work/out and $work/err.
-expect() {
-    judge "$1" is_text "${@:2}"
-}
 
 # holds NAME WORDS...: the command ends well.
 holds() {
@@ -88,7 +80,7 @@ cp examples/play.csv "$work/a folder/capture.csv"
 chmod 755 "$work/a folder"
 copy="$work/copy of it"
 mkdir "$copy"
-cp -r Makefile make README.md ninecheck debian-control convert view decks man completions examples docs "$copy"
+cp -r Makefile make README.md ninecheck package convert view decks examples docs "$copy"
 mkdir -p "$copy/crates/ninecheck/out" "$copy/crates/words9/src"
 cp crates/words9/src/task.rt "$copy/crates/words9/src"
 chmod 700 "$copy"
@@ -205,7 +197,7 @@ expect 'the script by a symlink' 0 'yes: records 6, exchanges 1, open 0' ''
 
 # complete_words WORDS...: what bash would put in place of the last word.
 complete_words() {
-    bash -c 'source completions/ninecheck.bash; COMP_WORDS=("$@"); COMP_CWORD=$(($# - 1)); _ninecheck; echo "${COMPREPLY[@]}"' \
+    bash -c 'source package/ninecheck.bash; COMP_WORDS=("$@"); COMP_CWORD=$(($# - 1)); _ninecheck; echo "${COMPREPLY[@]}"' \
         bash "$@" > "$work/out" 2> "$work/err"
     status=$?
 }
@@ -227,14 +219,13 @@ complete_words ninecheck check examples/play
 expect 'a file is completed' 0 'examples/play.csv' ''
 
 # The man page is rendered without a warning, also of its style.
-mandoc -T lint man/ninecheck.1 > "$work/out" 2> "$work/err"
+mandoc -T lint package/ninecheck.1 > "$work/out" 2> "$work/err"
 status=$?
 expect 'the man page' 0 '' ''
 
 # Each subcommand and option that the program's help names stands in the man page and in each completion.
-program=${NINECHECK:-$PWD/crates/ninecheck/out/ninecheck}
 for word in $("$program" --help | awk '/^Commands:/ { on = 1; next } /^$/ { on = 0 } on { print $1 }') hands all rate deck version; do
-    for file in man/ninecheck.1 completions/ninecheck.bash completions/ninecheck.zsh completions/ninecheck.fish; do
+    for file in package/ninecheck.1 package/ninecheck.bash package/ninecheck.zsh package/ninecheck.fish; do
         holds "$word in $file" grep -qw -- "$word" "$file"
     done
 done

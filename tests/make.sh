@@ -3,12 +3,10 @@
 # what an interrupted run leaves to the next; and how refused edits are counted. The last line is 'N passed, M failed'.
 set -u
 cd "$(dirname "$0")/.." || exit 1
-. tests/lib/judge.sh
 . tests/lib/tools.sh
 need_tools make
+. tests/lib/judge.sh
 
-work=$(mktemp -d)
-trap 'rm -rf "$work"' EXIT
 tree=$work/tree
 mkdir -p "$work/bin" "$work/told"
 export TOLD=$work/told

@@ -3,12 +3,10 @@
 # 'N passed, M failed'.
 set -u
 cd "$(dirname "$0")/.." || exit 1
-. tests/lib/judge.sh
-source tests/lib/tools.sh
+. tests/lib/tools.sh
 need_tools parallel
-
-work=$(mktemp -d)
-trap 'rm -rf "$work"' EXIT
+. tests/lib/judge.sh
+. tests/lib/program.sh
 
 # is_same NAME WANT FILE: counts whether the file has this text.
 is_same() {
@@ -28,7 +26,7 @@ is_same 'another parallel is not GNU parallel' parallel "$work/out"
 
 # The commands of the page, in their order; each runs in $work with the built program on its path.
 mkdir "$work/bin" "$work/captures" "$work/captures/a night"
-ln -s "${NINECHECK:-$PWD/crates/ninecheck/out/ninecheck}" "$work/bin/ninecheck"
+ln -s "$program" "$work/bin/ninecheck"
 cp examples/play.csv examples/second-reply.csv "$work/captures"
 cp examples/late-reply.csv examples/bad-byte.csv examples/open-command.csv "$work/captures/a night"
 mapfile -t command < <(sed -n 's/^    \(find\|cut\|sed\)/\1/p' docs/MANY.md)

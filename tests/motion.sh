@@ -3,15 +3,12 @@
 # last line is 'N passed, M failed'.
 set -u
 cd "$(dirname "$0")/.." || exit 1
-program=${NINECHECK:-$PWD/crates/ninecheck/out/ninecheck}
-
-. tests/lib/judge.sh
-. tests/lib/views.sh
 . tests/lib/tools.sh
 need_tools mawk gawk busybox
+. tests/lib/judge.sh
+. tests/lib/program.sh
+. tests/lib/awk.sh
 
-work=$(mktemp -d)
-trap 'rm -rf "$work"' EXIT
 # The view's own files are made here, so that it can be seen that none is left.
 export TMPDIR=$work/held
 mkdir "$TMPDIR"
@@ -88,7 +85,7 @@ is_motion() {
     "$program" explain $words "$work/capture.csv" > "$work/in"
     for awk in mawk 'gawk --posix' 'busybox awk'; do
         motion "-v capture=$work/capture.csv ${rate:+-v rate=${rate%% *}}"
-        judge "$awk: $1" is_view "$work/want"
+        judge "$awk: $1" is_made "$work/want"
     done
 }
 

@@ -4,12 +4,9 @@
 # is 'N passed, M failed'.
 set -u
 cd "$(dirname "$0")/.." || exit 1
-. tests/lib/judge.sh
 . tests/lib/tools.sh
 need_tools jq make
-
-work=$(mktemp -d)
-trap 'rm -rf "$work"' EXIT
+. tests/lib/judge.sh
 
 # The commands run in a folder that has what the repository has, so that what they write does not stay.
 mkdir "$work/here"

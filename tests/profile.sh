@@ -4,25 +4,19 @@
 # The last line is 'N passed, M failed'.
 set -u
 cd "$(dirname "$0")/.." || exit 1
-program=${NINECHECK:-$PWD/crates/ninecheck/out/ninecheck}
 . tests/lib/judge.sh
+. tests/lib/program.sh
 . tests/lib/errors.sh
+. tests/lib/blocks.sh
 
-work=$(mktemp -d)
-trap 'rm -rf "$work"' EXIT
-
-# blocks BLOCKS: a capture of blocks, each a wire and its bytes without the sum, parted by commas; bytes come 400
-# microseconds apart.
+# blocks BLOCKS: a capture of blocks, each a wire and its bytes without the sum, parted by commas.
 blocks() {
-    echo 'time_us,wire,byte'
-    echo "$1" | tr ',' '\n' | while read -r wire bytes; do
+    local wire bytes byte sum
+    records "$(echo "$1" | tr ',' '\n' | while read -r wire bytes; do
         sum=0
-        for byte in $bytes; do
-            echo "$wire $byte"
-            sum=$(((sum + 0x$byte) % 256))
-        done
-        printf '%s %02X\n' "$wire" "$sum"
-    done | awk '{ time += 400; print time "," $1 "," $2 }'
+        for byte in $bytes; do sum=$(((sum + 0x$byte) % 256)); done
+        printf '%s %s %02X\n' "$wire" "$bytes" "$sum"
+    done)"
 }
 
 # table TITLE: the rows of the first table after this title, their cells parted by bars without blanks and marks.

@@ -6,12 +6,7 @@ cd "$(dirname "$0")/.." || exit 1
 . tests/lib/judge.sh
 . tests/lib/errors.sh
 . tests/lib/program.sh
-
-# expect NAME STATUS STDOUT STDERR: compares with the run whose status is in $status and whose streams are in
-# $work/out and $work/err. The streams are given without their last line feed, and must have it.
-expect() {
-    judge "$1" is_text "${@:2}"
-}
+. tests/lib/blocks.sh
 
 # run_on FILE: the program with this file as its standard input.
 run_on() {
@@ -23,16 +18,6 @@ run_on() {
 # run_text TEXT: the program on this text, with printf's escapes, through a pipe.
 run_text() {
     printf "$1" | "$program" check > "$work/out" 2> "$work/err"
-    status=$?
-}
-
-# run_blocks BLOCKS: the program on records 400 microseconds apart: wire letters, each before the bytes that it
-# brings.
-run_blocks() {
-    {
-        echo 'time_us,wire,byte'
-        echo "$1" | tr -s ' ' '\n' | awk '/^[CD]$/ { wire = $0; next } { time += 400; print time "," wire "," $0 }'
-    } | "$program" check > "$work/out" 2> "$work/err"
     status=$?
 }
 
@@ -100,7 +85,7 @@ expect 'a rule broken before a bad row' 1 'no at record 3: B2 wrong sum' ''
 
 # Captures that begin inside an exchange, commands that are not listed, times, and what is not judged.
 while IFS='|' read -r name want_status want_out blocks; do
-    run_blocks "$blocks"
+    run check < <(records "$blocks")
     expect "$name" "$want_status" "$want_out" ''
 done <<'END'
 a capture that begins with a reply|1|no at record 1: P1 reply without a command|D 10 01 11
@@ -367,11 +352,7 @@ status=$?
 expect 'a closed standard error' 3 '' ''
 
 # A long capture through a pipe, of which nothing is kept: PLAY and its reply, 40,000 times.
-{
-    echo 'time_us,wire,byte'
-    awk 'BEGIN { split("C,20 C,01 C,21 D,10 D,01 D,11", row, " ")
-        for (k = 1; k <= 240000; k++) print 400 * k "," row[(k - 1) % 6 + 1] }'
-} | "$program" check > "$work/out" 2> "$work/err"
+records "$play" 40000 | "$program" check > "$work/out" 2> "$work/err"
 status=$?
 expect 'a long pipe' 0 'yes: records 240000, exchanges 40000, open 0' ''
 

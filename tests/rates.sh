@@ -6,11 +6,6 @@ cd "$(dirname "$0")/.." || exit 1
 . tests/lib/judge.sh
 . tests/lib/program.sh
 
-# has_verdict STATUS VERDICT: the last run ended with this status and this last line, and said nothing.
-has_verdict() {
-    [ "$status" = "$1" ] && [ "$(tail -n 1 "$work/out")" = "$2" ] && [ ! -s "$work/err" ]
-}
-
 # is_refused: the words were refused, and the four rates are listed.
 is_refused() {
     local rate

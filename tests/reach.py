@@ -1,14 +1,15 @@
-"""Follows the contracts of the functions below to all the definitions of specs/ and all the declared types that they
-reach, and compares these with the tables of docs/ARCHITECTURE.md, section "What the theorem says".
+"""Writes the tables of docs/THEOREM.md, or checks that the page is as it would write it.
 
-A definition reaches the names in its text, and a declared type the types of its fields. A name in a definition that also
-names a variable counts as reached: the page can say too much for it, but not too little. The library std is followed
-nowhere, clap and toml to the names that the crates cite, and csv into its definitions where `rt doc` says where the kit is.
+    tests/reach.py            checks; the last line is 'N passed, M failed'
+    tests/reach.py --write    writes
 
-The page has a table for each part, and before the table it names the part's functions, its declared types and its
-constants (in the sentences with 'that the code declares'). A part lists what the parts before it do not. Where a file is not reached
-whole, its row says '(all but `A` and `B`)', '`A` and `B` alone' or 'the first N lines', which are the definitions that begin
-there. A row of clap or of toml names what is cited. The last line is 'N passed, M failed'.
+For each of the main contracts the page lists the definition files that it reaches, in an order in which they can be read, and the
+types that it reaches of those that the code declares. A part lists what the parts before it do not. What a row says of a file is the
+comment at the head of that file; of a single definition it is the comment above it. What stands above MARK is written by hand.
+
+A definition reaches the names in its text, and a declared type the types of its fields. A name in a definition that also names a
+variable counts as reached: the page can say too much for it, but not too little. Of the libraries std is not followed, csv is
+followed into its definitions, and of clap and toml the page names what the crates cite.
 """
 
 import os
@@ -16,16 +17,27 @@ import re
 import shutil
 import subprocess
 import sys
+import textwrap
 
-# The parts, in the order of the page: the crate of each function, and its name, with its type before a method's.
+# The parts: a title, and the functions by their crate and their name, with the type before that of a method; and those that are the same
+# at 25 frames a second, which must reach no more.
 PARTS = [
-    [("judge9", "judge")],
-    [("judge9", "judge_with_run"), ("deck9", "is_run"), ("report9", "write_run")],
-    [("judge9", "judge_with_contradiction"), ("report9", "write_why")],
-    [("judge9", "judge_parts")],
-    [("program9", "run_program"), ("program9", "End::status"), ("program9", "Message::fmt")],
+    ("The verdict and the explanation", [("judge9", "judge_for")], [("judge9", "judge")]),
+    (
+        "A yes with its run",
+        [("judge9", "judge_with_run_for"), ("deck9", "is_run_of"), ("report9", "write_run_for")],
+        [("judge9", "judge_with_run"), ("deck9", "is_run"), ("report9", "write_run")],
+    ),
+    (
+        "Why a no",
+        [("judge9", "judge_with_contradiction_for"), ("report9", "write_why_for")],
+        [("judge9", "judge_with_contradiction"), ("report9", "write_why")],
+    ),
+    ("The whole capture, part by part", [("judge9", "judge_parts_for")], [("judge9", "judge_parts")]),
+    ("The program", [("program9", "run_program"), ("program9", "End::status"), ("program9", "Message::fmt")], []),
 ]
-PAGE, SECTION = "docs/ARCHITECTURE.md", "## What the theorem says"
+PAGE = "docs/THEOREM.md"
+MARK = "<!-- What follows is written by tests/reach.py --write. -->"
 # What may stand before the name that a definition defines.
 HEADS = {"abbrev", "unfoldable", "pub", "record", "data", "private"}
 # Kinds of what is reached.
@@ -33,22 +45,33 @@ DEFINITION, TYPE, LIBRARY = "definition", "type", "library"
 
 
 def words(text):
-    """The words of an antt text, without its comments and strings."""
-    text = re.sub(r"--.*", " ", re.sub(r'"[^"]*"', " ", text))
+    """The words of an antt text, without its comments and strings. A string may have a quote behind a backslash."""
+    text = re.sub(r'"(?:\\.|[^"\\])*"|--.*', " ", text)
     return [word for word in re.split(r"[\s()\[\]{},;]+", text) if word]
 
 
 def kit():
-    """The folder of the kit, or None where there is none."""
+    """The folder of the kit, which has the definitions of the libraries."""
     if not shutil.which("rt"):
-        return None
+        sys.exit("FAILED no `rt` is on the path, and so no definitions of the libraries\n0 passed, 1 failed")
     page = subprocess.run(["rt", "doc"], stdout=subprocess.PIPE, text=True).stdout.strip()
-    return os.path.dirname(page) or None
+    return os.path.dirname(page)
 
 
 def read_lines(path):
     with open(path, encoding="utf-8") as file:
         return file.read().splitlines()
+
+
+def head_of(lines):
+    """The first sentence of the comment at the head of a file, without its point; of a long one what stands before a colon."""
+    comment = []
+    for line in lines:
+        if not line.startswith("--"):
+            break
+        comment.append(line.strip("- "))
+    sentence = re.split(r"\.(?:\s|$)", " ".join(comment))[0]
+    return sentence if len(sentence) <= 130 else re.split(r"[:;]", sentence)[0]
 
 
 class Uses:
@@ -71,23 +94,27 @@ class Uses:
 
 
 class Definitions:
-    """A file of specs/: the text of each definition, the line at which it begins, and the data type of each constructor."""
+    """A file of specs/: the text of each definition and the comment above it, and the data type of each constructor."""
 
     def __init__(self, module, path):
         self.module, self.path = module, path
-        self.uses, self.texts, self.begins, self.data_of = Uses(), {}, {}, {}
-        is_data = False
+        self.uses, self.texts, self.comments, self.data_of = Uses(), {}, {}, {}
+        is_data, name, comment = False, None, []
         lines = read_lines(path)
-        self.lines = len(lines)
-        name = None
-        for number, line in enumerate(lines, 1):
+        self.lines, self.head = len(lines), head_of(lines)
+        for line in lines:
             if line.startswith("use "):
                 self.uses.add(line)
-            elif line.strip() and not line.startswith("--"):
+            elif line.startswith("--"):
+                comment.append(line.strip("- "))
+            elif not line.strip():
+                comment = []
+            else:
                 if not line[0].isspace():
                     name = next((word for word in words(line) if word not in HEADS), name)
-                    self.begins.setdefault(name, number)
+                    self.comments.setdefault(name, " ".join(comment))
                     is_data = "data" in words(line)[:2]
+                    comment = []
                 elif is_data and re.match(r"  \w+ :", line):
                     self.data_of[line.split()[0]] = name
                 self.texts[name] = self.texts.get(name, "") + "\n" + line
@@ -103,9 +130,9 @@ class Sources:
             self.read_specs(crate, f"crates/{crate}/specs")
             self.read_code(crate)
         self.followed = set(self.crates)
-        if kit_folder:
-            self.read_specs("csv", f"{kit_folder}/rattle/csv/specs")
-            self.followed.add("csv")
+        self.kit = f"{kit_folder}/rattle"
+        self.read_specs("csv", f"{self.kit}/csv/specs")
+        self.followed.add("csv")
 
     def read_specs(self, crate, folder):
         for at, _, files in os.walk(folder):
@@ -121,7 +148,7 @@ class Sources:
             for name in sorted(it for it in files if it.endswith(".rt")):
                 with open(f"{at}/{name}", encoding="utf-8") as file:
                     text = re.sub(r"//.*", "", file.read())
-                self.code[crate].append(text)
+                self.code[crate].append((f"{at}/{name}", text))
                 declared = r"^(?:pub(?:\(crate\))? )?(struct|enum) (\w+)[^;{(]*(?:\{(.*?)^\}|\((.*?)\);)"
                 for found in re.finditer(declared, text, re.S | re.M):
                     # what has a model is seen by contracts as its value, and not by its fields
@@ -164,10 +191,10 @@ class Sources:
                 yield self.target(uses.modules[head], rest[0])
 
     def contract(self, crate, name):
-        """The contract of a function with its signature, and of a method's `impl` the ghost lines too; and the names that
-        the file has until then."""
+        """The contract of a function with its signature, and of a method's `impl` the ghost lines too; the names that the file
+        has until then; and the file."""
         owner, _, method = name.rpartition("::")
-        for text in self.code[crate]:
+        for path, text in self.code[crate]:
             blocks = [(text, 0)]
             if owner:
                 blocks = [(it[0], it.start()) for it in re.finditer(rf"^impl\b[^\n]*\b{owner} \{{.*?^\}}", text, re.S | re.M)]
@@ -180,12 +207,12 @@ class Sources:
                         if line.strip().startswith("ghost use "):
                             uses.add(line)
                     ghosts = re.findall(r"^    ghost \w+ = .*$", block, re.M) if owner else []
-                    return "\n".join([found[0], *ghosts]), uses
+                    return "\n".join([found[0], *ghosts]), uses, path
         sys.exit(f"no function {name} in crates/{crate}/src")
 
     def from_function(self, crate, name):
         """What the signature and the clauses of a function name, and its own type."""
-        text, uses = self.contract(crate, name)
+        text, uses, _ = self.contract(crate, name)
         owner, _, _ = name.rpartition("::")
         types = re.findall(r"(?<![\w.])[A-Z]\w*", text)
         return [*self.named(text, uses), *(self.type_named(crate, it) for it in [owner, *types] if it not in uses.names)]
@@ -218,123 +245,126 @@ def fields_of(kind, body):
     return re.findall(r"\b[A-Z]\w*", body)
 
 
-def name_of_file(path, kit_folder):
-    """A file as the page names it."""
-    if kit_folder and path.startswith(kit_folder):
-        crate, _, rest = path[len(f"{kit_folder}/rattle/") :].partition("/")
-        return f"`{crate}`'s `{rest}`"
-    return f"`{path}`"
+def crates_in_order():
+    """All crates and libraries, lowest first."""
+    order = []
+    for line in read_lines("crates.txt"):
+        if not line.startswith("#"):
+            crate, _, uses = line.partition(":")
+            order.extend(it for it in [*uses.split(), crate] if it not in order)
+    return order
 
 
-class Part:
-    """What the page says of a part: the text before its table, and by file the row's lines and words."""
-
-    def __init__(self, text, rows):
-        self.text, self.rows = text, rows
-        sentences = re.split(r"(?<=[.:])\s+(?=[A-Z])", re.sub(r"\s+", " ", text))
-        declared = " ".join(it for it in sentences if "that the code declares" in it)
-        self.types = set(re.findall(r"`([A-Z]\w*)`", declared))
+def listed(words):
+    """Words with commas, and with `and` before the last."""
+    *first, last = words
+    return f"{', '.join(first)} and {last}" if first else last
 
 
-def parts_of_page():
-    with open(PAGE, encoding="utf-8") as file:
-        section = file.read().partition(f"{SECTION}\n")[2].partition("\n## ")[0]
-    parts, text, rows = [], [], {}
-    for line in section.splitlines():
-        row = re.match(r"\| (.*?) \| (\d+) \| (.*) \|$", line)
-        if row:
-            rows[row[1]] = (int(row[2]), row[3])
-        elif rows:
-            parts.append(Part("\n".join(text), rows))
-            text, rows = [line], {}
-        elif not line.startswith("|"):
-            text.append(line)
-    return parts
+def marked(names):
+    """A list of names in marks."""
+    return listed([f"`{it}`" for it in names])
 
 
-def names_in(words_of_row, definitions):
-    """The definitions of a file that its row says are reached."""
-    names = set(definitions.texts)
-    but = re.search(r"\(all but ([^)]*)\)", words_of_row)
-    alone = re.search(r"((?:`[^`]+`(?:, | and )?)+) alone", words_of_row)
-    first = re.search(r"the first (\d+) lines", words_of_row)
-    if but:
-        return names - set(re.findall(r"`([^`]+)`", but[1]))
-    if alone:
-        return set(re.findall(r"`([^`]+)`", alone[1]))
-    if first:
-        return {it for it in names if definitions.begins[it] <= int(first[1])}
-    return names
+def in_order_of_use(sources, modules):
+    """Modules of one crate, each after those that it uses, and otherwise by their names."""
+    order = []
+
+    def put(module):
+        if module not in order:
+            uses = sources.specs[module].uses
+            used = {".".join(path) for path, _ in uses.names.values()} | {".".join(path) for path in uses.modules.values()}
+            for other in sorted(used & set(modules) - {module}):
+                put(other)
+            order.append(module)
+
+    for module in sorted(modules):
+        put(module)
+    return order
 
 
-class Count:
-    def __init__(self):
-        self.passed = self.failed = 0
+def row_of(sources, module, names):
+    """The row of a file of which these definitions are reached."""
+    definitions = sources.specs[module]
+    path = definitions.path
+    if path.startswith(sources.kit):
+        crate, _, rest = path[len(sources.kit) + 1 :].partition("/")
+        path = f"{crate}: {rest}"
+    left_out = [it for it in definitions.texts if it not in names]
+    reached = [it for it in definitions.texts if it in names]
+    says = definitions.head
+    comment = definitions.comments[reached[0]]
+    if left_out and len(reached) == 1 and comment and not comment.startswith("the same"):
+        says = f"`{reached[0]}` alone: {comment}"
+    elif left_out and len(reached) <= len(left_out):
+        says += f" ({marked(reached)} alone)"
+    elif left_out:
+        says += f" (all but {marked(left_out)})"
+    return table_row(path, definitions.lines, says)
 
-    def see(self, holds, why):
-        if holds:
-            self.passed += 1
-        else:
-            self.failed += 1
-            print(f"FAILED {why}")
+
+def library_row(sources, module, names):
+    """The row of a file of a library that is not followed, with what of it is cited."""
+    _, crate, _, *rest = module.split(".")
+    path = f"specs/{'/'.join(rest)}.antt"
+    lines = read_lines(f"{sources.kit}/{crate}/{path}")
+    return table_row(f"{crate}: {path}", len(lines), f"{head_of(lines)} ({marked(sorted(names))}, with what is behind)")
 
 
-def compare_file(count, path, definitions, reached, row):
-    """Compares what is reached of a file with its row."""
-    lines, text = row
-    count.see(definitions.lines == lines, f"{path}: {definitions.lines} lines, and the page says {lines}")
-    said = names_in(text, definitions)
-    count.see(reached <= said, f"{path}: the page leaves out {', '.join(sorted(reached - said))}")
-    count.see(said <= reached, f"{path}: not reached: {', '.join(sorted(said - reached))}")
+def table_row(path, lines, says):
+    says = says.replace("|", "\\|")
+    return f"| `{path}` | {lines} | {says} |"
 
 
-def compare_part(count, sources, kit_folder, functions, part, before):
-    """Compares a part with what its functions reach. `before` is what the parts before it reach."""
-    for _, name in functions:
-        count.see(f"`{name}`" in part.text, f"the page does not name {name} before its table")
-    reached = sources.reached(functions) - before
-    types = {name for kind, _, name in reached if kind == TYPE}
-    for name in sorted(types | part.types):
-        count.see(name in part.types, f"the page does not name the type {name}")
-        count.see(name in types, f"the type {name} is not reached")
-    files = set()
-    for module in sorted({place for kind, place, _ in reached if kind == DEFINITION}):
-        definitions = sources.specs[module]
-        path = name_of_file(definitions.path, kit_folder)
-        files.add(path)
-        count.see(path in part.rows, f"the page has no row for {path}")
-        if path in part.rows:
-            names = {name for kind, place, name in reached if kind == DEFINITION and place == module}
-            compare_file(count, path, definitions, names, part.rows[path])
-    for module in sorted({place for kind, place, _ in reached if kind == LIBRARY}):
-        _, crate, _, *rest = module.split(".")
-        path = f"`{crate}`'s `specs/{'/'.join(rest)}.antt`"
-        files.add(path)
-        count.see(path in part.rows, f"the page has no row for {path}")
-        lines, text = part.rows.get(path, (0, ""))
-        if kit_folder:
-            there = len(read_lines(f"{kit_folder}/rattle/{crate}/specs/{'/'.join(rest)}.antt"))
-            count.see(there == lines, f"{path}: {there} lines, and the page says {lines}")
-        said = set(re.findall(r"`([^`]+)`", text))
-        names = {name for kind, place, name in reached if kind == LIBRARY and place == module}
-        count.see(names <= said, f"{path}: the page leaves out {', '.join(sorted(names - said))}")
-    unread = set() if kit_folder else {it for it in part.rows if it.startswith("`csv`")}
-    for path in part.rows:
-        count.see(path in files | unread, f"{path} is not reached")
-    return reached | before
+def part_of_page(sources, order, title, functions, same, before):
+    """The lines of a part, and all that is reached up to it. `before` is what the parts before it reach."""
+    reached = sources.reached(functions)
+    more = sources.reached(same) - reached
+    if more:
+        sys.exit(f"{marked(it for _, it in same)} reach more: {more}")
+    new = reached - before
+    kinds = {kind: [it for it in new if it[0] == kind] for kind in (DEFINITION, TYPE, LIBRARY)}
+    own = listed([f"`{name}` (`{sources.contract(crate, name)[2]}`)" for crate, name in functions])
+    also = "also " if before else ""
+    text = f"The contract of {own} {also}reaches these." if len(functions) == 1 else f"The contracts of {own} {also}reach these."
+    if same:
+        text += f" At 25 frames a second {marked(it for _, it in same)} reach{'es' if len(same) == 1 else ''} no others."
+    types = [name for _, _, name in sorted(kinds[TYPE], key=lambda it: (order.index(it[1]), it[2]))]
+    text += f" Declared by the code {'are' if len(types) > 1 else 'is'} {marked(types)}."
+    rows = []
+    for crate in order:
+        by_module = {}
+        for kind, module, name in [*kinds[DEFINITION], *kinds[LIBRARY]]:
+            if module.split(".")[1] == crate:
+                by_module.setdefault((kind, module), set()).add(name)
+        followed = in_order_of_use(sources, [module for kind, module in by_module if kind == DEFINITION])
+        rows.extend(row_of(sources, module, by_module[DEFINITION, module]) for module in followed)
+        cited = sorted(module for kind, module in by_module if kind == LIBRARY)
+        rows.extend(library_row(sources, module, by_module[LIBRARY, module]) for module in cited)
+    paragraph = textwrap.wrap(text, 125, break_on_hyphens=False)
+    table = ["| File | Lines | What stands there |", "|---|---|---|", *rows]
+    return ["", f"## {title}", "", *paragraph, "", *table], reached | before
 
 
 def main():
-    kit_folder = kit()
-    if kit_folder is None:
-        print("no kit is here: csv's definitions are not followed")
-    sources, parts, count = Sources(kit_folder), parts_of_page(), Count()
-    count.see(len(parts) == len(PARTS), f"the page has {len(parts)} tables, and not {len(PARTS)}")
-    before = set()
-    for functions, part in zip(PARTS, parts):
-        before = compare_part(count, sources, kit_folder, functions, part, before)
-    print(f"{count.passed} passed, {count.failed} failed")
-    return 1 if count.failed else 0
+    sources, order, lines, before = Sources(kit()), crates_in_order(), [MARK], set()
+    for part in PARTS:
+        more, before = part_of_page(sources, order, *part, before)
+        lines.extend(more)
+    page = read_lines(PAGE)
+    written = page[: page.index(MARK)] + lines
+    if sys.argv[1:] == ["--write"]:
+        with open(PAGE, "w", encoding="utf-8") as file:
+            file.write("\n".join(written) + "\n")
+        return 0
+    wrong = [it for it in lines if it not in page] + [it for it in page if it not in written]
+    for line in wrong:
+        print(f"FAILED {'not on the page' if line in lines else 'on the page, and should not be'}: {line}")
+    if page != written:
+        print("The page is mended by tests/reach.py --write.")
+    failed = len(wrong) or int(page != written)
+    print(f"{len([it for it in lines if it in page])} passed, {failed} failed")
+    return 1 if failed else 0
 
 
 if __name__ == "__main__":

@@ -1,7 +1,6 @@
 #!/usr/bin/env bash
-# Checks that docs/ARCHITECTURE.md lists each definition file and each declared type that the main contracts reach, and no
-# other, with as many lines as the file has and with what of it is not reached: `reach.py` follows the contracts.
-# The last line is 'N passed, M failed'.
+# Checks that docs/THEOREM.md lists each definition file and each declared type that the main contracts reach, and no other:
+# `reach.py` follows the contracts, and writes the page. The last line is 'N passed, M failed'.
 set -u
 cd "$(dirname "$0")/.." || exit 1
 . tests/lib/tools.sh

@@ -3,25 +3,16 @@
 # The last line is 'N passed, M failed'.
 set -u
 cd "$(dirname "$0")/.." || exit 1
-program=${NINECHECK:-$PWD/crates/ninecheck/out/ninecheck}
 . tests/lib/judge.sh
-
-# answer_to RECORDS: the program's line on these records: wire letters, each before the bytes that it brings, 400
-# microseconds apart; `+N` lets the line rest N microseconds more.
-answer_to() {
-    {
-        echo 'time_us,wire,byte'
-        echo "$1" | tr -s ' ' '\n' | awk '/^[CD]$/ { wire = $0; next } /^[+]/ { time += substr($0, 2); next }
-            { time += 400; print time "," wire "," $0 }'
-    } | "$program" check
-}
+. tests/lib/program.sh
+. tests/lib/blocks.sh
 
 show() {
     echo "$got"
 }
 
 while IFS='|' read -r name want records; do
-    got=$(answer_to "$records" 2>&1)
+    got=$(records "$records" | "$program" check 2>&1)
     judge "$name" [ "$got" = "$want" ]
 done <<'END'
 both wires swapped|no at record 1: P1 reply without a command|D 20 01 21 C 10 01 11

@@ -3,22 +3,10 @@
 # and to what `explain` says is known after the same exchange. The last line is 'N passed, M failed'.
 set -u
 cd "$(dirname "$0")/.." || exit 1
-program=${NINECHECK:-$PWD/crates/ninecheck/out/ninecheck}
 . tests/lib/judge.sh
+. tests/lib/program.sh
 . tests/lib/errors.sh
 . tests/lib/blocks.sh
-
-work=$(mktemp -d)
-trap 'rm -rf "$work"' EXIT
-
-# What stands for blocks: an acknowledgement; a status reply that the deck is in REMOTE, and one that it is in LOCAL; a
-# preset of IN to 10:00:00:00; a deck in local whose IN point is 10:00:00:00; a shift of IN by a frame.
-ack='D 10 01 11'
-remote='C 61 20 01 82 D 71 20 00 91'
-local='C 61 20 01 82 D 71 20 01 92'
-preset="C 44 14 00 00 00 10 68 $ack"
-local_at_10='C 61 20 04 85 D 74 20 01 20 00 01 B6 C 60 10 70 D 74 10 00 00 00 10 94'
-shift="C 40 18 58 $ack"
 
 # The forms of what a line holds.
 mode='(STOP|PLAY|REC|FF|REW|SHUTTLE|JOG|VAR|CUED|EJECT)'
@@ -31,20 +19,14 @@ line_form() {
 }
 any_line=$(line_form '[0-9]+' "$mode" "$mode" "$register" "$register" '(yes|no)')
 
-# run FILE [WORDS...]: the program's run on this capture. Its text is left in $work/out.
-run() {
-    "$program" run "$@" > "$work/out" 2> "$work/err" < /dev/null
-    status=$?
+# run_of FILE [WORDS...]: the program's run on this capture. Its text is left in $work/out.
+run_of() {
+    run run "$@" < /dev/null
 }
 
 # has_line N FORM: line N of the text has this form.
 has_line() {
     sed -n "$1p" "$work/out" | grep -qxE -- "$2"
-}
-
-# has_lines N: the text has so many lines.
-has_lines() {
-    [ "$(wc -l < "$work/out")" = "$1" ]
 }
 
 # agrees: each line of a run is of its form, with this at its end, and names the record of the line of the explanation
@@ -72,20 +54,20 @@ agrees() {
 is_run() {
     local panel=
     case " $* " in *' --hands '*) panel=', panel (on|off)' ;; esac
-    "$program" explain "$@" > "$work/explained" < /dev/null && run "$@" &&
+    "$program" explain "$@" > "$work/explained" < /dev/null && run_of "$@" &&
         [ "$status" = 0 ] && [ ! -s "$work/err" ] && has_lines "$(wc -l < "$work/explained")" && agrees "$panel"
 }
 
 # is_untouched FILE: a yes without hands. Nobody has to touch the deck, so the run with hands is the run without, but for the panel.
 is_untouched() {
-    "$program" run "$1" > "$work/untouched" < /dev/null && run "$1" --hands &&
+    "$program" run "$1" > "$work/untouched" < /dev/null && run_of "$1" --hands &&
         [ "$status" = 0 ] && [ -s "$work/untouched" ] && sed 's/, panel o[nf]*$//' "$work/out" | cmp -s - "$work/untouched"
 }
 
 # The examples: a run where the answer is a yes, else the verdict's line alone, or nothing.
 while IFS='|' read -r file want_status want_out want_err; do
     case "$file" in '#'* | '') continue ;; esac
-    run "examples/$file"
+    run_of "examples/$file"
     if [ "$want_status" = 0 ]; then
         judge "examples/$file" is_run "examples/$file"
         judge "examples/$file with hands" is_run "examples/$file" --hands
@@ -98,7 +80,7 @@ done < examples/ANSWERS
 
 # The end of the tape, line by line: in FF the deck falls to STOP between two replies, or does not stop before it has
 # the goal PLAY; its registers stay as they are.
-run examples/fast-forward.csv
+run_of examples/fast-forward.csv
 judge 'five exchanges, the lines' has_lines 6
 judge 'five exchanges, the first line' has_line 1 "$(line_form 8 "$mode" "$mode" "$register" "$register" no)"
 judge 'five exchanges, the second line' has_line 2 "$(line_form 14 FF "$mode" "$register" "$register" no)"
@@ -107,7 +89,7 @@ judge 'five exchanges, the fourth line' has_line 4 "$(line_form 29 PLAY '(FF|STO
 judge 'five exchanges, the fifth line' has_line 5 "$(line_form 38 '(PLAY|STOP)' STOP "$register" "$register" no)"
 judge 'five exchanges, the last line' has_line 6 'yes: records 38, exchanges 5, open 0'
 judge 'five exchanges, the registers' [ "$(sed -n 's/^record.*, in /in /p' "$work/out" | sort -u | wc -l)" = 1 ]
-run examples/fast-forward.csv --hands
+run_of examples/fast-forward.csv --hands
 judge 'five exchanges with hands, the records' \
     [ "$(sed -n 's/^record \([0-9]*\): .*, panel o[nf]*$/\1/p' "$work/out" | tr '\n' ' ')" = '8 14 23 29 38 ' ]
 judge 'five exchanges with hands, the panel' has_line 3 \
@@ -115,22 +97,22 @@ judge 'five exchanges with hands, the panel' has_line 3 \
 
 # No exchange, and records that break a rule after one: the verdict's line alone.
 capture_of ''
-run "$work/capture.csv"
+run_of "$work/capture.csv"
 judge 'no record' is_text 0 'yes: records 0, exchanges 0, open 0' ''
 capture_of 'C 20 01'
-run "$work/capture.csv" --hands
+run_of "$work/capture.csv" --hands
 judge 'an open command' is_text 0 'yes: records 2, exchanges 0, open 2' ''
 capture_of "C 20 01 21 $ack C 20 01 22"
-run "$work/capture.csv"
+run_of "$work/capture.csv"
 judge 'a wrong sum after an exchange' is_text 1 'no at record 9: B2 wrong sum' ''
 capture_of "$remote C 40 10 50 $ack C 60 10 70 D 74 10 00 00 00 05 89 C 60 10 70 D 74 10 01 00 00 05 8A"
-run "$work/capture.csv"
+run_of "$work/capture.csv"
 judge 'no run remains' is_text 1 'no at record 34: M1 no run remains' ''
 
 # A bad row, also after an exchange: nothing is written of a run.
 capture_of "C 20 01 21 $ack"
 echo '2800,C,G1' >> "$work/capture.csv"
-run "$work/capture.csv"
+run_of "$work/capture.csv"
 judge 'a bad row' is_text 3 '' "$(both_lines 'unreadable at row 7: byte')"
 
 # Two of three shifts of a local deck are done: which, is not known before the register is sensed.
@@ -145,7 +127,7 @@ judge 'shifts, the register sensed again' has_line 6 "$(line_form 49 "$mode" "$m
 
 # The dispute, which needs a hand: it moves the IN point while the panel is on.
 capture_of "C 00 0C 0C $ack $remote $preset C 00 1D 1D $ack C 60 10 70 D 74 10 00 00 00 11 95"
-run "$work/capture.csv"
+run_of "$work/capture.csv"
 judge 'the dispute without hands' is_text 1 'no at record 40: M1 no run remains' ''
 judge 'the dispute with hands' is_run "$work/capture.csv" --hands
 judge 'the dispute, the preset' has_line 3 \
@@ -203,20 +185,9 @@ judge 'many stretches, with hands' is_run "$work/long.csv" --hands
 judge 'many stretches, with hands as without' is_untouched "$work/long.csv"
 
 # A pipe that closes while a long text is written ends the program, with two lines on standard error.
-{
-    echo 'time_us,wire,byte'
-    awk 'BEGIN { split("C,20 C,01 C,21 D,10 D,01 D,11", row, " ")
-        for (k = 1; k <= 600000; k++) print 400 * k "," row[(k - 1) % 6 + 1] }'
-} > "$work/long.csv"
-{
-    "$program" run "$work/long.csv" 2> "$work/err"
-    echo $? > "$work/status"
-} | head -n 1 > "$work/out"
-status=$(cat "$work/status")
-judge 'a closed pipe, the status' [ "$status" = 4 ]
-judge 'a closed pipe, the lines on standard error' [ "$(cat "$work/err")" = "$(both_lines 'write fault')" ]
-judge 'a closed pipe, the first line' has_lines 1
-run "$work/long.csv"
+records "$play" 100000 > "$work/long.csv"
+judge_closed_pipe run "$work/long.csv"
+run_of "$work/long.csv"
 judge 'a long text, the status' [ "$status" = 0 ]
 judge 'a long text, its lines' has_lines 100001
 in_order=$(awk -F '[ :]' '/^record/ && $2 == 6 * NR { n++ } END { print n }' "$work/out")

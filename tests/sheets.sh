@@ -14,16 +14,13 @@ sheet() {
     printf '%s\n' "$@" > "$work/$name.toml"
 }
 
-# What stands for blocks: an acknowledgement and a NAK; a deck that shows STOP in REMOTE, and in LOCAL, and one that shows REC; STOP; a
-# preset of IN to 10:00:00:00; senses of IN that answer with that time, and with 00:00:00:00; FULL EE ON and AUTO EDIT; commands of
+# What stands for blocks: a NAK; a deck that shows STOP in REMOTE, and in LOCAL, and one that shows REC; STOP; senses of IN that answer with that time, and with 00:00:00:00; FULL EE ON and AUTO EDIT; commands of
 # group 0 and of group 8.
-ack='D 10 01 11'
 nak='D 11 12 01 24'
-remote='C 61 20 03 84 D 73 20 00 20 00 B3'
-local='C 61 20 03 84 D 73 20 01 20 00 B4'
+stopped='C 61 20 03 84 D 73 20 00 20 00 B3'
+stopped_in_local='C 61 20 03 84 D 73 20 01 20 00 B4'
 shows_rec='C 61 20 03 84 D 73 20 00 02 00 95'
 stop="C 20 00 20 $ack"
-preset="C 44 14 00 00 00 10 68 $ack"
 at_10='C 60 10 70 D 74 10 00 00 00 10 94'
 lost='C 60 10 70 D 74 10 00 00 00 00 84'
 full_ee="C 20 61 81 $ack"
@@ -42,22 +39,20 @@ says() {
 ends() {
     # shellcheck disable=SC2086
     run $1 "$work/capture.csv"
-    judge "$1: $3" has_end "$2" "$3"
-}
-has_end() {
-    [ "$status" = "$1" ] && [ "$(tail -n 1 "$work/out")" = "$2" ] && [ ! -s "$work/err" ]
+    judge "$1: $3" has_verdict "$2" "$3"
 }
 
 # ---- A preset that got lost behind FULL EE ON.
 
 sheet empty ''
+: > "$work/no-bytes.toml"
 sheet ee '[forgets]' '"20 61" = "nothing"  # FULL EE ON'
 sheet next '[forgets]' '"20 62" = "nothing"' '"20 60" = "nothing"'
-lost_point="$remote $preset $full_ee $lost"
+lost_point="$stopped $preset $full_ee $lost"
 capture_of "$lost_point"
 yes='yes: records 36, exchanges 4, open 0'
 no='no at record 36: M1 no run remains'
-for sheet in '' "--deck $work/empty.toml" "--deck $work/next.toml"; do
+for sheet in '' "--deck $work/no-bytes.toml" "--deck $work/empty.toml" "--deck $work/next.toml"; do
     for verb in check explain run why; do ends "$verb $sheet" 0 "$yes"; done
 done
 says "check --deck $work/ee.toml" 1 "$no"
@@ -80,7 +75,7 @@ ends "check --hands --deck $work/ee.toml" 0 "$yes"
 sheet motion '[forgets]' '"20 42" = "motion"  # AUTO EDIT'
 sheet tape '[forgets]' '"20 42" = "tape"'
 sheet registers '[forgets]' '"20 42" = "registers"'
-capture_of "$stop $remote $preset $auto_edit $lost"
+capture_of "$stop $stopped $preset $auto_edit $lost"
 all='yes: records 42, exchanges 5, open 0'
 ends check 0 "$all"
 ends "check --deck $work/motion.toml" 1 'no at record 42: M1 no run remains'
@@ -92,12 +87,12 @@ run explain --deck "$work/registers.toml" "$work/capture.csv"
 judge 'registers alone are forgotten' grep -q '^record 32: 20 42 -> ACK, delay 400, goal STOP, shown STOP, in unknown, out unknown, local no,' "$work/out"
 
 # A command that the deck refused does nothing.
-capture_of "$remote $preset C 20 42 62 $nak $lost"
+capture_of "$stopped $preset C 20 42 62 $nak $lost"
 ends "check --deck $work/tape.toml" 1 'no at record 37: M1 no run remains'
 
 # Commands of group 0 and of group 8, which else forget everything.
 sheet groups '[forgets]' '"00 50" = "nothing"' '"80 00" = "registers"'
-capture_of "$local $preset $in_group_0 $at_10 $in_group_8 $lost"
+capture_of "$stopped_in_local $preset $in_group_0 $at_10 $in_group_8 $lost"
 ends "check --deck $work/groups.toml" 0 'yes: records 52, exchanges 6, open 0'
 run explain --deck "$work/groups.toml" "$work/capture.csv"
 judge 'a named command of group 0' grep -q '^record 26: 00 50 -> ACK, .*, local yes, ' "$work/out"
@@ -106,12 +101,12 @@ run explain "$work/capture.csv"
 judge 'without the sheet' grep -q '^record 26: 00 50 -> ACK, .*, local unknown, ' "$work/out"
 
 # In LOCAL too, such a command is never ignored: IN was read there, and is forgotten.
-capture_of "$local $at_10 $in_group_8 $lost"
+capture_of "$stopped_in_local $at_10 $in_group_8 $lost"
 ends "check --deck $work/groups.toml" 0 'yes: records 36, exchanges 4, open 0'
 
 # Everything: where nobody touches the panel it stays off, and where hands are allowed it may be on after that.
 sheet everything '[forgets]' '"20 42" = "everything"'
-capture_of "C 00 0C 0C $ack $remote $auto_edit $local"
+capture_of "C 00 0C 0C $ack $stopped $auto_edit $stopped_in_local"
 for words in check 'check --hands'; do
     ends "$words --deck $work/motion.toml" 1 'no at record 32: M1 no run remains'
     ends "$words --deck $work/everything.toml" 0 'yes: records 32, exchanges 4, open 0'
@@ -127,7 +122,7 @@ judge 'the panel stays' grep -q '^record 22: 20 42 -> ACK, .*, panel off$' "$wor
 sheet rec '[passes]' 'CUED = ["REC"]'
 sheet jog '[passes]' 'CUED = ["JOG", "JOG", "CUED"]' 'REC = []'
 sheet halt '[passes]' 'STOP = ["REC"]'
-capture_of "$stop $remote C 24 31 00 00 00 10 65 $ack $shows_rec"
+capture_of "$stop $stopped C 24 31 00 00 00 10 65 $ack $shows_rec"
 for words in check "check --deck $work/jog.toml"; do ends "$words" 1 'no at record 36: M1 no run remains'; done
 ends "check --deck $work/rec.toml" 0 'yes: records 36, exchanges 4, open 0'
 # A deck that has come to a halt goes on to the modes on the way to STOP.

@@ -4,14 +4,12 @@
 # line is 'N passed, M failed'.
 set -u
 cd "$(dirname "$0")/.." || exit 1
-top=$PWD
-program=${NINECHECK:-$PWD/crates/ninecheck/out/ninecheck}
-. tests/lib/judge.sh
 . tests/lib/tools.sh
 need_tools sigrok-cli
+. tests/lib/judge.sh
+. tests/lib/program.sh
+top=$PWD
 
-work=$(mktemp -d)
-trap 'rm -rf "$work"' EXIT
 ln -s "$top/convert" "$work/convert"
 
 # in_work COMMAND: runs it in a folder that has the converters beside it.

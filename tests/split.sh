@@ -3,17 +3,14 @@
 # 'N passed, M failed'.
 set -u
 cd "$(dirname "$0")/.." || exit 1
-program=${NINECHECK:-$PWD/crates/ninecheck/out/ninecheck}
-top=$PWD
-
-. tests/lib/judge.sh
-. tests/lib/errors.sh
-. tests/lib/closed.sh
 . tests/lib/tools.sh
 need_tools mawk gawk busybox
-
-work=$(mktemp -d)
-trap 'rm -rf "$work"' EXIT
+. tests/lib/judge.sh
+. tests/lib/program.sh
+. tests/lib/errors.sh
+. tests/lib/blocks.sh
+. tests/lib/closed.sh
+top=$PWD
 
 # split_into TEXT NAME WORDS...: the parts of this capture, with printf's escapes, in a folder of their own.
 split_into() {
@@ -96,11 +93,7 @@ it's a part-002.csv" ]
 done
 
 # A capture of one row more than may be judged, of which each part is: the last byte but one begins an exchange.
-{
-    echo 'time_us,wire,byte'
-    awk 'BEGIN { split("C,20 C,01 C,21 D,10 D,01 D,11", row, " ")
-        for (k = 1; k <= 4000001; k++) printf "%d,%s\n", 400 * k, row[(k - 1) % 6 + 1] }'
-} > "$work/long.csv"
+records "$play" 666667 | head -n 4000002 > "$work/long.csv"
 "$program" check "$work/long.csv" > "$work/out" 2>&1
 judge 'a capture that is too long' [ "$(cat "$work/out")" = "$(both_lines 'unreadable at row 4000001: too many rows')" ]
 head -n 4000001 "$work/long.csv" | "$program" check > "$work/out" 2>&1

@@ -6,8 +6,6 @@ set -u
 cd "$(dirname "$0")/.." || exit 1
 . tests/lib/judge.sh
 
-work=$(mktemp -d)
-trap 'rm -rf "$work"' EXIT
 export TMPDIR=$work
 
 show() {
@@ -67,10 +65,21 @@ PATH=$work/bin bash -c '. tests/lib/tools.sh; need_tools flock one two=second &&
 judge 'tools of which some are installed' is_asked 'one second'
 judge 'tools that are installed' [ "$(cat "$work/out")" = there ]
 
+# users TOOL: the scripts that run it, themselves or by a file of tests/lib/.
+users() {
+    local file
+    for file in $(grep -lE "^[^#]*(^|[ (|'])$1( |$)" tests/*.sh tests/lib/*.sh); do
+        case $file in
+            tests/tools.sh | tests/lib/tools.sh) ;;
+            tests/lib/*) grep -lxF ". $file" tests/*.sh ;;
+            *) echo "$file" ;;
+        esac
+    done | sort -u
+}
+
 # Each script that runs one of these names it.
 for tool in cc make mawk gawk busybox jq mandoc parallel python3 rsvg-convert chromium zsh fish perl gcc clang strace sigrok-cli; do
-    for script in $(grep -lE "^[^#]*(^|[ (|'])$tool( |$)" tests/*.sh); do
-        [ "$script" != tests/tools.sh ] || continue
+    for script in $(users "$tool"); do
         judge "$script names $tool" grep -qE "^need_tools (.* )?$tool( |=|$)" "$script"
     done
 done

@@ -5,8 +5,6 @@ set -u
 cd "$(dirname "$0")/.." || exit 1
 . tests/lib/judge.sh
 
-work=$(mktemp -d)
-trap 'rm -rf "$work"' EXIT
 tree=$work/tree
 mkdir -p "$tree/crates/ninecheck/src" "$tree/a folder" "$work/bin" "$work/temporary"
 cp -r ninecheck ./make "$tree/"

@@ -3,16 +3,13 @@
 # made for other programs with jq. The last line is 'N passed, M failed'.
 set -u
 cd "$(dirname "$0")/.." || exit 1
-program=${NINECHECK:-$PWD/crates/ninecheck/out/ninecheck}
-
-. tests/lib/judge.sh
-. tests/lib/views.sh
-. tests/lib/closed.sh
 . tests/lib/tools.sh
 need_tools mawk gawk busybox jq
+. tests/lib/judge.sh
+. tests/lib/program.sh
+. tests/lib/awk.sh
+. tests/lib/closed.sh
 
-work=$(mktemp -d)
-trap 'rm -rf "$work"' EXIT
 # The views' own files are made here, so that it can be seen that none is left.
 export TMPDIR=$work/held
 mkdir "$TMPDIR"
@@ -43,7 +40,7 @@ stored_texts() {
     while IFS='|' read -r text view words want; do
         case "$text" in '#'* | '') continue ;; esac
         view "$view" "$words" < "examples/views/$text"
-        judge "$awk: $view $words on $text" is_view "examples/views/$want"
+        judge "$awk: $view $words on $text" is_made "examples/views/$want"
     done < examples/views/ANSWERS
 }
 
@@ -54,7 +51,7 @@ short_texts() {
         text_of "$text" > "$work/in"
         text_of "$want" > "$work/want"
         view "$view.awk" '' < "$work/in"
-        judge "$awk: $view: $name" is_view "$work/want"
+        judge "$awk: $view: $name" is_made "$work/want"
     done <<'END'
 a yes|json|yes: records 6, exchanges 1, open 0\n|{"line":"verdict","verdict":"yes","records":6,"exchanges":1,"open":0}\n
 a no|json|no at record 28: M1 no run remains\n|{"line":"verdict","verdict":"no","record":28,"reason":"M1","text":"no run remains"}\n
@@ -299,7 +296,7 @@ more_delays() {
         '        9288 |late reply at record 4, 1 above the limit' 'no at record 4: L1 late reply' > "$work/want"
     "$program" explain examples/late-reply.csv > "$work/in"
     view delays.awk '-v capture=examples/late-reply.csv' < "$work/in"
-    judge "$awk: delays: a late reply alone" is_view "$work/want"
+    judge "$awk: delays: a late reply alone" is_made "$work/want"
 }
 
 # Late replies in 103 parts: PLAY, and its reply after 9,288 microseconds.
@@ -322,7 +319,7 @@ many_late_replies() {
         echo 'breaks 103: records 618, exchanges 0, passed over 618, open 0'
     } > "$work/want"
     view delays.awk "-v capture=$work/late.csv" < "$work/in"
-    judge "$awk: delays: many late replies" is_view "$work/want"
+    judge "$awk: delays: many late replies" is_made "$work/want"
 }
 
 # Two thousand questions with three events among them, the first question one of them, are seven lines.
@@ -350,7 +347,7 @@ polling() {
         'known, of 2002 exchanges: shown 0.0 %, in 70.0 %, out 0.0 %, local 100.0 %, ain 0.0 %, aout 0.0 %' > "$work/want"
     "$program" explain "$work/polling.csv" > "$work/in"
     view digest.awk "-v capture=$work/polling.csv" < "$work/in"
-    judge "$awk: digest: two thousand questions" is_view "$work/want"
+    judge "$awk: digest: two thousand questions" is_made "$work/want"
 }
 
 # Every form of row that the program takes: a byte order mark, quotes, CRLF, empty lines, zeros in front.
@@ -361,21 +358,21 @@ odd_captures() {
     "$program" explain "$work/odd.csv" > "$work/in"
     view digest.awk "-v capture=$work/odd.csv" < "$work/in"
     printf '%s\n' 'record 6, 0.009999 s: PLAY -> ACK' 'yes: records 6, exchanges 1, open 0' "$known" > "$work/want"
-    judge "$awk: digest: a capture with quotes" is_view "$work/want"
+    judge "$awk: digest: a capture with quotes" is_made "$work/want"
     printf 'time_us,wire,byte\n000,C,20\n000,C,01\n0,C,21\n0,D,10\n00,D,01\n0000,D,11\n' > "$work/odd.csv"
     "$program" explain "$work/odd.csv" > "$work/in"
     view digest.awk "-v capture=$work/odd.csv" < "$work/in"
     printf '%s\n' 'record 6, 0.000000 s: PLAY -> ACK' 'yes: records 6, exchanges 1, open 0' "$known" > "$work/want"
-    judge "$awk: digest: a capture at 0" is_view "$work/want"
+    judge "$awk: digest: a capture at 0" is_made "$work/want"
     printf 'time_us,wire,byte\n0,C,20\n0,C,01\n0,C,21\n0,D,10\n0,D,01\n9999,D,11\n999999999999999,C,20\n' > "$work/odd.csv"
     "$program" explain "$work/odd.csv" > "$work/in"
     sed 's/9999,D/999999999999999,D/' "$work/odd.csv" > "$work/late.csv"
     view digest.awk "-v capture=$work/late.csv" < "$work/in"
     printf '%s\n' 'record 6, 999999999.999999 s: PLAY -> ACK' 'yes: records 7, exchanges 1, open 1' "$known" > "$work/want"
-    judge "$awk: digest: a capture of the greatest time" is_view "$work/want"
+    judge "$awk: digest: a capture of the greatest time" is_made "$work/want"
     sed 's/$/\r/' examples/views/session.txt > "$work/in"
     view digest.awk '-v capture=examples/views/session.csv' < "$work/in"
-    judge "$awk: digest: lines that end with CRLF" is_view examples/views/session-digest.txt
+    judge "$awk: digest: lines that end with CRLF" is_made examples/views/session-digest.txt
 }
 
 # What the program prints of each example: the views take it, and jq reads a JSON object in each line. Of a capture that

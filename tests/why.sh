@@ -4,25 +4,17 @@
 # the verdict. The last line is 'N passed, M failed'.
 set -u
 cd "$(dirname "$0")/.." || exit 1
-program=${NINECHECK:-$PWD/crates/ninecheck/out/ninecheck}
 . tests/lib/judge.sh
+. tests/lib/program.sh
 . tests/lib/errors.sh
 . tests/lib/blocks.sh
 
-work=$(mktemp -d)
-trap 'rm -rf "$work"' EXIT
-
-# What stands for blocks: an acknowledgement; a status reply that the deck is in REMOTE; a preset of IN to 10:00:00:00;
-# a sense of IN that answers 11:00:00:00.
-ack='D 10 01 11'
-remote='C 61 20 01 82 D 71 20 00 91'
-preset="C 44 14 00 00 00 10 68 $ack"
+# A sense of IN that answers 11:00:00:00.
 sensed_at_11='C 60 10 70 D 74 10 00 00 00 11 95'
 
 # why FILE [WORDS...]: the program's why of this capture. Its text is left in $work/out.
 why() {
-    "$program" why "$@" > "$work/out" 2> "$work/err" < /dev/null
-    status=$?
+    run why "$@" < /dev/null
 }
 
 # is_why STATUS VERDICT ERROR: the text ends with this verdict, and has the lines before it that a no has.
@@ -79,10 +71,9 @@ is_yes() {
     judge "$1" is_text 0 "yes: $2, open 0" ''
 }
 
-# More that stands for blocks: PLAY; statuses of the mode that fit PLAY, REW, and no mode (the bits of REC and SHUTTLE); an entry
+# More that stands for blocks: statuses of the mode that fit PLAY, REW, and no mode (the bits of REC and SHUTTLE); an entry
 # of IN, and senses that answer 05:00:00:00 and the frame after it; a shift of IN that is refused; LOCAL DISABLE; a command of
 # group 3, which is not listed.
-play="C 20 01 21 $ack"
 shows_play='C 61 20 12 93 D 72 20 01 00 93'
 shows_rew='C 61 20 12 93 D 72 20 08 00 9A'
 shows_no_mode='C 61 20 12 93 D 72 20 02 20 B4'

@@ -1,12 +1,33 @@
-# To be sourced by a script of tests that asks the built program of captures made of blocks. It works in the folder $work.
-# It tests nothing itself, so it stands where the gate does not look for scripts.
+# To be sourced by a script of tests that makes captures of blocks.
 
-# capture_of RECORDS: makes $work/capture.csv of records 400 microseconds apart: wire letters, each before the bytes
-# that it brings.
+# Records of whole exchanges: the acknowledgement of a command; PLAY, and the same with a second reply, which breaks P1; a status that
+# the deck is in REMOTE, and one that it is in LOCAL; a preset of IN to 10:00:00:00; a deck in LOCAL whose IN is 10:00:00:00; a
+# shift of IN by a frame.
+ack='D 10 01 11'
+play="C 20 01 21 $ack"
+second_reply="$play $ack"
+remote='C 61 20 01 82 D 71 20 00 91'
+local='C 61 20 01 82 D 71 20 01 92'
+preset="C 44 14 00 00 00 10 68 $ack"
+local_at_10='C 61 20 04 85 D 74 20 01 20 00 01 B6 C 60 10 70 D 74 10 00 00 00 10 94'
+shift="C 40 18 58 $ack"
+
+# records RECORDS [TIMES]: writes a capture of these records, so often, 400 microseconds apart: wire letters, each before the
+# bytes that it brings. `+N` lets the line rest N microseconds more.
+records() {
+    echo "$1" | awk -v times="${2-1}" '
+        { for (k = 1; k <= NF; k++) word[++words] = $k }
+        END {
+            print "time_us,wire,byte"
+            for (turn = 0; turn < times; turn++)
+                for (k = 1; k <= words; k++)
+                    if (word[k] ~ /^[CD]$/) wire = word[k]
+                    else if (word[k] ~ /^[+]/) time += substr(word[k], 2)
+                    else printf "%.0f,%s,%s\n", time += 400, wire, word[k]
+        }'
+}
+
+# capture_of RECORDS: makes $work/capture.csv of them.
 capture_of() {
-    {
-        echo 'time_us,wire,byte'
-        echo "$1" | tr -s ' ' '\n' |
-            awk '/^$/ { next } /^[CD]$/ { wire = $0; next } { time += 400; print time "," wire "," $0 }'
-    } > "$work/capture.csv"
+    records "$1" > "$work/capture.csv"
 }

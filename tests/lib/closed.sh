@@ -1,5 +1,4 @@
-# To be sourced by a script of tests that has something write into a pipe whose reader has gone. It works in the folder $work. It
-# tests nothing itself, so it stands where the gate does not look for scripts.
+# To be sourced by a script of tests that has something write into a pipe whose reader has gone. It works in the folder $work.
 
 # into_closed COMMAND...: runs it on $work/in, once the reader of its output has closed its end, with the signal of a broken pipe as
 # a system has it. Its status is left in $status, and what it said in $work/err.

@@ -2,6 +2,10 @@
 # first. The list is kept sorted: for each value of local, panel and the four registers (a place, counted from 0) stand
 # the pairs of goal and shown mode. Nothing is taken to be independent of anything else.
 #
+# It is for the answers of the built program on whole captures: verdicts, what `why` names, runs and the fewest moves of a hand.
+# Another plain deck, in `crates/track9_tests`, is for the calls of a tracker, which no command line reaches: all states after each
+# call, on a small day. The two share no line, so that a rule that one misreads shows in the other.
+#
 # Of the times only those matter to which the shifts of a capture can bring a register from, or to, a time that the capture names.
 # They are named here too; every other time is `elsewhere`. As these are further from each time of the capture than all its
 # shifts together reach, a register that is elsewhere stays so until another value is given to it. It got there with a whole

@@ -1,5 +1,4 @@
-# To be sourced by a script of tests that compares what stands on standard error. It tests nothing itself, so it stands
-# where the gate does not look for scripts.
+# To be sourced by a script of tests that compares what stands on standard error.
 
 # both_lines LINE: the first line that is said of a capture or a stream, and the second that belongs to it; nothing where
 # nothing is said.

@@ -1,6 +1,8 @@
-# To be sourced by a script of tests: how it counts what passed and what failed, and what it shows of what failed. It tests
-# nothing itself, so it stands where the gate does not look for scripts.
+# To be sourced by a script of tests: the folder $work that it works in, which goes with it; how it counts what passed and what
+# failed; and what it shows of what failed.
 
+work=$(mktemp -d)
+trap 'rm -rf "$work"' EXIT
 passed=0
 failed=0
 
@@ -25,8 +27,13 @@ show() {
     [ -z "${status-}" ] || echo "status $status"
     local stream
     for stream in out err; do
-        [ ! -s "${work-}/$stream" ] || head -n 20 "$work/$stream"
+        [ ! -s "$work/$stream" ] || head -n 20 "$work/$stream"
     done
+}
+
+# expect NAME STATUS TEXT ERROR: counts whether the last run was this.
+expect() {
+    judge "$1" is_text "${@:2}"
 }
 
 # is_text STATUS TEXT ERROR: the last run ended with this status, and wrote this text to standard output and this to standard

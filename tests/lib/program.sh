@@ -1,13 +1,33 @@
-# To be sourced by a script of tests that runs the built program: where that is, a folder to work in that goes with the script, and
-# how the program is run. It tests nothing itself, so it stands where the gate does not look for scripts.
+# To be sourced by a script of tests that runs the built program, after judge.sh: where that is, and how it is run.
 
 program=${NINECHECK:-$PWD/crates/ninecheck/out/ninecheck}
-work=$(mktemp -d)
-trap 'rm -rf "$work"' EXIT
 
 # run WORDS...: the program with these words, on the standard input that it is given; its streams are left in $work/out and
 # $work/err.
 run() {
     "$program" "$@" > "$work/out" 2> "$work/err"
     status=$?
+}
+
+# has_verdict STATUS LINE: the last run ended with this status and this last line, and said nothing.
+has_verdict() {
+    [ "$status" = "$1" ] && [ "$(tail -n 1 "$work/out")" = "$2" ] && [ ! -s "$work/err" ]
+}
+
+# has_lines N: the last run wrote so many lines.
+has_lines() {
+    [ "$(wc -l < "$work/out")" = "$1" ]
+}
+
+# judge_closed_pipe WORDS...: a pipe that closes after the first line of a long text ends the program, with two lines on standard
+# error. A script that asks this has errors.sh too.
+judge_closed_pipe() {
+    {
+        "$program" "$@" 2> "$work/err"
+        echo $? > "$work/status"
+    } | head -n 1 > "$work/out"
+    status=$(cat "$work/status")
+    judge 'a closed pipe, the status' [ "$status" = 4 ]
+    judge 'a closed pipe, the lines on standard error' [ "$(cat "$work/err")" = "$(both_lines 'write fault')" ]
+    judge 'a closed pipe, the first line' has_lines 1
 }

@@ -1,5 +1,4 @@
-# To be sourced by a script of tests that needs tools which the machine may not have. It tests nothing itself, so it
-# stands where the gate does not look for scripts.
+# To be sourced by a script of tests that needs tools which the machine may not have.
 
 # need_tools TOOL...: installs those of these tools that are not there, each from a Debian package, and ends the script where
 # that can't be done. A tool is NAME, of a package of its name, or NAME=PACKAGE. Scripts that run side by side wait for one

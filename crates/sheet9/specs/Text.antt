@@ -13,7 +13,7 @@ use Rattle.sheet9.specs.declared.refusal.SheetError.TheVariants as error
 abbrev pub is_printable : ℕ → Bool
 is_printable c = nat_le 32 c && nat_lt c 127
 
--- a byte of a key as `escape_ascii` writes it: itself where it is printable ASCII, and else behind a backslash
+-- a byte of a key as `escape_ascii` writes it: itself where it is printable ASCII, but for ', " and \, and else behind a backslash
 abbrev pub escaped : ℕ → List ℕ
 escaped byte = encode_utf8_all (escape_ascii byte)
 

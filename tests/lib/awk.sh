@@ -1,8 +1,8 @@
-# To be sourced by a script of tests that runs a view: what the last run made, whose status is in $status and whose streams are in
-# the folder $work. It tests nothing itself, so it stands where the gate does not look for scripts.
+# To be sourced by a script of tests that runs a view or a converter, after judge.sh: what the last run made, whose status is in
+# $status and whose streams are in the folder $work.
 
-# is_view FILE: the run made this text and said nothing.
-is_view() {
+# is_made FILE: the run made this text and said nothing.
+is_made() {
     [ "$status" = 0 ] && cmp "$work/out" "$1" && [ ! -s "$work/err" ]
 }
 

@@ -1,24 +1,17 @@
-#!/bin/sh
+#!/usr/bin/env bash
 # Measures the exchanges that a Tracker<SpanSet> takes against the same exchanges on a plain Rust set of states.
 # Proves and builds the Rattle side in a workspace of its own, over what earlier checks of the crates kept; from
 # nothing that takes some ten minutes. Each line: what is measured, nanoseconds an exchange in Rattle, in Rust, and
 # their ratio, each the best of five runs in turn.
 set -eu
-here=$(cd "$(dirname "$0")" && pwd)
+cd "$(dirname "$0")/../.."
 work=$(mktemp -d)
 trap 'rm -rf "$work"' EXIT
-for crate in tc25 sets25 capture9 block9 deck9 track9; do
-    mkdir -p "$work/crates"
-    cp -a "$here/../../crates/$crate" "$work/crates/$crate"
-done
-mkdir -p "$work/crates/track9_deck/src"
-cp "$here/rattle/main.rattle" "$work/crates/track9_deck/src/main.rt"
-grep -E '^(tc25|sets25|capture9|block9|deck9|track9):' "$here/../../crates.txt" > "$work/crates.txt"
-echo 'track9_deck: tc25 sets25 block9 deck9 track9' >> "$work/crates.txt"
-(cd "$work/crates/track9_deck" && rt run > "$work/build.log" 2>&1) || { cat "$work/build.log"; exit 1; }
-rustc --edition 2024 -O -o "$work/rust" "$here/rust/main.rs"
+. tests/lib/workspace.sh
+build_over 'tc25 sets25 capture9 block9 deck9 track9' track9_exchanges bench/tracker/rattle/main.rattle
+rustc --edition 2024 -O -o "$work/rust" bench/tracker/rust/main.rs
 for _ in 1 2 3 4 5; do
-    "$work/crates/track9_deck/out/track9_deck" > "$work/rattle.txt"
+    "$program" > "$work/rattle.txt"
     "$work/rust" > "$work/rust.txt"
     paste -d ' ' "$work/rattle.txt" "$work/rust.txt"
 done | awk '
