@@ -1,8 +1,8 @@
 -- What the deck could show when it gave the last of some replies.
-use Rattle.judge9.proofs.Words.{[], ap, AreReached, arith, BreaksAtLast, CouldBe, CouldShow, Drift, Ends, Exchange, KeepsEnds, Profile, has, IsKnowledge}
-use Rattle.judge9.proofs.Words.{Knowledge, length, length-append, List, Mode, ModeSet, Possible, some_end, State, subst, sym, take, take-append_seam, Tracked, true}
-use Rattle.judge9.proofs.Words.{◌-◌, ◌<◌, ◌↔◌, ◌^◌, ◌∙◌, ◌∷◌, ◌≡◌}
-use Rattle.judge9.proofs.LineSteps.{knowledge_same}
+use Rattle.why9.proofs.Words.{[], ap, AreReached, arith, BreaksAtLast, CouldBe, CouldShow, Drift, Ends, Exchange, KeepsEnds, Profile, has, IsKnowledge}
+use Rattle.why9.proofs.Words.{Knowledge, length, length-append, List, Mode, ModeSet, Possible, some_end, State, subst, sym, take, take-append_seam, Tracked, true}
+use Rattle.why9.proofs.Words.{◌-◌, ◌<◌, ◌↔◌, ◌^◌, ◌∙◌, ◌∷◌, ◌≡◌}
+use Rattle.track9.proofs.OneKnowledge.{knowledge_same}
 
 -- all exchanges but the last
 pub but_last : (profile : Profile) (es : List Exchange) (b : BreaksAtLast profile es) → take (length es - 1) es ≡ b.before

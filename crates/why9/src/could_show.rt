@@ -4,18 +4,20 @@ ghost use Rattle.deck9.specs.State.{IsFirst};
 ghost use Rattle.deck9.specs.declared.state.State.{State as AState};
 ghost use Rattle.track9.specs.Tracker.{Possible};
 ghost use Rattle.why9.specs.Contradiction.{BreaksAtLast};
-ghost use Rattle.judge9.specs.WhyVerdict.{CouldShow};
+ghost use Rattle.why9.specs.Shown.{CouldShow};
 
-use crate::following::follow;
 use block9::Exchange;
 use deck9::{Knowledge, ModeSet, Profile};
 use sets25::SpanSet;
 use std::alloc::{AllocError, Global};
 use track9::Tracker;
 
-/// What was known of the deck, and which modes it could show, when it gave the last of these replies: after a run of the
-/// exchanges before it, and a drift.
-pub(crate) fn could_show(
+/// What was known of a deck that is taken for this, and which modes it could show, when it gave the last of these replies: after
+/// a run of the exchanges before it, and a drift.
+///
+/// The exchanges have to be those of a capture up to the first after which no state remains. An error comes where memory is
+/// refused.
+pub fn could_show_for(
     alloc: Global,
     profile: &Profile,
     exchanges: &[Exchange],
@@ -40,7 +42,7 @@ fn shown_after(
     requires profile { tracker.old.profile ≡ profile.now }
     ensures { IfOk result (λ told. CouldShow profile.now exchanges.now told.0 told.1) }
 {
-    follow(tracker, &exchanges[..exchanges.len() - 1])?;
+    tracker.follow(&exchanges[..exchanges.len() - 1])?;
     tracker.drift()?;
     Ok((tracker.knowledge(), tracker.shown()))
 }
