@@ -10,10 +10,8 @@ pub mod PartMeasure
 pub mod PartSteps
 pub mod PartTurns
 pub mod RunSteps
-pub mod ShowLemmas
 pub mod SoFar
 pub mod TellLemmas
 pub mod TextLemmas
 pub mod TurnSteps
-pub mod WayBackSteps
 pub mod Words

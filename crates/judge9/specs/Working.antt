@@ -3,7 +3,6 @@
 pub mod Endings
 pub mod Parts
 pub mod Turn
-pub mod WayBack
 pub use Rattle.block9.specs.Exchange.{Cut}
 pub use Rattle.block9.specs.Pairer.{Refuses, Takes}
 pub use Rattle.block9.specs.declared.exchange.Exchange.{Exchange}

@@ -8,21 +8,15 @@
 //! `report9` writes both.
 #![tactic(auto)]
 
-mod could_show;
 mod ending;
 mod exchanges_judging;
-mod fewest_hands;
-mod following;
 mod judging;
 mod kept;
-mod kept_by_hand;
 pub mod laws;
-mod panel;
 mod parts;
 mod parts_judging;
 mod run_judging;
 mod verdict_judging;
-mod way_back;
 mod why_judging;
 
 pub use deck9::{is_run, is_run_of};

@@ -8,12 +8,11 @@ ghost use Rattle.judge9.specs.Working.Turn.{IsFresh};
 
 use crate::ending::Ending;
 use crate::exchanges_judging::keep_exchanges;
-use crate::fewest_hands::states_of_run;
 use crate::judging::Judging;
-use crate::way_back::Pace;
 use block9::Reason;
 use capture9::{CaptureError, CaptureKind};
 use deck9::{Hands, Profile};
+use run9::{Pace, states_of_run};
 use std::alloc::Global;
 use std::io::Read;
 use tc25::Rate;

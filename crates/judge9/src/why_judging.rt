@@ -12,7 +12,6 @@ ghost use Rattle.judge9.specs.Working.Endings.{IsEnd, JudgesWhy};
 ghost use Rattle.capture9.specs.declared.line_byte.LineByte.{LineByte as ALineByte};
 ghost use Rattle.judge9.specs.Working.Turn.{IsFresh};
 
-use crate::could_show::could_show;
 use crate::ending::Ending;
 use crate::exchanges_judging::keep_exchanges;
 use crate::judging::Judging;
@@ -23,7 +22,7 @@ use std::alloc::{AllocError, Global};
 use std::io::Read;
 use tc25::Rate;
 use verdict9::{EndedExchange, JudgeError, WhyVerdict};
-use why9::contradicting_for;
+use why9::{contradicting_for, could_show_for};
 
 /// Judges the capture that the reader gives, as [`judge`](crate::judge) does, and says why a no is one.
 ///
@@ -184,7 +183,7 @@ pub(crate) fn why_no_run(
     let Ok(places) = contradicting_for(alloc, profile, &exchanges) else {
         return Err(JudgeError::OutOfMemory);
     };
-    let Ok((known, shown)) = could_show(alloc, profile, &exchanges) else {
+    let Ok((known, shown)) = could_show_for(alloc, profile, &exchanges) else {
         return Err(JudgeError::OutOfMemory);
     };
     Ok(WhyVerdict::Contradiction {

@@ -6,11 +6,7 @@ use Rattle.judge9.specs.Working.{Some, State, take, Tracked, Verdict, View, WhyV
 use Rattle.block9.specs.Line.{last_time}
 use Rattle.block9.specs.Pairer.{Paired}
 use Rattle.judge9.specs.WhyVerdict.{judged_of as why_judged_of}
-
--- a tracker keeps exactly the states that the runs of these exchanges end in
-pub record KeepsEnds (p : Profile) (es : List Exchange) (t : Tracked) : Type 0 where
-  pub states : (s : State) → Possible t.states s ↔ Ends p es s
-  pub profile : t.profile ≡ p
+use Rattle.track9.specs.Following.{KeepsEnds}
 
 -- the verdict of a judging with these exchanges
 abbrev pub verdict_at : List Exchange → Ending → Verdict

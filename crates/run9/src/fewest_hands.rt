@@ -2,8 +2,8 @@
 //!
 //! A hand that moves can leave the deck in any state, and without a hand's move a deck whose panel may be on goes on as one
 //! that nobody touches. So such a run is a row of stretches, each of a deck that nobody touches, and a hand moves between
-//! two of them. Each stretch is as long as it can be: a hand moves at the last moment before the exchange that has no run
-//! any more at which the panel may be on. The states of a stretch are found before those of the next, which begins with
+//! two of them. Each stretch is as long as it can be: where an exchange leaves no run, the hand moved at the last place
+//! before it at which the panel may be on. The states of a stretch are found before those of the next, which begins with
 //! what a hand keeps of the last of them.
 //!
 //! The search is not proved to find such a run. What it finds is asked of `is_run_of`, and is handed out where that says that
@@ -11,10 +11,9 @@
 ghost use Rattle.std.specs.Prelude.{◌≡◌, ◌≤◌, IfOk, IfSome, length};
 ghost use Rattle.deck9.specs.Run.{IsRun};
 ghost use Rattle.deck9.specs.declared.state.State.{State as AState};
-ghost use Rattle.judge9.specs.Working.Endings.{KeepsEnds};
+ghost use Rattle.track9.specs.Following.{KeepsEnds};
 ghost use Rattle.track9.specs.Tracker.{Possible};
 
-use crate::following::follow;
 use crate::kept_by_hand::{NOTHING, keep_modes, kept_by_hand};
 use crate::panel::{may_be_on_after, switch_on_for_hand, switch_panels};
 use crate::way_back::{Pace, go_back, states_to};
@@ -26,7 +25,10 @@ use track9::{Start, Tracker};
 
 /// The states after each of these exchanges in a run that ends in a state of this tracker, or, where hands are allowed,
 /// in one with the fewest moves of a hand, which keeps what it can.
-pub(crate) fn states_of_run(
+///
+/// The tracker has to keep the states in which the runs of these exchanges end, and one at least. An error comes where memory
+/// is refused.
+pub fn states_of_run(
     alloc: Global,
     profile: &Profile,
     exchanges: &[Exchange],
@@ -99,14 +101,14 @@ fn length_before_hand(
     ensures { IfOk result (λ o. IfSome o (λ at. at ≤ length exchanges.now)) }
 {
     let mut tracker = Tracker::<SpanSet>::starting(alloc, profile, &NOTHING)?;
-    let length = last_moment(profile, &mut tracker, exchanges);
+    let length = place_of_hand(profile, &mut tracker, exchanges);
     drop(tracker);
     length
 }
 
-/// The last moment for a hand before the exchange at which no state remains of a deck that nobody touches, as the number of
-/// exchanges before it, or `None` where one remains after them all.
-fn last_moment(
+/// Where a hand moves: the last place at which the panel may be on before the exchange that leaves no state of a deck that
+/// nobody touches, as the number of exchanges before it, or `None` where a state remains after them all.
+fn place_of_hand(
     profile: &Profile,
     tracker: &mut Tracker<SpanSet>,
     exchanges: &[Exchange],
@@ -114,13 +116,13 @@ fn last_moment(
     ensures { IfOk result (λ o. IfSome o (λ at. at ≤ length exchanges.now)) }
 {
     let mut may_be_on = true;
-    let mut moment = 0;
+    let mut place = 0;
     for (at, exchange) in exchanges.iter().enumerate() {
         if may_be_on {
-            moment = at;
+            place = at;
         }
         if !tracker.observe(&exchange.command, &exchange.reply)? {
-            return Ok(Some(moment));
+            return Ok(Some(place));
         }
         may_be_on = may_be_on_after(profile, exchange, may_be_on);
     }
@@ -218,7 +220,14 @@ fn put_stretch(
     go_back_untouched(alloc, profile, &kept, exchanges, pace, &mut stretch)?;
     stretch.reverse();
     if let Some(found) = &found {
-        keep_modes(alloc, profile, found, exchanges, stretch.as_mut_slice())?;
+        keep_modes(
+            alloc,
+            profile,
+            &kept,
+            found,
+            exchanges,
+            stretch.as_mut_slice(),
+        )?;
     }
     states.extend_from_slice(stretch.as_slice())
 }
@@ -264,7 +273,7 @@ fn go_back_by(
 ) -> Result<(), AllocError>
     requires { last.old ≡ first.now }
 {
-    follow(last, exchanges)?;
+    last.follow(exchanges)?;
     if !last.remains() {
         return Ok(());
     }

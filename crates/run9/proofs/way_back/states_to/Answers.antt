@@ -1,5 +1,6 @@
-use Rattle.judge9.proofs.way_back.states_to.Goals as goal
-use Rattle.judge9.proofs.WayBackSteps.{back_run, follows_ends}
+use Rattle.run9.proofs.way_back.states_to.Goals as goal
+use Rattle.run9.proofs.WayBackSteps.{back_run}
+use Rattle.run9.proofs.Words.{follows_ends}
 
 pub go_back-found-requires-clause-follows : goal.go_back-found-requires-clause-follows
 go_back-found-requires-clause-follows c =

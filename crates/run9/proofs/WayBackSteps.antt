@@ -1,10 +1,8 @@
--- The way back from the end of a capture to a run of the deck: where exchanges lead, the trackers at marks, and one exchange back.
-use Rattle.judge9.proofs.Words.{[], All, ap, append-nil, append_assoc, AreMarks, AreReached, arith, drop, Ends, ends_more, ends_none, Exchange, Exchanges, FollowsFrom, get_or}
-use Rattle.judge9.proofs.Words.{GoesBack, Profile, inl, inr, IsNextMark, IsRun, KeepsEnds, last_mark, Leads, LeadsFrom, length, length_push, List, Mark, None, Option, place_of, Possible, refl}
-use Rattle.judge9.proofs.Words.{reverse, reverse-append, reverse-reverse, slice_get, slice_range, Some, State, subst, suc, sym, take, take-add, take_all, take_more, Tracked, tracked_by, ℕ}
-use Rattle.judge9.proofs.Words.{◌++◌, ◌+◌, ◌-◌, ◌<◌, ◌↔◌, ◌∙◌, ◌∷◌, ◌≡◌, ◌≤◌}
-use Rattle.judge9.specs.Working.WayBack.{GoesOn}
-use Rattle.deck9.specs.State.{IsFirst}
+-- The way back from the end of a capture to a run of the deck: the trackers at marks, and one exchange back.
+use Rattle.run9.proofs.Words.{[], All, AllPairs, ap, append-nil, append_assoc, AreMarks, arith, drop, Exchange, Exchanges, follows-then, FollowsFrom, from-start, get_or, GoesBack, GoesOn}
+use Rattle.run9.proofs.Words.{inl, inr, IsFirst, IsNextMark, IsRun, last_mark, leads_joined, LeadsFrom, length, length_push, List, Mark, None, Option, place_of, Possible, Profile, refl}
+use Rattle.run9.proofs.Words.{reverse, reverse-append, reverse-reverse, slice_get, slice_range, Some, State, subst, suc, sym, take, take-add, take_all, take_more, Tracked, tracked_by, ℕ}
+use Rattle.run9.proofs.Words.{◌++◌, ◌+◌, ◌-◌, ◌<◌, ◌↔◌, ◌∙◌, ◌∷◌, ◌≡◌, ◌≤◌}
 use Rattle.std.proofs.Math.Seq.{drop-cons}
 use Rattle.std.proofs.lemmas.Bool.{cases_lt, false≢true}
 use Rattle.std.proofs.lemmas.Grind.{common_steps}
@@ -13,103 +11,13 @@ use Rattle.std.proofs.lemmas.List.{drop_all, set_at}
 use Rattle.std.proofs.lemmas.List.Elements.{All-push}
 use Rattle.std.proofs.lemmas.List.Quantifiers.{all_pairs_push}
 use Rattle.std.proofs.lemmas.Option.{get_or_from_slice_get, slice_get-get_or, slice_get_read, slice_get_within}
-use Rattle.std.specs.List.{AllPairs}
 use Rattle.std.specs.Option.{IsSome, option_to_list}
-
--- ---- where exchanges lead
-
-pub leads_on : (profile : Profile) (es : List Exchange) (X Y : State → Type 0) (t : State) → ((s : State) → X s → Y s) → Leads profile X es t → Leads profile Y es t
-leads_on profile [] X Y t f l = f t l
-leads_on profile (e ∷ es) X Y t f l =
-    leads_on profile es (λ u. (s : State) × X s × Exchanges profile e.command e.reply s u) (λ u. (s : State) × Y s × Exchanges profile e.command e.reply s u) t
-    (λ u w. (w.0, f w.0 w.1, w.2)) l
-
--- from where runs end, the exchanges that follow lead to where the runs of all end
-ends_lead : (profile : Profile) (es fs : List Exchange) (t : State) → Ends profile (es ++ fs) t → Leads profile (Ends profile es) fs t
-ends_lead profile es [] t l = subst (λ (x : List Exchange). Ends profile x t) (append-nil es) l
-ends_lead profile es (f ∷ fs) t l =
-    let more = ends_lead profile (es ++ f ∷ []) fs t (subst (λ (x : List Exchange). Ends profile x t) (sym (append_assoc es (f ∷ []) fs)) l) in
-    leads_on profile fs (Ends profile (es ++ f ∷ [])) (λ u. (s : State) × Ends profile es s × Exchanges profile f.command f.reply s u) t (λ u w. (ends_more profile es f).0 u w) more
-
-lead_ends : (profile : Profile) (es fs : List Exchange) (t : State) → Leads profile (Ends profile es) fs t → Ends profile (es ++ fs) t
-lead_ends profile es [] t l = subst (λ (x : List Exchange). Ends profile x t) (sym (append-nil es)) l
-lead_ends profile es (f ∷ fs) t l =
-    let more = leads_on profile fs (λ u. (s : State) × Ends profile es s × Exchanges profile f.command f.reply s u) (Ends profile (es ++ f ∷ [])) t
-    (λ u w. (ends_more profile es f).1 w.0 u w.1 w.2) l in
-    subst (λ (x : List Exchange). Ends profile x t) (append_assoc es (f ∷ []) fs) (lead_ends profile (es ++ f ∷ []) fs t more)
-
--- through some and then others
-leads_joined : (profile : Profile) (X : State → Type 0) (es fs : List Exchange) (t : State) → Leads profile X (es ++ fs) t ↔ Leads profile (Leads profile X es) fs t
-leads_joined profile X [] fs t = (λ l. l, λ l. l)
-leads_joined profile X (e ∷ es) fs t = leads_joined profile (λ u. (s : State) × X s × Exchanges profile e.command e.reply s u) es fs t
-
--- ---- a tracker that follows another one
-
-pub from-start : (t : Tracked) → FollowsFrom t [] t
-from-start t = record { states = λ s. (λ p. p, λ p. p); profile = refl }
-
--- the same of the first exchanges of some
-pub from-next : (first : Tracked) (es : List Exchange) (k : ℕ) (e : Exchange) (old new : Tracked) → k < length es → e ≡ get_or es k e
-    → FollowsFrom first (take k es) old
-    → AreReached (Possible old.states) (Exchanges old.profile e.command e.reply) (Possible new.states) → new.profile ≡ old.profile
-    → (take (k + 1) es ≡ take k es ++ e ∷ []) × FollowsFrom first (take (k + 1) es) new
-from-next first es k e old new low is f reached kept =
-    let more = take_more es k e low ∙ ap (λ (x : Exchange). take k es ++ x ∷ []) (sym is) in
-    let same = rw f.profile at reached in
-    let next : FollowsFrom first (take k es ++ e ∷ []) new = record {
-      states = λ t. (
-        λ p. let s = same.0 t p in (leads_joined first.profile (Possible first.states) (take k es) (e ∷ []) t).1 (s.0, (f.states s.0).0 s.1, s.2),
-        λ p. let s = (leads_joined first.profile (Possible first.states) (take k es) (e ∷ []) t).0 p in same.1 s.0 t ((f.states s.0).1 s.1) s.2,
-      );
-      profile = kept ∙ f.profile;
-    } in
-    (more, rw more next)
-
--- and then others
-follows-then : {first t u : Tracked} (es fs : List Exchange) → FollowsFrom first es t → FollowsFrom t fs u → FollowsFrom first (es ++ fs) u
-follows-then {first = first} {t = t} es fs f g = record {
-  states = λ s. (
-    λ p. (leads_joined first.profile (Possible first.states) es fs s).1
-        (leads_on first.profile fs (Possible t.states) (LeadsFrom first es) s (λ v. (f.states v).0) (rw f.profile at ((g.states s).0 p))),
-    λ l. (g.states s).1 (rw f.profile (leads_on first.profile fs (LeadsFrom first es) (Possible t.states) s (λ v. (f.states v).1)
-        ((leads_joined first.profile (Possible first.states) es fs s).0 l))),
-  );
-  profile = g.profile ∙ f.profile;
-}
 
 -- the first exchanges, cut at a place
 parts : (es : List Exchange) (first at : ℕ) → first ≤ at → take at es ≡ take first es ++ slice_range es first at
 parts es first at low =
     let sum : at ≡ first + (at - first) = omega arith in
     ap (λ n. take n es) sum ∙ take-add first (at - first) es
-
--- ---- from the states before a capture
-
--- a state in which runs end is one to which the exchanges lead
-ends_from : (profile : Profile) (first : Tracked) (es : List Exchange) (t : State) → ((s : State) → Possible first.states s ↔ IsFirst profile s) → first.profile ≡ profile
-    → Ends profile es t → LeadsFrom first es t
-ends_from profile first es t states same ends = rw same
-    (leads_on profile es (Ends profile []) (Possible first.states) t (λ u w. (states u).1 ((ends_none profile u).0 w)) (ends_lead profile [] es t ends))
-
-from_leads : (profile : Profile) (first : Tracked) (es : List Exchange) (t : State) → ((s : State) → Possible first.states s ↔ IsFirst profile s) → first.profile ≡ profile
-    → LeadsFrom first es t → Ends profile es t
-from_leads profile first es t states same leads = lead_ends profile [] es t
-    (leads_on profile es (Possible first.states) (Ends profile []) t (λ u w. (ends_none profile u).1 ((states u).0 w)) (rw same at leads))
-
--- so a tracker that keeps the states in which runs end follows them, and the other way round
-pub follows_ends : (profile : Profile) (first : Tracked) (es : List Exchange) (t : Tracked) → ((s : State) → Possible first.states s ↔ IsFirst profile s) → first.profile ≡ profile
-    → KeepsEnds profile es t → FollowsFrom first es t
-follows_ends profile first es t states same f = record {
-  states = λ s. (λ p. ends_from profile first es s states same ((f.states s).0 p), λ l. (f.states s).1 (from_leads profile first es s states same l));
-  profile = f.profile ∙ sym same;
-}
-
-pub keeps_ends : (profile : Profile) (first : Tracked) (es : List Exchange) (t : Tracked) → ((s : State) → Possible first.states s ↔ IsFirst profile s) → first.profile ≡ profile
-    → FollowsFrom first es t → KeepsEnds profile es t
-keeps_ends profile first es t states same f = record {
-  states = λ s. (λ p. from_leads profile first es s states same ((f.states s).0 p), λ e. (f.states s).1 (ends_from profile first es s states same e));
-  profile = f.profile ∙ same;
-}
 
 -- and going back from one of them finds a run
 pub back_run : (profile : Profile) (first : Tracked) (es : List Exchange) (t u : State) (new : List State) → ((s : State) → Possible first.states s ↔ IsFirst profile s)

@@ -1,23 +1,15 @@
--- The way back from the end of a capture to a run of the deck.
-use Rattle.std.specs.Prelude.{◌++◌, ◌-◌, ◌<◌, ◌↔◌, ◌∷◌, ◌≡◌, ◌≤◌}
-use Rattle.std.specs.List.{AllPairs}
-use Rattle.judge9.specs.Working.{[], All, Exchange, Exchanges, Profile, IsRunFrom, last_state, length, List, None, Option, Possible, reverse, slice_get, Some, State, take, Tracked, ℕ}
-use Rattle.judge9.specs.declared.way_back.Mark.{Mark}
+-- What the clauses of the way back cite, from the end of a capture to a run of the deck.
+use Rattle.std.specs.Prelude.{[], length, List, None, Option, reverse, slice_get, Some, take, ℕ, ◌++◌, ◌-◌, ◌<◌, ◌∷◌, ◌≡◌, ◌≤◌}
+use Rattle.std.specs.List.{All, AllPairs}
 use Rattle.std.proofs.Common.{slice_range}
-
--- from one of the states X these exchanges lead to the state t
-abbrev pub Leads : Profile → (State → Type 0) → List Exchange → State → Type 0
-Leads profile X [] t = X t
-Leads profile X (e ∷ es) t = Leads profile (λ u. (s : State) × X s × Exchanges profile e.command e.reply s u) es t
-
--- from one of the states that the first tracker keeps
-abbrev pub LeadsFrom : Tracked → List Exchange → State → Type 0
-LeadsFrom first es t = Leads first.profile (Possible first.states) es t
-
--- a tracker keeps exactly those to which these exchanges lead
-pub record FollowsFrom (first : Tracked) (es : List Exchange) (t : Tracked) : Type 0 where
-  pub states : (s : State) → Possible t.states s ↔ LeadsFrom first es s
-  pub profile : t.profile ≡ first.profile
+use Rattle.block9.specs.declared.exchange.Exchange.{Exchange}
+use Rattle.deck9.specs.declared.profile.Profile.{Profile}
+use Rattle.deck9.specs.declared.state.State.{State}
+use Rattle.deck9.specs.Run.{IsRunFrom, last_state}
+use Rattle.deck9.specs.Step.{Exchanges}
+use Rattle.track9.specs.Following.{FollowsFrom}
+use Rattle.track9.specs.Tracker.{Possible, Tracked}
+use Rattle.run9.specs.declared.way_back.Mark.{Mark}
 
 -- the state before the exchange is one that the tracker keeps, and the exchange leads from it to this state
 abbrev pub ComesFrom : Tracked → Exchange → State → State → Type 0

@@ -1,8 +1,8 @@
 -- Each turn puts a mark further on: a copy of the last one that goes on.
-use Rattle.judge9.proofs.Words.{arith, AreMarks, last_mark, place_of, ◌+◌, ◌≡◌}
-use Rattle.judge9.specs.declared.way_back.Mark.{Mark}
-use Rattle.judge9.proofs.WayBackSteps.{went_on}
-use Rattle.judge9.proofs.way_back.lead_up.Goals as goal
+use Rattle.run9.proofs.Words.{arith, AreMarks, last_mark, place_of, ◌+◌, ◌≡◌}
+use Rattle.run9.specs.declared.way_back.Mark.{Mark}
+use Rattle.run9.proofs.WayBackSteps.{went_on}
+use Rattle.run9.proofs.way_back.lead_up.Goals as goal
 
 further : (c : goal.In_ok-go_on) → AreMarks c.args.first.now c.args.exchanges.now (c.args.at + 1) c.go_on.new.marks.items
     × (place_of (last_mark c.go_on.new.marks.items) ≡ c.last_place-place.result + c.step.result)

@@ -7,12 +7,11 @@ ghost use Rattle.std.specs.Prelude.{◌≡◌, ◌<◌, ◌≤◌, ◌+◌, ◌+
 ghost use Rattle.deck9.specs.Run.{IsRun};
 ghost use Rattle.deck9.specs.Step.{Exchanges};
 ghost use Rattle.deck9.specs.declared.state.State.{State as AState};
-ghost use Rattle.judge9.specs.Working.Endings.{KeepsEnds};
-ghost use Rattle.judge9.specs.Working.WayBack.{CanComeFrom, ComesFrom, AreMarks, FollowsFrom, GoesBack, GoesOn, LeadsFrom, last_mark, place_of, tracked_by};
-ghost use Rattle.judge9.specs.declared.way_back.Mark.{Mark as AMark};
+ghost use Rattle.run9.specs.Working.{CanComeFrom, ComesFrom, AreMarks, GoesBack, GoesOn, last_mark, place_of, tracked_by};
+ghost use Rattle.run9.specs.declared.way_back.Mark.{Mark as AMark};
+ghost use Rattle.track9.specs.Following.{FollowsFrom, KeepsEnds, LeadsFrom};
 ghost use Rattle.track9.specs.Tracker.{Possible};
 
-use crate::following::follow;
 use block9::Exchange;
 use deck9::{Profile, State};
 use sets25::{SharedSet, SpanSet, TimeSet};
@@ -28,7 +27,7 @@ pub(crate) struct Mark<'d> {
 
 /// How close marks are put. It bears on speed and memory alone.
 #[derive(Clone, Copy)]
-pub(crate) struct Pace {
+pub struct Pace {
     /// Through so many exchanges there is a mark before each.
     dense: usize,
     /// Elsewhere the next mark comes so many exchanges on, but at most halfway to where marks are dense.
@@ -39,7 +38,7 @@ impl Pace {
     /// How close marks are put before so many exchanges, where a tracker keeps at most so many spans of times.
     ///
     /// Marks that are as far apart as each is heavy take together as much memory as the exchanges do, and so do dense ones.
-    pub(crate) fn of(exchanges: usize, spans: usize) -> Pace {
+    pub fn of(exchanges: usize, spans: usize) -> Pace {
         /// What a tracker takes beside its times, as spans of 8 bytes.
         const BARE: usize = 128;
         /// What dense marks may take however few the exchanges are, as spans.
@@ -193,7 +192,7 @@ fn go_on(marks: &mut Vec<Mark>, exchanges: &[Exchange]) -> Result<(), AllocError
     let Some(mark) = marks.last_mut() else {
         return Ok(());
     };
-    follow(&mut mark.tracker, exchanges)
+    mark.tracker.follow(exchanges)
 }
 
 /// Puts the state after an exchange after the others, and answers one that it may come from: one of the last tracker that is

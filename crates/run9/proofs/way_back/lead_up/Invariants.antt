@@ -1,5 +1,5 @@
-use Rattle.judge9.proofs.Words.{AreMarks, last_mark, place_of, ◌+◌, ◌-◌}
-use Rattle.judge9.proofs.way_back.lead_up.Given as goal
+use Rattle.run9.proofs.Words.{AreMarks, last_mark, place_of, ◌+◌, ◌-◌}
+use Rattle.run9.proofs.way_back.lead_up.Given as goal
 
 abbrev pub invariant-loop-pace : goal.invariant-loop-pace
 invariant-loop-pace l = AreMarks l.first l.exchanges (l.at + 1) l.marks.items

@@ -1,6 +1,6 @@
 //! What a hand keeps of the state in which it finds the deck: as much as the exchanges after its move allow.
 //!
-//! The search is not proved: what is found with it is asked of `is_run`.
+//! The search is not proved: `is_run_of` is asked whether what it finds is a run.
 
 use block9::Exchange;
 use deck9::{Profile, State};
@@ -20,7 +20,8 @@ enum Field {
     Shown,
 }
 
-/// In the order in which they are kept. Local comes first, since what a deck in LOCAL may ignore lets the others be.
+/// In the order in which they are kept. Local comes first: in LOCAL the deck may ignore the commands that would change the
+/// other fields.
 const FIELDS: [Field; 7] = [
     Field::Local,
     Field::In,
@@ -98,11 +99,12 @@ fn goes_on(tracker: &mut Tracker<SpanSet>, exchanges: &[Exchange]) -> Result<boo
     Ok(true)
 }
 
-/// Lets the deck go on from the hand's move as late as it can: the first of the states after it keeps the goal and the shown
-/// mode that the hand found, or one of them, where the next state may come from it as well.
+/// Lets the deck drift as little as it can after the hand's move, of which it kept this: the first of the states after it
+/// gets the goal and the shown mode that the hand found, or one of them, where the next state may come from it as well.
 pub(crate) fn keep_modes(
     alloc: Global,
     profile: &Profile,
+    kept: &Start,
     found: &State,
     exchanges: &[Exchange],
     states: &mut [State],
@@ -116,23 +118,25 @@ pub(crate) fn keep_modes(
         (first.goal, found.shown),
     ];
     for (goal, shown) in modes {
-        let kept = State {
+        let tried = State {
             goal,
             shown,
             ..first
         };
-        if may_come_first(alloc, profile, &kept, exchanges, states)? {
-            put_first(states, kept);
+        if may_come_first(alloc, profile, kept, &tried, exchanges, states)? {
+            put_first(states, tried);
             return Ok(());
         }
     }
     Ok(())
 }
 
-/// Whether the first exchange can leave an untouched deck in this state, and the next one then in the second of the states.
+/// Whether the first exchange can leave an untouched deck, of which this was kept before it, in the state `first`, and the next
+/// one then in the second of the states.
 fn may_come_first(
     alloc: Global,
     profile: &Profile,
+    kept: &Start,
     first: &State,
     exchanges: &[Exchange],
     states: &[State],
@@ -140,7 +144,7 @@ fn may_come_first(
     let Some((exchange, rest)) = exchanges.split_first() else {
         return Ok(false);
     };
-    if !leads_to(alloc, profile, &NOTHING, exchange, first)? {
+    if !leads_to(alloc, profile, kept, exchange, first)? {
         return Ok(false);
     }
     match (rest.first(), states.get(1)) {
