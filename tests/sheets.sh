@@ -128,6 +128,15 @@ ends "check --deck $work/rec.toml" 0 'yes: records 36, exchanges 4, open 0'
 # A deck that has come to a halt goes on to the modes on the way to STOP.
 ends "check --deck $work/halt.toml" 0 'yes: records 36, exchanges 4, open 0'
 
+# A hand sets IN and no more: a deck at goal JOG that shows STOP comes to show JOG, halts, and passes to CUED by itself.
+sheet cued '[passes]' 'STOP = ["CUED"]'
+capture_of "C 61 20 04 85 D 74 20 00 20 00 00 B4 C 21 21 40 82 $ack C 61 20 04 85 D 74 20 00 00 01 01 96 C 61 20 11 92 D 71 20 20 B1"
+says "run --hands --deck $work/cued.toml" 0 "record 11: goal STOP, shown STOP, in clear, out clear, local no, ain clear, aout clear, panel on
+record 18: goal JOG, shown STOP, in clear, out clear, local no, ain clear, aout clear, panel on
+record 29: goal STOP, shown CUED, in 00:00:00:00, out clear, local no, ain clear, aout clear, panel on
+record 37: goal STOP, shown STOP, in 00:00:00:00, out clear, local no, ain clear, aout clear, panel on
+yes: records 37, exchanges 4, open 0"
+
 # ---- Sheets that are refused.
 
 # refused WHAT LINES...: this is wrong with a sheet of these lines, and the capture is not read.

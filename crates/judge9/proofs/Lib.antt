@@ -12,11 +12,9 @@ pub mod PartSteps
 pub mod PartTurns
 pub mod PutSteps
 pub mod RunSteps
-pub mod ShowLemmas
 pub mod SoFar
 pub mod TellLemmas
 pub mod TextLemmas
 pub mod TurnSteps
-pub mod WayBackSteps
 pub mod WhySteps
 pub mod Words

@@ -1,7 +1,7 @@
 -- The lines of one exchange more.
 use Rattle.judge9.proofs.Words.{Rate, records_in, [], ap, append-nil, append_assoc, append_known, Appends, Appends-trans, AreLines, arith, Cut, Ends, Exchange, KeepsEnds, Profile, IsExchange}
-use Rattle.judge9.proofs.Words.{IsExplained, IsKnowledge, IsKnown, IsKnownEntry, IsLineOf, Knowledge, Known, KnownEntry, length, length-append, length-map, line_of_exchange}
-use Rattle.judge9.proofs.Words.{LineByte, List, None, Option, Possible, records_of, refl, Register, Some, State, subst, sym, Tracked, View, ℕ, ◌++◌, ◌+◌, ◌↔◌, ◌∙◌, ◌∷◌, ◌≡◌}
+use Rattle.judge9.proofs.Words.{IsExplained, IsKnowledge, IsLineOf, Knowledge, knowledge_same, length, length-append, length-map, line_of_exchange}
+use Rattle.judge9.proofs.Words.{LineByte, List, None, Option, Possible, records_of, refl, Some, subst, sym, Tracked, View, ℕ, ◌++◌, ◌+◌, ◌↔◌, ◌∙◌, ◌∷◌, ◌≡◌}
 
 -- ---- how many records exchanges have
 
@@ -19,20 +19,6 @@ exchange_len rate front e h =
 pub cut_len : (rate : Rate) (p : List LineByte) (es : List Exchange) (t : List LineByte) → Cut rate p es t → length p ≡ records_in es + length t
 cut_len rate p [] t h = omega (arith, ap length h.0)
 cut_len rate p (e ∷ es) t h = omega (arith, ap length h.2, length-append h.0 h.1, exchange_len rate h.0 e h.3, cut_len rate h.1 es t h.4)
-
--- ---- the same states, the same knowledge
-
-known_same : {A : Type 0} (X Y : State → Type 0) (field : State → A) (k : Known A) → ((s : State) → X s ↔ Y s) → IsKnown X field k → IsKnown Y field k
-known_same X Y field (Known.Is v) same h = λ s y. h s ((same s).1 y)
-known_same X Y field Known.Unknown same h = (h.0, h.1, (same h.0).0 h.2, (same h.1).0 h.3, h.4)
-
-entry_same : (X Y : State → Type 0) (r : Register) (k : KnownEntry) → ((s : State) → X s ↔ Y s) → IsKnownEntry X r k → IsKnownEntry Y r k
-entry_same X Y r KnownEntry.SetSomewhere same h = (λ s y. h.0 s ((same s).1 y), (h.1.0, h.1.1, (same h.1.0).0 h.1.2, (same h.1.1).0 h.1.3, h.1.4))
-entry_same X Y r KnownEntry.Unknown same h = (h.0, h.1, (same h.0).0 h.2, (same h.1).0 h.3, h.4, h.5)
-entry_same X Y r k same h = λ s y. h s ((same s).1 y)
-
-pub knowledge_same : (X Y : State → Type 0) (k : Knowledge) → ((s : State) → X s ↔ Y s) → IsKnowledge X k → IsKnowledge Y k
-knowledge_same X Y k same h = search (known_same, entry_same)
 
 -- ---- a line more
 

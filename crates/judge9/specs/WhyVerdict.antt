@@ -1,23 +1,15 @@
 -- What a result of a judging tells that says why no run remains: a verdict, and which replies contradict one another.
-use Rattle.std.specs.Prelude.{ℕ, ◌+◌, ◌≡◌, ◌≢◌, ◌<◌, ◌^◌, ◌↔◌, ⊤, true, Some, List, [], ◌∷◌, ◌++◌, take, Option, Result, Ok, Err}
+use Rattle.std.specs.Prelude.{ℕ, ◌+◌, ◌≡◌, ◌≢◌, ◌↔◌, ⊤, Some, [], take, Option, Result, Ok, Err}
 use Rattle.std.specs.Option.{IfNone, IfSome}
 use Rattle.std.specs.Result.{IfOk}
 use Rattle.capture9.specs.Rows.{Rows}
 use Rattle.capture9.specs.SomeText.{IsOfSomeText}
 use Rattle.block9.specs.declared.reason.Reason.TheVariants.{NoRun}
-use Rattle.block9.specs.declared.exchange.Exchange.{Exchange}
 use Rattle.block9.specs.Exchange.{Cut}
 use Rattle.block9.specs.Pairer.{IsOpenAfter}
-use Rattle.deck9.specs.declared.mode.Mode.{Mode}
 use Rattle.deck9.specs.declared.profile.Profile.{Profile}
-use Rattle.deck9.specs.declared.state.State.{State}
-use Rattle.deck9.specs.Drift.{Drift}
-use Rattle.deck9.specs.Run.{Ends}
-use Rattle.deck9.specs.declared.knowledge.Knowledge.{Knowledge}
-use Rattle.deck9.specs.declared.mode_set.ModeSet.{ModeSet}
-use Rattle.deck9.specs.Knowledge.{IsKnowledge}
-use Rattle.deck9.specs.ModeSet.{has}
 use Rattle.why9.specs.Contradiction.{IsContradiction}
+use Rattle.why9.specs.Shown.{CouldShow}
 use Rattle.verdict9.specs.declared.error.JudgeError.{JudgeError}
 use Rattle.verdict9.specs.declared.verdict.Verdict.{Verdict}
 use Rattle.verdict9.specs.declared.verdict.Verdict.TheVariants as verdict
@@ -42,19 +34,6 @@ moved past (why.Contradiction at exchanges places known shown) = why.Contradicti
 abbrev pub judged_of : Result WhyVerdict JudgeError → Result Verdict JudgeError
 judged_of (Ok v) = Ok (verdict_of v)
 judged_of (Err e) = Err e
-
--- after these exchanges and a drift the deck could be in this state
-abbrev pub CouldBe : Profile → List Exchange → State → Type 0
-CouldBe profile exchanges t = (s : State) × Ends profile exchanges s × Drift profile s t
-
--- what was known of the deck when it gave the last of these replies, and the modes that it could then show, the ten alone
-pub record CouldShow (profile : Profile) (exchanges : List Exchange) (known : Knowledge) (shown : ModeSet) : Type 0 where
-  pub before : List Exchange
-  pub last : Exchange
-  pub split : exchanges ≡ before ++ last ∷ []
-  pub knows : IsKnowledge (CouldBe profile before) known
-  pub ten : shown.0 < 2 ^ 10
-  pub shows : (m : Mode) → (has shown.0 m ≡ true) ↔ ((s : State) × CouldBe profile before s × (s.shown ≡ m))
 
 -- where a rule of pairing is broken, the record is the one that breaks it, with the records before it that are open, what is
 -- open in them, and, where none is, the exchange before; where no run remains, the exchanges are those that the records up to the

@@ -4,7 +4,6 @@ pub mod Endings
 pub mod Part
 pub mod Parts
 pub mod Turns
-pub mod WayBack
 pub use Rattle.block9.specs.Exchange.{Cut}
 pub use Rattle.block9.specs.Pairer.{Paired, Refuses, Takes}
 pub use Rattle.block9.specs.declared.exchange.Exchange.{Exchange}

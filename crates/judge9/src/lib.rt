@@ -9,21 +9,15 @@
 #![tactic(auto)]
 
 mod at_25;
-mod could_show;
-mod fewest_hands;
 mod follower;
-mod following;
 mod judging;
-mod kept_by_hand;
 pub mod laws;
-mod panel;
 mod part;
 mod parts;
 mod parts_judging;
 mod run_judging;
 mod turn;
 mod verdict_judging;
-mod way_back;
 mod why;
 mod why_judging;
 

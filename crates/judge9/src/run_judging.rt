@@ -6,12 +6,11 @@ ghost use Rattle.judge9.specs.RunVerdict.{IsJudgedRun, judged_of};
 ghost use Rattle.judge9.specs.Working.Endings.{JudgesRun};
 ghost use Rattle.judge9.specs.Working.Turns.{IsFresh};
 
-use crate::fewest_hands::states_of_run;
 use crate::judging::Judging;
 use crate::part::{PartLog, judge_first_part};
-use crate::way_back::Pace;
 use capture9::{CaptureError, CaptureKind};
 use deck9::Profile;
+use run9::{Pace, states_of_run};
 use std::alloc::Global;
 use std::io::{self, Read};
 use verdict9::{JudgeError, RunVerdict, Telling};

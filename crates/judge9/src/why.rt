@@ -9,7 +9,6 @@ ghost use Rattle.judge9.specs.Working.Parts.{SaysNoRun, SaysWhy};
 ghost use Rattle.judge9.specs.Working.Endings.{IsEnd};
 ghost use Rattle.capture9.specs.declared.line_byte.LineByte.{LineByte as ALineByte};
 
-use crate::could_show::could_show;
 use crate::judging::Judging;
 use crate::part::PartLog;
 use crate::turn::Break;
@@ -19,7 +18,7 @@ use deck9::Profile;
 use std::alloc::{AllocError, Global};
 use std::io::Read;
 use verdict9::{EndedExchange, WhyVerdict};
-use why9::contradicting_for;
+use why9::{contradicting_for, could_show_for};
 
 /// Why a record broke a rule, the one that was read last, after the exchanges of its part that were kept. An error comes where
 /// memory is refused.
@@ -89,7 +88,7 @@ fn why_no_run(
     let mut exchanges = before;
     exchanges.push(last.copy())?;
     let places = contradicting_for(alloc, profile, &exchanges)?;
-    let (known, shown) = could_show(alloc, profile, &exchanges)?;
+    let (known, shown) = could_show_for(alloc, profile, &exchanges)?;
     Ok(WhyVerdict::Contradiction {
         at,
         exchanges,

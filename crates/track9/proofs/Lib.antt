@@ -1,6 +1,7 @@
 pub mod BeforeLemmas
 pub mod EffectLemmas
 pub mod EntryLemmas
+pub mod FollowLemmas
 pub mod KnownLemmas
 pub mod OneKnowledge
 pub mod PanelLemmas

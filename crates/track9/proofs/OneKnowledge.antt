@@ -1,7 +1,9 @@
--- At most one thing is known of states, of which there is one.
+-- At most one thing is known of states, of which there is one; and of the same states the same.
 use Rattle.track9.proofs.Words.{Bool, Ends, Exchange, Profile, HasRun, IsKnowledge, IsKnown, IsKnownEntry, Knowledge, Known, KnownEntry, List, Mode, RegAudioIn}
-use Rattle.track9.proofs.Words.{RegAudioOut, RegIn, Register, RegOut, some_end, State, ◌≡◌}
+use Rattle.track9.proofs.Words.{RegAudioOut, RegIn, Register, RegOut, some_end, State, ◌↔◌, ◌≡◌}
 use Rattle.std.proofs.Common.{arith}
+use Rattle.deck9.specs.declared.knowledge.Known.TheVariants as known
+use Rattle.deck9.specs.declared.knowledge.KnownEntry.TheVariants as entry
 
 known_once : {A : Type 0} (X : State → Type 0) (field : State → A) (a b : Known A) → ((s : State) × X s) → IsKnown X field a → IsKnown X field b → a ≡ b
 known_once X field a b some h k = grind arith
@@ -30,3 +32,17 @@ known_of_ends p es k l run a b = by (λ q r s t u v w x. record { goal = q; show
       entry_once X RegAudioIn k.ains l.ains some a.ains b.ains,
       entry_once X RegAudioOut k.aouts l.aouts some a.aouts b.aouts,
     )
+
+-- ---- the same states, the same knowledge
+
+known_same : {A : Type 0} (X Y : State → Type 0) (field : State → A) (k : Known A) → ((s : State) → X s ↔ Y s) → IsKnown X field k → IsKnown Y field k
+known_same X Y field (known.Is v) same h = λ s y. h s ((same s).1 y)
+known_same X Y field known.Unknown same h = (h.0, h.1, (same h.0).0 h.2, (same h.1).0 h.3, h.4)
+
+entry_same : (X Y : State → Type 0) (r : Register) (k : KnownEntry) → ((s : State) → X s ↔ Y s) → IsKnownEntry X r k → IsKnownEntry Y r k
+entry_same X Y r entry.SetSomewhere same h = (λ s y. h.0 s ((same s).1 y), (h.1.0, h.1.1, (same h.1.0).0 h.1.2, (same h.1.1).0 h.1.3, h.1.4))
+entry_same X Y r entry.Unknown same h = (h.0, h.1, (same h.0).0 h.2, (same h.1).0 h.3, h.4, h.5)
+entry_same X Y r k same h = λ s y. h s ((same s).1 y)
+
+pub knowledge_same : (X Y : State → Type 0) (k : Knowledge) → ((s : State) → X s ↔ Y s) → IsKnowledge X k → IsKnowledge Y k
+knowledge_same X Y k same h = search (known_same, entry_same)

@@ -4,7 +4,7 @@ pub use Rattle.deck9.proofs.DriftLemmas.{drift_from_pairs, pairs_from_drift, sam
 pub use Rattle.deck9.proofs.ModeLemmas.{is_mode-same}
 pub use Rattle.deck9.proofs.ModeSetLemmas.{all_has, any_mode, find_mode, has-and, has-or, just_has, just_mode, mode_just, mode_self, mode_some, nothing_has}
 pub use Rattle.deck9.proofs.ModeSetLemmas.{of_modes_has, some_mode}
-pub use Rattle.deck9.proofs.RunLemmas.{some_end}
+pub use Rattle.deck9.proofs.RunLemmas.{ends_more, ends_none, some_end}
 pub use Rattle.deck9.proofs.RunSearch.{read_panel}
 pub use Rattle.deck9.specs.Mode.{every_mode}
 pub use Rattle.deck9.specs.Knowledge.{IsKnowledge, IsKnown, IsKnownEntry}
@@ -16,12 +16,13 @@ pub use Rattle.sets25.proofs.CountLemmas.{span_count-in_day}
 pub use Rattle.sets25.proofs.TimesLemmas.{contains-insert_nat, contains-items_nat, contains-just, image_from, image_to, same_test, same_times, with_time-insert, with_time-same, kept_of}
 pub use Rattle.sets25.specs.Working.TimesWhere.{contains-every_time}
 pub use Rattle.std.proofs.Common.{[], ap, arith, bit_and, bit_or, Bool, eqb, false, IfNone, IfSome, if◌then◌else◌, inl, inr, IsTrue, List, max, nat_eq, nat_lt, None, not, Option, option_map}
-pub use Rattle.std.proofs.Common.{refl, rules, Some, subst, sym, take, true, ℕ, ◌&&◌, ◌+◌, ◌<◌, ◌==◌, ◌||◌, ◌↔◌, ◌∙◌, ◌∷◌, ◌≡◌, ◌≢◌, ◌≤◌, ◌⊎◌}
+pub use Rattle.std.proofs.Common.{get_or, length, refl, rules, Some, subst, sym, take, true, ℕ, ◌&&◌, ◌++◌, ◌+◌, ◌<◌, ◌==◌, ◌||◌, ◌↔◌, ◌∙◌, ◌∷◌, ◌≡◌, ◌≢◌, ◌≤◌, ◌⊎◌}
 pub use Rattle.std.proofs.Math.Bool.{and-false, and-true, or-false, or-true, or_assoc}
 pub use Rattle.std.proofs.Math.Nat.{max-zero}
 pub use Rattle.std.proofs.lemmas.Bool.{and_from, and_parts, both_ways, cond_both, eq-eqb, eqb-true, false_from_ne_true, false≢true, ltb-true, not-true, or_cases, or_left}
 pub use Rattle.std.proofs.lemmas.Bool.{or_right, true_from_ne_false}
 pub use Rattle.std.proofs.lemmas.Bool.Decides.{nat_tests}
+pub use Rattle.std.proofs.lemmas.List.{append-nil, append_assoc, take_all, take_more}
 pub use Rattle.std.proofs.lemmas.Option.{IfSome_then}
 pub use Rattle.std.proofs.lemmas.Result.{on_ok_weaker}
 pub use Rattle.std.specs.Cmp.{nat_cmp_total}
@@ -52,6 +53,7 @@ pub use Rattle.track9.specs.Working.Parts.{with_pairs}
 pub use Rattle.track9.specs.Working.States.{after_panel, all_drifted, all_forgotten, all_or_none, AllLeadOn, AreBelow, AreFew, AreWhole, counted, counts_after, DoesOrNot, DriftsAndGoes, effect_taken}
 pub use Rattle.track9.specs.Working.States.{either_panel, first_on, first_states, Follows, FollowsDrift, hands_by, hands_of, HasEffect, InTwo, is_panel_live, is_wide, IsKept}
 pub use Rattle.track9.specs.Working.States.{LeadsOn, map_two, on_two, motion_forgotten, panel_passed, part_of, profile_of, rate_for, rate_in, some_state, some_two, switched, Taken, StepOrPass, two_changed, two_drifted, two_gone, untouched}
+pub use Rattle.track9.specs.Following.{FollowsFrom, KeepsEnds, Leads, LeadsFrom}
 pub use Rattle.track9.specs.Start.{StartsFrom}
 pub use Rattle.track9.specs.Working.Starts.{entries_known, modes_known, pairs_of, part_from, part_known, shown_if, states_from, two_from}
 pub use Rattle.track9.specs.declared.start.Start.{Start}

@@ -1,3 +1,4 @@
+pub mod Following
 pub mod Frugal
 pub mod Presets
 pub mod Start

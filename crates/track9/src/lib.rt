@@ -4,7 +4,9 @@
 //! listed, exactly the states in which some run of the deck that gives these replies could have left it.
 #![tactic(auto)]
 
+mod at_25;
 mod entries;
+mod following;
 mod halves;
 pub mod laws;
 mod own;

@@ -55,24 +55,8 @@ impl<'a, S: TimeSet> Model for Tracker<'a, S> {
 }
 
 impl<'a, S: TimeSet> Tracker<'a, S> {
-    /// A tracker before the first exchange: every state is possible, but that the panel is off, always, where
-    /// hands are not allowed (this profile's choice: nothing is known before a capture).
-    ///
-    /// An error comes where memory is refused.
-    pub fn new(alloc: Global, hands: Hands) -> Result<Self, AllocError>
-        ensures states { IfOk result (λ t. (s : AState) → Possible t.states s ↔ IsFirst (record { rate = Rate.Fps25; hands = hands; deck = None }) s) }
-        ensures profile { IfOk result (λ t. t.profile ≡ record { rate = Rate.Fps25; hands = hands; deck = None }) }
-        ensures presets { IfOk result (λ t. (r : ARegister) → count_of r t.presets ≡ 0) }
-    {
-        Ok(Tracker {
-            states: States::first(alloc, Rate::Fps25, hands)?,
-            presets: Presets::none(),
-            own: Own::nothing(),
-            alloc,
-        })
-    }
-
-    /// A tracker before the first exchange of a deck that is taken for this: [`Tracker::new`] at any rate.
+    /// A tracker before the first exchange of a deck that is taken for this: every state is possible, but that the panel is
+    /// off, always, where hands are not allowed (the rules' choice: nothing is known before a capture).
     ///
     /// An error comes where memory is refused.
     pub fn of(alloc: Global, profile: &'a Profile) -> Result<Self, AllocError>
@@ -80,10 +64,24 @@ impl<'a, S: TimeSet> Tracker<'a, S> {
         ensures profile { IfOk result (λ t. t.profile ≡ profile.now) }
         ensures presets { IfOk result (λ t. (r : ARegister) → count_of r t.presets ≡ 0) }
     {
+        Tracker::begin(alloc, profile.rate, profile.hands, Own::of(&profile.deck))
+    }
+
+    /// The same, of a deck with these ways of its own, at a rate, with hands or without.
+    pub(crate) fn begin(
+        alloc: Global,
+        rate: Rate,
+        hands: Hands,
+        own: Own<'a>,
+    ) -> Result<Self, AllocError>
+        ensures states { IfOk result (λ t. (s : AState) → Possible t.states s ↔ IsFirst (record { rate = rate; hands = hands; deck = own.entry }) s) }
+        ensures profile { IfOk result (λ t. t.profile ≡ record { rate = rate; hands = hands; deck = own.entry }) }
+        ensures presets { IfOk result (λ t. (r : ARegister) → count_of r t.presets ≡ 0) }
+    {
         Ok(Tracker {
-            states: States::first(alloc, profile.rate, profile.hands)?,
+            states: States::first(alloc, rate, hands)?,
             presets: Presets::none(),
-            own: Own::of(&profile.deck),
+            own,
             alloc,
         })
     }

@@ -1,4 +1,5 @@
 pub mod OneContradiction
 pub mod QuestionLemmas
 pub mod SearchLemmas
+pub mod ShowLemmas
 pub mod Words

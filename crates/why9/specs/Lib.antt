@@ -1,2 +1,3 @@
 pub mod Contradiction
+pub mod Shown
 pub mod Working

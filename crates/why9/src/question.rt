@@ -54,7 +54,7 @@ pub(crate) fn pass_all(
 
 /// Believes the replies of these exchanges, and answers whether some run does. It ends as soon as none does.
 ///
-/// A NAK keeps the state, and the drift before it goes on in the next one, so whether some run does hangs on no NAK.
+/// A NAK leaves the state, and its drift is part of the next, so NAKs are skipped.
 fn believe_all(tracker: &mut Tracker<SpanSet>, exchanges: &[Exchange]) -> Result<bool, AllocError>
     ensures { IfOk result (λ b. IsTrue b ↔ GoesOn tracker.old.profile (Possible tracker.old.states) (λ k. true) exchanges.now) }
 {

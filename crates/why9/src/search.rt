@@ -2,7 +2,7 @@
 //!
 //! One tracker goes along, from the first place found to the last: it believes the replies at the places found, and passes the
 //! exchanges between them. A question goes on from a copy of it, so it looks at no place found again.
-ghost use Rattle.std.specs.Prelude.{◌≡◌, ◌↔◌, ◌<◌, ◌≤◌, ◌+◌, IfOk, false, length, nat_le, true, None};
+ghost use Rattle.std.specs.Prelude.{◌≡◌, ◌↔◌, ◌<◌, ◌≤◌, ◌+◌, IfOk, false, length, nat_le, true};
 ghost use Rattle.deck9.specs.Contradict.{Contradict, HasBelieving};
 ghost use Rattle.deck9.specs.State.{IsFirst};
 ghost use Rattle.deck9.specs.declared.state.State.{State as AState};
@@ -12,32 +12,17 @@ ghost use Rattle.why9.specs.Working.{ArePassedTo, GoesOnFrom, IsBetween};
 
 use crate::question::{believe, leaves_a_run, pass_all};
 use block9::Exchange;
-use deck9::{Hands, Profile};
+use deck9::Profile;
 use sets25::SpanSet;
 use std::alloc::{AllocError, Global};
-use tc25::Rate;
 use track9::Tracker;
 
-/// The places, counted from 0, of replies that contradict one another, in ascending order.
+/// The places, counted from 0, of replies that contradict one another for a deck that is taken for this, in ascending order.
 ///
 /// The exchanges have to be those of a capture up to the first after which no state remains, and that one is the last of
 /// the places. Each of the others is needed, and as near to the break as it can be: without it, the other places and all
 /// replies after it do not contradict, since a run believes them. What a run that believes some replies may do is in
 /// `specs/Contradict.antt` of the crate `deck9`.
-///
-/// An error comes where memory is refused.
-pub fn contradicting(
-    alloc: Global,
-    hands: Hands,
-    exchanges: &[Exchange],
-) -> Result<Vec<usize>, AllocError>
-    requires breaks { BreaksAtLast (record { rate = Rate.Fps25; hands = hands; deck = None }) exchanges.now }
-    ensures { IfOk result (λ places. IsContradiction (record { rate = Rate.Fps25; hands = hands; deck = None }) exchanges.now places.items) }
-{
-    contradicting_for(alloc, &Profile::of(hands), exchanges)
-}
-
-/// The places of replies that contradict one another for a deck that is taken for this: [`contradicting`] at any rate.
 ///
 /// An error comes where memory is refused.
 pub fn contradicting_for(

@@ -4,11 +4,7 @@ use Rattle.judge9.specs.Working.{[], Ends, Err, Exchange, Profile, HasItsRun, Ha
 use Rattle.judge9.specs.Working.{Result, Rows, RunVerdict, Some, State, Tracked, View, WhyVerdict, ℕ}
 use Rattle.block9.specs.Line.{last_time}
 use Rattle.judge9.specs.WhyVerdict.{judged_of as why_judged_of}
-
--- a tracker keeps exactly the states that the runs of these exchanges end in
-pub record KeepsEnds (p : Profile) (es : List Exchange) (t : Tracked) : Type 0 where
-  pub states : (s : State) → Possible t.states s ↔ Ends p es s
-  pub profile : t.profile ≡ p
+use Rattle.track9.specs.Following.{KeepsEnds}
 
 -- the time at which these records end, if they end with one of these exchanges, and none where there is no exchange
 abbrev pub IsEnd : List LineByte → List Exchange → Option ℕ → Type 0

@@ -5,7 +5,7 @@ use Rattle.judge9.specs.Working.{[], CaptureError, CaptureKind, Err, false, Give
 use Rattle.judge9.specs.Working.{Break, Exchange, Follower, Paired, Reason, refusal_of, Result, Rows, Some, true, Turn, Verdict, View, WhyVerdict, ℕ, ⊤}
 use Rattle.verdict9.specs.declared.totals.Totals.{Totals}
 use Rattle.judge9.specs.PartsReport.{PartsTold}
-use Rattle.judge9.specs.WhyVerdict.{CouldShow}
+use Rattle.why9.specs.Shown.{CouldShow}
 use Rattle.judge9.specs.Working.Endings.{IsEnd}
 use Rattle.block9.specs.Pairer.{IsOpenAfter}
 use Rattle.report9.specs.WhyText.{text_of_why}

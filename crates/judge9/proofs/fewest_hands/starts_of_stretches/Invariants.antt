@@ -1,8 +1,0 @@
-use Rattle.judge9.proofs.Words.{length, ◌-◌, ◌≤◌}
-use Rattle.judge9.proofs.fewest_hands.starts_of_stretches.Given as goal
-
-abbrev pub invariant-loop-starts : goal.invariant-loop-starts
-invariant-loop-starts l = l.start ≤ length l.exchanges
-
-abbrev pub decreases-loop-starts : goal.decreases-loop-starts
-decreases-loop-starts l = length l.exchanges - l.start

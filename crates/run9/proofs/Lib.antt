@@ -1,0 +1,2 @@
+pub mod WayBackSteps
+pub mod Words

@@ -1,0 +1,233 @@
+//! The way back from the end of a capture to a run of the deck.
+//!
+//! A run is found backwards: from a state in which the deck can be at the end, through the exchanges, to one before the first
+//! of them. That needs the states that were possible before each exchange. They are made again from the first ones, and kept
+//! at marks: few where they take much memory, and before each exchange of the range that is gone back through next.
+ghost use Rattle.std.specs.Prelude.{◌≡◌, ◌<◌, ◌≤◌, ◌+◌, ◌++◌, [], ◌∷◌, IfOk, List, OnOk, length};
+ghost use Rattle.deck9.specs.Run.{IsRun};
+ghost use Rattle.deck9.specs.Step.{Exchanges};
+ghost use Rattle.deck9.specs.declared.state.State.{State as AState};
+ghost use Rattle.run9.specs.Working.{CanComeFrom, ComesFrom, AreMarks, GoesBack, GoesOn, last_mark, place_of, tracked_by};
+ghost use Rattle.run9.specs.declared.way_back.Mark.{Mark as AMark};
+ghost use Rattle.track9.specs.Following.{FollowsFrom, KeepsEnds, LeadsFrom};
+ghost use Rattle.track9.specs.Tracker.{Possible};
+
+use block9::Exchange;
+use deck9::{Profile, State};
+use sets25::{SharedSet, SpanSet, TimeSet};
+use std::alloc::{AllocError, Global};
+use track9::Tracker;
+
+/// A tracker, and how many of the exchanges come before it.
+#[derive(Drop)]
+pub(crate) struct Mark<'d> {
+    place: usize,
+    tracker: Tracker<'d, SharedSet>,
+}
+
+/// How close marks are put. It bears on speed and memory alone.
+#[derive(Clone, Copy)]
+pub struct Pace {
+    /// Through so many exchanges there is a mark before each.
+    dense: usize,
+    /// Elsewhere the next mark comes so many exchanges on, but at most halfway to where marks are dense.
+    apart: usize,
+}
+
+impl Pace {
+    /// How close marks are put before so many exchanges, where a tracker keeps at most so many spans of times.
+    ///
+    /// Marks that are as far apart as each is heavy take together as much memory as the exchanges do, and so do dense ones.
+    pub fn of(exchanges: usize, spans: usize) -> Pace {
+        /// What a tracker takes beside its times, as spans of 8 bytes.
+        const BARE: usize = 128;
+        /// What dense marks may take however few the exchanges are, as spans.
+        const LEAST: usize = 32768;
+        /// More marks than these would not stay in a processor's cache until they are gone back to.
+        const MOST_DENSE: usize = 256;
+
+        let weight = spans.saturating_add(BARE);
+        Pace {
+            dense: (exchanges.max(LEAST) / weight).min(MOST_DENSE),
+            apart: weight,
+        }
+    }
+
+    /// How far on the next mark comes, where so many exchanges lie between the one before and the place that is led up to.
+    fn step(self, between: usize) -> usize
+        requires { 0 < between }
+        ensures some { 0 < result }
+        ensures within { result ≤ between }
+    {
+        if between <= self.dense {
+            return 1;
+        }
+        self.apart.max(1).min(between - between / 2)
+    }
+}
+
+/// The states after each of these exchanges in a run that ends in a state of this tracker.
+pub(crate) fn states_to(
+    alloc: Global,
+    profile: &Profile,
+    exchanges: &[Exchange],
+    end: &Tracker<SpanSet>,
+    pace: Pace,
+) -> Result<Vec<State>, AllocError>
+    requires keeps { KeepsEnds profile.now exchanges.now end.now }
+    requires some { (s : AState) × Possible end.now.states s }
+    ensures { IfOk result (λ states. IsRun profile.now exchanges.now states.items) }
+{
+    let first = Tracker::of(alloc, profile)?;
+    let mut states = Vec::new(alloc);
+    let found = go_back(alloc, &first, exchanges, end, pace, &mut states);
+    drop(first);
+    match found {
+        Ok(_) => {}
+        Err(error) => return Err(error),
+    }
+    states.reverse();
+    Ok(states)
+}
+
+/// Goes back from some state of the tracker `end` through all of these exchanges to one of the states that the tracker before
+/// them keeps. The states after each exchange are put after `states`, the last one first.
+pub(crate) fn go_back<S: TimeSet>(
+    alloc: Global,
+    first: &Tracker<SharedSet>,
+    exchanges: &[Exchange],
+    end: &Tracker<S>,
+    pace: Pace,
+    states: &mut Vec<State>,
+) -> Result<State, AllocError>
+    requires follows { FollowsFrom first.now exchanges.now end.now }
+    requires some { (s : AState) × Possible end.now.states s }
+    ensures { IfOk result (λ s. (t : AState) × GoesBack first.now.profile (Possible first.now.states) exchanges.now t states.old.items states.new.items s) }
+{
+    let Some(state) = end.member() else {
+        unreachable!();
+    };
+    go_back_to(alloc, first, exchanges, state, pace, states)
+}
+
+/// Goes back from the state `end` through all of these exchanges.
+fn go_back_to(
+    alloc: Global,
+    first: &Tracker<SharedSet>,
+    exchanges: &[Exchange],
+    end: State,
+    pace: Pace,
+    states: &mut Vec<State>,
+) -> Result<State, AllocError>
+    requires { LeadsFrom first.now exchanges.now end }
+    ensures { IfOk result (GoesBack first.now.profile (Possible first.now.states) exchanges.now end states.old.items states.new.items) }
+{
+    let mut marks = Vec::new(alloc);
+    let mut state = end;
+    let mut at = exchanges.len();
+    while at > 0 {
+        at -= 1;
+        lead_up(first, &mut marks, exchanges, at, pace)?;
+        state = step_back_to_nearest(first, &marks, &exchanges[at], state, states)?;
+        drop(marks.pop());
+    }
+    Ok(state)
+}
+
+/// Puts marks after the last one, until a tracker is the one before the exchange at `at`.
+fn lead_up<'d>(
+    first: &Tracker<'d, SharedSet>,
+    marks: &mut Vec<Mark<'d>>,
+    exchanges: &[Exchange],
+    at: usize,
+    pace: Pace,
+) -> Result<(), AllocError>
+    requires place { at < length exchanges.now }
+    requires marks { AreMarks first.now exchanges.now (at + 1) marks.old.items }
+    ensures marks { OnOk result (AreMarks first.now exchanges.now (at + 1) marks.new.items) }
+    ensures nearest { OnOk result (place_of (last_mark marks.new.items) ≡ at) }
+{
+    loop {
+        let place = last_place(marks);
+        if place == at {
+            return Ok(());
+        }
+        let next = place + pace.step(at - place);
+        let copy = copy_of_nearest(first, marks)?;
+        marks.push(Mark {
+            place: next,
+            tracker: copy,
+        })?;
+        go_on(marks, &exchanges[place..next])?;
+    }
+}
+
+/// How many exchanges come before the last tracker that is marked, or else before the first one.
+fn last_place(marks: &[Mark]) -> usize
+    ensures { result ≡ place_of (last_mark marks.now) }
+{
+    match marks.last() {
+        Some(mark) => mark.place,
+        None => 0,
+    }
+}
+
+/// A tracker equal to the last one that is marked, or else to the first one. An error comes where memory is refused.
+fn copy_of_nearest<'d>(
+    first: &Tracker<'d, SharedSet>,
+    marks: &[Mark<'d>],
+) -> Result<Tracker<'d, SharedSet>, AllocError>
+    ensures { IfOk result (λ t. t ≡ tracked_by first.now (last_mark marks.now)) }
+{
+    match marks.last() {
+        Some(mark) => mark.tracker.snapshot(),
+        None => first.snapshot(),
+    }
+}
+
+/// Takes these exchanges into the last tracker that is marked, where it stands: a tracker is large.
+fn go_on(marks: &mut Vec<Mark>, exchanges: &[Exchange]) -> Result<(), AllocError>
+    ensures { (before : List AMark) (m : AMark) → marks.old.items ≡ before ++ m ∷ [] → OnOk result (GoesOn before m exchanges.now marks.new.items) }
+{
+    let Some(mark) = marks.last_mut() else {
+        return Ok(());
+    };
+    mark.tracker.follow(exchanges)
+}
+
+/// Puts the state after an exchange after the others, and answers one that it may come from: one of the last tracker that is
+/// marked, or else of the first one.
+fn step_back_to_nearest(
+    first: &Tracker<SharedSet>,
+    marks: &[Mark],
+    exchange: &Exchange,
+    state: State,
+    states: &mut Vec<State>,
+) -> Result<State, AllocError>
+    requires { CanComeFrom (tracked_by first.now (last_mark marks.now)) exchange.now state }
+    ensures from { IfOk result (ComesFrom (tracked_by first.now (last_mark marks.now)) exchange.now state) }
+    ensures put { OnOk result (states.new.items ≡ states.old.items ++ state ∷ []) }
+{
+    match marks.last() {
+        Some(mark) => step_back(&mark.tracker, exchange, state, states),
+        None => step_back(first, exchange, state, states),
+    }
+}
+
+/// Puts the state after an exchange after the others, and answers one that it may come from.
+fn step_back(
+    before: &Tracker<SharedSet>,
+    exchange: &Exchange,
+    state: State,
+    states: &mut Vec<State>,
+) -> Result<State, AllocError>
+    requires { CanComeFrom before.now exchange.now state }
+    ensures from { IfOk result (ComesFrom before.now exchange.now state) }
+    ensures put { OnOk result (states.new.items ≡ states.old.items ++ state ∷ []) }
+{
+    let Some(earlier) = before.before(&exchange.command, &exchange.reply, &state) else {
+        unreachable!();
+    };
+    states.push(state)?;
+    Ok(earlier)
+}
