@@ -178,6 +178,7 @@ impl Command {
 
     /// The command that a table has for a block, with what the block's data say in the place of the blank: `None` where they have
     /// to be a time and are none. A request for a time with an unknown selector is not listed.
+    #[inline(always)] // it is asked of every exchange
     fn with_data(self, rate: Rate, block: &Block) -> Option<Command>
         ensures { result ≡ with_data rate (head_of block.now) block.now self }
     {

@@ -10,6 +10,7 @@ use crate::command::Command;
 use tc25::{Rate, TimeCode};
 
 /// The command that a group's table has for the first two bytes of a block, and `None` where it has none.
+#[inline(always)] // it is asked of every exchange
 pub(super) fn listed(group: u32, head: u32) -> Option<Command>
     ensures meaning { (rate : ARate) (b : ABlock) → meaning_in (table_of rate group) head b ≡ read_off rate head b result }
     ensures listed { is_some result ≡ has_row (table_of Rate.Fps25 group) head }
