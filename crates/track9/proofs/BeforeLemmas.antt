@@ -3,12 +3,12 @@
 use Rattle.track9.proofs.Words.{ComesToShow, Deck, way_of}
 use Rattle.track9.proofs.Words.{all_has, Allows, and-false, and_from, and_parts, any_goal, ap, AreBelow, arith, Pattern, pattern_before, wanted_of, Becomes, Block, Bool, both}
 use Rattle.track9.proofs.Words.{Change, Command, cond_both, Does, done, Drift, drift_from_pairs, drifted, drifted_with, Effect, effect_of, Entries, entries_of, Entry}
-use Rattle.track9.proofs.Words.{entry_before, entry_of, Exchanges, false, false≢true, Fits, goals_of, goes, Hands, hands_of, has, has-and, has_pair}
-use Rattle.track9.proofs.Words.{HasState, IfNone, IfSome, ignored, in_local, inl, InPart, inr, InTwo, Is, is_mode, is_mode-same, is_nak, is_panel_live}
+use Rattle.track9.proofs.Words.{entry_before, entry_of, Exchanges, false, false≢true, Fits, goals_of, all_shown, Hands, hands_of, has, has-and, has_pair}
+use Rattle.track9.proofs.Words.{HasState, IfNone, IfSome, ignored, in_local, inl, InPart, inr, InHalves, Is, is_mode, is_mode-same, is_nak, remains_with_panel_on}
 use Rattle.track9.proofs.Words.{is_some, IsPattern, IsEntry, IsState, IsUndone, just_mode, just_state, LeadsTo, List, masked, Mode, mode_just, mode_self, mode_some, ModeSet}
-use Rattle.track9.proofs.Words.{no_entries, no_states, None, on_two, Option, option_map, PairRunsTo, Part, Possible}
+use Rattle.track9.proofs.Words.{no_entries, no_states, None, on_halves, Option, option_map, PairRunsTo, Part, Possible}
 use Rattle.track9.proofs.Words.{refl, refused, RegAudioIn, RegAudioOut, RegIn, Register, RegOut, rules, RunsTo, same_fact}
-use Rattle.track9.proofs.Words.{shown_with, Shows, Some, some_entry, some_mode, some_pair, State, States, DeckStep, Stop, subst, sym, true, true_from_ne_false, two_of, way}
+use Rattle.track9.proofs.Words.{shown_with, Shows, Some, some_entry, some_mode, some_pair, State, States, DeckStep, Stop, subst, sym, true, true_from_ne_false, halves_of, way}
 use Rattle.track9.proofs.Words.{any_panel, AreWhole, KeepsPanel, panel_before, panel_switched, Profile, profile_of, Rate, rate_for, with_wanted, with_entry, ◌||◌, ◌↔◌, ◌∙◌, ◌≡◌, ◌⊎◌}
 use Rattle.deck9.specs.declared.effect.Effect.TheVariants as effect
 use Rattle.deck9.specs.declared.mode.Mode.TheVariants as mode
@@ -19,7 +19,7 @@ use Rattle.deck9.proofs.RestLemmas.{step_valid}
 use Rattle.track9.proofs.EffectLemmas.{masked_has}
 use Rattle.track9.proofs.EntryLemmas.{drifted_has, drifted_to, goals_has, goes_from, no_entry, pair_by_goal}
 use Rattle.track9.proofs.KnownLemmas.{goal_to}
-use Rattle.track9.proofs.PartLemmas.{drift_panel, drift_state, each_register, mechanics, off_drift, possible_state, put, put_each, to_two, two_live}
+use Rattle.track9.proofs.PartLemmas.{drift_panel, drift_state, each_register, mechanics, off_drift, possible_state, put, put_each, to_halves, halves_live}
 
 -- ---- states by their fields
 
@@ -150,7 +150,7 @@ wanted_state p e t valid = is_wanted p.rate (pattern_before p.rate p.hands e t) 
 
 -- where there is a pair there is a goal
 pub some_goal : (p : List ModeSet) → some_pair p ≡ true → is_some (goals_of p) ≡ true
-some_goal p h = let m = some_mode (goes p) h in let g = goes_from p m.0 m.1 in mode_some (goals_of p) g.0 (goal_to p g.0 m.0 g.1)
+some_goal p h = let m = some_mode (all_shown p) h in let g = goes_from p m.0 m.1 in mode_some (goals_of p) g.0 (goal_to p g.0 m.0 g.1)
 
 -- and a mode that is shown with it
 pub some_shown : (p : List ModeSet) (g : Mode) → has (goals_of p).0 g ≡ true → is_some (shown_with p g) ≡ true
@@ -204,7 +204,7 @@ no_entry_runs deck r p a l pn none (s, there, (d, kept, reaches, fits)) =
 -- ---- a set of states
 
 -- where there is a state with the panel on hands are allowed
-pub panel_hands : (v : States) (s : State) → InPart (in_local (on_two (rate_for v) v.on) s.local) s → hands_of v ≡ hands.Allowed
+pub panel_hands : (v : States) (s : State) → InPart (in_local (on_halves (rate_for v) v.on) s.local) s → hands_of v ≡ hands.Allowed
 panel_hands v s i = grind arith
 
 -- a hand makes any state with the panel on
@@ -214,13 +214,13 @@ hand_leads p a s allowed (d, valid, fits) wanted on =
     let there : IsState p.rate e = each_register _ (valid RegIn) (valid RegOut) (valid RegAudioIn) (valid RegAudioOut) in
     (e, drift_from_pairs p s e (inr (allowed, on, refl, there)), search)
 
-pub no_origin : (p : Profile) (v : States) (a : Pattern) → (Is a.panel true → is_panel_live v ≡ false) → (((s : State) × InTwo false v.off s × RunsTo p.deck a s) → ⊥)
+pub no_origin : (p : Profile) (v : States) (a : Pattern) → (Is a.panel true → remains_with_panel_on v ≡ false) → (((s : State) × InHalves false v.off s × RunsTo p.deck a s) → ⊥)
     → ((s : State) × Possible v s × LeadsTo p a s) → ⊥
 no_origin p v a dead off (s, there, (d, drift, fits)) = by s.panel refl
   where
     by : (pn : Bool) → s.panel ≡ pn → ⊥
-    by true e = false≢true (sym (dead (subst (Is a.panel) (drift_panel p s d drift ∙ e) fits.panel)) ∙ two_live (two_of v true) s (to_two v s true e there).1)
-    by false e = let m = mechanics p.deck p.rate s d (off_drift p s d e drift) in off (s, to_two v s false e there, (d, m.0, m.1, fits))
+    by true e = false≢true (sym (dead (subst (Is a.panel) (drift_panel p s d drift ∙ e) fits.panel)) ∙ halves_live (halves_of v true) s (to_halves v s true e there).1)
+    by false e = let m = mechanics p.deck p.rate s d (off_drift p s d e drift) in off (s, to_halves v s false e there, (d, m.0, m.1, fits))
 
 -- ---- steps
 

@@ -3,22 +3,22 @@
 use Rattle.track9.proofs.Words.{all_has, all_pairs, Deck, modes, motion_forgotten}
 use Rattle.track9.proofs.Words.{agreeing, Agrees, all_forgotten, all_or_none, all_states, Allows, and_from, and_parts, ap, AreSet, Becomes, Block, Bool}
 use Rattle.track9.proofs.Words.{both, Change, changed_entries, changed_part, Command, cond_both, counted, Does, DoesOrNot, Drift, drift_from_pairs, drifted}
-use Rattle.track9.proofs.Words.{drifted_part, drifted_with, Effect, effect_of, Entries, entries_of, entry_of, false, false≢true, forgotten_part, goes, gone}
+use Rattle.track9.proofs.Words.{drifted_part, drifted_with, Effect, effect_of, Entries, entries_of, entry_of, false, false≢true, forgotten_part, all_shown, gone}
 use Rattle.track9.proofs.Words.{gone_pairs, gone_part, has, has-and, has-or, has_pair, HasEffect, if◌then◌else◌, IfSome, in_local, inl, InPart}
-use Rattle.track9.proofs.Words.{inr, InTwo, is_as_wanted, is_live, is_mode, is_mode-same, is_nak, LeadsOn, List, map_two, masked, masked_part, Mode, mode_self, ModeSet}
+use Rattle.track9.proofs.Words.{inr, InHalves, is_as_wanted, part_remains, is_mode, is_mode-same, is_nak, LeadsOn, List, map_halves, masked, masked_part, Mode, mode_self, ModeSet}
 use Rattle.track9.proofs.Words.{no_states, None, Option, or-true, or_cases, Part, Presets, presets_after, put_settled}
 use Rattle.track9.proofs.Words.{refl, refused, RegAudioIn, RegAudioOut, RegIn, Register, RegistersSet, RegOut, reported_part, Sense, sense_of, sensed_part, set_where, settled}
-use Rattle.track9.proofs.Words.{shown_with, ShowsStatus, Some, some_entry, some_mode, some_pair, some_two, State, Status, status_of, status_part, DeckStep, Stop, subst, sym, Taken, Tells, time_of, true}
-use Rattle.track9.proofs.Words.{two_changed, two_drifted, two_gone, two_sensed, two_status, TwoBelow, TwoFew, Halves, TwoWhole, where_live, Whole, with_command, with_entries, with_entry}
+use Rattle.track9.proofs.Words.{shown_with, ShowsStatus, Some, some_entry, some_mode, some_pair, halves_remain, State, Status, status_of, status_part, DeckStep, Stop, subst, sym, Taken, Tells, time_of, true}
+use Rattle.track9.proofs.Words.{halves_changed, halves_drifted, halves_gone, halves_sensed, halves_status, HalvesBelow, HalvesFew, Halves, HalvesWhole, where_remains, Whole, with_command, with_entries, with_entry}
 use Rattle.track9.proofs.Words.{Rate, rate_in, rate_of, untouched, with_pairs, ℕ, ◌&&◌, ◌||◌, ◌↔◌, ◌∙◌, ◌≡◌, ◌⊎◌}
 use Rattle.deck9.specs.declared.effect.Effect.TheVariants as effect
 use Rattle.deck9.specs.declared.sense.Sense.TheVariants as sense
 use Rattle.track9.proofs.EntryLemmas.{allowed_some, drifted_from, drifted_to, entry_from, entry_stays, entry_to, goes_from, goes_to, pair_by_goal, pairs_some}
 use Rattle.track9.proofs.EntryLemmas.{set_exactly, some_allowed, tells_exactly}
 use Rattle.track9.proofs.PartLemmas.{a_state, all_exactly, any_entries, Below, drift_below, drift_some, drift_whole, each_register, every_state, few_agreeing, few_all_states}
-use Rattle.track9.proofs.PartLemmas.{few_changed_part, few_counted, few_no_states, few_pairs, few_put, few_set, few_settled, few_two, FewIn, in_none, in_pairs, mechanics}
-use Rattle.track9.proofs.PartLemmas.{not_live, pairs_registers, put, put_in, read_put, settled_exactly, take_out, two_live, two_state, whole_all, whole_drift, whole_in}
-use Rattle.track9.proofs.PartLemmas.{drifted_all, each_put, of_rate, OfRate, PartBelow, two_rate, whole_none, whole_pairs, whole_put, whole_settled, whole_two}
+use Rattle.track9.proofs.PartLemmas.{few_changed_part, few_counted, few_no_states, few_pairs, few_put, few_set, few_settled, few_halves, FewIn, in_none, in_pairs, mechanics}
+use Rattle.track9.proofs.PartLemmas.{not_live, pairs_registers, put, put_in, read_put, settled_exactly, take_out, halves_live, halves_state, whole_all, whole_drift, whole_in}
+use Rattle.track9.proofs.PartLemmas.{drifted_all, each_put, of_rate, OfRate, PartBelow, halves_rate, whole_none, whole_pairs, whole_put, whole_settled, whole_halves}
 use Rattle.std.proofs.Common.{arith}
 
 -- ---- part by part
@@ -35,19 +35,19 @@ pub record Keeps (Goes : State → State → Type 0) : Type 0 where
   pub local : (s t : State) → Goes s t → t.local ≡ s.local
   pub panel : (s t : State) → Goes s t → t.panel ≡ s.panel
 
-mapped : (f : Bool → Part → Part) (h : Halves) (l : Bool) → in_local (map_two f h) l ≡ f l (in_local h l)
+mapped : (f : Bool → Part → Part) (h : Halves) (l : Bool) → in_local (map_halves f h) l ≡ f l (in_local h l)
 mapped f h l = grind arith
 
 leads_by : (rate : Rate) (Goes : State → State → Type 0) (count : Presets → Presets) → Keeps Goes → (f : Bool → Part → Part) (h : Halves)
     → ((l : Bool) → PartLeads rate Goes count (in_local h l) (λ b. f b (in_local h l)))
-    → LeadsOn rate Goes count h (map_two f h)
+    → LeadsOn rate Goes count h (map_halves f h)
 leads_by rate Goes count keeps f h each = record {
   reached = λ pn. (
     λ t i. let a = (each t.local).from t (subst (λ q. InPart q t) (mapped f h t.local) i.1) in
         (a.0, (a.3 ∙ i.0, subst (λ b. InPart (in_local h b) a.0) (sym a.2) a.1), a.4),
     λ s t i goes. (
       keeps.panel s t goes ∙ i.0,
-      subst (λ b. InPart (in_local (map_two f h) b) t) (sym (keeps.local s t goes))
+      subst (λ b. InPart (in_local (map_halves f h) b) t) (sym (keeps.local s t goes))
           (rw (mapped f h s.local) ((each s.local).to s t i.1 goes)),
     ),
   );
@@ -56,13 +56,13 @@ leads_by rate Goes count keeps f h each = record {
 }
 
 -- a part that has no states stays
-leads : (rate : Rate) (Goes : State → State → Type 0) (count : Presets → Presets) → Keeps Goes → (f : Bool → Part → Part) (h : Halves) → TwoWhole rate h
+leads : (rate : Rate) (Goes : State → State → Type 0) (count : Presets → Presets) → Keeps Goes → (f : Bool → Part → Part) (h : Halves) → HalvesWhole rate h
     → ((l : Bool) (n : Presets) → FewIn n (in_local h l) → FewIn (count n) (in_local h l))
-    → ((l : Bool) → is_live (in_local h l) ≡ true → PartLeads rate Goes count (in_local h l) (λ b. f b (in_local h l)))
-    → LeadsOn rate Goes count h (map_two (λ l. where_live (f l)) h)
-leads rate Goes count keeps f h whole few each = leads_by rate Goes count keeps (λ l. where_live (f l)) h (λ l. by l (is_live (in_local h l)) refl)
+    → ((l : Bool) → part_remains (in_local h l) ≡ true → PartLeads rate Goes count (in_local h l) (λ b. f b (in_local h l)))
+    → LeadsOn rate Goes count h (map_halves (λ l. where_remains (f l)) h)
+leads rate Goes count keeps f h whole few each = leads_by rate Goes count keeps (λ l. where_remains (f l)) h (λ l. by l (part_remains (in_local h l)) refl)
   where
-    by : (l b : Bool) → is_live (in_local h l) ≡ b → PartLeads rate Goes count (in_local h l) (λ k. if b then f k (in_local h l) else in_local h l)
+    by : (l b : Bool) → part_remains (in_local h l) ≡ b → PartLeads rate Goes count (in_local h l) (λ k. if b then f k (in_local h l) else in_local h l)
     by l true live = each l live
     by l false dead = record {
       from = λ t i. not_live _ t dead i;
@@ -72,9 +72,9 @@ leads rate Goes count keeps f h whole few each = leads_by rate Goes count keeps 
     }
 
 -- what is read leaves the states of which it is true
-reads : (rate : Rate) (P : State → Type 0) (f : Bool → Part → Part) (h : Halves) → TwoWhole rate h → ((p : Part) (t : State) → OfRate rate p → InPart (f t.local p) t ↔ (InPart p t × P t))
+reads : (rate : Rate) (P : State → Type 0) (f : Bool → Part → Part) (h : Halves) → HalvesWhole rate h → ((p : Part) (t : State) → OfRate rate p → InPart (f t.local p) t ↔ (InPart p t × P t))
     → ((l : Bool) (p : Part) → OfRate rate p → Whole rate (f l p)) → ((l : Bool) (n : Presets) (p : Part) → FewIn n p → FewIn n (f l p))
-    → LeadsOn rate (λ s t. P s × (t ≡ s)) (λ n. n) h (map_two (λ l. where_live (f l)) h)
+    → LeadsOn rate (λ s t. P s × (t ≡ s)) (λ n. n) h (map_halves (λ l. where_remains (f l)) h)
 reads rate P f h whole exactly wholes few = leads rate (λ s t. P s × (t ≡ s)) (λ n. n) (record { local = λ s t d. rw d.1; panel = λ s t d. rw d.1 }) f h whole
     (λ l n h. h) (λ l live. let p = in_local h l in let same = of_rate rate p (whole_in rate h whole l) in record {
       from = λ t i. let w = (exactly p t same).0 i in (t, w.0, refl, refl, (w.1, refl));
@@ -85,7 +85,7 @@ reads rate P f h whole exactly wholes few = leads rate (λ s t. P s × (t ≡ s)
 
 -- ---- a drift
 
-pub drift_leads : (deck : Option Deck) (rate : Rate) (h : Halves) → TwoWhole rate h → LeadsOn rate (Drift (untouched deck rate)) (λ n. n) h (two_drifted deck h)
+pub drift_leads : (deck : Option Deck) (rate : Rate) (h : Halves) → HalvesWhole rate h → LeadsOn rate (Drift (untouched deck rate)) (λ n. n) h (halves_drifted deck h)
 drift_leads deck rate h whole = leads_by rate (Drift (untouched deck rate)) (λ n. n) (record { local = λ s t d. rw (mechanics deck rate s t d).0; panel = λ s t d. rw (mechanics deck rate s t d).0 })
     (λ l. drifted_part deck) h (λ l. let p = in_local h l in record {
       from = λ t i.
@@ -107,42 +107,42 @@ drift_leads deck rate h whole = leads_by rate (Drift (untouched deck rate)) (λ 
 
 -- ---- a new goal
 
-gone_has : (goal : Mode) (p : List ModeSet) (g m : Mode) → has_pair (gone goal p) g m ≡ (is_mode g goal && has (goes p).0 m)
+gone_has : (goal : Mode) (p : List ModeSet) (g m : Mode) → has_pair (gone goal p) g m ≡ (is_mode g goal && has (all_shown p).0 m)
 gone_has goal p g m = grind arith
 
 goal_has : (may_stay : Bool) (goal : Mode) (p : List ModeSet) (g m : Mode)
-    → has_pair (gone_pairs may_stay goal p) g m ≡ ((may_stay && has_pair p g m) || (is_mode g goal && has (goes p).0 m))
+    → has_pair (gone_pairs may_stay goal p) g m ≡ ((may_stay && has_pair p g m) || (is_mode g goal && has (all_shown p).0 m))
 goal_has may_stay goal p g m = grind (arith, gone_has, pair_by_goal, has-or)
 
-goal_goes : (may_stay : Bool) (goal : Mode) (p : List ModeSet) (m : Mode) → has (goes p).0 m ≡ true → has_pair (gone_pairs may_stay goal p) goal m ≡ true
+goal_goes : (may_stay : Bool) (goal : Mode) (p : List ModeSet) (m : Mode) → has (all_shown p).0 m ≡ true → has_pair (gone_pairs may_stay goal p) goal m ≡ true
 goal_goes b goal p m h = goal_has b goal p goal m ∙ rw (mode_self goal, h) (or-true (b && has_pair p goal m))
 
 -- a command leaves a state
 gone_some : (may_stay : Bool) (goal : Mode) (p : List ModeSet) → some_pair p ≡ true → some_pair (gone_pairs may_stay goal p) ≡ true
-gone_some b goal p some = let m = some_mode (goes p) some in pairs_some (gone_pairs b goal p) goal m.0 (goal_goes b goal p m.0 m.1)
+gone_some b goal p some = let m = some_mode (all_shown p) some in pairs_some (gone_pairs b goal p) goal m.0 (goal_goes b goal p m.0 m.1)
 
-live_gone : (may_stay : Bool) (goal : Mode) (p : Part) → is_live (where_live (gone_part may_stay goal) p) ≡ is_live p
-live_gone m goal p = by (is_live p) refl
+live_gone : (may_stay : Bool) (goal : Mode) (p : Part) → part_remains (where_remains (gone_part may_stay goal) p) ≡ part_remains p
+live_gone m goal p = by (part_remains p) refl
   where
-    by : (b : Bool) → is_live p ≡ b → is_live (if b then gone_part m goal p else p) ≡ b
+    by : (b : Bool) → part_remains p ≡ b → part_remains (if b then gone_part m goal p else p) ≡ b
     by true live = gone_some m goal p.pairs live
     by false dead = dead
 
-pub two_live_gone : (may_stay : Bool) (goal : Mode) (h : Halves) → some_two (two_gone may_stay goal h) ≡ some_two h
-two_live_gone m goal h = ap (λ b. b || is_live (where_live (gone_part true goal) h.local)) (live_gone m goal h.remote)
-    ∙ ap (λ b. is_live h.remote || b) (live_gone true goal h.local)
+pub halves_live_gone : (may_stay : Bool) (goal : Mode) (h : Halves) → halves_remain (halves_gone may_stay goal h) ≡ halves_remain h
+halves_live_gone m goal h = ap (λ b. b || part_remains (where_remains (gone_part true goal) h.local)) (live_gone m goal h.remote)
+    ∙ ap (λ b. part_remains h.remote || b) (live_gone true goal h.local)
 
 -- and so does what forgets goal and shown mode
-live_moved : (p : Part) → is_live (where_live (with_pairs all_pairs) p) ≡ is_live p
+live_moved : (p : Part) → part_remains (where_remains (with_pairs all_pairs) p) ≡ part_remains p
 live_moved p = grind arith
 
-pub two_live_moved : (h : Halves) → some_two (motion_forgotten h) ≡ some_two h
-two_live_moved h = rw (live_moved h.remote, live_moved h.local) refl
+pub halves_live_moved : (h : Halves) → halves_remain (motion_forgotten h) ≡ halves_remain h
+halves_live_moved h = rw (live_moved h.remote, live_moved h.local) refl
 
 -- the states with this goal, and those that may stay as they are
 goal_leads : (rate : Rate) (Goes : State → State → Type 0) (may_stay : Bool → Bool) (goal : Mode) (p : Part)
     → ((s t : State) → Goes s t ↔ ((t ≡ record s { goal = goal }) ⊎ ((may_stay s.local ≡ true) × (t ≡ s))))
-    → Whole rate p → is_live p ≡ true → PartLeads rate Goes (λ n. n) p (λ l. gone_part (may_stay l) goal p)
+    → Whole rate p → part_remains p ≡ true → PartLeads rate Goes (λ n. n) p (λ l. gone_part (may_stay l) goal p)
 goal_leads rate Goes may_stay goal p steps whole live = record {
   from = λ t i.
       let b = may_stay t.local in let old = pairs_registers p (gone_pairs b goal p.pairs) t i in
@@ -208,7 +208,7 @@ is_by_part _ = true
 kept_few : (l : Bool) (n : Presets) (p : Part) → FewIn n p → FewIn n (kept_if l p)
 kept_few l n p few = grind (arith, few_settled)
 
-changed_whole : (rate : Rate) (may_stay : Bool) (r : Register) (c : Change) (p : Part) → Whole rate p → is_live p ≡ true → PartBelow p → (l : Bool)
+changed_whole : (rate : Rate) (may_stay : Bool) (r : Register) (c : Change) (p : Part) → Whole rate p → part_remains p ≡ true → PartBelow p → (l : Bool)
     → Whole rate (kept_if l (changed_part (l || may_stay) r c p))
 changed_whole rate m r c p whole live below true =
     let es = entries_of r p in
@@ -222,7 +222,7 @@ changed_whole rate m r c p whole live below false = whole_settled rate (changed_
 any_pair : (g m : Mode) → has_pair all_pairs g m ≡ true
 any_pair g m = pair_by_goal (λ g. modes 0x3FF) g m ∙ all_has m
 
-part_leads : (deck : Option Deck) (rate : Rate) (may_stay : Bool) (e : Effect) (p : Part) → is_by_part e ≡ true → Whole rate p → is_live p ≡ true → Below e p
+part_leads : (deck : Option Deck) (rate : Rate) (may_stay : Bool) (e : Effect) (p : Part) → is_by_part e ≡ true → Whole rate p → part_remains p ≡ true → Below e p
     → PartLeads rate (DoesOrNot deck rate may_stay e) (counted e) p (λ l. part_effect may_stay e l p)
 part_leads deck rate m (effect.Go g) p by whole live below = goal_leads rate (DoesOrNot deck rate m (effect.Go g)) (λ l. l || m) g p
     (λ s t. (λ d. elim d [ inl e ↦ inl e | inr (may, stays, e) ↦ inr (stays, e) ], λ d. elim d [ inl e ↦ inl e | inr (stays, e) ↦ inr (refl, stays, e) ])) whole
@@ -249,13 +249,13 @@ part_leads deck rate m (effect.Change r c) p by whole live below =
                 sym at.again,
               ),
             )
-            | inr (stays, same) ↦ (t, subst (InPart p) (put r e t).own (take_out r new p e t j same), refl, refl, inr (refl, stays, refl))
+            | inr (stays, same) ↦ (t, subst (InPart p) (put r e t).same (take_out r new p e t j same), refl, refl, inr (refl, stays, refl))
           ];
       to = λ s t i d. let e = entry_of r s in let b = s.local || m in elim d [
         | inl (f, becomes, same) ↦ rw same ((kept_exactly s.local (changed_part b r c p) (with_entry r f s)).1
             (put_in r _ p f s i (entry_to b c es e f (i.registers r) (subst (λ other. Becomes other c e f) (sym is) becomes))))
         | inr (may, stays, same) ↦ (kept_exactly s.local (changed_part b r c p) t).1
-            (subst (InPart (changed_part b r c p)) ((put r e s).own ∙ sym same)
+            (subst (InPart (changed_part b r c p)) ((put r e s).same ∙ sym same)
             (put_in r _ p e s i (entry_stays b c es e stays (below r) (i.registers r))))
       ];
       whole = changed_whole rate m r c p whole live below;
@@ -296,8 +296,8 @@ part_leads deck rate m _ p by whole live below = absurd (false≢true by)
 pub does_keep : (deck : Option Deck) (rate : Rate) (may_stay : Bool) (e : Effect) (s t : State) → DoesOrNot deck rate may_stay e s t → (t.panel ≡ s.panel) × ((e ≡ effect.ForgetAll) ⊎ (t.local ≡ s.local))
 does_keep deck rate may_stay e s t h = grind arith
 
-pub has_effect : (deck : Option Deck) (rate : Rate) (may_stay : Bool) (e : Effect) (h : Halves) → is_by_part e ≡ true → TwoWhole rate h → ((l : Bool) → Below e (in_local h l))
-    → HasEffect deck rate may_stay e h (map_two (λ l. where_live (part_effect may_stay e l)) h)
+pub has_effect : (deck : Option Deck) (rate : Rate) (may_stay : Bool) (e : Effect) (h : Halves) → is_by_part e ≡ true → HalvesWhole rate h → ((l : Bool) → Below e (in_local h l))
+    → HasEffect deck rate may_stay e h (map_halves (λ l. where_remains (part_effect may_stay e l)) h)
 has_effect deck rate m e h by whole below = leads rate (DoesOrNot deck rate m e) (counted e) (record { local = local; panel = λ s t d. (does_keep deck rate m e s t d).0 }) (part_effect m e) h
     whole
     (λ l n few. few_counted e n (in_local h l) (below l) few) (λ l live. part_leads deck rate m e (in_local h l) by (whole_in rate h whole l) live (below l))
@@ -305,31 +305,31 @@ has_effect deck rate m e h by whole below = leads rate (DoesOrNot deck rate m e)
     local : (s t : State) → DoesOrNot deck rate m e s t → t.local ≡ s.local
     local s t d = elim (does_keep deck rate m e s t d).1 [ inl all ↦ absurd (false≢true (sym (ap is_by_part all) ∙ by)) | inr same ↦ same ]
 
-has_forgotten_all : (deck : Option Deck) (rate : Rate) (may_stay : Bool) (h : Halves) → TwoWhole rate h → HasEffect deck rate may_stay effect.ForgetAll h (all_forgotten h)
-has_forgotten_all deck rate m h whole = subst (λ other. HasEffect deck rate m effect.ForgetAll h (if some_two h then all_or_none other true else h))
-    (sym (two_rate rate h whole)) (record {
+has_forgotten_all : (deck : Option Deck) (rate : Rate) (may_stay : Bool) (h : Halves) → HalvesWhole rate h → HasEffect deck rate may_stay effect.ForgetAll h (all_forgotten h)
+has_forgotten_all deck rate m h whole = subst (λ other. HasEffect deck rate m effect.ForgetAll h (if halves_remain h then all_or_none other true else h))
+    (sym (halves_rate rate h whole)) (record {
       reached = λ pn. (
-        λ t i. cond_both (some_two h) (all_or_none rate true) h (λ g. InTwo pn g t → (s : State) × InTwo pn h s × DoesOrNot deck rate m effect.ForgetAll s t)
-            (λ live i. let w = two_state rate h pn whole live in (w.0, w.1, inl (((all_exactly rate true t).0 i.1).1, i.0 ∙ sym w.1.0)))
-            (λ dead i. absurd (false≢true (sym dead ∙ two_live h t i.1))) i,
-        λ s t i does. elim does [ inl d ↦ (d.1 ∙ i.0, rw (two_live h s i.1) ((all_exactly rate true t).1 (refl, d.0))) | inr w ↦ absurd (false≢true w.0) ],
+        λ t i. cond_both (halves_remain h) (all_or_none rate true) h (λ g. InHalves pn g t → (s : State) × InHalves pn h s × DoesOrNot deck rate m effect.ForgetAll s t)
+            (λ live i. let w = halves_state rate h pn whole live in (w.0, w.1, inl (((all_exactly rate true t).0 i.1).1, i.0 ∙ sym w.1.0)))
+            (λ dead i. absurd (false≢true (sym dead ∙ halves_live h t i.1))) i,
+        λ s t i does. elim does [ inl d ↦ (d.1 ∙ i.0, rw (halves_live h s i.1) ((all_exactly rate true t).1 (refl, d.0))) | inr w ↦ absurd (false≢true w.0) ],
       );
-      whole = cond_both (some_two h) (all_or_none rate true) h (TwoWhole rate) (λ live. whole_two rate true) (λ dead. whole);
-      few = λ n few. cond_both (some_two h) (all_or_none rate true) h (TwoFew n) (λ live. few_two rate n true) (λ dead. few);
+      whole = cond_both (halves_remain h) (all_or_none rate true) h (HalvesWhole rate) (λ live. whole_halves rate true) (λ dead. whole);
+      few = λ n few. cond_both (halves_remain h) (all_or_none rate true) h (HalvesFew n) (λ live. few_halves rate n true) (λ dead. few);
     })
 
 -- ---- a drift after what becomes of the registers
 
-pub two_same : (g h : Halves) → g.remote ≡ h.remote → g.local ≡ h.local → g ≡ h
-two_same g h p q = ap (λ (r : Part). let k : Halves = record g { remote = r } in k) p ∙ ap (λ (l : Part). let k : Halves = record h { local = l } in k) q
+pub halves_same : (g h : Halves) → g.remote ≡ h.remote → g.local ≡ h.local → g ≡ h
+halves_same g h p q = ap (λ (r : Part). let k : Halves = record g { remote = r } in k) p ∙ ap (λ (l : Part). let k : Halves = record h { local = l } in k) q
 
-drift_live : (deck : Option Deck) (f : Part → Part) (p : Part) → drifted_part deck (f p) ≡ f (drifted_part deck p) → drifted_part deck (where_live f p) ≡ where_live f (drifted_part deck p)
-drift_live deck f p same = rw (drift_some deck p.pairs) (elim (is_live p) as (λ b. drifted_part deck (if b then f p else p)
+drift_live : (deck : Option Deck) (f : Part → Part) (p : Part) → drifted_part deck (f p) ≡ f (drifted_part deck p) → drifted_part deck (where_remains f p) ≡ where_remains f (drifted_part deck p)
+drift_live deck f p same = rw (drift_some deck p.pairs) (elim (part_remains p) as (λ b. drifted_part deck (if b then f p else p)
     ≡ (if b then f (drifted_part deck p) else drifted_part deck p)) [ true ↦ same | false ↦ refl ])
 
-pub drift_two : (deck : Option Deck) (f : Bool → Part → Part) (h : Halves) → ((l : Bool) (p : Part) → drifted_part deck (f l p) ≡ f l (drifted_part deck p))
-    → two_drifted deck (map_two (λ l. where_live (f l)) h) ≡ map_two (λ l. where_live (f l)) (two_drifted deck h)
-drift_two deck f h same = grind (arith, two_same, drift_live)
+pub drift_halves : (deck : Option Deck) (f : Bool → Part → Part) (h : Halves) → ((l : Bool) (p : Part) → drifted_part deck (f l p) ≡ f l (drifted_part deck p))
+    → halves_drifted deck (map_halves (λ l. where_remains (f l)) h) ≡ map_halves (λ l. where_remains (f l)) (halves_drifted deck h)
+drift_halves deck f h same = grind (arith, halves_same, drift_live)
 
 -- what becomes of a register's entries is the same after a drift
 pub drift_put : (deck : Option Deck) (r : Register) (f : Entries → Entries) (p : Part) → drifted_part deck (with_entries r (f (entries_of r p)) p)
@@ -337,7 +337,7 @@ pub drift_put : (deck : Option Deck) (r : Register) (f : Entries → Entries) (p
 drift_put deck r f p = grind arith
 
 drift_settled : (deck : Option Deck) (p : Part) → drifted_part deck (settled p) ≡ settled (drifted_part deck p)
-drift_settled deck p = rw (drift_some deck p.pairs) (elim (is_live p && some_entry p.ins && some_entry p.outs && some_entry p.ains && some_entry p.aouts)
+drift_settled deck p = rw (drift_some deck p.pairs) (elim (part_remains p && some_entry p.ins && some_entry p.outs && some_entry p.ains && some_entry p.aouts)
     as (λ b. drifted_part deck (if b then p else no_states (rate_of p)) ≡ (if b then drifted_part deck p else no_states (rate_of p))) [ true ↦ refl | false ↦ refl ])
 
 drift_kept : (deck : Option Deck) (l : Bool) (p : Part) → drifted_part deck (kept_if l p) ≡ kept_if l (drifted_part deck p)
@@ -345,30 +345,30 @@ drift_kept deck l p = grind (arith, drift_settled)
 
 -- what is made aside where there is a state, and then put in place
 changed_is : (may_stay : Bool) (r : Register) (c : Change) (h : Halves)
-    → two_changed may_stay r c h ≡ map_two (λ l. where_live (part_effect may_stay (effect.Change r c) l)) h
+    → halves_changed may_stay r c h ≡ map_halves (λ l. where_remains (part_effect may_stay (effect.Change r c) l)) h
 changed_is may_stay r c h = grind arith
 
 -- what becomes of the registers, and then a drift
 pub after_effect : (deck : Option Deck) (rate : Rate) (may_stay : Bool) (e : Effect) (h : Halves) → is_by_part e ≡ true
-    → ((l : Bool) (p : Part) → drifted_part deck (part_effect may_stay e l p) ≡ part_effect may_stay e l (drifted_part deck p)) → TwoWhole rate h
-    → ((l : Bool) → Below e (in_local (two_drifted deck h) l)) → HasEffect deck rate may_stay e (two_drifted deck h)
-    (two_drifted deck (map_two (λ l. where_live (part_effect may_stay e l)) h))
-after_effect deck rate m e h by same whole below = rw (drift_two deck (part_effect m e) h same) (has_effect deck rate m e (two_drifted deck h) by (drift_whole deck rate h whole) below)
+    → ((l : Bool) (p : Part) → drifted_part deck (part_effect may_stay e l p) ≡ part_effect may_stay e l (drifted_part deck p)) → HalvesWhole rate h
+    → ((l : Bool) → Below e (in_local (halves_drifted deck h) l)) → HasEffect deck rate may_stay e (halves_drifted deck h)
+    (halves_drifted deck (map_halves (λ l. where_remains (part_effect may_stay e l)) h))
+after_effect deck rate m e h by same whole below = rw (drift_halves deck (part_effect m e) h same) (has_effect deck rate m e (halves_drifted deck h) by (drift_whole deck rate h whole) below)
 
-pub after_change : (deck : Option Deck) (rate : Rate) (may_stay : Bool) (r : Register) (c : Change) (h : Halves) → TwoWhole rate h → TwoBelow h
-    → HasEffect deck rate may_stay (effect.Change r c) (two_drifted deck h) (two_drifted deck (two_changed may_stay r c h))
-after_change deck rate m r c h whole below = subst (λ g. HasEffect deck rate m (effect.Change r c) (two_drifted deck h) (two_drifted deck g)) (sym (changed_is m r c h))
+pub after_change : (deck : Option Deck) (rate : Rate) (may_stay : Bool) (r : Register) (c : Change) (h : Halves) → HalvesWhole rate h → HalvesBelow h
+    → HasEffect deck rate may_stay (effect.Change r c) (halves_drifted deck h) (halves_drifted deck (halves_changed may_stay r c h))
+after_change deck rate m r c h whole below = subst (λ g. HasEffect deck rate m (effect.Change r c) (halves_drifted deck h) (halves_drifted deck g)) (sym (changed_is m r c h))
     (after_effect deck rate m (effect.Change r c) h refl (λ l p. drift_kept deck l (changed_part (l || m) r c p) ∙ ap (kept_if l) (drift_put deck r (changed_entries (l || m) c) p)) whole (drift_below deck h below))
 
-pub after_all : (deck : Option Deck) (rate : Rate) (may_stay : Bool) (h : Halves) → TwoWhole rate h → HasEffect deck rate may_stay effect.ForgetAll (two_drifted deck h) (two_drifted deck (all_forgotten h))
-after_all deck rate m h whole = subst (HasEffect deck rate m effect.ForgetAll (two_drifted deck h))
-    (sym (by (some_two h) ∙ ap (λ (b : Bool). if b then all_or_none (rate_in h) true else two_drifted deck h)
-    (sym same))) (has_forgotten_all deck rate m (two_drifted deck h) (drift_whole deck rate h whole))
+pub after_all : (deck : Option Deck) (rate : Rate) (may_stay : Bool) (h : Halves) → HalvesWhole rate h → HasEffect deck rate may_stay effect.ForgetAll (halves_drifted deck h) (halves_drifted deck (all_forgotten h))
+after_all deck rate m h whole = subst (HasEffect deck rate m effect.ForgetAll (halves_drifted deck h))
+    (sym (by (halves_remain h) ∙ ap (λ (b : Bool). if b then all_or_none (rate_in h) true else halves_drifted deck h)
+    (sym same))) (has_forgotten_all deck rate m (halves_drifted deck h) (drift_whole deck rate h whole))
   where
-    same : some_two (two_drifted deck h) ≡ some_two h
-    same = ap (λ b. b || is_live (drifted_part deck h.local)) (drift_some deck h.remote.pairs) ∙ ap (λ b. is_live h.remote || b) (drift_some deck h.local.pairs)
+    same : halves_remain (halves_drifted deck h) ≡ halves_remain h
+    same = ap (λ b. b || part_remains (drifted_part deck h.local)) (drift_some deck h.remote.pairs) ∙ ap (λ b. part_remains h.remote || b) (drift_some deck h.local.pairs)
 
-    by : (b : Bool) → two_drifted deck (if b then all_or_none (rate_in h) true else h) ≡ (if b then all_or_none (rate_in h) true else two_drifted deck h)
+    by : (b : Bool) → halves_drifted deck (if b then all_or_none (rate_in h) true else h) ≡ (if b then all_or_none (rate_in h) true else halves_drifted deck h)
     by true = drifted_all deck (rate_in h) true
     by false = refl
 
@@ -393,19 +393,19 @@ pub leads_as : (rate : Rate) (Goes Other : State → State → Type 0) (count co
 leads_as rate Goes Other count counts h g there back same led = record {
   reached = λ pn. (λ t i. let a = (led.reached pn).0 t i in (a.0, a.1, there a.0 t a.2), λ s t i other. (led.reached pn).1 s t i (back s t i.1 other));
   whole = led.whole;
-  few = λ n few. subst (λ m. TwoFew m g) (sym (same n)) (led.few n few);
+  few = λ n few. subst (λ m. HalvesFew m g) (sym (same n)) (led.few n few);
 }
 
-pub leads_same : (rate : Rate) (h : Halves) → TwoWhole rate h → LeadsOn rate (λ s t. t ≡ s) (λ n. n) h h
-leads_same rate h whole = record { reached = λ pn. (λ t i. (t, i, refl), λ s t i e. subst (InTwo pn h) (sym e) i); whole = whole; few = λ n few. few }
+pub leads_same : (rate : Rate) (h : Halves) → HalvesWhole rate h → LeadsOn rate (λ s t. t ≡ s) (λ n. n) h h
+leads_same rate h whole = record { reached = λ pn. (λ t i. (t, i, refl), λ s t i e. subst (InHalves pn h) (sym e) i); whole = whole; few = λ n few. few }
 
 -- nothing but a drift
 pub after_drift : (deck : Option Deck) (rate : Rate) (may_stay : Bool) (e : Effect) (h : Halves) → ((s t : State) → (t ≡ s) → Does (untouched deck rate) e s t)
     → ((s t : State) → Does (untouched deck rate) e s t → t ≡ s)
-    → ((n : Presets) → counted e n ≡ n) → TwoWhole rate h → HasEffect deck rate may_stay e (two_drifted deck h) (two_drifted deck h)
-after_drift deck rate m e h there back same whole = leads_as rate (λ s t. t ≡ s) (DoesOrNot deck rate m e) (λ n. n) (counted e) (two_drifted deck h) (two_drifted deck h)
+    → ((n : Presets) → counted e n ≡ n) → HalvesWhole rate h → HasEffect deck rate may_stay e (halves_drifted deck h) (halves_drifted deck h)
+after_drift deck rate m e h there back same whole = leads_as rate (λ s t. t ≡ s) (DoesOrNot deck rate m e) (λ n. n) (counted e) (halves_drifted deck h) (halves_drifted deck h)
     (λ s t e. inl (there s t e)) (λ s t i d. elim d [ inl does ↦ back s t does | inr (may, stays, e) ↦ e ]) same
-    (leads_same rate (two_drifted deck h) (drift_whole deck rate h whole))
+    (leads_same rate (halves_drifted deck h) (drift_whole deck rate h whole))
 
 -- ---- a register's time
 
@@ -420,8 +420,8 @@ sense_exactly rate r bytes p t same =
       λ i.
           let there = (settled_exactly (with_entries r new p) t).0 i in
           let w = tells.0 (subst (λ es. Allows es e) (read_put r new p) (there.registers r)) in
-          (subst (InPart p) (put r e t).own (take_out r new p e t there w.0), w.1),
-      λ (i, told). (settled_exactly (with_entries r new p) t).1 (subst (InPart (with_entries r new p)) (put r e t).own
+          (subst (InPart p) (put r e t).same (take_out r new p e t there w.0), w.1),
+      λ (i, told). (settled_exactly (with_entries r new p) t).1 (subst (InPart (with_entries r new p)) (put r e t).same
           (put_in r new p e t i (tells.1 (i.registers r, told)))),
     )
 
@@ -490,7 +490,7 @@ few_where n None p few = few
 few_where n (Some set) p few = each_register _ (few_set n.ins set.ins p.ins (few RegIn)) (few_set n.outs set.outs p.outs (few RegOut))
     (few_set n.ains set.ains p.ains (few RegAudioIn)) (few_set n.aouts set.aouts p.aouts (few RegAudioOut))
 
-reads_status : (rate : Rate) (status : Status) (h : Halves) → TwoWhole rate h → LeadsOn rate (λ s t. ShowsStatus s status × (t ≡ s)) (λ n. n) h (two_status status h)
+reads_status : (rate : Rate) (status : Status) (h : Halves) → HalvesWhole rate h → LeadsOn rate (λ s t. ShowsStatus s status × (t ≡ s)) (λ n. n) h (halves_status status h)
 reads_status rate status h whole = reads rate (λ s. ShowsStatus s status) (λ l. status_part l status) h whole (λ p t same. status_exactly status p t)
     (λ l p same. cond_both (is_as_wanted status.local l) (reported_part status p) (no_states (rate_of p)) (Whole rate)
     (λ e. whole_settled rate (set_where status.registers (masked_part status.shown p)) (reported_rate rate status p same))
@@ -513,17 +513,17 @@ pub presets_of : (deck : Option Deck) (c : Command) (reply : Block) (n : Presets
 presets_of deck c reply n nak = rw nak (command_counts deck c n)
 
 -- a drift, and then a step
-exchanged_by : (deck : Option Deck) (rate : Rate) (c : Command) (reply : Block) (Goes : State → State → Type 0) (count : Presets → Presets) (h g : Halves) → TwoWhole rate h
+exchanged_by : (deck : Option Deck) (rate : Rate) (c : Command) (reply : Block) (Goes : State → State → Type 0) (count : Presets → Presets) (h g : Halves) → HalvesWhole rate h
     → ((s t : State) → Goes s t ↔ DeckStep (untouched deck rate) c reply s t)
-    → ((n : Presets) → presets_after c reply true n ≡ count n) → LeadsOn rate Goes count (two_drifted deck h) g → Taken deck rate c (Some reply) h g
+    → ((n : Presets) → presets_after c reply true n ≡ count n) → LeadsOn rate Goes count (halves_drifted deck h) g → Taken deck rate c (Some reply) h g
 exchanged_by deck rate c reply Goes count h g whole steps same led = leads_then rate (Drift (untouched deck rate)) (DeckStep (untouched deck rate) c reply) (λ n. n) (presets_after c reply true) h
-    (two_drifted deck h) g (drift_leads deck rate h whole)
-    (leads_as rate Goes (DeckStep (untouched deck rate) c reply) count (presets_after c reply true) (two_drifted deck h) g (λ s t. (steps s t).0) (λ s t i. (steps s t).1) same
+    (halves_drifted deck h) g (drift_leads deck rate h whole)
+    (leads_as rate Goes (DeckStep (untouched deck rate) c reply) count (presets_after c reply true) (halves_drifted deck h) g (λ s t. (steps s t).0) (λ s t i. (steps s t).1) same
     led)
 
-pub exchanged_nak : (deck : Option Deck) (rate : Rate) (c : Command) (reply : Block) (h : Halves) → is_nak reply ≡ true → TwoWhole rate h → Taken deck rate c (Some reply) h (two_drifted deck h)
-exchanged_nak deck rate c reply h nak whole = exchanged_by deck rate c reply (λ s t. t ≡ s) (λ n. n) h (two_drifted deck h) whole (λ s t. (λ e. refused nak e, back s t))
-    (λ n. rw nak refl) (leads_same rate (two_drifted deck h) (drift_whole deck rate h whole))
+pub exchanged_nak : (deck : Option Deck) (rate : Rate) (c : Command) (reply : Block) (h : Halves) → is_nak reply ≡ true → HalvesWhole rate h → Taken deck rate c (Some reply) h (halves_drifted deck h)
+exchanged_nak deck rate c reply h nak whole = exchanged_by deck rate c reply (λ s t. t ≡ s) (λ n. n) h (halves_drifted deck h) whole (λ s t. (λ e. refused nak e, back s t))
+    (λ n. rw nak refl) (leads_same rate (halves_drifted deck h) (drift_whole deck rate h whole))
   where
     back : (s t : State) → DeckStep (untouched deck rate) c reply s t → t ≡ s
     back s t h = grind arith
@@ -534,40 +534,40 @@ asks : (deck : Option Deck) (rate : Rate) (c : Command) (reply : Block) (q : Sen
 asks deck rate c reply q nak sensed none s t = grind arith
 
 drift_sensed : (deck : Option Deck) (r : Register) (time : Option ℕ) (h : Halves)
-    → two_drifted deck (two_sensed r time h) ≡ map_two (λ l. where_live (sensed_part r time)) (two_drifted deck h)
-drift_sensed deck r time h = ap (two_drifted deck) (two_same _ (map_two (λ l. where_live (sensed_part r time)) h) (by h.remote (is_live h.remote))
-    (by h.local (is_live h.local)))
-    ∙ drift_two deck (λ l. sensed_part r time) h (λ l p. drift_settled deck (with_entries r (agreeing time (entries_of r p)) p)
+    → halves_drifted deck (halves_sensed r time h) ≡ map_halves (λ l. where_remains (sensed_part r time)) (halves_drifted deck h)
+drift_sensed deck r time h = ap (halves_drifted deck) (halves_same _ (map_halves (λ l. where_remains (sensed_part r time)) h) (by h.remote (part_remains h.remote))
+    (by h.local (part_remains h.local)))
+    ∙ drift_halves deck (λ l. sensed_part r time) h (λ l p. drift_settled deck (with_entries r (agreeing time (entries_of r p)) p)
     ∙ ap settled (drift_put deck r (agreeing time) p))
   where
     by : (p : Part) (b : Bool) → put_settled r (if b then Some (agreeing time (entries_of r p)) else None) p ≡ (if b then sensed_part r time p else p)
     by p b = grind arith
 
-pub exchanged_sense : (deck : Option Deck) (rate : Rate) (c : Command) (reply : Block) (r : Register) (h : Halves) → is_nak reply ≡ false → sense_of c ≡ sense.Register r → TwoWhole rate h
-    → Taken deck rate c (Some reply) h (two_drifted deck (two_sensed r (time_of rate reply.bytes.items) h))
+pub exchanged_sense : (deck : Option Deck) (rate : Rate) (c : Command) (reply : Block) (r : Register) (h : Halves) → is_nak reply ≡ false → sense_of c ≡ sense.Register r → HalvesWhole rate h
+    → Taken deck rate c (Some reply) h (halves_drifted deck (halves_sensed r (time_of rate reply.bytes.items) h))
 exchanged_sense deck rate c reply r h nak wanted whole =
     let bytes = reply.bytes.items in
     let at = time_of rate bytes in
     let none : effect_of deck c ≡ effect.Nothing = elim (asks_or_acts deck c) [ inl e ↦ cc | inr none ↦ none ] in
     rw (drift_sensed deck r at h) (exchanged_by deck rate c reply (λ s t. Tells rate (entry_of r s) bytes × (t ≡ s)) (λ n. n) h
-    (map_two (λ l. where_live (sensed_part r at)) (two_drifted deck h)) whole
+    (map_halves (λ l. where_remains (sensed_part r at)) (halves_drifted deck h)) whole
     (asks deck rate c reply (sense.Register r) nak wanted none) (λ n. presets_of deck c reply n nak ∙ ap (λ e. counted e n) none)
-    (reads rate (λ s. Tells rate (entry_of r s) bytes) (λ l. sensed_part r at) (two_drifted deck h) (drift_whole deck rate h whole) (sense_exactly rate r bytes)
+    (reads rate (λ s. Tells rate (entry_of r s) bytes) (λ l. sensed_part r at) (halves_drifted deck h) (drift_whole deck rate h whole) (sense_exactly rate r bytes)
     (λ l p same. whole_settled rate (with_entries r (agreeing at (entries_of r p)) p)
     (put_rate rate r (agreeing at (entries_of r p)) p same (agreeing_rate at (entries_of r p))))
     (λ l n p few. few_settled n _ (few_put n r (agreeing at (entries_of r p)) p few (few_agreeing _ at (entries_of r p))))))
 
-pub exchanged_status : (deck : Option Deck) (rate : Rate) (c : Command) (reply : Block) (asked : ℕ) (h : Halves) → is_nak reply ≡ false → sense_of c ≡ sense.Status asked → TwoWhole rate h
-    → Taken deck rate c (Some reply) h (two_status (status_of asked reply) (two_drifted deck h))
+pub exchanged_status : (deck : Option Deck) (rate : Rate) (c : Command) (reply : Block) (asked : ℕ) (h : Halves) → is_nak reply ≡ false → sense_of c ≡ sense.Status asked → HalvesWhole rate h
+    → Taken deck rate c (Some reply) h (halves_status (status_of asked reply) (halves_drifted deck h))
 exchanged_status deck rate c reply asked h nak asks_for whole =
     let status = status_of asked reply in
     let none : effect_of deck c ≡ effect.Nothing = elim (asks_or_acts deck c) [ inl e ↦ cc | inr none ↦ none ] in
-    exchanged_by deck rate c reply (λ s t. ShowsStatus s status × (t ≡ s)) (λ n. n) h (two_status status (two_drifted deck h)) whole
+    exchanged_by deck rate c reply (λ s t. ShowsStatus s status × (t ≡ s)) (λ n. n) h (halves_status status (halves_drifted deck h)) whole
     (asks deck rate c reply (sense.Status asked) nak asks_for none)
-    (λ n. presets_of deck c reply n nak ∙ ap (λ e. counted e n) none) (reads_status rate status (two_drifted deck h) (drift_whole deck rate h whole))
+    (λ n. presets_of deck c reply n nak ∙ ap (λ e. counted e n) none) (reads_status rate status (halves_drifted deck h) (drift_whole deck rate h whole))
 
-pub exchanged_effect : (deck : Option Deck) (rate : Rate) (c : Command) (reply : Block) (h g : Halves) → is_nak reply ≡ false → sense_of c ≡ sense.Nothing → TwoWhole rate h
-    → HasEffect deck rate false (effect_of deck c) (two_drifted deck h) g → Taken deck rate c (Some reply) h g
+pub exchanged_effect : (deck : Option Deck) (rate : Rate) (c : Command) (reply : Block) (h g : Halves) → is_nak reply ≡ false → sense_of c ≡ sense.Nothing → HalvesWhole rate h
+    → HasEffect deck rate false (effect_of deck c) (halves_drifted deck h) g → Taken deck rate c (Some reply) h g
 exchanged_effect deck rate c reply h g nak sensed whole =
     exchanged_by deck rate c reply (DoesOrNot deck rate false (effect_of deck c)) (counted (effect_of deck c)) h g whole (λ s t. (there s t, back s t)) (λ n. presets_of deck c reply n nak)
   where

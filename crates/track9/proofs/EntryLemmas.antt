@@ -3,7 +3,7 @@
 use Rattle.track9.proofs.Words.{all_has, and-true, Deck, either, has-and, nothing_has, ten_of, way_of}
 use Rattle.track9.proofs.Words.{[], agreeing, Allows, and_parts, any_mode, ap, arith, At, Becomes, BelowDay, bit_of, Bool}
 use Rattle.track9.proofs.Words.{just_of, nat_lt, Rate, with_time, both_ways, by_goal, Change, changed_entries, Clear, cond_both, contains-every_time, contains-insert_nat, contains-items_nat, contains-just, day}
-use Rattle.track9.proofs.Words.{drifted_with, Entries, Entry, eqb-true, every_mode, every_time, false, false_from_ne_true, false≢true, find_mode, goal_if_shown, goals_of, goes, halted}
+use Rattle.track9.proofs.Words.{drifted_with, Entries, Entry, eqb-true, every_mode, every_time, false, false_from_ne_true, false≢true, find_mode, goal_if_shown, goals_of, all_shown, halted}
 use Rattle.track9.proofs.Words.{has, has-or, has_pair, if◌then◌else◌, image_from, image_to, inl, inr, is_mode, is_mode-same, is_nil, is_set, is_some, just, just_has}
 use Rattle.track9.proofs.Words.{kept_goal, List, list_any, ltb-true, Mode, mode_self, mode_some, modes, ModeSet, nat_cmp, nat_cmp_total, nat_eq, nat_tests, Next}
 use Rattle.track9.proofs.Words.{next_frame, no_entries, None, not, not-true, Option, or-false, or-true, or_assoc, or_cases, or_left}
@@ -23,17 +23,17 @@ pub pair_by_goal : (f : Mode → ModeSet) (g m : Mode) → has_pair (by_goal f) 
 pair_by_goal f g m = grind arith
 
 -- a mode may be shown where it is shown with some goal
-goes_any : (p : List ModeSet) (m : Mode) → has (goes p).0 m ≡ list_any (λ g. has_pair p g m) every_mode
+goes_any : (p : List ModeSet) (m : Mode) → has (all_shown p).0 m ≡ list_any (λ g. has_pair p g m) every_mode
 goes_any p m = simp (has-or, or_assoc, or-false)
 
-pub goes_from : (p : List ModeSet) (m : Mode) → has (goes p).0 m ≡ true → (g : Mode) × (has_pair p g m ≡ true)
+pub goes_from : (p : List ModeSet) (m : Mode) → has (all_shown p).0 m ≡ true → (g : Mode) × (has_pair p g m ≡ true)
 goes_from p m h = find_mode (λ g. has_pair p g m) every_mode (sym (goes_any p m) ∙ h)
 
-pub goes_to : (p : List ModeSet) (g m : Mode) → has_pair p g m ≡ true → has (goes p).0 m ≡ true
+pub goes_to : (p : List ModeSet) (g m : Mode) → has_pair p g m ≡ true → has (all_shown p).0 m ≡ true
 goes_to p g m h = goes_any p m ∙ any_mode (λ g. has_pair p g m) g h
 
-pub pairs_some : (p : List ModeSet) (g m : Mode) → has_pair p g m ≡ true → is_some (goes p) ≡ true
-pairs_some p g m h = mode_some (goes p) m (goes_to p g m h)
+pub pairs_some : (p : List ModeSet) (g m : Mode) → has_pair p g m ≡ true → is_some (all_shown p) ≡ true
+pairs_some p g m h = mode_some (all_shown p) m (goes_to p g m h)
 
 if_has : (b : Bool) (f m : Mode) → has (if b then modes (bit_of f) else modes 0).0 m ≡ (is_mode m f && b)
 if_has b f m = grind arith
@@ -76,7 +76,7 @@ drifted_from deck p g m h = elim (or_cases _ _ (sym (drifted_has deck p g m) ∙
     | inr moved ↦ let w = and_parts _ _ moved in let n = some_mode (shown_with p g) w.0 in
         (g, n.0, n.1, inl (refl, inr (elim (or_cases _ _ w.1) [ inl e ↦ inl (is_mode-same m g e) | inr e ↦ inr e ])))
   ]
-  | inr stop ↦ let w = and_parts _ _ stop in let v = and_parts _ _ w.1 in let n = some_mode (goes p) v.0 in let f = goes_from p n.0 n.1 in
+  | inr stop ↦ let w = and_parts _ _ stop in let v = and_parts _ _ w.1 in let n = some_mode (all_shown p) v.0 in let f = goes_from p n.0 n.1 in
       (f.0, n.0, f.1, inr (is_mode-same g Stop w.0, elim (or_cases _ _ v.1) [ inl e ↦ inl (is_mode-same m Stop e) | inr e ↦ inr e ]))
 ]
 

@@ -1,11 +1,11 @@
 -- What is known of modes, of facts and of a register; and what a tracker keeps, remains and counts.
 use Rattle.track9.proofs.Words.{Allows, and_parts, ap, AreFew, AreTimes, AreWhole, arith, At, begin_count-empty, Block, Bool, Clear, Command, contains-just}
 use Rattle.track9.proofs.Words.{contains-remove_nat, count_of, either, Entries, entries_of, Entry, entry_of, eqb, eqb-true, false, false_from_ne_true, false≢true, Follows}
-use Rattle.track9.proofs.Words.{Profile, profile_of, Rate, rate_for, goals_in, goals_of, goes, has, has-or, has_pair, in_local, inl, InPart, inr, is_live, is_nil, is_panel_live, is_set}
+use Rattle.track9.proofs.Words.{Profile, profile_of, Rate, rate_for, goals_in, goals_of, all_shown, has, has-or, has_pair, in_local, inl, InPart, inr, part_remains, is_nil, remains_with_panel_on, is_set}
 use Rattle.track9.proofs.Words.{is_some, IsKept, IsKnown, IsKnownEntry, IsSpanCount, IsTrue, join_options, joined, joined_known, just, Known, known_fact, KnownEntry, KnowsModes}
-use Rattle.track9.proofs.Words.{KnowsOf, List, max, max-zero, Mode, mode_some, ModeSet, nat_cmp, nat_tests, None, not, on_two, Option, part_of, PartKnows, Part}
-use Rattle.track9.proofs.Words.{Possible, Presets, presets_after, refl, Register, same_test, same_times, shown_in, shown_with, Some, some_entry, some_mode, some_state}
-use Rattle.track9.proofs.Words.{some_two, span_count, span_count-begin_count, State, States, subst, sym, Times, true, two_of, TwoKnow, Halves, TwoWhole}
+use Rattle.track9.proofs.Words.{KnowsOf, List, max, max-zero, Mode, mode_some, ModeSet, nat_cmp, nat_tests, None, not, on_halves, Option, part_of, PartKnows, Part}
+use Rattle.track9.proofs.Words.{Possible, Presets, presets_after, refl, Register, same_test, same_times, shown_in, shown_with, Some, some_entry, some_mode, states_remain}
+use Rattle.track9.proofs.Words.{halves_remain, span_count, span_count-begin_count, State, States, subst, sym, Times, true, halves_of, HalvesKnow, Halves, HalvesWhole}
 use Rattle.track9.proofs.Words.{Whole, with_entry, ℕ, ◌+◌, ◌||◌, ◌↔◌, ◌∙◌, ◌≡◌, ◌≢◌, ◌≤◌, ◌⊎◌}
 use Rattle.std.specs.FinSet as set
 use Rattle.deck9.specs.declared.knowledge.KnownEntry.TheVariants as entry
@@ -37,7 +37,7 @@ pair_state : (v : States) (l pn : Bool) (g m : Mode) → AreWhole (rate_for v) v
     → (s : State) × Possible v s × (s.goal ≡ g) × (s.shown ≡ m)
 pair_state v l pn g m whole pair =
     let p = part_of v l pn in
-    let w = a_state (rate_for v) p l pn (part_whole (rate_for v) v whole l pn) (mode_some (goes p.pairs) m (goes_to p.pairs g m pair)) in
+    let w = a_state (rate_for v) p l pn (part_whole (rate_for v) v whole l pn) (mode_some (all_shown p.pairs) m (goes_to p.pairs g m pair)) in
     let s : State = record w.0 { goal = g; shown = m } in (s, possible v s l pn w.2 w.3 (in_pairs p p.pairs w.0 g m w.1.registers pair), refl, refl)
 
 -- the set has exactly the modes that the states have
@@ -66,9 +66,9 @@ has_goals v = has_modes (λ g m. g) goals_of v
     (λ p n. (λ h. let m = some_mode (shown_with p n) (sym (goals_has p n) ∙ h) in (n, m.0, m.1, refl), λ (g, m, pair, e). rw (← e) (goal_to p g m pair)))
 
 pub has_shown : (v : States) → AreWhole (rate_for v) v → HasModes (Possible v) (λ (s : State). s.shown) (shown_in v)
-has_shown v = has_modes (λ g m. m) goes v (λ p n. (λ h. let g = goes_from p n h in (g.0, n, g.1, refl), λ (g, m, pair, e). rw (← e) (goes_to p g m pair)))
+has_shown v = has_modes (λ g m. m) all_shown v (λ p n. (λ h. let g = goes_from p n h in (g.0, n, g.1, refl), λ (g, m, pair, e). rw (← e) (goes_to p g m pair)))
 
-pub modes_some : (v : States) (field : State → Mode) (set : ModeSet) → HasModes (Possible v) field set → AreWhole (rate_for v) v → some_state v ≡ true → is_some set ≡ true
+pub modes_some : (v : States) (field : State → Mode) (set : ModeSet) → HasModes (Possible v) field set → AreWhole (rate_for v) v → states_remain v ≡ true → is_some set ≡ true
 modes_some v field set h whole live = let w = live_some (rate_for v) v whole live in mode_some set (field w.0) (h.there w.0 w.1)
 
 -- what is known of a mode of all states, by the set of these modes
@@ -84,24 +84,24 @@ fact_known : (X : State → Type 0) (field : State → Bool) (is_there : Bool �
 fact_known X field is_there there back some = grind arith
 
 -- the part of a state is live
-live_part : (v : States) (s : State) → Possible v s → is_live (part_of v s.local s.panel) ≡ true
+live_part : (v : States) (s : State) → Possible v s → part_remains (part_of v s.local s.panel) ≡ true
 live_part v s i = state_live (part_of v s.local s.panel) s (impossible v s s.local s.panel refl refl i)
 
-live_state : (v : States) (l pn : Bool) → AreWhole (rate_for v) v → is_live (part_of v l pn) ≡ true → (s : State) × Possible v s × (s.local ≡ l) × (s.panel ≡ pn)
+live_state : (v : States) (l pn : Bool) → AreWhole (rate_for v) v → part_remains (part_of v l pn) ≡ true → (s : State) × Possible v s × (s.local ≡ l) × (s.panel ≡ pn)
 live_state v l pn whole live = let w = a_state (rate_for v) (part_of v l pn) l pn (part_whole (rate_for v) v whole l pn) live in (w.0, possible v w.0 l pn w.2 w.3 w.1, w.2, w.3)
 
-pub local_known : (v : States) → AreWhole (rate_for v) v → some_state v ≡ true
-    → IsKnown (Possible v) (λ (s : State). s.local) (known_fact (is_live (part_of v false false) || is_live (part_of v false true))
-    (is_live (part_of v true false) || is_live (part_of v true true)))
-local_known v whole live = fact_known (Possible v) (λ (s : State). s.local) (λ l. is_live (part_of v l false) || is_live (part_of v l true))
-    (λ s i. any_way (λ pn. is_live (part_of v s.local pn)) s.panel (live_part v s i))
-    (λ l h. let pn = some_way (λ pn. is_live (part_of v l pn)) h in let w = live_state v l pn.0 whole pn.1 in (w.0, w.1, w.2)) (live_some (rate_for v) v whole live)
+pub local_known : (v : States) → AreWhole (rate_for v) v → states_remain v ≡ true
+    → IsKnown (Possible v) (λ (s : State). s.local) (known_fact (part_remains (part_of v false false) || part_remains (part_of v false true))
+    (part_remains (part_of v true false) || part_remains (part_of v true true)))
+local_known v whole live = fact_known (Possible v) (λ (s : State). s.local) (λ l. part_remains (part_of v l false) || part_remains (part_of v l true))
+    (λ s i. any_way (λ pn. part_remains (part_of v s.local pn)) s.panel (live_part v s i))
+    (λ l h. let pn = some_way (λ pn. part_remains (part_of v l pn)) h in let w = live_state v l pn.0 whole pn.1 in (w.0, w.1, w.2)) (live_some (rate_for v) v whole live)
 
-pub panel_known : (v : States) → AreWhole (rate_for v) v → some_state v ≡ true
-    → IsKnown (Possible v) (λ (s : State). s.panel) (known_fact (some_two v.off) (is_panel_live v))
-panel_known v whole live = fact_known (Possible v) (λ (s : State). s.panel) (λ pn. some_two (two_of v pn))
-    (λ s i. any_way (λ l. is_live (part_of v l s.panel)) s.local (live_part v s i))
-    (λ pn h. let l = some_way (λ l. is_live (part_of v l pn)) h in let w = live_state v l.0 pn whole l.1 in (w.0, w.1, w.3)) (live_some (rate_for v) v whole live)
+pub panel_known : (v : States) → AreWhole (rate_for v) v → states_remain v ≡ true
+    → IsKnown (Possible v) (λ (s : State). s.panel) (known_fact (halves_remain v.off) (remains_with_panel_on v))
+panel_known v whole live = fact_known (Possible v) (λ (s : State). s.panel) (λ pn. halves_remain (halves_of v pn))
+    (λ s i. any_way (λ l. part_remains (part_of v l s.panel)) s.local (live_part v s i))
+    (λ pn h. let l = some_way (λ l. part_remains (part_of v l pn)) h in let w = live_state v l.0 pn whole l.1 in (w.0, w.1, w.3)) (live_some (rate_for v) v whole live)
 
 -- ---- one set of entries
 
@@ -197,8 +197,8 @@ part_knows rate p r (Some k) whole h = (some_allowed (entries_of r p) ((whole r)
 abbrev InEither : Halves → Register → Entry → Type 0
 InEither h r = Either (λ l. Allows (entries_of r (in_local h l)))
 
-two_know : (rate : Rate) (h : Halves) (r : Register) (o : Option KnownEntry) → TwoWhole rate h → TwoKnow h r o → Knows (InEither h r) o
-two_know rate h r o whole (a, b, remote, local, e) =
+halves_know : (rate : Rate) (h : Halves) (r : Register) (o : Option KnownEntry) → HalvesWhole rate h → HalvesKnow h r o → Knows (InEither h r) o
+halves_know rate h r o whole (a, b, remote, local, e) =
     subst (Knows (InEither h r)) (sym e) (knows_either (λ l. Allows (entries_of r (in_local h l))) a b (part_knows rate h.remote r a whole.remote remote)
     (part_knows rate h.local r b whole.local local))
 
@@ -218,35 +218,35 @@ known_of : (X : State → Type 0) (r : Register) (E : Entry → Type 0) (k : Kno
     → ((e : Entry) → E e → (s : State) × X s × (entry_of r s ≡ e)) → KnowsOf E k → IsKnownEntry X r k
 known_of X r E k there back h = grind arith
 
-pub entry_known : (v : States) (r : Register) (off on all : Option KnownEntry) (k : KnownEntry) → AreWhole (rate_for v) v → TwoKnow (two_of v false) r off
-    → TwoKnow (two_of v true) r on → all ≡ join_options off on → all ≡ Some k
+pub entry_known : (v : States) (r : Register) (off on all : Option KnownEntry) (k : KnownEntry) → AreWhole (rate_for v) v → HalvesKnow (halves_of v false) r off
+    → HalvesKnow (halves_of v true) r on → all ≡ join_options off on → all ≡ Some k
     → IsKnownEntry (Possible v) r k
 unfolding Knows
 entry_known v r off on all k whole h i joined found =
-    let E : Bool → Entry → Type 0 = λ pn. InEither (two_of v pn) r in
+    let E : Bool → Entry → Type 0 = λ pn. InEither (halves_of v pn) r in
     known_of (Possible v) r (Either E) k (λ s i. (s.panel, (s.local, (impossible v s s.local s.panel refl refl i).registers r)))
     (λ e (pn, (l, a)). let w = part_of_entry v r l pn e whole a in (w.0, w.1, w.4))
-    (subst (Knows (Either E)) (sym joined ∙ found) (knows_either E off on (two_know (rate_for v) v.off r off whole.off h) (two_know (rate_for v) (on_two (rate_for v) v.on) r on whole.on i))).1
+    (subst (Knows (Either E)) (sym joined ∙ found) (knows_either E off on (halves_know (rate_for v) v.off r off whole.off h) (halves_know (rate_for v) (on_halves (rate_for v) v.on) r on whole.on i))).1
 
 -- ---- whether a state remains
 
-pub remains_where : (v : States) → AreWhole (rate_for v) v → IsTrue (some_state v) ↔ ((s : State) × Possible v s)
+pub remains_where : (v : States) → AreWhole (rate_for v) v → IsTrue (states_remain v) ↔ ((s : State) × Possible v s)
 remains_where v whole = (λ h. live_some (rate_for v) v whole h, λ w. some_live v w.0 w.1)
 
 -- ---- after an exchange
 
-dead_few : (n : Presets) (v : States) → AreWhole (rate_for v) v → some_state v ≡ false → AreFew n v
+dead_few : (n : Presets) (v : States) → AreWhole (rate_for v) v → states_remain v ≡ false → AreFew n v
 dead_few n v whole dead pn l r =
-    let dead_in : is_live (part_of v l pn) ≡ false = false_from_ne_true _ (λ live.
+    let dead_in : part_remains (part_of v l pn) ≡ false = false_from_ne_true _ (λ live.
     let w = live_state v l pn whole live in false≢true (sym dead ∙ some_live v w.0 w.1)) in
     rw (no_times (entries_of r (part_of v l pn)) ((part_whole (rate_for v) v whole l pn r).0 ∙ dead_in)) (omega (arith, begin_count-empty (entries_of r (part_of v l pn)).rate))
 
-pub own_whole : (p : Profile) (w : States) → profile_of p.deck w ≡ p → AreWhole p.rate w → AreWhole (rate_for w) w
-own_whole p w same whole = subst (λ rate. AreWhole rate w) (sym (ap (λ (p : Profile). p.rate) same)) whole
+pub whole_at_rate : (p : Profile) (w : States) → profile_of p.deck w ≡ p → AreWhole p.rate w → AreWhole (rate_for w) w
+whole_at_rate p w same whole = subst (λ rate. AreWhole rate w) (sym (ap (λ (p : Profile). p.rate) same)) whole
 
 pub kept_after : (c : Command) (reply : Block) (v w : States) (p : Profile) (n : Presets) → IsKept n v → Follows p c (Some reply) v w
-    → IsKept (presets_after c reply (some_state w) n) w
-kept_after c reply v w p n kept follows = grind (arith, own_whole, dead_few)
+    → IsKept (presets_after c reply (states_remain w) n) w
+kept_after c reply v w p n kept follows = grind (arith, whole_at_rate, dead_few)
 
 -- ---- spans
 

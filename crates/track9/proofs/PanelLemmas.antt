@@ -2,18 +2,18 @@
 use Rattle.track9.proofs.Words.{Deck}
 use Rattle.track9.proofs.Words.{[], after_panel, all_drifted, all_or_none, AllLeadOn, ap, AreBelow, AreFew, AreReached, AreWhole, BelowDay, Block, Bool}
 use Rattle.track9.proofs.Words.{CanPass, Command, cond_both, counted, counts_after, Does, DoesOrNot, done, Drift, drift_from_pairs, DriftsAndGoes, Effect, effect_of, effect_taken, either_panel, entries_of}
-use Rattle.track9.proofs.Words.{false, false≢true, first_states, Follows, FollowsDrift, goes, Hands, hands_by, hands_of, has, HasEffect, if◌then◌else◌}
-use Rattle.track9.proofs.Words.{in_local, inl, InPart, inr, InTwo, is_nak, is_panel_live, is_wide, IsIn, IsKept, IsState}
-use Rattle.track9.proofs.Words.{LeadsOn, None, on_two, Option, panel_passed, Possible, Presets, presets_after, refl, RegIn}
-use Rattle.track9.proofs.Words.{Register, sense_of, Some, some_state, State, States, DeckStep, subst, switched, sym, Taken, StepOrPass, true, two_drifted, two_of, TwoBelow, TwoFew, Halves}
-use Rattle.track9.proofs.Words.{Profile, profile_of, Rate, rate_for, rate_in, untouched, TwoWhole, with_command, ◌↔◌, ◌∙◌, ◌≡◌, ◌⊎◌}
+use Rattle.track9.proofs.Words.{false, false≢true, first_states, Follows, FollowsDrift, all_shown, Hands, hands_by, hands_of, has, HasEffect, if◌then◌else◌}
+use Rattle.track9.proofs.Words.{in_local, inl, InPart, inr, InHalves, is_nak, remains_with_panel_on, is_wide, IsIn, IsKept, IsState}
+use Rattle.track9.proofs.Words.{LeadsOn, None, on_halves, Option, panel_passed, Possible, Presets, presets_after, refl, RegIn}
+use Rattle.track9.proofs.Words.{Register, sense_of, Some, states_remain, State, States, DeckStep, subst, switched, sym, Taken, StepOrPass, true, halves_drifted, halves_of, HalvesBelow, HalvesFew, Halves}
+use Rattle.track9.proofs.Words.{Profile, profile_of, Rate, rate_for, rate_in, untouched, HalvesWhole, with_command, ◌↔◌, ◌∙◌, ◌≡◌, ◌⊎◌}
 use Rattle.deck9.specs.declared.effect.Effect.TheVariants as effect
 use Rattle.deck9.specs.declared.sense.Sense.TheVariants as sense
 use Rattle.deck9.specs.declared.state.Hands.TheVariants as hands
 use Rattle.track9.proofs.EffectLemmas.{asks_or_acts, command_counts, drift_leads, leads_as, leads_same, leads_then, presets_of}
 use Rattle.track9.proofs.EntryLemmas.{from_empty}
-use Rattle.track9.proofs.PartLemmas.{drifted_all, all_exactly, both_few, by_panel, drift_below, drift_few, drift_panel, drift_state, drift_whole, few_two, first_exactly, live_some}
-use Rattle.track9.proofs.PartLemmas.{of_rate, off_drift, two_rate, whole_in, possible_state, same_drift, some_live, state_is, two_live, two_none, two_state, whole_two}
+use Rattle.track9.proofs.PartLemmas.{drifted_all, all_exactly, both_few, by_panel, drift_below, drift_few, drift_panel, drift_state, drift_whole, few_halves, first_exactly, live_some}
+use Rattle.track9.proofs.PartLemmas.{of_rate, off_drift, halves_rate, whole_in, possible_state, same_drift, some_live, state_is, halves_live, halves_none, halves_state, whole_halves}
 use Rattle.std.proofs.Common.{arith}
 
 -- a deck of a rate whose panel somebody may touch
@@ -40,14 +40,14 @@ pub leads_off : (deck : Option Deck) (rate : Rate) (Goes : Profile → State →
     → AllLeadOn (untouched deck rate) (Goes (untouched deck rate)) count (panel_off h) (panel_off g)
 leads_off deck rate Goes count keeps h g leads = record {
   reached = by_panel (Goes (untouched deck rate)) keeps (panel_off h) (panel_off g) (leads.reached false)
-      (λ t i. two_none (rate_in g) t i.1, λ s t i goes. two_none (rate_in h) s i.1);
-  profile = ap (untouched deck) (two_rate rate g leads.whole);
-  whole = record { off = leads.whole; on = whole_two rate false };
-  few = λ n few. both_few (count n) (panel_off g) (leads.few n (few false)) (few_two (rate_in g) (count n) false);
+      (λ t i. halves_none (rate_in g) t i.1, λ s t i goes. halves_none (rate_in h) s i.1);
+  profile = ap (untouched deck) (halves_rate rate g leads.whole);
+  whole = record { off = leads.whole; on = whole_halves rate false };
+  few = λ n few. both_few (count n) (panel_off g) (leads.few n (few false)) (few_halves (rate_in g) (count n) false);
 }
 
 -- all times of two parts are times of the day
-pub below_off : (h : Halves) → TwoBelow h → AreBelow (panel_off h)
+pub below_off : (h : Halves) → HalvesBelow h → AreBelow (panel_off h)
 below_off h below = record { off = below; on = by }
   where
     by : (l : Bool) (r : Register)
@@ -77,13 +77,13 @@ narrow_take deck rate c reply narrow = record { same = λ h k s t. same h k s t 
 pub leads_both : (deck : Option Deck) (Goes : Profile → State → State → Type 0) (count : Presets → Presets) (v : States) (off on : Halves) → IsNarrow deck (rate_for v) Goes
     → AreWhole (rate_for v) v → AreBelow v
     → LeadsOn (rate_for v) (DriftsAndGoes Goes (untouched deck (rate_for v))) count v.off off
-    → LeadsOn (rate_for v) (DriftsAndGoes Goes (untouched deck (rate_for v))) count (all_or_none (rate_for v) (is_panel_live v)) on
+    → LeadsOn (rate_for v) (DriftsAndGoes Goes (untouched deck (rate_for v))) count (all_or_none (rate_for v) (remains_with_panel_on v)) on
     → AllLeadOn (touched deck (rate_for v)) (DriftsAndGoes Goes (touched deck (rate_for v))) count v (record { off = off; on = Some on })
 leads_both deck Goes count v off on narrow whole below first second = record {
   reached = by_panel (DriftsAndGoes Goes (touched deck (rate_for v))) keeps v (record { off = off; on = Some on }) off_reached on_reached;
-  profile = ap (touched deck) (two_rate (rate_for v) off first.whole);
+  profile = ap (touched deck) (halves_rate (rate_for v) off first.whole);
   whole = record { off = first.whole; on = second.whole };
-  few = λ n few. both_few (count n) (record { off = off; on = Some on }) (first.few n (few false)) (second.few n (few_two (rate_for v) n (is_panel_live v)));
+  few = λ n few. both_few (count n) (record { off = off; on = Some on }) (first.few n (few false)) (second.few n (few_halves (rate_for v) n (remains_with_panel_on v)));
 }
   where
     rate : Rate
@@ -92,7 +92,7 @@ leads_both deck Goes count v off on narrow whole below first second = record {
     keeps : (s t : State) → DriftsAndGoes Goes (touched deck rate) s t → t.panel ≡ s.panel
     keeps s t (d, drift, step) = narrow.panel d t (d, ([], refl), narrow.same hands.Allowed hands.None d t step) ∙ drift_panel (touched deck rate) s d drift
 
-    off_reached : AreReached (InTwo false v.off) (DriftsAndGoes Goes (touched deck rate)) (InTwo false off)
+    off_reached : AreReached (InHalves false v.off) (DriftsAndGoes Goes (touched deck rate)) (InHalves false off)
     off_reached = (
       λ t i. let a = (first.reached false).0 t i in (
         a.0,
@@ -102,18 +102,18 @@ leads_both deck Goes count v off on narrow whole below first second = record {
       λ s t i w. (first.reached false).1 s t i (w.0, off_drift (touched deck rate) s w.0 i.0 w.1, narrow.same hands.Allowed hands.None w.0 t w.2),
     )
 
-    on_reached : AreReached (InTwo true (on_two rate v.on)) (DriftsAndGoes Goes (touched deck rate)) (InTwo true on)
+    on_reached : AreReached (InHalves true (on_halves rate v.on)) (DriftsAndGoes Goes (touched deck rate)) (InHalves true on)
     on_reached = (
       λ t i.
           let a = (second.reached true).0 t i in
-          let all = (all_exactly rate (is_panel_live v) a.0).0 a.1.1 in
-          let s = two_state rate (two_of v true) true whole.on all.0 in
+          let all = (all_exactly rate (remains_with_panel_on v) a.0).0 a.1.1 in
+          let s = halves_state rate (halves_of v true) true whole.on all.0 in
           let drift = drift_from_pairs (touched deck rate) s.0 a.2.0 (inr
           (refl, s.1.0, drift_panel (untouched deck rate) a.0 a.2.0 a.2.1 ∙ a.1.0, drift_state (untouched deck rate) a.0 a.2.0 all.1 a.2.1)) in
           (s.0, s.1, (a.2.0, drift, narrow.same hands.None hands.Allowed a.2.0 t a.2.2)),
       λ s t i (d, drift, step).
-          let e = drift_state (touched deck rate) s d (state_is rate (in_local (on_two rate v.on) s.local) s (of_rate rate (in_local (on_two rate v.on) s.local) (whole_in rate (on_two rate v.on) whole.on s.local)) (below.on s.local) i.1) drift in
-          (second.reached true).1 d t (drift_panel (touched deck rate) s d drift ∙ i.0, (all_exactly rate (is_panel_live v) d).1 (two_live (on_two rate v.on) s i.1, e))
+          let e = drift_state (touched deck rate) s d (state_is rate (in_local (on_halves rate v.on) s.local) s (of_rate rate (in_local (on_halves rate v.on) s.local) (whole_in rate (on_halves rate v.on) whole.on s.local)) (below.on s.local) i.1) drift in
+          (second.reached true).1 d t (drift_panel (touched deck rate) s d drift ∙ i.0, (all_exactly rate (remains_with_panel_on v) d).1 (halves_live (on_halves rate v.on) s i.1, e))
           (d, ([], refl), narrow.same hands.Allowed hands.None d t step),
     )
 
@@ -144,18 +144,18 @@ wide_step deck rate c reply e was wide = (
 -- a drift alone
 all_drift : (deck : Option Deck) (v : States) → AreWhole (rate_for v) v → AreBelow v
     → AllLeadOn (touched deck (rate_for v)) (DriftsAndGoes (λ p s t. t ≡ s) (touched deck (rate_for v))) (λ n. n) v (all_drifted deck v)
-all_drift deck v whole below = leads_both deck (λ p s t. t ≡ s) (λ n. n) v (two_drifted deck v.off) (all_or_none rate (is_panel_live v))
+all_drift deck v whole below = leads_both deck (λ p s t. t ≡ s) (λ n. n) v (halves_drifted deck v.off) (all_or_none rate (remains_with_panel_on v))
     (record { same = λ h k s t e. e; panel = λ s t w. ap (λ (u : State). u.panel) w.2 ∙ drift_panel (untouched deck rate) s w.0 w.1 }) whole below
     (stays v.off whole.off)
-    (subst (λ g. LeadsOn rate (DriftsAndGoes (λ p s t. t ≡ s) (untouched deck rate)) (λ n. n) (all_or_none rate (is_panel_live v)) g)
-    (drifted_all deck rate (is_panel_live v)) (stays (all_or_none rate (is_panel_live v)) (whole_two rate (is_panel_live v))))
+    (subst (λ g. LeadsOn rate (DriftsAndGoes (λ p s t. t ≡ s) (untouched deck rate)) (λ n. n) (all_or_none rate (remains_with_panel_on v)) g)
+    (drifted_all deck rate (remains_with_panel_on v)) (stays (all_or_none rate (remains_with_panel_on v)) (whole_halves rate (remains_with_panel_on v))))
   where
     rate : Rate
     rate = rate_for v
 
-    stays : (h : Halves) → TwoWhole rate h → LeadsOn rate (DriftsAndGoes (λ p s t. t ≡ s) (untouched deck rate)) (λ n. n) h (two_drifted deck h)
-    stays h whole = leads_then rate (Drift (untouched deck rate)) (λ s t. t ≡ s) (λ n. n) (λ n. n) h (two_drifted deck h) (two_drifted deck h) (drift_leads deck rate h whole)
-        (leads_same rate (two_drifted deck h) (drift_whole deck rate h whole))
+    stays : (h : Halves) → HalvesWhole rate h → LeadsOn rate (DriftsAndGoes (λ p s t. t ≡ s) (untouched deck rate)) (λ n. n) h (halves_drifted deck h)
+    stays h whole = leads_then rate (Drift (untouched deck rate)) (λ s t. t ≡ s) (λ n. n) (λ n. n) h (halves_drifted deck h) (halves_drifted deck h) (drift_leads deck rate h whole)
+        (leads_same rate (halves_drifted deck h) (drift_whole deck rate h whole))
 
 pub follows_drift : (deck : Option Deck) (v : States) → AreWhole (rate_for v) v → AreBelow v → FollowsDrift (touched deck (rate_for v)) v (all_drifted deck v)
 follows_drift deck v whole below = let a = all_drift deck v whole below in record {
@@ -171,44 +171,44 @@ follows_drift deck v whole below = let a = all_drift deck v whole below in recor
 -- ---- the panel is switched
 
 -- a part does not tell the panel
-in_panel : (h : Halves) (t : State) (b : Bool) → InPart (in_local h t.local) t → InTwo b h (record t { panel = b })
+in_panel : (h : Halves) (t : State) (b : Bool) → InPart (in_local h t.local) t → InHalves b h (record t { panel = b })
 in_panel h t b i = grind arith
 
 -- with the other value of the panel there is none
-switched_exactly : (rate : Rate) (on : Bool) (h : Halves) (t : State) → Possible (switched rate on h) t ↔ InTwo on h t
+switched_exactly : (rate : Rate) (on : Bool) (h : Halves) (t : State) → Possible (switched rate on h) t ↔ InHalves on h t
 switched_exactly rate on h t = grind arith
 
-switched_keeps : (deck : Option Deck) (rate : Rate) (on : Bool) (h : Halves) → TwoWhole rate h → (profile_of deck (switched rate on h) ≡ touched deck rate) × AreWhole rate (switched rate on h)
-    × ((n : Presets) → TwoFew n h → AreFew n (switched rate on h))
+switched_keeps : (deck : Option Deck) (rate : Rate) (on : Bool) (h : Halves) → HalvesWhole rate h → (profile_of deck (switched rate on h) ≡ touched deck rate) × AreWhole rate (switched rate on h)
+    × ((n : Presets) → HalvesFew n h → AreFew n (switched rate on h))
 switched_keeps deck rate false h whole = (
-  ap (touched deck) (two_rate rate h whole),
-  record { off = whole; on = whole_two rate false },
-  λ n few. both_few n (switched rate false h) few (few_two rate n false),
+  ap (touched deck) (halves_rate rate h whole),
+  record { off = whole; on = whole_halves rate false },
+  λ n few. both_few n (switched rate false h) few (few_halves rate n false),
 )
 switched_keeps deck rate true h whole =
-    (refl, record { off = whole_two rate false; on = whole }, λ n few. both_few n (switched rate true h) (few_two rate n false) few)
+    (refl, record { off = whole_halves rate false; on = whole }, λ n few. both_few n (switched rate true h) (few_halves rate n false) few)
 
-either_whole : (deck : Option Deck) (v : States) → AreWhole (rate_for v) v → TwoWhole (rate_for v) (either_panel deck v)
-either_whole deck v whole = cond_both (is_panel_live v) (all_or_none (rate_for v) true) (two_drifted deck v.off) (TwoWhole (rate_for v))
-    (λ on. whole_two (rate_for v) true) (λ off. drift_whole deck (rate_for v) v.off whole.off)
+either_whole : (deck : Option Deck) (v : States) → AreWhole (rate_for v) v → HalvesWhole (rate_for v) (either_panel deck v)
+either_whole deck v whole = cond_both (remains_with_panel_on v) (all_or_none (rate_for v) true) (halves_drifted deck v.off) (HalvesWhole (rate_for v))
+    (λ on. whole_halves (rate_for v) true) (λ off. drift_whole deck (rate_for v) v.off whole.off)
 
-either_few : (deck : Option Deck) (v : States) (n : Presets) → AreFew n v → TwoFew n (either_panel deck v)
-either_few deck v n few = cond_both (is_panel_live v) (all_or_none (rate_for v) true) (two_drifted deck v.off) (TwoFew n) (λ on. few_two (rate_for v) n true)
+either_few : (deck : Option Deck) (v : States) (n : Presets) → AreFew n v → HalvesFew n (either_panel deck v)
+either_few deck v n few = cond_both (remains_with_panel_on v) (all_or_none (rate_for v) true) (halves_drifted deck v.off) (HalvesFew n) (λ on. few_halves (rate_for v) n true)
     (λ off. drift_few deck n v.off (few false))
 
 -- a state that a drift leads to is one of those put together whatever the panel, and each of them is one, with some value of the panel
 either_to : (deck : Option Deck) (v : States) (t : State) (pn : Bool) → IsState (rate_for v) t → IsIn (if pn then (all_drifted deck v).on else Some (all_drifted deck v).off) t
     → InPart (in_local (either_panel deck v) t.local) t
-either_to deck v t true valid i = (elim (is_panel_live v) as (λ b. InPart (in_local (all_or_none (rate_for v) b) t.local) t
-    → InPart (in_local (if b then all_or_none (rate_for v) true else two_drifted deck v.off) t.local) t)
-    [ true ↦ λ i. i | false ↦ λ i. two_none (rate_for v) t i ]) i
-either_to deck v t false valid i = cond_both (is_panel_live v) (all_or_none (rate_for v) true) (two_drifted deck v.off) (λ h. InPart (in_local h t.local) t)
+either_to deck v t true valid i = (elim (remains_with_panel_on v) as (λ b. InPart (in_local (all_or_none (rate_for v) b) t.local) t
+    → InPart (in_local (if b then all_or_none (rate_for v) true else halves_drifted deck v.off) t.local) t)
+    [ true ↦ λ i. i | false ↦ λ i. halves_none (rate_for v) t i ]) i
+either_to deck v t false valid i = cond_both (remains_with_panel_on v) (all_or_none (rate_for v) true) (halves_drifted deck v.off) (λ h. InPart (in_local h t.local) t)
     (λ on. (all_exactly (rate_for v) true t).1 (refl, valid)) (λ off. i)
 
 either_from : (deck : Option Deck) (v : States) (t : State) → InPart (in_local (either_panel deck v) t.local) t → (pn : Bool) × Possible (all_drifted deck v) (record t { panel = pn })
-either_from deck v t i = (elim (is_panel_live v) as (λ b. InPart (in_local (if b then all_or_none (rate_for v) true else two_drifted deck v.off) t.local) t
-    → (pn : Bool) × IsIn (if pn then Some (all_or_none (rate_for v) b) else Some (two_drifted deck v.off)) (record t { panel = pn }))
-    [ true ↦ λ i. (true, (in_panel (all_or_none (rate_for v) true) t true i).1) | false ↦ λ i. (false, (in_panel (two_drifted deck v.off) t false i).1) ]) i
+either_from deck v t i = (elim (remains_with_panel_on v) as (λ b. InPart (in_local (if b then all_or_none (rate_for v) true else halves_drifted deck v.off) t.local) t
+    → (pn : Bool) × IsIn (if pn then Some (all_or_none (rate_for v) b) else Some (halves_drifted deck v.off)) (record t { panel = pn }))
+    [ true ↦ λ i. (true, (in_panel (all_or_none (rate_for v) true) t true i).1) | false ↦ λ i. (false, (in_panel (halves_drifted deck v.off) t false i).1) ]) i
 
 panel_reached : (deck : Option Deck) (on : Bool) (v : States) → AreWhole (rate_for v) v → AreBelow v
     → AreReached (Possible v) (DriftsAndGoes (λ p. Does p (effect.Panel on)) (touched deck (rate_for v))) (Possible (after_panel deck on v))
@@ -237,30 +237,30 @@ follows_panel deck c reply on v was whole below = let w = wide_step deck (rate_f
 
 pub first_kept : (rate : Rate) (h : Hands) (n : Presets) → IsKept n (first_states rate h)
 first_kept rate hands.None n = record {
-  whole = record { off = whole_two rate true; on = whole_two rate false };
-  few = both_few n (first_states rate hands.None) (few_two rate n true) (few_two rate n false);
+  whole = record { off = whole_halves rate true; on = whole_halves rate false };
+  few = both_few n (first_states rate hands.None) (few_halves rate n true) (few_halves rate n false);
 }
 first_kept rate hands.Allowed n = record {
-  whole = record { off = whole_two rate true; on = whole_two rate true };
-  few = both_few n (first_states rate hands.Allowed) (few_two rate n true) (few_two rate n true);
+  whole = record { off = whole_halves rate true; on = whole_halves rate true };
+  few = both_few n (first_states rate hands.Allowed) (few_halves rate n true) (few_halves rate n true);
 }
 
 leads_forgotten : (deck : Option Deck) (Goes : State → State → Type 0) (count : Presets → Presets) (v : States) → hands_of v ≡ hands.Allowed → AreWhole (rate_for v) v
     → ((s t : State) → IsState (rate_for v) t → Goes s t) → ((s t : State) → Possible v s → Goes s t → IsState (rate_for v) t)
-    → ((n : Presets) → count n ≡ n) → AllLeadOn (touched deck (rate_for v)) Goes count v (if some_state v then first_states (rate_for v) hands.Allowed else v)
-leads_forgotten deck Goes count v allowed whole there back counts = by (some_state v) refl
+    → ((n : Presets) → count n ≡ n) → AllLeadOn (touched deck (rate_for v)) Goes count v (if states_remain v then first_states (rate_for v) hands.Allowed else v)
+leads_forgotten deck Goes count v allowed whole there back counts = by (states_remain v) refl
   where
     every : Profile
     every = touched deck (rate_for v)
 
-    by : (b : Bool) → some_state v ≡ b → AllLeadOn every Goes count v (if b then first_states (rate_for v) hands.Allowed else v)
+    by : (b : Bool) → states_remain v ≡ b → AllLeadOn every Goes count v (if b then first_states (rate_for v) hands.Allowed else v)
     by true live = record {
       reached = (
         λ t i. let s = live_some (rate_for v) v whole live in (s.0, s.1, there s.0 t ((first_exactly every t).0 i).0),
         λ s t i goes. (first_exactly every t).1 (back s t i goes, tt),
       );
       profile = refl;
-      whole = record { off = whole_two (rate_for v) true; on = whole_two (rate_for v) true };
+      whole = record { off = whole_halves (rate_for v) true; on = whole_halves (rate_for v) true };
       few = λ n few. (first_kept (rate_for v) hands.Allowed (count n)).few;
     }
     by false dead = record {
@@ -276,14 +276,14 @@ passes_back : (deck : Option Deck) (rate : Rate) (e : Effect) (s t : State) → 
 passes_back deck rate e s t valid h = grind arith
 
 -- a drift, and then nothing or the effect
-pub passed_effect : (deck : Option Deck) (rate : Rate) (c : Command) (h g : Halves) → TwoWhole rate h → TwoBelow h → HasEffect deck rate true (effect_of deck c) (two_drifted deck h) g
+pub passed_effect : (deck : Option Deck) (rate : Rate) (c : Command) (h g : Halves) → HalvesWhole rate h → HalvesBelow h → HasEffect deck rate true (effect_of deck c) (halves_drifted deck h) g
     → Taken deck rate c None h g
-passed_effect deck rate c h g whole below has = leads_then rate (Drift (untouched deck rate)) (CanPass (untouched deck rate) c) (λ n. n) (with_command c) h (two_drifted deck h) g
+passed_effect deck rate c h g whole below has = leads_then rate (Drift (untouched deck rate)) (CanPass (untouched deck rate) c) (λ n. n) (with_command c) h (halves_drifted deck h) g
     (drift_leads deck rate h whole)
-    (leads_as rate (DoesOrNot deck rate true (effect_of deck c)) (CanPass (untouched deck rate) c) (counted (effect_of deck c)) (with_command c) (two_drifted deck h) g
+    (leads_as rate (DoesOrNot deck rate true (effect_of deck c)) (CanPass (untouched deck rate) c) (counted (effect_of deck c)) (with_command c) (halves_drifted deck h) g
     (λ s t d. elim d [ inl does ↦ inr does | inr (may, stays, e) ↦ inl e ])
     (λ s t i. passes_back deck rate (effect_of deck c) s t
-    (state_is rate (in_local (two_drifted deck h) s.local) s (of_rate rate (in_local (two_drifted deck h) s.local) (whole_in rate (two_drifted deck h) (drift_whole deck rate h whole) s.local))
+    (state_is rate (in_local (halves_drifted deck h) s.local) s (of_rate rate (in_local (halves_drifted deck h) s.local) (whole_in rate (halves_drifted deck h) (drift_whole deck rate h whole) s.local))
     (drift_below deck h below s.local) i)) (command_counts deck c) has)
 
 -- a state after a passed switch is one of those that stayed, or one of those that the switch leads to
@@ -296,8 +296,8 @@ passed_exactly deck on v t = by on t.panel
 
     by : (on pn : Bool) → (In pn (panel_passed deck on v) → In pn (all_drifted deck v) ⊎ In pn (after_panel deck on v))
         × ((IsState (rate_for v) t × In pn (all_drifted deck v)) ⊎ In pn (after_panel deck on v) → In pn (panel_passed deck on v))
-    by true false = (λ i. inl i, λ w. elim w [ inl (valid, i) ↦ i | inr i ↦ two_none (rate_for v) t i ])
-    by false true = (λ i. inl i, λ w. elim w [ inl (valid, i) ↦ i | inr i ↦ two_none (rate_for v) t i ])
+    by true false = (λ i. inl i, λ w. elim w [ inl (valid, i) ↦ i | inr i ↦ halves_none (rate_for v) t i ])
+    by false true = (λ i. inl i, λ w. elim w [ inl (valid, i) ↦ i | inr i ↦ halves_none (rate_for v) t i ])
     by true true = (λ i. inr i, λ w. elim w [ inl (valid, i) ↦ either_to deck v t true valid i | inr i ↦ i ])
     by false false = (λ i. inr i, λ w. elim w [ inl (valid, i) ↦ either_to deck v t false valid i | inr i ↦ i ])
 
@@ -332,15 +332,15 @@ passed_panel deck c on v is whole below = let keeps = by on in record {
           (drift_few deck n v.off (few false)) (either_few deck v n few),
     )
     by false = (
-      ap (touched deck) (two_rate (rate_for v) (either_panel deck v) (either_whole deck v whole)),
-      record { off = either_whole deck v whole; on = whole_two (rate_for v) (is_panel_live v) },
+      ap (touched deck) (halves_rate (rate_for v) (either_panel deck v) (either_whole deck v whole)),
+      record { off = either_whole deck v whole; on = whole_halves (rate_for v) (remains_with_panel_on v) },
       λ n few. both_few n (panel_passed deck false v) (either_few deck v n few)
-          (few_two (rate_for v) n (is_panel_live v)),
+          (few_halves (rate_for v) n (remains_with_panel_on v)),
     )
 
 pub follows_forget : (deck : Option Deck) (c : Command) (reply : Option Block) (v : States) → effect_taken deck c reply ≡ effect.ForgetAll → hands_of v ≡ hands.Allowed → AreWhole (rate_for v) v
     → AreBelow v
-    → Follows (touched deck (rate_for v)) c reply v (if some_state v then first_states (rate_for v) hands.Allowed else v)
+    → Follows (touched deck (rate_for v)) c reply v (if states_remain v then first_states (rate_for v) hands.Allowed else v)
 follows_forget deck c None v is allowed whole below = leads_forgotten deck (DriftsAndGoes (StepOrPass c None) (touched deck (rate_for v))) (counts_after c None) v allowed whole
     (λ s t valid. (s, ([], refl), inr (rw is (valid, tt))))
     (λ s t i (d, drift, can). elim can [

@@ -7,11 +7,11 @@ use Rattle.track9.proofs.Words.{agreeing, all_entries, all_has, all_or_none, all
 use Rattle.track9.proofs.Words.{begin_count, begin_count-empty, begin_count-every_time, begin_count-insert, begin_count-just, begin_count-next, begin_count-prev}
 use Rattle.track9.proofs.Words.{begin_count-span_count, begin_count-widened_next, begin_count-widened_prev, BelowDay, Bool, Change, changed_entries, changed_part}
 use Rattle.track9.proofs.Words.{cond_both, count_of, counted, Drift, drift_from_pairs, drifted, drifted_part, drifted_with, Effect, Entries, entries_of, Entry, entry_of, false}
-use Rattle.track9.proofs.Words.{false≢true, first_states, goes, Hands, has_pair, if◌then◌else◌, in_local, inl, InPart, inr, InTwo, is_live, IsEntry, IsFirst, IsIn, IsState}
-use Rattle.track9.proofs.Words.{KeepsRest, List, Mode, modes, ModeSet, Next, no_states, nothing_has, on_two, one_more, Option, or_cases, PairReaches}
+use Rattle.track9.proofs.Words.{false≢true, first_states, all_shown, Hands, has_pair, if◌then◌else◌, in_local, inl, InPart, inr, InHalves, part_remains, IsEntry, IsFirst, IsIn, IsState}
+use Rattle.track9.proofs.Words.{KeepsRest, List, Mode, modes, ModeSet, Next, no_states, nothing_has, on_halves, one_more, Option, or_cases, PairReaches}
 use Rattle.track9.proofs.Words.{pairs_from_drift, part_of, Part, Possible, Presets, Prev, refl, RegAudioIn, RegAudioOut, RegIn, Register, RegOut, Reset, same_entries, set_entries}
-use Rattle.track9.proofs.Words.{same_test, SetAt, settled, Some, some_entry, some_mode, some_pair, some_state, some_two, span_count-in_day, State, States, subst, sym}
-use Rattle.track9.proofs.Words.{Times, true, two_drifted, two_of, TwoBelow, TwoFew, Halves, TwoWhole, Whole, with_entries, with_entry, with_one, with_pairs, ℕ, ◌&&◌, ◌+◌, ◌||◌}
+use Rattle.track9.proofs.Words.{same_test, SetAt, settled, Some, some_entry, some_mode, some_pair, states_remain, halves_remain, span_count-in_day, State, States, subst, sym}
+use Rattle.track9.proofs.Words.{Times, true, halves_drifted, halves_of, HalvesBelow, HalvesFew, Halves, HalvesWhole, Whole, with_entries, with_entry, with_one, with_pairs, ℕ, ◌&&◌, ◌+◌, ◌||◌}
 use Rattle.track9.proofs.Words.{day, first_on, just_of, MayBeOn, Profile, Rate, rate_for, rate_in, rate_of, untouched, with_time, ◌↔◌, ◌∙◌, ◌≡◌, ◌≤◌}
 use Rattle.deck9.specs.declared.effect.Effect.TheVariants as effect
 use Rattle.deck9.specs.declared.state.Hands.TheVariants as hands
@@ -55,7 +55,7 @@ put_same r p = grind arith
 pub record IsPut (r : Register) (e : Entry) (s : State) : Type 0 where
   pub entry : entry_of r (with_entry r e s) ≡ e
   pub again : with_entry r (entry_of r s) (with_entry r e s) ≡ s
-  pub own : with_entry r (entry_of r s) s ≡ s
+  pub same : with_entry r (entry_of r s) s ≡ s
   pub local : (with_entry r e s).local ≡ s.local
   pub panel : (with_entry r e s).panel ≡ s.panel
 
@@ -74,16 +74,16 @@ pairs_registers p q t h = let old = h.registers in each_register _ (old RegIn) (
 -- ---- parts with states
 
 -- a part with a state is live
-pub state_live : (p : Part) (s : State) → InPart p s → is_live p ≡ true
+pub state_live : (p : Part) (s : State) → InPart p s → part_remains p ≡ true
 state_live p s h = pairs_some p.pairs s.goal s.shown h.pair
 
-pub not_live : {P : Type 0} (p : Part) (s : State) → is_live p ≡ false → InPart p s → P
+pub not_live : {P : Type 0} (p : Part) (s : State) → part_remains p ≡ false → InPart p s → P
 not_live p s dead h = absurd (false≢true (sym dead ∙ state_live p s h))
 
 -- a live part has a state, whatever its local and panel
-pub a_state : (rate : Rate) (p : Part) (l pn : Bool) → Whole rate p → is_live p ≡ true → (s : State) × InPart p s × (s.local ≡ l) × (s.panel ≡ pn)
+pub a_state : (rate : Rate) (p : Part) (l pn : Bool) → Whole rate p → part_remains p ≡ true → (s : State) × InPart p s × (s.local ≡ l) × (s.panel ≡ pn)
 a_state rate p l pn whole live =
-    let m = some_mode (goes p.pairs) live in let g = goes_from p.pairs m.0 m.1 in
+    let m = some_mode (all_shown p.pairs) live in let g = goes_from p.pairs m.0 m.1 in
     let a = some_allowed p.ins ((whole RegIn).0 ∙ live) in let b = some_allowed p.outs ((whole RegOut).0 ∙ live) in
     let c = some_allowed p.ains ((whole RegAudioIn).0 ∙ live) in let d = some_allowed p.aouts ((whole RegAudioOut).0 ∙ live) in
     let s : State = record { goal = g.0; shown = m.0; ins = a.0; outs = b.0; ains = c.0; aouts = d.0; local = l; panel = pn } in
@@ -126,12 +126,12 @@ settled_exactly p t = (
 
 -- ---- each factor of a part keeps something, or none does
 
-pub whole_put : (rate : Rate) (r : Register) (es : Entries) (p : Part) → Whole rate p → some_entry es ≡ is_live p → es.rate ≡ rate
+pub whole_put : (rate : Rate) (r : Register) (es : Entries) (p : Part) → Whole rate p → some_entry es ≡ part_remains p → es.rate ≡ rate
     → Whole rate (with_entries r es p)
-whole_put rate RegIn es p old new same = each_put (λ q es. (some_entry es ≡ is_live p) × (es.rate ≡ rate)) RegIn es p old (new, same)
-whole_put rate r es p old new same = each_put (λ q es. (some_entry es ≡ is_live p) × (es.rate ≡ rate)) r es p old (new, same)
+whole_put rate RegIn es p old new same = each_put (λ q es. (some_entry es ≡ part_remains p) × (es.rate ≡ rate)) RegIn es p old (new, same)
+whole_put rate r es p old new same = each_put (λ q es. (some_entry es ≡ part_remains p) × (es.rate ≡ rate)) r es p old (new, same)
 
-pub whole_pairs : (rate : Rate) (q : List ModeSet) (p : Part) → Whole rate p → some_pair q ≡ is_live p → Whole rate (with_pairs q p)
+pub whole_pairs : (rate : Rate) (q : List ModeSet) (p : Part) → Whole rate p → some_pair q ≡ part_remains p → Whole rate (with_pairs q p)
 whole_pairs rate q p old same = rw same (each_register _ (old RegIn) (old RegOut) (old RegAudioIn) (old RegAudioOut))
 
 pub whole_all : (rate : Rate) → Whole rate (all_states rate)
@@ -150,19 +150,19 @@ of_rate rate p whole r = (whole r).1
 
 pub whole_settled : (rate : Rate) (p : Part) → OfRate rate p → Whole rate (settled p)
 whole_settled rate p same = cond_both _ p (no_states (rate_of p)) (Whole rate) (λ e.
-    let d = and_parts (is_live p && some_entry p.ins && some_entry p.outs && some_entry p.ains) (some_entry p.aouts) e in
-    let c = and_parts (is_live p && some_entry p.ins && some_entry p.outs) (some_entry p.ains) d.0 in
-    let b = and_parts (is_live p && some_entry p.ins) (some_entry p.outs) c.0 in
-    let a = and_parts (is_live p) (some_entry p.ins) b.0 in
+    let d = and_parts (part_remains p && some_entry p.ins && some_entry p.outs && some_entry p.ains) (some_entry p.aouts) e in
+    let c = and_parts (part_remains p && some_entry p.ins && some_entry p.outs) (some_entry p.ains) d.0 in
+    let b = and_parts (part_remains p && some_entry p.ins) (some_entry p.outs) c.0 in
+    let a = and_parts (part_remains p) (some_entry p.ins) b.0 in
     each_register _ (a.1 ∙ sym a.0, same RegIn) (b.1 ∙ sym a.0, same RegOut) (c.1 ∙ sym a.0, same RegAudioIn) (d.1 ∙ sym a.0, same RegAudioOut))
     (λ e. subst (λ other. Whole rate (no_states other)) (sym (same RegIn)) (whole_none rate))
 
 -- a drift leaves a state, and makes none from nothing
 pub drift_some : (deck : Option Deck) (p : List ModeSet) → some_pair (drifted deck p) ≡ some_pair p
 drift_some deck p = same_test (some_pair (drifted deck p)) (some_pair p)
-    (λ h. let m = some_mode (goes (drifted deck p)) h in let g = goes_from (drifted deck p) m.0 m.1 in
+    (λ h. let m = some_mode (all_shown (drifted deck p)) h in let g = goes_from (drifted deck p) m.0 m.1 in
     let w = drifted_from deck p g.0 m.0 (sym (pair_by_goal (drifted_with deck p) g.0 m.0) ∙ g.1) in pairs_some p w.0 w.1 w.2)
-    (λ h. let m = some_mode (goes p) h in let g = goes_from p m.0 m.1 in
+    (λ h. let m = some_mode (all_shown p) h in let g = goes_from p m.0 m.1 in
     pairs_some (drifted deck p) g.0 m.0 (pair_by_goal (drifted_with deck p) g.0 m.0 ∙ drifted_to deck p g.0 m.0 g.0 m.0 g.1 (inl (refl, inl refl))))
 
 -- all pairs stay all pairs
@@ -177,7 +177,7 @@ all_drifted_pairs deck = simp full
 pub drifted_all_states : (deck : Option Deck) (rate : Rate) → drifted_part deck (all_states rate) ≡ all_states rate
 drifted_all_states deck rate = rw (all_drifted_pairs deck) refl
 
-pub drifted_all : (deck : Option Deck) (rate : Rate) (b : Bool) → two_drifted deck (all_or_none rate b) ≡ all_or_none rate b
+pub drifted_all : (deck : Option Deck) (rate : Rate) (b : Bool) → halves_drifted deck (all_or_none rate b) ≡ all_or_none rate b
 drifted_all deck rate true = rw (all_drifted_pairs deck) refl
 drifted_all deck rate false = refl
 
@@ -186,39 +186,39 @@ whole_drift deck rate p whole = whole_pairs rate (drifted deck p.pairs) p whole 
 
 -- ---- two parts
 
-pub whole_two : (rate : Rate) (b : Bool) → TwoWhole rate (all_or_none rate b)
-whole_two rate true = record { remote = whole_all rate; local = whole_all rate }
-whole_two rate false = record { remote = whole_none rate; local = whole_none rate }
+pub whole_halves : (rate : Rate) (b : Bool) → HalvesWhole rate (all_or_none rate b)
+whole_halves rate true = record { remote = whole_all rate; local = whole_all rate }
+whole_halves rate false = record { remote = whole_none rate; local = whole_none rate }
 
 pub one_rate : (rate : Rate) (b : Bool) → rate_in (all_or_none rate b) ≡ rate
 one_rate rate b = grind arith
 
-pub whole_in : (rate : Rate) (h : Halves) → TwoWhole rate h → (l : Bool) → Whole rate (in_local h l)
+pub whole_in : (rate : Rate) (h : Halves) → HalvesWhole rate h → (l : Bool) → Whole rate (in_local h l)
 whole_in rate h whole l = grind arith
 
 -- the rate of what is whole
-pub two_rate : (rate : Rate) (h : Halves) → TwoWhole rate h → rate_in h ≡ rate
-two_rate rate h whole = (whole.remote RegIn).1
+pub halves_rate : (rate : Rate) (h : Halves) → HalvesWhole rate h → rate_in h ≡ rate
+halves_rate rate h whole = (whole.remote RegIn).1
 
--- by their own rate
+-- by the rate that they have
 pub own_part : (rate : Rate) (p : Part) → Whole rate p → Whole (rate_of p) p
 own_part rate p whole = subst (λ other. Whole other p) (sym (whole RegIn).1) whole
 
-pub own_two : (rate : Rate) (h : Halves) → TwoWhole rate h → TwoWhole (rate_in h) h
-own_two rate h whole = subst (λ other. TwoWhole other h) (sym (two_rate rate h whole)) whole
+pub halves_at_rate : (rate : Rate) (h : Halves) → HalvesWhole rate h → HalvesWhole (rate_in h) h
+halves_at_rate rate h whole = subst (λ other. HalvesWhole other h) (sym (halves_rate rate h whole)) whole
 
-pub own_on : (v : States) (h : Halves) → AreWhole (rate_for v) v → v.on ≡ Some h → TwoWhole (rate_in h) h
-own_on v h whole on = own_two (rate_for v) h (subst (λ o. TwoWhole (rate_for v) (on_two (rate_for v) o)) on whole.on)
+pub own_on : (v : States) (h : Halves) → AreWhole (rate_for v) v → v.on ≡ Some h → HalvesWhole (rate_in h) h
+own_on v h whole on = halves_at_rate (rate_for v) h (subst (λ o. HalvesWhole (rate_for v) (on_halves (rate_for v) o)) on whole.on)
 
 pub all_rate : (rate : Rate) (v : States) → AreWhole rate v → rate_for v ≡ rate
-all_rate rate v whole = two_rate rate v.off whole.off
+all_rate rate v whole = halves_rate rate v.off whole.off
 
-pub whole_of : (rate : Rate) (v : States) → AreWhole rate v → (pn : Bool) → TwoWhole rate (two_of v pn)
+pub whole_of : (rate : Rate) (v : States) → AreWhole rate v → (pn : Bool) → HalvesWhole rate (halves_of v pn)
 whole_of rate v whole false = whole.off
 whole_of rate v whole true = rw (all_rate rate v whole) whole.on
 
 pub part_whole : (rate : Rate) (v : States) → AreWhole rate v → (l pn : Bool) → Whole rate (part_of v l pn)
-part_whole rate v whole l pn = whole_in rate (two_of v pn) (whole_of rate v whole pn) l
+part_whole rate v whole l pn = whole_in rate (halves_of v pn) (whole_of rate v whole pn) l
 
 -- ---- how often the times of a register begin: at most once more than there were presets to it
 
@@ -303,26 +303,26 @@ pub few_changed_part : (may_stay : Bool) (r : Register) (c : Change) (n : Preset
     → FewIn n p → FewIn (counted (effect.Change r c) n) (changed_part may_stay r c p)
 few_changed_part may_stay r c n p below h = grind (arith, few_put, few_counted, count_more, few_changed)
 
-pub few_two : (rate : Rate) (n : Presets) (b : Bool) → TwoFew n (all_or_none rate b)
-few_two rate n true false = few_all_states rate n
-few_two rate n true true = few_all_states rate n
-few_two rate n false false = few_no_states rate n
-few_two rate n false true = few_no_states rate n
+pub few_halves : (rate : Rate) (n : Presets) (b : Bool) → HalvesFew n (all_or_none rate b)
+few_halves rate n true false = few_all_states rate n
+few_halves rate n true true = few_all_states rate n
+few_halves rate n false false = few_no_states rate n
+few_halves rate n false true = few_no_states rate n
 
-pub both_few : (n : Presets) (v : States) → TwoFew n v.off → TwoFew n (on_two (rate_for v) v.on) → AreFew n v
+pub both_few : (n : Presets) (v : States) → HalvesFew n v.off → HalvesFew n (on_halves (rate_for v) v.on) → AreFew n v
 both_few n v off on = grind arith
 
 pub few_pairs : (n : Presets) (q : List ModeSet) (p : Part) → FewIn n p → FewIn n (with_pairs q p)
 few_pairs n q p h = each_register _ (h RegIn) (h RegOut) (h RegAudioIn) (h RegAudioOut)
 
-pub drift_few : (deck : Option Deck) (n : Presets) (h : Halves) → TwoFew n h → TwoFew n (two_drifted deck h)
+pub drift_few : (deck : Option Deck) (n : Presets) (h : Halves) → HalvesFew n h → HalvesFew n (halves_drifted deck h)
 drift_few deck n h few false = few_pairs n (drifted deck h.remote.pairs) h.remote (few false)
 drift_few deck n h few true = few_pairs n (drifted deck h.local.pairs) h.local (few true)
 
-pub drift_whole : (deck : Option Deck) (rate : Rate) (h : Halves) → TwoWhole rate h → TwoWhole rate (two_drifted deck h)
+pub drift_whole : (deck : Option Deck) (rate : Rate) (h : Halves) → HalvesWhole rate h → HalvesWhole rate (halves_drifted deck h)
 drift_whole deck rate h whole = record { remote = whole_drift deck rate h.remote whole.remote; local = whole_drift deck rate h.local whole.local }
 
-pub drift_below : (deck : Option Deck) (h : Halves) → TwoBelow h → TwoBelow (two_drifted deck h)
+pub drift_below : (deck : Option Deck) (h : Halves) → HalvesBelow h → HalvesBelow (halves_drifted deck h)
 drift_below deck h below false = let b = below false in each_register _ (b RegIn) (b RegOut) (b RegAudioIn) (b RegAudioOut)
 drift_below deck h below true = let b = below true in each_register _ (b RegIn) (b RegOut) (b RegAudioIn) (b RegAudioOut)
 
@@ -336,15 +336,15 @@ all_exactly rate b t = by b t.local
     by false false = (λ i. in_none rate t i, λ w. absurd (false≢true w.0))
     by _ _ = (λ i. in_none rate t i, λ w. absurd (false≢true w.0))
 
-pub two_none : {P : Type 0} (rate : Rate) (t : State) → InPart (in_local (all_or_none rate false) t.local) t → P
-two_none rate t i = absurd (false≢true ((all_exactly rate false t).0 i).0)
+pub halves_none : {P : Type 0} (rate : Rate) (t : State) → InPart (in_local (all_or_none rate false) t.local) t → P
+halves_none rate t i = absurd (false≢true ((all_exactly rate false t).0 i).0)
 
 -- a state is possible exactly where it is in the part of its local and panel
 possible_part : (v : States) (s : State) (pn : Bool) → IsIn (if pn then v.on else Some v.off) s ↔ InPart (part_of v s.local pn) s
 possible_part v s false = (λ h. h, λ h. h)
 possible_part v s true = by v.on
   where
-    by : (o : Option Halves) → IsIn o s ↔ InPart (in_local (on_two (rate_for v) o) s.local) s
+    by : (o : Option Halves) → IsIn o s ↔ InPart (in_local (on_halves (rate_for v) o) s.local) s
     by o = grind arith
 
 pub possible : (v : States) (s : State) (l pn : Bool) → s.local ≡ l → s.panel ≡ pn → InPart (part_of v l pn) s → Possible v s
@@ -354,22 +354,22 @@ pub impossible : (v : States) (s : State) (l pn : Bool) → s.local ≡ l → s.
 impossible v s l pn el ep h = subst (λ b. InPart (part_of v b pn) s) el (subst (λ b. InPart (part_of v s.local b) s) ep ((possible_part v s s.panel).0 h))
 
 -- the same, of those with one value of the panel
-pub to_two : (v : States) (s : State) (pn : Bool) → s.panel ≡ pn → Possible v s → InTwo pn (two_of v pn) s
-to_two v s pn e h = (e, impossible v s s.local pn refl e h)
+pub to_halves : (v : States) (s : State) (pn : Bool) → s.panel ≡ pn → Possible v s → InHalves pn (halves_of v pn) s
+to_halves v s pn e h = (e, impossible v s s.local pn refl e h)
 
-pub of_two : (v : States) (s : State) (pn : Bool) → InTwo pn (two_of v pn) s → Possible v s
-of_two v s pn h = possible v s s.local pn refl h.0 h.1
+pub of_halves : (v : States) (s : State) (pn : Bool) → InHalves pn (halves_of v pn) s → Possible v s
+of_halves v s pn h = possible v s s.local pn refl h.0 h.1
 
 -- a step that keeps the panel is one of each value of it
 pub by_panel : (Goes : State → State → Type 0) → ((s t : State) → Goes s t → t.panel ≡ s.panel) → (v w : States)
-    → AreReached (InTwo false v.off) Goes (InTwo false w.off)
-    → AreReached (InTwo true (on_two (rate_for v) v.on)) Goes (InTwo true (on_two (rate_for w) w.on)) → AreReached (Possible v) Goes (Possible w)
+    → AreReached (InHalves false v.off) Goes (InHalves false w.off)
+    → AreReached (InHalves true (on_halves (rate_for v) v.on)) Goes (InHalves true (on_halves (rate_for w) w.on)) → AreReached (Possible v) Goes (Possible w)
 by_panel Goes keeps v w off on = (
-  λ t h. let a = (each t.panel).0 t (to_two w t t.panel refl h) in (a.0, of_two v a.0 t.panel a.1, a.2),
-  λ s t h goes. of_two w t s.panel ((each s.panel).1 s t (to_two v s s.panel refl h) goes),
+  λ t h. let a = (each t.panel).0 t (to_halves w t t.panel refl h) in (a.0, of_halves v a.0 t.panel a.1, a.2),
+  λ s t h goes. of_halves w t s.panel ((each s.panel).1 s t (to_halves v s s.panel refl h) goes),
 )
   where
-    each : (pn : Bool) → AreReached (InTwo pn (two_of v pn)) Goes (InTwo pn (two_of w pn))
+    each : (pn : Bool) → AreReached (InHalves pn (halves_of v pn)) Goes (InHalves pn (halves_of w pn))
     each false = off
     each true = on
 
@@ -421,23 +421,23 @@ pub some_way : (f : Bool → Bool) → (f false || f true) ≡ true → (b : Boo
 some_way f h = elim (or_cases _ _ h) [ inl a ↦ (false, a) | inr a ↦ (true, a) ]
 
 -- a state is in a part that is live, and there is one, with any value of the panel, where a part is live
-pub two_live : (h : Halves) (s : State) → InPart (in_local h s.local) s → some_two h ≡ true
-two_live h s i = any_way (λ l. is_live (in_local h l)) s.local (state_live (in_local h s.local) s i)
+pub halves_live : (h : Halves) (s : State) → InPart (in_local h s.local) s → halves_remain h ≡ true
+halves_live h s i = any_way (λ l. part_remains (in_local h l)) s.local (state_live (in_local h s.local) s i)
 
-pub two_state : (rate : Rate) (h : Halves) (pn : Bool) → TwoWhole rate h → some_two h ≡ true → (s : State) × InTwo pn h s
-two_state rate h pn whole live =
-    let l = some_way (λ l. is_live (in_local h l)) live in
+pub halves_state : (rate : Rate) (h : Halves) (pn : Bool) → HalvesWhole rate h → halves_remain h ≡ true → (s : State) × InHalves pn h s
+halves_state rate h pn whole live =
+    let l = some_way (λ l. part_remains (in_local h l)) live in
     let w = a_state rate (in_local h l.0) l.0 pn (whole_in rate h whole l.0) l.1 in (w.0, (w.3, subst (λ l. InPart (in_local h l) w.0) (sym w.2) w.1))
 
 -- ---- all states
 
-pub some_live : (v : States) (s : State) → Possible v s → some_state v ≡ true
-some_live v s i = any_way (λ pn. some_two (two_of v pn)) s.panel (two_live (two_of v s.panel) s (impossible v s s.local s.panel refl refl i))
+pub some_live : (v : States) (s : State) → Possible v s → states_remain v ≡ true
+some_live v s i = any_way (λ pn. halves_remain (halves_of v pn)) s.panel (halves_live (halves_of v s.panel) s (impossible v s s.local s.panel refl refl i))
 
-pub live_some : (rate : Rate) (v : States) → AreWhole rate v → some_state v ≡ true → (s : State) × Possible v s
+pub live_some : (rate : Rate) (v : States) → AreWhole rate v → states_remain v ≡ true → (s : State) × Possible v s
 live_some rate v whole live =
-    let pn = some_way (λ pn. some_two (two_of v pn)) live in
-    let w = two_state rate (two_of v pn.0) pn.0 (whole_of rate v whole pn.0) pn.1 in (w.0, of_two v w.0 pn.0 w.1)
+    let pn = some_way (λ pn. halves_remain (halves_of v pn)) live in
+    let w = halves_state rate (halves_of v pn.0) pn.0 (whole_of rate v whole pn.0) pn.1 in (w.0, of_halves v w.0 pn.0 w.1)
 
 -- the first states
 pub first_exactly : (p : Profile) (s : State) → Possible (first_states p.rate p.hands) s ↔ IsFirst p s

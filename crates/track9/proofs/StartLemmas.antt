@@ -4,10 +4,10 @@ use Rattle.track9.proofs.Words.{Allows, and_from, and_parts, ap, AreBelow, arith
 use Rattle.track9.proofs.Words.{cond_both, entries_known, Entry, false, false≢true, has, has_pair, if◌then◌else◌, in_local, InPart, is_as_wanted, IsEntry, IsFirst, IsIn}
 use Rattle.track9.proofs.Words.{IsKept, IsState, Mode, modes, modes_known, ModeSet, no_states, None, nothing_has, Option, pairs_of, part_from, part_known}
 use Rattle.track9.proofs.Words.{Possible, Presets, refl, RegAudioIn, RegAudioOut, RegIn, RegOut, shown_if, Some, Start, StartsFrom, State, states_from}
-use Rattle.track9.proofs.Words.{AreWhole, Rate, rate_for, settled, untouched, subst, sym, true, two_from, TwoFew, Whole, ℕ, Is, ◌&&◌, ◌↔◌, ◌∙◌, ◌≡◌}
+use Rattle.track9.proofs.Words.{AreWhole, Rate, rate_for, settled, untouched, subst, sym, true, halves_from, HalvesFew, Whole, ℕ, Is, ◌&&◌, ◌↔◌, ◌∙◌, ◌≡◌}
 use Rattle.track9.proofs.KnownLemmas.{at_same}
 use Rattle.track9.proofs.EntryLemmas.{from_empty, just_is, just_self, pair_by_goal}
-use Rattle.track9.proofs.PartLemmas.{both_few, each_register, entry_exactly, few_just, few_no_states, few_settled, few_two, FewIn, FewTimes, in_none, of_rate, OfRate, possible, possible_state, settled_exactly, whole_none, whole_settled, whole_two}
+use Rattle.track9.proofs.PartLemmas.{both_few, each_register, entry_exactly, few_just, few_no_states, few_settled, few_halves, FewIn, FewTimes, in_none, of_rate, OfRate, possible, possible_state, settled_exactly, whole_none, whole_settled, whole_halves}
 
 -- ---- each field
 
@@ -67,7 +67,7 @@ few_part rate n k = each_register _ (few_known rate n.ins k.ins) (few_known rate
 
 -- ---- the parts with each value of local
 
-by_local : (rate : Rate) (k : Start) (l : Bool) → in_local (two_from rate k) l ≡ part_from rate k l
+by_local : (rate : Rate) (k : Start) (l : Bool) → in_local (halves_from rate k) l ≡ part_from rate k l
 by_local rate k l = grind arith
 
 whole_from : (rate : Rate) (k : Start) (l : Bool) → Whole rate (part_from rate k l)
@@ -95,12 +95,12 @@ pub start_kept : (rate : Rate) (k : Start) (n : Presets) → IsKept n (states_fr
 start_kept rate k n = record {
   whole = subst (λ other. AreWhole other (states_from rate k)) (sym (from_rate rate k)) (record {
     off = record { remote = whole_from rate k false; local = whole_from rate k true };
-    on = whole_two rate false;
+    on = whole_halves rate false;
   });
-  few = both_few n (states_from rate k) by (few_two (rate_for (states_from rate k)) n false);
+  few = both_few n (states_from rate k) by (few_halves (rate_for (states_from rate k)) n false);
 }
   where
-    by : TwoFew n (two_from rate k)
+    by : HalvesFew n (halves_from rate k)
     by false = few_from rate n k false
     by true = few_from rate n k true
 
@@ -115,6 +115,6 @@ start_exactly deck rate k s below = (
     none_counted : Presets
     none_counted = record { ins = 0; outs = 0; ains = 0; aouts = 0 }
 
-    by_panel : (pn : Bool) → s.panel ≡ pn → IsState rate s → IsIn (if pn then None else Some (two_from rate k)) s → IsFirst (untouched deck rate) s × StartsFrom k s
+    by_panel : (pn : Bool) → s.panel ≡ pn → IsState rate s → IsIn (if pn then None else Some (halves_from rate k)) s → IsFirst (untouched deck rate) s × StartsFrom k s
     by_panel false off valid i = ((valid, off), from_starts rate k s (subst (λ p. InPart p s) (by_local rate k s.local) i))
     by_panel true on valid i = absurd i

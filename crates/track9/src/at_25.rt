@@ -6,7 +6,7 @@ ghost use Rattle.deck9.specs.declared.state.State.{State as AState};
 ghost use Rattle.track9.specs.Presets.{count_of};
 ghost use Rattle.track9.specs.Tracker.{Possible};
 
-use crate::own::Own;
+use crate::deck_ref::DeckRef;
 use crate::tracker::Tracker;
 use deck9::Hands;
 use sets25::TimeSet;
@@ -20,6 +20,6 @@ impl<'a, S: TimeSet> Tracker<'a, S> {
         ensures profile { IfOk result (λ t. t.profile ≡ record { rate = Rate.Fps25; hands = hands; deck = None }) }
         ensures presets { IfOk result (λ t. (r : ARegister) → count_of r t.presets ≡ 0) }
     {
-        Tracker::begin(alloc, Rate::Fps25, hands, Own::nothing())
+        Tracker::begin(alloc, Rate::Fps25, hands, DeckRef::none())
     }
 }

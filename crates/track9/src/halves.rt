@@ -8,10 +8,10 @@
 ghost use Rattle.std.specs.Prelude.{◌≡◌, IfOk, OnErr, OnOk, false, max};
 ghost use Rattle.sets25.specs.Times.{BelowDay, span_count};
 ghost use Rattle.track9.specs.Tracker.{entries_of, in_local};
-ghost use Rattle.track9.specs.Working.Starts.{part_from, two_from};
-ghost use Rattle.track9.specs.Working.States.{TwoBelow, TwoWhole, all_forgotten, all_or_none, motion_forgotten, rate_in, registers_forgotten, some_two, tape_forgotten, two_changed, two_drifted, two_gone, two_sensed, two_status};
+ghost use Rattle.track9.specs.Working.Starts.{part_from, halves_from};
+ghost use Rattle.track9.specs.Working.States.{HalvesBelow, HalvesWhole, all_forgotten, all_or_none, motion_forgotten, rate_in, registers_forgotten, halves_remain, tape_forgotten, halves_changed, halves_drifted, halves_gone, halves_sensed, halves_status};
 
-use crate::own::Own;
+use crate::deck_ref::DeckRef;
 use crate::part::Part;
 use crate::pattern::is_wanted;
 use crate::start::Start;
@@ -33,11 +33,11 @@ pub(crate) struct Halves<S: TimeSet> {
 
 impl<S: TimeSet> Model for Halves<S> {
     ghost use Rattle.track9.specs.Tracker.{Halves};
-    ghost use Rattle.track9.specs.Working.Codes.{two_code};
+    ghost use Rattle.track9.specs.Working.Codes.{halves_code};
 
     ghost Value = { Halves };
 
-    ghost coded = { two_code };
+    ghost coded = { halves_code };
 
     ghost view = { λ h. record { remote = h.remote; local = h.local } };
 }
@@ -72,7 +72,7 @@ impl<S: TimeSet> Halves<S> {
         rate: Rate,
         start: &Start,
     ) -> Result<Halves<S>, AllocError>
-        ensures { IfOk result (λ h. h ≡ two_from rate start.now) }
+        ensures { IfOk result (λ h. h ≡ halves_from rate start.now) }
     {
         Ok(Halves {
             remote: part_from(alloc, rate, start, false)?,
@@ -99,38 +99,38 @@ impl<S: TimeSet> Halves<S> {
 
     /// All times are times of the day. Does nothing.
     pub(crate) fn below_day(&self)
-        ensures { TwoBelow self.now }
+        ensures { HalvesBelow self.now }
     {
         self.remote.below_day();
         self.local.below_day();
     }
 
     /// Whether there is a state.
-    pub(crate) fn is_some(&self) -> bool
-        ensures { result ≡ some_two self.now }
+    pub(crate) fn remains(&self) -> bool
+        ensures { result ≡ halves_remain self.now }
     {
-        self.remote.is_live() || self.local.is_live()
+        self.remote.remains() || self.local.remains()
     }
 
     /// A drift of the mechanics. It answers whether there is a state.
     #[inline(never)] // so that the modes are taken side by side, also where a command follows
-    pub(crate) fn drift(&mut self, own: &Own) -> bool
-        ensures drifted { self.new ≡ two_drifted own.now self.old }
-        ensures some { result ≡ some_two self.new }
+    pub(crate) fn drift(&mut self, deck: &DeckRef) -> bool
+        ensures drifted { self.new ≡ halves_drifted deck.now self.old }
+        ensures some { result ≡ halves_remain self.new }
     {
-        let remote = self.remote.drift(own);
-        let local = self.local.drift(own);
+        let remote = self.remote.drift(deck);
+        let local = self.local.drift(deck);
         remote || local
     }
 
     /// A drift of the mechanics, and then the deck is commanded to a mode; a deck in LOCAL may leave it, and so may any where
     /// `may_stay`. It answers whether there is a state.
     #[inline(always)] // many commands are of the transport
-    fn drift_and_go(&mut self, own: &Own, may_stay: bool, goal: Mode) -> bool
-        ensures gone { self.new ≡ two_gone may_stay goal (two_drifted own.now self.old) }
-        ensures some { result ≡ some_two self.new }
+    fn drift_and_go(&mut self, deck: &DeckRef, may_stay: bool, goal: Mode) -> bool
+        ensures gone { self.new ≡ halves_gone may_stay goal (halves_drifted deck.now self.old) }
+        ensures some { result ≡ halves_remain self.new }
     {
-        let some = self.drift(own);
+        let some = self.drift(deck);
         self.remote.go(may_stay, goal);
         self.local.go(true, goal);
         some
@@ -145,7 +145,7 @@ impl<S: TimeSet> Halves<S> {
         register: Register,
         change: &Change,
     ) -> Result<(), AllocError>
-        ensures ok { OnOk result (self.new ≡ two_changed may_stay register change.now self.old) }
+        ensures ok { OnOk result (self.new ≡ halves_changed may_stay register change.now self.old) }
         ensures err { OnErr result (self.new ≡ self.old) }
     {
         let remote = self.remote.change_aside(alloc, may_stay, register, change)?;
@@ -161,8 +161,8 @@ impl<S: TimeSet> Halves<S> {
         register: Register,
         time: &Option<TimeCode>,
     ) -> Result<(), AllocError>
-        requires { TwoWhole (rate_in self.old) self.old }
-        ensures ok { OnOk result (self.new ≡ two_sensed register time.now self.old) }
+        requires { HalvesWhole (rate_in self.old) self.old }
+        ensures ok { OnOk result (self.new ≡ halves_sensed register time.now self.old) }
         ensures err { OnErr result (self.new ≡ self.old) }
     {
         if self.remote.knows(register, time) && self.local.knows(register, time) {
@@ -177,7 +177,7 @@ impl<S: TimeSet> Halves<S> {
 
     /// Keeps the states that agree with a status. Takes no memory.
     fn keep_status(&mut self, alloc: Global, status: &Status)
-        ensures { self.new ≡ two_status status.now self.old }
+        ensures { self.new ≡ halves_status status.now self.old }
     {
         self.remote.keep_status(alloc, false, status);
         self.local.keep_status(alloc, true, status);
@@ -185,11 +185,11 @@ impl<S: TimeSet> Halves<S> {
 
     /// A drift of the mechanics, and then goal and shown mode are forgotten. It answers whether there is a state.
     #[inline(never)] // as it is rare
-    fn drift_and_forget_motion(&mut self, own: &Own) -> bool
-        ensures forgotten { self.new ≡ motion_forgotten (two_drifted own.now self.old) }
-        ensures some { result ≡ some_two self.new }
+    fn drift_and_forget_motion(&mut self, deck: &DeckRef) -> bool
+        ensures forgotten { self.new ≡ motion_forgotten (halves_drifted deck.now self.old) }
+        ensures some { result ≡ halves_remain self.new }
     {
-        let some = self.drift(own);
+        let some = self.drift(deck);
         self.remote.forget_motion();
         self.local.forget_motion();
         some
@@ -247,7 +247,7 @@ impl<S: TimeSet> Halves<S> {
         ensures ok { OnOk result (self.new ≡ all_forgotten self.old) }
         ensures err { OnErr result (self.new ≡ self.old) }
     {
-        if self.is_some() {
+        if self.remains() {
             let all = Halves::all_or_none(alloc, self.rate(), true)?;
             drop(replace(self, all));
         }

@@ -5,11 +5,11 @@
 #![tactic(auto)]
 
 mod at_25;
+mod deck_ref;
 mod entries;
 mod following;
 mod halves;
 pub mod laws;
-mod own;
 mod pairs;
 mod part;
 mod pattern;

@@ -6,12 +6,12 @@ ghost use Rattle.track9.specs.Working.Entries.{agreeing};
 ghost use Rattle.track9.specs.Working.Knowing.{PartKnows};
 ghost use Rattle.track9.specs.Working.Pairs.{all_pairs};
 ghost use Rattle.track9.specs.Working.Starts.{modes_known, part_known};
-ghost use Rattle.track9.specs.Working.Parts.{Whole, all_states, aside, changed_entries, changed_part, drifted_part, forgotten_part, gone_part, is_live, no_states, put_settled, rate_of, reported_part, set_part, settled, status_part, where_live, with_entries, with_pairs};
+ghost use Rattle.track9.specs.Working.Parts.{Whole, all_states, aside, changed_entries, changed_part, drifted_part, forgotten_part, gone_part, part_remains, no_states, put_settled, rate_of, reported_part, set_part, settled, status_part, where_remains, with_entries, with_pairs};
 ghost use Rattle.deck9.specs.declared.state.Register.{Register as ARegister};
 ghost use Rattle.tc25.specs.declared.rate.Rate.{Rate as ARate};
 
+use crate::deck_ref::DeckRef;
 use crate::entries::Entries;
-use crate::own::Own;
 use crate::pairs::Pairs;
 use crate::pattern::is_wanted;
 use crate::start::Start;
@@ -78,7 +78,7 @@ impl<S: TimeSet> Part<S> {
         })
     }
 
-    /// The states with what is known, whatever their local: none where a time that is known is none of the day.
+    /// The states with what is known, whatever their local: none where a time that is known is outside the day.
     pub(crate) fn known_to_be(
         alloc: Global,
         rate: Rate,
@@ -128,8 +128,8 @@ impl<S: TimeSet> Part<S> {
     }
 
     /// Whether there is a state.
-    pub(crate) fn is_live(&self) -> bool
-        ensures { result ≡ is_live self.now }
+    pub(crate) fn remains(&self) -> bool
+        ensures { result ≡ part_remains self.now }
     {
         self.pairs.is_some()
     }
@@ -158,7 +158,7 @@ impl<S: TimeSet> Part<S> {
         requires { (rate : ARate) × Whole rate self.now }
         ensures { PartKnows self.now register result }
     {
-        if self.is_live() {
+        if self.remains() {
             Some(self.entries(register).known())
         } else {
             None
@@ -191,18 +191,18 @@ impl<S: TimeSet> Part<S> {
 
     /// A drift of the mechanics. It answers whether there is a state.
     #[inline(always)] // each exchange drifts two parts
-    pub(crate) fn drift(&mut self, own: &Own) -> bool
-        ensures drifted { self.new ≡ drifted_part own.now self.old }
-        ensures live { result ≡ is_live self.new }
+    pub(crate) fn drift(&mut self, deck: &DeckRef) -> bool
+        ensures drifted { self.new ≡ drifted_part deck.now self.old }
+        ensures live { result ≡ part_remains self.new }
     {
-        self.pairs.drift(own)
+        self.pairs.drift(deck)
     }
 
     /// The deck is commanded to a mode, or may also leave it.
     pub(crate) fn go(&mut self, may_stay: bool, goal: Mode)
-        ensures { self.new ≡ where_live (gone_part may_stay goal) self.old }
+        ensures { self.new ≡ where_remains (gone_part may_stay goal) self.old }
     {
-        if !self.is_live() {
+        if !self.remains() {
             return;
         }
         self.pairs.go(may_stay, goal);
@@ -219,7 +219,7 @@ impl<S: TimeSet> Part<S> {
     ) -> Result<Option<Entries<S>>, AllocError>
         ensures { IfOk result (λ o. o ≡ aside self.now (changed_entries may_stay change.now (entries_of register self.now))) }
     {
-        if !self.is_live() {
+        if !self.remains() {
             return Ok(None);
         }
         let entries = self.entries(register);
@@ -236,10 +236,10 @@ impl<S: TimeSet> Part<S> {
     pub(crate) fn knows(&self, register: Register, time: &Option<TimeCode>) -> bool
         requires { (rate : ARate) × Whole rate self.now }
         ensures known { IsTrue result → put_settled register (aside self.now (agreeing time.now (entries_of register self.now))) self.now ≡ self.now }
-        ensures new { result ≡ false → is_live self.now ≡ true }
+        ensures new { result ≡ false → part_remains self.now ≡ true }
     {
         self.below_day();
-        !self.is_live() || self.entries(register).has_only(time)
+        !self.remains() || self.entries(register).has_only(time)
     }
 
     /// The entries of a register that agree with a time that was read, in a set of their own: None where it tells nothing new.
@@ -260,18 +260,18 @@ impl<S: TimeSet> Part<S> {
 
     /// Goal and shown mode become anything, where there is a state.
     pub(crate) fn forget_motion(&mut self)
-        ensures { self.new ≡ where_live (with_pairs all_pairs) self.old }
+        ensures { self.new ≡ where_remains (with_pairs all_pairs) self.old }
     {
-        if self.is_live() {
+        if self.remains() {
             self.pairs = Pairs::all();
         }
     }
 
     /// Every state, where there is one.
     pub(crate) fn tape_forgotten(&self, alloc: Global) -> Result<Part<S>, AllocError>
-        ensures { IfOk result (λ p. p ≡ where_live (λ q. all_states (rate_of q)) self.now) }
+        ensures { IfOk result (λ p. p ≡ where_remains (λ q. all_states (rate_of q)) self.now) }
     {
-        if !self.is_live() {
+        if !self.remains() {
             return self.copy();
         }
         Part::all(alloc, self.rate())
@@ -279,9 +279,9 @@ impl<S: TimeSet> Part<S> {
 
     /// The pairs with any entries, where there is a state.
     pub(crate) fn registers_forgotten(&self, alloc: Global) -> Result<Part<S>, AllocError>
-        ensures { IfOk result (λ p. p ≡ where_live forgotten_part self.now) }
+        ensures { IfOk result (λ p. p ≡ where_remains forgotten_part self.now) }
     {
-        if !self.is_live() {
+        if !self.remains() {
             return self.copy();
         }
         Part::with_any_entries(alloc, self.rate(), self.pairs)
@@ -309,10 +309,10 @@ impl<S: TimeSet> Part<S> {
         register: Register,
         change: &Change,
     ) -> Result<(), AllocError>
-        ensures ok { OnOk result (self.new ≡ where_live (changed_part true register change.now) self.old) }
+        ensures ok { OnOk result (self.new ≡ where_remains (changed_part true register change.now) self.old) }
         ensures err { OnErr result (self.new ≡ self.old) }
     {
-        if !self.is_live() {
+        if !self.remains() {
             return Ok(());
         }
         match register {
@@ -325,9 +325,9 @@ impl<S: TimeSet> Part<S> {
 
     /// Keeps the states that agree with a status, where their local is this. Takes no memory.
     pub(crate) fn keep_status(&mut self, alloc: Global, local: bool, status: &Status)
-        ensures { self.new ≡ where_live (status_part local status.now) self.old }
+        ensures { self.new ≡ where_remains (status_part local status.now) self.old }
     {
-        if !self.is_live() {
+        if !self.remains() {
             return;
         }
         if is_wanted(status.local, local) {

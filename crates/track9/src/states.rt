@@ -10,10 +10,10 @@ ghost use Rattle.std.specs.Prelude.{◌≡◌, IfOk, IsOk, IsTrue, OnErr, OnOk, 
 ghost use Rattle.sets25.specs.Times.{span_count};
 ghost use Rattle.track9.specs.Tracker.{entries_of};
 ghost use Rattle.track9.specs.Working.Starts.{states_from};
-ghost use Rattle.track9.specs.Working.States.{AreBelow, AreWhole, Follows, FollowsDrift, Taken, after_panel, all_drifted, all_or_none, effect_taken, either_panel, first_states, hands_of, is_frugal_taken, is_panel_live, is_wide, panel_passed, part_of, profile_of, rate_for, some_state};
+ghost use Rattle.track9.specs.Working.States.{AreBelow, AreWhole, Follows, FollowsDrift, Taken, after_panel, all_drifted, all_or_none, effect_taken, either_panel, first_states, hands_of, is_frugal_taken, remains_with_panel_on, is_wide, panel_passed, part_of, profile_of, rate_for, states_remain};
 
+use crate::deck_ref::DeckRef;
 use crate::halves::Halves;
-use crate::own::Own;
 use crate::start::Start;
 use block9::{Block, Command};
 use boxed::{all_boxed, copy_boxed};
@@ -128,18 +128,18 @@ impl<S: TimeSet> States<S> {
     }
 
     /// Whether there is a state.
-    pub(crate) fn is_some(&self) -> bool
-        ensures { result ≡ some_state self.now }
+    pub(crate) fn remains(&self) -> bool
+        ensures { result ≡ states_remain self.now }
     {
-        self.off.is_some() || self.is_panel_live()
+        self.off.remains() || self.remains_with_panel_on()
     }
 
     /// Whether there is a state with the panel on.
-    fn is_panel_live(&self) -> bool
-        ensures { result ≡ is_panel_live self.now }
+    fn remains_with_panel_on(&self) -> bool
+        ensures { result ≡ remains_with_panel_on self.now }
     {
         match &self.on {
-            Some(on) => on.is_some(),
+            Some(on) => on.remains(),
             None => false,
         }
     }
@@ -150,21 +150,21 @@ impl<S: TimeSet> States<S> {
     pub(crate) fn take(
         &mut self,
         alloc: Global,
-        own: &Own,
+        deck: &DeckRef,
         command: &Command,
         reply: Option<&Block>,
     ) -> Result<bool, AllocError>
         requires { AreWhole (rate_for self.old) self.old }
-        ensures ok { OnOk result (Follows (profile_of own.now self.old) command.now (option_map (λ b. b.now) reply.entry) self.old self.new) }
-        ensures some { IfOk result (λ b. b ≡ some_state self.new) }
+        ensures ok { OnOk result (Follows (profile_of deck.now self.old) command.now (option_map (λ b. b.now) reply.entry) self.old self.new) }
+        ensures some { IfOk result (λ b. b ≡ states_remain self.new) }
         ensures err { OnErr result (self.new ≡ self.old) }
-        ensures frugal { hands_of self.old ≡ Hands.None → IsTrue (is_frugal_taken own.now command.now (option_map (λ b. b.now) reply.entry)) → IsOk result }
+        ensures frugal { hands_of self.old ≡ Hands.None → IsTrue (is_frugal_taken deck.now command.now (option_map (λ b. b.now) reply.entry)) → IsOk result }
     {
         match self.hands() {
-            Hands::None => self.off.take(alloc, own, command, reply),
+            Hands::None => self.off.take(alloc, deck, command, reply),
             Hands::Allowed => {
-                self.take_by_hand(alloc, own, command, reply)?;
-                Ok(self.is_some())
+                self.take_by_hand(alloc, deck, command, reply)?;
+                Ok(self.remains())
             }
         }
     }
@@ -173,62 +173,62 @@ impl<S: TimeSet> States<S> {
     fn take_by_hand(
         &mut self,
         alloc: Global,
-        own: &Own,
+        deck: &DeckRef,
         command: &Command,
         reply: Option<&Block>,
     ) -> Result<(), AllocError>
         requires whole { AreWhole (rate_for self.old) self.old }
         requires hands { hands_of self.old ≡ Hands.Allowed }
-        ensures ok { OnOk result (Follows (profile_of own.now self.old) command.now (option_map (λ b. b.now) reply.entry) self.old self.new) }
+        ensures ok { OnOk result (Follows (profile_of deck.now self.old) command.now (option_map (λ b. b.now) reply.entry) self.old self.new) }
         ensures err { OnErr result (self.new ≡ self.old) }
     {
         self.below_day();
-        match effect_taken(own, command, reply) {
+        match effect_taken(deck, command, reply) {
             Effect::Panel(on) => match reply {
-                Some(_) => self.switch_panel(alloc, own, on),
-                None => self.pass_panel(alloc, own, on),
+                Some(_) => self.switch_panel(alloc, deck, on),
+                None => self.pass_panel(alloc, deck, on),
             },
             Effect::ForgetAll => self.forget_all(alloc),
-            _ => self.take_both(alloc, own, command, reply),
+            _ => self.take_both(alloc, deck, command, reply),
         }
     }
 
     /// The states after a drift alone. Where memory is refused nothing has changed.
-    pub(crate) fn drift(&mut self, alloc: Global, own: &Own) -> Result<(), AllocError>
+    pub(crate) fn drift(&mut self, alloc: Global, deck: &DeckRef) -> Result<(), AllocError>
         requires { AreWhole (rate_for self.old) self.old }
-        ensures ok { OnOk result (FollowsDrift (profile_of own.now self.old) self.old self.new) }
+        ensures ok { OnOk result (FollowsDrift (profile_of deck.now self.old) self.old self.new) }
         ensures err { OnErr result (self.new ≡ self.old) }
         ensures frugal { hands_of self.old ≡ Hands.None → IsOk result }
     {
         match self.hands() {
             Hands::None => {
-                self.off.drift(own);
+                self.off.drift(deck);
                 Ok(())
             }
             Hands::Allowed => {
                 self.below_day();
-                self.drift_by_hand(alloc, own)
+                self.drift_by_hand(alloc, deck)
             }
         }
     }
 
     /// The states after a drift, where hands are allowed.
-    fn drift_by_hand(&mut self, alloc: Global, own: &Own) -> Result<(), AllocError>
+    fn drift_by_hand(&mut self, alloc: Global, deck: &DeckRef) -> Result<(), AllocError>
         requires { hands_of self.old ≡ Hands.Allowed }
-        ensures ok { OnOk result (self.new ≡ all_drifted own.now self.old) }
+        ensures ok { OnOk result (self.new ≡ all_drifted deck.now self.old) }
         ensures err { OnErr result (self.new ≡ self.old) }
     {
         let on = self.drifted_on(alloc)?;
-        self.off.drift(own);
+        self.off.drift(deck);
         self.put_on(on);
         Ok(())
     }
 
     /// What a drift leaves with the panel on: every state, if there was any.
     fn drifted_on(&self, alloc: Global) -> Result<Halves<S>, AllocError>
-        ensures { IfOk result (λ h. h ≡ all_or_none (rate_for self.now) (is_panel_live self.now)) }
+        ensures { IfOk result (λ h. h ≡ all_or_none (rate_for self.now) (remains_with_panel_on self.now)) }
     {
-        Halves::all_or_none(alloc, self.rate(), self.is_panel_live())
+        Halves::all_or_none(alloc, self.rate(), self.remains_with_panel_on())
     }
 
     /// The states after a command to which a hand on the panel makes no difference: those with the panel on are what it makes of
@@ -236,19 +236,19 @@ impl<S: TimeSet> States<S> {
     fn take_both(
         &mut self,
         alloc: Global,
-        own: &Own,
+        deck: &DeckRef,
         command: &Command,
         reply: Option<&Block>,
     ) -> Result<(), AllocError>
         requires whole { AreWhole (rate_for self.old) self.old }
         requires hands { hands_of self.old ≡ Hands.Allowed }
-        requires narrow { is_wide (effect_taken own.now command.now (option_map (λ b. b.now) reply)) ≡ false }
-        ensures ok { OnOk result (Follows (profile_of own.now self.old) command.now (option_map (λ b. b.now) reply.entry) self.old self.new) }
+        requires narrow { is_wide (effect_taken deck.now command.now (option_map (λ b. b.now) reply)) ≡ false }
+        ensures ok { OnOk result (Follows (profile_of deck.now self.old) command.now (option_map (λ b. b.now) reply.entry) self.old self.new) }
         ensures err { OnErr result (self.new ≡ self.old) }
     {
         self.below_day();
-        let on = self.taken_on(alloc, own, command, reply)?;
-        match self.off.take(alloc, own, command, reply) {
+        let on = self.taken_on(alloc, deck, command, reply)?;
+        match self.off.take(alloc, deck, command, reply) {
             Ok(_) => {
                 self.put_on(on);
                 Ok(())
@@ -264,14 +264,14 @@ impl<S: TimeSet> States<S> {
     fn taken_on(
         &self,
         alloc: Global,
-        own: &Own,
+        deck: &DeckRef,
         command: &Command,
         reply: Option<&Block>,
     ) -> Result<Halves<S>, AllocError>
-        ensures { IfOk result (Taken own.now (rate_for self.now) command.now (option_map (λ b. b.now) reply.entry) (all_or_none (rate_for self.now) (is_panel_live self.now))) }
+        ensures { IfOk result (Taken deck.now (rate_for self.now) command.now (option_map (λ b. b.now) reply.entry) (all_or_none (rate_for self.now) (remains_with_panel_on self.now))) }
     {
         let mut on = self.drifted_on(alloc)?;
-        match on.take(alloc, own, command, reply) {
+        match on.take(alloc, deck, command, reply) {
             Ok(_) => Ok(on),
             Err(error) => {
                 drop(on);
@@ -281,24 +281,24 @@ impl<S: TimeSet> States<S> {
     }
 
     /// What a drift leaves, whatever the panel: every state where the panel was on.
-    fn either_panel(&self, alloc: Global, own: &Own) -> Result<Halves<S>, AllocError>
-        ensures { IfOk result (λ h. h ≡ either_panel own.now self.now) }
+    fn either_panel(&self, alloc: Global, deck: &DeckRef) -> Result<Halves<S>, AllocError>
+        ensures { IfOk result (λ h. h ≡ either_panel deck.now self.now) }
     {
-        if self.is_panel_live() {
+        if self.remains_with_panel_on() {
             return Halves::all_or_none(alloc, self.rate(), true);
         }
         let mut off = self.off.copy()?;
-        off.drift(own);
+        off.drift(deck);
         Ok(off)
     }
 
     /// The panel is switched on or off, after a drift.
-    fn switch_panel(&mut self, alloc: Global, own: &Own, on: bool) -> Result<(), AllocError>
+    fn switch_panel(&mut self, alloc: Global, deck: &DeckRef, on: bool) -> Result<(), AllocError>
         requires { hands_of self.old ≡ Hands.Allowed }
-        ensures ok { OnOk result (self.new ≡ after_panel own.now on self.old) }
+        ensures ok { OnOk result (self.new ≡ after_panel deck.now on self.old) }
         ensures err { OnErr result (self.new ≡ self.old) }
     {
-        let known = self.either_panel(alloc, own)?;
+        let known = self.either_panel(alloc, deck)?;
         let none = Halves::none(alloc, self.rate());
         if on {
             self.put(none, known);
@@ -329,14 +329,14 @@ impl<S: TimeSet> States<S> {
     }
 
     /// The panel may be switched on or off, after a drift, or stay.
-    fn pass_panel(&mut self, alloc: Global, own: &Own, on: bool) -> Result<(), AllocError>
+    fn pass_panel(&mut self, alloc: Global, deck: &DeckRef, on: bool) -> Result<(), AllocError>
         requires { hands_of self.old ≡ Hands.Allowed }
-        ensures ok { OnOk result (self.new ≡ panel_passed own.now on self.old) }
+        ensures ok { OnOk result (self.new ≡ panel_passed deck.now on self.old) }
         ensures err { OnErr result (self.new ≡ self.old) }
     {
-        let known = self.either_panel(alloc, own)?;
+        let known = self.either_panel(alloc, deck)?;
         if on {
-            self.off.drift(own);
+            self.off.drift(deck);
             self.put_on(known);
             return Ok(());
         }
@@ -354,10 +354,10 @@ impl<S: TimeSet> States<S> {
 
     /// Everything is forgotten, the panel too.
     fn forget_all(&mut self, alloc: Global) -> Result<(), AllocError>
-        ensures ok { OnOk result (self.new ≡ (if some_state self.old then first_states (rate_for self.old) Hands.Allowed else self.old)) }
+        ensures ok { OnOk result (self.new ≡ (if states_remain self.old then first_states (rate_for self.old) Hands.Allowed else self.old)) }
         ensures err { OnErr result (self.new ≡ self.old) }
     {
-        if self.is_some() {
+        if self.remains() {
             let first = States::first(alloc, self.rate(), Hands::Allowed)?;
             drop(replace(self, first));
         }
@@ -366,12 +366,12 @@ impl<S: TimeSet> States<S> {
 }
 
 /// The effect that a command may have: none where its reply is a NAK.
-fn effect_taken(own: &Own, command: &Command, reply: Option<&Block>) -> Effect
-    ensures { result ≡ effect_taken own.now command.now (option_map (λ b. b.now) reply.entry) }
+fn effect_taken(deck: &DeckRef, command: &Command, reply: Option<&Block>) -> Effect
+    ensures { result ≡ effect_taken deck.now command.now (option_map (λ b. b.now) reply.entry) }
 {
     match reply {
         Some(reply) if reply.is_nak() => Effect::Nothing,
-        _ => own.effect(command),
+        _ => deck.effect(command),
     }
 }
 

@@ -15,7 +15,7 @@ ghost use Rattle.deck9.specs.declared.mode.Mode.{Mode as AMode};
 ghost use Rattle.deck9.specs.declared.state.Register.{Register as ARegister};
 ghost use Rattle.deck9.specs.declared.state.State.{State as AState};
 
-use crate::own::Own;
+use crate::deck_ref::DeckRef;
 use crate::presets::Presets;
 use crate::start::Start;
 use crate::states::States;
@@ -35,7 +35,7 @@ use tc25::Rate;
 pub struct Tracker<'a, S: TimeSet> {
     states: States<S>,
     presets: Presets,
-    own: Own<'a>,
+    deck: DeckRef<'a>,
     alloc: Global,
 }
 
@@ -49,7 +49,7 @@ impl<'a, S: TimeSet> Model for Tracker<'a, S> {
 
     ghost use Rattle.track9.specs.Working.States.{IsKept, profile_of};
 
-    ghost view = { λ t. record { states = t.states; profile = profile_of t.own t.states; presets = t.presets } };
+    ghost view = { λ t. record { states = t.states; profile = profile_of t.deck t.states; presets = t.presets } };
 
     ghost invariant = { λ t. IsKept t.presets t.states };
 }
@@ -64,24 +64,29 @@ impl<'a, S: TimeSet> Tracker<'a, S> {
         ensures profile { IfOk result (λ t. t.profile ≡ profile.now) }
         ensures presets { IfOk result (λ t. (r : ARegister) → count_of r t.presets ≡ 0) }
     {
-        Tracker::begin(alloc, profile.rate, profile.hands, Own::of(&profile.deck))
+        Tracker::begin(
+            alloc,
+            profile.rate,
+            profile.hands,
+            DeckRef::of(&profile.deck),
+        )
     }
 
-    /// The same, of a deck with these ways of its own, at a rate, with hands or without.
+    /// The same at this rate, with hands or without, and for this deck, if there is one.
     pub(crate) fn begin(
         alloc: Global,
         rate: Rate,
         hands: Hands,
-        own: Own<'a>,
+        deck: DeckRef<'a>,
     ) -> Result<Self, AllocError>
-        ensures states { IfOk result (λ t. (s : AState) → Possible t.states s ↔ IsFirst (record { rate = rate; hands = hands; deck = own.entry }) s) }
-        ensures profile { IfOk result (λ t. t.profile ≡ record { rate = rate; hands = hands; deck = own.entry }) }
+        ensures states { IfOk result (λ t. (s : AState) → Possible t.states s ↔ IsFirst (record { rate = rate; hands = hands; deck = deck.entry }) s) }
+        ensures profile { IfOk result (λ t. t.profile ≡ record { rate = rate; hands = hands; deck = deck.entry }) }
         ensures presets { IfOk result (λ t. (r : ARegister) → count_of r t.presets ≡ 0) }
     {
         Ok(Tracker {
             states: States::first(alloc, rate, hands)?,
             presets: Presets::none(),
-            own,
+            deck,
             alloc,
         })
     }
@@ -100,7 +105,7 @@ impl<'a, S: TimeSet> Tracker<'a, S> {
         Ok(Tracker {
             states,
             presets: Presets::none(),
-            own: Own::of(&profile.deck),
+            deck: DeckRef::of(&profile.deck),
             alloc,
         })
     }
@@ -111,7 +116,7 @@ impl<'a, S: TimeSet> Tracker<'a, S> {
     /// step gives this reply to this command. It answers true where there is such a state, and false where there
     /// is none: then no run of the deck gives the replies so far, and every later call answers false or an error.
     /// What a deck may do is in `specs/Drift.antt` and `specs/Step.antt`; the effects of commands and the modes on the way to a
-    /// goal are the deck's, and the status bits this profile's.
+    /// goal are the deck's, and the status bits those of the rules.
     ///
     /// An error comes where memory is refused, and the tracker is then as it was. Where hands are not allowed none
     /// comes for a NAK, nor for a command that asks for no register's time and changes and forgets no register.
@@ -126,7 +131,7 @@ impl<'a, S: TimeSet> Tracker<'a, S> {
     {
         let remains = self
             .states
-            .take(self.alloc, &self.own, command, Some(reply))?;
+            .take(self.alloc, &self.deck, command, Some(reply))?;
         self.presets.count_exchange(command, reply, remains);
         Ok(remains)
     }
@@ -135,7 +140,7 @@ impl<'a, S: TimeSet> Tracker<'a, S> {
     ///
     /// The states are then exactly those that a drift, and then nothing or the command's effect, lead to from a state
     /// before. So there is one where there was one. What a command may do is in `specs/Effect.antt` and
-    /// `specs/Contradict.antt`; the effects of commands and the modes are this profile's. A data preset counts as one that
+    /// `specs/Contradict.antt`; the effects of commands and the modes are the deck's. A data preset counts as one that
     /// was acknowledged.
     ///
     /// An error comes where memory is refused, and the tracker is then as it was. Where hands are not allowed none comes
@@ -148,7 +153,7 @@ impl<'a, S: TimeSet> Tracker<'a, S> {
         ensures unchanged { OnErr result (self.new ≡ self.old) }
         ensures frugal { self.old.profile.hands ≡ Hands.None → IsTrue (is_frugal_effect (effect_of self.old.profile.deck command.now)) → IsOk result }
     {
-        self.states.take(self.alloc, &self.own, command, None)?;
+        self.states.take(self.alloc, &self.deck, command, None)?;
         self.presets.count_command(command);
         Ok(())
     }
@@ -167,7 +172,7 @@ impl<'a, S: TimeSet> Tracker<'a, S> {
         ensures unchanged { OnErr result (self.new ≡ self.old) }
         ensures frugal { self.old.profile.hands ≡ Hands.None → IsOk result }
     {
-        self.states.drift(self.alloc, &self.own)?;
+        self.states.drift(self.alloc, &self.deck)?;
         Ok(())
     }
 
@@ -175,7 +180,7 @@ impl<'a, S: TimeSet> Tracker<'a, S> {
     pub fn remains(&self) -> bool
         ensures { IsTrue result ↔ ((s : AState) × Possible self.now.states s) }
     {
-        self.states.is_some()
+        self.states.remains()
     }
 
     /// An equal tracker: of the same states, profile and presets.
@@ -187,7 +192,7 @@ impl<'a, S: TimeSet> Tracker<'a, S> {
         Ok(Tracker {
             states: self.states.copy()?,
             presets: self.presets.copy(),
-            own: self.own.copy(),
+            deck: self.deck.copy(),
             alloc: self.alloc,
         })
     }
@@ -207,7 +212,7 @@ impl<'a, S: TimeSet> Tracker<'a, S> {
         ensures some { IfSome result (λ s. Possible self.now.states s × Exchanges self.now.profile command.now reply.now s target.now) }
         ensures none { IfNone result (¬ ((s : AState) × Possible self.now.states s × Exchanges self.now.profile command.now reply.now s target.now)) }
     {
-        self.states.before(&self.own, command, reply, target)
+        self.states.before(&self.deck, command, reply, target)
     }
 
     /// The modes that some possible state shows, with no bit above theirs. Takes no memory.

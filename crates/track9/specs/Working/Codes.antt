@@ -42,11 +42,11 @@ part_code =
     (λ p. (p.pairs, (p.ins, (p.outs, (p.ains, p.aouts))))) (λ p. record { pairs = p.0; ins = p.1.0; outs = p.1.1.0; ains = p.1.1.1.0; aouts = p.1.1.1.1 })
     (λ _. refl)
 
-abbrev pub two_code : Coded Halves
-two_code = code_by (Part × Part) (coded× part_code part_code) (λ h. (h.remote, h.local)) (λ p. record { remote = p.0; local = p.1 }) (λ _. refl)
+abbrev pub halves_code : Coded Halves
+halves_code = code_by (Part × Part) (coded× part_code part_code) (λ h. (h.remote, h.local)) (λ p. record { remote = p.0; local = p.1 }) (λ _. refl)
 
 abbrev pub states_code : Coded States
-states_code = code_by (Halves × Option Halves) (coded× two_code (coded_option two_code)) (λ v. (v.off, v.on)) (λ p. record { off = p.0; on = p.1 }) (λ _. refl)
+states_code = code_by (Halves × Option Halves) (coded× halves_code (coded_option halves_code)) (λ v. (v.off, v.on)) (λ p. record { off = p.0; on = p.1 }) (λ _. refl)
 
 abbrev pub is_allowed : Hands → Bool
 is_allowed hands.None = false

@@ -4,24 +4,24 @@ use Rattle.track9.specs.Working.Deck.{Allows, At, Bool, Clear, either, entries_o
 use Rattle.track9.specs.Working.Deck.{States, true, Halves}
 use Rattle.deck9.specs.declared.knowledge.Known.TheVariants as known
 use Rattle.deck9.specs.declared.knowledge.KnownEntry.TheVariants as entry
-use Rattle.track9.specs.Working.Pairs.{goals_of, goes}
-use Rattle.track9.specs.Working.Parts.{is_live}
-use Rattle.track9.specs.Working.States.{two_of}
+use Rattle.track9.specs.Working.Pairs.{goals_of, all_shown}
+use Rattle.track9.specs.Working.Parts.{part_remains}
+use Rattle.track9.specs.Working.States.{halves_of}
 
 -- ---- modes
 
 -- all goals, and all shown modes
-abbrev pub two_goals : Halves → ModeSet
-two_goals h = either (goals_of h.remote.pairs) (goals_of h.local.pairs)
+abbrev pub halves_goals : Halves → ModeSet
+halves_goals h = either (goals_of h.remote.pairs) (goals_of h.local.pairs)
 
-abbrev pub two_shown : Halves → ModeSet
-two_shown h = either (goes h.remote.pairs) (goes h.local.pairs)
+abbrev pub halves_shown : Halves → ModeSet
+halves_shown h = either (all_shown h.remote.pairs) (all_shown h.local.pairs)
 
 abbrev pub goals_in : States → ModeSet
-goals_in v = either (two_goals (two_of v false)) (two_goals (two_of v true))
+goals_in v = either (halves_goals (halves_of v false)) (halves_goals (halves_of v true))
 
 abbrev pub shown_in : States → ModeSet
-shown_in v = either (two_shown (two_of v false)) (two_shown (two_of v true))
+shown_in v = either (halves_shown (halves_of v false)) (halves_shown (halves_of v true))
 
 -- ---- facts
 
@@ -56,9 +56,9 @@ join_options (Some k) (Some l) = Some (joined_known k l)
 
 -- what a part tells of a register: nothing where it has no states
 abbrev pub PartKnows : Part → Register → Option KnownEntry → Type 0
-PartKnows p r None = is_live p ≡ false
-PartKnows p r (Some k) = (is_live p ≡ true) × KnowsOf (Allows (entries_of r p)) k
+PartKnows p r None = part_remains p ≡ false
+PartKnows p r (Some k) = (part_remains p ≡ true) × KnowsOf (Allows (entries_of r p)) k
 
 -- what the parts of remote and of local tell together
-abbrev pub TwoKnow : Halves → Register → Option KnownEntry → Type 0
-TwoKnow h r o = (a b : Option KnownEntry) × PartKnows h.remote r a × PartKnows h.local r b × (o ≡ join_options a b)
+abbrev pub HalvesKnow : Halves → Register → Option KnownEntry → Type 0
+HalvesKnow h r o = (a b : Option KnownEntry) × PartKnows h.remote r a × PartKnows h.local r b × (o ≡ join_options a b)

@@ -14,8 +14,8 @@ abbrev pub all_pairs : List ModeSet
 all_pairs = by_goal (λ g. modes 0x3FF)
 
 -- all modes that may be shown, with any goal
-abbrev pub goes : List ModeSet → ModeSet
-goes p =
+abbrev pub all_shown : List ModeSet → ModeSet
+all_shown p =
     either (either (either (either (either (either (either (either (either
     (shown_with p Stop) (shown_with p Play)) (shown_with p Rec)) (shown_with p FastForward)) (shown_with p Rewind))
     (shown_with p Shuttle)) (shown_with p Jog)) (shown_with p Var)) (shown_with p Cued)) (shown_with p Eject)
@@ -26,11 +26,11 @@ goal_if_shown pairs g = if is_some (shown_with pairs g) then modes (bit_of g) el
 
 -- all goals that a mode may be shown with
 abbrev pub goals_of : List ModeSet → ModeSet
-goals_of pairs = goes (by_goal (goal_if_shown pairs))
+goals_of pairs = all_shown (by_goal (goal_if_shown pairs))
 
 -- there is a pair
 abbrev pub some_pair : List ModeSet → Bool
-some_pair pairs = is_some (goes pairs)
+some_pair pairs = is_some (all_shown pairs)
 
 -- a set without bits above those of the ten modes
 abbrev pub ten_of : ModeSet → ModeSet
@@ -56,7 +56,7 @@ drifted deck p = by_goal (drifted_with deck p)
 
 -- the pairs with this goal in place of theirs
 abbrev pub gone_with : Mode → List ModeSet → Mode → ModeSet
-gone_with goal p g = if is_mode g goal then goes p else modes 0
+gone_with goal p g = if is_mode g goal then all_shown p else modes 0
 
 abbrev pub gone : Mode → List ModeSet → List ModeSet
 gone goal p = by_goal (gone_with goal p)

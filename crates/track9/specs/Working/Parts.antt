@@ -18,12 +18,12 @@ abbrev pub rate_of : Part → Rate
 rate_of p = p.ins.rate
 
 -- there is a state, by the pairs alone
-abbrev pub is_live : Part → Bool
-is_live p = some_pair p.pairs
+abbrev pub part_remains : Part → Bool
+part_remains p = some_pair p.pairs
 
 -- each factor has something in it, or none has, and the times of each are those of a rate
 abbrev pub Whole : Rate → Part → Type 0
-Whole rate p = (r : Register) → (some_entry (entries_of r p) ≡ is_live p) × ((entries_of r p).rate ≡ rate)
+Whole rate p = (r : Register) → (some_entry (entries_of r p) ≡ part_remains p) × ((entries_of r p).rate ≡ rate)
 
 -- a state of a part, with these values of local and of panel
 pub record HasState (p : Part) (l pn : Bool) (s : State) : Type 0 where
@@ -41,12 +41,12 @@ abbrev pub with_pairs : List ModeSet → Part → Part
 with_pairs pairs p = record p { pairs = pairs }
 
 -- a part that has states is changed, one that has none stays
-abbrev pub where_live : (Part → Part) → Part → Part
-where_live f p = if is_live p then f p else p
+abbrev pub where_remains : (Part → Part) → Part → Part
+where_remains f p = if part_remains p then f p else p
 
 -- no state, where a factor has nothing
 abbrev pub settled : Part → Part
-settled p = if is_live p && some_entry p.ins && some_entry p.outs && some_entry p.ains && some_entry p.aouts then p else no_states (rate_of p)
+settled p = if part_remains p && some_entry p.ins && some_entry p.outs && some_entry p.ains && some_entry p.aouts then p else no_states (rate_of p)
 
 -- ---- what exchanges do
 
@@ -76,7 +76,7 @@ sensed_part r time p = settled (with_entries r (agreeing time (entries_of r p)) 
 
 -- something where the part has states
 abbrev pub aside : {A : Type 0} → Part → A → Option A
-aside p x = if is_live p then Some x else None
+aside p x = if part_remains p then Some x else None
 
 -- entries that were made aside, in place, and no state where they are none
 abbrev pub put_settled : Register → Option Entries → Part → Part

@@ -36,12 +36,12 @@ part_known rate k = record {
   aouts = entries_known rate k.aouts;
 }
 
--- those with this value of local: none where another is known, or where a time that is known is none of the day
+-- those with this value of local: none where another is known, or where a time that is known is outside the day
 abbrev pub part_from : Rate → Start → Bool → Part
 part_from rate k local = if is_as_wanted k.local local then settled (part_known rate k) else no_states rate
 
-abbrev pub two_from : Rate → Start → Halves
-two_from rate k = record { remote = part_from rate k false; local = part_from rate k true }
+abbrev pub halves_from : Rate → Start → Halves
+halves_from rate k = record { remote = part_from rate k false; local = part_from rate k true }
 
 abbrev pub states_from : Rate → Start → States
-states_from rate k = record { off = two_from rate k; on = None }
+states_from rate k = record { off = halves_from rate k; on = None }

@@ -8,7 +8,7 @@ use Rattle.deck9.specs.declared.state.Hands.TheVariants as hands
 use Rattle.track9.specs.Frugal.{is_frugal, is_frugal_effect}
 use Rattle.track9.specs.Working.Entries.{agreeing}
 use Rattle.track9.specs.Working.Pairs.{all_pairs}
-use Rattle.track9.specs.Working.Parts.{Whole, all_states, aside, changed_entries, changed_part, drifted_part, forgotten_part, gone_part, is_live, no_states, put_settled, rate_of, status_part, where_live, with_pairs}
+use Rattle.track9.specs.Working.Parts.{Whole, all_states, aside, changed_entries, changed_part, drifted_part, forgotten_part, gone_part, part_remains, no_states, put_settled, rate_of, status_part, where_remains, with_pairs}
 
 -- ---- the states with one value of the panel
 
@@ -22,67 +22,67 @@ abbrev pub rate_in : Halves → Rate
 rate_in h = rate_of h.remote
 
 -- there is a state
-abbrev pub some_two : Halves → Bool
-some_two h = is_live h.remote || is_live h.local
+abbrev pub halves_remain : Halves → Bool
+halves_remain h = part_remains h.remote || part_remains h.local
 
 -- a state is one of these, with this value of the panel
-abbrev pub InTwo : Bool → Halves → State → Type 0
-InTwo pn h s = (s.panel ≡ pn) × InPart (in_local h s.local) s
+abbrev pub InHalves : Bool → Halves → State → Type 0
+InHalves pn h s = (s.panel ≡ pn) × InPart (in_local h s.local) s
 
 -- what is true of both parts
-pub record TwoWhole (rate : Rate) (h : Halves) : Type 0 where
+pub record HalvesWhole (rate : Rate) (h : Halves) : Type 0 where
   pub remote : Whole rate h.remote
   pub local : Whole rate h.local
 
-abbrev pub TwoBelow : Halves → Type 0
-TwoBelow h = (l : Bool) (r : Register) → BelowDay (entries_of r (in_local h l)).rate (entries_of r (in_local h l)).times
+abbrev pub HalvesBelow : Halves → Type 0
+HalvesBelow h = (l : Bool) (r : Register) → BelowDay (entries_of r (in_local h l)).rate (entries_of r (in_local h l)).times
 
 -- in each part the times of a register begin at most once more than there were presets to it
-abbrev pub TwoFew : Presets → Halves → Type 0
-TwoFew n h = (l : Bool) (r : Register) → begin_count (entries_of r (in_local h l)).rate (entries_of r (in_local h l)).times ≤ count_of r n + 1
+abbrev pub HalvesFew : Presets → Halves → Type 0
+HalvesFew n h = (l : Bool) (r : Register) → begin_count (entries_of r (in_local h l)).rate (entries_of r (in_local h l)).times ≤ count_of r n + 1
 
 -- each part changes by its value of local
-abbrev pub map_two : (Bool → Part → Part) → Halves → Halves
-map_two f h = record { remote = f false h.remote; local = f true h.local }
+abbrev pub map_halves : (Bool → Part → Part) → Halves → Halves
+map_halves f h = record { remote = f false h.remote; local = f true h.local }
 
 -- a drift of the mechanics
-abbrev pub two_drifted : Option Deck → Halves → Halves
-two_drifted deck h = map_two (λ local. drifted_part deck) h
+abbrev pub halves_drifted : Option Deck → Halves → Halves
+halves_drifted deck h = map_halves (λ local. drifted_part deck) h
 
 -- the deck is commanded to this mode, or leaves it where it may
-abbrev pub two_gone : Bool → Mode → Halves → Halves
-two_gone may_stay goal h = map_two (λ local. where_live (gone_part (local || may_stay) goal)) h
+abbrev pub halves_gone : Bool → Mode → Halves → Halves
+halves_gone may_stay goal h = map_halves (λ local. where_remains (gone_part (local || may_stay) goal)) h
 
 -- a register changes: in place in the part whose sets may be large, and aside in the other, which has no state left where the
 -- register is set at no time of the day
-abbrev pub two_changed : Bool → Register → Change → Halves → Halves
-two_changed may_stay r c h = record {
+abbrev pub halves_changed : Bool → Register → Change → Halves → Halves
+halves_changed may_stay r c h = record {
   remote = put_settled r (aside h.remote (changed_entries may_stay c (entries_of r h.remote))) h.remote;
-  local = where_live (changed_part true r c) h.local;
+  local = where_remains (changed_part true r c) h.local;
 }
 
 -- a register's time was read
-abbrev pub two_sensed : Register → Option ℕ → Halves → Halves
-two_sensed r time h = map_two (λ local p. put_settled r (aside p (agreeing time (entries_of r p))) p) h
+abbrev pub halves_sensed : Register → Option ℕ → Halves → Halves
+halves_sensed r time h = map_halves (λ local p. put_settled r (aside p (agreeing time (entries_of r p))) p) h
 
 -- a status agrees with some states
-abbrev pub two_status : Status → Halves → Halves
-two_status status h = map_two (λ local. where_live (status_part local status)) h
+abbrev pub halves_status : Status → Halves → Halves
+halves_status status h = map_halves (λ local. where_remains (status_part local status)) h
 
 -- what is forgotten
 abbrev pub motion_forgotten : Halves → Halves
-motion_forgotten h = map_two (λ local. where_live (with_pairs all_pairs)) h
+motion_forgotten h = map_halves (λ local. where_remains (with_pairs all_pairs)) h
 
 abbrev pub tape_forgotten : Halves → Halves
-tape_forgotten h = map_two (λ local. where_live (λ p. all_states (rate_of p))) h
+tape_forgotten h = map_halves (λ local. where_remains (λ p. all_states (rate_of p))) h
 
 abbrev pub registers_forgotten : Halves → Halves
-registers_forgotten h = map_two (λ local. where_live forgotten_part) h
+registers_forgotten h = map_halves (λ local. where_remains forgotten_part) h
 
 abbrev pub all_forgotten : Halves → Halves
-all_forgotten h = if some_two h then all_or_none (rate_in h) true else h
+all_forgotten h = if halves_remain h then all_or_none (rate_in h) true else h
 
--- a deck of a rate, with what it does of its own, whose panel nobody touches
+-- the rules, or this deck, at a rate, where nobody touches the panel
 abbrev pub untouched : Option Deck → Rate → Profile
 untouched deck rate = record { rate = rate; hands = hands.None; deck = deck }
 
@@ -97,9 +97,9 @@ counted _ n = n
 
 -- the states after what leads from a state to others
 pub record LeadsOn (rate : Rate) (Goes : State → State → Type 0) (count : Presets → Presets) (h g : Halves) : Type 0 where
-  pub reached : (pn : Bool) → AreReached (InTwo pn h) Goes (InTwo pn g)
-  pub whole : TwoWhole rate g
-  pub few : (n : Presets) → TwoFew n h → TwoFew (count n) g
+  pub reached : (pn : Bool) → AreReached (InHalves pn h) Goes (InHalves pn g)
+  pub whole : HalvesWhole rate g
+  pub few : (n : Presets) → HalvesFew n h → HalvesFew (count n) g
 
 -- the states after an effect
 abbrev pub HasEffect : Option Deck → Rate → Bool → Effect → Halves → Halves → Type 0
@@ -151,38 +151,38 @@ abbrev pub profile_of : Option Deck → States → Profile
 profile_of deck v = record { rate = rate_for v; hands = hands_of v; deck = deck }
 
 -- those with the panel on
-abbrev pub on_two : Rate → Option Halves → Halves
-on_two rate None = all_or_none rate false
-on_two rate (Some h) = h
+abbrev pub on_halves : Rate → Option Halves → Halves
+on_halves rate None = all_or_none rate false
+on_halves rate (Some h) = h
 
 -- those with this value of the panel
-abbrev pub two_of : States → Bool → Halves
-two_of v false = v.off
-two_of v true = on_two (rate_for v) v.on
+abbrev pub halves_of : States → Bool → Halves
+halves_of v false = v.off
+halves_of v true = on_halves (rate_for v) v.on
 
 -- the part of the states with these values of local and of panel
 abbrev pub part_of : States → Bool → Bool → Part
-part_of v l pn = in_local (two_of v pn) l
+part_of v l pn = in_local (halves_of v pn) l
 
 -- what is true of each part
 pub record AreWhole (rate : Rate) (v : States) : Type 0 where
-  pub off : TwoWhole rate v.off
-  pub on : TwoWhole rate (on_two rate v.on)
+  pub off : HalvesWhole rate v.off
+  pub on : HalvesWhole rate (on_halves rate v.on)
 
 pub record AreBelow (v : States) : Type 0 where
-  pub off : TwoBelow v.off
-  pub on : TwoBelow (on_two (rate_for v) v.on)
+  pub off : HalvesBelow v.off
+  pub on : HalvesBelow (on_halves (rate_for v) v.on)
 
 abbrev pub AreFew : Presets → States → Type 0
-AreFew n v = (pn : Bool) → TwoFew n (two_of v pn)
+AreFew n v = (pn : Bool) → HalvesFew n (halves_of v pn)
 
 -- there is a state with the panel on
-abbrev pub is_panel_live : States → Bool
-is_panel_live v = some_two (on_two (rate_for v) v.on)
+abbrev pub remains_with_panel_on : States → Bool
+remains_with_panel_on v = halves_remain (on_halves (rate_for v) v.on)
 
 -- there is a state
-abbrev pub some_state : States → Bool
-some_state v = some_two v.off || is_panel_live v
+abbrev pub states_remain : States → Bool
+states_remain v = halves_remain v.off || remains_with_panel_on v
 
 -- the states before the capture
 abbrev pub first_on : Rate → Hands → Option Halves
@@ -200,7 +200,7 @@ is_wide _ = false
 
 -- the states after a drift, put together whatever the panel: where it may have been on, a hand may have done anything
 abbrev pub either_panel : Option Deck → States → Halves
-either_panel deck v = if is_panel_live v then all_or_none (rate_for v) true else two_drifted deck v.off
+either_panel deck v = if remains_with_panel_on v then all_or_none (rate_for v) true else halves_drifted deck v.off
 
 -- the panel is switched on or off, after a drift
 abbrev pub switched : Rate → Bool → Halves → States
@@ -212,7 +212,7 @@ after_panel deck on v = switched (rate_for v) on (either_panel deck v)
 
 -- the states after a drift
 abbrev pub all_drifted : Option Deck → States → States
-all_drifted deck v = record { off = two_drifted deck v.off; on = Some (all_or_none (rate_for v) (is_panel_live v)) }
+all_drifted deck v = record { off = halves_drifted deck v.off; on = Some (all_or_none (rate_for v) (remains_with_panel_on v)) }
 
 -- the panel is switched on or off, after a drift, or stays: what it may be switched to has all states, and the rest is as it was
 abbrev pub panel_passed : Option Deck → Bool → States → States

@@ -5,10 +5,10 @@ ghost use Rattle.deck9.specs.Effect.{effect_of};
 ghost use Rattle.deck9.specs.Status.{status_of};
 ghost use Rattle.tc25.specs.Day.{time_of};
 ghost use Rattle.track9.specs.Frugal.{is_frugal, is_frugal_effect};
-ghost use Rattle.track9.specs.Working.States.{HasEffect, Taken, TwoWhole, is_frugal_taken, rate_in, some_two, two_drifted, two_sensed, two_status};
+ghost use Rattle.track9.specs.Working.States.{HasEffect, Taken, HalvesWhole, is_frugal_taken, rate_in, halves_remain, halves_drifted, halves_sensed, halves_status};
 
+use crate::deck_ref::DeckRef;
 use crate::halves::Halves;
-use crate::own::Own;
 use block9::{Block, Command};
 use deck9::{Effect, Mode, Register, Sense, Status};
 use sets25::TimeSet;
@@ -21,19 +21,19 @@ impl<S: TimeSet> Halves<S> {
     pub(crate) fn take(
         &mut self,
         alloc: Global,
-        own: &Own,
+        deck: &DeckRef,
         command: &Command,
         reply: Option<&Block>,
     ) -> Result<bool, AllocError>
-        requires { TwoWhole (rate_in self.old) self.old }
-        ensures ok { OnOk result (Taken own.now (rate_in self.old) command.now (option_map (λ b. b.now) reply.entry) self.old self.new) }
-        ensures some { IfOk result (λ b. b ≡ some_two self.new) }
+        requires { HalvesWhole (rate_in self.old) self.old }
+        ensures ok { OnOk result (Taken deck.now (rate_in self.old) command.now (option_map (λ b. b.now) reply.entry) self.old self.new) }
+        ensures some { IfOk result (λ b. b ≡ halves_remain self.new) }
         ensures err { OnErr result (self.new ≡ self.old) }
-        ensures frugal { IsTrue (is_frugal_taken own.now command.now (option_map (λ b. b.now) reply.entry)) → IsOk result }
+        ensures frugal { IsTrue (is_frugal_taken deck.now command.now (option_map (λ b. b.now) reply.entry)) → IsOk result }
     {
         match reply {
-            Some(reply) => self.exchange(alloc, own, command, reply),
-            None => self.pass(alloc, own, command),
+            Some(reply) => self.exchange(alloc, deck, command, reply),
+            None => self.pass(alloc, deck, command),
         }
     }
 
@@ -42,36 +42,36 @@ impl<S: TimeSet> Halves<S> {
     fn exchange(
         &mut self,
         alloc: Global,
-        own: &Own,
+        deck: &DeckRef,
         command: &Command,
         reply: &Block,
     ) -> Result<bool, AllocError>
-        requires { TwoWhole (rate_in self.old) self.old }
-        ensures ok { OnOk result (Taken own.now (rate_in self.old) command.now (Some reply.now) self.old self.new) }
-        ensures some { IfOk result (λ b. b ≡ some_two self.new) }
+        requires { HalvesWhole (rate_in self.old) self.old }
+        ensures ok { OnOk result (Taken deck.now (rate_in self.old) command.now (Some reply.now) self.old self.new) }
+        ensures some { IfOk result (λ b. b ≡ halves_remain self.new) }
         ensures err { OnErr result (self.new ≡ self.old) }
-        ensures frugal { IsTrue (is_frugal own.now command.now reply.now) → IsOk result }
+        ensures frugal { IsTrue (is_frugal deck.now command.now reply.now) → IsOk result }
     {
         if reply.is_nak() {
-            return Ok(self.drift(own));
+            return Ok(self.drift(deck));
         }
         match Sense::of(command) {
-            Sense::Register(register) => self.read(alloc, own, register, reply),
-            Sense::Status(asked) => Ok(self.report(alloc, own, asked, reply)),
-            Sense::Nothing => self.apply(alloc, own, false, command),
+            Sense::Register(register) => self.read(alloc, deck, register, reply),
+            Sense::Status(asked) => Ok(self.report(alloc, deck, asked, reply)),
+            Sense::Nothing => self.apply(alloc, deck, false, command),
         }
     }
 
     /// The states after a command whose reply is not known. It answers whether there is one.
-    fn pass(&mut self, alloc: Global, own: &Own, command: &Command) -> Result<bool, AllocError>
-        requires { TwoWhole (rate_in self.old) self.old }
-        ensures ok { OnOk result (Taken own.now (rate_in self.old) command.now None self.old self.new) }
-        ensures some { IfOk result (λ b. b ≡ some_two self.new) }
+    fn pass(&mut self, alloc: Global, deck: &DeckRef, command: &Command) -> Result<bool, AllocError>
+        requires { HalvesWhole (rate_in self.old) self.old }
+        ensures ok { OnOk result (Taken deck.now (rate_in self.old) command.now None self.old self.new) }
+        ensures some { IfOk result (λ b. b ≡ halves_remain self.new) }
         ensures err { OnErr result (self.new ≡ self.old) }
-        ensures frugal { IsTrue (is_frugal_effect (effect_of own.now command.now)) → IsOk result }
+        ensures frugal { IsTrue (is_frugal_effect (effect_of deck.now command.now)) → IsOk result }
     {
         self.below_day();
-        self.apply(alloc, own, true, command)
+        self.apply(alloc, deck, true, command)
     }
 
     /// The states after a register's time was read, and a drift. It answers whether there is one.
@@ -79,29 +79,29 @@ impl<S: TimeSet> Halves<S> {
     fn read(
         &mut self,
         alloc: Global,
-        own: &Own,
+        deck: &DeckRef,
         register: Register,
         reply: &Block,
     ) -> Result<bool, AllocError>
-        requires { TwoWhole (rate_in self.old) self.old }
-        ensures ok { OnOk result (self.new ≡ two_drifted own.now (two_sensed register (time_of (rate_in self.old) reply.now.bytes.items) self.old)) }
-        ensures some { IfOk result (λ b. b ≡ some_two self.new) }
+        requires { HalvesWhole (rate_in self.old) self.old }
+        ensures ok { OnOk result (self.new ≡ halves_drifted deck.now (halves_sensed register (time_of (rate_in self.old) reply.now.bytes.items) self.old)) }
+        ensures some { IfOk result (λ b. b ≡ halves_remain self.new) }
         ensures err { OnErr result (self.new ≡ self.old) }
     {
         let time = reply.time_at(self.rate());
         self.sense(alloc, register, &time)?;
-        Ok(self.drift(own))
+        Ok(self.drift(deck))
     }
 
     /// The states after a drift that agree with a reply to STATUS SENSE. It answers whether there is one.
     #[inline(never)] // so that an exchange that takes no memory needs no room on the stack
-    fn report(&mut self, alloc: Global, own: &Own, asked: u8, reply: &Block) -> bool
-        ensures kept { self.new ≡ two_status (status_of asked reply.now) (two_drifted own.now self.old) }
-        ensures some { result ≡ some_two self.new }
+    fn report(&mut self, alloc: Global, deck: &DeckRef, asked: u8, reply: &Block) -> bool
+        ensures kept { self.new ≡ halves_status (status_of asked reply.now) (halves_drifted deck.now self.old) }
+        ensures some { result ≡ halves_remain self.new }
     {
-        self.drift(own);
+        self.drift(deck);
         self.keep_status(alloc, &Status::of(asked, reply));
-        self.is_some()
+        self.remains()
     }
 
     /// The states after a drift and a command's effect, which a deck in LOCAL may ignore, and any where `may_stay`. It answers
@@ -110,39 +110,39 @@ impl<S: TimeSet> Halves<S> {
     fn apply(
         &mut self,
         alloc: Global,
-        own: &Own,
+        deck: &DeckRef,
         may_stay: bool,
         command: &Command,
     ) -> Result<bool, AllocError>
-        requires { TwoWhole (rate_in self.old) self.old }
-        ensures ok { OnOk result (HasEffect own.now (rate_in self.old) may_stay (effect_of own.now command.now) (two_drifted own.now self.old) self.new) }
-        ensures some { IfOk result (λ b. b ≡ some_two self.new) }
+        requires { HalvesWhole (rate_in self.old) self.old }
+        ensures ok { OnOk result (HasEffect deck.now (rate_in self.old) may_stay (effect_of deck.now command.now) (halves_drifted deck.now self.old) self.new) }
+        ensures some { IfOk result (λ b. b ≡ halves_remain self.new) }
         ensures err { OnErr result (self.new ≡ self.old) }
-        ensures frugal { IsTrue (is_frugal_effect (effect_of own.now command.now)) → IsOk result }
+        ensures frugal { IsTrue (is_frugal_effect (effect_of deck.now command.now)) → IsOk result }
     {
-        match own.effect(command) {
-            Effect::Nothing => Ok(self.drift(own)),
-            Effect::Panel(_) => Ok(self.drift(own)),
-            Effect::Go(goal) => Ok(self.drift_and_go(own, may_stay, goal)),
-            Effect::KeepOrStop => Ok(self.drift_and_go(own, true, Mode::Stop)),
+        match deck.effect(command) {
+            Effect::Nothing => Ok(self.drift(deck)),
+            Effect::Panel(_) => Ok(self.drift(deck)),
+            Effect::Go(goal) => Ok(self.drift_and_go(deck, may_stay, goal)),
+            Effect::KeepOrStop => Ok(self.drift_and_go(deck, true, Mode::Stop)),
             Effect::Change(register, change) => {
                 self.below_day();
                 self.change(alloc, may_stay, register, &change)?;
                 self.below_day();
-                Ok(self.drift(own))
+                Ok(self.drift(deck))
             }
-            Effect::ForgetMotion => Ok(self.drift_and_forget_motion(own)),
+            Effect::ForgetMotion => Ok(self.drift_and_forget_motion(deck)),
             Effect::ForgetTape => {
                 self.forget_tape(alloc)?;
-                Ok(self.drift(own))
+                Ok(self.drift(deck))
             }
             Effect::ForgetRegisters => {
                 self.forget_registers(alloc)?;
-                Ok(self.drift(own))
+                Ok(self.drift(deck))
             }
             Effect::ForgetAll => {
                 self.forget_all(alloc)?;
-                Ok(self.drift(own))
+                Ok(self.drift(deck))
             }
         }
     }

@@ -2,9 +2,9 @@
 ghost use Rattle.std.specs.Prelude.{◌≡◌, ◌||◌, false, true};
 ghost use Rattle.deck9.specs.Knowledge.{IsKnowledge, IsKnown, IsKnownEntry};
 ghost use Rattle.track9.specs.Tracker.{Possible};
-ghost use Rattle.track9.specs.Working.Knowing.{TwoKnow, goals_in, join_options, joined_known, known_fact, shown_in, two_goals, two_shown};
-ghost use Rattle.track9.specs.Working.Parts.{is_live};
-ghost use Rattle.track9.specs.Working.States.{AreWhole, TwoWhole, part_of, some_state, two_of, rate_for, rate_in};
+ghost use Rattle.track9.specs.Working.Knowing.{HalvesKnow, goals_in, join_options, joined_known, known_fact, shown_in, halves_goals, halves_shown};
+ghost use Rattle.track9.specs.Working.Parts.{part_remains};
+ghost use Rattle.track9.specs.Working.States.{AreWhole, HalvesWhole, part_of, states_remain, halves_of, rate_for, rate_in};
 ghost use Rattle.deck9.specs.declared.state.State.{State as AState};
 
 use crate::halves::Halves;
@@ -16,7 +16,7 @@ impl<S: TimeSet> States<S> {
     /// What all states agree on, field by field. There is a state.
     pub(crate) fn knowledge(&self) -> Knowledge
         requires whole { AreWhole (rate_for self.now) self.now }
-        requires some { some_state self.now ≡ true }
+        requires some { states_remain self.now ≡ true }
         ensures { IsKnowledge (Possible self.now) result }
     {
         Knowledge {
@@ -34,7 +34,7 @@ impl<S: TimeSet> States<S> {
     /// The goal, as far as all states agree. There is a state.
     fn known_goal(&self) -> Known<Mode>
         requires whole { AreWhole (rate_for self.now) self.now }
-        requires some { some_state self.now ≡ true }
+        requires some { states_remain self.now ≡ true }
         ensures { IsKnown (Possible self.now) (λ (s : AState). s.goal) result }
     {
         self.goals().known()
@@ -43,7 +43,7 @@ impl<S: TimeSet> States<S> {
     /// The shown mode, as far as all states agree. There is a state.
     fn known_shown(&self) -> Known<Mode>
         requires whole { AreWhole (rate_for self.now) self.now }
-        requires some { some_state self.now ≡ true }
+        requires some { states_remain self.now ≡ true }
         ensures { IsKnown (Possible self.now) (λ (s : AState). s.shown) result }
     {
         self.shown().known()
@@ -52,7 +52,7 @@ impl<S: TimeSet> States<S> {
     /// A register, as far as all states agree. There is a state.
     fn known_entry(&self, register: Register) -> KnownEntry
         requires whole { AreWhole (rate_for self.now) self.now }
-        requires some { some_state self.now ≡ true }
+        requires some { states_remain self.now ≡ true }
         ensures { IsKnownEntry (Possible self.now) register result }
     {
         let off = self.off.known(register);
@@ -67,25 +67,25 @@ impl<S: TimeSet> States<S> {
     /// Whether the deck is in LOCAL, as far as all states agree. There is a state.
     fn known_local(&self) -> Known<bool>
         requires whole { AreWhole (rate_for self.now) self.now }
-        requires some { some_state self.now ≡ true }
+        requires some { states_remain self.now ≡ true }
         ensures { IsKnown (Possible self.now) (λ (s : AState). s.local) result }
     {
-        known_fact(self.is_remote_live(), self.is_local_live())
+        known_fact(self.remains_in_remote(), self.remains_in_local())
     }
 
     /// Whether the panel is on, as far as all states agree. There is a state.
     fn known_panel(&self) -> Known<bool>
         requires whole { AreWhole (rate_for self.now) self.now }
-        requires some { some_state self.now ≡ true }
+        requires some { states_remain self.now ≡ true }
         ensures { IsKnown (Possible self.now) (λ (s : AState). s.panel) result }
     {
-        known_fact(self.off.is_some(), self.is_panel_live())
+        known_fact(self.off.remains(), self.remains_with_panel_on())
     }
 
     /// What is known of a register with the panel on: None where there is no such state.
     fn known_on(&self, register: Register) -> Option<KnownEntry>
         requires { AreWhole (rate_for self.now) self.now }
-        ensures { TwoKnow (two_of self.now true) register result }
+        ensures { HalvesKnow (halves_of self.now true) register result }
     {
         match &self.on {
             Some(on) => on.known(register),
@@ -94,22 +94,22 @@ impl<S: TimeSet> States<S> {
     }
 
     /// Whether there is a state in REMOTE.
-    fn is_remote_live(&self) -> bool
-        ensures { result ≡ (is_live (part_of self.now false false) || is_live (part_of self.now false true)) }
+    fn remains_in_remote(&self) -> bool
+        ensures { result ≡ (part_remains (part_of self.now false false) || part_remains (part_of self.now false true)) }
     {
         match &self.on {
-            Some(on) => self.off.remote.is_live() || on.remote.is_live(),
-            None => self.off.remote.is_live(),
+            Some(on) => self.off.remote.remains() || on.remote.remains(),
+            None => self.off.remote.remains(),
         }
     }
 
     /// Whether there is a state in LOCAL.
-    fn is_local_live(&self) -> bool
-        ensures { result ≡ (is_live (part_of self.now true false) || is_live (part_of self.now true true)) }
+    fn remains_in_local(&self) -> bool
+        ensures { result ≡ (part_remains (part_of self.now true false) || part_remains (part_of self.now true true)) }
     {
         match &self.on {
-            Some(on) => self.off.local.is_live() || on.local.is_live(),
-            None => self.off.local.is_live(),
+            Some(on) => self.off.local.remains() || on.local.remains(),
+            None => self.off.local.remains(),
         }
     }
 
@@ -137,8 +137,8 @@ impl<S: TimeSet> States<S> {
 impl<S: TimeSet> Halves<S> {
     /// What is known of a register: None where there is no state.
     fn known(&self, register: Register) -> Option<KnownEntry>
-        requires { TwoWhole (rate_in self.now) self.now }
-        ensures { TwoKnow self.now register result }
+        requires { HalvesWhole (rate_in self.now) self.now }
+        ensures { HalvesKnow self.now register result }
     {
         let remote = self.remote.known(register);
         let local = self.local.known(register);
@@ -147,7 +147,7 @@ impl<S: TimeSet> Halves<S> {
 
     /// The goals of all states.
     fn goals(&self) -> ModeSet
-        ensures { result ≡ two_goals self.now }
+        ensures { result ≡ halves_goals self.now }
     {
         let local = self.local.pairs().goals();
         self.remote.pairs().goals().or(local)
@@ -155,7 +155,7 @@ impl<S: TimeSet> Halves<S> {
 
     /// The modes that all states show.
     fn shown(&self) -> ModeSet
-        ensures { result ≡ two_shown self.now }
+        ensures { result ≡ halves_shown self.now }
     {
         let local = self.local.pairs().all_shown();
         self.remote.pairs().all_shown().or(local)

@@ -1,8 +1,8 @@
 //! Some state of a set.
 ghost use Rattle.std.specs.Prelude.{◌≡◌, IfNone, IfSome, false, true};
 ghost use Rattle.track9.specs.Tracker.{Possible};
-ghost use Rattle.track9.specs.Working.Parts.{HasState, Whole, is_live, rate_of};
-ghost use Rattle.track9.specs.Working.States.{AreWhole, InTwo, TwoWhole, is_panel_live, some_two, two_of, rate_for, rate_in};
+ghost use Rattle.track9.specs.Working.Parts.{HasState, Whole, part_remains, rate_of};
+ghost use Rattle.track9.specs.Working.States.{AreWhole, InHalves, HalvesWhole, remains_with_panel_on, halves_remain, halves_of, rate_for, rate_in};
 ghost use Rattle.deck9.specs.declared.state.State.{State as AState};
 
 use crate::halves::Halves;
@@ -27,8 +27,8 @@ impl<S: TimeSet> States<S> {
     /// Some state with the panel on, or none exactly where there is none.
     pub(crate) fn state_on(&self) -> Option<State>
         requires { AreWhole (rate_for self.now) self.now }
-        ensures some { IfSome result (InTwo true (two_of self.now true)) }
-        ensures none { IfNone result (is_panel_live self.now ≡ false) }
+        ensures some { IfSome result (InHalves true (halves_of self.now true)) }
+        ensures none { IfNone result (remains_with_panel_on self.now ≡ false) }
     {
         match &self.on {
             Some(on) => on.state(true),
@@ -40,9 +40,9 @@ impl<S: TimeSet> States<S> {
 impl<S: TimeSet> Halves<S> {
     /// Some state, with this value of the panel, or none exactly where there is none.
     fn state(&self, panel: bool) -> Option<State>
-        requires { TwoWhole (rate_in self.now) self.now }
-        ensures some { IfSome result (InTwo panel self.now) }
-        ensures none { IfNone result (some_two self.now ≡ false) }
+        requires { HalvesWhole (rate_in self.now) self.now }
+        ensures some { IfSome result (InHalves panel self.now) }
+        ensures none { IfNone result (halves_remain self.now ≡ false) }
     {
         if let Some(state) = state_in(&self.remote, false, panel) {
             return Some(state);
@@ -55,9 +55,9 @@ impl<S: TimeSet> Halves<S> {
 fn state_in<S: TimeSet>(part: &Part<S>, local: bool, panel: bool) -> Option<State>
     requires { Whole (rate_of part.now) part.now }
     ensures some { IfSome result (HasState part.now local panel) }
-    ensures none { IfNone result (is_live part.now ≡ false) }
+    ensures none { IfNone result (part_remains part.now ≡ false) }
 {
-    if part.is_live() {
+    if part.remains() {
         Some(first_in(part, local, panel))
     } else {
         None
@@ -67,7 +67,7 @@ fn state_in<S: TimeSet>(part: &Part<S>, local: bool, panel: bool) -> Option<Stat
 /// A state of a part that has one: of the first goal, the first mode shown with it, and the first entries.
 fn first_in<S: TimeSet>(part: &Part<S>, local: bool, panel: bool) -> State
     requires whole { Whole (rate_of part.now) part.now }
-    requires live { is_live part.now ≡ true }
+    requires live { part_remains part.now ≡ true }
     ensures { HasState part.now local panel result }
 {
     let pairs = part.pairs();

@@ -1,7 +1,7 @@
-use Rattle.track9.proofs.Words.{ap, some_two, sym, ◌∙◌}
+use Rattle.track9.proofs.Words.{ap, halves_remain, sym, ◌∙◌}
 use Rattle.track9.proofs.halves.Halves.drift_and_forget_motion.Goals as goal
-use Rattle.track9.proofs.EffectLemmas.{two_live_moved}
+use Rattle.track9.proofs.EffectLemmas.{halves_live_moved}
 
 pub returns-clause-some : goal.returns-clause-some
 returns-clause-some g c = rw (c.forget_motion.ensures, c.forget_motion-2.ensures) (c.drift-some.ensures.some
-    ∙ sym (two_live_moved (record { remote = c.self.inside.remote; local = c.self.inside.local }) ∙ ap some_two c.self.view_is))
+    ∙ sym (halves_live_moved (record { remote = c.self.inside.remote; local = c.self.inside.local }) ∙ ap halves_remain c.self.view_is))

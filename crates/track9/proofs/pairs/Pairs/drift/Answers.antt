@@ -25,7 +25,7 @@ none_drifted deck p ten none = rw (stays Stop, stays Play, stays Rec, stays Fast
         (λ e. simp or_zero_r) (λ e. refl))
 
 pub returns-then-some-clause-some : goal.returns-then-some-clause-some
-returns-then-some-clause-some c = rw (c.is_some-some.ensures, c.drifted.ensures) (sym (drift_some c.args.own.now c.args.self.now.0))
+returns-then-some-clause-some c = rw (c.is_some-some.ensures, c.drifted.ensures) (sym (drift_some c.args.deck.now c.args.self.now.0))
 
 pub returns-else-some-clause-drifted : goal.returns-else-some-clause-drifted
-returns-else-some-clause-drifted c = sym (none_drifted c.args.own.now c.args.self.now.0 (search rules) (sym c.is_some-some.ensures ∙ c.if-some.false))
+returns-else-some-clause-drifted c = sym (none_drifted c.args.deck.now c.args.self.now.0 (search rules) (sym c.is_some-some.ensures ∙ c.if-some.false))

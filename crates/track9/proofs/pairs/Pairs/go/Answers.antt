@@ -1,12 +1,12 @@
 use Rattle.std.proofs.Common.{length, List, slice_set, [], ◌∷◌, ◌≡◌}
 use Rattle.std.specs.Int.Bits.{or_zero_r}
-use Rattle.track9.proofs.Words.{either, gone, goes, joined, Mode, ModeSet, shown_with, Stop}
+use Rattle.track9.proofs.Words.{either, gone, all_shown, joined, Mode, ModeSet, shown_with, Stop}
 use Rattle.deck9.specs.Mode.{index_of}
 use Rattle.track9.proofs.pairs.Pairs.go.Goals as goal
 use Rattle.std.proofs.Common.{arith}
 
 -- one of ten sets of modes that is joined with all of them
-joined_at : (p : List ModeSet) (g : Mode) → length p ≡ 10 → slice_set p (index_of g) (either (shown_with p g) (goes p)) ≡ joined p (gone g p)
+joined_at : (p : List ModeSet) (g : Mode) → length p ≡ 10 → slice_set p (index_of g) (either (shown_with p g) (all_shown p)) ≡ joined p (gone g p)
 joined_at (a ∷ b ∷ c ∷ d ∷ e ∷ f ∷ h ∷ i ∷ j ∷ k ∷ []) Stop len = simp or_zero_r
 joined_at (a ∷ b ∷ c ∷ d ∷ e ∷ f ∷ h ∷ i ∷ j ∷ k ∷ []) _ len = simp or_zero_r
 joined_at _ g len = cc

@@ -13,19 +13,19 @@ pub returns-in-Some-clause-ok : goal.returns-in-Some-clause-ok
 returns-in-Some-clause-ok g c =
     let was = rw c.in-Some.is at (sym c.effect_taken.ensures ∙ c.in-Panel.is) in
     rw c.in-Some.is (on_ok_weaker c.switch_panel.result
-    (λ new. rw new (by_hand c.args.own.now c.args.command.now (Some c.in-Some.field-0.now) c.args.self.now _ c.requires.hands
-    (follows_panel c.args.own.now c.args.command.now c.in-Some.field-0.now c.in-Panel.on c.args.self.now was c.requires.whole c.below_day.ensures)))
+    (λ new. rw new (by_hand c.args.deck.now c.args.command.now (Some c.in-Some.field-0.now) c.args.self.now _ c.requires.hands
+    (follows_panel c.args.deck.now c.args.command.now c.in-Some.field-0.now c.in-Panel.on c.args.self.now was c.requires.whole c.below_day.ensures)))
     c.switch_panel.ensures.ok)
 
 pub returns-in-None-clause-ok : goal.returns-in-None-clause-ok
 returns-in-None-clause-ok g c =
     let is = rw c.in-None.is at (sym c.effect_taken.ensures ∙ c.in-Panel.is) in
     rw c.in-None.is (on_ok_weaker c.pass_panel.result
-    (λ new. rw new (by_hand c.args.own.now c.args.command.now None c.args.self.now _ c.requires.hands
-    (passed_panel c.args.own.now c.args.command.now c.in-Panel.on c.args.self.now is c.requires.whole c.below_day.ensures))) c.pass_panel.ensures.ok)
+    (λ new. rw new (by_hand c.args.deck.now c.args.command.now None c.args.self.now _ c.requires.hands
+    (passed_panel c.args.deck.now c.args.command.now c.in-Panel.on c.args.self.now is c.requires.whole c.below_day.ensures))) c.pass_panel.ensures.ok)
 
 pub returns-in-ForgetAll-clause-ok : goal.returns-in-ForgetAll-clause-ok
 returns-in-ForgetAll-clause-ok g c = on_ok_weaker c.forget_all.result
-    (λ new. rw new (by_hand c.args.own.now c.args.command.now (option_map (λ b. b.now) c.args.reply) c.args.self.now _ c.requires.hands
-    (follows_forget c.args.own.now c.args.command.now (option_map (λ b. b.now) c.args.reply) c.args.self.now (sym c.effect_taken.ensures ∙ c.in-ForgetAll.is)
+    (λ new. rw new (by_hand c.args.deck.now c.args.command.now (option_map (λ b. b.now) c.args.reply) c.args.self.now _ c.requires.hands
+    (follows_forget c.args.deck.now c.args.command.now (option_map (λ b. b.now) c.args.reply) c.args.self.now (sym c.effect_taken.ensures ∙ c.in-ForgetAll.is)
     c.requires.hands c.requires.whole c.below_day.ensures))) c.forget_all.ensures.ok

@@ -1,4 +1,4 @@
-//! What the deck of a tracker does of its own, in place of what this profile says of every deck.
+//! The deck of a tracker's profile, if it has one: what it does in place of what the rules say of every deck.
 ghost use Rattle.std.specs.Prelude.{◌≡◌, None, slice_index_or};
 ghost use Rattle.deck9.specs.Deck.{way_of};
 ghost use Rattle.deck9.specs.Effect.{effect_of};
@@ -10,11 +10,11 @@ use block9::Command;
 use deck9::{Deck, Effect, Mode, ModeSet};
 use std::marker::Model;
 
-/// What a deck does of its own, if it does.
+/// A deck, or none: then the rules say what it does.
 #[derive(Drop)]
-pub(crate) struct Own<'a>(Option<&'a Deck>);
+pub(crate) struct DeckRef<'a>(Option<&'a Deck>);
 
-impl<'a> Model for Own<'a> {
+impl<'a> Model for DeckRef<'a> {
     ghost use Rattle.std.specs.Prelude.{Option, option_map};
     ghost use Rattle.std.specs.Coded.{coded_option};
     ghost use Rattle.deck9.specs.declared.deck.Deck.{Deck as ADeck};
@@ -27,26 +27,26 @@ impl<'a> Model for Own<'a> {
     ghost view = { λ o. option_map (λ d. d.now) o.0 };
 }
 
-impl<'a> Own<'a> {
-    /// Nothing of its own.
-    pub(crate) fn nothing() -> Own<'a>
+impl<'a> DeckRef<'a> {
+    /// No deck: the rules alone.
+    pub(crate) fn none() -> DeckRef<'a>
         ensures { result ≡ None }
     {
-        Own(None)
+        DeckRef(None)
     }
 
-    /// What this deck does, if there is one.
-    pub(crate) fn of(deck: &'a Option<Deck>) -> Own<'a>
+    /// This deck, if there is one.
+    pub(crate) fn of(deck: &'a Option<Deck>) -> DeckRef<'a>
         ensures { result ≡ deck.entry.now }
     {
-        Own(deck.as_ref())
+        DeckRef(deck.as_ref())
     }
 
     /// The same.
-    pub(crate) fn copy(&self) -> Own<'a>
+    pub(crate) fn copy(&self) -> DeckRef<'a>
         ensures { result ≡ self.now }
     {
-        Own(self.0)
+        DeckRef(self.0)
     }
 
     /// What a command does where it is acknowledged.
