@@ -12,7 +12,7 @@ use tc25::{Rate, TimeCode};
 
 /// What a block on the controller's wire is.
 ///
-/// There is a variant for each name in the protocol manual's tables that this profile lists, and one for
+/// There is a variant for each name in the protocol manual's tables that the rules list, and one for
 /// all other commands.
 #[derive(Clone, Copy, Debug, PartialEq, Eq)]
 pub enum Command {

@@ -100,7 +100,7 @@ impl Pairer {
     /// do not. The tail stays as it was. Every later call answers the same reason and changes nothing.
     /// [`Reason::NoRun`] is never among them.
     ///
-    /// The rules are the protocol manual's; where it leaves a choice, this profile favours the deck.
+    /// The rules are the protocol manual's; where it leaves a choice, they favour the deck.
     #[inline(always)] // else each record costs a call
     pub fn feed(&mut self, line_byte: LineByte) -> Result<Step, Reason>
         requires { ForSome self.old.last_time (λ before. before ≤ line_byte.time_us) }

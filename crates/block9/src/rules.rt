@@ -108,7 +108,7 @@ fn group_fault(place: Place, allowed: bool) -> Option<Reason>
 }
 
 /// Whether blocks of this group may come on the wire. The protocol has groups 1 and 7 for the deck, and
-/// 0, 2, 4 and 6 for the controller; this profile takes every other group on both wires.
+/// 0, 2, 4 and 6 for the controller; these rules take every other group on both wires.
 fn allows(wire: Wire, group: u8) -> bool
     requires { group < 16 }
     ensures { result ≡ allows wire group }

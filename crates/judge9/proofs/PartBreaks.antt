@@ -237,13 +237,17 @@ module _ {R : Type 0} {T : BrokenPart → List ℕ → Type 0} {view : View} {pr
           (at_first passed first after none may) new.with_first
       resumed passed mid after none gives (inr (inl (is, ends, knows))) =
           let read = read_past passed gives in
-          rw is (past_of passed, before_next (past_of passed) (longer passed) wrote, record {
+          rw is (
+            past_of passed,
+            before_next (past_of passed) (longer passed) wrote,
+            record {
               front = record { rows = mid; follower = k.follower };
               so_far = so_far-begin knows read.is_reading read.read read.are_given;
               turned = record { ends = ends; same_follower = refl };
               ahead = at_end passed after none;
               ended = λ nil. refl;
-            })
+            },
+          )
       resumed passed mid after none gives (inr (inr (e, refusal, is))) =
           rw is (parts-refusal broken texts h.are_texts (keeps-none view profile (past_of passed) refl) (rw append-nil (read_past passed gives))
           (at_end passed after none) refusal refl

@@ -47,12 +47,12 @@ module _ {R : Type 0} (Q : List LineByte → Type 0) {view : View} {profile : Pr
   pub arrive : {j k : Judging R} {es : List Exchange} {turn : Turn} (end_us : Option ℕ) (h : SoFar view profile rows past j old now es)
       → HoldsOn Q h.items → IsEnded es end_us j h.items → ComesTo j (Ok turn) k → AtTurn Q view profile rows past turn k old now es end_us
   arrive {k = k} {turn = turn} end_us h all ended come = came end_us h all ended come (λ front f on ended_so t. record {
-      front = front;
-      so_far = f;
-      turned = t;
-      ahead = all_ahead front k Q f.items turn t on;
-      ended = ended_so;
-    })
+    front = front;
+    so_far = f;
+    turned = t;
+    ahead = all_ahead front k Q f.items turn t on;
+    ended = ended_so;
+  })
 
 -- with the exchange that the pairer shows
 pub told_of : {R : Type 0} {front j : Judging R} {view : View} {profile : Profile} {e : Exchange} {result : Result Unit JudgeError} {now new : Option (List ℕ)}
@@ -72,9 +72,11 @@ module _ {R : Type 0} {Q : List LineByte → Type 0} {view : View} {profile : Pr
       let f = so_far-exchange h.so_far told.1.line t.1.gives t.1.took told.1.is_line told.1.puts in
       let same = so_far-exchange_items h.so_far new told.1.line t.1.gives t.1.took told.1.is_line told.1.puts in
       subst (λ x. (f : SoFar view profile rows past j old new (es ++ x ∷ [])) × HoldsOn Q f.items
-      × IsEnded (es ++ x ∷ []) j.follower.pairer.last_time j f.items) told.0
-      (f, subst (HoldsOn Q) (sym same) (holds-more Q h.so_far.items t.0 h.ahead),
-      λ nil. exchange_ended h.so_far new told.1.line t.1.gives t.1.took told.1.is_line told.1.puts)
+      × IsEnded (es ++ x ∷ []) j.follower.pairer.last_time j f.items) told.0 (
+        f,
+        subst (HoldsOn Q) (sym same) (holds-more Q h.so_far.items t.0 h.ahead),
+        λ nil. exchange_ended h.so_far new told.1.line t.1.gives t.1.took told.1.is_line told.1.puts,
+      )
 
   pub next_turn : {k : Judging R} {new : Option (List ℕ)} {e : Exchange} {turn : Turn} → TellsAt view profile j e (Ok tt) now new → ComesTo j (Ok turn) k
       → AtTurn Q view profile rows past turn k old new (es ++ e ∷ []) j.follower.pairer.last_time

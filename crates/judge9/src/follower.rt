@@ -45,7 +45,10 @@ impl<'a> Follower<'a> {
         match self.pairer.feed(line_byte) {
             Ok(Step::Waiting) | Ok(Step::Command) => Ok(None),
             Ok(Step::Exchange) => self.observe(line_byte),
-            Err(reason) => Ok(Some(Turn::Break(Break { reason, record: line_byte }))),
+            Err(reason) => Ok(Some(Turn::Break(Break {
+                reason,
+                record: line_byte,
+            }))),
         }
     }
 
@@ -61,7 +64,10 @@ impl<'a> Follower<'a> {
             return Ok(Some(Turn::Exchange));
         }
         let reason = Reason::NoRun;
-        Ok(Some(Turn::Break(Break { reason, record: last })))
+        Ok(Some(Turn::Break(Break {
+            reason,
+            record: last,
+        })))
     }
 
     /// The exchange that the last record completed.

@@ -19,7 +19,7 @@ use deck9::{Profile, Register};
 use sets25::SpanSet;
 use std::alloc::{AllocError, Global};
 use std::io::{Read, Write};
-use text9::{write_all, put_exchange_line_for};
+use text9::{put_exchange_line_for, write_all};
 use track9::Tracker;
 use verdict9::{JudgeError, Telling, View};
 

@@ -29,7 +29,7 @@ pub(crate) fn pass_over<R: Read + Drop>(
 }
 
 /// Whether a record that comes after `last` may be the first of a command: it comes on the controller's wire, and after a record
-/// of the deck or after the byte gap. The rule is this profile's choice.
+/// of the deck or after the byte gap. That is a choice of these rules.
 fn may_begin(last: LineByte, next: LineByte) -> bool
     ensures { result ≡ may_begin last next }
 {

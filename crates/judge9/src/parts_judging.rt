@@ -30,7 +30,7 @@ use verdict9::{JudgeError, Telling, Totals, Verdict, put_totals_line, put_verdic
 /// the first record that breaks a rule, and the next part begins with the first record that may begin a command: with the one
 /// that breaks, where it comes on the controller's wire and a reply is missing, unfinished or late in coming, or the block before
 /// it did not end; else after it, with the first on the controller's wire that comes after a record of the deck's wire or after
-/// the byte gap. Where there is none, the rest is passed over. The rule is this profile's choice.
+/// the byte gap. Where there is none, the rest is passed over. That is a choice of these rules.
 ///
 /// For each part it writes what `judge` writes for a capture that breaks there, or what `report9`'s `write_why` writes of it, with
 /// the numbers that the records have in the whole capture; for a part that does not break the lines of its exchanges alone, where

@@ -6,7 +6,7 @@ use crate::ending::{Message, Outcome};
 use capture9::CaptureKind;
 use judge9::{JudgeError, Totals, Verdict};
 
-/// How the program ends after a judging; the statuses are this profile's choice. Takes no memory.
+/// How the program ends after a judging; the statuses are a choice of these rules. Takes no memory.
 ///
 /// | `judge` answers | status | message |
 /// |---|---|---|

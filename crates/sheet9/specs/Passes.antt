@@ -37,11 +37,11 @@ passes_of ways (member key value rest) =
     and_then (ok_or (mode_named key) (NoGoal key))
     (λ goal. and_then (way_with key goal (as_array value)) (λ way. passes_of (slice_set ways (index_of goal) way) rest))
 
--- the profile's own ways
+-- the ways of the rules
 abbrev pub own_ways : List ModeSet
 own_ways = map way every_mode
 
--- what the key `passes` says: the profile's own ways where it is not there
+-- what the key `passes` says: the ways of the rules where it is not there
 abbrev pub passes_in : Option Data → Result (List ModeSet) Fault
 passes_in None = Ok own_ways
 passes_in (Some value) = in_table (as_table value)

@@ -33,7 +33,7 @@ fn own_ways() -> [ModeSet; 10]
     Mode::ALL.map(ModeSet::on_the_way)
 }
 
-/// The profile's own ways, with what the entries say.
+/// The ways of the rules, with what the entries say.
 fn read_entries(alloc: Global, entries: &Table) -> Result<[ModeSet; 10], SheetError>
     ensures ok { IfOk result (λ ways. passes_of own_ways (table_view entries.now) ≡ Ok ways) }
     ensures err { IfErr result (TellsOf (passes_of own_ways (table_view entries.now))) }
