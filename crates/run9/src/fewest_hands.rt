@@ -6,8 +6,8 @@
 //! before it at which the panel may be on. The states of a stretch are found before those of the next, which begins with
 //! what a hand keeps of the last of them.
 //!
-//! The search is not proved to find such a run. What it finds is asked of `is_run_of`, and is handed out where that says that
-//! it is a run.
+//! The search is not proved to find such a run: `is_run_of` is asked whether what it finds is a run, and only a run is handed
+//! out.
 ghost use Rattle.std.specs.Prelude.{◌≡◌, ◌≤◌, IfOk, IfSome, length};
 ghost use Rattle.deck9.specs.Run.{IsRun};
 ghost use Rattle.deck9.specs.declared.state.State.{State as AState};
@@ -91,8 +91,8 @@ fn starts_of_stretches(
     Ok(starts)
 }
 
-/// How many of these exchanges come before a hand has to move, or `None` where none has to. It is 0 where none could help:
-/// such exchanges have no run.
+/// How many of these exchanges come before a hand has to move, or `None` where none has to. It is 0 where no hand could help,
+/// since the exchanges have no run.
 fn length_before_hand(
     alloc: Global,
     profile: &Profile,

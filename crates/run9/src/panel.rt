@@ -27,7 +27,7 @@ fn switch_of(profile: &Profile, exchange: &Exchange) -> Option<Switch> {
     }
 }
 
-/// Whether the panel may be on after an exchange, where it is told whether it may be on before it.
+/// Whether the panel may be on after an exchange, by whether it may be on before it.
 pub(crate) fn may_be_on_after(profile: &Profile, exchange: &Exchange, may_be_on: bool) -> bool {
     match switch_of(profile, exchange) {
         Some(Switch::Off) => false,
@@ -71,8 +71,8 @@ pub(crate) fn switch_panels(profile: &Profile, exchanges: &[Exchange], states: &
     }
 }
 
-/// Whether the panel is on after an exchange, where it is told whether it is on before it, and whether it is on after it
-/// where the command leaves it free.
+/// Whether the panel is on after an exchange: by whether it is on before it, and, where the command leaves it free, by
+/// `where_free`.
 fn is_on_after(profile: &Profile, exchange: &Exchange, is_on: bool, where_free: bool) -> bool {
     match switch_of(profile, exchange) {
         Some(Switch::On) => true,

@@ -37,7 +37,8 @@ pub struct Pace {
 impl Pace {
     /// How close marks are put before so many exchanges, where a tracker keeps at most so many spans of times.
     ///
-    /// Marks that are as far apart as each is heavy take together as much memory as the exchanges do, and so do dense ones.
+    /// The heavier a mark is, the further apart marks are: so all of them together take about as much memory as the exchanges,
+    /// and so do the dense ones.
     pub fn of(exchanges: usize, spans: usize) -> Pace {
         /// What a tracker takes beside its times, as spans of 8 bytes.
         const BARE: usize = 128;

@@ -164,7 +164,7 @@ impl<S: TimeSet> Entries<S> {
         }
     }
 
-    /// What becomes of the entries, in a set of its own.
+    /// The entries after a change, in a set of their own.
     pub(crate) fn changed(&self, alloc: Global, change: &Change) -> Result<Entries<S>, AllocError>
         ensures { IfOk result (λ r. r ≡ changed change.now self.now) }
     {
@@ -202,7 +202,7 @@ impl<S: TimeSet> Entries<S> {
         }
     }
 
-    /// What may become of the entries, in place, where the deck may also leave the register as it is.
+    /// The entries after a change, with those before it, in place.
     pub(crate) fn widen(&mut self, alloc: Global, change: &Change) -> Result<(), AllocError>
         ensures ok { OnOk result (self.new ≡ widened change.now self.old) }
         ensures err { OnErr result (self.new ≡ self.old) }
@@ -221,7 +221,7 @@ impl<S: TimeSet> Entries<S> {
         Ok(())
     }
 
-    /// The entries after a change, with those before it, in a set of its own.
+    /// The entries after a change, with those before it, in a set of their own.
     pub(crate) fn widened(&self, alloc: Global, change: &Change) -> Result<Entries<S>, AllocError>
         ensures { IfOk result (λ r. r ≡ widened change.now self.now) }
     {
@@ -237,7 +237,7 @@ impl<S: TimeSet> Entries<S> {
         time.is_some() && self.times.only() == *time
     }
 
-    /// The entries that agree with a time that was read, in a set of its own: None where it was not valid,
+    /// The entries that agree with a time that was read, in a set of their own: None where it was not valid,
     /// which only a Clear register gives. Copies no times.
     pub(crate) fn agreeing(
         &self,

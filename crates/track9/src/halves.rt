@@ -2,9 +2,9 @@
 //!
 //! A step that may need memory first makes aside what the part in REMOTE gets; then it changes the part in LOCAL, whose sets
 //! may be large, in place, as the last thing that can fail; and then it drifts and puts the rest in place. So a refused
-//! step changes nothing, and no large set is copied but where a deck in REMOTE too may ignore a change of a register. A
-//! drift of the mechanics changes the pairs alone, so it may come after what becomes of the registers. What is let go of is
-//! handed to `drop`, as in `states.rt`.
+//! step changes nothing, and a large set is copied only where a deck in REMOTE, too, may ignore a change of a register. A
+//! drift of the mechanics changes the pairs alone, so it may come after what becomes of the registers. What is done with is
+//! dropped by name, as in `states.rt`.
 ghost use Rattle.std.specs.Prelude.{◌≡◌, IfOk, OnErr, OnOk, false, max};
 ghost use Rattle.sets25.specs.Times.{BelowDay, span_count};
 ghost use Rattle.track9.specs.Tracker.{entries_of, in_local};
@@ -123,8 +123,8 @@ impl<S: TimeSet> Halves<S> {
         remote || local
     }
 
-    /// A drift of the mechanics, and then the deck is commanded to a mode; a deck in LOCAL may leave it, and so may any where
-    /// `may_stay`. It answers whether there is a state.
+    /// A drift of the mechanics, and then the deck is commanded to a mode; a deck in LOCAL may ignore that, and so may any
+    /// where `may_stay`. It answers whether there is a state.
     #[inline(always)] // many commands are of the transport
     fn drift_and_go(&mut self, deck: &DeckRef, may_stay: bool, goal: Mode) -> bool
         ensures gone { self.new ≡ halves_gone may_stay goal (halves_drifted deck.now self.old) }
@@ -136,7 +136,7 @@ impl<S: TimeSet> Halves<S> {
         some
     }
 
-    /// A register changes; a deck in LOCAL may leave it, and so may any where `may_stay`.
+    /// A register changes; a deck in LOCAL may ignore that, and so may any where `may_stay`.
     #[inline(never)] // as it takes memory
     fn change(
         &mut self,

@@ -177,7 +177,7 @@ impl<S: TimeSet> Part<S> {
         }
     }
 
-    /// Lets go of everything where a factor has nothing left. Takes no memory.
+    /// Leaves no state where a factor has nothing left. Takes no memory.
     pub(crate) fn settle(&mut self, alloc: Global)
         ensures { self.new ≡ settled self.old }
     {
@@ -198,7 +198,7 @@ impl<S: TimeSet> Part<S> {
         self.pairs.drift(deck)
     }
 
-    /// The deck is commanded to a mode, or may also leave it.
+    /// The deck is commanded to a mode, which it may also ignore.
     pub(crate) fn go(&mut self, may_stay: bool, goal: Mode)
         ensures { self.new ≡ where_remains (gone_part may_stay goal) self.old }
     {
@@ -208,8 +208,8 @@ impl<S: TimeSet> Part<S> {
         self.pairs.go(may_stay, goal);
     }
 
-    /// What becomes of a register's entries, or may where the deck may also leave it, in a set of its own: None where
-    /// there is no state.
+    /// The entries of a register after a change, with those before it where the deck may also ignore it, in a set of their
+    /// own: None where there is no state.
     pub(crate) fn change_aside(
         &self,
         alloc: Global,
@@ -287,7 +287,7 @@ impl<S: TimeSet> Part<S> {
         Part::with_any_entries(alloc, self.rate(), self.pairs)
     }
 
-    /// Puts a register's entries in place that were made aside, and lets go of everything where they are none.
+    /// Puts a register's entries in place that were made aside, and leaves no state where they are none.
     pub(crate) fn put_settled(
         &mut self,
         alloc: Global,
@@ -302,7 +302,7 @@ impl<S: TimeSet> Part<S> {
         }
     }
 
-    /// What may become of a register's entries, in place, where the deck may also leave it.
+    /// The entries of a register after a change that the deck may also ignore, in place.
     pub(crate) fn widen(
         &mut self,
         alloc: Global,

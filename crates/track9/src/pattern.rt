@@ -124,8 +124,7 @@ impl Pattern {
     }
 }
 
-/// What an entry was that a change has made this one: None where it makes it of no entry; and else which one, or that
-/// it was any.
+/// The entry that a change makes this one of: None where it makes it of no entry, and `Some(None)` where of any.
 fn entry_before(rate: Rate, change: &Change, entry: &Entry) -> Option<Option<Entry>>
     ensures { result ≡ entry_before rate change.now entry.now }
 {

@@ -1,11 +1,10 @@
 //! A set of states: those with the panel off, and those with the panel on.
 //!
-//! Where the panel is on a drift leaves every state, or none. So what these states were before plays no part: a command makes
-//! them anew from everything, aside, before it changes those with the panel off, in place. A refused command then changes
-//! nothing.
+//! With the panel on a drift leads to every state, if there was one. So a command makes those states anew from every state,
+//! aside, and then changes those with the panel off, in place. A refused command changes nothing.
 //!
-//! What was made aside is handed to `drop` where memory is refused, and so is what it takes the place of. Their end in place,
-//! by `?` or by an assignment, would cost the proof of a function most of its time.
+//! What was made aside is dropped by name where memory is refused, and so is what it takes the place of, since dropping them at
+//! the block's end multiplies the time of the proof.
 ghost use Rattle.std.specs.Prelude.{◌≡◌, IfOk, IsOk, IsTrue, OnErr, OnOk, Some, false, if◌then◌else◌, max, option_map, true};
 ghost use Rattle.sets25.specs.Times.{span_count};
 ghost use Rattle.track9.specs.Tracker.{entries_of};

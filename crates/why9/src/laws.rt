@@ -5,7 +5,7 @@ ghost use Rattle.why9.specs.Contradiction.{IsContradiction};
 
 use deck9::Profile;
 
-/// Of all replies that contradict one another one choice alone is nearest to the break.
+/// Only one choice of replies that contradict one another is nearest to the break.
 pub fn one_contradiction()
     ensures { (p : Profile) (es : List Exchange) (places others : List ℕ)
         → IsContradiction p es places → IsContradiction p es others → places ≡ others }

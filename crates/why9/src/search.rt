@@ -65,8 +65,8 @@ fn find_places(
 
 /// The greatest place from which on the replies contradict one another, by a tracker that has taken nothing yet.
 ///
-/// Passing exchanges leads the first states to the first states. So a question needs to pass none: it begins at its place,
-/// and costs what lies after it.
+/// From the first states, passing exchanges leads to all first states again. So a question passes none: it begins at its
+/// place, and costs what lies after it.
 fn first_place(tracker: &Tracker<SpanSet>, exchanges: &[Exchange]) -> Result<usize, AllocError>
     requires breaks { BreaksAtLast tracker.now.profile exchanges.now }
     requires states { (s : AState) → Possible tracker.now.states s ↔ IsFirst tracker.now.profile s }
@@ -91,8 +91,8 @@ fn first_place(tracker: &Tracker<SpanSet>, exchanges: &[Exchange]) -> Result<usi
 /// The next place: the greatest from which on the replies contradict those that the tracker believes. The tracker has gone
 /// through everything before `low`, and goes on to that place.
 ///
-/// A question costs about what lies after `low`, wherever its place is, so few are best. Places often lie equally far apart:
-/// so the first step goes over `between` exchanges, as many as lie between the two places before. The next steps are short and
+/// A question costs about what lies after `low`, wherever its place is, so few questions are best. Places often lie equally
+/// far apart: so the first step goes over `between` exchanges, as many as lie between the two places before. The next steps are short and
 /// grow fast, and none goes over more than half of what is left.
 fn next_place(
     tracker: &mut Tracker<SpanSet>,

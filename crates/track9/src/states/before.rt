@@ -1,7 +1,7 @@
 //! A state that an exchange leads to another one from.
 //!
-//! What leads to the target by the step alone is a pattern of states, or two of them; and whether a drift leads to
-//! one of a pattern is wanted factor by factor, so that no set is copied.
+//! The states from which the step alone leads to the target are a pattern, or two of them. Whether a drift leads to a state of
+//! a pattern is asked factor by factor, so that no set is copied.
 ghost use Rattle.std.specs.Prelude.{◌≡◌, IfNone, IfSome, false, true};
 ghost use Rattle.deck9.specs.State.{IsState};
 ghost use Rattle.deck9.specs.Step.{Exchanges};
