@@ -1,5 +1,5 @@
 -- How the program ends, by the words of its command line, the capture that they name and the writer.
-use Rattle.std.specs.Prelude.{◌≡◌, ◌≢◌, ◌⊎◌, ℕ, Bool, true, false, List, Option, Result, Ok, Err, IfErr, IfSome, Vec, String, map, option_map}
+use Rattle.std.specs.Prelude.{◌≡◌, ◌≢◌, ◌⊎◌, ℕ, Bool, true, false, List, Option, None, Some, Result, Ok, Err, IfErr, IfSome, Vec, String, map, option_map}
 use Rattle.std.specs.Global.{Global}
 use Rattle.std.specs.Io.KnownBytes.{Keeps}
 use Rattle.std.specs.String.{string_bytes}
@@ -13,6 +13,7 @@ use Rattle.verdict9.specs.declared.error.JudgeError.{JudgeError}
 use Rattle.verdict9.specs.declared.error.JudgeError.TheVariants as error
 use Rattle.verdict9.specs.declared.totals.Totals.{Totals}
 use Rattle.verdict9.specs.declared.verdict.Verdict.{Verdict}
+use Rattle.verdict9.specs.declared.verdict.Telling.{Telling}
 use Rattle.verdict9.specs.declared.verdict.Telling.TheVariants as telling
 use Rattle.verdict9.specs.declared.verdict.View.TheVariants as view
 use Rattle.judge9.specs.Judging.{CanBeResult, IsTheAnswer, StoppedBefore, answer_of}
@@ -51,34 +52,29 @@ pub record IsJudgedFor (verb : Verb) (profile : Profile) (capture : Option (List
   pub kind : (e : CaptureError) → result ≡ Err (error.Capture e) → e.kind ≢ kind.OutOfMemory
   pub can_be : CanBeResult result
 
--- whether the judging goes on after a break, and judges the whole capture: with these verbs, where the words say `--all`
-abbrev pub goes_on : Verb → Bool → Bool
-goes_on verb.Check all = all
-goes_on verb.Explain all = all
-goes_on verb.Run all = false
-goes_on verb.Why all = all
+-- what is told of each part where the judging goes on after a break, and judges the whole capture: with these verbs, where the
+-- words say `--all`
+abbrev pub told_of_parts : Verb → Bool → Option Telling
+told_of_parts verb.Check true = Some (telling.Shown view.Verdict)
+told_of_parts verb.Explain true = Some (telling.Shown view.Explain)
+told_of_parts verb.Why true = Some telling.Why
+told_of_parts verb.Run true = None
+told_of_parts verb false = None
 
--- what a judging part by part with this verb tells of each part; one with another verb never goes on
-abbrev pub TellsInParts : Verb → Profile → Option Rows → Option (List ℕ) → Result Totals JudgeError → Option (List ℕ) → Type 0
-TellsInParts verb.Check profile known old judged all = ToldInParts (telling.Shown view.Verdict) profile known judged old all
-TellsInParts verb.Explain profile known old judged all = ToldInParts (telling.Shown view.Explain) profile known judged old all
-TellsInParts verb.Run profile known old judged all = ⊥
-TellsInParts verb.Why profile known old judged all = ToldInParts telling.Why profile known judged old all
-
--- a capture, whose text is given where it is known, was judged part by part with this verb, for a deck that is taken for this:
--- the result, and what the writer holds before and after
-pub record IsJudgedInParts (verb : Verb) (profile : Profile) (capture : Option (List ℕ)) (old : Option (List ℕ)) (result : Result Totals JudgeError)
+-- a capture, whose text is given where it is known, was judged part by part, for a deck that is taken for this, and this was told
+-- of each part: the result, and what the writer holds before and after
+pub record IsJudgedInParts (telling : Telling) (profile : Profile) (capture : Option (List ℕ)) (old : Option (List ℕ)) (result : Result Totals JudgeError)
     (now : Option (List ℕ)) : Type 0 where
-  pub told : EndsAs (TellsInParts verb profile (option_map rows_of capture) old) result now
+  pub told : EndsAs (λ judged all. ToldInParts telling profile (option_map rows_of capture) judged old all) result now
   pub kind : (e : CaptureError) → result ≡ Err (error.Capture e) → e.kind ≢ kind.OutOfMemory
   pub header : IfSome capture (λ text. (e : CaptureError) → result ≡ Err (error.Capture e) → e.row ≢ 0 → HasHeader (rows_of text))
 
 -- a capture was judged with this verb, for a deck that is taken for this, and this is the end: it was judged part by part, or
 -- to its first break
-abbrev pub EndsJudged : Bool → Verb → Profile → Option (List ℕ) → Option (List ℕ) → Outcome → Option (List ℕ) → Type 0
-EndsJudged true verb profile capture old end now =
-    (result : Result Totals JudgeError) × IsJudgedInParts verb profile capture old result now × (end ≡ outcome_in_parts result)
-EndsJudged false verb profile capture old end now =
+abbrev pub EndsJudged : Option Telling → Verb → Profile → Option (List ℕ) → Option (List ℕ) → Outcome → Option (List ℕ) → Type 0
+EndsJudged (Some telling) verb profile capture old end now =
+    (result : Result Totals JudgeError) × IsJudgedInParts telling profile capture old result now × (end ≡ outcome_in_parts result)
+EndsJudged None verb profile capture old end now =
     (result : Result Verdict JudgeError) × IsJudgedFor verb profile capture old result now × (end ≡ outcome_of result)
 
 -- what a task takes a deck for that does this of its own
@@ -91,7 +87,7 @@ abbrev pub EndsOpened : {R : Type 0} → (R → Option (List ℕ)) → Option (S
     → Option (List ℕ) → Type 0
 EndsOpened coming file verb all profile (Err e) old end now = (end ≡ outcome_unopened file e) × Keeps old now
 EndsOpened coming file verb all profile (Ok reader) old end now =
-    ((end ≡ no_memory) × Keeps old now) ⊎ EndsJudged (goes_on verb all) verb profile (coming reader) old end now
+    ((end ≡ no_memory) × Keeps old now) ⊎ EndsJudged (told_of_parts verb all) verb profile (coming reader) old end now
 
 -- the capture was opened, or standard input where there is no file, and this is the end
 pub record EndsCapture {R : Type 0} (opens : Option (String Global) → Result R Error → Type 0) (coming : R → Option (List ℕ)) (file : Option (String Global))

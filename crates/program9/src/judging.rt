@@ -141,19 +141,15 @@ fn tell<R: Read + Drop, W: Write>(
         → e.kind ≢ CaptureKind.OutOfMemory }
     ensures can_be { CanBeResult result }
 {
-    let view = match verb {
-        Verb::Check => View::Verdict,
-        Verb::Explain => View::Explain,
-        Verb::Run => {
-            let found = judge_with_run_for(alloc, reader, profile);
-            return tell_run(writer, found, profile);
-        }
+    match verb {
+        Verb::Check => judge_for(alloc, reader, writer, View::Verdict, profile),
+        Verb::Explain => judge_for(alloc, reader, writer, View::Explain, profile),
+        Verb::Run => tell_run(writer, judge_with_run_for(alloc, reader, profile), profile),
         Verb::Why => {
             let found = judge_with_contradiction_for(alloc, reader, profile);
-            return tell_why(alloc, writer, found, profile);
+            tell_why(alloc, writer, found, profile)
         }
-    };
-    judge_for(alloc, reader, writer, view, profile)
+    }
 }
 
 /// Writes the text of a run where there is one, and answers its verdict.

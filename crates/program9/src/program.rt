@@ -2,7 +2,7 @@
 ghost use Rattle.std.specs.Prelude.{◌≡◌};
 ghost use Rattle.std.specs.Fn.{FnOnceReturnsAt};
 ghost use Rattle.program9.specs.Output.{contents_behind, held_contents};
-ghost use Rattle.program9.specs.Program.{EndsCapture, EndsJudged, EndsProgram, EndsTask, EndsWithout, goes_on};
+ghost use Rattle.program9.specs.Program.{EndsCapture, EndsJudged, EndsProgram, EndsTask, EndsWithout, told_of_parts};
 ghost use Rattle.program9.specs.Opening.{outcome_unopened, why_of};
 
 use crate::buffered::Buffered;
@@ -142,25 +142,26 @@ fn judge_task<R: Read + Drop, W: Write + Drop>(
     profile: &Profile,
     all: bool,
 ) -> Outcome
-    ensures { EndsJudged (goes_on verb all) verb profile.now (R.remaining reader)
+    ensures { EndsJudged (told_of_parts verb all) verb profile.now (R.remaining reader)
         (held_contents W.contents out.old) result (contents_behind W.contents out.new) }
 {
+    match told_of_parts(verb, all) {
+        Some(telling) => outcome_in_parts(&judge_parts_and_flush_for(
+            alloc, reader, out, telling, profile,
+        )),
+        None => outcome(&judge_and_flush_for(alloc, reader, out, verb, profile)),
+    }
+}
+
+/// What is told of each part where the judging goes on after a break. Where it ends at the first, there is nothing.
+fn told_of_parts(verb: Verb, all: bool) -> Option<Telling>
+    ensures { result ≡ told_of_parts verb all }
+{
     match verb {
-        Verb::Check if all => {
-            let telling = Telling::Shown(View::Verdict);
-            outcome_in_parts(&judge_parts_and_flush_for(alloc, reader, out, telling, profile))
-        }
-        Verb::Explain if all => {
-            let telling = Telling::Shown(View::Explain);
-            outcome_in_parts(&judge_parts_and_flush_for(alloc, reader, out, telling, profile))
-        }
-        Verb::Why if all => {
-            outcome_in_parts(&judge_parts_and_flush_for(alloc, reader, out, Telling::Why, profile))
-        }
-        Verb::Check | Verb::Explain | Verb::Run | Verb::Why => {
-            let judged = judge_and_flush_for(alloc, reader, out, verb, profile);
-            outcome(&judged)
-        }
+        Verb::Check if all => Some(Telling::Shown(View::Verdict)),
+        Verb::Explain if all => Some(Telling::Shown(View::Explain)),
+        Verb::Why if all => Some(Telling::Why),
+        Verb::Check | Verb::Explain | Verb::Run | Verb::Why => None,
     }
 }
 
