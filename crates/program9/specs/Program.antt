@@ -77,7 +77,7 @@ EndsJudged (Some telling) verb profile capture old end now =
 EndsJudged None verb profile capture old end now =
     (result : Result Verdict JudgeError) × IsJudgedFor verb profile capture old result now × (end ≡ outcome_of result)
 
--- what a task takes a deck for that does this of its own
+-- the profile of a task, for a deck that does this of its own
 abbrev pub profile_of : Task → Option Deck → Profile
 profile_of task deck = record { rate = task.rate; hands = task.hands; deck = deck }
 

@@ -8,7 +8,7 @@ use Rattle.std.specs.declared.io.ErrorKind.TheVariants.{OutOfMemory}
 use Rattle.deck9.specs.declared.deck.Deck.{Deck}
 use Rattle.sheet9.specs.declared.refusal.Refusal.{Refusal}
 use Rattle.sheet9.specs.declared.refusal.SheetError.TheVariants as sheet
-use Rattle.sheet9.specs.Refusal.{NamesFaultLine, Tells}
+use Rattle.sheet9.specs.Refusal.{NamesFaultLine, Reports}
 use Rattle.sheet9.specs.Sheet.{IsDeckOf, sheet_of}
 use Rattle.program9.specs.declared.ending.Message.TheVariants as message
 use Rattle.program9.specs.declared.ending.Outcome.{Outcome}
@@ -32,7 +32,7 @@ abbrev pub IsReadFrom : String Global → Option (List ℕ) → Result Deck Outc
 IsReadFrom file text (Ok deck) = IfSome text (λ t. IsOkAnd (sheet_of t) (λ sheet. IsDeckOf sheet deck))
 IsReadFrom file text (Err end) =
     ((refusal : Refusal) × (end ≡ outcome_no_sheet file refusal)
-    × IfSome text (λ t. Tells (sheet_of t) (sheet.Refused refusal) × NamesFaultLine t (sheet.Refused refusal)))
+    × IfSome text (λ t. Reports (sheet_of t) (sheet.Refused refusal) × NamesFaultLine t (sheet.Refused refusal)))
     ⊎ (((e : Error) × (end ≡ outcome_unread_sheet file e)) ⊎ (end ≡ no_memory))
 
 -- what comes of a sheet that was opened so

@@ -36,9 +36,9 @@ fault_of (refusal.NoModes goal) = NoModes (string_bytes goal)
 fault_of (refusal.NoMode goal name) = NoMode (string_bytes goal) (string_bytes name)
 
 -- where there is this meaning or fault, the error is about that fault; that memory was refused says nothing of the text
-abbrev pub Tells : {A : Type 0} → Result A Fault → SheetError → Type 0
-Tells meaning (error.Refused r) = meaning ≡ Err (fault_of r)
-Tells meaning error.OutOfMemory = ⊤
+abbrev pub Reports : {A : Type 0} → Result A Fault → SheetError → Type 0
+Reports meaning (error.Refused r) = meaning ≡ Err (fault_of r)
+Reports meaning error.OutOfMemory = ⊤
 
 -- the line, counted from 1, of the place after these bytes
 abbrev pub line_after : List ℕ → ℕ

@@ -14,10 +14,10 @@ Says fault (error.Refused r) = (fault ≡ fault_of r) × (line_in r ≡ None)
 Says fault error.OutOfMemory = ⊤
 
 -- the same where there is this meaning or fault
-abbrev pub TellsOf : {A : Type 0} → Result A Fault → SheetError → Type 0
-TellsOf meaning (error.Refused r) = (meaning ≡ Err (fault_of r)) × (line_in r ≡ None)
-TellsOf meaning error.OutOfMemory = ⊤
+abbrev pub ReportsWithoutLine : {A : Type 0} → Result A Fault → SheetError → Type 0
+ReportsWithoutLine meaning (error.Refused r) = (meaning ≡ Err (fault_of r)) × (line_in r ≡ None)
+ReportsWithoutLine meaning error.OutOfMemory = ⊤
 
 -- a map has what is named, and nothing else
-abbrev pub Holds : Result (List (ℕ × Forgotten)) Fault → BTreeMap ℕ Forgotten → Type 0
-Holds meaning m = IsOkAnd meaning (λ named. (head : ℕ) → get nat_cmp m head ≡ named_at named head)
+abbrev pub HasNamed : Result (List (ℕ × Forgotten)) Fault → BTreeMap ℕ Forgotten → Type 0
+HasNamed meaning m = IsOkAnd meaning (λ named. (head : ℕ) → get nat_cmp m head ≡ named_at named head)

@@ -3,7 +3,7 @@ ghost use Rattle.std.specs.Prelude.{◌≡◌, IfOk, IfErr, [], option_map};
 ghost use Rattle.toml.specs.View.{table_view, view};
 ghost use Rattle.sheet9.specs.Forgets.{forgets_in, forgets_of};
 ghost use Rattle.sheet9.specs.Refusal.{Fault, Forgets};
-ghost use Rattle.sheet9.specs.Working.{Holds, Says, TellsOf};
+ghost use Rattle.sheet9.specs.Working.{HasNamed, ReportsWithoutLine, Says};
 
 use crate::entry::entry_of;
 use crate::refusal::{ForgetsFault, Refusal, SheetError};
@@ -17,8 +17,8 @@ pub(crate) fn read_forgets(
     alloc: Global,
     value: Option<&Value>,
 ) -> Result<BTreeMap<u32, Forgotten>, SheetError>
-    ensures ok { IfOk result (Holds (forgets_in (option_map (λ v. view v.now) value.entry))) }
-    ensures err { IfErr result (TellsOf (forgets_in (option_map (λ v. view v.now) value.entry))) }
+    ensures ok { IfOk result (HasNamed (forgets_in (option_map (λ v. view v.now) value.entry))) }
+    ensures err { IfErr result (ReportsWithoutLine (forgets_in (option_map (λ v. view v.now) value.entry))) }
 {
     let Some(value) = value else {
         return Ok(BTreeMap::new(alloc));
@@ -31,8 +31,8 @@ pub(crate) fn read_forgets(
 
 /// What the entries say.
 fn read_entries(alloc: Global, entries: &Table) -> Result<BTreeMap<u32, Forgotten>, SheetError>
-    ensures ok { IfOk result (Holds (forgets_of [] (table_view entries.now))) }
-    ensures err { IfErr result (TellsOf (forgets_of [] (table_view entries.now))) }
+    ensures ok { IfOk result (HasNamed (forgets_of [] (table_view entries.now))) }
+    ensures err { IfErr result (ReportsWithoutLine (forgets_of [] (table_view entries.now))) }
 {
     let mut forgets = BTreeMap::new(alloc);
     'entries: for (key, value) in entries.iter() {

@@ -16,7 +16,7 @@ pub fn errors_are_printable()
 {}
 
 /// A document with no keys is a sheet, and a deck that does what it says has exactly the runs of a deck without one.
-pub fn an_empty_sheet_is_the_profile()
+pub fn an_empty_sheet_changes_nothing()
     ensures { (text : List ℕ) (p : Profile) (es : List Exchange) → document_of text ≡ Some no_members → IsOkAnd (sheet_of text)
         (λ sheet. (deck : Deck) → IsDeckOf sheet deck → HasRun (record p { deck = Some deck }) es ↔ HasRun (record p { deck = None }) es) }
 {}

@@ -4,7 +4,7 @@ ghost use Rattle.toml.specs.Data.{as_array, as_str};
 ghost use Rattle.toml.specs.View.{array_view, table_view, view};
 ghost use Rattle.sheet9.specs.Passes.{mode_named, own_ways, passes_in, passes_of, way_with, with_names};
 ghost use Rattle.sheet9.specs.Refusal.{NoMode, NoModes};
-ghost use Rattle.sheet9.specs.Working.{Says, TellsOf};
+ghost use Rattle.sheet9.specs.Working.{ReportsWithoutLine, Says};
 
 use crate::refusal::{Refusal, SheetError};
 use deck9::{Mode, ModeSet};
@@ -15,7 +15,7 @@ use toml::{Table, Value};
 /// What the value of the key `passes` says, where the key is there: the modes on the way to each goal.
 pub(crate) fn read_passes(alloc: Global, value: Option<&Value>) -> Result<[ModeSet; 10], SheetError>
     ensures ok { IfOk result (λ ways. passes_in (option_map (λ v. view v.now) value.entry) ≡ Ok ways) }
-    ensures err { IfErr result (TellsOf (passes_in (option_map (λ v. view v.now) value.entry))) }
+    ensures err { IfErr result (ReportsWithoutLine (passes_in (option_map (λ v. view v.now) value.entry))) }
 {
     let Some(value) = value else {
         return Ok(own_ways());
@@ -36,7 +36,7 @@ fn own_ways() -> [ModeSet; 10]
 /// The ways of the rules, with what the entries say.
 fn read_entries(alloc: Global, entries: &Table) -> Result<[ModeSet; 10], SheetError>
     ensures ok { IfOk result (λ ways. passes_of own_ways (table_view entries.now) ≡ Ok ways) }
-    ensures err { IfErr result (TellsOf (passes_of own_ways (table_view entries.now))) }
+    ensures err { IfErr result (ReportsWithoutLine (passes_of own_ways (table_view entries.now))) }
 {
     let mut ways = own_ways();
     'entries: for (key, value) in entries.iter() {
@@ -52,7 +52,7 @@ fn read_entries(alloc: Global, entries: &Table) -> Result<[ModeSet; 10], SheetEr
 /// The modes on the way to a goal, by its entry.
 fn read_way(alloc: Global, key: &str, goal: Mode, value: &Value) -> Result<ModeSet, SheetError>
     ensures ok { IfOk result (λ way. way_with key.now goal (as_array (view value.now)) ≡ Ok way) }
-    ensures err { IfErr result (TellsOf (way_with key.now goal (as_array (view value.now)))) }
+    ensures err { IfErr result (ReportsWithoutLine (way_with key.now goal (as_array (view value.now)))) }
 {
     match value.as_array() {
         Some(names) => with_names(alloc, key, ModeSet::on_the_way(goal), names),
@@ -63,7 +63,7 @@ fn read_way(alloc: Global, key: &str, goal: Mode, value: &Value) -> Result<ModeS
 /// A set with the modes that a list names.
 fn with_names(alloc: Global, key: &str, set: ModeSet, names: &Array) -> Result<ModeSet, SheetError>
     ensures ok { IfOk result (λ way. with_names key.now set (array_view names.now) ≡ Ok way) }
-    ensures err { IfErr result (TellsOf (with_names key.now set (array_view names.now))) }
+    ensures err { IfErr result (ReportsWithoutLine (with_names key.now set (array_view names.now))) }
 {
     let mut way = set;
     'names: for value in names {

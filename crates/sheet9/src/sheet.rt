@@ -2,9 +2,9 @@
 ghost use Rattle.std.specs.Prelude.{◌≡◌, ◌+◌, ◌≤◌, ◌<◌, ◌^◌, IfOk, IfErr, OnOk, IsOkAnd, Some, None, length, option_map};
 ghost use Rattle.toml.specs.Data.{get_member};
 ghost use Rattle.toml.specs.View.{table_view, view};
-ghost use Rattle.sheet9.specs.Refusal.{NamesFaultLine, Tells, line_after};
+ghost use Rattle.sheet9.specs.Refusal.{NamesFaultLine, Reports, line_after};
 ghost use Rattle.sheet9.specs.Sheet.{IsDeckOf, document_of, meaning_of, sheet_of, unknown_key};
-ghost use Rattle.sheet9.specs.Working.{TellsOf};
+ghost use Rattle.sheet9.specs.Working.{ReportsWithoutLine};
 
 use crate::forgets::read_forgets;
 use crate::passes::read_passes;
@@ -23,7 +23,7 @@ use toml::{Table, Value};
 /// refused, which says nothing of the text.
 pub fn read_sheet(alloc: Global, text: &[u8]) -> Result<Deck, SheetError>
     ensures deck { IfOk result (λ deck. IsOkAnd (sheet_of text.now) (λ sheet. IsDeckOf sheet deck)) }
-    ensures refused { IfErr result (Tells (sheet_of text.now)) }
+    ensures refused { IfErr result (Reports (sheet_of text.now)) }
     ensures line { IfErr result (NamesFaultLine text.now) }
 {
     let top = read_document(alloc, text)?;
@@ -33,7 +33,7 @@ pub fn read_sheet(alloc: Global, text: &[u8]) -> Result<Deck, SheetError>
 /// Reads the tables of a document.
 fn read_tables(alloc: Global, top: &Table) -> Result<Deck, SheetError>
     ensures ok { IfOk result (λ deck. IsOkAnd (meaning_of (table_view top.now)) (λ sheet. IsDeckOf sheet deck)) }
-    ensures err { IfErr result (TellsOf (meaning_of (table_view top.now))) }
+    ensures err { IfErr result (ReportsWithoutLine (meaning_of (table_view top.now))) }
 {
     check_keys(alloc, top)?;
     let forgets = read_forgets(alloc, value_at(top, "forgets"))?;
@@ -51,7 +51,7 @@ fn value_at<'a>(table: &'a Table, key: &str) -> Option<&'a Value>
 /// Reads the text as a document.
 fn read_document(alloc: Global, text: &[u8]) -> Result<Table, SheetError>
     ensures ok { IfOk result (λ table. document_of text.now ≡ Some (table_view table)) }
-    ensures err { IfErr result (Tells (sheet_of text.now)) }
+    ensures err { IfErr result (Reports (sheet_of text.now)) }
     ensures line { IfErr result (NamesFaultLine text.now) }
 {
     match str::from_utf8(text) {
@@ -66,7 +66,7 @@ fn read_document(alloc: Global, text: &[u8]) -> Result<Table, SheetError>
 /// Reads a text that is UTF-8 as a document.
 fn parse(alloc: Global, text: &str) -> Result<Table, SheetError>
     ensures ok { IfOk result (λ table. document_of text.now ≡ Some (table_view table)) }
-    ensures err { IfErr result (Tells (sheet_of text.now)) }
+    ensures err { IfErr result (Reports (sheet_of text.now)) }
     ensures line { IfErr result (NamesFaultLine text.now) }
 {
     match toml::table_from_str(alloc, text) {
@@ -97,7 +97,7 @@ fn line_after(bytes: &[u8]) -> usize
 /// Refuses the first key at the top that no sheet has.
 fn check_keys(alloc: Global, top: &Table) -> Result<(), SheetError>
     ensures ok { OnOk result (unknown_key (table_view top.now) ≡ None) }
-    ensures err { IfErr result (TellsOf (meaning_of (table_view top.now))) }
+    ensures err { IfErr result (ReportsWithoutLine (meaning_of (table_view top.now))) }
 {
     'keys: for (key, _value) in top.iter() {
         match key.as_str() {

@@ -90,8 +90,8 @@ program names =
     (app_for names verb.Run).top) (app_for names verb.Why).top
 
 -- the program takes the words: they name this verb, and these rows come with it
-abbrev pub Takes : RateNames → List Text → Verb → List Row → Type 0
-Takes names words verb rows = (fault_of (program names) words ≡ []) × (subcommand_of (program names) words ≡ Some (name_of verb, rows))
+abbrev pub TakesWords : RateNames → List Text → Verb → List Row → Type 0
+TakesWords names words verb rows = (fault_of (program names) words ≡ []) × (subcommand_of (program names) words ≡ Some (name_of verb, rows))
 
 -- the row of an option says `true`: it is among the words
 abbrev pub is_on : Option Text → Bool
@@ -101,7 +101,7 @@ is_on None = false
 -- the program takes the words, and they give this task
 pub record GivesTask (names : RateNames) (words : List Text) (task : Task) : Type 0 where
   pub rows : List Row
-  pub takes : Takes names words task.verb rows
+  pub takes : TakesWords names words task.verb rows
   pub file : option_map string_bytes task.file ≡ first_of (codes "FILE") rows
   pub rate : task.rate ≡ rate_of (first_of (codes "rate") rows)
   pub hands : task.hands ≡ (if is_on (first_of (codes "hands") rows) then hands.Allowed else hands.None)
@@ -110,7 +110,7 @@ pub record GivesTask (names : RateNames) (words : List Text) (task : Task) : Typ
 
 -- it does not take them
 abbrev pub GivesNoTask : RateNames → List Text → Type 0
-GivesNoTask names words = (verb : Verb) → (rows : List Row) → Takes names words verb rows → ⊥
+GivesNoTask names words = (verb : Verb) → (rows : List Row) → TakesWords names words verb rows → ⊥
 
 -- the task is the one that the words give
 abbrev pub IsTaskOf : List Text → Task → Type 0
