@@ -213,23 +213,34 @@ fn is_open(
 
 #[test]
 fn what_is_open_is_told_after_each_record(rt: HostRuntime) {
-    let play = Some(Command::Play);
     let mut pairer = Pairer::new();
     same(&rt, pairer.open(), is_open(None, 0, 0, 0, 0), "the start");
-    for (line_byte, open) in &[
-        (record(400, Controller, 0x20), is_open(None, 1, 0, 3, 0x20)),
-        (record(800, Controller, 0x01), is_open(None, 2, 0, 3, 0x21)),
-        (record(1_200, Controller, 0x21), is_open(play, 3, 0, 0, 0)),
-        (record(1_600, Deck, 0x10), is_open(play, 3, 1, 3, 0x10)),
-        (record(2_000, Deck, 0x01), is_open(play, 3, 2, 3, 0x11)),
-        (record(2_400, Deck, 0x11), is_open(None, 0, 0, 0, 0)),
+    for (time_us, wire, byte, open) in [
+        (400, Controller, 0x20, is_open(None, 1, 0, 3, 0x20)),
+        (800, Controller, 0x01, is_open(None, 2, 0, 3, 0x21)),
         (
-            record(2_800, Controller, 0x20),
-            is_open(None, 1, 0, 3, 0x20),
+            1_200,
+            Controller,
+            0x21,
+            is_open(Some(Command::Play), 3, 0, 0, 0),
         ),
+        (
+            1_600,
+            Deck,
+            0x10,
+            is_open(Some(Command::Play), 3, 1, 3, 0x10),
+        ),
+        (
+            2_000,
+            Deck,
+            0x01,
+            is_open(Some(Command::Play), 3, 2, 3, 0x11),
+        ),
+        (2_400, Deck, 0x11, is_open(None, 0, 0, 0, 0)),
+        (2_800, Controller, 0x20, is_open(None, 1, 0, 3, 0x20)),
     ] {
-        take(&rt, &mut pairer, *line_byte);
-        same(&rt, pairer.open(), *open, line_byte);
+        take(&rt, &mut pairer, record(time_us, wire, byte));
+        same(&rt, pairer.open(), open, time_us);
     }
     let broken = feed(&rt, &mut pairer, record(3_200, Deck, 0x10));
     same(
