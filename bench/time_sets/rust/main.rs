@@ -1,5 +1,7 @@
 //! The same calls on a plain `Vec<(u32, u32)>` of first and last frames.
 
+#[allow(dead_code)] // another bench calls the rest of it
+#[path = "../../lib/spans.rs"]
 mod spans;
 
 use spans::{DAY, Spans};

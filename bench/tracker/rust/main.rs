@@ -1,84 +1,13 @@
 //! The same exchanges on a plain set of states: for each value of local and of panel the modes shown with each goal, and
 //! of each register whether it may be Clear and a sorted `Vec<(u32, u32)>` of the frames at which it may be Set.
 
+#[allow(dead_code)] // another bench calls the rest of it
+#[path = "../../lib/spans.rs"]
+mod spans;
+
+use spans::Spans;
 use std::hint::black_box;
 use std::time::Instant;
-
-const DAY: u32 = 2_160_000;
-const LAST: u32 = DAY - 1;
-
-#[derive(Clone)]
-struct Spans(Vec<(u32, u32)>);
-
-impl Spans {
-    fn all() -> Spans {
-        Spans(vec![(0, LAST)])
-    }
-
-    fn place(&self, frame: u32) -> usize {
-        self.0.partition_point(|span| span.1 < frame)
-    }
-
-    fn contains(&self, frame: u32) -> bool {
-        self.0.get(self.place(frame)).is_some_and(|span| span.0 <= frame)
-    }
-
-    fn add(&mut self, frame: u32) {
-        let index = self.place(frame.saturating_sub(1));
-        match self.0.get_mut(index) {
-            Some(span) if span.0 <= frame + 1 => {
-                *span = (span.0.min(frame), span.1.max(frame));
-                let last = span.1;
-                if let Some(after) = self.0.get(index + 1).copied().filter(|after| after.0 <= last + 1) {
-                    self.0.remove(index + 1);
-                    self.0[index].1 = after.1;
-                }
-            }
-            _ => self.0.insert(index, (frame, frame)),
-        }
-    }
-
-    fn shift_next(&mut self) {
-        let wraps = self.contains(LAST);
-        if self.0.last() == Some(&(LAST, LAST)) {
-            self.0.pop();
-        }
-        for span in &mut self.0 {
-            *span = (span.0 + 1, (span.1 + 1).min(LAST));
-        }
-        if wraps {
-            self.add(0);
-        }
-    }
-
-    fn shift_prev(&mut self) {
-        let wraps = self.contains(0);
-        if self.0.first() == Some(&(0, 0)) {
-            self.0.remove(0);
-        }
-        for span in &mut self.0 {
-            *span = (span.0.saturating_sub(1), span.1 - 1);
-        }
-        if wraps {
-            self.add(LAST);
-        }
-    }
-
-    fn widen(&mut self, shift: fn(&mut Spans)) {
-        let mut shifted = self.clone();
-        shift(&mut shifted);
-        shifted.0.append(&mut self.0);
-        shifted.0.sort();
-        let mut joined: Vec<(u32, u32)> = Vec::new();
-        for span in shifted.0 {
-            match joined.last_mut() {
-                Some(last) if span.0 <= last.1 + 1 => last.1 = last.1.max(span.1),
-                _ => joined.push(span),
-            }
-        }
-        self.0 = joined;
-    }
-}
 
 #[derive(Clone)]
 struct Register {
@@ -113,8 +42,8 @@ impl Register {
     fn widen(&mut self, change: Change) {
         match change {
             Change::SetAt(frame) => self.times.add(frame),
-            Change::Next => self.times.widen(Spans::shift_next),
-            Change::Prev => self.times.widen(Spans::shift_prev),
+            Change::Next => self.times.widen_next(),
+            Change::Prev => self.times.widen_prev(),
         }
     }
 

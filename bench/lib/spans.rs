@@ -1,4 +1,4 @@
-//! A plain sorted list of spans, as their first and last frames.
+//! A plain sorted list of spans, as their first and last frames: what the sets of times are measured against.
 
 pub const DAY: u32 = 2_160_000;
 const LAST: u32 = DAY - 1;
@@ -7,6 +7,10 @@ const LAST: u32 = DAY - 1;
 pub struct Spans(pub Vec<(u32, u32)>);
 
 impl Spans {
+    pub fn all() -> Spans {
+        Spans(vec![(0, LAST)])
+    }
+
     fn place(&self, frame: u32) -> usize {
         self.0.partition_point(|span| span.1 < frame)
     }
