@@ -22,8 +22,10 @@
 # the verdict does.
 #
 # Under the verdict stands how strong it is: at how many of the exchanges the shown mode, each register and local were known, as a
-# percentage that is rounded down; and for each command or question after which a register or local was no longer known, how often
-# that was so. An explanation without an exchange has no such lines.
+# percentage that is rounded down. A register counts where its time is known, or that it is clear; where it is known to be set and
+# its time is not, that is counted beside it, as (set 44.4 %). Where local was known at none of them and data presets were
+# acknowledged, a line says that a deck in LOCAL may have ignored these. Then there is a line for each command or question after
+# which a register or local was no longer known, with how often that was so. An explanation without an exchange has no such lines.
 
 BEGIN {
     view = "digest.awk"
@@ -68,9 +70,11 @@ function forget() {
 # At how many exchanges a field is known, and after which commands it no longer is.
 function count_known(    k, name) {
     explained++
+    if (command ~ /DATA PRESET$/ && reply == "ACK") presets++
     for (k = 1; k <= told; k++) {
         name = field[k]
-        if (known[name] != "unknown") times_known[name]++
+        if (known[name] == "set") times_set[name]++
+        else if (known[name] != "unknown") times_known[name]++
         else if (is_known[name] && name in is_kept) count_lapse(name)
     }
 }
@@ -120,17 +124,26 @@ function put_folded(    text, k) {
 }
 
 # How much was known, and what took it away.
-function put_known(    text, share, k, name) {
+function put_known(    text, k, name) {
     if (explained == 0) return
     text = ""
     for (k = 1; k <= fields; k++) {
         name = field[k]
         if (name != "shown" && !(name in is_kept)) continue
-        share = int(1000 * times_known[name] / explained)
-        text = text (text == "" ? "" : ", ") name " " int(share / 10) "." share % 10 " %"
+        text = text (text == "" ? "" : ", ") name " " share_of(times_known[name] + 0)
+        if (times_set[name] > 0) text = text " (set " share_of(times_set[name]) ")"
     }
     put("known, of " explained " exchanges: " text)
+    if (presets > 0 && times_known["local"] + 0 == 0) {
+        put("local was never known: a deck in LOCAL may have ignored the " (presets == 1 ? "preset" : presets " presets") " that it acknowledged")
+    }
     for (k = 1; k <= lapse_commands; k++) put("no longer known after " lapse_command[k] ": " lapses_of(lapse_command[k]))
+}
+
+# A number of the exchanges as a percentage, rounded down to a tenth.
+function share_of(number,    share) {
+    share = int(1000 * number / explained)
+    return int(share / 10) "." share % 10 " %"
 }
 
 function lapses_of(command,    text, k) {
