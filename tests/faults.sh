@@ -114,7 +114,7 @@ for verb in check explain run why; do
     done
 done
 
-# The same of why a no is one, where a rule of timing is broken and where no run remains.
+# The same of why a verdict is a no, where a rule of timing is broken and where no run remains.
 answer=1
 for file in examples/late-reply.csv examples/disputed-in-point.csv; do
     try_all why "$file"

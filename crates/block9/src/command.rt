@@ -166,6 +166,7 @@ impl Command {
     ///
     /// `None` exactly where the block is CUE UP WITH DATA or a DATA PRESET and its time is not valid.
     #[tactic(auto, unfolding(crate::specs::Command::command_of))]
+    #[inline(always)] // it is asked of every exchange
     pub fn of_at(rate: Rate, block: &Block) -> Option<Command>
         ensures { result ≡ command_of rate block.now }
     {

@@ -3,6 +3,7 @@ ghost use Rattle.std.specs.List.{sum};
 ghost use Rattle.std.specs.Prelude.{◌≡◌, ◌≤◌, ◌%◌, ◌++◌, ◌∷◌, true, [], IfOk, IfErr, OnErr, OnOk, None, Some};
 ghost use Rattle.block9.specs.Exchange.{Does, Outcome, step_of, tail_after};
 ghost use Rattle.block9.specs.Exchange.Outcome.{asks};
+ghost use Rattle.block9.specs.declared.exchange.Exchange.{Exchange as AnExchange};
 ghost use Rattle.block9.specs.declared.place.Place.TheVariants.{InReply};
 ghost use Rattle.block9.specs.Line.{bytes_of, last_time};
 ghost use Rattle.block9.specs.Working.Body.{block_of};
@@ -216,6 +217,15 @@ impl Pairer {
             (0, None, Some(_)) => Some(&self.exchange),
             _ => None,
         }
+    }
+
+    /// The exchange that the last record completed, where it did: this asks nothing, so it costs nothing.
+    #[inline(always)]
+    pub fn completed_exchange(&self) -> &Exchange
+        requires { (e : AnExchange) × (self.now.exchange ≡ Some e) }
+        ensures { self.now.exchange ≡ Some result.now }
+    {
+        &self.exchange
     }
 
     /// How many records came since the last complete exchange, at most 35.

@@ -149,7 +149,7 @@ run_none profile [] [] p q = let r = run_start profile in (r.first, r.is_first, 
 run_none profile es ts p q = cc
 
 -- all the exchanges lead on from the first state exactly where those that are left do so from the state before them
-pub record GoesOn (profile : Profile) (first : State) (es : List Exchange) (ts : List State) (before : State) (es' : List Exchange) (ts' : List State) : Type 0 where
+pub record RunsOn (profile : Profile) (first : State) (es : List Exchange) (ts : List State) (before : State) (es' : List Exchange) (ts' : List State) : Type 0 where
   pub runs : IsRunFrom profile first es ts ↔ IsRunFrom profile before es' ts'
   pub lengths : length es' ≡ length ts'
 

@@ -59,7 +59,7 @@ impl<'a> Follower<'a> {
         ensures pairer { self.new.pairer ≡ self.old.pairer }
         ensures observed { (e : AnExchange) → self.old.pairer.exchange ≡ Some e → IsObserved self.old.tracker e last result self.new.tracker }
     {
-        let exchange = self.pairer.exchange().unwrap();
+        let exchange = self.pairer.completed_exchange();
         if self.tracker.observe(&exchange.command, &exchange.reply)? {
             return Ok(Some(Turn::Exchange));
         }
@@ -76,7 +76,7 @@ impl<'a> Follower<'a> {
         requires { (e : AnExchange) × (self.now.pairer.exchange ≡ Some e) }
         ensures { self.now.pairer.exchange ≡ Some result.now }
     {
-        self.pairer.exchange().unwrap()
+        self.pairer.completed_exchange()
     }
 
     /// Begins anew: nothing is open from here on, and nothing is known of the deck. An error comes where memory is refused.

@@ -3,9 +3,9 @@
 //! A [`Judging`](judging) reads the records from a text and hands each to what follows them, a pairer and a tracker. One loop goes
 //! through the exchanges of a part of the capture (`part.rt`). [`judge_for`] writes the report up to the first break, with a line for
 //! each exchange where an explanation is asked for; [`judge_with_run_for`] hands a run of the deck out with a yes, and `is_run_of` of
-//! the crate `deck9` says whether it is one; [`judge_with_contradiction_for`] says why a no is one; and [`judge_parts_for`] goes on
-//! after each break. The module [`laws`] states what holds of the definitions that their contracts cite. The crate `report9` writes
-//! runs and why a no is one.
+//! the crate `deck9` says whether it is one; [`judge_with_contradiction_for`] says why a verdict is a no; and [`judge_parts_for`]
+//! goes on after each break. The module [`laws`] states what holds of the definitions that their contracts cite. The crate
+//! `report9` writes runs, and why a verdict is a no.
 #![tactic(auto)]
 
 mod at_25;

@@ -30,10 +30,10 @@ pub(crate) struct PartLog {
     pub(crate) telling: Telling,
     /// How many exchanges there are.
     pub(crate) exchanges: u32,
-    /// How many records they have.
-    pub(crate) records: u32,
     /// The exchanges, where they are kept.
     pub(crate) kept: Vec<Exchange>,
+    /// How many records the exchanges have.
+    pub(crate) records: u32,
     /// The time of the last record of the last exchange that is kept, in microseconds, if there is one.
     pub(crate) end_us: Option<u64>,
     /// About how many spans of times the tracker had when it had most, where exchanges are kept. It bears on speed and memory alone.
@@ -48,8 +48,8 @@ impl PartLog {
         PartLog {
             telling,
             exchanges: 0,
-            records: 0,
             kept: Vec::new(alloc),
+            records: 0,
             end_us: None,
             spans: 0,
         }

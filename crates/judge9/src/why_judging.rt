@@ -1,4 +1,4 @@
-//! Judges a capture and says why a no is one.
+//! Judges a capture and, where the verdict is a no, says why.
 ghost use Rattle.std.specs.Prelude.{◌≡◌, ◌≢◌, IfSome, IfErr, option_map, None};
 ghost use Rattle.capture9.specs.Rows.{rows_of};
 ghost use Rattle.judge9.specs.Judging.{CanBeResult, IsTheAnswer, StoppedBefore, answer_of};
@@ -15,7 +15,7 @@ use std::alloc::Global;
 use std::io::{self, Read};
 use verdict9::{JudgeError, Telling, WhyVerdict};
 
-/// Judges the capture that the reader gives, as [`judge_for`](crate::judge_for) does, and says why a no is one.
+/// Judges the capture that the reader gives, as [`judge_for`](crate::judge_for) does, and says why where the verdict is a no.
 ///
 /// Where a record breaks a rule of blocks, pairing or timing, it comes with the records that are open before it
 /// and with what the command means that these begin with, if it is complete; or, where none is open, with the exchange before
@@ -59,7 +59,7 @@ pub fn judge_with_contradiction_for<R: Read + Drop>(
     verdict
 }
 
-/// Judges all the rows that are to come and finds why a no is one.
+/// Judges all the rows that are to come and, where the verdict is a no, finds why.
 fn judge_rows<R: Read + Drop>(
     alloc: Global,
     judging: &mut Judging<R>,

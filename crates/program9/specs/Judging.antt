@@ -31,7 +31,7 @@ WritesRun profile (Ok run) result old new =
 abbrev pub TellsRun : Profile → Option Rows → Option (List ℕ) → Result Verdict JudgeError → Option (List ℕ) → Type 0
 TellsRun profile known old judged all = (found : Result RunVerdict JudgeError) × IsJudgedRun profile known found × WritesRun profile found judged old all
 
--- what writing the text of why a capture is a no answers: where there is none the refusal, and nothing was written; else
+-- what writing the text of why a verdict is a no answers: where there is none the refusal, and nothing was written; else
 -- the verdict, and the text was written, or a write fault, and a first part of it was, or memory ran out, and nothing was
 abbrev pub WritesWhy : Profile → Result WhyVerdict JudgeError → Result Verdict JudgeError → Option (List ℕ) → Option (List ℕ) → Type 0
 WritesWhy profile (Err e) result old new = (result ≡ Err e) × Keeps old new

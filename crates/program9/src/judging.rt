@@ -189,7 +189,7 @@ fn verdict_of(run: &RunVerdict) -> Verdict
     }
 }
 
-/// Writes the text of why a capture is a no where there is a verdict, and answers that verdict.
+/// Writes the text of why a verdict is a no where there is a verdict, and answers that verdict.
 fn tell_why<W: Write>(
     alloc: Global,
     writer: &mut W,

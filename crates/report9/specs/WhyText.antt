@@ -1,4 +1,4 @@
--- The text of why a capture is a no: where no run remains a line for each of the replies that contradict one another, and
+-- The text of why a verdict is a no: where no run remains a line for each of the replies that contradict one another, and
 -- what the deck could show before the last of them; where a rule of pairing is broken a line for the records of the open
 -- command and one for those of its reply, or one for the exchange before where none is open, and one for the record that
 -- breaks; and the line of the verdict.

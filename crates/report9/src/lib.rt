@@ -1,4 +1,4 @@
-//! What is told of a judging besides its verdict: a run of the deck that comes with a yes, and why a no is one.
+//! What is told of a judging besides its verdict: a run of the deck that comes with a yes, and why a verdict is a no.
 #![tactic(auto)]
 
 mod at_25;

@@ -1,4 +1,4 @@
-//! The text of why a capture is a no: the records that are open before the one that breaks a rule, or the replies that
+//! The text of why a verdict is a no: the records that are open before the one that breaks a rule, or the replies that
 //! contradict one another and what the deck could show before the last of them.
 mod block_bytes;
 mod break_lines;
@@ -23,7 +23,7 @@ use tc25::Rate;
 use text9::{put_fields_for, put_text, write_all};
 use verdict9::{JudgeError, WhyVerdict, put_no_line, put_yes_line};
 
-/// Writes why a capture is a no: where no run of the deck remains a line for each of the replies that contradict one
+/// Writes why a verdict is a no: where no run of the deck remains a line for each of the replies that contradict one
 /// another, then what the deck could show when it gave the last of them; where a rule of blocks, pairing or timing is
 /// broken a line for the records of the open command and one for those of its reply, or one for the exchange before where
 /// none is open, and one for the record that breaks; and in each case the line of the verdict.

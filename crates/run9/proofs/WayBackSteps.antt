@@ -1,5 +1,5 @@
 -- The way back from the end of a capture to a run of the deck: the trackers at marks, and one exchange back.
-use Rattle.run9.proofs.Words.{[], All, AllPairs, ap, append-nil, append_assoc, AreMarks, arith, drop, Exchange, Exchanges, follows-then, FollowsFrom, from-start, get_or, GoesBack, GoesOn}
+use Rattle.run9.proofs.Words.{[], All, AllPairs, ap, append-nil, append_assoc, AreMarks, arith, drop, Exchange, Exchanges, follows-then, FollowsFrom, from-start, get_or, GoesBack, LastMarkFollows}
 use Rattle.run9.proofs.Words.{inl, inr, IsFirst, IsNextMark, IsRun, last_mark, leads_joined, LeadsFrom, length, length_push, List, Mark, None, Option, place_of, Possible, Profile, refl}
 use Rattle.run9.proofs.Words.{reverse, reverse-append, reverse-reverse, slice_get, slice_range, Some, State, subst, suc, sym, take, take-add, take_all, take_more, Tracked, tracked_by, ℕ}
 use Rattle.run9.proofs.Words.{◌++◌, ◌+◌, ◌-◌, ◌<◌, ◌↔◌, ◌∙◌, ◌∷◌, ◌≡◌, ◌≤◌}
@@ -87,7 +87,7 @@ marked {first = first} {es = es} {at = at} {marks = marks} m are next = (
 -- a mark is put there with the last tracker, and that goes on
 pub went_on : {first : Tracked} {es : List Exchange} {at : ℕ} {marks : List Mark} (new : List Mark) (m : Mark) (place : ℕ) → AreMarks first es (at + 1) marks
     → place ≡ place_of (last_mark marks) → m.tracker ≡ tracked_by first (last_mark marks) → place < m.place → m.place ≤ at
-    → GoesOn marks m (slice_range es place m.place) new → AreMarks first es (at + 1) new × (place_of (last_mark new) ≡ m.place)
+    → LastMarkFollows marks m (slice_range es place m.place) new → AreMarks first es (at + 1) new × (place_of (last_mark new) ≡ m.place)
 went_on {first = first} {es = es} {marks = marks} new m place are is same on within g =
     let next = marked g.after are (record {
       on = omega (arith, is, g.place);

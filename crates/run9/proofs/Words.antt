@@ -5,7 +5,7 @@ pub use Rattle.deck9.specs.State.{IsFirst}
 pub use Rattle.deck9.specs.Step.{Exchanges}
 pub use Rattle.deck9.specs.declared.profile.Profile.{Profile}
 pub use Rattle.deck9.specs.declared.state.State.{State}
-pub use Rattle.run9.specs.Working.{AreMarks, GoesBack, GoesOn, IsNextMark, last_mark, place_of, tracked_by}
+pub use Rattle.run9.specs.Working.{AreMarks, GoesBack, LastMarkFollows, IsNextMark, last_mark, place_of, tracked_by}
 pub use Rattle.run9.specs.declared.way_back.Mark.{Mark}
 pub use Rattle.std.proofs.Common.{[], ap, arith, drop, get_or, inl, inr, length, List, None, Option, refl, reverse, slice_get, slice_range, Some, subst, suc, sym, take, take-add, ℕ}
 pub use Rattle.std.proofs.Common.{◌++◌, ◌+◌, ◌-◌, ◌<◌, ◌↔◌, ◌∙◌, ◌∷◌, ◌≡◌, ◌≤◌}

@@ -45,7 +45,7 @@ pub record IsNextMark (place : ℕ) (t : Tracked) (es : List Exchange) (at : ℕ
   pub follows : FollowsFrom t (slice_range es place m.place) m.tracker
 
 -- the mark after others has taken these exchanges
-pub record GoesOn (before : List Mark) (m : Mark) (es : List Exchange) (marks : List Mark) : Type 0 where
+pub record LastMarkFollows (before : List Mark) (m : Mark) (es : List Exchange) (marks : List Mark) : Type 0 where
   pub after : Mark
   pub same : marks ≡ before ++ after ∷ []
   pub place : after.place ≡ m.place

@@ -7,7 +7,7 @@ ghost use Rattle.std.specs.Prelude.{◌≡◌, ◌<◌, ◌≤◌, ◌+◌, ◌+
 ghost use Rattle.deck9.specs.Run.{IsRun};
 ghost use Rattle.deck9.specs.Step.{Exchanges};
 ghost use Rattle.deck9.specs.declared.state.State.{State as AState};
-ghost use Rattle.run9.specs.Working.{CanComeFrom, ComesFrom, AreMarks, GoesBack, GoesOn, last_mark, place_of, tracked_by};
+ghost use Rattle.run9.specs.Working.{CanComeFrom, ComesFrom, AreMarks, GoesBack, LastMarkFollows, last_mark, place_of, tracked_by};
 ghost use Rattle.run9.specs.declared.way_back.Mark.{Mark as AMark};
 ghost use Rattle.track9.specs.Following.{FollowsFrom, KeepsEnds, LeadsFrom};
 ghost use Rattle.track9.specs.Tracker.{Possible};
@@ -188,7 +188,7 @@ fn copy_of_nearest<'d>(
 
 /// Takes these exchanges into the last tracker that is marked, where it stands: a tracker is large.
 fn go_on(marks: &mut Vec<Mark>, exchanges: &[Exchange]) -> Result<(), AllocError>
-    ensures { (before : List AMark) (m : AMark) → marks.old.items ≡ before ++ m ∷ [] → OnOk result (GoesOn before m exchanges.now marks.new.items) }
+    ensures { (before : List AMark) (m : AMark) → marks.old.items ≡ before ++ m ∷ [] → OnOk result (LastMarkFollows before m exchanges.now marks.new.items) }
 {
     let Some(mark) = marks.last_mut() else {
         return Ok(());

@@ -2,7 +2,7 @@
 use Rattle.track9.proofs.Words.{Allows, and_parts, ap, AreFew, AreTimes, AreWhole, arith, At, begin_count-empty, Block, Bool, Clear, Command, contains-just}
 use Rattle.track9.proofs.Words.{contains-remove_nat, count_of, either, Entries, entries_of, Entry, entry_of, eqb, eqb-true, false, false_from_ne_true, false≢true, Follows}
 use Rattle.track9.proofs.Words.{Profile, profile_of, Rate, rate_for, goals_in, goals_of, all_shown, has, has-or, has_pair, in_local, inl, InPart, inr, part_remains, is_nil, remains_with_panel_on, is_set}
-use Rattle.track9.proofs.Words.{is_some, IsKept, IsKnown, IsKnownEntry, IsSpanCount, IsTrue, join_options, joined, joined_known, just, Known, known_fact, KnownEntry, KnowsModes}
+use Rattle.track9.proofs.Words.{is_some, AreTracked, IsKnown, IsKnownEntry, IsSpanCount, IsTrue, join_options, joined, joined_known, just, Known, known_fact, KnownEntry, KnowsModes}
 use Rattle.track9.proofs.Words.{KnowsOf, List, max, max-zero, Mode, mode_some, ModeSet, nat_cmp, nat_tests, None, not, on_halves, Option, part_of, PartKnows, Part}
 use Rattle.track9.proofs.Words.{Possible, Presets, presets_after, refl, Register, same_test, same_times, shown_in, shown_with, Some, some_entry, some_mode, states_remain}
 use Rattle.track9.proofs.Words.{halves_remain, span_count, span_count-begin_count, State, States, subst, sym, Times, true, halves_of, HalvesKnow, Halves, HalvesWhole}
@@ -244,9 +244,9 @@ dead_few n v whole dead pn l r =
 pub whole_at_rate : (p : Profile) (w : States) → profile_of p.deck w ≡ p → AreWhole p.rate w → AreWhole (rate_for w) w
 whole_at_rate p w same whole = subst (λ rate. AreWhole rate w) (sym (ap (λ (p : Profile). p.rate) same)) whole
 
-pub kept_after : (c : Command) (reply : Block) (v w : States) (p : Profile) (n : Presets) → IsKept n v → Follows p c (Some reply) v w
-    → IsKept (presets_after c reply (states_remain w) n) w
-kept_after c reply v w p n kept follows = grind (arith, whole_at_rate, dead_few)
+pub tracked_after : (c : Command) (reply : Block) (v w : States) (p : Profile) (n : Presets) → AreTracked n v → Follows p c (Some reply) v w
+    → AreTracked (presets_after c reply (states_remain w) n) w
+tracked_after c reply v w p n kept follows = grind (arith, whole_at_rate, dead_few)
 
 -- ---- spans
 

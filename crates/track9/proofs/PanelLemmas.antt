@@ -3,7 +3,7 @@ use Rattle.track9.proofs.Words.{Deck}
 use Rattle.track9.proofs.Words.{[], after_panel, all_drifted, all_or_none, AllLeadOn, ap, AreBelow, AreFew, AreReached, AreWhole, BelowDay, Block, Bool}
 use Rattle.track9.proofs.Words.{CanPass, Command, cond_both, counted, counts_after, Does, DoesOrNot, done, Drift, drift_from_pairs, DriftsAndGoes, Effect, effect_of, effect_taken, either_panel, entries_of}
 use Rattle.track9.proofs.Words.{false, false≢true, first_states, Follows, FollowsDrift, all_shown, Hands, hands_by, hands_of, has, HasEffect, if◌then◌else◌}
-use Rattle.track9.proofs.Words.{in_local, inl, InPart, inr, InHalves, is_nak, remains_with_panel_on, is_wide, IsIn, IsKept, IsState}
+use Rattle.track9.proofs.Words.{in_local, inl, InPart, inr, InHalves, is_nak, remains_with_panel_on, is_wide, IsIn, AreTracked, IsState}
 use Rattle.track9.proofs.Words.{LeadsOn, None, on_halves, Option, panel_passed, Possible, Presets, presets_after, refl, RegIn}
 use Rattle.track9.proofs.Words.{Register, sense_of, Some, states_remain, State, States, DeckStep, subst, switched, sym, Taken, StepOrPass, true, halves_drifted, halves_of, HalvesBelow, HalvesFew, Halves}
 use Rattle.track9.proofs.Words.{Profile, profile_of, Rate, rate_for, rate_in, untouched, HalvesWhole, with_command, ◌↔◌, ◌∙◌, ◌≡◌, ◌⊎◌}
@@ -235,12 +235,12 @@ follows_panel deck c reply on v was whole below = let w = wide_step deck (rate_f
 
 -- ---- everything is forgotten
 
-pub first_kept : (rate : Rate) (h : Hands) (n : Presets) → IsKept n (first_states rate h)
-first_kept rate hands.None n = record {
+pub first_tracked : (rate : Rate) (h : Hands) (n : Presets) → AreTracked n (first_states rate h)
+first_tracked rate hands.None n = record {
   whole = record { off = whole_halves rate true; on = whole_halves rate false };
   few = both_few n (first_states rate hands.None) (few_halves rate n true) (few_halves rate n false);
 }
-first_kept rate hands.Allowed n = record {
+first_tracked rate hands.Allowed n = record {
   whole = record { off = whole_halves rate true; on = whole_halves rate true };
   few = both_few n (first_states rate hands.Allowed) (few_halves rate n true) (few_halves rate n true);
 }
@@ -261,7 +261,7 @@ leads_forgotten deck Goes count v allowed whole there back counts = by (states_r
       );
       profile = refl;
       whole = record { off = whole_halves (rate_for v) true; on = whole_halves (rate_for v) true };
-      few = λ n few. (first_kept (rate_for v) hands.Allowed (count n)).few;
+      few = λ n few. (first_tracked (rate_for v) hands.Allowed (count n)).few;
     }
     by false dead = record {
       reached = (λ t i. absurd (false≢true (sym dead ∙ some_live v t i)), λ s t i goes. absurd (false≢true (sym dead ∙ some_live v s i)));

@@ -2,7 +2,7 @@
 use Rattle.track9.proofs.Words.{Deck}
 use Rattle.track9.proofs.Words.{Allows, and_from, and_parts, ap, AreBelow, arith, At, begin_count-empty, begin_count-every_time, Bool, Clear}
 use Rattle.track9.proofs.Words.{cond_both, entries_known, Entry, false, false≢true, has, has_pair, if◌then◌else◌, in_local, InPart, is_as_wanted, IsEntry, IsFirst, IsIn}
-use Rattle.track9.proofs.Words.{IsKept, IsState, Mode, modes, modes_known, ModeSet, no_states, None, nothing_has, Option, pairs_of, part_from, part_known}
+use Rattle.track9.proofs.Words.{AreTracked, IsState, Mode, modes, modes_known, ModeSet, no_states, None, nothing_has, Option, pairs_of, part_from, part_known}
 use Rattle.track9.proofs.Words.{Possible, Presets, refl, RegAudioIn, RegAudioOut, RegIn, RegOut, shown_if, Some, Start, StartsFrom, State, states_from}
 use Rattle.track9.proofs.Words.{AreWhole, Rate, rate_for, settled, untouched, subst, sym, true, halves_from, HalvesFew, Whole, ℕ, Is, ◌&&◌, ◌↔◌, ◌∙◌, ◌≡◌}
 use Rattle.track9.proofs.KnownLemmas.{at_same}
@@ -91,8 +91,8 @@ from_rate rate k = of_rate rate (part_from rate k false) (whole_from rate k fals
 
 -- ---- all states
 
-pub start_kept : (rate : Rate) (k : Start) (n : Presets) → IsKept n (states_from rate k)
-start_kept rate k n = record {
+pub start_tracked : (rate : Rate) (k : Start) (n : Presets) → AreTracked n (states_from rate k)
+start_tracked rate k n = record {
   whole = subst (λ other. AreWhole other (states_from rate k)) (sym (from_rate rate k)) (record {
     off = record { remote = whole_from rate k false; local = whole_from rate k true };
     on = whole_halves rate false;
@@ -108,7 +108,7 @@ pub start_exactly : (deck : Option Deck) (rate : Rate) (k : Start) (s : State) �
     → Possible (states_from rate k) s ↔ (IsFirst (untouched deck rate) s × StartsFrom k s)
 start_exactly deck rate k s below = (
   λ i. let valid = subst (λ other. IsState other s) (from_rate rate k)
-      (possible_state (rate_for (states_from rate k)) (states_from rate k) s (start_kept rate k none_counted).whole below i) in by_panel s.panel refl valid i,
+      (possible_state (rate_for (states_from rate k)) (states_from rate k) s (start_tracked rate k none_counted).whole below i) in by_panel s.panel refl valid i,
   λ w. possible (states_from rate k) s s.local false refl w.0.1 (rw (by_local rate k s.local) (starts_from rate k s w.0.0 w.1)),
 )
   where

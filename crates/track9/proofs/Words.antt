@@ -51,7 +51,7 @@ pub use Rattle.track9.specs.Working.Parts.{all_states, changed_entries, changed_
 pub use Rattle.track9.specs.Working.Parts.{part_remains, masked_part, no_states, put_settled, rate_of, reported_part, sensed_part, set_where, settled, status_part, where_remains, Whole, with_entries}
 pub use Rattle.track9.specs.Working.Parts.{with_pairs}
 pub use Rattle.track9.specs.Working.States.{after_panel, all_drifted, all_forgotten, all_or_none, AllLeadOn, AreBelow, AreFew, AreWhole, counted, counts_after, DoesOrNot, DriftsAndGoes, effect_taken}
-pub use Rattle.track9.specs.Working.States.{either_panel, first_on, first_states, Follows, FollowsDrift, hands_by, hands_of, HasEffect, InHalves, remains_with_panel_on, is_wide, IsKept}
+pub use Rattle.track9.specs.Working.States.{either_panel, first_on, first_states, Follows, FollowsDrift, hands_by, hands_of, HasEffect, InHalves, remains_with_panel_on, is_wide, AreTracked}
 pub use Rattle.track9.specs.Working.States.{LeadsOn, map_halves, on_halves, motion_forgotten, panel_passed, part_of, profile_of, rate_for, rate_in, states_remain, halves_remain, switched, Taken, StepOrPass, halves_changed, halves_drifted, halves_gone, untouched}
 pub use Rattle.track9.specs.Following.{FollowsFrom, KeepsEnds, Leads, LeadsFrom}
 pub use Rattle.track9.specs.Start.{StartsFrom}

@@ -47,11 +47,11 @@ impl<'a, S: TimeSet> Model for Tracker<'a, S> {
 
     ghost coded = { tracked_code };
 
-    ghost use Rattle.track9.specs.Working.States.{IsKept, profile_of};
+    ghost use Rattle.track9.specs.Working.States.{AreTracked, profile_of};
 
     ghost view = { λ t. record { states = t.states; profile = profile_of t.deck t.states; presets = t.presets } };
 
-    ghost invariant = { λ t. IsKept t.presets t.states };
+    ghost invariant = { λ t. AreTracked t.presets t.states };
 }
 
 impl<'a, S: TimeSet> Tracker<'a, S> {

@@ -1,7 +1,7 @@
 -- A run that believes some replies, exchange by exchange, from the states that a tracker keeps.
 use Rattle.why9.proofs.Words.{[], ap, append_assoc, AreReached, arith, before_the_first, behind_first, Bool, drop, drop-cons, drop-drop, Exchange}
 use Rattle.why9.proofs.Words.{false, Profile, HasBelieving, IsBelievingFrom, IsFirst, length, length-append, length-drop, length-take-le, List, MayDo, nat_le, nat_tests, sym}
-use Rattle.why9.proofs.Words.{slice_index_or, slice_range, State, subst, suc, take, take-append-drop, take_rest, true, ArePassed, ArePassedTo, DriftsAndMayDo, GoesOn, GoesOnFrom, ℕ, ◌++◌, ◌+◌, ◌-◌, ◌<◌}
+use Rattle.why9.proofs.Words.{slice_index_or, slice_range, State, subst, suc, take, take-append-drop, take_rest, true, ArePassed, ArePassedTo, DriftsAndMayDo, HasBelievingFrom, HasBelievingFromPlace, ℕ, ◌++◌, ◌+◌, ◌-◌, ◌<◌}
 use Rattle.why9.proofs.Words.{◌↔◌, ◌∙◌, ◌∷◌, ◌≡◌, ◌≤◌}
 use Rattle.why9.proofs.Words.{DeckStep, done, Drift, drift_join, false≢true, ignored, is_nak, refl, refused}
 
@@ -20,14 +20,14 @@ same_places profile b c (e ∷ es) s (t ∷ ts) same (d, drift, does, run) = (
 )
 same_places profile b c es s ts same run = absurd run
 
-pub goes-same : (profile : Profile) (X : State → Type 0) (b c : ℕ → Bool) (es : List Exchange) → ((k : ℕ) → k < length es → b k ≡ c k) → GoesOn profile X b es
-    → GoesOn profile X c es
+pub goes-same : (profile : Profile) (X : State → Type 0) (b c : ℕ → Bool) (es : List Exchange) → ((k : ℕ) → k < length es → b k ≡ c k) → HasBelievingFrom profile X b es
+    → HasBelievingFrom profile X c es
 goes-same profile X b c es same g = (g.0, g.1, g.2, same_places profile b c es g.0 g.2 same g.3)
 
 -- passing what comes before the first reply that is believed
 pub goes-start : (profile : Profile) (b : ℕ → Bool) (es : List Exchange) (first : ℕ) (X : State → Type 0) → first ≤ length es
     → ((k : ℕ) → k < first → b k ≡ false) → ((s : State) → X s ↔ IsFirst profile s)
-    → HasBelieving profile b es ↔ GoesOnFrom profile X first b es
+    → HasBelieving profile b es ↔ HasBelievingFromPlace profile X first b es
 goes-start profile b es first X low none firsts = (
   λ r. let a = law.0 r in (a.first, (firsts a.first).1 a.is_first, a.after, a.is_run),
   λ g. law.1 (record { first = g.0; is_first = (firsts g.0).0 g.1; after = g.2; is_run = g.3 }),
@@ -44,17 +44,17 @@ goes-start profile b es first X low none firsts = (
 -- ---- through one exchange
 
 goes-first : (profile : Profile) (X Y : State → Type 0) (b : ℕ → Bool) (e : Exchange) (es : List Exchange) → AreReached X (DriftsAndMayDo profile (b 0) e) Y
-    → GoesOn profile X b (e ∷ es) ↔ GoesOn profile Y (behind_first b) es
+    → HasBelievingFrom profile X b (e ∷ es) ↔ HasBelievingFrom profile Y (behind_first b) es
 goes-first profile X Y b e es reached =
     (λ g. to g.0 g.1 g.2 g.3, λ g. let w = reached.0 g.0 g.1 in (w.0, w.1, g.0 ∷ g.2, (w.2.0, w.2.1, w.2.2, g.3)))
   where
-    to : (s : State) → X s → (ts : List State) → IsBelievingFrom profile b s (e ∷ es) ts → GoesOn profile Y (behind_first b) es
+    to : (s : State) → X s → (ts : List State) → IsBelievingFrom profile b s (e ∷ es) ts → HasBelievingFrom profile Y (behind_first b) es
     to s x [] run = absurd run
     to s x (t ∷ ts) (d, drift, does, run) = (t, reached.1 s t x (d, drift, does), ts, run)
 
 -- the first of those from a place on
 pub goes-through : (profile : Profile) (X Y : State → Type 0) (b : ℕ → Bool) (es : List Exchange) (k : ℕ) (e : Exchange) (believed : Bool) → k < length es
-    → e ≡ slice_index_or es k e → believed ≡ b k → AreReached X (DriftsAndMayDo profile believed e) Y → GoesOnFrom profile X k b es ↔ GoesOnFrom profile Y (k + 1) b es
+    → e ≡ slice_index_or es k e → believed ≡ b k → AreReached X (DriftsAndMayDo profile believed e) Y → HasBelievingFromPlace profile X k b es ↔ HasBelievingFromPlace profile Y (k + 1) b es
 goes-through profile X Y b es k e believed low is asked reached = rw split (
   λ g. goes-same profile Y _ _ (drop (k + 1) es) (λ j below. ap b (omega arith)) (first.0 g),
   λ g. first.1 (goes-same profile Y _ _ (drop (k + 1) es) (λ j below. ap b (omega arith)) g),
@@ -63,7 +63,7 @@ goes-through profile X Y b es k e believed low is asked reached = rw split (
     split : drop k es ≡ e ∷ drop (k + 1) es
     split = let next : suc k ≡ k + 1 = omega arith in cc (drop-cons es k e low)
 
-    first : GoesOn profile X (λ j. b (k + j)) (e ∷ drop (k + 1) es) ↔ GoesOn profile Y (λ j. b (k + (j + 1))) (drop (k + 1) es)
+    first : HasBelievingFrom profile X (λ j. b (k + j)) (e ∷ drop (k + 1) es) ↔ HasBelievingFrom profile Y (λ j. b (k + (j + 1))) (drop (k + 1) es)
     first = let here : believed ≡ b (k + 0) = asked ∙ ap b (omega arith) in
         goes-first profile X Y (λ j. b (k + j)) e (drop (k + 1) es) (rw here at reached)
 
@@ -83,17 +83,17 @@ keeps_state profile e s t nak (ignored other shows may local same) = same
 
 -- it keeps the state, and the drift before it goes on in the next one
 goes-nak : (profile : Profile) (X : State → Type 0) (e : Exchange) (es : List Exchange) → is_nak e.reply ≡ true
-    → GoesOn profile X (λ k. true) (e ∷ es) ↔ GoesOn profile X (λ k. true) es
+    → HasBelievingFrom profile X (λ k. true) (e ∷ es) ↔ HasBelievingFrom profile X (λ k. true) es
 goes-nak profile X e es nak = (λ g. to g.0 g.1 g.2 g.3, λ g. (g.0, g.1, g.0 ∷ g.2, (g.0, ([], refl), refused nak refl, g.3)))
   where
-    to : (s : State) → X s → (ts : List State) → IsBelievingFrom profile (λ k. true) s (e ∷ es) ts → GoesOn profile X (λ k. true) es
+    to : (s : State) → X s → (ts : List State) → IsBelievingFrom profile (λ k. true) s (e ∷ es) ts → HasBelievingFrom profile X (λ k. true) es
     to s x [] run = absurd run
     to s x (t ∷ ts) (d, drift, does, run) =
         (s, x, ts, drifts_before profile (λ k. true) es s t ts (subst (λ u. Drift profile s u) (sym (keeps_state profile e d t nak does)) drift) run)
 
 -- the first of those from a place on
 pub goes-past-nak : (profile : Profile) (X : State → Type 0) (es : List Exchange) (k : ℕ) (e : Exchange) → k < length es → e ≡ slice_index_or es k e
-    → is_nak e.reply ≡ true → GoesOnFrom profile X k (λ k. true) es ↔ GoesOnFrom profile X (k + 1) (λ k. true) es
+    → is_nak e.reply ≡ true → HasBelievingFromPlace profile X k (λ k. true) es ↔ HasBelievingFromPlace profile X (k + 1) (λ k. true) es
 goes-past-nak profile X es k e low is nak = rw split (goes-nak profile X e (drop (k + 1) es) nak)
   where
     split : drop k es ≡ e ∷ drop (k + 1) es
@@ -109,7 +109,7 @@ passed-more profile X Y Z es e passed reached = record { goes = goes }
     size = length-append es (e ∷ [])
 
     goes : (b : ℕ → Bool) (rest : List Exchange) → ((k : ℕ) → k < length (es ++ e ∷ []) → b k ≡ false)
-        → GoesOn profile X b ((es ++ e ∷ []) ++ rest) ↔ GoesOn profile Z (λ k. b (length (es ++ e ∷ []) + k)) rest
+        → HasBelievingFrom profile X b ((es ++ e ∷ []) ++ rest) ↔ HasBelievingFrom profile Z (λ k. b (length (es ++ e ∷ []) + k)) rest
     goes b rest none =
         let all = passed.goes b (e ∷ rest) (λ k below. none k (omega (arith, size))) in
         let here : false ≡ b (length es + 0) = sym (none (length es + 0) (omega (arith, size))) in
@@ -121,7 +121,7 @@ passed-more profile X Y Z es e passed reached = record { goes = goes }
 
 -- believing all that comes after them
 pub goes-passed : (profile : Profile) (X Y : State → Type 0) (passed believed : List Exchange) → ArePassed profile X passed Y
-    → GoesOn profile X (nat_le (length passed)) (passed ++ believed) ↔ GoesOn profile Y (λ k. true) believed
+    → HasBelievingFrom profile X (nat_le (length passed)) (passed ++ believed) ↔ HasBelievingFrom profile Y (λ k. true) believed
 goes-passed profile X Y passed believed are =
     let all = are.goes (nat_le (length passed)) believed (λ k below. grind (arith, nat_tests)) in (
       λ g. goes-same profile Y _ _ believed (λ k below. grind (arith, nat_tests)) (all.0 g),
@@ -147,7 +147,7 @@ passed-to profile es low place X Y ascend within passed = record { goes = goes }
     size : length (slice_range es low place) ≡ place - low
     size = range_length es low place ascend within
 
-    goes : (b : ℕ → Bool) → ((k : ℕ) → low ≤ k → k < place → b k ≡ false) → GoesOnFrom profile X low b es ↔ GoesOnFrom profile Y place b es
+    goes : (b : ℕ → Bool) → ((k : ℕ) → low ≤ k → k < place → b k ≡ false) → HasBelievingFromPlace profile X low b es ↔ HasBelievingFromPlace profile Y place b es
     goes b none =
         let all = rw (range_rest es low place ascend within) at
         (passed.goes (λ k. b (low + k)) (drop place es) (λ k below. none (low + k) (omega arith) (omega (arith, size)))) in (
@@ -157,8 +157,8 @@ passed-to profile es low place X Y ascend within passed = record { goes = goes }
 
 -- a question passes up to its place, and believes what is left
 pub goes-range : (profile : Profile) (es : List Exchange) (low place : ℕ) (X : State → Type 0) → low ≤ place → place ≤ length es
-    → GoesOn profile X (nat_le (length (slice_range es low place))) (slice_range es low place ++ slice_range es place (length es))
-    ↔ GoesOnFrom profile X low (nat_le place) es
+    → HasBelievingFrom profile X (nat_le (length (slice_range es low place))) (slice_range es low place ++ slice_range es place (length es))
+    ↔ HasBelievingFromPlace profile X low (nat_le place) es
 goes-range profile es low place X ascend within = rw (take_rest es place, range_rest es low place ascend within, range_length es low place ascend within) (
   λ g. goes-same profile X _ _ (drop low es) (λ k below. grind (arith, nat_tests)) g,
   λ g. goes-same profile X _ _ (drop low es) (λ k below. grind (arith, nat_tests)) g,

@@ -1,6 +1,6 @@
 -- The places found: in order, contradicting with all that follow, and each of them needed; and the tracker that goes along.
 use Rattle.why9.proofs.Words.{[], All, All-head, All-nil, All-push, All-tail, all_pairs_push, AllPairs, ap, ArePassedTo, AreReached, arith, behind_first, believing_all}
-use Rattle.why9.proofs.Words.{believing_fewer, Bool, BreaksAtLast, Contradict, DriftsAndMayDo, drop, Exchange, false, false≢true, GoesOn, GoesOnFrom, Profile, HasBelieving, inl, inr}
+use Rattle.why9.proofs.Words.{believing_fewer, Bool, BreaksAtLast, Contradict, DriftsAndMayDo, drop, Exchange, false, false≢true, HasBelievingFrom, HasBelievingFromPlace, Profile, HasBelieving, inl, inr}
 use Rattle.why9.proofs.Words.{is_among, is_among_others, IsBelievingFrom, IsBetween, IsContradiction, IsFirst, length, length-append, List, list_any-append, nat_le, nat_lt, nat_tests}
 use Rattle.why9.proofs.Words.{refl, slice_index_or, slice_range, State, sym, take_rest, true, ℕ, ◌++◌, ◌+◌, ◌-◌, ◌<◌, ◌==◌, ◌||◌, ◌↔◌, ◌∙◌, ◌∷◌, ◌≡◌, ◌≤◌, ◌⊎◌}
 use Rattle.why9.proofs.QuestionLemmas.{goes-same, goes-start, goes-through, same_places}
@@ -99,45 +99,45 @@ without_last profile b es last breaks is none =
 -- ---- the tracker that goes along
 
 -- it keeps these states: those after everything before `low`, where the replies at the places found are believed and no others
-pub record IsKept (profile : Profile) (X : State → Type 0) (es : List Exchange) (low : ℕ) (found : List ℕ) : Type 0 where
-  pub goes : (b : ℕ → Bool) → ((k : ℕ) → k < low → b k ≡ is_among found k) → HasBelieving profile b es ↔ GoesOnFrom profile X low b es
+pub record IsAlong (profile : Profile) (X : State → Type 0) (es : List Exchange) (low : ℕ) (found : List ℕ) : Type 0 where
+  pub goes : (b : ℕ → Bool) → ((k : ℕ) → k < low → b k ≡ is_among found k) → HasBelieving profile b es ↔ HasBelievingFromPlace profile X low b es
 
 -- the first states are those before any place, as long as none is found
-kept-start : (profile : Profile) (X : State → Type 0) (es : List Exchange) (place : ℕ) → ((s : State) → X s ↔ IsFirst profile s) → place ≤ length es
-    → IsKept profile X es place []
-kept-start profile X es place firsts le = record { goes = λ b none. goes-start profile b es place X le none firsts }
+along-start : (profile : Profile) (X : State → Type 0) (es : List Exchange) (place : ℕ) → ((s : State) → X s ↔ IsFirst profile s) → place ≤ length es
+    → IsAlong profile X es place []
+along-start profile X es place firsts le = record { goes = λ b none. goes-start profile b es place X le none firsts }
 
-kept-push : (profile : Profile) (X : State → Type 0) (es : List Exchange) (place : ℕ) (found : List ℕ) → IsKept profile X es place found
-    → IsKept profile X es place (found ++ place ∷ [])
-kept-push profile X es place found kept =
-    record { goes = λ b same. kept.goes b (λ k below. let more = among_more found place k in let here = same k below in grind (arith, nat_tests)) }
+along-push : (profile : Profile) (X : State → Type 0) (es : List Exchange) (place : ℕ) (found : List ℕ) → IsAlong profile X es place found
+    → IsAlong profile X es place (found ++ place ∷ [])
+along-push profile X es place found along =
+    record { goes = λ b same. along.goes b (λ k below. let more = among_more found place k in let here = same k below in grind (arith, nat_tests)) }
 
 -- it believes the reply at a place found
-kept-believed : (profile : Profile) (X Y : State → Type 0) (es : List Exchange) (place : ℕ) (e : Exchange) (found : List ℕ) → place < length es
-    → e ≡ slice_index_or es place e → is_among found place ≡ true → AreReached X (DriftsAndMayDo profile true e) Y → IsKept profile X es place found
-    → IsKept profile Y es (place + 1) found
-kept-believed profile X Y es place e found low is among reached kept = record {
+along-believed : (profile : Profile) (X Y : State → Type 0) (es : List Exchange) (place : ℕ) (e : Exchange) (found : List ℕ) → place < length es
+    → e ≡ slice_index_or es place e → is_among found place ≡ true → AreReached X (DriftsAndMayDo profile true e) Y → IsAlong profile X es place found
+    → IsAlong profile Y es (place + 1) found
+along-believed profile X Y es place e found low is among reached along = record {
   goes = λ b same.
-      let before = kept.goes b (λ k below. same k (omega arith)) in
+      let before = along.goes b (λ k below. same k (omega arith)) in
       let through = goes-through profile X Y b es place e true low is (sym (same place (omega arith) ∙ among)) reached in
       (λ w. through.0 (before.0 w), λ g. before.1 (through.1 g));
 }
 
 -- it passes what is between two of them
-kept-passed : (profile : Profile) (X Y : State → Type 0) (es : List Exchange) (low place : ℕ) (found : List ℕ) → All (λ p. p < low) found → low ≤ place
-    → ArePassedTo profile es low X place Y → IsKept profile X es low found → IsKept profile Y es place found
-kept-passed profile X Y es low place found below le passed kept = record {
+along-passed : (profile : Profile) (X Y : State → Type 0) (es : List Exchange) (low place : ℕ) (found : List ℕ) → All (λ p. p < low) found → low ≤ place
+    → ArePassedTo profile es low X place Y → IsAlong profile X es low found → IsAlong profile Y es place found
+along-passed profile X Y es low place found below le passed along = record {
   goes = λ b same.
-      let before = kept.goes b (λ k l. same k (omega arith)) in
+      let before = along.goes b (λ k l. same k (omega arith)) in
       let after = passed.goes b (λ k m l. same k l ∙ not_among low found below k m) in
       (λ w. after.0 (before.0 w), λ g. before.1 (after.1 g));
 }
 
 -- what is asked of it is asked of all exchanges
-kept-asked : (profile : Profile) (X : State → Type 0) (es : List Exchange) (low place : ℕ) (found : List ℕ) → All (λ p. p < low) found → low ≤ place
-    → IsKept profile X es low found → HasBelieving profile (is_in_question place found) es ↔ GoesOnFrom profile X low (nat_le place) es
-kept-asked profile X es low place found below le kept =
-    let all = kept.goes (is_in_question place found) (λ k l. grind (arith, nat_tests)) in (
+along-asked : (profile : Profile) (X : State → Type 0) (es : List Exchange) (low place : ℕ) (found : List ℕ) → All (λ p. p < low) found → low ≤ place
+    → IsAlong profile X es low found → HasBelieving profile (is_in_question place found) es ↔ HasBelievingFromPlace profile X low (nat_le place) es
+along-asked profile X es low place found below le along =
+    let all = along.goes (is_in_question place found) (λ k l. grind (arith, nat_tests)) in (
       λ w. goes-same profile X _ _ (drop low es) (λ j l. let none = not_among low found below (low + j) (omega arith) in grind (arith, nat_tests)) (all.0 w),
       λ g. all.1 (goes-same profile X _ _ (drop low es) (λ j l. let none = not_among low found below (low + j) (omega arith) in grind (arith, nat_tests)) g),
     )
@@ -146,7 +146,7 @@ kept-asked profile X es low place found below le kept =
 
 -- the first place is found by a tracker of the first states
 pub first-asked : (profile : Profile) (X : State → Type 0) (es : List Exchange) (place : ℕ) → ((s : State) → X s ↔ IsFirst profile s) → place ≤ length es
-    → GoesOn profile X (nat_le (length {A = Exchange} [])) ([] ++ slice_range es place (length es))
+    → HasBelievingFrom profile X (nat_le (length {A = Exchange} [])) ([] ++ slice_range es place (length es))
     ↔ HasBelieving profile (nat_le place) es
 first-asked profile X es place firsts le =
     let all = goes-start profile (nat_le place) es place X le (λ k below. grind (arith, nat_tests)) firsts in
@@ -157,7 +157,7 @@ first-asked profile X es place firsts le =
 
 -- between two places the next one is looked for
 pub between-moved : (profile : Profile) (X Y : State → Type 0) (es : List Exchange) (low place high : ℕ) → IsBetween profile X es low high → low ≤ place → place < high
-    → ¬ GoesOnFrom profile X low (nat_le place) es → ArePassedTo profile es low X place Y → IsBetween profile Y es place high
+    → ¬ HasBelievingFromPlace profile X low (nat_le place) es → ArePassedTo profile es low X place Y → IsBetween profile Y es place high
 between-moved profile X Y es low place high old above below none passed = record {
   low_high = below;
   high_end = old.high_end;
@@ -166,7 +166,7 @@ between-moved profile X Y es low place high old above below none passed = record
 }
 
 pub between-nearer : (profile : Profile) (X : State → Type 0) (es : List Exchange) (low place high : ℕ) → IsBetween profile X es low high → low < place → place < high
-    → GoesOnFrom profile X low (nat_le place) es → IsBetween profile X es low place
+    → HasBelievingFromPlace profile X low (nat_le place) es → IsBetween profile X es low place
 between-nearer profile X es low place high old above below run =
     record { low_high = above; high_end = let end = old.high_end in omega arith; contradict = old.contradict; after = run }
 
@@ -185,7 +185,7 @@ pub record IsReached (profile : Profile) (X : State → Type 0) (es : List Excha
   pub earlier : List ℕ
   pub end_with : places ≡ earlier ++ place ∷ []
   pub found : AreFound profile es (place + 1) places
-  pub kept : IsKept profile X es place places
+  pub along : IsAlong profile X es place places
 
 pub reached-first : (profile : Profile) (X : State → Type 0) (es : List Exchange) (place : ℕ) → ((s : State) → X s ↔ IsFirst profile s)
     → place < length es → Contradict profile (nat_le place) es → HasBelieving profile (nat_le (place + 1)) es → IsReached profile X es place (place ∷ [])
@@ -195,28 +195,28 @@ reached-first profile X es place firsts within contradict after = record {
   end_with = refl;
   found = found-more profile es place place [] (found-start profile es place contradict) (omega arith) (found-start profile es place contradict).contradict
       (believing_fewer profile (nat_le (place + 1)) (is_in_question (place + 1) []) es (λ k e. grind (arith, nat_tests)) after);
-  kept = kept-push profile X es place [] (kept-start profile X es place firsts (omega arith));
+  along = along-push profile X es place [] (along-start profile X es place firsts (omega arith));
 }
 
 -- the reply at the place is believed
 reached-believed : (profile : Profile) (X Y : State → Type 0) (es : List Exchange) (place : ℕ) (e : Exchange) (found : List ℕ) → e ≡ slice_index_or es place e
-    → AreReached X (DriftsAndMayDo profile true e) Y → IsReached profile X es place found → IsKept profile Y es (place + 1) found
+    → AreReached X (DriftsAndMayDo profile true e) Y → IsReached profile X es place found → IsAlong profile Y es (place + 1) found
 reached-believed profile X Y es place e found is reached at =
-    kept-believed profile X Y es place e found at.within is
-    (let more = among_more at.earlier place place in rw at.end_with (grind (arith, nat_tests))) reached at.kept
+    along-believed profile X Y es place e found at.within is
+    (let more = among_more at.earlier place place in rw at.end_with (grind (arith, nat_tests))) reached at.along
 
 -- where the next place is looked for
 pub reached-between : (profile : Profile) (X Y : State → Type 0) (es : List Exchange) (place : ℕ) (e : Exchange) (found : List ℕ) → BreaksAtLast profile es
     → e ≡ slice_index_or es place e → AreReached X (DriftsAndMayDo profile true e) Y → IsReached profile X es place found → place + 1 < length es
     → IsBetween profile Y es (place + 1) (length es)
 reached-between profile X Y es place e found breaks is reached at more =
-    let kept = reached-believed profile X Y es place e found is reached at in
+    let along = reached-believed profile X Y es place e found is reached at in
     let none = not_among (place + 1) found at.found.below (length es - 1) (omega arith) in
     record {
       low_high = more;
       high_end = omega arith;
-      contradict = λ g. at.found.contradict ((kept-asked profile Y es (place + 1) (place + 1) found at.found.below (omega arith) kept).1 g);
-      after = (kept-asked profile Y es (place + 1) (length es) found at.found.below (omega arith) kept).0
+      contradict = λ g. at.found.contradict ((along-asked profile Y es (place + 1) (place + 1) found at.found.below (omega arith) along).1 g);
+      after = (along-asked profile Y es (place + 1) (length es) found at.found.below (omega arith) along).0
           (without_last profile (is_in_question (length es) found) es (length es - 1) breaks (omega arith) (grind (arith, nat_tests)));
     }
 
@@ -230,14 +230,14 @@ reached-next profile X Y Z es place next e found is reached at le passed between
   end_with = refl;
   found = found-more profile es (place + 1) next found at.found le (λ w. between.contradict ((asked next (omega arith)).0 w))
       ((asked (next + 1) (omega arith)).1 between.after);
-  kept = kept-push profile Z es next found kept;
+  along = along-push profile Z es next found along;
 }
   where
-    kept : IsKept profile Z es next found
-    kept = kept-passed profile Y Z es (place + 1) next found at.found.below le passed (reached-believed profile X Y es place e found is reached at)
+    along : IsAlong profile Z es next found
+    along = along-passed profile Y Z es (place + 1) next found at.found.below le passed (reached-believed profile X Y es place e found is reached at)
 
-    asked : (from : ℕ) → next ≤ from → HasBelieving profile (is_in_question from found) es ↔ GoesOnFrom profile Z next (nat_le from) es
-    asked from low = kept-asked profile Z es next from found (λ i d l. let b = at.found.below i d l in omega arith) low kept
+    asked : (from : ℕ) → next ≤ from → HasBelieving profile (is_in_question from found) es ↔ HasBelievingFromPlace profile Z next (nat_le from) es
+    asked from low = along-asked profile Z es next from found (λ i d l. let b = at.found.below i d l in omega arith) low along
 
 -- the last place is that of the last exchange
 pub reached-all : (profile : Profile) (X : State → Type 0) (es : List Exchange) (place : ℕ) (found : List ℕ) → IsReached profile X es place found → length es ≤ place + 1

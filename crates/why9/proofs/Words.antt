@@ -32,4 +32,4 @@ pub use Rattle.track9.specs.Following.{KeepsEnds}
 pub use Rattle.track9.specs.Tracker.{Possible, Tracked}
 pub use Rattle.why9.specs.Contradiction.{BreaksAtLast, is_among, is_among_others, IsContradiction}
 pub use Rattle.why9.specs.Shown.{CouldBe, CouldShow}
-pub use Rattle.why9.specs.Working.{ArePassed, ArePassedTo, DriftsAndMayDo, GoesOn, GoesOnFrom, IsBetween}
+pub use Rattle.why9.specs.Working.{ArePassed, ArePassedTo, DriftsAndMayDo, HasBelievingFrom, HasBelievingFromPlace, IsBetween}

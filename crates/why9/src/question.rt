@@ -3,7 +3,7 @@ ghost use Rattle.std.specs.Prelude.{◌≡◌, ◌↔◌, ◌++◌, IfOk, IsTrue
 ghost use Rattle.deck9.specs.Step.{AreReached};
 ghost use Rattle.deck9.specs.declared.state.State.{State as AState};
 ghost use Rattle.track9.specs.Tracker.{Possible};
-ghost use Rattle.why9.specs.Working.{ArePassed, DriftsAndMayDo, GoesOn};
+ghost use Rattle.why9.specs.Working.{ArePassed, DriftsAndMayDo, HasBelievingFrom};
 
 use block9::Exchange;
 use sets25::SpanSet;
@@ -18,7 +18,7 @@ pub(crate) fn leaves_a_run(
     passed: &[Exchange],
     believed: &[Exchange],
 ) -> Result<bool, AllocError>
-    ensures { IfOk result (λ b. IsTrue b ↔ GoesOn tracker.now.profile (Possible tracker.now.states) (nat_le (length passed.now)) (passed.now ++ believed.now)) }
+    ensures { IfOk result (λ b. IsTrue b ↔ HasBelievingFrom tracker.now.profile (Possible tracker.now.states) (nat_le (length passed.now)) (passed.now ++ believed.now)) }
 {
     let mut copy = tracker.snapshot()?;
     let leaves = pass_and_believe(&mut copy, passed, believed);
@@ -32,7 +32,7 @@ fn pass_and_believe(
     passed: &[Exchange],
     believed: &[Exchange],
 ) -> Result<bool, AllocError>
-    ensures { IfOk result (λ b. IsTrue b ↔ GoesOn tracker.old.profile (Possible tracker.old.states) (nat_le (length passed.now)) (passed.now ++ believed.now)) }
+    ensures { IfOk result (λ b. IsTrue b ↔ HasBelievingFrom tracker.old.profile (Possible tracker.old.states) (nat_le (length passed.now)) (passed.now ++ believed.now)) }
 {
     pass_all(tracker, passed)?;
     believe_all(tracker, believed)
@@ -56,7 +56,7 @@ pub(crate) fn pass_all(
 ///
 /// A NAK leaves the state, and its drift is part of the next, so NAKs are skipped.
 fn believe_all(tracker: &mut Tracker<SpanSet>, exchanges: &[Exchange]) -> Result<bool, AllocError>
-    ensures { IfOk result (λ b. IsTrue b ↔ GoesOn tracker.old.profile (Possible tracker.old.states) (λ k. true) exchanges.now) }
+    ensures { IfOk result (λ b. IsTrue b ↔ HasBelievingFrom tracker.old.profile (Possible tracker.old.states) (λ k. true) exchanges.now) }
 {
     for exchange in exchanges {
         if exchange.reply.is_nak() {

@@ -8,7 +8,7 @@ ghost use Rattle.deck9.specs.State.{IsFirst};
 ghost use Rattle.deck9.specs.declared.state.State.{State as AState};
 ghost use Rattle.track9.specs.Tracker.{Possible};
 ghost use Rattle.why9.specs.Contradiction.{BreaksAtLast, IsContradiction};
-ghost use Rattle.why9.specs.Working.{ArePassedTo, GoesOnFrom, IsBetween};
+ghost use Rattle.why9.specs.Working.{ArePassedTo, HasBelievingFromPlace, IsBetween};
 
 use crate::question::{believe, leaves_a_run, pass_all};
 use block9::Exchange;
@@ -133,9 +133,9 @@ fn moves_on(
 ) -> Result<bool, AllocError>
     requires low { low ≤ place }
     requires place { place ≤ length exchanges.now }
-    ensures contradict { IfOk result (λ b. b ≡ true → ¬ GoesOnFrom tracker.old.profile (Possible tracker.old.states) low (nat_le place) exchanges.now) }
+    ensures contradict { IfOk result (λ b. b ≡ true → ¬ HasBelievingFromPlace tracker.old.profile (Possible tracker.old.states) low (nat_le place) exchanges.now) }
     ensures passed { IfOk result (λ b. b ≡ true → ArePassedTo tracker.old.profile exchanges.now low (Possible tracker.old.states) place (Possible tracker.new.states)) }
-    ensures run { IfOk result (λ b. b ≡ false → GoesOnFrom tracker.old.profile (Possible tracker.old.states) low (nat_le place) exchanges.now) }
+    ensures run { IfOk result (λ b. b ≡ false → HasBelievingFromPlace tracker.old.profile (Possible tracker.old.states) low (nat_le place) exchanges.now) }
     ensures unchanged { IfOk result (λ b. b ≡ false → tracker.new ≡ tracker.old) }
     ensures profile { IfOk result (λ b. tracker.new.profile ≡ tracker.old.profile) }
 {

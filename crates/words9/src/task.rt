@@ -16,7 +16,7 @@ pub enum Verb {
     Explain,
     /// Hand out a run of the deck before the verdict: the subcommand `run`.
     Run,
-    /// Say why a no is one before the verdict: the subcommand `why`.
+    /// Say why the verdict is a no, before the verdict itself: the subcommand `why`.
     Why,
 }
 

@@ -1,5 +1,7 @@
 //! The tables of commands: which command the first two bytes of a block spell, a function for each group. What the data of the
 //! block say is not in a table: there a blank stands in its place.
+//!
+//! Each is inlined into [`listed`], so that its match and the one which reads the data become one.
 ghost use Rattle.std.specs.Prelude.{◌≡◌, ◌==◌, is_some};
 ghost use Rattle.tc25.specs.declared.rate.Rate.{Rate as ARate};
 ghost use Rattle.block9.specs.declared.block.Block.{Block as ABlock};
@@ -25,6 +27,7 @@ pub(super) fn listed(group: u32, head: u32) -> Option<Command>
 }
 
 /// The system control commands: group 0.
+#[inline(always)] // it is asked of every exchange
 fn system_control(head: u32) -> Option<Command>
     ensures meaning { (rate : ARate) (b : ABlock) → meaning_in system_control head b ≡ read_off rate head b result }
     ensures listed { is_some result ≡ has_row system_control head }
@@ -38,6 +41,7 @@ fn system_control(head: u32) -> Option<Command>
 }
 
 /// The transport control commands: group 2.
+#[inline(always)] // it is asked of every exchange
 fn transport_control(head: u32) -> Option<Command>
     ensures meaning { (rate : ARate) (b : ABlock) → meaning_in (transport_control rate) head b ≡ read_off rate head b result }
     ensures listed { is_some result ≡ has_row (transport_control Rate.Fps25) head }
@@ -66,6 +70,7 @@ fn transport_control(head: u32) -> Option<Command>
 }
 
 /// The preset and select control commands: group 4.
+#[inline(always)] // it is asked of every exchange
 fn preset_control(head: u32) -> Option<Command>
     ensures meaning { (rate : ARate) (b : ABlock) → meaning_in (preset_control rate) head b ≡ read_off rate head b result }
     ensures listed { is_some result ≡ has_row (preset_control Rate.Fps25) head }
@@ -106,6 +111,7 @@ fn preset_control(head: u32) -> Option<Command>
 }
 
 /// The sense requests: group 6.
+#[inline(always)] // it is asked of every exchange
 fn sense_requests(head: u32) -> Option<Command>
     ensures meaning { (rate : ARate) (b : ABlock) → meaning_in sense_requests head b ≡ read_off rate head b result }
     ensures listed { is_some result ≡ has_row sense_requests head }

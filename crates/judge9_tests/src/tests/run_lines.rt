@@ -11,13 +11,17 @@ use std::process::Abort;
 use std::test::Fail;
 use tc25::TimeCode;
 
-/// The run of `played`, told without the panel.
+/// The run to `playing`, told without the panel.
 const PLAYED: &str =
     "record 6: goal PLAY, shown STOP, in clear, out 10:00:00:00, local no, ain clear, aout clear\nyes: records 6, exchanges 1, open 0\n";
 
 /// The same, with the panel.
 const PLAYED_WITH_PANEL: &str =
     "record 6: goal PLAY, shown STOP, in clear, out 10:00:00:00, local no, ain clear, aout clear, panel off\nyes: records 6, exchanges 1, open 0\n";
+
+/// A state whose words are the longest of each field.
+const LONGEST: &str =
+    "record 6: goal SHUTTLE, shown SHUTTLE, in 23:59:59:24, out 23:59:59:24, local yes, ain 23:59:59:24, aout 23:59:59:24, panel off\nyes: records 6, exchanges 1, open 0\n";
 
 /// PLAY, acknowledged.
 fn play(rt: &impl Abort) -> Exchange {
@@ -45,12 +49,27 @@ fn playing(rt: &impl Abort) -> State {
     }
 }
 
-/// A deck that shows STOP, is told to play, and acknowledges that.
-fn played(rt: &impl Abort, alloc: Global) -> Result<RunVerdict, Fail> {
+/// A deck in LOCAL that shuttles, whose registers all hold the last time of a day.
+fn shuttling(rt: &impl Abort) -> State {
+    let last = Entry::At(TimeCode::from_frames(2_159_999).expect(rt, "a time"));
+    State {
+        goal: Mode::Shuttle,
+        shown: Mode::Shuttle,
+        ins: last,
+        outs: last,
+        ains: last,
+        aouts: last,
+        local: true,
+        panel: false,
+    }
+}
+
+/// A run in which the deck acknowledges PLAY and is then in this state.
+fn run_to(rt: &impl Abort, alloc: Global, state: State) -> Result<RunVerdict, Fail> {
     let mut exchanges = Vec::new(alloc);
     exchanges.push(play(rt))?;
     let mut states = Vec::new(alloc);
-    states.push(playing(rt))?;
+    states.push(state)?;
     Ok(RunVerdict::Yes {
         records: 6,
         tail: 0,
@@ -67,7 +86,7 @@ fn tell_text(rt: &impl Abort, alloc: Global, run: &RunVerdict, hands: Hands, tex
     same(rt, writer.into_taken().as_slice(), text.as_bytes(), text);
 }
 
-/// Writes the run of `played` to a writer with too little room: what there is room for is written.
+/// Writes the run to `playing` to a writer with too little room: what there is room for is written.
 fn tell_stopped(rt: &impl Abort, alloc: Global, run: &RunVerdict, room: usize, then: Then) {
     let mut writer = Narrow::new(alloc, room, then);
     let answer = write_run(&mut writer, run, Hands::None);
@@ -83,15 +102,22 @@ fn tell_stopped(rt: &impl Abort, alloc: Global, run: &RunVerdict, room: usize, t
 
 #[test]
 fn a_yes(rt: HostRuntime) -> Result<(), Fail> {
-    let run = played(&rt, rt.alloc())?;
+    let run = run_to(&rt, rt.alloc(), playing(&rt))?;
     tell_text(&rt, rt.alloc(), &run, Hands::None, PLAYED);
     tell_text(&rt, rt.alloc(), &run, Hands::Allowed, PLAYED_WITH_PANEL);
     Ok(())
 }
 
 #[test]
+fn the_longest_words(rt: HostRuntime) -> Result<(), Fail> {
+    let run = run_to(&rt, rt.alloc(), shuttling(&rt))?;
+    tell_text(&rt, rt.alloc(), &run, Hands::Allowed, LONGEST);
+    Ok(())
+}
+
+#[test]
 fn a_writer_that_stops_at_each_byte(rt: HostRuntime) -> Result<(), Fail> {
-    let run = played(&rt, rt.alloc())?;
+    let run = run_to(&rt, rt.alloc(), playing(&rt))?;
     for room in 0..PLAYED.len() {
         for then in [Then::Fail, Then::Interrupt, Then::TakeNone] {
             tell_stopped(&rt, rt.alloc(), &run, room, then);

@@ -1,4 +1,4 @@
--- How the text of why a capture is a no is put, word by word.
+-- How the text of why a verdict is a no is put, word by word.
 use Rattle.std.specs.Prelude.{ℕ, List, [], ◌∷◌}
 
 -- what comes before the next words, after these

@@ -220,7 +220,7 @@ panel_passed deck true v = record (all_drifted deck v) { on = Some (either_panel
 panel_passed deck false v = record (all_drifted deck v) { off = either_panel deck v }
 
 -- what holds inside a tracker
-pub record IsKept (n : Presets) (v : States) : Type 0 where
+pub record AreTracked (n : Presets) (v : States) : Type 0 where
   pub whole : AreWhole (rate_for v) v
   pub few : AreFew n v
 

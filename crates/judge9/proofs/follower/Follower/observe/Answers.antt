@@ -1,9 +1,8 @@
-use Rattle.judge9.proofs.Words.{sym}
 use Rattle.judge9.proofs.follower.Follower.observe.Goals as goal
 use Rattle.judge9.proofs.TurnSteps.{same_exchange}
 
 pub returns-then-branch-clause-observed : goal.returns-then-branch-clause-observed
 returns-then-branch-clause-observed c = λ e is.
-    let shown = rw c.unwrap-exchange.ensures at c.exchange.ensures in
     let told = c.in_ok-observe.ensures in
-    rw (same_exchange is (sym shown)) (record { reached = told.reached; profile = told.profile; remains = rw c.if-branch.true at told.remains })
+    rw (same_exchange is c.completed_exchange-exchange.ensures)
+    (record { reached = told.reached; profile = told.profile; remains = rw c.if-branch.true at told.remains })

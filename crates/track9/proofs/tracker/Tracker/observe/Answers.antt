@@ -1,11 +1,11 @@
 use Rattle.track9.proofs.Words.{false_from_ne_true, states_remain, ◌∙◌}
 use Rattle.track9.proofs.tracker.Tracker.observe.Goals as goal
-use Rattle.track9.proofs.KnownLemmas.{kept_after, whole_at_rate, remains_where}
+use Rattle.track9.proofs.KnownLemmas.{tracked_after, whole_at_rate, remains_where}
 use Rattle.track9.proofs.PartLemmas.{live_some}
 
 pub invariant_of-self-2 : goal.invariant_of-self-2
 invariant_of-self-2 g c = rw (c.count_exchange.ensures, c.in_ok-remains.ensures.some)
-    (kept_after c.args.command.now c.args.reply.now c.self.inside.states c.take.new.self _ c.self.inside.presets c.self.invariant c.in_ok-remains.ensures.ok)
+    (tracked_after c.args.command.now c.args.reply.now c.self.inside.states c.take.new.self _ c.self.inside.presets c.self.invariant c.in_ok-remains.ensures.ok)
 
 pub returns-clause-reached : goal.returns-clause-reached
 returns-clause-reached g c = rw (← c.self.view_is) c.in_ok-remains.ensures.ok.reached
