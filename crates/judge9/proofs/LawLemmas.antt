@@ -54,10 +54,10 @@ no_longer {profile = profile} b p rest ok split = elim (cases_lt (length b.befor
   | inr few ↦ few
 ]
 
-no_break : (profile : Profile) (items : List LineByte) (at : ℕ) (x : Reason) → IsOk profile items → IsFirstBreak profile items at x → ⊥
+pub no_break : (profile : Profile) (items : List LineByte) (at : ℕ) (x : Reason) → IsOk profile items → IsFirstBreak profile items at x → ⊥
 no_break profile items at x ok b = omega (arith, no_longer b items [] ok (sym (append-nil items)), ap length b.split, length-append b.before (b.next ∷ b.after))
 
-break_once : (profile : Profile) (items : List LineByte) (m n : ℕ) (x y : Reason) → IsFirstBreak profile items m x → IsFirstBreak profile items n y → (m ≡ n) × (x ≡ y)
+pub break_once : (profile : Profile) (items : List LineByte) (m n : ℕ) (x y : Reason) → IsFirstBreak profile items m x → IsFirstBreak profile items n y → (m ≡ n) × (x ≡ y)
 break_once profile items m n x y b c =
     let few = no_longer b c.before (c.next ∷ c.after) (is_ok c) c.split in
     let many = no_longer c b.before (b.next ∷ b.after) (is_ok b) b.split in

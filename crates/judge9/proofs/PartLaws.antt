@@ -1,9 +1,10 @@
 -- What the parts of a capture are to the capture that begins with each.
-use Rattle.judge9.proofs.Words.{[], All, All-cons, All-nil, ap, AreCounts, AreParts, AreTotals, arith, begins_next_part, Bool, BrokenPart, drop, false, from_command, Profile, IsFirstBreak, IsPart, length, LineByte}
-use Rattle.judge9.proofs.Words.{List, may_begin, number_of, Part, Reason, refl, Rest, rest_after, sym, true, ℕ, ◌++◌, ◌+◌, ◌∙◌, ◌∷◌, ◌≡◌}
+use Rattle.judge9.proofs.Words.{[], All, All-cons, All-nil, ap, AreCounts, AreParts, AreTotals, arith, begins_next_part, Bool, Breaks, BrokenPart, cut_once, drop, false, from_command, Profile, IsFirstBreak}
+use Rattle.judge9.proofs.Words.{IsOk, IsPart, length, LineByte, List, may_begin, number_of, Part, Reason, refl, Rest, rest_after, same_parts, sym, true, ℕ, ◌++◌, ◌+◌, ◌∙◌, ◌∷◌, ◌≡◌}
 use Rattle.std.proofs.lemmas.List.{drop-drop}
 use Rattle.std.proofs.Math.Seq.{drop-append_seam}
 use Rattle.verdict9.specs.declared.totals.Totals.{Totals}
+use Rattle.judge9.proofs.LawLemmas.{break_once, no_break}
 use Rattle.judge9.proofs.LineSteps.{cut_len}
 
 -- the rest is what is left of the capture behind the records before it
@@ -80,3 +81,73 @@ counts_of_a_yes profile items left last totals parts part all are =
       },
       omega (arith, are.passed_over, are.tail, size, ap length same),
     )
+
+-- ---- one list of parts
+
+-- the last part keeps the rules, and has all that is left
+pub record IsLast (profile : Profile) (left : Rest) (last : Part) : Type 0 where
+  pub is_part : IsPart profile last
+  pub past : last.past ≡ left.past
+  pub has_all : last.records ≡ left.records
+
+last_is_ok : (profile : Profile) (rest left : Rest) (last : Part) → left ≡ rest → IsLast profile left last → IsOk profile rest.records
+last_is_ok profile rest left last none is =
+    let same : last.records ≡ rest.records = is.has_all ∙ ap (λ (x : Rest). x.records) none in
+    record { exchanges = last.exchanges; tail = last.tail; cut = rw same at is.is_part.cut; run = is.is_part.run }
+
+-- a part that breaks, as the no of all that is left where it begins
+first_no : (profile : Profile) (rest : Rest) (b : BrokenPart) (after : List LineByte)
+    → rest ≡ record { past = b.part.past; records = b.part.records ++ b.breaking ∷ after } → Breaks profile b.part.records b.breaking b.reason
+    → IsFirstBreak profile rest.records (length b.part.records + 1) b.reason
+first_no profile rest b after same breaks =
+    record { before = b.part.records; next = b.breaking; after = after; split = ap (λ (x : Rest). x.records) same; number = refl; breaks = breaks }
+
+part_by_fields : (a b : Part) → a.past ≡ b.past → a.records ≡ b.records → a.exchanges ≡ b.exchanges → a.tail ≡ b.tail → a ≡ b
+part_by_fields a b past records exchanges tail = grind arith
+
+broken_by_fields : (a b : BrokenPart) → a.part ≡ b.part → a.breaking ≡ b.breaking → a.reason ≡ b.reason → a ≡ b
+broken_by_fields a b part breaking reason = grind arith
+
+totals_by_fields : (a b : Totals) → a.breaks ≡ b.breaks → a.records ≡ b.records → a.exchanges ≡ b.exchanges → a.passed_over ≡ b.passed_over → a.tail ≡ b.tail → a ≡ b
+totals_by_fields a b breaks records exchanges passed tail = grind arith
+
+same_part : (profile : Profile) (some other : Part) → IsPart profile some → IsPart profile other → some.past ≡ other.past → some.records ≡ other.records
+    → some ≡ other
+same_part profile some other is also past records =
+    let cut = cut_once profile.rate other.records some.exchanges other.exchanges some.tail other.tail (rw records at is.cut) also.cut in
+    part_by_fields some other past records cut.0 cut.1
+
+pub one_list : (profile : Profile) (rest left remaining : Rest) (broken others : List BrokenPart) (last other : Part) → AreParts profile rest broken left
+    → IsLast profile left last → AreParts profile rest others remaining → IsLast profile remaining other → (broken ≡ others) × (last ≡ other)
+one_list profile rest left remaining [] [] last other p is q also = (
+  refl,
+  same_part profile last other is.is_part also.is_part (is.past ∙ ap (λ (x : Rest). x.past) (p ∙ sym q) ∙ sym also.past)
+      (is.has_all ∙ ap (λ (x : Rest). x.records) (p ∙ sym q) ∙ sym also.has_all),
+)
+one_list profile rest left remaining [] (c ∷ others) last other p is (after, same, part, breaks, more) also =
+    absurd (no_break profile rest.records (length c.part.records + 1) c.reason (last_is_ok profile rest left last p is) (first_no profile rest c after same breaks))
+one_list profile rest left remaining (b ∷ broken) [] last other (after, same, part, breaks, more) is q also =
+    absurd (no_break profile rest.records (length b.part.records + 1) b.reason (last_is_ok profile rest remaining other q also) (first_no profile rest b after same breaks))
+one_list profile rest left remaining (b ∷ broken) (c ∷ others) last other (after, same, part, breaks, more) is (behind_c, same_c, part_c, breaks_c, more_c) also =
+    let once = break_once profile rest.records (length b.part.records + 1) (length c.part.records + 1) b.reason c.reason
+    (first_no profile rest b after same breaks) (first_no profile rest c behind_c same_c breaks_c) in
+    let records : b.part.records ++ b.breaking ∷ after ≡ c.part.records ++ c.breaking ∷ behind_c =
+    sym (ap (λ (x : Rest). x.records) same) ∙ ap (λ (x : Rest). x.records) same_c in
+    let split = same_parts b.part.records c.part.records (b.breaking ∷ after) (c.breaking ∷ behind_c) (omega (arith, once.0)) records in
+    let breaking : b.breaking ≡ c.breaking = let e = split.1 in cc in
+    let behind : after ≡ behind_c = let e = split.1 in cc in
+    let equal = same_part profile b.part c.part part part_c (sym (ap (λ (x : Rest). x.past) same) ∙ ap (λ (x : Rest). x.past) same_c) split.0 in
+    let first = broken_by_fields b c equal breaking once.1 in
+    let parts = one_list profile (rest_after (c.part.past + length c.part.records) c.reason c.breaking behind_c) left remaining broken others last other
+    (rw (equal, breaking, behind, once.1) at more) is more_c also in
+    (cc (first, parts.0), parts.1)
+
+pub one_total : (records : ℕ) (broken : List BrokenPart) (last : Part) (totals others : Totals) → AreTotals records broken last totals
+    → AreTotals records broken last others → totals ≡ others
+one_total records broken last totals others a b =
+    let breaks = a.breaks ∙ sym b.breaks in
+    let all = a.all_records ∙ sym b.all_records in
+    let exchanges = a.exchanges ∙ sym b.exchanges in
+    let tail = a.tail ∙ sym b.tail in
+    let passed : totals.passed_over ≡ others.passed_over = omega (arith, a.passed_over, b.passed_over, tail) in
+    totals_by_fields totals others breaks all exchanges passed tail

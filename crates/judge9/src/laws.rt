@@ -91,6 +91,16 @@ pub fn parts_without_a_break()
         → (totals.breaks ≡ 0) × AreCounts profile items totals.records totals.exchanges totals.tail × (totals.passed_over ≡ 0) }
 {}
 
+/// A capture has one list of parts, of which the last keeps the rules and has all that is left, and one set of totals.
+pub fn one_list_of_parts()
+    ensures parts { (profile : Profile) (rest left remaining : Rest) (broken others : List BrokenPart) (last other : Part)
+        → AreParts profile rest broken left → IsPart profile last → last.past ≡ left.past → last.records ≡ left.records
+        → AreParts profile rest others remaining → IsPart profile other → other.past ≡ remaining.past → other.records ≡ remaining.records
+        → (broken ≡ others) × (last ≡ other) }
+    ensures totals { (records : ℕ) (broken : List BrokenPart) (last : Part) (totals others : Totals)
+        → AreTotals records broken last totals → AreTotals records broken last others → totals ≡ others }
+{}
+
 /// Each part that breaks is the no of a capture that begins with its first record, its number moved by how many come before it;
 /// the first is the no of the whole capture.
 pub fn each_part_is_a_no()
