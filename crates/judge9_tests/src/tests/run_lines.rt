@@ -49,16 +49,20 @@ fn playing(rt: &impl Abort) -> State {
     }
 }
 
+/// The last time of a day.
+fn last_time(rt: &impl Abort) -> Entry {
+    Entry::At(TimeCode::from_frames(2_159_999).expect(rt, "a time"))
+}
+
 /// A deck in LOCAL that shuttles, whose registers all hold the last time of a day.
 fn shuttling(rt: &impl Abort) -> State {
-    let last = Entry::At(TimeCode::from_frames(2_159_999).expect(rt, "a time"));
     State {
         goal: Mode::Shuttle,
         shown: Mode::Shuttle,
-        ins: last,
-        outs: last,
-        ains: last,
-        aouts: last,
+        ins: last_time(rt),
+        outs: last_time(rt),
+        ains: last_time(rt),
+        aouts: last_time(rt),
         local: true,
         panel: false,
     }
