@@ -22,10 +22,10 @@
 # the verdict does.
 #
 # Under the verdict stands how strong it is: at how many of the exchanges the shown mode, each register and local were known, as a
-# percentage that is rounded down. A register counts where its time is known, or that it is clear; where it is known to be set and
-# its time is not, that is counted beside it, as (set 44.4 %). Where local was known at none of them and data presets were
-# acknowledged, a line says that a deck in LOCAL may have ignored these. Then there is a line for each command or question after
-# which a register or local was no longer known, with how often that was so. An explanation without an exchange has no such lines.
+# percentage that is rounded down. A register counts where its time is known, or where it is known to be clear. Where it is known
+# to be set, but not to which time, that is counted beside it, as (set 44.4 %). Where local was known at none of them and data
+# presets were acknowledged, a line says that a deck in LOCAL may have ignored these. Then each command or question after which a
+# register or local was no longer known has a line that counts how often. An explanation without an exchange has no such lines.
 
 BEGIN {
     view = "digest.awk"
