@@ -1,5 +1,6 @@
 -- What a pairer answers, and what is inside it, after one more record.
 use Rattle.block9.proofs.Words.{append_assoc, asked_on, asks, completed, completed_by, completes, IsOf, leaves_open}
+use Rattle.block9.proofs.Words.{answers_late, BeginsLate, Idle, InCommand, is_late, IsTail, Place}
 use Rattle.block9.proofs.Words.{AfterCommand, Bool, InReply, IsOpenAfter, Open, place_at, place_on}
 use Rattle.block9.specs.Pairer.IsOpenAfter.{after_command as is_after_command, in_reply as is_in_reply}
 use Rattle.block9.proofs.Words.{Deck, early_fault, next_of, to_come, ends_block, grown, last_fed, length_push, OpenBlock, refl, ◌<◌, ◌≢◌}
@@ -12,63 +13,63 @@ use Rattle.block9.proofs.TailLemmas.{answered, last_time-append, place_in_comman
 use Rattle.block9.proofs.StandsLemmas.{ends_by_left, stands_after, stands_push}
 use Rattle.block9.proofs.StepLemmas.{begun_now, closes, commands, held_tail, reply_now, tail_short, waits}
 use Rattle.block9.proofs.ReasonLemmas.{reason_broken, table_reason}
-use Rattle.tc25.specs.declared.rate.Rate.{Rate}
+use Rattle.block9.specs.declared.line_rules.LineRules.{LineRules}
 
-module _ (rate : Rate) where
+module _ (rules : LineRules) where
   -- ---- what the last record of a block does
 
   -- with a right sum, the table says at the end of a reply what it says of a reply to the command that is kept
-  pub reply_says : (t : List LineByte) (c : Command) (r : LineByte) (m : Option Reason) → IsTailWith rate t (Some c) → IsTurn t r true
+  pub reply_says : (t : List LineByte) (c : Command) (r : LineByte) (m : Option Reason) → IsTailWith rules t (Some c) → IsTurn rules t r true
       → r.byte ≡ sum (bytes_of (open_at (place_of t) t)) % 256
-      → reply_fault rate (Some c) (block_of (bytes_of (open_at (place_of t) t))) ≡ m → pairing rate t r ≡ m
+      → reply_fault rules (Some c) (block_of (bytes_of (open_at (place_of t) t))) ≡ m → pairing rules t r ≡ m
   reply_says t c r m held turn right meant =
-      let now = reply_now rate t c held (sym turn.1) in
-      let parts = answered rate t now.0 c now.1 in
+      let now = reply_now rules t c held (sym turn.1) in
+      let parts = answered rules t now.0 c now.1 in
       let place = parts.place in
       let read = parts.meant in
       grind (arith, nat_tests)
 
-  pub ends_command : (t : List LineByte) (r : LineByte) (c : Command) → IsTailWith rate t None → last_time t ≤ r.time_us → IsTurn t r true
+  pub ends_command : (t : List LineByte) (r : LineByte) (c : Command) → IsTailWith rules t None → last_time t ≤ r.time_us → IsTurn rules t r true
       → r.byte ≡ sum (bytes_of (open_at (place_of t) t)) % 256
-      → command_of rate (block_of (bytes_of (open_at (place_of t) t))) ≡ Some c → IsCommand rate (t ++ r ∷ []) (block_of (bytes_of (open_at (place_of t) t))) c
+      → command_of rules.rate (block_of (bytes_of (open_at (place_of t) t))) ≡ Some c → IsCommand rules (t ++ r ∷ []) (block_of (bytes_of (open_at (place_of t) t))) c
   ends_command t r c held later turn right meant =
-      let place = place_in_command rate Controller t (begun_now rate t held (sym turn.1)) in
-      let quiet : pairing rate t r ≡ None = grind (arith, nat_tests) in
-      record { whole = rw place (commands rate t r held later quiet (sym turn.1)).1.whole; meaning = meant }
+      let place = place_in_command rules Controller t (begun_now rules t held (sym turn.1)) in
+      let quiet : pairing rules t r ≡ None = grind (arith, nat_tests) in
+      record { whole = rw place (commands rules t r held later quiet (sym turn.1)).1.whole; meaning = meant }
 
   -- what is kept beside a tail, by the wire whose turn it is
-  pub none_held : (t : List LineByte) (b : OpenBlock) (e : Exchange) → IsInside rate t b e → b.wire ≡ Controller → IsTailWith rate t None
+  pub none_held : (t : List LineByte) (b : OpenBlock) (e : Exchange) → IsInside rules t b e → b.wire ≡ Controller → IsTailWith rules t None
   none_held t b e h wire = rw wire at h.held
 
-  pub command_held : (t : List LineByte) (b : OpenBlock) (e : Exchange) → IsInside rate t b e → b.wire ≡ Deck → IsTailWith rate t (Some e.command)
+  pub command_held : (t : List LineByte) (b : OpenBlock) (e : Exchange) → IsInside rules t b e → b.wire ≡ Deck → IsTailWith rules t (Some e.command)
   command_held t b e h wire = rw wire at h.held
 
   -- a complete command is kept
-  pub held_command : (t : List LineByte) (r : LineByte) (e : Exchange) → IsTailWith rate t None → last_time t ≤ r.time_us → IsTurn t r true
-      → r.byte ≡ sum (bytes_of (open_at (place_of t) t)) % 256 → e.block ≡ block_of (bytes_of t) → command_of rate (block_of (bytes_of t)) ≡ Some e.command
-      → IsCommand rate (t ++ r ∷ []) e.block e.command × IsInside rate (t ++ r ∷ []) (to_come Deck) e
+  pub held_command : (t : List LineByte) (r : LineByte) (e : Exchange) → IsTailWith rules t None → last_time t ≤ r.time_us → IsTurn rules t r true
+      → r.byte ≡ sum (bytes_of (open_at (place_of t) t)) % 256 → e.block ≡ block_of (bytes_of t) → command_of rules.rate (block_of (bytes_of t)) ≡ Some e.command
+      → IsCommand rules (t ++ r ∷ []) e.block e.command × IsInside rules (t ++ r ∷ []) (to_come Deck) e
   held_command t r e held later turn right block meant =
-      let place = place_in_command rate Controller t (begun_now rate t held (sym turn.1)) in
-      let command : IsCommand rate (t ++ r ∷ []) e.block e.command = rw block (rw place at (ends_command t r e.command held later turn right (rw place meant))) in (
+      let place = place_in_command rules Controller t (begun_now rules t held (sym turn.1)) in
+      let command : IsCommand rules (t ++ r ∷ []) e.block e.command = rw block (rw place at (ends_command t r e.command held later turn right (rw place meant))) in (
         command,
         record {
           held = inl (_, command);
-          stands = stands_after (t ++ r ∷ []) (place_of_command rate Controller (t ++ r ∷ []) _ command.whole);
+          stands = stands_after (t ++ r ∷ []) (place_of_command rules Controller (t ++ r ∷ []) _ command.whole);
           asked = λ wire. (record { records = t ++ r ∷ []; reply = []; split = sym (append-nil (t ++ r ∷ [])); block = _; command = command }, refl);
         },
       )
 
-  pub ends_exchange : (t : List LineByte) (b : OpenBlock) (r : LineByte) (old new : Exchange) → IsInside rate t b old → b.wire ≡ Deck → last_time t ≤ r.time_us
-      → IsTurn t r true → r.byte ≡ sum (bytes_of (open_at (place_of t) t)) % 256 → Closes t old new
-      → reply_fault rate (Some old.command) (block_of (bytes_of (open_at (place_of t) t))) ≡ None → IsExchange rate (t ++ r ∷ []) new
+  pub ends_exchange : (t : List LineByte) (b : OpenBlock) (r : LineByte) (old new : Exchange) → IsInside rules t b old → b.wire ≡ Deck → last_time t ≤ r.time_us
+      → IsTurn rules t r true → r.byte ≡ sum (bytes_of (open_at (place_of t) t)) % 256 → Closes t old new
+      → reply_fault rules (Some old.command) (block_of (bytes_of (open_at (place_of t) t))) ≡ None → IsExchange rules (t ++ r ∷ []) new
   ends_exchange t b r old new h wire later turn right read none =
       let held = command_held t b old h wire in
-      let now = reply_now rate t old.command held (sym turn.1) in
+      let now = reply_now rules t old.command held (sym turn.1) in
       let asked = h.asked wire in
       let same : now.1.block ≡ old.block =
       (whole_parts Controller now.1.command asked.0.records now.0 asked.0.reply now.1.block asked.0.block now.1.is_command.whole asked.0.command.whole
       (sym now.1.split ∙ asked.0.split)).2 ∙ asked.1 in
-      rw (read, ← same) (closes rate t now.0 old.command r now.1 later (reply_says t old.command r None held turn right none) (sym turn.1))
+      rw (read, ← same) (closes rules t now.0 old.command r now.1 later (reply_says t old.command r None held turn right none) (sym turn.1))
 
   -- ---- what is kept afterwards
 
@@ -84,16 +85,17 @@ module _ (rate : Rate) where
   fed_in_order t reason passed r was old same none told known = fed_later t reason passed r none (rw (← same, told) at known)
 
   -- what a record breaks by its turn, its time or its group is the first that it breaks
-  pub early_told : (t : List LineByte) (r : LineByte) (x : Reason) → early_fault (place_of t) t r ≡ Some x → pairing rate t r ≡ Some x
+  pub early_told : (t : List LineByte) (r : LineByte) (x : Reason) → early_fault rules.reply_limit (place_of t) t r ≡ Some x → pairing rules t r ≡ Some x
   early_told t r x e = rw e refl
 
   -- the time that was fed last is the tail's last one, or is kept
   pub fed_waiting : (t : List LineByte) (r : LineByte) (passed : Option ℕ) → last_fed (t ++ r ∷ []) None passed ≡ Some r.time_us
   fed_waiting [] r passed = refl
-  fed_waiting (a ∷ t) r passed = ap Some (last_time-append rate (a ∷ t) (r ∷ []) (omega arith))
+  fed_waiting (a ∷ t) r passed = ap Some (last_time-append rules (a ∷ t) (r ∷ []) (omega arith))
 
   pub fed_step : (t : List LineByte) (r : LineByte) (o : Outcome) → last_fed (tail_after t r o) None (Some r.time_us) ≡ Some r.time_us
   fed_step t r leaves_open = fed_waiting t r (Some r.time_us)
+  fed_step t r answers_late = fed_waiting t r (Some r.time_us)
   fed_step t r asks = fed_waiting t r (Some r.time_us)
   fed_step t r (completes e) = refl
 
@@ -108,6 +110,7 @@ module _ (rate : Rate) where
 
   pub completed_step : (t : List LineByte) (r : LineByte) (o : Outcome) (e : Exchange) → IsOf e o → completed (tail_after t r o) None (Some r.time_us) e ≡ completed_by o
   completed_step t r leaves_open e is = open_completed t r _ e
+  completed_step t r answers_late e is = open_completed t r _ e
   completed_step t r asks e is = open_completed t r _ e
   completed_step t r (completes f) e is = ap Some (sym is)
 
@@ -120,8 +123,8 @@ module _ (rate : Rate) where
   grown_wire b byte = grind (arith, nat_tests)
 
   -- the command with which a tail begins is the one with which it begins with one record more
-  longer : {t : List LineByte} {c : Command} {b : Block} → (h : BeginsWith rate t c) × (h.block ≡ b) → (r : LineByte)
-      → (h : BeginsWith rate (t ++ r ∷ []) c) × (h.block ≡ b)
+  longer : {t : List LineByte} {c : Command} {b : Block} → (h : BeginsWith rules t c) × (h.block ≡ b) → (r : LineByte)
+      → (h : BeginsWith rules (t ++ r ∷ []) c) × (h.block ≡ b)
   longer (h, same) r = (
     record {
       records = h.records;
@@ -133,42 +136,69 @@ module _ (rate : Rate) where
     same,
   )
 
-  pub held_waiting : (t : List LineByte) (b : OpenBlock) (e : Exchange) (r : LineByte) (next : OpenBlock) → IsInside rate t b e → last_time t ≤ r.time_us
-      → early_fault (place_of t) t r ≡ None → Some next ≡ next_of b r.byte → r.byte < 256
-      → IsInside rate (t ++ r ∷ []) next e × (length t < 35) × Does rate t r leaves_open
+  pub held_waiting : (t : List LineByte) (b : OpenBlock) (e : Exchange) (r : LineByte) (next : OpenBlock) → IsInside rules t b e → last_time t ≤ r.time_us
+      → early_fault rules.reply_limit (place_of t) t r ≡ None → Some next ≡ next_of b r.byte → r.byte < 256
+      → IsInside rules (t ++ r ∷ []) next e × (length t < 35) × IsTail rules (t ++ r ∷ []) × ((k : Block) (c : Command) → ¬ IsCommand rules (t ++ r ∷ []) k c)
   held_waiting t b e r next h later quiet is_next byte =
       let more : b.left ≢ 1 = λ one. grind (arith, nat_tests) in
       let same : next ≡ grown b r.byte = grind (arith, nat_tests) in
       let goes_on : ends_block (open_at (place_of t) t) ≡ false = let ends = ends_by_left t b h.stands in grind (arith, nat_tests) in
-      let still = waits rate t (asked_on b.wire e.command) r h.held later (grind (arith, nat_tests)) goes_on in
-      let tail = held_tail rate (t ++ r ∷ []) (asked_on b.wire e.command) still.0 in
+      let still = waits rules t (asked_on b.wire e.command) r h.held later (grind (arith, nat_tests)) goes_on in
+      let tail = held_tail rules (t ++ r ∷ []) (asked_on b.wire e.command) still.0 in
       let wire : next.wire ≡ b.wire = rw same (grown_wire b r.byte) in (
         record {
           held = rw wire still.0;
           stands = rw same (stands_push t r b h.stands more byte);
           asked = λ deck. longer (h.asked (sym wire ∙ deck)) r;
         },
-        (omega (arith, tail_short rate _ tail, length_push t r)),
-        (tail, λ b c k. still.1 (place_of_command rate Controller (t ++ r ∷ []) b k.whole)),
+        (omega (arith, tail_short rules _ tail, length_push t r)),
+        tail,
+        λ k c is. still.1 (place_of_command rules Controller (t ++ r ∷ []) k is.whole),
       )
+
+  -- whether it begins a late reply
+  pub not_late : (t : List LineByte) (r : LineByte) → false ≡ is_late (place_of t) t r → ¬ BeginsLate rules t r
+  not_late t r soon h =
+      let late = h.late in
+      let in_time : false ≡ is_late AfterCommand t r = rw (place_of_command rules Controller t h.asked.0 h.asked.2.whole) at soon in grind (arith, nat_tests)
+
+  late_place : (p : Place) (t : List LineByte) (r : LineByte) → true ≡ is_late p t r → p ≡ AfterCommand
+  late_place AfterCommand t r late = refl
+  late_place Idle t r late = absurd (cc)
+  late_place InCommand t r late = absurd (cc)
+  late_place InReply t r late = absurd (cc)
+
+  deck_turn : (b : OpenBlock) (first : Bool) → place_at b ≡ place_on Deck first → b.wire ≡ Deck
+  deck_turn b first place = grind (arith, nat_tests)
+
+  pub is_late_reply : (t : List LineByte) (b : OpenBlock) (e : Exchange) (r : LineByte) → IsInside rules t b e
+      → early_fault rules.reply_limit (place_of t) t r ≡ None → true ≡ is_late (place_of t) t r → BeginsLate rules t r
+  is_late_reply t b e r h quiet late =
+      let place = late_place (place_of t) t r late in
+      by (command_held t b e h (deck_turn b true (h.stands.place ∙ place))) place (rw place at quiet) (rw place at late)
+    where
+      by : IsTailWith rules t (Some e.command) → place_of t ≡ AfterCommand → early_fault rules.reply_limit AfterCommand t r ≡ None → true ≡ is_late AfterCommand t r
+          → BeginsLate rules t r
+      by (inl (block, is)) place quiet late = record { asked = (block, e.command, is); wire = grind (arith, nat_tests); late = grind (arith, nat_tests) }
+      by (inr (reply, is)) place quiet late = absurd (let inside = (answered rules t reply e.command is).place in cc)
 
   -- ---- what a caller is told
 
-  pub takes : (was old new : Paired) (r : LineByte) (o : Outcome) → was ≡ old → was.rate ≡ rate → new.rate ≡ rate → Does rate was.tail r o → new.tail ≡ tail_after was.tail r o
+  pub takes : (was old new : Paired) (r : LineByte) (o : Outcome) → was ≡ old → was.rules ≡ rules → new.rules ≡ rules → Does rules was.tail r o → new.tail ≡ tail_after was.tail r o
       → new.last_time ≡ Some r.time_us → new.reason ≡ None → new.exchange ≡ completed_by o → Takes old r o new
   takes was old new r o same at now done tail time reason exchange =
-      rw (← same) (record { rate = now ∙ sym at; does = rw at done; tail = tail; last_time = time; reason = reason; exchange = exchange })
+      rw (← same) (record { rules = now ∙ sym at; does = rw at done; tail = tail; last_time = time; reason = reason; exchange = exchange })
 
-  pub refuses : (o : Option Command) (was old new : Paired) (r : LineByte) (reason : Reason) → was ≡ old → was.rate ≡ rate → new.rate ≡ rate → IsTailWith rate was.tail o → last_time was.tail ≤ r.time_us
-      → pairing rate was.tail r ≡ Some reason → new.tail ≡ was.tail → new.last_time ≡ Some r.time_us → new.reason ≡ Some reason → new.exchange ≡ None
+  pub refuses : (o : Option Command) (was old new : Paired) (r : LineByte) (reason : Reason) → was ≡ old → was.rules ≡ rules → new.rules ≡ rules → IsTailWith rules was.tail o → last_time was.tail ≤ r.time_us
+      → pairing rules was.tail r ≡ Some reason → new.tail ≡ was.tail → new.last_time ≡ Some r.time_us → new.reason ≡ Some reason → new.exchange ≡ None
       → Refuses old r reason new
   refuses o was old new r reason same at now held later told tail_same time known none =
-      let tail = held_tail rate was.tail o held in
-      let why = table_reason rate was.tail r reason tail later told in
+      let tail = held_tail rules was.tail o held in
+      let why = table_reason rules was.tail r reason tail later told in
       rw (← same) (record {
-        rate = now ∙ sym at;
+        rules = now ∙ sym at;
         is_reason = rw at why;
-        not_kept = rw at (reason_broken rate was.tail r reason tail why);
+        not_kept = rw at (reason_broken rules was.tail r reason tail why);
         tail = tail_same;
         last_time = time;
         known = known;
@@ -178,7 +208,7 @@ module _ (rate : Rate) where
   -- ---- the command that is open
 
   -- a tail with no command kept begins with no complete one
-  none_begun : (t : List LineByte) (c : Command) → IsTailWith rate t None → ¬ BeginsWith rate t c
+  none_begun : (t : List LineByte) (c : Command) → IsTailWith rules t None → ¬ BeginsWith rules t c
   none_begun t c held begins =
       let len = whole_len Controller begins.records begins.block begins.command.whole in
       let long = whole_long Controller begins.records begins.block begins.command.whole in
@@ -186,16 +216,16 @@ module _ (rate : Rate) where
       let all = length-append begins.records begins.reply in
       by held long (rw (← begins.split) at first ∙ sym len) (rw (← begins.split) at all)
     where
-      by : IsTailWith rate t None → 3 ≤ length begins.records → block_len t ≡ length begins.records → length t ≡ length begins.records + length begins.reply → ⊥
+      by : IsTailWith rules t None → 3 ≤ length begins.records → block_len t ≡ length begins.records → length t ≡ length begins.records + length begins.reply → ⊥
       by (inl e) long first all = omega (arith, ap length e)
       by (inr h) long first all = let short = h.short in omega arith
 
   -- what is kept is the complete command with which the tail begins, and no other
-  pub held_begins : (t : List LineByte) (c : Command) → IsTailWith rate t (Some c) → BeginsWith rate t c
+  pub held_begins : (t : List LineByte) (c : Command) → IsTailWith rules t (Some c) → BeginsWith rules t c
   held_begins t c (inl (b, h)) = record { records = t; reply = []; split = sym (append-nil t); block = b; command = h }
   held_begins t c (inr (reply, is)) = record { records = is.command; reply = reply; split = is.split; block = is.block; command = is.is_command }
 
-  one_begun : (t : List LineByte) (a c : Command) → IsTailWith rate t (Some a) → BeginsWith rate t c → a ≡ c
+  one_begun : (t : List LineByte) (a c : Command) → IsTailWith rules t (Some a) → BeginsWith rules t c → a ≡ c
   one_begun t a c held begins =
       let own = held_begins t a held in
       let same = (whole_parts Controller own.records begins.records own.reply begins.reply own.block begins.block own.command.whole begins.command.whole
@@ -204,31 +234,28 @@ module _ (rate : Rate) where
       let other = begins.command.meaning in
       cc
 
-  open_is : (t : List LineByte) (o : Option Command) (c : Command) → IsTailWith rate t o → o ≡ Some c ↔ BeginsWith rate t c
+  open_is : (t : List LineByte) (o : Option Command) (c : Command) → IsTailWith rules t o → o ≡ Some c ↔ BeginsWith rules t c
   open_is t None c held = (λ same. absurd (cc), λ begins. absurd (none_begun t c held begins))
   open_is t (Some a) c held = (λ same. let mine : a ≡ c = cc in rw mine at (held_begins t a held), λ begins. ap Some (one_begun t a c held begins))
 
-  pub open_told : (o : Option Command) (was old : Paired) → was ≡ old → was.rate ≡ rate → IsTailWith rate was.tail o → (c : Command)
-      → (o ≡ Some c) ↔ BeginsWith old.rate old.tail c
+  pub open_told : (o : Option Command) (was old : Paired) → was ≡ old → was.rules ≡ rules → IsTailWith rules was.tail o → (c : Command)
+      → (o ≡ Some c) ↔ BeginsWith old.rules old.tail c
   open_told o was old same at held c = rw (← same, at) (open_is was.tail o c held)
 
   -- ---- what is open
 
-  deck_turn : (b : OpenBlock) (first : Bool) → place_at b ≡ place_on Deck first → b.wire ≡ Deck
-  deck_turn b first place = grind (arith, nat_tests)
-
   -- a complete command
-  pub command_open : (t : List LineByte) (b : OpenBlock) (e : Exchange) → IsInside rate t b e → place_at b ≡ AfterCommand
-      → IsOpenAfter rate t (record { command = Some e.command; asked = length t; answered = 0; wanted = 0; sum = 0 })
+  pub command_open : (t : List LineByte) (b : OpenBlock) (e : Exchange) → IsInside rules t b e → place_at b ≡ AfterCommand
+      → IsOpenAfter rules t (record { command = Some e.command; asked = length t; answered = 0; wanted = 0; sum = 0 })
   command_open t b e h place = by (command_held t b e h (deck_turn b true place))
     where
-      by : IsTailWith rate t (Some e.command) → IsOpenAfter rate t (record { command = Some e.command; asked = length t; answered = 0; wanted = 0; sum = 0 })
+      by : IsTailWith rules t (Some e.command) → IsOpenAfter rules t (record { command = Some e.command; asked = length t; answered = 0; wanted = 0; sum = 0 })
       by (inl (block, is)) = is_after_command block e.command is refl
-      by (inr (reply, is)) = absurd (let inside = (answered rate t reply e.command is).place in let stands = h.stands.place in cc)
+      by (inr (reply, is)) = absurd (let inside = (answered rules t reply e.command is).place in let stands = h.stands.place in cc)
 
   -- a reply that is begun
-  pub reply_open : (t : List LineByte) (b : OpenBlock) (e : Exchange) → IsInside rate t b e → place_at b ≡ InReply
-      → IsOpenAfter rate t (record {
+  pub reply_open : (t : List LineByte) (b : OpenBlock) (e : Exchange) → IsInside rules t b e → place_at b ≡ InReply
+      → IsOpenAfter rules t (record {
         command = Some e.command;
         asked = block_len t;
         answered = length (open_at (place_of t) t);
@@ -237,17 +264,17 @@ module _ (rate : Rate) where
       })
   reply_open t b e h place = by (command_held t b e h (deck_turn b false place))
     where
-      by : IsTailWith rate t (Some e.command)
-          → IsOpenAfter rate t (record {
+      by : IsTailWith rules t (Some e.command)
+          → IsOpenAfter rules t (record {
             command = Some e.command;
             asked = block_len t;
             answered = length (open_at (place_of t) t);
             wanted = block_len (open_at (place_of t) t);
             sum = b.sum;
           })
-      by (inl (block, is)) = absurd (let after = place_of_command rate Controller t block is.whole in let stands = h.stands.place in cc)
+      by (inl (block, is)) = absurd (let after = place_of_command rules Controller t block is.whole in let stands = h.stands.place in cc)
       by (inr (reply, is)) =
-          let parts = answered rate t reply e.command is in
+          let parts = answered rules t reply e.command is in
           let len = whole_len Controller is.command is.block is.is_command.whole in
           let long = whole_long Controller is.command is.block is.is_command.whole in
           let short = is.begun.short in
@@ -256,5 +283,5 @@ module _ (rate : Rate) where
           let total : b.sum ≡ sum (bytes_of reply) % 256 = rw (parts.place, parts.current) at (h.stands.sum_so_far (omega (arith, count, short))) in
           is_in_reply is.command reply is.block e.command is.split is.is_command is.begun is.in_time (rw (parts.place, parts.current, asked, total) refl)
 
-  pub open_after_told : (o : Open) (was old : Paired) → was ≡ old → was.rate ≡ rate → IsOpenAfter rate was.tail o → IsOpenAfter old.rate old.tail o
+  pub open_after_told : (o : Open) (was old : Paired) → was ≡ old → was.rules ≡ rules → IsOpenAfter rules was.tail o → IsOpenAfter old.rules old.tail o
   open_after_told o was old same at told = rw (← same, at) told

@@ -3,14 +3,14 @@ use Rattle.block9.proofs.Words.{[], after_command, Command, Bool, closed_of, end
 use Rattle.block9.proofs.Words.{place_of, refl, Some, true, ◌++◌, ◌∷◌, ◌≡◌, ◌≤◌}
 use Rattle.block9.proofs.CutLemmas.{exchange_kept, tail_kept}
 use Rattle.block9.proofs.StepLemmas.{closes, commands, held_tail, reply_now, tail_held, waits}
-use Rattle.tc25.specs.declared.rate.Rate.{Rate}
+use Rattle.block9.specs.declared.line_rules.LineRules.{LineRules}
 
-module _ (rate : Rate) where
+module _ (rules : LineRules) where
   -- a record that breaks no line of the table, after a tail
-  pub quiet_kept : (t : List LineByte) (r : LineByte) → IsTail rate t → last_time t ≤ r.time_us → pairing rate t r ≡ None → IsKept rate (t ++ r ∷ [])
-  quiet_kept t r h later quiet = let held = tail_held rate t h in by (ends_block (open_at (place_of t) t)) refl held.0 held.1
+  pub quiet_kept : (t : List LineByte) (r : LineByte) → IsTail rules t → last_time t ≤ r.time_us → pairing rules t r ≡ None → IsKept rules (t ++ r ∷ [])
+  quiet_kept t r h later quiet = let held = tail_held rules t h in by (ends_block (open_at (place_of t) t)) refl held.0 held.1
     where
-      by : (b : Bool) → ends_block (open_at (place_of t) t) ≡ b → (o : Option Command) → IsTailWith rate t o → IsKept rate (t ++ r ∷ [])
-      by false e o held = tail_kept rate (t ++ r ∷ []) (held_tail rate (t ++ r ∷ []) o (waits rate t o r held later quiet e).0)
-      by true e None held = let c = commands rate t r held later quiet e in tail_kept rate (t ++ r ∷ []) (after_command _ c.0 c.1)
-      by true e (Some c) held = let now = reply_now rate t c held e in exchange_kept rate (t ++ r ∷ []) (closed_of t c now.1.block) (closes rate t now.0 c r now.1 later quiet e)
+      by : (b : Bool) → ends_block (open_at (place_of t) t) ≡ b → (o : Option Command) → IsTailWith rules t o → IsKept rules (t ++ r ∷ [])
+      by false e o held = tail_kept rules (t ++ r ∷ []) (held_tail rules (t ++ r ∷ []) o (waits rules t o r held later quiet e).0)
+      by true e None held = let c = commands rules t r held later quiet e in tail_kept rules (t ++ r ∷ []) (after_command _ c.0 c.1)
+      by true e (Some c) held = let now = reply_now rules t c held e in exchange_kept rules (t ++ r ∷ []) (closed_of t c now.1.block) (closes rules t now.0 c r now.1 later quiet e)

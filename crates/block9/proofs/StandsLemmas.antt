@@ -5,7 +5,7 @@ use Rattle.std.proofs.lemmas.List.Sums.{fold_push}
 use Rattle.std.proofs.lemmas.List.{drop-append-le, length-drop}
 use Rattle.block9.proofs.Words.{ByteGap, if◌then◌else◌, None, Some, wire_fault}
 use Rattle.block9.proofs.Words.{ap, Bool, Idle, map_push, Place}
-use Rattle.block9.proofs.Words.{early_fault, false, is_soon, last_time, nat_le, place_on, true, Wire, byte_gap}
+use Rattle.block9.proofs.Words.{early_fault, false, is_late, is_soon, ReplyLimit, last_time, nat_le, place_on, true, Wire, byte_gap}
 use Rattle.block9.proofs.LineLemmas.{block_len-append}
 
 -- where a block is begun there is a record
@@ -46,15 +46,23 @@ pub its_turn : (t : List LineByte) (r : LineByte) (b : OpenBlock) → r.wire ≡
 its_turn t r b e = right_wire r.wire b.wire (b.left == 0) (is_soon t r) e
 
 -- inside a block it breaks the limit on the gap, or nothing
-gap_of : (w : Wire) (t : List LineByte) (r : LineByte) → wire_fault (place_on w false) r.wire (is_soon t r) ≡ None
-    → early_fault (place_on w false) t r ≡ (if nat_le r.time_us (last_time t + byte_gap) then None else Some ByteGap)
-gap_of Controller t r e = grind (arith, nat_tests)
-gap_of Deck t r e = grind (arith, nat_tests)
+gap_of : (limit : ReplyLimit) (w : Wire) (t : List LineByte) (r : LineByte) → wire_fault (place_on w false) r.wire (is_soon t r) ≡ None
+    → early_fault limit (place_on w false) t r ≡ (if nat_le r.time_us (last_time t + byte_gap) then None else Some ByteGap)
+gap_of limit Controller t r e = grind (arith, nat_tests)
+gap_of limit Deck t r e = grind (arith, nat_tests)
 
-pub gap_told : (t : List LineByte) (r : LineByte) (b : OpenBlock) → Stands t b → wire_fault (place_at b) r.wire (is_soon t r) ≡ None → b.left ≢ 0
-    → early_fault (place_of t) t r ≡ (if nat_le r.time_us (last_time t + byte_gap) then None else Some ByteGap)
-gap_told t r b h turn some =
-    let begun : (b.left == 0) ≡ false = grind (arith, nat_tests) in rw (← h.place, begun) (gap_of b.wire t r (rw begun at turn))
+pub gap_told : (limit : ReplyLimit) (t : List LineByte) (r : LineByte) (b : OpenBlock) → Stands t b → wire_fault (place_at b) r.wire (is_soon t r) ≡ None → b.left ≢ 0
+    → early_fault limit (place_of t) t r ≡ (if nat_le r.time_us (last_time t + byte_gap) then None else Some ByteGap)
+gap_told limit t r b h turn some =
+    let begun : (b.left == 0) ≡ false = grind (arith, nat_tests) in rw (← h.place, begun) (gap_of limit b.wire t r (rw begun at turn))
+
+-- and it begins no late reply
+inside_late : (w : Wire) (t : List LineByte) (r : LineByte) → is_late (place_on w false) t r ≡ false
+inside_late Controller t r = refl
+inside_late Deck t r = refl
+
+pub inside_not_late : (t : List LineByte) (r : LineByte) (b : OpenBlock) → Stands t b → b.left ≢ 0 → is_late (place_of t) t r ≡ false
+inside_not_late t r b h some = let begun : (b.left == 0) ≡ false = grind (arith, nat_tests) in rw (← h.place, begun) (inside_late b.wire t r)
 
 -- ---- one more record, which is not the last one of its block
 

@@ -1,15 +1,16 @@
 -- What the table says at each kind of tail: where it says that a record breaks no rule.
 use Rattle.block9.proofs.Words.{[], AfterCommand, ap, arith, Block, block_len, block_of, bytes_of, Command, command_of, Controller, Deck, drop, drop_at, ends_block, fits, get_or}
+use Rattle.block9.proofs.Words.{Counts, fault_at, LeftAside, ReplyLimit}
 use Rattle.block9.proofs.Words.{InCommand, InReply, is_reply_time_valid, IsAnswered, IsBegun, IsCommand, IsInTime, IsWhole, last_time, length, length-append, LineByte, List}
 use Rattle.block9.proofs.Words.{nat_tests, None, pairing, place_of, refl, Some, subst, sum, sym, take, take-append-le, take_all, take_at, take_more, true, Wire, ◌%◌, ◌++◌, ◌+◌}
 use Rattle.block9.proofs.Words.{◌-◌, ◌<◌, ◌↔◌, ◌∙◌, ◌∷◌, ◌≡◌, ◌≤◌}
 use Rattle.block9.proofs.LineLemmas.{block_len-append, GoesOn, whole_len, whole_long}
 use Rattle.block9.proofs.BlockSteps.{whole_less}
-use Rattle.tc25.specs.declared.rate.Rate.{Rate}
+use Rattle.block9.specs.declared.line_rules.LineRules.{LineRules}
 
-module _ (rate : Rate) where
+module _ (rules : LineRules) where
   -- with nothing open
-  pub idle_quiet : (r : LineByte) → pairing rate [] r ≡ None ↔ IsBegun Controller (r ∷ [])
+  pub idle_quiet : (r : LineByte) → pairing rules [] r ≡ None ↔ IsBegun Controller (r ∷ [])
   idle_quiet r = (λ h. grind (arith, nat_tests), λ h. grind (arith, nat_tests))
 
   -- inside a command, which has a meaning at its end
@@ -17,8 +18,8 @@ module _ (rate : Rate) where
   place_in_command w t h = let b = h.begun in let s = h.short in grind (arith, nat_tests)
 
   pub in_command_quiet : (t : List LineByte) (r : LineByte) → IsBegun Controller t → last_time t ≤ r.time_us
-      → pairing rate t r ≡ None ↔ (GoesOn Controller t r × (ends_block t ≡ true
-      → (r.byte ≡ sum (bytes_of t) % 256) × (c : Command) × (command_of rate (block_of (bytes_of t)) ≡ Some c)))
+      → pairing rules t r ≡ None ↔ (GoesOn Controller t r × (ends_block t ≡ true
+      → (r.byte ≡ sum (bytes_of t) % 256) × (c : Command) × (command_of rules.rate (block_of (bytes_of t)) ≡ Some c)))
   in_command_quiet t r h later = rw (place_in_command Controller t h)
       (λ quiet. (grind (arith, nat_tests), λ ends. grind (arith, nat_tests)), λ k. grind (arith, nat_tests))
 
@@ -27,8 +28,18 @@ module _ (rate : Rate) where
   place_of_command w t b h = let len = whole_len w t b h in let long = whole_long w t b h in grind (arith, nat_tests)
 
   pub after_command_quiet : (t : List LineByte) (r : LineByte) (b : Block) → IsWhole Controller t b → last_time t ≤ r.time_us
-      → pairing rate t r ≡ None ↔ (IsBegun Deck (r ∷ []) × IsInTime t (r ∷ []))
-  after_command_quiet t r b h later = rw (place_of_command Controller t b h) (λ quiet. grind (arith, nat_tests), λ k. grind (arith, nat_tests))
+      → pairing rules t r ≡ None ↔ (IsBegun Deck (r ∷ []) × IsInTime rules t (r ∷ []))
+  after_command_quiet t r b h later = rw (place_of_command Controller t b h) (by rules.reply_limit refl)
+    where
+      by : (limit : ReplyLimit) → rules.reply_limit ≡ limit → fault_at rules AfterCommand t r ≡ None ↔ (IsBegun Deck (r ∷ []) × IsInTime rules t (r ∷ []))
+      by Counts e = (
+        λ quiet. let told = rw e at quiet in (grind (arith, nat_tests), record { later = later; soon = λ counts. grind (arith, nat_tests) }),
+        λ k. let soon = k.1.soon e in rw e (grind (arith, nat_tests)),
+      )
+      by LeftAside e = (
+        λ quiet. let told = rw e at quiet in (grind (arith, nat_tests), record { later = later; soon = λ counts. absurd (let no : LeftAside ≡ Counts = sym e ∙ counts in cc) }),
+        λ k. rw e (grind (arith, nat_tests)),
+      )
 
   -- inside a reply
   pub last_time-append : (xs ys : List LineByte) → 0 < length ys → last_time (xs ++ ys) ≡ last_time ys
@@ -41,7 +52,7 @@ module _ (rate : Rate) where
     pub place : place_of tail ≡ InReply
     pub current : drop (block_len tail) tail ≡ reply
     pub first : take (block_len tail) tail ≡ command
-    pub meant : command_of rate (block_of (bytes_of (take (block_len tail - 1) tail))) ≡ Some c
+    pub meant : command_of rules.rate (block_of (bytes_of (take (block_len tail - 1) tail))) ≡ Some c
     pub last : last_time tail ≡ last_time reply
 
   -- the block of the command with which a tail begins
@@ -59,7 +70,7 @@ module _ (rate : Rate) where
       ap (λ n. take (n - 1) (command ++ reply)) whole ∙ take-append-le last command reply (omega arith) in
       ap (λ l. block_of (bytes_of l)) front ∙ sym body
 
-  pub in_reply_of : (command reply tail : List LineByte) (b : Block) (c : Command) → tail ≡ command ++ reply → IsCommand rate command b c → 0 < length reply
+  pub in_reply_of : (command reply tail : List LineByte) (b : Block) (c : Command) → tail ≡ command ++ reply → IsCommand rules command b c → 0 < length reply
       → InReplyOf command reply tail c
   in_reply_of command reply tail b c split h some =
       let len = whole_len Controller command b h.whole in
@@ -70,16 +81,16 @@ module _ (rate : Rate) where
         place = grind (arith, nat_tests);
         current = ap (λ n. drop n (command ++ reply)) whole ∙ drop_at command reply (length command) refl;
         first = ap (λ n. take n (command ++ reply)) whole ∙ take_at command reply (length command) refl;
-        meant = ap (command_of rate) (asked_block command reply b h.whole) ∙ h.meaning;
+        meant = ap (command_of rules.rate) (asked_block command reply b h.whole) ∙ h.meaning;
         last = last_time-append command reply some;
       })
 
-  pub answered : (t reply : List LineByte) (c : Command) (is : IsAnswered rate t c reply) → InReplyOf is.command reply t c
+  pub answered : (t reply : List LineByte) (c : Command) (is : IsAnswered rules t c reply) → InReplyOf is.command reply t c
   answered t reply c is = in_reply_of is.command reply t is.block c is.split is.is_command is.begun.begun
 
   pub in_reply_quiet : (command reply t : List LineByte) (c : Command) (r : LineByte) → InReplyOf command reply t c → last_time t ≤ r.time_us
-      → pairing rate t r ≡ None
+      → pairing rules t r ≡ None
       ↔ (GoesOn Deck reply r × (ends_block reply ≡ true → (r.byte ≡ sum (bytes_of reply) % 256) × (fits c (block_of (bytes_of reply)) ≡ true)
-      × (is_reply_time_valid rate c (block_of (bytes_of reply)) ≡ true)))
+      × (is_reply_time_valid rules.rate c (block_of (bytes_of reply)) ≡ true)))
   in_reply_quiet command reply t c r parts later = rw parts.place
       (λ quiet. (grind (arith, nat_tests), λ ends. grind (arith, nat_tests)), λ k. grind (arith, nat_tests))

@@ -11,12 +11,12 @@ use Rattle.block9.specs.declared.command.Command.{Command}
 use Rattle.block9.specs.Exchange.{Does, IsCommand, IsInTime, IsKept, Outcome, completed_by, tail_after}
 use Rattle.block9.specs.Line.{IsBegun, block_len, bytes_of}
 use Rattle.block9.specs.Reason.{IsReason}
-use Rattle.tc25.specs.declared.rate.Rate.{Rate}
+use Rattle.block9.specs.declared.line_rules.LineRules.{LineRules}
 
 -- a `Pairer` as its callers see it
 pub record Paired : Type 0 where
-  -- the rate at which its times are read
-  pub rate : Rate
+  -- what its records are judged by
+  pub rules : LineRules
   -- the records since the last complete exchange, without the one that broke a rule
   pub tail : List LineByte
   -- the time of the last record that it was fed
@@ -28,8 +28,8 @@ pub record Paired : Type 0 where
 
 -- a record that keeps the rules was taken
 pub record Takes (old : Paired) (r : LineByte) (outcome : Outcome) (new : Paired) : Type 0 where
-  pub rate : new.rate ≡ old.rate
-  pub does : Does old.rate old.tail r outcome
+  pub rules : new.rules ≡ old.rules
+  pub does : Does old.rules old.tail r outcome
   pub tail : new.tail ≡ tail_after old.tail r outcome
   pub last_time : new.last_time ≡ Some r.time_us
   pub reason : new.reason ≡ None
@@ -37,30 +37,30 @@ pub record Takes (old : Paired) (r : LineByte) (outcome : Outcome) (new : Paired
 
 -- a record that breaks a rule was refused: the records with it are not kept, and this is the reason
 pub record Refuses (old : Paired) (r : LineByte) (reason : Reason) (new : Paired) : Type 0 where
-  pub rate : new.rate ≡ old.rate
-  pub is_reason : IsReason old.rate old.tail r reason
-  pub not_kept : ¬ IsKept old.rate (old.tail ++ r ∷ [])
+  pub rules : new.rules ≡ old.rules
+  pub is_reason : IsReason old.rules old.tail r reason
+  pub not_kept : ¬ IsKept old.rules (old.tail ++ r ∷ [])
   pub tail : new.tail ≡ old.tail
   pub last_time : new.last_time ≡ Some r.time_us
   pub known : new.reason ≡ Some reason
   pub none_complete : new.exchange ≡ None
 
 -- a tail begins with a complete command, and this is what it means
-pub record BeginsWith (rate : Rate) (tail : List LineByte) (c : Command) : Type 0 where
+pub record BeginsWith (rules : LineRules) (tail : List LineByte) (c : Command) : Type 0 where
   pub records : List LineByte
   pub reply : List LineByte
   pub split : tail ≡ records ++ reply
   pub block : Block
-  pub command : IsCommand rate records block c
+  pub command : IsCommand rules records block c
 
 -- what is open after a tail: a line for each kind of tail
-pub data IsOpenAfter (rate : Rate) (tail : List LineByte) (o : Open) : Type 0 where
-  nothing : tail ≡ [] → o ≡ record { command = None; asked = 0; answered = 0; wanted = 0; sum = 0 } → IsOpenAfter rate tail o
+pub data IsOpenAfter (rules : LineRules) (tail : List LineByte) (o : Open) : Type 0 where
+  nothing : tail ≡ [] → o ≡ record { command = None; asked = 0; answered = 0; wanted = 0; sum = 0 } → IsOpenAfter rules tail o
   in_command : IsBegun Controller tail
-      → o ≡ record { command = None; asked = length tail; answered = 0; wanted = block_len tail; sum = sum (bytes_of tail) % 256 } → IsOpenAfter rate tail o
-  after_command : (b : Block) (c : Command) → IsCommand rate tail b c
-      → o ≡ record { command = Some c; asked = length tail; answered = 0; wanted = 0; sum = 0 } → IsOpenAfter rate tail o
-  in_reply : (command reply : List LineByte) (b : Block) (c : Command) → tail ≡ command ++ reply → IsCommand rate command b c → IsBegun Deck reply
-      → IsInTime command reply
+      → o ≡ record { command = None; asked = length tail; answered = 0; wanted = block_len tail; sum = sum (bytes_of tail) % 256 } → IsOpenAfter rules tail o
+  after_command : (b : Block) (c : Command) → IsCommand rules tail b c
+      → o ≡ record { command = Some c; asked = length tail; answered = 0; wanted = 0; sum = 0 } → IsOpenAfter rules tail o
+  in_reply : (command reply : List LineByte) (b : Block) (c : Command) → tail ≡ command ++ reply → IsCommand rules command b c → IsBegun Deck reply
+      → IsInTime rules command reply
       → o ≡ record { command = Some c; asked = length command; answered = length reply; wanted = block_len reply; sum = sum (bytes_of reply) % 256 }
-      → IsOpenAfter rate tail o
+      → IsOpenAfter rules tail o

@@ -1,68 +1,69 @@
 -- Which rule a record breaks after a tail: a line for each reason, the order in which they count, their limits, their
 -- names and their texts.
-use Rattle.tc25.specs.declared.rate.Rate.{Rate}
+use Rattle.block9.specs.declared.line_rules.LineRules.{LineRules}
 use Rattle.std.specs.Prelude.{ℕ, ◌+◌, ◌%◌, ◌<◌, ◌≤◌, ◌≡◌, ◌≢◌, ◌⊎◌, false, Option, Some, None, List, [], ◌∷◌, ◌++◌, length, codes}
 use Rattle.std.specs.List.{sum}
 use Rattle.capture9.specs.declared.line_byte.LineByte.{LineByte}
 use Rattle.capture9.specs.declared.line_byte.Wire.TheVariants.{Controller, Deck}
 use Rattle.block9.specs.declared.block.Block.{Block}
 use Rattle.block9.specs.declared.command.Command.{Command}
+use Rattle.block9.specs.declared.line_rules.ReplyLimit.TheVariants.{Counts}
 use Rattle.block9.specs.declared.reason.Reason.{Reason}
 use Rattle.block9.specs.declared.reason.Reason.TheVariants.{WrongGroup, WrongSum, ByteGap, ReplyWithoutCommand, ReplyInsideCommand, CommandBeforeReply, CommandInsideReply, WrongReply, InvalidCommandTime, InvalidReplyTime, LateReply, NoReply, NoRun}
 use Rattle.block9.specs.Command.{command_of, fits, is_reply_time_valid}
 use Rattle.block9.specs.Line.{IsBegun, IsWhole, allows, block_len, byte_gap, bytes_of, group_in, last_time, reply_limit}
-use Rattle.block9.specs.Exchange.{IsCommand, IsInTime}
+use Rattle.block9.specs.Exchange.{BeginsLate, IsCommand, IsInTime}
 
 -- ---- what a tail is, besides nothing and a begun command
 
 -- a complete command
-abbrev pub IsWholeCommand : Rate → List LineByte → Type 0
-IsWholeCommand rate tail = (b : Block) × (c : Command) × IsCommand rate tail b c
+abbrev pub IsWholeCommand : LineRules → List LineByte → Type 0
+IsWholeCommand rules tail = (b : Block) × (c : Command) × IsCommand rules tail b c
 
 -- a complete command, and after it, in time, the first records of its reply
-pub record IsAnswered (rate : Rate) (tail : List LineByte) (c : Command) (reply : List LineByte) : Type 0 where
+pub record IsAnswered (rules : LineRules) (tail : List LineByte) (c : Command) (reply : List LineByte) : Type 0 where
   pub command : List LineByte
   pub block : Block
   pub split : tail ≡ command ++ reply
-  pub is_command : IsCommand rate command block c
+  pub is_command : IsCommand rules command block c
   pub begun : IsBegun Deck reply
-  pub in_time : IsInTime command reply
+  pub in_time : IsInTime rules command reply
 
 -- these are the records of the block that is begun at the end of a tail: a command, or the reply to one
-abbrev pub IsOpen : Rate → List LineByte → List LineByte → Type 0
-IsOpen rate tail records = ((tail ≡ records) × IsBegun Controller records) ⊎ ((c : Command) × IsAnswered rate tail c records)
+abbrev pub IsOpen : LineRules → List LineByte → List LineByte → Type 0
+IsOpen rules tail records = ((tail ≡ records) × IsBegun Controller records) ⊎ ((c : Command) × IsAnswered rules tail c records)
 
 -- the record ends this reply to this command
-abbrev pub EndsReply : Rate → List LineByte → LineByte → Command → Block → Type 0
-EndsReply rate tail r c reply = (records : List LineByte) × IsAnswered rate tail c records × IsWhole Deck (records ++ r ∷ []) reply
+abbrev pub EndsReply : LineRules → List LineByte → LineByte → Command → Block → Type 0
+EndsReply rules tail r c reply = (records : List LineByte) × IsAnswered rules tail c records × IsWhole Deck (records ++ r ∷ []) reply
 
 -- ---- the reasons
 
 -- what a reason says of a tail and of the record after it; of several that hold, the order below tells which counts
-abbrev pub Holds : Rate → Reason → List LineByte → LineByte → Type 0
+abbrev pub Holds : LineRules → Reason → List LineByte → LineByte → Type 0
 -- the deck sends where nothing is open, or inside a command
-Holds rate ReplyWithoutCommand tail r = (tail ≡ []) × (r.wire ≡ Deck)
-Holds rate ReplyInsideCommand tail r = IsBegun Controller tail × (r.wire ≡ Deck)
+Holds rules ReplyWithoutCommand tail r = (tail ≡ []) × (r.wire ≡ Deck)
+Holds rules ReplyInsideCommand tail r = IsBegun Controller tail × (r.wire ≡ Deck)
 -- the controller sends where a reply is to come, within the reply limit or after it, or inside a reply
-Holds rate CommandBeforeReply tail r = IsWholeCommand rate tail × (r.wire ≡ Controller) × (r.time_us ≤ last_time tail + reply_limit)
-Holds rate NoReply tail r = IsWholeCommand rate tail × (r.wire ≡ Controller) × (last_time tail + reply_limit < r.time_us)
-Holds rate CommandInsideReply tail r = ((c : Command) × (reply : List LineByte) × IsAnswered rate tail c reply) × (r.wire ≡ Controller)
--- the reply begins after the reply limit
-Holds rate LateReply tail r = IsWholeCommand rate tail × (r.wire ≡ Deck) × (last_time tail + reply_limit < r.time_us)
+Holds rules CommandBeforeReply tail r = IsWholeCommand rules tail × (r.wire ≡ Controller) × (r.time_us ≤ last_time tail + reply_limit)
+Holds rules NoReply tail r = IsWholeCommand rules tail × (r.wire ≡ Controller) × (last_time tail + reply_limit < r.time_us)
+Holds rules CommandInsideReply tail r = ((c : Command) × (reply : List LineByte) × IsAnswered rules tail c reply) × (r.wire ≡ Controller)
+-- the reply begins after the reply limit, where that counts
+Holds rules LateReply tail r = (rules.reply_limit ≡ Counts) × BeginsLate rules tail r
 -- a block is begun, and the record comes after the byte gap
-Holds rate ByteGap tail r = ((records : List LineByte) × IsOpen rate tail records) × (last_time tail + byte_gap < r.time_us)
+Holds rules ByteGap tail r = ((records : List LineByte) × IsOpen rules tail records) × (last_time tail + byte_gap < r.time_us)
 -- the first record of a block has a group that its wire does not allow
-Holds rate WrongGroup tail r = ((tail ≡ []) ⊎ IsWholeCommand rate tail) × (allows r.wire (group_in r.byte) ≡ false)
+Holds rules WrongGroup tail r = ((tail ≡ []) ⊎ IsWholeCommand rules tail) × (allows r.wire (group_in r.byte) ≡ false)
 -- a block is begun, and the record is in the place of its checksum and is not the sum of the bytes before it
-Holds rate WrongSum tail r =
-    (records : List LineByte) × IsOpen rate tail records × (length records + 1 ≡ block_len records) × (r.byte ≢ sum (bytes_of records) % 256)
+Holds rules WrongSum tail r =
+    (records : List LineByte) × IsOpen rules tail records × (length records + 1 ≡ block_len records) × (r.byte ≢ sum (bytes_of records) % 256)
 -- a command that ends has no meaning, since its time is not valid
-Holds rate InvalidCommandTime tail r = (b : Block) × IsWhole Controller (tail ++ r ∷ []) b × (command_of rate b ≡ None)
+Holds rules InvalidCommandTime tail r = (b : Block) × IsWhole Controller (tail ++ r ∷ []) b × (command_of rules.rate b ≡ None)
 -- a reply that ends is of no kind that its command may have, or has a time that should be valid and is not
-Holds rate WrongReply tail r = (c : Command) × (reply : Block) × EndsReply rate tail r c reply × (fits c reply ≡ false)
-Holds rate InvalidReplyTime tail r = (c : Command) × (reply : Block) × EndsReply rate tail r c reply × (is_reply_time_valid rate c reply ≡ false)
+Holds rules WrongReply tail r = (c : Command) × (reply : Block) × EndsReply rules tail r c reply × (fits c reply ≡ false)
+Holds rules InvalidReplyTime tail r = (c : Command) × (reply : Block) × EndsReply rules tail r c reply × (is_reply_time_valid rules.rate c reply ≡ false)
 -- this needs a deck to be followed, so it never holds here
-Holds rate NoRun tail r = ⊥
+Holds rules NoRun tail r = ⊥
 
 -- the order in which the reasons count: the wire, the time, the group, the sum, what the block means, the deck
 abbrev pub order : List Reason
@@ -81,8 +82,8 @@ IsFirst holds [] reason = ⊥
 IsFirst holds (x ∷ more) reason = ((reason ≡ x) × holds x) ⊎ ((¬ holds x) × IsFirst holds more reason)
 
 -- the reason why a record breaks the rules after a tail: the first one in the order that holds
-abbrev pub IsReason : Rate → List LineByte → LineByte → Reason → Type 0
-IsReason rate tail r reason = IsFirst (λ x. Holds rate x tail r) order reason
+abbrev pub IsReason : LineRules → List LineByte → LineByte → Reason → Type 0
+IsReason rules tail r reason = IsFirst (λ x. Holds rules x tail r) order reason
 
 -- ---- the limits, the names and the texts
 

@@ -4,6 +4,7 @@ ghost use Rattle.block9.specs.Command.{is_reply_time_valid};
 
 use crate::block::Block;
 use crate::command::Command;
+use crate::line_rules::ReplyLimit;
 use crate::pairer::Pairer;
 use crate::reply::reply_time_valid_at;
 use tc25::{Rate, TimeCode};
@@ -37,7 +38,7 @@ impl Pairer {
 
     /// [`Pairer::at`] at 25 frames a second.
     pub fn new() -> Pairer
-        ensures { result ≡ record { rate = Rate.Fps25; tail = []; last_time = None; reason = None; exchange = None } }
+        ensures { result ≡ record { rules = record { rate = Rate.Fps25; reply_limit = ReplyLimit.Counts }; tail = []; last_time = None; reason = None; exchange = None } }
     {
         Pairer::at(Rate::Fps25)
     }
@@ -48,7 +49,7 @@ impl Default for Pairer {
 
     /// [`Pairer::new`].
     fn default() -> Pairer
-        ensures { result ≡ record { rate = Rate.Fps25; tail = []; last_time = None; reason = None; exchange = None } }
+        ensures { result ≡ record { rules = record { rate = Rate.Fps25; reply_limit = ReplyLimit.Counts }; tail = []; last_time = None; reason = None; exchange = None } }
     {
         Pairer::new()
     }

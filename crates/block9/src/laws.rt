@@ -6,25 +6,25 @@ ghost use Rattle.block9.specs.Line.{byte_gap, byte_time, last_time, reply_limit}
 ghost use Rattle.block9.specs.Nak.{nak_bits};
 ghost use Rattle.block9.specs.Reason.{IsReason};
 
+use crate::line_rules::LineRules;
 use crate::nak::NakBits;
 use crate::reason::Reason;
 use crate::{BYTE_GAP_US, BYTE_TIME_US, REPLY_LIMIT_US};
 use capture9::LineByte;
-use tc25::Rate;
 
 /// Where a tail with a next record, which is not earlier, does not keep the rules, there is a reason; and there
 /// is none where it keeps them.
 pub fn some_reason_applies()
-    ensures some { (rate : Rate) (tail : List LineByte) (next : LineByte) → IsTail rate tail → last_time tail ≤ next.time_us
-        → ¬ IsKept rate (tail ++ next ∷ []) → (reason : Reason) × IsReason rate tail next reason }
-    ensures broken { (rate : Rate) (tail : List LineByte) (next : LineByte) (reason : Reason) → IsTail rate tail
-        → IsReason rate tail next reason → ¬ IsKept rate (tail ++ next ∷ []) }
+    ensures some { (rules : LineRules) (tail : List LineByte) (next : LineByte) → IsTail rules tail → last_time tail ≤ next.time_us
+        → ¬ IsKept rules (tail ++ next ∷ []) → (reason : Reason) × IsReason rules tail next reason }
+    ensures broken { (rules : LineRules) (tail : List LineByte) (next : LineByte) (reason : Reason) → IsTail rules tail
+        → IsReason rules tail next reason → ¬ IsKept rules (tail ++ next ∷ []) }
 {}
 
 /// At most one reason is the reason.
 pub fn at_most_one_reason()
-    ensures { (rate : Rate) (tail : List LineByte) (next : LineByte) (reason other : Reason)
-        → IsReason rate tail next reason → IsReason rate tail next other → reason ≡ other }
+    ensures { (rules : LineRules) (tail : List LineByte) (next : LineByte) (reason other : Reason)
+        → IsReason rules tail next reason → IsReason rules tail next other → reason ≡ other }
 {}
 
 /// The public limits are those of the definitions, and the time of a byte is eleven bits at 38,400 a second,

@@ -13,11 +13,12 @@ ghost use Rattle.block9.specs.Working.Table.{ends_block, open_at, pairing, place
 use crate::command::Command;
 use crate::exchange::Exchange;
 use crate::line::{block_len, last_time};
+use crate::line_rules::{LineRules, ReplyLimit};
 use crate::open::Open;
 use crate::open_block::OpenBlock;
 use crate::place::Place;
 use crate::reason::Reason;
-use crate::rules::{meaning, reply_fault, sum_fault, turn};
+use crate::rules::{Turned, meaning, reply_fault, sum_fault, turn};
 use crate::tail::Tail;
 use capture9::{LineByte, Wire};
 use std::marker::Model;
@@ -30,8 +31,8 @@ use tc25::Rate;
 /// keeps the reason, and the tail before that record. No call takes memory.
 #[derive(Drop)]
 pub struct Pairer {
-    /// The rate at which times are read.
-    rate: Rate,
+    /// What its records are judged by.
+    rules: LineRules,
     tail: Tail,
     /// The block that is open at the tail's end.
     block: OpenBlock,
@@ -50,14 +51,14 @@ impl Model for Pairer {
     ghost Value = { Paired };
 
     ghost view = { λ p. record {
-      rate = p.rate;
+      rules = p.rules;
       tail = p.tail;
       last_time = last_fed p.tail p.reason p.passed_us;
       reason = p.reason;
       exchange = completed p.tail p.reason p.passed_us p.exchange;
     } };
 
-    ghost invariant = { λ p. IsInside p.rate p.tail p.block p.exchange };
+    ghost invariant = { λ p. IsInside p.rules p.tail p.block p.exchange };
 }
 
 /// What a record does that keeps the rules.
@@ -65,6 +66,8 @@ impl Model for Pairer {
 pub enum Step {
     /// It begins a block or goes on with one.
     Waiting,
+    /// It begins a reply after the reply limit, which is left aside.
+    LateReply,
     /// It is the last record of a command, whose reply is still to come.
     Command,
     /// It is the last record of a reply: an exchange is complete, which [`Pairer::exchange`] shows up to the next record.
@@ -77,18 +80,28 @@ impl Pairer {
     ghost use Rattle.block9.specs.Exchange.{Outcome, step_of};
     ghost use Rattle.block9.specs.Pairer.{BeginsWith, IsOpenAfter, Takes, Refuses};
 
-    /// A pairer that was fed nothing, and reads times at this rate: it has no tail, no last time, no reason and no exchange.
-    pub fn at(rate: Rate) -> Pairer
-        ensures { result ≡ record { rate = rate; tail = []; last_time = None; reason = None; exchange = None } }
+    /// A pairer that was fed nothing, and judges records by these rules: it has no tail, no last time, no reason and no exchange.
+    pub fn by(rules: LineRules) -> Pairer
+        ensures { result ≡ record { rules = rules; tail = []; last_time = None; reason = None; exchange = None } }
     {
         Pairer {
-            rate,
+            rules,
             tail: Tail::new(),
             block: OpenBlock::to_come(Wire::Controller),
             exchange: Exchange::blank(),
             passed_us: None,
             reason: None,
         }
+    }
+
+    /// [`Pairer::by`] where times are read at this rate, and the reply limit counts.
+    pub fn at(rate: Rate) -> Pairer
+        ensures { result ≡ record { rules = record { rate = rate; reply_limit = ReplyLimit.Counts }; tail = []; last_time = None; reason = None; exchange = None } }
+    {
+        Pairer::by(LineRules {
+            rate,
+            reply_limit: ReplyLimit::Counts,
+        })
     }
 
     /// Takes the next record, whose time is not below the last one's.
@@ -113,13 +126,17 @@ impl Pairer {
         if let Some(reason) = self.reason {
             return Err(reason);
         }
-        match turn(self.block, self.tail.as_slice(), line_byte) {
-            Ok(Some(block)) => {
+        let limit = self.rules.reply_limit;
+        match turn(limit, self.block, self.tail.as_slice(), line_byte) {
+            Ok(Turned::Open { block, late }) => {
                 self.block = block;
                 self.tail.push(line_byte);
+                if late {
+                    return Ok(Step::LateReply);
+                }
                 return Ok(Step::Waiting);
             }
-            Ok(None) => {}
+            Ok(Turned::Last) => {}
             Err(reason) => {
                 self.passed_us = Some(line_byte.time_us);
                 return refuse(&mut self.reason, reason);
@@ -127,7 +144,7 @@ impl Pairer {
         }
         self.passed_us = Some(line_byte.time_us);
         end(
-            self.rate,
+            self.rules,
             &mut self.tail,
             &mut self.block,
             &mut self.exchange,
@@ -160,7 +177,7 @@ impl Pairer {
     /// What the command means with which the tail begins, once that is complete. After a reason it is that of the tail before
     /// the record which broke the rule.
     pub fn open_command(&self) -> Option<Command>
-        ensures { (c : Command) → (result ≡ Some c) ↔ BeginsWith self.now.rate self.now.tail c }
+        ensures { (c : Command) → (result ≡ Some c) ↔ BeginsWith self.now.rules self.now.tail c }
     {
         match self.block.wire {
             Wire::Controller => None,
@@ -170,7 +187,7 @@ impl Pairer {
 
     /// What is open since the last complete exchange. After a reason it is what was open before the record which broke the rule.
     pub fn open(&self) -> Open
-        ensures { IsOpenAfter self.now.rate self.now.tail result }
+        ensures { IsOpenAfter self.now.rules self.now.tail result }
     {
         let tail = self.tail.as_slice();
         match self.block.place() {
@@ -259,23 +276,23 @@ fn reply_in<'a>(tail: &'a [LineByte]) -> &'a [LineByte]
 /// and what is open stays.
 #[inline(always)]
 fn end_command(
-    rate: Rate,
+    rules: LineRules,
     tail: &mut Tail,
     block: &mut OpenBlock,
     exchange: &mut Exchange,
     line_byte: LineByte,
 ) -> Result<(), Reason>
-    requires held { IsInside rate tail.old block.old exchange.old }
+    requires held { IsInside rules tail.old block.old exchange.old }
     requires wire { block.old.wire ≡ Wire.Controller }
     requires later { last_time tail.old ≤ line_byte.time_us }
-    requires ends { IsTurn tail.old line_byte true }
+    requires ends { IsTurn rules tail.old line_byte true }
     requires right_sum { line_byte.byte ≡ sum (bytes_of (open_at (place_of tail.old) tail.old)) % 256 }
-    ensures ok { OnOk result (Does rate tail.old line_byte asks × (tail.new ≡ tail.old ++ line_byte ∷ []) × IsInside rate tail.new block.new exchange.new) }
-    ensures err { IfErr result (λ reason. pairing rate tail.old line_byte ≡ Some reason) }
+    ensures ok { OnOk result (Does rules tail.old line_byte asks × (tail.new ≡ tail.old ++ line_byte ∷ []) × IsInside rules tail.new block.new exchange.new) }
+    ensures err { IfErr result (λ reason. pairing rules tail.old line_byte ≡ Some reason) }
     ensures same { OnErr result ((tail.new ≡ tail.old) × (block.new ≡ block.old)) }
 {
     exchange.block.fill_from(tail.as_slice());
-    exchange.command = meaning(rate, &exchange.block)?;
+    exchange.command = meaning(rules.rate, &exchange.block)?;
     *block = OpenBlock::to_come(Wire::Deck);
     tail.push(line_byte);
     Ok(())
@@ -285,23 +302,23 @@ fn end_command(
 /// reply breaks, and what is open stays.
 #[inline(always)]
 fn end_reply(
-    rate: Rate,
+    rules: LineRules,
     tail: &mut Tail,
     block: &mut OpenBlock,
     exchange: &mut Exchange,
 ) -> Result<(), Reason>
-    requires held { IsInside rate tail.old block.old exchange.old }
+    requires held { IsInside rules tail.old block.old exchange.old }
     requires wire { block.old.wire ≡ Wire.Deck }
     requires ends { ends_block (open_at (place_of tail.old) tail.old) ≡ true }
-    ensures ok { OnOk result ((reply_fault rate (Some exchange.old.command) (block_of (bytes_of (open_at (place_of tail.old) tail.old))) ≡ None)
+    ensures ok { OnOk result ((reply_fault rules (Some exchange.old.command) (block_of (bytes_of (open_at (place_of tail.old) tail.old))) ≡ None)
         × Closes tail.old exchange.old exchange.new × (tail.new ≡ []) × (block.new ≡ to_come Wire.Controller)) }
-    ensures err { IfErr result (λ reason. reply_fault rate (Some exchange.old.command) (block_of (bytes_of (open_at (place_of tail.old) tail.old))) ≡ Some reason) }
-    ensures same { OnErr result ((tail.new ≡ tail.old) × (block.new ≡ block.old) × IsInside rate tail.new block.new exchange.new) }
+    ensures err { IfErr result (λ reason. reply_fault rules (Some exchange.old.command) (block_of (bytes_of (open_at (place_of tail.old) tail.old))) ≡ Some reason) }
+    ensures same { OnErr result ((tail.new ≡ tail.old) × (block.new ≡ block.old) × IsInside rules tail.new block.new exchange.new) }
 {
     let records = tail.as_slice();
     let begin = block_len(records);
     exchange.reply.fill_from(reply_in(records));
-    if let Some(reason) = reply_fault(rate, &exchange.command, &exchange.reply) {
+    if let Some(reason) = reply_fault(rules, &exchange.command, &exchange.reply) {
         return Err(reason);
     }
     exchange.time_us = records[0].time_us;
@@ -315,29 +332,29 @@ fn end_reply(
 /// breaks a rule leaves what is open as it is.
 #[inline(always)] // else the answer is handed on through memory
 fn end(
-    rate: Rate,
+    rules: LineRules,
     tail: &mut Tail,
     block: &mut OpenBlock,
     exchange: &mut Exchange,
     kept: &mut Option<Reason>,
     line_byte: LineByte,
 ) -> Result<Step, Reason>
-    requires held { IsInside rate tail.old block.old exchange.old }
+    requires held { IsInside rules tail.old block.old exchange.old }
     requires later { last_time tail.old ≤ line_byte.time_us }
-    requires ends { IsTurn tail.old line_byte true }
-    ensures ok { IfOk result (λ step. (outcome : Outcome) × (step ≡ step_of outcome) × Does rate tail.old line_byte outcome × IsOf exchange.new outcome × (tail.new ≡ tail_after tail.old line_byte outcome) × (kept.new ≡ kept.old)) }
-    ensures err { IfErr result (λ reason. (pairing rate tail.old line_byte ≡ Some reason) × (kept.new ≡ Some reason) × (tail.new ≡ tail.old)) }
-    ensures holds { IsInside rate tail.new block.new exchange.new }
+    requires ends { IsTurn rules tail.old line_byte true }
+    ensures ok { IfOk result (λ step. (outcome : Outcome) × (step ≡ step_of outcome) × Does rules tail.old line_byte outcome × IsOf exchange.new outcome × (tail.new ≡ tail_after tail.old line_byte outcome) × (kept.new ≡ kept.old)) }
+    ensures err { IfErr result (λ reason. (pairing rules tail.old line_byte ≡ Some reason) × (kept.new ≡ Some reason) × (tail.new ≡ tail.old)) }
+    ensures holds { IsInside rules tail.new block.new exchange.new }
 {
     if let Some(reason) = sum_fault(*block, line_byte.byte) {
         return refuse(kept, reason);
     }
     match block.wire {
-        Wire::Controller => match end_command(rate, tail, block, exchange, line_byte) {
+        Wire::Controller => match end_command(rules, tail, block, exchange, line_byte) {
             Ok(()) => Ok(Step::Command),
             Err(reason) => refuse(kept, reason),
         },
-        Wire::Deck => match end_reply(rate, tail, block, exchange) {
+        Wire::Deck => match end_reply(rules, tail, block, exchange) {
             Ok(()) => Ok(Step::Exchange),
             Err(reason) => refuse(kept, reason),
         },

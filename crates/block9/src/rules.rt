@@ -3,12 +3,13 @@
 ghost use Rattle.std.specs.Prelude.{◌≡◌, ◌≢◌, ◌≤◌, ◌<◌, true, None, Some, IfNone, IfOk, IfErr, IfSome};
 ghost use Rattle.block9.specs.Command.{command_of};
 ghost use Rattle.block9.specs.Line.{allows, last_time};
-ghost use Rattle.block9.specs.Working.Inside.{Stands, next_of, place_on};
-ghost use Rattle.block9.specs.Working.Table.{early_fault, group_fault, is_soon, place_of, reply_fault, time_fault, wire_fault};
+ghost use Rattle.block9.specs.Working.Inside.{IsTurned, Stands, place_at};
+ghost use Rattle.block9.specs.Working.Table.{early_fault, is_soon, place_of, reply_fault, wire_fault};
 
 use crate::block::Block;
 use crate::command::Command;
 use crate::line::last_time;
+use crate::line_rules::{LineRules, ReplyLimit};
 use crate::open_block::OpenBlock;
 use crate::place::Place;
 use crate::reason::Reason;
@@ -17,19 +18,28 @@ use crate::{BYTE_GAP_US, REPLY_LIMIT_US};
 use capture9::{LineByte, Wire};
 use tc25::Rate;
 
-/// What the block at the tail's end is with the record, and `None` where the record is its last one; or the first rule that the
-/// record breaks by the wire, the time, the group or the gap. Most records go on with a block on its wire: of them the gap alone
-/// is tested.
+/// What a record that breaks no rule makes of the block at the tail's end.
+#[derive(Clone, Copy)]
+pub(crate) enum Turned {
+    /// The block is open with the record; `late`: it is a reply that begins with this record, after the reply limit.
+    Open { block: OpenBlock, late: bool },
+    /// The record is the block's last one.
+    Last,
+}
+
+/// What the record makes of the block at the tail's end, or the first rule that it breaks by the wire, the time, the group or
+/// the gap. Most records go on with a block on its wire: of them the gap alone is tested.
 #[inline(always)]
 pub(crate) fn turn(
+    limit: ReplyLimit,
     block: OpenBlock,
     tail: &[LineByte],
     line_byte: LineByte,
-) -> Result<Option<OpenBlock>, Reason>
+) -> Result<Turned, Reason>
     requires stands { Stands tail.now block }
     requires later { last_time tail.now ≤ line_byte.time_us }
-    ensures ok { IfOk result (λ next. (early_fault (place_of tail.now) tail.now line_byte ≡ None) × (next ≡ next_of block line_byte.byte)) }
-    ensures err { IfErr result (λ reason. early_fault (place_of tail.now) tail.now line_byte ≡ Some reason) }
+    ensures ok { IfOk result (λ turned. (early_fault limit (place_of tail.now) tail.now line_byte ≡ None) × IsTurned tail.now block line_byte turned) }
+    ensures err { IfErr result (λ reason. early_fault limit (place_of tail.now) tail.now line_byte ≡ Some reason) }
 {
     if line_byte.wire != block.wire {
         let soon = is_soon(tail, line_byte);
@@ -38,15 +48,50 @@ pub(crate) fn turn(
         }
     }
     if block.left == 0 {
-        return match first_fault(tail, line_byte) {
-            Some(reason) => Err(reason),
-            None => Ok(Some(block.begun(line_byte.byte))),
-        };
+        return begin(limit, block, tail, line_byte);
     }
     if line_byte.time_us - tail[tail.len() - 1].time_us > BYTE_GAP_US {
         return Err(Reason::ByteGap);
     }
-    Ok(block.longer(line_byte.byte))
+    match block.longer(line_byte.byte) {
+        Some(longer) => Ok(Turned::Open {
+            block: longer,
+            late: false,
+        }),
+        None => Ok(Turned::Last),
+    }
+}
+
+/// What a record on the wire whose turn it is begins, or the rule that it breaks as the first one of its block: its time, its
+/// group.
+#[inline(always)]
+fn begin(
+    limit: ReplyLimit,
+    block: OpenBlock,
+    tail: &[LineByte],
+    line_byte: LineByte,
+) -> Result<Turned, Reason>
+    requires stands { Stands tail.now block }
+    requires later { last_time tail.now ≤ line_byte.time_us }
+    requires first { block.left ≡ 0 }
+    requires turn { wire_fault (place_at block) line_byte.wire (is_soon tail.now line_byte) ≡ None }
+    ensures ok { IfOk result (λ turned. (early_fault limit (place_of tail.now) tail.now line_byte ≡ None) × IsTurned tail.now block line_byte turned) }
+    ensures err { IfErr result (λ reason. early_fault limit (place_of tail.now) tail.now line_byte ≡ Some reason) }
+{
+    let late = match block.wire {
+        Wire::Controller => false,
+        Wire::Deck => !is_soon(tail, line_byte),
+    };
+    if late && limit == ReplyLimit::Counts {
+        return Err(Reason::LateReply);
+    }
+    if !allows(block.wire, line_byte.byte / 16) {
+        return Err(Reason::WrongGroup);
+    }
+    Ok(Turned::Open {
+        block: block.begun(line_byte.byte),
+        late,
+    })
 }
 
 /// Whether the record comes within the reply limit after the last one of the tail.
@@ -55,22 +100,6 @@ fn is_soon(tail: &[LineByte], line_byte: LineByte) -> bool
     ensures { result ≡ is_soon tail.now line_byte }
 {
     line_byte.time_us - last_time(tail) <= REPLY_LIMIT_US
-}
-
-/// The rule that a record on the wire whose turn it is breaks as the first one of its block: its time, its group.
-#[inline(always)]
-fn first_fault(tail: &[LineByte], line_byte: LineByte) -> Option<Reason>
-    requires { last_time tail.now ≤ line_byte.time_us }
-    ensures { result ≡ early_fault (place_on line_byte.wire true) tail.now line_byte }
-{
-    let allowed = allows(line_byte.wire, line_byte.byte / 16);
-    match line_byte.wire {
-        Wire::Controller => group_fault(Place::Idle, allowed),
-        Wire::Deck => time_fault(Place::AfterCommand, is_soon(tail, line_byte)).or(group_fault(
-            Place::AfterCommand,
-            allowed,
-        )),
-    }
 }
 
 /// A record on the wire whose turn it is not. `soon`: it comes within the reply limit.
@@ -83,26 +112,6 @@ fn wire_fault(place: Place, wire: Wire, soon: bool) -> Option<Reason>
         (Place::AfterCommand, Wire::Controller) if soon => Some(Reason::CommandBeforeReply),
         (Place::AfterCommand, Wire::Controller) => Some(Reason::NoReply),
         (Place::InReply, Wire::Controller) => Some(Reason::CommandInsideReply),
-        _ => None,
-    }
-}
-
-/// A record that comes too late to begin a reply: `soon` is false.
-fn time_fault(place: Place, soon: bool) -> Option<Reason>
-    ensures { result ≡ time_fault place soon true }
-{
-    match place {
-        Place::AfterCommand if !soon => Some(Reason::LateReply),
-        _ => None,
-    }
-}
-
-/// A first byte whose group its wire does not allow.
-fn group_fault(place: Place, allowed: bool) -> Option<Reason>
-    ensures { result ≡ group_fault place allowed }
-{
-    match place {
-        Place::Idle | Place::AfterCommand if !allowed => Some(Reason::WrongGroup),
         _ => None,
     }
 }
@@ -139,13 +148,13 @@ pub(crate) fn meaning(rate: Rate, block: &Block) -> Result<Command, Reason>
 
 /// A complete reply of a kind that its command may not have, or with a time that is not valid.
 #[inline(always)]
-pub(crate) fn reply_fault(rate: Rate, command: &Command, reply: &Block) -> Option<Reason>
-    ensures { result ≡ reply_fault rate (Some command.now) reply.now }
+pub(crate) fn reply_fault(rules: LineRules, command: &Command, reply: &Block) -> Option<Reason>
+    ensures { result ≡ reply_fault rules (Some command.now) reply.now }
 {
     if !command.fits(reply) {
         return Some(Reason::WrongReply);
     }
-    if !reply_time_valid_at(rate, command, reply) {
+    if !reply_time_valid_at(rules.rate, command, reply) {
         return Some(Reason::InvalidReplyTime);
     }
     None

@@ -1,5 +1,5 @@
 -- The first part of a capture, where its judging ends with it.
-use Rattle.judge9.proofs.Words.{[], ap, append_assoc, arith, Break, BreaksAtLast, ComesTo, Completes, Cut, Err, Exchange, GoesThrough, Appends-nil, HasItsWhy, inl, inr, IsFresh, IsJudgedFirst, IsLogOf, IsRun, IsSame, JudgesWhy, SaysWhy, WhyVerdict, ◌+◌}
+use Rattle.judge9.proofs.Words.{Terms, line_rules, counting, [], ap, append_assoc, arith, Break, BreaksAtLast, ComesTo, Completes, Cut, Err, Exchange, GoesThrough, Appends-nil, HasItsWhy, inl, inr, IsFresh, IsJudgedFirst, IsLogOf, IsRun, IsSame, JudgesWhy, SaysWhy, WhyVerdict, ◌+◌}
 use Rattle.judge9.proofs.Words.{JudgeError, Judges, JudgesRun, Judging, KeepsEnds, length, line_of, LineByte, List, None, Ok, Option, PartLog, Possible, Profile, Puts, Reason, refl, Result, Rows, RunVerdict, some_end, Some, subst, sym}
 use Rattle.judge9.proofs.Words.{Spoils, State, Turn, Turned, turn_of, Verdict, verdict_at, View, ℕ, ⊤, ◌++◌, ◌∙◌, ◌∷◌, ◌≡◌, ◌≢◌}
 use Rattle.std.specs.Global.{Global}
@@ -15,14 +15,14 @@ use Rattle.judge9.proofs.WhySteps.{why_is}
 
 -- a turn in it, whatever holds of what comes after
 abbrev pub AtFirst : {R : Type 0} → View → Profile → Option Rows → Turn → Judging R → Option (List ℕ) → Option (List ℕ) → List Exchange → Option ℕ → Type 0
-AtFirst view profile rows turn k old new es end_us = AtTurn (λ items. ⊤) view profile rows [] turn k old new es end_us
+AtFirst view profile rows turn k old new es end_us = AtTurn (λ items. ⊤) view (counting profile) rows [] turn k old new es end_us
 
-first_turn : {R : Type 0} (view : View) (profile : Profile) (old : Option (List ℕ)) {j mid : Judging R} {first : Turn} → IsFresh profile j → ComesTo j (Ok first) mid
+first_turn : {R : Type 0} (view : View) (profile : Profile) (old : Option (List ℕ)) {j mid : Judging R} {first : Turn} → IsFresh (counting profile) j → ComesTo j (Ok first) mid
     → AtFirst view profile j.rows.rows first mid old old [] None
 first_turn view profile old fresh come = arrive (λ items. ⊤) None (so_far-start fresh) (λ more. tt) (λ nil. refl) come
 
 -- what ends it
-pub first_end : {R : Type 0} (telling : Telling) (profile : Profile) (old new : Option (List ℕ)) (j k : Judging R) (end : Option Break) (log : PartLog) → IsFresh profile j
+pub first_end : {R : Type 0} (telling : Telling) (profile : Profile) (old new : Option (List ℕ)) (j k : Judging R) (end : Option Break) (log : PartLog) → IsFresh (counting profile) j
     → IsJudgedFirst telling profile j old (Ok end) k log new
     → (es : List Exchange) × (end_us : Option ℕ) × AtFirst (view_of telling) profile j.rows.rows (turn_of end) k old new es end_us × IsLogOf telling es end_us log
 first_end telling profile old new j k end log fresh (inl (x, is, come, same)) = absurd (cc is)
@@ -30,7 +30,7 @@ first_end telling profile old new j k end log fresh (inr (first, mid, come, (n, 
     (es, end_us, through (first_turn (view_of telling) profile old fresh come) n es end_us (turn_of end) k new goes, logged)
 
 -- or the judging stopped
-pub first_stop : {R : Type 0} (telling : Telling) (profile : Profile) (old new : Option (List ℕ)) (j k : Judging R) (x : JudgeError) (log : PartLog) → IsFresh profile j
+pub first_stop : {R : Type 0} (telling : Telling) (profile : Profile) (old new : Option (List ℕ)) (j k : Judging R) (x : JudgeError) (log : PartLog) → IsFresh (counting profile) j
     → IsJudgedFirst telling profile j old (Err x) k log new → Judges (view_of telling) profile j.rows.rows (Err x) old new
 first_stop telling profile old new j k x log fresh (inl (y, is, come, same)) =
     let is_y : x ≡ y = cc in
@@ -57,12 +57,12 @@ module _ {R : Type 0} {view : View} {profile : Profile} {rows : Option Rows} {k 
       (follows, last.0, (follows.states last.0).1 last.1)
 
 -- where no run remains the exchanges have one without the last alone
-pub loses_its_runs : {R : Type 0} {Q : List LineByte → Type 0} {view : View} {profile : Profile} {rows : Option Rows} {past : List LineByte} {k : Judging R}
-    {old now : Option (List ℕ)} {es : List Exchange} {end_us : Option ℕ} {b : Break} → AtTurn Q view profile rows past (Turn.Break b) k old now es end_us
-    → b.reason ≡ Reason.NoRun → (e : Exchange) × (k.follower.pairer.exchange ≡ Some e) × BreaksAtLast profile (es ++ e ∷ [])
-loses_its_runs {profile = profile} {k = k} {es = es} {b = b} h no_run = by h.turned.1.took.1
+pub loses_its_runs : {R : Type 0} {Q : List LineByte → Type 0} {view : View} {terms : Terms} {rows : Option Rows} {past : List LineByte} {k : Judging R}
+    {old now : Option (List ℕ)} {es : List Exchange} {end_us : Option ℕ} {b : Break} → AtTurn Q view terms rows past (Turn.Break b) k old now es end_us
+    → b.reason ≡ Reason.NoRun → (e : Exchange) × (k.follower.pairer.exchange ≡ Some e) × BreaksAtLast terms.profile (es ++ e ∷ [])
+loses_its_runs {terms = terms} {k = k} {es = es} {b = b} h no_run = by h.turned.1.took.1
   where
-    by : Spoils h.front.follower k.follower b → (e : Exchange) × (k.follower.pairer.exchange ≡ Some e) × BreaksAtLast profile (es ++ e ∷ [])
+    by : Spoils h.front.follower k.follower b → (e : Exchange) × (k.follower.pairer.exchange ≡ Some e) × BreaksAtLast terms.profile (es ++ e ∷ [])
     by (inl refused) = absurd (pairing_reason refused.0.is_reason no_run)
     by (inr none) =
         let c = none.1 in
@@ -77,7 +77,7 @@ pub run_found : {R : Type 0} {profile : Profile} {rows : Option Rows} {k : Judgi
     → JudgesRun profile rows (Ok (RunVerdict.Yes k.rows.given (length k.follower.pairer.tail) exchanges states))
 run_found {profile = profile} {k = k} h exchanges states same run =
     let both = judges-end h.so_far {new = None} (Ok (Verdict.Yes k.rows.given (length exchanges.items) (length k.follower.pairer.tail))) h.turned (ap length same) refl tt in
-    let cut = subst (λ l. Cut profile.rate both.0.told.rows.records l h.front.follower.pairer.tail) (sym same) (rw both.1 h.so_far.cut) in
+    let cut = subst (λ l. Cut (line_rules (counting profile)) both.0.told.rows.records l h.front.follower.pairer.tail) (sym same) (rw both.1 h.so_far.cut) in
     record { judges = both.0; run = ((h.front.follower.pairer.tail, cut), rw same run); no_write = λ q. cc }
 
 -- or a record breaks a rule
@@ -117,7 +117,7 @@ why_found {profile = profile} {rows = rows} {k = k} {b = b} why h says =
     let number : k.rows.given ≡ length f.items + 1 = omega (arith, gives.given, f.are_given.given) in
     let split : both.0.told.rows.records ≡ f.items ++ b.record ∷ both.1.0 = both.1.1 ∙ append_assoc f.items (b.record ∷ []) both.1.0 in
     let is = why_is _ f h.ended h.turned both.0.told.rows both.1.0 split k.rows.given number why says in
-    let all = subst (λ w. (j : Judges View.Verdict profile rows (Ok w) None None) × HasItsWhy profile j.told.rows why) (sym is.0) (both.0, is.1) in
+    let all = subst (λ w. (j : Judges View.Verdict profile rows (Ok w) None None) × HasItsWhy (counting profile) j.told.rows why) (sym is.0) (both.0, is.1) in
     record { judges = all.0; why = all.1; no_write = λ q. cc }
 
 -- by what was kept

@@ -1,5 +1,5 @@
 -- The laws on lists of records that keep the rules, on answers, on judging with hands, and on reasons.
-use Rattle.judge9.proofs.Words.{Deck, Hands, Rate, [], Answer, ap, append-nil, append_assoc, Applies, arith, Breaks, cases_lt, Cut, cut_once, cut_parted, drop, Exchange, exchange_kept, explained_of}
+use Rattle.judge9.proofs.Words.{Terms, LineRules, line_rules, counting, Deck, Hands, [], Answer, ap, append-nil, append_assoc, Applies, arith, Breaks, cases_lt, Cut, cut_once, cut_parted, drop, Exchange, exchange_kept, explained_of}
 use Rattle.judge9.proofs.Words.{first_before_last, first_holds, first_once, Profile, HasRun, Holds, inl, inr, IsAnswer, IsExchange, IsFirst, IsFirstBreak, IsKept, IsOk, IsReason}
 use Rattle.judge9.proofs.Words.{IsTail, kept_by_tail, kept_less, last_is_first, last_time, last_time-append, length, length-append, length_push, LineByte, List, None, Option}
 use Rattle.judge9.proofs.Words.{order, pairing, quiet_kept, rank, rank_low, rank_once, Reason, refl, Rows, same_parts, Some, subst, sym, take, take-append-drop, take-append-le}
@@ -9,13 +9,13 @@ use Rattle.judge9.proofs.RunSteps.{run_less}
 use Rattle.judge9.proofs.CutSteps.{cut-exchange, cut-tail, kept_grows}
 
 -- the tail of a cut is a tail
-pub cut_tail : (rate : Rate) (p : List LineByte) (es : List Exchange) (t : List LineByte) → Cut rate p es t → IsTail rate t
-cut_tail rate p [] t h = h.1
-cut_tail rate p (e ∷ es) t h = cut_tail rate h.1 es t h.4
+pub cut_tail : (rules : LineRules) (p : List LineByte) (es : List Exchange) (t : List LineByte) → Cut rules p es t → IsTail rules t
+cut_tail rules p [] t h = h.1
+cut_tail rules p (e ∷ es) t h = cut_tail rules h.1 es t h.4
 
 -- records that keep all rules keep those of pairing
-pub kept_of : (profile : Profile) (p : List LineByte) → IsOk profile p → IsKept profile.rate p
-kept_of profile p ok = record { exchanges = ok.exchanges; tail = ok.tail; cut = ok.cut }
+pub kept_of : (terms : Terms) (p : List LineByte) → IsOk terms p → IsKept (line_rules terms) p
+kept_of terms p ok = record { exchanges = ok.exchanges; tail = ok.tail; cut = ok.cut }
 
 -- what holds of a list without its last element where it holds of the list holds of each first part
 pub first_of : {X : Type 0} (P : List X → Type 0) → ((p : List X) (x : X) → P (p ++ x ∷ []) → P p) → (q p : List X) → P (p ++ q) → P p
@@ -23,11 +23,11 @@ first_of P less [] p k = subst P (append-nil p) k
 first_of P less (x ∷ q) p k = less p x (first_of P less q (p ++ x ∷ []) (subst P (sym (append_assoc p (x ∷ []) q)) k))
 
 -- without their last record, records that keep the rules keep them
-pub ok_less : (profile : Profile) (p : List LineByte) (r : LineByte) → IsOk profile (p ++ r ∷ []) → IsOk profile p
-ok_less profile p r ok =
-    let kept = kept_less profile.rate p r (kept_of profile (p ++ r ∷ []) ok) in
-    let more = cut_parted profile.rate p kept.exchanges ok.exchanges kept.tail (r ∷ []) ok.tail kept.cut ok.cut in
-    record { exchanges = kept.exchanges; tail = kept.tail; cut = kept.cut; run = first_of (HasRun profile) (run_less profile) more.0 kept.exchanges (rw more.1 at ok.run) }
+pub ok_less : (terms : Terms) (p : List LineByte) (r : LineByte) → IsOk terms (p ++ r ∷ []) → IsOk terms p
+ok_less terms p r ok =
+    let kept = kept_less (line_rules terms) p r (kept_of terms (p ++ r ∷ []) ok) in
+    let more = cut_parted (line_rules terms) p kept.exchanges ok.exchanges kept.tail (r ∷ []) ok.tail kept.cut ok.cut in
+    record { exchanges = kept.exchanges; tail = kept.tail; cut = kept.cut; run = first_of (HasRun terms.profile) (run_less terms.profile) more.0 kept.exchanges (rw more.1 at ok.run) }
 
 -- of two lists in one, the longer begins with the shorter
 pub shorter : {X : Type 0} (a x b y : List X) → a ++ x ≡ b ++ y → length a ≤ length b → (m : List X) × (b ≡ a ++ m)
@@ -36,63 +36,63 @@ shorter a x b y e h =
     (drop (length a) b, sym (take-append-drop (length a) b) ∙ ap (λ l. l ++ drop (length a) b) (sym same))
 
 -- one reason
-pub breaks_once : (profile : Profile) (p : List LineByte) (r : LineByte) (x y : Reason) → Breaks profile p r x → Breaks profile p r y → x ≡ y
-breaks_once profile p r x y b c =
-    let same = cut_once profile.rate p b.exchanges c.exchanges b.tail c.tail b.cut c.cut in
-    first_once (Applies profile c.exchanges c.tail r) order x y (rw (same.0, same.1) at b.is_reason) c.is_reason
+pub breaks_once : (terms : Terms) (p : List LineByte) (r : LineByte) (x y : Reason) → Breaks terms p r x → Breaks terms p r y → x ≡ y
+breaks_once terms p r x y b c =
+    let same = cut_once (line_rules terms) p b.exchanges c.exchanges b.tail c.tail b.cut c.cut in
+    first_once (Applies terms c.exchanges c.tail r) order x y (rw (same.0, same.1) at b.is_reason) c.is_reason
 
 -- of records with a break those keep the rules that come before it, and no more
-pub is_ok : {profile : Profile} {items : List LineByte} {at : ℕ} {z : Reason} → (b : IsFirstBreak profile items at z) → IsOk profile b.before
+pub is_ok : {terms : Terms} {items : List LineByte} {at : ℕ} {z : Reason} → (b : IsFirstBreak terms items at z) → IsOk terms b.before
 is_ok b = record { exchanges = b.breaks.exchanges; tail = b.breaks.tail; cut = b.breaks.cut; run = b.breaks.run }
 
-pub no_longer : {profile : Profile} {items : List LineByte} {at : ℕ} {z : Reason} → (b : IsFirstBreak profile items at z) (p rest : List LineByte) → IsOk profile p
+pub no_longer : {terms : Terms} {items : List LineByte} {at : ℕ} {z : Reason} → (b : IsFirstBreak terms items at z) (p rest : List LineByte) → IsOk terms p
     → items ≡ p ++ rest → length p ≤ length b.before
-no_longer {profile = profile} b p rest ok split = elim (cases_lt (length b.before) (length p)) [
+no_longer {terms = terms} b p rest ok split = elim (cases_lt (length b.before) (length p)) [
   | inl more ↦ let longer = shorter (b.before ++ b.next ∷ []) b.after p rest (append_assoc b.before (b.next ∷ []) b.after ∙ sym b.split ∙ split)
       (omega (arith, length_push b.before b.next)) in
-      absurd (b.breaks.not_ok (first_of (IsOk profile) (ok_less profile) longer.0 (b.before ++ b.next ∷ []) (subst (IsOk profile) longer.1 ok)))
+      absurd (b.breaks.not_ok (first_of (IsOk terms) (ok_less terms) longer.0 (b.before ++ b.next ∷ []) (subst (IsOk terms) longer.1 ok)))
   | inr few ↦ few
 ]
 
-pub no_break : (profile : Profile) (items : List LineByte) (at : ℕ) (x : Reason) → IsOk profile items → IsFirstBreak profile items at x → ⊥
-no_break profile items at x ok b = omega (arith, no_longer b items [] ok (sym (append-nil items)), ap length b.split, length-append b.before (b.next ∷ b.after))
+pub no_break : (terms : Terms) (items : List LineByte) (at : ℕ) (x : Reason) → IsOk terms items → IsFirstBreak terms items at x → ⊥
+no_break terms items at x ok b = omega (arith, no_longer b items [] ok (sym (append-nil items)), ap length b.split, length-append b.before (b.next ∷ b.after))
 
-pub break_once : (profile : Profile) (items : List LineByte) (m n : ℕ) (x y : Reason) → IsFirstBreak profile items m x → IsFirstBreak profile items n y → (m ≡ n) × (x ≡ y)
-break_once profile items m n x y b c =
+pub break_once : (terms : Terms) (items : List LineByte) (m n : ℕ) (x y : Reason) → IsFirstBreak terms items m x → IsFirstBreak terms items n y → (m ≡ n) × (x ≡ y)
+break_once terms items m n x y b c =
     let few = no_longer b c.before (c.next ∷ c.after) (is_ok c) c.split in
     let many = no_longer c b.before (b.next ∷ b.after) (is_ok b) b.split in
     let parts = same_parts b.before c.before (b.next ∷ b.after) (c.next ∷ c.after) (omega arith) (sym b.split ∙ c.split) in
     let next : b.next ≡ c.next = let e = parts.1 in cc in
-    (omega (arith, ap length parts.0), breaks_once profile c.before c.next x y (rw (parts.0, next) at b.breaks) c.breaks)
+    (omega (arith, ap length parts.0), breaks_once terms c.before c.next x y (rw (parts.0, next) at b.breaks) c.breaks)
 
-pub taken : (profile : Profile) (rows : Rows) (at : ℕ) (reason : Reason) → (b : IsFirstBreak profile rows.records at reason)
+pub taken : (terms : Terms) (rows : Rows) (at : ℕ) (reason : Reason) → (b : IsFirstBreak terms rows.records at reason)
     → explained_of rows (Answer.judged (Verdict.No at reason)) ≡ b.before
-taken profile rows at reason b =
+taken terms rows at reason b =
     let n : at - 1 ≡ length b.before = let e = b.number in omega arith in
     ap (λ k. take k rows.records) n ∙ ap (λ l. take (length b.before) l) b.split ∙ take-append_seam b.before (b.next ∷ b.after)
 
 -- the records that a report explains keep the rules
-pub answer_ok : (profile : Profile) (rows : Rows) (a : Answer) → IsAnswer profile rows a → IsOk profile (explained_of rows a)
+pub answer_ok : (profile : Profile) (rows : Rows) (a : Answer) → IsAnswer profile rows a → IsOk (counting profile) (explained_of rows a)
 answer_ok profile rows (Answer.judged (Verdict.Yes r e n)) is = record { exchanges = is.1.cut_exchanges; tail = is.1.cut_tail; cut = is.1.cut; run = is.1.run }
-answer_ok profile rows (Answer.judged (Verdict.No at reason)) is = rw (taken profile rows at reason is) (is_ok is)
+answer_ok profile rows (Answer.judged (Verdict.No at reason)) is = rw (taken (counting profile) rows at reason is) (is_ok is)
 answer_ok profile rows (Answer.unreadable e) is = is.1
 
 -- one answer at most is right for a text
 pub answer_once : (profile : Profile) (rows : Rows) (a b : Answer) → IsAnswer profile rows a → IsAnswer profile rows b → a ≡ b
-answer_once profile rows (Answer.judged (Verdict.No at x)) (Answer.judged (Verdict.No n y)) i j = let same = break_once profile rows.records at n x y i j in
+answer_once profile rows (Answer.judged (Verdict.No at x)) (Answer.judged (Verdict.No n y)) i j = let same = break_once (counting profile) rows.records at n x y i j in
     cc (same.0, same.1)
-answer_once profile rows (Answer.judged (Verdict.No at x)) b i j = absurd (no_break profile rows.records at x (answer_ok profile rows b j) i)
-answer_once profile rows a (Answer.judged (Verdict.No at x)) i j = absurd (no_break profile rows.records at x (answer_ok profile rows a i) j)
+answer_once profile rows (Answer.judged (Verdict.No at x)) b i j = absurd (no_break (counting profile) rows.records at x (answer_ok profile rows b j) i)
+answer_once profile rows a (Answer.judged (Verdict.No at x)) i j = absurd (no_break (counting profile) rows.records at x (answer_ok profile rows a i) j)
 answer_once profile rows (Answer.judged (Verdict.Yes r e t)) (Answer.judged (Verdict.Yes s f u)) i j =
-    let same = cut_once profile.rate rows.records i.1.cut_exchanges j.1.cut_exchanges i.1.cut_tail j.1.cut_tail i.1.cut j.1.cut in
+    let same = cut_once (line_rules (counting profile)) rows.records i.1.cut_exchanges j.1.cut_exchanges i.1.cut_tail j.1.cut_tail i.1.cut j.1.cut in
     let counts = i.1 in
     let others = j.1 in
     cc (ap length same.0, ap length same.1)
 answer_once profile rows a b i j = cc (i.0, j.0)
 
--- ---- what one deck explains, another of its rate that has all its runs explains too, and no break comes earlier
+-- ---- what one deck explains, another of its rules that has all its runs explains too, and no break comes earlier
 
--- a deck, and one of its rate that has all its runs
+-- a deck, and one of its rules that has all its runs
 module _ (p : Profile) (h : Hands) (d : Option Deck) (has : (es : List Exchange) → HasRun p es → HasRun (record p { hands = h; deck = d }) es) where
   pub yes_with_more : (rows : Rows) (records exchanges tail : ℕ) → IsAnswer p rows (Answer.judged (Verdict.Yes records exchanges tail))
       → IsAnswer (record p { hands = h; deck = d }) rows (Answer.judged (Verdict.Yes records exchanges tail))
@@ -113,92 +113,92 @@ module _ (p : Profile) (h : Hands) (d : Option Deck) (has : (es : List Exchange)
       → IsAnswer (record p { hands = h; deck = d }) rows (Answer.judged (Verdict.No other another)) → at ≤ other
   no_with_more rows at other reason another w v =
       let b = w.breaks in
-      let ok : IsOk (record p { hands = h; deck = d }) w.before = record { exchanges = b.exchanges; tail = b.tail; cut = b.cut; run = has b.exchanges b.run } in
+      let ok : IsOk (counting (record p { hands = h; deck = d })) w.before = record { exchanges = b.exchanges; tail = b.tail; cut = b.cut; run = has b.exchanges b.run } in
       omega (arith, no_longer v w.before (w.next ∷ w.after) ok w.split)
 
 -- ---- which reason a record gets: that of pairing where a rule of pairing is broken, and else that no run remains
 
 -- the reasons before the last one are those of pairing
 
-same_before_last : (profile : Profile) (es : List Exchange) (t : List LineByte) (r : LineByte) (y : Reason) → rank y < 12
-    → (Holds profile.rate y t r → Applies profile es t r y) × (Applies profile es t r y → Holds profile.rate y t r)
-same_before_last profile es t r Reason.NoRun low = absurd (omega arith)
-same_before_last profile es t r y low = (λ k. k, λ k. k)
+same_before_last : (terms : Terms) (es : List Exchange) (t : List LineByte) (r : LineByte) (y : Reason) → rank y < 12
+    → (Holds (line_rules terms) y t r → Applies terms es t r y) × (Applies terms es t r y → Holds (line_rules terms) y t r)
+same_before_last terms es t r Reason.NoRun low = absurd (omega arith)
+same_before_last terms es t r y low = (λ k. k, λ k. k)
 
 -- a reason of pairing is never that no run remains
-pub pairing_reason : {rate : Rate} {t : List LineByte} {r : LineByte} {x : Reason} → IsReason rate t r x → x ≢ Reason.NoRun
-pairing_reason {rate = rate} {t = t} {r = r} {x = x} is same = subst (λ y. Holds rate y t r) same (first_holds (λ y. Holds rate y t r) order x is)
+pub pairing_reason : {rules : LineRules} {t : List LineByte} {r : LineByte} {x : Reason} → IsReason rules t r x → x ≢ Reason.NoRun
+pairing_reason {rules = rules} {t = t} {r = r} {x = x} is same = subst (λ y. Holds rules y t r) same (first_holds (λ y. Holds rules y t r) order x is)
 
 not_last : (y : Reason) → y ≢ Reason.NoRun → rank y < 12
 not_last y other = elim (cases_lt (rank y) 12) [ inl low ↦ low | inr high ↦ absurd (other (rank_once y Reason.NoRun (omega (arith, rank_low y)))) ]
 
 -- a reason of pairing is the reason
-pub pairing_first : (profile : Profile) (es : List Exchange) (t : List LineByte) (r : LineByte) (x : Reason) → IsReason profile.rate t r x → IsFirst (Applies profile es t r) order x
-pairing_first profile es t r x is =
-    first_before_last (λ y. Holds profile.rate y t r) (Applies profile es t r) x (same_before_last profile es t r) (not_last x (pairing_reason is)) is
+pub pairing_first : (terms : Terms) (es : List Exchange) (t : List LineByte) (r : LineByte) (x : Reason) → IsReason (line_rules terms) t r x → IsFirst (Applies terms es t r) order x
+pairing_first terms es t r x is =
+    first_before_last (λ y. Holds (line_rules terms) y t r) (Applies terms es t r) x (same_before_last terms es t r) (not_last x (pairing_reason is)) is
 
 -- where the records are not kept, the reason is one of pairing
-pub first_pairing : (profile : Profile) (es : List Exchange) (t : List LineByte) (r : LineByte) (x : Reason) → ¬ IsKept profile.rate (t ++ r ∷ [])
-    → IsFirst (Applies profile es t r) order x → IsReason profile.rate t r x
-first_pairing profile es t r x broken is =
-    let low = not_last x (λ e. let k = subst (Applies profile es t r) e (first_holds (Applies profile es t r) order x is) in broken (exchange_kept profile.rate (t ++ r ∷ []) k.0 k.1))
+pub first_pairing : (terms : Terms) (es : List Exchange) (t : List LineByte) (r : LineByte) (x : Reason) → ¬ IsKept (line_rules terms) (t ++ r ∷ [])
+    → IsFirst (Applies terms es t r) order x → IsReason (line_rules terms) t r x
+first_pairing terms es t r x broken is =
+    let low = not_last x (λ e. let k = subst (Applies terms es t r) e (first_holds (Applies terms es t r) order x is) in broken (exchange_kept (line_rules terms) (t ++ r ∷ []) k.0 k.1))
     in
-    first_before_last (Applies profile es t r) (λ y. Holds profile.rate y t r) x (λ y l. ((same_before_last profile es t r y l).1, (same_before_last profile es t r y l).0)) low is
+    first_before_last (Applies terms es t r) (λ y. Holds (line_rules terms) y t r) x (λ y l. ((same_before_last terms es t r y l).1, (same_before_last terms es t r y l).0)) low is
 
 -- an exchange without a run has the last reason
-pub no_run_first : (profile : Profile) (es : List Exchange) (t : List LineByte) (r : LineByte) (e : Exchange) → pairing profile.rate t r ≡ None → IsExchange profile.rate (t ++ r ∷ []) e
-    → ¬ HasRun profile (es ++ e ∷ []) → IsFirst (Applies profile es t r) order Reason.NoRun
-no_run_first profile es t r e quiet is none = last_is_first (Applies profile es t r) (λ y low k. block.none_holds profile.rate t r quiet y ((same_before_last profile es t r y low).1 k))
+pub no_run_first : (terms : Terms) (es : List Exchange) (t : List LineByte) (r : LineByte) (e : Exchange) → pairing (line_rules terms) t r ≡ None → IsExchange (line_rules terms) (t ++ r ∷ []) e
+    → ¬ HasRun terms.profile (es ++ e ∷ []) → IsFirst (Applies terms es t r) order Reason.NoRun
+no_run_first terms es t r e quiet is none = last_is_first (Applies terms es t r) (λ y low k. block.none_holds (line_rules terms) t r quiet y ((same_before_last terms es t r y low).1 k))
     (e, is, none)
 
 -- the reason depends on the tail alone, where the records are not kept
-pub breaks_tail : (profile : Profile) (p : List LineByte) (es : List Exchange) (t : List LineByte) (r : LineByte) (x : Reason) → Cut profile.rate p es t → ¬ IsKept profile.rate (p ++ r ∷ [])
-    → Breaks profile p r x → IsReason profile.rate t r x
-breaks_tail profile p es t r x cut broken b =
-    let same = (cut_once profile.rate p b.exchanges es b.tail t b.cut cut).1 in
-    subst (λ (l : List LineByte). IsReason profile.rate l r x) same
-    (first_pairing profile b.exchanges b.tail r x (λ kept. broken (kept_by_tail profile.rate p b.exchanges b.tail (r ∷ []) b.cut kept)) b.is_reason)
+pub breaks_tail : (terms : Terms) (p : List LineByte) (es : List Exchange) (t : List LineByte) (r : LineByte) (x : Reason) → Cut (line_rules terms) p es t → ¬ IsKept (line_rules terms) (p ++ r ∷ [])
+    → Breaks terms p r x → IsReason (line_rules terms) t r x
+breaks_tail terms p es t r x cut broken b =
+    let same = (cut_once (line_rules terms) p b.exchanges es b.tail t b.cut cut).1 in
+    subst (λ (l : List LineByte). IsReason (line_rules terms) l r x) same
+    (first_pairing terms b.exchanges b.tail r x (λ kept. broken (kept_by_tail (line_rules terms) p b.exchanges b.tail (r ∷ []) b.cut kept)) b.is_reason)
 
-pub tail_breaks : (profile : Profile) (p : List LineByte) (es : List Exchange) (t : List LineByte) (r : LineByte) (x : Reason) → Cut profile.rate p es t → HasRun profile es
-    → ¬ IsKept profile.rate (p ++ r ∷ []) → IsReason profile.rate t r x → Breaks profile p r x
-tail_breaks profile p es t r x cut run broken is =
-    record { exchanges = es; tail = t; cut = cut; run = run; not_ok = λ ok. broken (kept_of profile (p ++ r ∷ []) ok); is_reason = pairing_first profile es t r x is }
+pub tail_breaks : (terms : Terms) (p : List LineByte) (es : List Exchange) (t : List LineByte) (r : LineByte) (x : Reason) → Cut (line_rules terms) p es t → HasRun terms.profile es
+    → ¬ IsKept (line_rules terms) (p ++ r ∷ []) → IsReason (line_rules terms) t r x → Breaks terms p r x
+tail_breaks terms p es t r x cut run broken is =
+    record { exchanges = es; tail = t; cut = cut; run = run; not_ok = λ ok. broken (kept_of terms (p ++ r ∷ []) ok); is_reason = pairing_first terms es t r x is }
 
 -- ---- some reason always applies
 
 -- the tail's last record is not after that of the whole
-last_time_rest : (rate : Rate) (front rest : List LineByte) → last_time rest ≤ last_time (front ++ rest)
-last_time_rest rate front [] = omega arith
-last_time_rest rate front (a ∷ rest) = omega (arith, last_time-append rate front (a ∷ rest) (omega arith))
+last_time_rest : (rules : LineRules) (front rest : List LineByte) → last_time rest ≤ last_time (front ++ rest)
+last_time_rest rules front [] = omega arith
+last_time_rest rules front (a ∷ rest) = omega (arith, last_time-append rules front (a ∷ rest) (omega arith))
 
-pub last_time-cut : (rate : Rate) (p : List LineByte) (es : List Exchange) (t : List LineByte) → Cut rate p es t → last_time t ≤ last_time p
-last_time-cut rate p [] t h = omega (arith, ap last_time h.0)
-last_time-cut rate p (e ∷ es) t h = omega (arith, last_time-cut rate h.1 es t h.4, last_time_rest rate h.0 h.1, ap last_time h.2)
+pub last_time-cut : (rules : LineRules) (p : List LineByte) (es : List Exchange) (t : List LineByte) → Cut rules p es t → last_time t ≤ last_time p
+last_time-cut rules p [] t h = omega (arith, ap last_time h.0)
+last_time-cut rules p (e ∷ es) t h = omega (arith, last_time-cut rules h.1 es t h.4, last_time_rest rules h.0 h.1, ap last_time h.2)
 
 -- where the records keep the rules and with one more do not, there is a reason
-pub some_reason : (profile : Profile) (p : List LineByte) (r : LineByte) → IsOk profile p → last_time p ≤ r.time_us → ¬ IsOk profile (p ++ r ∷ []) → (x : Reason) × Breaks profile p r x
-some_reason profile p r ok later broken = by (pairing profile.rate ok.tail r) refl
+pub some_reason : (terms : Terms) (p : List LineByte) (r : LineByte) → IsOk terms p → last_time p ≤ r.time_us → ¬ IsOk terms (p ++ r ∷ []) → (x : Reason) × Breaks terms p r x
+some_reason terms p r ok later broken = by (pairing (line_rules terms) ok.tail r) refl
   where
     tail_later : last_time ok.tail ≤ r.time_us
-    tail_later = omega (arith, last_time-cut profile.rate p ok.exchanges ok.tail ok.cut)
+    tail_later = omega (arith, last_time-cut (line_rules terms) p ok.exchanges ok.tail ok.cut)
 
-    reason : (x : Reason) → IsFirst (Applies profile ok.exchanges ok.tail r) order x → (x : Reason) × Breaks profile p r x
+    reason : (x : Reason) → IsFirst (Applies terms ok.exchanges ok.tail r) order x → (x : Reason) × Breaks terms p r x
     reason x is = (x, record { exchanges = ok.exchanges; tail = ok.tail; cut = ok.cut; run = ok.run; not_ok = broken; is_reason = is })
 
-    tail : IsTail profile.rate ok.tail
-    tail = cut_tail profile.rate p ok.exchanges ok.tail ok.cut
+    tail : IsTail (line_rules terms) ok.tail
+    tail = cut_tail (line_rules terms) p ok.exchanges ok.tail ok.cut
 
-    by : (o : Option Reason) → pairing profile.rate ok.tail r ≡ o → (x : Reason) × Breaks profile p r x
-    by None quiet = elim (kept_grows profile.rate ok.tail r tail (quiet_kept profile.rate ok.tail r tail tail_later quiet)) [
+    by : (o : Option Reason) → pairing (line_rules terms) ok.tail r ≡ o → (x : Reason) × Breaks terms p r x
+    by None quiet = elim (kept_grows (line_rules terms) ok.tail r tail (quiet_kept (line_rules terms) ok.tail r tail tail_later quiet)) [
       | inl longer ↦ absurd (broken (record {
         exchanges = ok.exchanges;
         tail = ok.tail ++ r ∷ [];
-        cut = cut-tail profile.rate p ok.exchanges ok.tail r ok.cut longer;
+        cut = cut-tail (line_rules terms) p ok.exchanges ok.tail r ok.cut longer;
         run = ok.run;
       }))
       | inr whole ↦
-          let cut = cut-exchange profile.rate p ok.exchanges ok.tail r whole.0 ok.cut whole.1 in
-          reason Reason.NoRun (no_run_first profile ok.exchanges ok.tail r whole.0 quiet whole.1
+          let cut = cut-exchange (line_rules terms) p ok.exchanges ok.tail r whole.0 ok.cut whole.1 in
+          reason Reason.NoRun (no_run_first terms ok.exchanges ok.tail r whole.0 quiet whole.1
           (λ run. broken (record { exchanges = ok.exchanges ++ whole.0 ∷ []; tail = []; cut = cut; run = run })))
     ]
-    by (Some x) e = reason x (pairing_first profile ok.exchanges ok.tail r x (block.table_reason profile.rate ok.tail r x tail tail_later e))
+    by (Some x) e = reason x (pairing_first terms ok.exchanges ok.tail r x (block.table_reason (line_rules terms) ok.tail r x tail tail_later e))

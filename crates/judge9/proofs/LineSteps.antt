@@ -1,12 +1,12 @@
 -- The lines of one exchange more.
-use Rattle.judge9.proofs.Words.{Rate, records_in, [], ap, append-nil, append_assoc, append_known, Appends, Appends-trans, AreLines, arith, Cut, Ends, Exchange, KeepsEnds, Profile, IsExchange}
+use Rattle.judge9.proofs.Words.{LineRules, records_in, [], ap, append-nil, append_assoc, append_known, Appends, Appends-trans, AreLines, arith, Cut, Ends, Exchange, KeepsEnds, Profile, IsExchange}
 use Rattle.judge9.proofs.Words.{IsExplained, IsKnowledge, IsLineOf, Knowledge, knowledge_same, length, length-append, length-map, line_of_exchange}
 use Rattle.judge9.proofs.Words.{LineByte, List, None, Option, Possible, records_of, refl, Some, subst, sym, Tracked, View, ℕ, ◌++◌, ◌+◌, ◌↔◌, ◌∙◌, ◌∷◌, ◌≡◌}
 
 -- ---- how many records exchanges have
 
-pub exchange_len : (rate : Rate) (front : List LineByte) (e : Exchange) → IsExchange rate front e → length front ≡ records_of e
-exchange_len rate front e h =
+pub exchange_len : (rules : LineRules) (front : List LineByte) (e : Exchange) → IsExchange rules front e → length front ≡ records_of e
+exchange_len rules front e h =
     omega (
       arith,
       ap length h.split,
@@ -16,9 +16,9 @@ exchange_len rate front e h =
           (ap length h.reply.spelled.spelled),
     )
 
-pub cut_len : (rate : Rate) (p : List LineByte) (es : List Exchange) (t : List LineByte) → Cut rate p es t → length p ≡ records_in es + length t
-cut_len rate p [] t h = omega (arith, ap length h.0)
-cut_len rate p (e ∷ es) t h = omega (arith, ap length h.2, length-append h.0 h.1, exchange_len rate h.0 e h.3, cut_len rate h.1 es t h.4)
+pub cut_len : (rules : LineRules) (p : List LineByte) (es : List Exchange) (t : List LineByte) → Cut rules p es t → length p ≡ records_in es + length t
+cut_len rules p [] t h = omega (arith, ap length h.0)
+cut_len rules p (e ∷ es) t h = omega (arith, ap length h.2, length-append h.0 h.1, exchange_len rules h.0 e h.3, cut_len rules h.1 es t h.4)
 
 -- ---- a line more
 

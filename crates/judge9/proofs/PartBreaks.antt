@@ -1,5 +1,5 @@
 -- What comes before a part, and after a break: where the next part begins, and how far there is to go.
-use Rattle.judge9.proofs.Words.{[], ap, append-nil, append_assoc, Appends, AppendsPart, AreParts, AreTextsOf, arith, begins_next_part, BeginsAt, Bool, Break, Breaks, BrokenPart}
+use Rattle.judge9.proofs.Words.{line_rules, in_parts, [], ap, append-nil, append_assoc, Appends, AppendsPart, AreParts, AreTextsOf, arith, begins_next_part, BeginsAt, Bool, Break, Breaks, BrokenPart}
 use Rattle.judge9.proofs.Words.{CaptureError, Comes, ComesTo, Err, Exchange, exchanges_of, false, Follower, GivesAll, GivesEnd, GivesRecord, GivesRefusal, KnowsNothing, Profile, inl, inr, JudgeError}
 use Rattle.judge9.proofs.Words.{JudgesParts, Judging, last_of, length, length-append, length_push, LineByte, List, may_begin, NoneBegins, None, Ok}
 use Rattle.judge9.proofs.Words.{Option, Progress, Reason, records_in, refl, refusal_of, Rest, rest_after, Result, Resumes, ResumesAfter, Rows, Some, subst, sym}
@@ -28,7 +28,7 @@ pub record Before (T : BrokenPart → List ℕ → Type 0) (broken : List Broken
 abbrev pub Arrives : {R : Type 0} → (BrokenPart → List ℕ → Type 0) → View → Profile → Option Rows → Option (List ℕ) → Option (List ℕ) → List BrokenPart
     → Result Turn JudgeError → Judging R → Type 0
 Arrives T view profile rows old now broken (Ok turn) k =
-    (past : List LineByte) × Before T broken past old now × AtTurn (Onward profile broken past) view profile rows past turn k now now [] None
+    (past : List LineByte) × Before T broken past old now × AtTurn (Onward profile broken past) view (in_parts profile) rows past turn k now now [] None
 Arrives T view profile rows old now broken (Err x) k = JudgesParts T view profile rows (Err x) old now
 
 -- what was written, with that of this part
@@ -40,7 +40,7 @@ wrote_all {old = old} {begun = begun} before new text wrote = Appends-trans old 
 -- the judging stopped at its rows
 pub part_stops : {R : Type 0} {T : BrokenPart → List ℕ → Type 0} {view : View} {profile : Profile} {rows : Option Rows} {old begun now : Option (List ℕ)}
     {broken : List BrokenPart} {past : List LineByte} {es : List Exchange} {front : Judging R} (k : Judging R) (before : Before T broken past old begun) (x : JudgeError)
-    (f : SoFar view profile rows past front begun now es) → HoldsOn (Onward profile broken past) f.items → Turned front (Err x) k
+    (f : SoFar view (in_parts profile) rows past front begun now es) → HoldsOn (Onward profile broken past) f.items → Turned front (Err x) k
     → JudgesParts T view profile rows (Err x) old now
 part_stops {now = now} {broken = broken} {past = past} {front = front} k before x f all (inl memory) =
     rw memory (parts-memory broken before.texts before.are_texts f.keeps {left = front.rows.rows} [] (all []) (rw append-nil (seen_now f))
@@ -58,7 +58,7 @@ first_ahead j k Q first turn comes on = ((first, comes), on)
 -- the first record of a part comes
 arrive_first : {R : Type 0} (view : View) {T : BrokenPart → List ℕ → Type 0} {profile : Profile} {rows : Option Rows} {old now : Option (List ℕ)}
     {broken : List BrokenPart} {past : List LineByte} {before_rows : Progress R} {follower : Follower} {k : Judging R} {first : LineByte} {r : Result Turn JudgeError}
-    → Before T broken past old now → KnowsNothing profile follower → AreRead rows past before_rows
+    → Before T broken past old now → KnowsNothing (in_parts profile) follower → AreRead rows past before_rows
     → ((more : List LineByte) → Onward profile broken past (first ∷ more)) → BeginsAt (record { rows = before_rows; follower = follower }) first r k
     → Arrives T view profile rows old now broken r k
 arrive_first {R = R} view {T = T} {profile = profile} {rows = rows} {old = old} {now = now} {broken = broken} {past = past} {before_rows = before_rows} {follower = follower} {k = k} {first = first} {r = r}
@@ -70,7 +70,7 @@ arrive_first {R = R} view {T = T} {profile = profile} {rows = rows} {old = old} 
     Q : List LineByte → Type 0
     Q = Onward profile broken past
 
-    by : (h : SoFar view profile rows past j now now []) → h.items ≡ [] → BeginsAt j first r k → Arrives T view profile rows old now broken r k
+    by : (h : SoFar view (in_parts profile) rows past j now now []) → h.items ≡ [] → BeginsAt j first r k → Arrives T view profile rows old now broken r k
     by h nil (inl (is, gives)) =
         rw is (parts-memory broken before.texts before.are_texts h.keeps {left = k.rows.rows} (first ∷ []) (rw nil (on [])) (seen_on h gives)
         (wrote_all before now h.text h.wrote))
@@ -82,7 +82,7 @@ arrive_first {R = R} view {T = T} {profile = profile} {rows = rows} {old = old} 
         let all : HoldsOn Q f.items = subst (HoldsOn Q) (sym (so_far-open_items h comes ∙ ap (λ l. l ++ first ∷ []) nil)) (holds-more Q [] first on) in
         on_result r f all come
       where
-        on_result : (result : Result Turn JudgeError) → (f : SoFar view profile rows past mid now now []) → HoldsOn Q f.items → ComesTo mid result k
+        on_result : (result : Result Turn JudgeError) → (f : SoFar view (in_parts profile) rows past mid now now []) → HoldsOn Q f.items → ComesTo mid result k
             → Arrives T view profile rows old now broken result k
         on_result (Ok turn) f all come = (past, before, arrive Q None f all (λ none. refl) come)
         on_result (Err x) f all come = came Q None f all (λ none. refl) come (λ front g kept ended t. part_stops k before x g kept t)
@@ -116,7 +116,7 @@ texts_push T (x ∷ broken) b texts text are is =
 
 -- the part that breaks at a record
 abbrev pub broken_at : {R : Type 0} {view : View} {profile : Profile} {rows : Option Rows} {past : List LineByte} {front : Judging R} {old now : Option (List ℕ)}
-    {es : List Exchange} → SoFar view profile rows past front old now es → Break → BrokenPart
+    {es : List Exchange} → SoFar view (in_parts profile) rows past front old now es → Break → BrokenPart
 broken_at {past = past} {front = front} {es = es} f b = record {
   part = record { past = length past; records = f.items; exchanges = es; tail = front.follower.pairer.tail };
   breaking = b.record;
@@ -126,15 +126,15 @@ broken_at {past = past} {front = front} {es = es} f b = record {
 pub after_break : {R : Type 0} {T : BrokenPart → List ℕ → Type 0} {view : View} {profile : Profile} {rows : Option Rows} {broken : List BrokenPart}
     {past : List LineByte}
     {old begun now : Option (List ℕ)} {front : Judging R} {es : List Exchange} (j : Judging R) (before : Before T broken past old begun)
-    (f : SoFar view profile rows past front begun now es) (b : Break) (text : List ℕ) → T (broken_at f b) text
-    → GivesRecord front.rows b.record j.rows → Breaks profile f.items b.record b.reason
+    (f : SoFar view (in_parts profile) rows past front begun now es) (b : Break) (text : List ℕ) → T (broken_at f b) text
+    → GivesRecord front.rows b.record j.rows → Breaks (in_parts profile) f.items b.record b.reason
     → ((more : List LineByte) → Onward profile broken past (f.items ++ b.record ∷ more))
     → AfterBreak T view profile rows j b (broken ++ broken_at f b ∷ []) (before.texts ++ text)
 after_break {T = T} {view = view} {profile = profile} {broken = broken} {past = past} {front = front} {es = es} j before f b text is gives breaks on =
     let part : BrokenPart = broken_at f b in
     let tail = front.follower.pairer.tail in
     let size = length-append past f.items in
-    let counts = cut_counts profile.rate f.items es tail f.cut in
+    let counts = cut_counts (line_rules (in_parts profile)) f.items es tail f.cut in
     record {
       items = past ++ f.items;
       front = front.rows;
@@ -143,7 +143,7 @@ after_break {T = T} {view = view} {profile = profile} {broken = broken} {past = 
       are_texts = texts_push T broken part before.texts text before.are_texts is;
       few = rw (exchanges_push broken part) (omega (arith, before.few, size, counts.0, length-append (exchanges_of broken) es));
       fits = rw (exchanges_push broken part)
-          (omega (arith, before.fits, size, cut_len profile.rate f.items es tail f.cut, records_joined (exchanges_of broken) es));
+          (omega (arith, before.fits, size, cut_len (line_rules (in_parts profile)) f.items es tail f.cut, records_joined (exchanges_of broken) es));
       onward = λ after others left parts.
           let rest : AreParts profile (rest_after (length past + length f.items) b.reason b.record after) others left =
           subst (λ n. AreParts profile (rest_after n b.reason b.record after) others left) size parts in
@@ -195,7 +195,7 @@ module _ {R : Type 0} {T : BrokenPart → List ℕ → Type 0} {view : View} {pr
   }
 
   -- the judging stops before the next part
-  stopped : {P : Type 0} → ((past : List LineByte) (keeps : Keeps view profile past [] []) (more : List LineByte) → keeps.text ≡ []
+  stopped : {P : Type 0} → ((past : List LineByte) (keeps : Keeps view (in_parts profile) past [] []) (more : List LineByte) → keeps.text ≡ []
       → Onward profile broken past (keeps.items ++ more) → Seen rows j.rows.rows (past ++ (keeps.items ++ more)) None → P) → P
   stopped {P = P} told = by (begins_next_part b.reason b.record) refl
     where
@@ -203,11 +203,11 @@ module _ {R : Type 0} {T : BrokenPart → List ℕ → Type 0} {view : View} {pr
       read = read_one rows h.items h.front j.rows b.record h.read h.gives
 
       by : (c : Bool) → begins_next_part b.reason b.record ≡ c → P
-      by true begins = told h.items (keeps-none view profile h.items refl) (b.record ∷ []) refl (at_breaking begins [])
+      by true begins = told h.items (keeps-none view (in_parts profile) h.items refl) (b.record ∷ []) refl (at_breaking begins [])
           (seen rows j.rows.rows (h.items ++ b.record ∷ []) None read.read read.are_given.can_be)
       by false after =
           let all = read_past [] refl in
-          told (past_of []) (keeps-none view profile (past_of []) refl) [] refl (at_end [] after tt)
+          told (past_of []) (keeps-none view (in_parts profile) (past_of []) refl) [] refl (at_end [] after tt)
           (rw (append-nil (past_of [])) (seen rows j.rows.rows (past_of []) None all.read all.are_given.can_be))
 
   longer : (passed : List LineByte) → length h.items ≤ length (past_of passed)
@@ -222,14 +222,14 @@ module _ {R : Type 0} {T : BrokenPart → List ℕ → Type 0} {view : View} {pr
   break-memory wrote = stopped (λ past keeps more nil on s. parts-memory broken texts h.are_texts keeps more on s (rw (nil, append-nil) wrote))
 
   -- or the next turn comes
-  pub resume : (old now : Option (List ℕ)) (k : Judging R) (r : Result Turn JudgeError) → Appends old now texts → TakesUp profile b j r k
+  pub resume : (old now : Option (List ℕ)) (k : Judging R) (r : Result Turn JudgeError) → Appends old now texts → TakesUp (in_parts profile) b j r k
       → Arrives T view profile rows old now broken r k
   resume old now k r wrote (inl (is, rest)) = rw is (break-memory wrote)
   resume old now k r wrote (inr taken) = by (begins_next_part b.reason b.record) refl taken
     where
       resumed : (passed : List LineByte) (mid : Progress R) → begins_next_part b.reason b.record ≡ false → NoneBegins b.record passed → GivesAll j.rows passed mid
-          → ((first : LineByte) × (may_begin (last_of b.record passed) first ≡ true) × Resumes profile mid first r k)
-          ⊎ ((r ≡ Ok Turn.End) × GivesEnd mid k.rows × KnowsNothing profile k.follower)
+          → ((first : LineByte) × (may_begin (last_of b.record passed) first ≡ true) × Resumes (in_parts profile) mid first r k)
+          ⊎ ((r ≡ Ok Turn.End) × GivesEnd mid k.rows × KnowsNothing (in_parts profile) k.follower)
           ⊎ ((e : CaptureError) × GivesRefusal mid e k.rows × (r ≡ Err (refusal_of e)))
           → Arrives T view profile rows old now broken r k
       resumed passed mid after none gives (inl (first, may, new)) =
@@ -249,12 +249,12 @@ module _ {R : Type 0} {T : BrokenPart → List ℕ → Type 0} {view : View} {pr
             },
           )
       resumed passed mid after none gives (inr (inr (e, refusal, is))) =
-          rw is (parts-refusal broken texts h.are_texts (keeps-none view profile (past_of passed) refl) (rw append-nil (read_past passed gives))
+          rw is (parts-refusal broken texts h.are_texts (keeps-none view (in_parts profile) (past_of passed) refl) (rw append-nil (read_past passed gives))
           (at_end passed after none) refusal refl
           (rw append-nil wrote))
 
       by : (c : Bool) → begins_next_part b.reason b.record ≡ c → MatchBool c ((before : Progress R) → GivesRecord before b.record j.rows
-          → Resumes profile before b.record r k) (ResumesAfter profile b.record j.rows r k) → Arrives T view profile rows old now broken r k
+          → Resumes (in_parts profile) before b.record r k) (ResumesAfter (in_parts profile) b.record j.rows r k) → Arrives T view profile rows old now broken r k
       by true begins up =
           let new = up h.front h.gives in
           arrive_first view (before_next h.items (omega arith) wrote) new.knows_nothing h.read (at_breaking begins) new.with_first

@@ -1,5 +1,5 @@
 -- What each turn of a judging of all parts leads to.
-use Rattle.judge9.proofs.Words.{BreaksAtLast, append-nil, [], ap, Appends, Appends-nil, Appends-trans, arith, Break, Breaks, BrokenPart, ComesTo, Err, Exchange, exchanges_of, GivesRecord, inl, inr, IsBreakText, IsFresh, IsJudgedPart}
+use Rattle.judge9.proofs.Words.{line_rules, in_parts, BreaksAtLast, append-nil, [], ap, Appends, Appends-nil, Appends-trans, arith, Break, Breaks, BrokenPart, ComesTo, Err, Exchange, exchanges_of, GivesRecord, inl, inr, IsBreakText, IsFresh, IsJudgedPart}
 use Rattle.judge9.proofs.Words.{IfOk, IsLogOf, IsToTheEnd, IsTextOf, JudgeError, JudgesParts, Judging, length, length-append, line_of, LineByte, List, None, no_rows-can_be, number_of, Ok, Option, part_after, PartLog}
 use Rattle.judge9.proofs.Words.{AppendsPart, PartsTold, Profile, Puts, Reason, records_in, refl, Result, Rows, SaysWhy, Some, subst, sym, TakesUp, TellsAt, text_of_why, Turn, Turned, turn_of, Verdict, View}
 use Rattle.judge9.proofs.Words.{Follower, Paired, WrittenInParts, ℕ, ◌++◌, ◌+◌, ◌<◌, ◌∙◌, ◌∷◌, ◌≡◌, ◌≤◌}
@@ -23,7 +23,7 @@ pub before_none : (T : BrokenPart → List ℕ → Type 0) (old : Option (List �
 before_none T old = record { texts = []; are_texts = refl; wrote = Appends-nil old; few = omega arith; fits = omega arith }
 
 pub at_start : {R : Type 0} (T : BrokenPart → List ℕ → Type 0) (view : View) (profile : Profile) (old : Option (List ℕ)) (j k : Judging R)
-    (result : Result Turn JudgeError) → IsFresh profile j → ComesTo j result k → Arrives T view profile j.rows.rows old old [] result k
+    (result : Result Turn JudgeError) → IsFresh (in_parts profile) j → ComesTo j result k → Arrives T view profile j.rows.rows old old [] result k
 at_start T view profile old j k (Ok turn) fresh come =
     ([], before_none T old, arrive (Onward profile [] []) None (so_far-start fresh) (onward-start profile) (λ none. refl) come)
 at_start T view profile old j k (Err x) fresh come =
@@ -33,7 +33,7 @@ at_start T view profile old j k (Err x) fresh come =
 pub nothing_told : (T : BrokenPart → List ℕ → Type 0) (view : View) (profile : Profile) (rows : Option Rows) (old : Option (List ℕ)) → PartsTold T view profile rows
     (Err JudgeError.OutOfMemory) old old
 nothing_told T view profile rows old =
-    told_in_parts [] [] refl (keeps-none view profile [] refl) {left = rows} [] (onward-start profile []) (seen rows rows [] None (unread rows) no_rows-can_be)
+    told_in_parts [] [] refl (keeps-none view (in_parts profile) [] refl) {left = rows} [] (onward-start profile []) (seen rows rows [] None (unread rows) no_rows-can_be)
     (Err JudgeError.OutOfMemory) (Appends-nil old)
 
 -- ---- a part
@@ -42,7 +42,7 @@ module _ {R : Type 0} {T : BrokenPart → List ℕ → Type 0} {profile : Profil
     {old begun : Option (List ℕ)} (before : Before T broken past old begun) where
   -- an exchange was not told
   at_untold : {view : View} {j : Judging R} {es : List Exchange} {end_us : Option ℕ} {now new : Option (List ℕ)} {e : Exchange} (x : JudgeError)
-      → AtTurn (Onward profile broken past) view profile rows past Turn.Exchange j begun now es end_us → TellsAt view profile j e (Err x) now new
+      → AtTurn (Onward profile broken past) view (in_parts profile) rows past Turn.Exchange j begun now es end_us → TellsAt view profile j e (Err x) now new
       → JudgesParts T view profile rows (Err x) old new
   unfolding so_far-exchange so_far-more
   at_untold (JudgeError.Capture c) h tells = absurd (told_of h.turned tells).1.puts
@@ -62,7 +62,7 @@ module _ {R : Type 0} {T : BrokenPart → List ℕ → Type 0} {profile : Profil
 
   -- a part was not judged to its end
   pub part_fails : (telling : Telling) (first : Turn) (j k : Judging R) (x : JudgeError) (log : PartLog) (new : Option (List ℕ))
-      → AtTurn (Onward profile broken past) (view_of telling) profile rows past first j begun begun [] None
+      → AtTurn (Onward profile broken past) (view_of telling) (in_parts profile) rows past first j begun begun [] None
       → IsJudgedPart telling profile first j begun (Err x) k log new → JudgesParts T (view_of telling) profile rows (Err x) old new
   part_fails telling first j k x log new h (n, es, us, mid, now, goes, e, inl (same, tells)) =
       at_untold x (through h n es us Turn.Exchange mid now goes) tells
@@ -71,22 +71,22 @@ module _ {R : Type 0} {T : BrokenPart → List ℕ → Type 0} {profile : Profil
 
   -- or it was
   pub part_ends : (telling : Telling) (first : Turn) (j k : Judging R) (end : Option Break) (log : PartLog) (new : Option (List ℕ))
-      → AtTurn (Onward profile broken past) (view_of telling) profile rows past first j begun begun [] None
+      → AtTurn (Onward profile broken past) (view_of telling) (in_parts profile) rows past first j begun begun [] None
       → IsJudgedPart telling profile first j begun (Ok end) k log new
-      → (es : List Exchange) × (end_us : Option ℕ) × AtTurn (Onward profile broken past) (view_of telling) profile rows past (turn_of end) k begun new es end_us
+      → (es : List Exchange) × (end_us : Option ℕ) × AtTurn (Onward profile broken past) (view_of telling) (in_parts profile) rows past (turn_of end) k begun new es end_us
       × IsLogOf telling es end_us log
   part_ends telling first j k end log new h (n, es, end_us, goes, logged) = (es, end_us, through h n es end_us (turn_of end) k new goes, logged)
 
   -- how many records and exchanges there are with it
   pub part_fits : {view : View} {turn : Turn} {k : Judging R} {now : Option (List ℕ)} {es : List Exchange} {end_us : Option ℕ}
-      → AtTurn (Onward profile broken past) view profile rows past turn k begun now es end_us
+      → AtTurn (Onward profile broken past) view (in_parts profile) rows past turn k begun now es end_us
       → (records_in (exchanges_of broken ++ es) ≤ 4000000) × (length (exchanges_of broken ++ es) ≤ 4000000)
   part_fits {es = es} h =
       let f = h.so_far in
       let tail = h.front.follower.pairer.tail in
       let size = length-append past f.items in (
-        omega (arith, f.are_given.can_be.limit, size, cut_len profile.rate f.items es tail f.cut, before.fits, records_joined (exchanges_of broken) es),
-        omega (arith, f.are_given.can_be.limit, size, (cut_counts profile.rate f.items es tail f.cut).0, before.few, length-append (exchanges_of broken) es),
+        omega (arith, f.are_given.can_be.limit, size, cut_len (line_rules (in_parts profile)) f.items es tail f.cut, before.fits, records_joined (exchanges_of broken) es),
+        omega (arith, f.are_given.can_be.limit, size, (cut_counts (line_rules (in_parts profile)) f.items es tail f.cut).0, before.few, length-append (exchanges_of broken) es),
       )
 
 -- ---- a break
@@ -94,7 +94,7 @@ module _ {R : Type 0} {T : BrokenPart → List ℕ → Type 0} {profile : Profil
 -- what is told of such a part
 pub break_text : {R : Type 0} {Q : List LineByte → Type 0} {rows : Option Rows} {past : List LineByte} {begun now : Option (List ℕ)} {k : Judging R} {es : List Exchange}
     {end_us : Option ℕ} {b : Break} (telling : Telling) (profile : Profile) (log : PartLog)
-    (h : AtTurn Q (view_of telling) profile rows past (Turn.Break b) k begun now es end_us) → IsLogOf telling es end_us log → (text : List ℕ)
+    (h : AtTurn Q (view_of telling) (in_parts profile) rows past (Turn.Break b) k begun now es end_us) → IsLogOf telling es end_us log → (text : List ℕ)
     → IsBreakText telling profile k.rows.given b k.follower.pairer log.kept.items log.end_us text → IsTextOf telling profile (broken_at h.so_far b) (h.so_far.text ++ text)
 break_text {past = past} {k = k} {b = b} (Telling.Shown view) profile log h logged text is =
     let f = h.so_far in
@@ -111,7 +111,7 @@ break_text {past = past} {k = k} {es = es} {end_us = end_us} {b = b} Telling.Why
 -- the same, where it was put for what the log tells
 pub break_told : {R : Type 0} {Q : List LineByte → Type 0} {rows : Option Rows} {past : List LineByte} {begun now : Option (List ℕ)} {k : Judging R} {es : List Exchange}
     {end_us : Option ℕ} {b : Break} (telling : Telling) (profile : Profile) (log : PartLog)
-    (h : AtTurn Q (view_of telling) profile rows past (Turn.Break b) k begun now es end_us) → IsLogOf telling es end_us log → (text : List ℕ)
+    (h : AtTurn Q (view_of telling) (in_parts profile) rows past (Turn.Break b) k begun now es end_us) → IsLogOf telling es end_us log → (text : List ℕ)
     → IsBreakText log.telling profile k.rows.given b k.follower.pairer log.kept.items log.end_us text → IsTextOf telling profile (broken_at h.so_far b) (h.so_far.text ++ text)
 break_told {k = k} {b = b} telling profile log h logged text is =
     break_text telling profile log h logged text
@@ -120,13 +120,13 @@ break_told {k = k} {b = b} telling profile log h logged text is =
 -- where the log tells why, no run remains with what is kept and one exchange more
 pub log_loses_its_runs : {R : Type 0} {Q : List LineByte → Type 0} {view : View} {profile : Profile} {rows : Option Rows} {past : List LineByte} {k : Judging R}
     {old now : Option (List ℕ)} {es : List Exchange} {end_us : Option ℕ} {b : Break} (telling : Telling) (log : PartLog)
-    → AtTurn Q view profile rows past (Turn.Break b) k old now es end_us → IsLogOf telling es end_us log → log.telling ≡ Telling.Why → b.reason ≡ Reason.NoRun
+    → AtTurn Q view (in_parts profile) rows past (Turn.Break b) k old now es end_us → IsLogOf telling es end_us log → log.telling ≡ Telling.Why → b.reason ≡ Reason.NoRun
     → (e : Exchange) × (k.follower.pairer.exchange ≡ Some e) × BreaksAtLast profile (log.kept.items ++ e ∷ [])
 log_loses_its_runs telling log h logged why no_run = rw (logged.kept (sym logged.tells ∙ why)).0 (loses_its_runs h no_run)
 
 module _ {R : Type 0} {T : BrokenPart → List ℕ → Type 0} {view : View} {profile : Profile} {rows : Option Rows} {broken : List BrokenPart} {past : List LineByte}
     {old begun now : Option (List ℕ)} {k : Judging R} {es : List Exchange} {end_us : Option ℕ} {b : Break} (before : Before T broken past old begun)
-    (h : AtTurn (Onward profile broken past) view profile rows past (Turn.Break b) k begun now es end_us) where
+    (h : AtTurn (Onward profile broken past) view (in_parts profile) rows past (Turn.Break b) k begun now es end_us) where
   -- what is ahead of the record that breaks
   ahead_so : (more : List LineByte) → Onward profile broken past (h.so_far.items ++ b.record ∷ more)
   ahead_so more = subst (λ r. Onward profile broken past (h.so_far.items ++ r ∷ more)) (sym h.turned.1.took.0) (h.ahead more)
@@ -147,7 +147,7 @@ module _ {R : Type 0} {T : BrokenPart → List ℕ → Type 0} {view : View} {pr
 
   -- the judging takes up again
   pub break_over : (text : List ℕ) (new : Option (List ℕ)) (next : Judging R) (result : Result Turn JudgeError) → T (broken_at h.so_far b) (h.so_far.text ++ text)
-      → Appends now new text → TakesUp profile b k result next
+      → Appends now new text → TakesUp (in_parts profile) b k result next
       → Arrives T view profile rows old new (broken ++ broken_at h.so_far b ∷ []) result next
   break_over text new next result told wrote up =
       resume (after_break k before h.so_far b (h.so_far.text ++ text) told (break_given h.turned) (breaks h.so_far h.turned) ahead_so) old new next result
@@ -163,8 +163,8 @@ counted broken b = (ap length (exchanges_push broken b), ap records_in (exchange
 
 module _ {R : Type 0} {T : BrokenPart → List ℕ → Type 0} {view : View} {profile : Profile} {rows : Option Rows} {broken : List BrokenPart} {past : List LineByte}
     {old begun now : Option (List ℕ)} {k : Judging R} {es : List Exchange} {end_us : Option ℕ} (before : Before T broken past old begun)
-    (h : AtTurn (Onward profile broken past) view profile rows past Turn.End k begun now es end_us) where
-  abbrev f : SoFar view profile rows past h.front begun now es
+    (h : AtTurn (Onward profile broken past) view (in_parts profile) rows past Turn.End k begun now es end_us) where
+  abbrev f : SoFar view (in_parts profile) rows past h.front begun now es
   f = h.so_far
 
   -- how many records are in exchanges or open
@@ -177,7 +177,7 @@ module _ {R : Type 0} {T : BrokenPart → List ℕ → Type 0} {view : View} {pr
         tail,
         f.are_given.given,
         length-append past f.items,
-        cut_len profile.rate f.items es h.front.follower.pairer.tail f.cut,
+        cut_len (line_rules (in_parts profile)) f.items es h.front.follower.pairer.tail f.cut,
         before.fits,
         records_joined (exchanges_of broken) es,
       )

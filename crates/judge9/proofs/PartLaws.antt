@@ -1,5 +1,5 @@
 -- What the parts of a capture are to the capture that begins with each.
-use Rattle.judge9.proofs.Words.{[], All, All-cons, All-nil, ap, AreCounts, AreParts, AreTotals, arith, begins_next_part, Bool, Breaks, BrokenPart, cut_once, drop, false, from_command, Profile, IsFirstBreak}
+use Rattle.judge9.proofs.Words.{counting, line_rules, in_parts, [], All, All-cons, All-nil, ap, AreCounts, AreParts, AreTotals, arith, begins_next_part, Bool, Breaks, BrokenPart, cut_once, drop, false, from_command, Profile, IsFirstBreak}
 use Rattle.judge9.proofs.Words.{IsOk, IsPart, length, LineByte, List, may_begin, number_of, Part, Reason, refl, Rest, rest_after, same_parts, sym, true, ℕ, ◌++◌, ◌+◌, ◌∙◌, ◌∷◌, ◌≡◌}
 use Rattle.std.proofs.lemmas.List.{drop-drop}
 use Rattle.std.proofs.Math.Seq.{drop-append_seam}
@@ -39,7 +39,7 @@ rest_after_rest items n reason breaking after is next = by (begins_next_part rea
 
 -- a part is the no of the capture that begins with it
 abbrev pub IsOwnNo : Profile → List LineByte → BrokenPart → Type 0
-IsOwnNo profile items b = IsFirstBreak profile (drop b.part.past items) (length b.part.records + 1) b.reason
+IsOwnNo profile items b = IsFirstBreak (in_parts profile) (drop b.part.past items) (length b.part.records + 1) b.reason
 
 pub each_is_a_no : (profile : Profile) (items : List LineByte) (rest : Rest) (broken : List BrokenPart) (left : Rest) → IsRestOf items rest
     → AreParts profile rest broken left → All (IsOwnNo profile items) broken
@@ -53,7 +53,7 @@ each_is_a_no profile items rest (b ∷ broken) left is (after, same, part, break
     (each_is_a_no profile items (rest_after (b.part.past + length b.part.records) b.reason b.breaking after) broken left on others)
 
 pub first_is_a_no : (profile : Profile) (items : List LineByte) (b : BrokenPart) (broken : List BrokenPart) (left : Rest)
-    → AreParts profile (record { past = 0; records = items }) (b ∷ broken) left → IsFirstBreak profile items (number_of b) b.reason
+    → AreParts profile (record { past = 0; records = items }) (b ∷ broken) left → IsFirstBreak (in_parts profile) items (number_of b) b.reason
 first_is_a_no profile items b broken left (after, same, part, breaks, others) = record {
   before = b.part.records;
   next = b.breaking;
@@ -65,10 +65,10 @@ first_is_a_no profile items b broken left (after, same, part, breaks, others) = 
 
 pub counts_of_a_yes : (profile : Profile) (items : List LineByte) (left : Rest) (last : Part) (totals : Totals)
     → AreParts profile (record { past = 0; records = items }) [] left → IsPart profile last → last.records ≡ left.records → AreTotals (length items) [] last totals
-    → (totals.breaks ≡ 0) × AreCounts profile items totals.records totals.exchanges totals.tail × (totals.passed_over ≡ 0)
+    → (totals.breaks ≡ 0) × AreCounts (counting profile) items totals.records totals.exchanges totals.tail × (totals.passed_over ≡ 0)
 counts_of_a_yes profile items left last totals parts part all are =
     let same : last.records ≡ items = all ∙ ap (λ (x : Rest). x.records) parts in
-    let size = cut_len profile.rate last.records last.exchanges last.tail part.cut in (
+    let size = cut_len (line_rules (in_parts profile)) last.records last.exchanges last.tail part.cut in (
       are.breaks,
       record {
         cut_exchanges = last.exchanges;
@@ -90,15 +90,15 @@ pub record IsLast (profile : Profile) (left : Rest) (last : Part) : Type 0 where
   pub past : last.past ≡ left.past
   pub has_all : last.records ≡ left.records
 
-last_is_ok : (profile : Profile) (rest left : Rest) (last : Part) → left ≡ rest → IsLast profile left last → IsOk profile rest.records
+last_is_ok : (profile : Profile) (rest left : Rest) (last : Part) → left ≡ rest → IsLast profile left last → IsOk (in_parts profile) rest.records
 last_is_ok profile rest left last none is =
     let same : last.records ≡ rest.records = is.has_all ∙ ap (λ (x : Rest). x.records) none in
     record { exchanges = last.exchanges; tail = last.tail; cut = rw same at is.is_part.cut; run = is.is_part.run }
 
 -- a part that breaks, as the no of all that is left where it begins
 first_no : (profile : Profile) (rest : Rest) (b : BrokenPart) (after : List LineByte)
-    → rest ≡ record { past = b.part.past; records = b.part.records ++ b.breaking ∷ after } → Breaks profile b.part.records b.breaking b.reason
-    → IsFirstBreak profile rest.records (length b.part.records + 1) b.reason
+    → rest ≡ record { past = b.part.past; records = b.part.records ++ b.breaking ∷ after } → Breaks (in_parts profile) b.part.records b.breaking b.reason
+    → IsFirstBreak (in_parts profile) rest.records (length b.part.records + 1) b.reason
 first_no profile rest b after same breaks =
     record { before = b.part.records; next = b.breaking; after = after; split = ap (λ (x : Rest). x.records) same; number = refl; breaks = breaks }
 
@@ -114,7 +114,7 @@ totals_by_fields a b breaks records exchanges passed tail = grind arith
 same_part : (profile : Profile) (some other : Part) → IsPart profile some → IsPart profile other → some.past ≡ other.past → some.records ≡ other.records
     → some ≡ other
 same_part profile some other is also past records =
-    let cut = cut_once profile.rate other.records some.exchanges other.exchanges some.tail other.tail (rw records at is.cut) also.cut in
+    let cut = cut_once (line_rules (in_parts profile)) other.records some.exchanges other.exchanges some.tail other.tail (rw records at is.cut) also.cut in
     part_by_fields some other past records cut.0 cut.1
 
 pub one_list : (profile : Profile) (rest left remaining : Rest) (broken others : List BrokenPart) (last other : Part) → AreParts profile rest broken left
@@ -125,11 +125,11 @@ one_list profile rest left remaining [] [] last other p is q also = (
       (is.has_all ∙ ap (λ (x : Rest). x.records) (p ∙ sym q) ∙ sym also.has_all),
 )
 one_list profile rest left remaining [] (c ∷ others) last other p is (after, same, part, breaks, more) also =
-    absurd (no_break profile rest.records (length c.part.records + 1) c.reason (last_is_ok profile rest left last p is) (first_no profile rest c after same breaks))
+    absurd (no_break (in_parts profile) rest.records (length c.part.records + 1) c.reason (last_is_ok profile rest left last p is) (first_no profile rest c after same breaks))
 one_list profile rest left remaining (b ∷ broken) [] last other (after, same, part, breaks, more) is q also =
-    absurd (no_break profile rest.records (length b.part.records + 1) b.reason (last_is_ok profile rest remaining other q also) (first_no profile rest b after same breaks))
+    absurd (no_break (in_parts profile) rest.records (length b.part.records + 1) b.reason (last_is_ok profile rest remaining other q also) (first_no profile rest b after same breaks))
 one_list profile rest left remaining (b ∷ broken) (c ∷ others) last other (after, same, part, breaks, more) is (behind_c, same_c, part_c, breaks_c, more_c) also =
-    let once = break_once profile rest.records (length b.part.records + 1) (length c.part.records + 1) b.reason c.reason
+    let once = break_once (in_parts profile) rest.records (length b.part.records + 1) (length c.part.records + 1) b.reason c.reason
     (first_no profile rest b after same breaks) (first_no profile rest c behind_c same_c breaks_c) in
     let records : b.part.records ++ b.breaking ∷ after ≡ c.part.records ++ c.breaking ∷ behind_c =
     sym (ap (λ (x : Rest). x.records) same) ∙ ap (λ (x : Rest). x.records) same_c in

@@ -1,5 +1,5 @@
 -- What is told of all parts of a capture, at each end of the judging.
-use Rattle.judge9.proofs.Words.{[], ap, append-nil, append_assoc, Appends, AppendsPart, AreParts, AreTextsOf, Bool, BrokenPart, CaptureError, CaptureKind, Err, Exchange, false, false≢true, given-refused, GivesRefusal, Profile, HasHeader, IfSome, if◌then◌else◌, inl, is_of_text, IsPlaced, IsTrue, JudgeError, JudgesParts, length, LineByte, List, None, Ok, Option, Progress, refl, refusal_of, refused-after, Rest, Result, Rows, Some, subst, sym, PartsTold, true, View, WrittenInParts, ℕ, ⊤, ◌++◌, ◌∙◌, ◌∷◌, ◌≡◌, ◌≢◌}
+use Rattle.judge9.proofs.Words.{in_parts, [], ap, append-nil, append_assoc, Appends, AppendsPart, AreParts, AreTextsOf, Bool, BrokenPart, CaptureError, CaptureKind, Err, Exchange, false, false≢true, given-refused, GivesRefusal, Profile, HasHeader, IfSome, if◌then◌else◌, inl, is_of_text, IsPlaced, IsTrue, JudgeError, JudgesParts, length, LineByte, List, None, Ok, Option, Progress, refl, refusal_of, refused-after, Rest, Result, Rows, Some, subst, sym, PartsTold, true, View, WrittenInParts, ℕ, ⊤, ◌++◌, ◌∙◌, ◌∷◌, ◌≡◌, ◌≢◌}
 use Rattle.verdict9.specs.declared.totals.Totals.{Totals}
 use Rattle.judge9.proofs.PartSteps.{AreRead}
 use Rattle.judge9.proofs.SoFar.{Keeps, Seen, seen, WereRead}
@@ -47,7 +47,7 @@ plain {rows = rows} r is told = record { told = told; is_kind = λ e q. cc; head
 
 module _ {T : BrokenPart → List ℕ → Type 0} {view : View} {profile : Profile} {rows : Option Rows} {past : List LineByte} {es : List Exchange}
     {tail : List LineByte} {old : Option (List ℕ)}
-    (broken : List BrokenPart) (texts : List ℕ) (are_texts : AreTextsOf T broken texts) (keeps : Keeps view profile past es tail) where
+    (broken : List BrokenPart) (texts : List ℕ) (are_texts : AreTextsOf T broken texts) (keeps : Keeps view (in_parts profile) past es tail) where
   -- these records were read, and so many of them judged
   pub told_in_parts : {left : Option Rows} {fault : Option CaptureError} {new : Option (List ℕ)} (more : List LineByte)
       → Onward profile broken past (keeps.items ++ more) → (s : Seen rows left (past ++ (keeps.items ++ more)) fault) → (r : Result Totals JudgeError)

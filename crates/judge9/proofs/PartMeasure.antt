@@ -1,5 +1,5 @@
 -- Each turn of a judging of all parts leaves less to do: rows that are still to come, or the same record in a part of its own.
-use Rattle.judge9.proofs.Words.{Rate, [], ap, arith, begins_next_part, BeginsAt, Bool, Break, CaptureError, Command, Comes, ComesTo, Completes, Err, false, first_holds, Follower, GivesEnd, GivesRecord}
+use Rattle.judge9.proofs.Words.{Terms, LineRules, line_rules, [], ap, arith, begins_next_part, BeginsAt, Bool, Break, CaptureError, Command, Comes, ComesTo, Completes, Err, false, first_holds, Follower, GivesEnd, GivesRecord}
 use Rattle.judge9.proofs.Words.{GivesRefusal, GoesThrough, IsJudgedPart, PartLog, turn_of, Profile, if◌then◌else◌, inl, inr, JudgeError, Judging, KnowsNothing, last_of, length, length-append, LineByte, List, may_begin, None, Ok, Option, Exchange}
 use Rattle.judge9.proofs.Words.{Paired, Progress, Reason, refl, Refuses, refusal_of, Result, Resumes, ResumesAfter, Some, Spoils, subst, suc, TakesUp, takes_up_at, true, Turn, Turned, View, zero, ℕ, ◌*◌, ◌+◌, ◌-◌, ◌<◌, ◌≡◌, ◌≤◌, ◌⊎◌}
 use Rattle.std.proofs.Common.{◌&&◌}
@@ -17,19 +17,19 @@ first_true : (a b : Bool) → (a && b) ≡ true → a ≡ true
 first_true a b both = grind arith
 
 -- the first record of a part breaks by none of the reasons for which it would be taken up again
-none_answered : (rate : Rate) (c : Command) (reply : List LineByte) → IsAnswered rate [] c reply → ⊥
-none_answered rate c reply h = omega (arith, ap length h.split, length-append h.command reply, h.begun.begun)
+none_answered : (rules : LineRules) (c : Command) (reply : List LineByte) → IsAnswered rules [] c reply → ⊥
+none_answered rules c reply h = omega (arith, ap length h.split, length-append h.command reply, h.begun.begun)
 
-none_begun : (rate : Rate) (records : List LineByte) → IsOpenBlock rate [] records → ⊥
-none_begun rate records (inl (same, begun)) = omega (arith, ap length same, begun.begun)
-none_begun rate records (inr (c, answered)) = none_answered rate c records answered
+none_begun : (rules : LineRules) (records : List LineByte) → IsOpenBlock rules [] records → ⊥
+none_begun rules records (inl (same, begun)) = omega (arith, ap length same, begun.begun)
+none_begun rules records (inr (c, answered)) = none_answered rules c records answered
 
-none_open : (rate : Rate) (reason : Reason) (r : LineByte) → Holds rate reason [] r → takes_up_at reason ≡ false
-none_open rate Reason.CommandBeforeReply r h = absurd (cc h.0.2.whole.spelled.spelled)
-none_open rate Reason.NoReply r h = absurd (cc h.0.2.whole.spelled.spelled)
-none_open rate Reason.CommandInsideReply r h = absurd (none_answered rate h.0.0 h.0.1 h.0.2)
-none_open rate Reason.ByteGap r h = absurd (none_begun rate h.0.0 h.0.1)
-none_open rate reason r h = refl
+none_open : (rules : LineRules) (reason : Reason) (r : LineByte) → Holds rules reason [] r → takes_up_at reason ≡ false
+none_open rules Reason.CommandBeforeReply r h = absurd (cc h.0.2.whole.spelled.spelled)
+none_open rules Reason.NoReply r h = absurd (cc h.0.2.whole.spelled.spelled)
+none_open rules Reason.CommandInsideReply r h = absurd (none_answered rules h.0.0 h.0.1 h.0.2)
+none_open rules Reason.ByteGap r h = absurd (none_begun rules h.0.0 h.0.1)
+none_open rules reason r h = refl
 
 -- ---- a turn after rows
 
@@ -60,56 +60,56 @@ less-part telling profile first j old end k log new (n, es, end_us, goes, logged
 -- ---- a turn after a break
 
 -- the first record of the next part breaks it for another reason
-first_break : {after : Follower} (profile : Profile) (f : Follower) (first : LineByte) (b : Break) → KnowsNothing profile f → b.record ≡ first → Spoils f after b
+first_break : {after : Follower} (terms : Terms) (f : Follower) (first : LineByte) (b : Break) → KnowsNothing terms f → b.record ≡ first → Spoils f after b
     → takes_up_at b.reason ≡ false
-first_break profile f first b knows same (inl refused) =
-    let is : IsReason profile.rate [] b.record b.reason = subst (λ (p : Paired). IsReason p.rate p.tail b.record b.reason) knows.fed_nothing refused.0.is_reason in
-    none_open profile.rate b.reason b.record (first_holds (λ x. Holds profile.rate x [] b.record) order b.reason is)
-first_break profile f first b knows same (inr none) = rw none.0 refl
+first_break terms f first b knows same (inl refused) =
+    let is : IsReason (line_rules terms) [] b.record b.reason = subst (λ (p : Paired). IsReason p.rules p.tail b.record b.reason) knows.fed_nothing refused.0.is_reason in
+    none_open (line_rules terms) b.reason b.record (first_holds (λ x. Holds (line_rules terms) x [] b.record) order b.reason is)
+first_break terms f first b knows same (inr none) = rw none.0 refl
 
-less-at_once : {R : Type 0} (profile : Profile) (j k : Judging R) (first : LineByte) (turn : Turn) → KnowsNothing profile j.follower → Comes j k first (Some turn)
+less-at_once : {R : Type 0} (terms : Terms) (j k : Judging R) (first : LineByte) (turn : Turn) → KnowsNothing terms j.follower → Comes j k first (Some turn)
     → left_at turn k + 2 ≤ 3 * (4000000 - j.rows.given)
-less-at_once profile j k first Turn.End knows c = absurd c.took
-less-at_once profile j k first Turn.Exchange knows c = omega (arith, c.gives.given, c.gives.within)
-less-at_once profile j k first (Turn.Break b) knows c =
-    rw (first_break profile j.follower first b knows c.took.0 c.took.1) (omega (arith, c.gives.given, c.gives.within))
+less-at_once terms j k first Turn.End knows c = absurd c.took
+less-at_once terms j k first Turn.Exchange knows c = omega (arith, c.gives.given, c.gives.within)
+less-at_once terms j k first (Turn.Break b) knows c =
+    rw (first_break terms j.follower first b knows c.took.0 c.took.1) (omega (arith, c.gives.given, c.gives.within))
 
 -- with the first record of the next part
-less-first : {R : Type 0} (profile : Profile) (before : Progress R) (first : LineByte) (turn : Turn) (k : Judging R) → Resumes profile before first (Ok turn) k
+less-first : {R : Type 0} (terms : Terms) (before : Progress R) (first : LineByte) (turn : Turn) (k : Judging R) → Resumes terms before first (Ok turn) k
     → left_at turn k + 2 ≤ 3 * (4000000 - before.given)
-less-first {R = R} profile before first turn k h = by h.with_first
+less-first {R = R} terms before first turn k h = by h.with_first
   where
     j : Judging R
     j = record { rows = before; follower = h.follower }
 
     by : BeginsAt j first (Ok turn) k → left_at turn k + 2 ≤ 3 * (4000000 - before.given)
     by (inl (is, rest)) = absurd (cc is)
-    by (inr (inl (other, is, comes))) = let same : turn ≡ other = cc in rw same (less-at_once profile j k first other h.knows_nothing comes)
+    by (inr (inl (other, is, comes))) = let same : turn ≡ other = cc in rw same (less-at_once terms j k first other h.knows_nothing comes)
     by (inr (inr (mid, comes, come))) = omega (arith, comes.gives.given, comes.gives.within, less-come mid k turn come)
 
 -- after records were passed over
-less-passed : {R : Type 0} (profile : Profile) (last : LineByte) (old : Progress R) (turn : Turn) (k : Judging R) → ResumesAfter profile last old (Ok turn) k
+less-passed : {R : Type 0} (terms : Terms) (last : LineByte) (old : Progress R) (turn : Turn) (k : Judging R) → ResumesAfter terms last old (Ok turn) k
     → left_at turn k ≤ 3 * (4000000 - old.given)
-less-passed profile last old turn k h = by h.then
+less-passed terms last old turn k h = by h.then
   where
     more : old.given ≤ h.mid.given
     more = none_fewer old h.mid h.passed h.gives
 
-    by : ((first : LineByte) × (may_begin (last_of last h.passed) first ≡ true) × Resumes profile h.mid first (Ok turn) k)
-        ⊎ ((let r : Result Turn JudgeError = Ok turn in r) ≡ Ok Turn.End) × GivesEnd h.mid k.rows × KnowsNothing profile k.follower
+    by : ((first : LineByte) × (may_begin (last_of last h.passed) first ≡ true) × Resumes terms h.mid first (Ok turn) k)
+        ⊎ ((let r : Result Turn JudgeError = Ok turn in r) ≡ Ok Turn.End) × GivesEnd h.mid k.rows × KnowsNothing terms k.follower
         ⊎ ((e : CaptureError) × GivesRefusal h.mid e k.rows × ((let r : Result Turn JudgeError = Ok turn in r) ≡ Err (refusal_of e)))
         → left_at turn k ≤ 3 * (4000000 - old.given)
-    by (inl (first, may, new)) = omega (arith, more, less-first profile h.mid first turn k new)
+    by (inl (first, may, new)) = omega (arith, more, less-first terms h.mid first turn k new)
     by (inr (inl (is, ends, begins))) = let same : turn ≡ Turn.End = cc in rw same (omega (arith, more, ends.given))
     by (inr (inr (e, refusal, is))) = absurd (cc is)
 
-pub less-up : {R : Type 0} (profile : Profile) (before : Progress R) (b : Break) (j : Judging R) (turn : Turn) (k : Judging R)
-    → GivesRecord before b.record j.rows → TakesUp profile b j (Ok turn) k → left_at turn k < left_at (Turn.Break b) j
-less-up profile before b j turn k gives (inl (is, rest)) = absurd (cc is)
-less-up profile before b j turn k gives (inr taken) = by (begins_next_part b.reason b.record) refl taken
+pub less-up : {R : Type 0} (terms : Terms) (before : Progress R) (b : Break) (j : Judging R) (turn : Turn) (k : Judging R)
+    → GivesRecord before b.record j.rows → TakesUp terms b j (Ok turn) k → left_at turn k < left_at (Turn.Break b) j
+less-up terms before b j turn k gives (inl (is, rest)) = absurd (cc is)
+less-up terms before b j turn k gives (inr taken) = by (begins_next_part b.reason b.record) refl taken
   where
-    by : (c : Bool) → begins_next_part b.reason b.record ≡ c → MatchBool c ((p : Progress _) → GivesRecord p b.record j.rows → Resumes profile p b.record (Ok turn) k)
-        (ResumesAfter profile b.record j.rows (Ok turn) k) → left_at turn k < left_at (Turn.Break b) j
+    by : (c : Bool) → begins_next_part b.reason b.record ≡ c → MatchBool c ((p : Progress _) → GivesRecord p b.record j.rows → Resumes terms p b.record (Ok turn) k)
+        (ResumesAfter terms b.record j.rows (Ok turn) k) → left_at turn k < left_at (Turn.Break b) j
     by true is up =
-        rw (first_true (takes_up_at b.reason) _ is) (omega (arith, gives.given, gives.within, less-first profile before b.record turn k (up before gives)))
-    by false is up = omega (arith, at_least_one (takes_up_at b.reason), less-passed profile b.record j.rows turn k up)
+        rw (first_true (takes_up_at b.reason) _ is) (omega (arith, gives.given, gives.within, less-first terms before b.record turn k (up before gives)))
+    by false is up = omega (arith, at_least_one (takes_up_at b.reason), less-passed terms b.record j.rows turn k up)

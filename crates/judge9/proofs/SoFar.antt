@@ -1,5 +1,5 @@
 -- Where the judging of a text stands: the invariant of its loop, the rows that it speaks of, and what a row more does.
-use Rattle.judge9.proofs.Words.{Comes, Completes, Follower, IsKept, IsReason, Does, KnowsNothing, Rate, Reason, Refuses, length-append, records_in, IsEnd, last_time, last_time-append}
+use Rattle.judge9.proofs.Words.{Terms, LineRules, line_rules, Comes, Completes, Follower, IsKept, IsReason, Does, KnowsNothing, Reason, Refuses, length-append, records_in, IsEnd, last_time, last_time-append}
 use Rattle.judge9.proofs.Words.{[], ap, append-nil, append_assoc, Appends, Appends-nil, Appends-trans, AreGiven, arith, Bool, CanBeRows, CaptureError, Cut, Exchange}
 use Rattle.judge9.proofs.Words.{KeepsEnds, ForSome, given-more, given-none, GivesRecord, Profile, HasRun, IfNone, IfSome, IsExplained, IsFresh, IsLineOf, IsOfSomeText, IsOk, IsOpen}
 use Rattle.judge9.proofs.Words.{IsStartOf, IsTail, Judging, length, length_push, LineByte, List, None, Observes, Option, Paired, Possible, Progress, refl, Rows, run_start, Some}
@@ -14,38 +14,38 @@ WereRead None items left = ⊤
 WereRead (Some rows) items left = (rest : Rows) × (left ≡ Some rest) × (rows ≡ record { records = items ++ rest.records; fault = rest.fault })
 
 -- these records keep the rules and are cut into the exchanges and the tail, and the text is what the view shows of them
-pub record Keeps (view : View) (profile : Profile) (past : List LineByte) (es : List Exchange) (tail : List LineByte) : Type 0 where
+pub record Keeps (view : View) (terms : Terms) (past : List LineByte) (es : List Exchange) (tail : List LineByte) : Type 0 where
   pub items : List LineByte
-  pub cut : Cut profile.rate items es tail
-  pub run : HasRun profile es
+  pub cut : Cut (line_rules terms) items es tail
+  pub run : HasRun terms.profile es
   pub text : List ℕ
-  pub explained : IsExplained view profile (length past) es text
+  pub explained : IsExplained view terms.profile (length past) es text
 
 -- before the first record
 pub explained-start : (which : View) (profile : Profile) (n : ℕ) → IsExplained which profile n [] []
 explained-start which profile n = grind arith
 
-abbrev pub keeps-none : {tail : List LineByte} (which : View) (profile : Profile) (past : List LineByte) → tail ≡ [] → Keeps which profile past [] tail
-keeps-none which profile past e = record {
+abbrev pub keeps-none : {tail : List LineByte} (which : View) (terms : Terms) (past : List LineByte) → tail ≡ [] → Keeps which terms past [] tail
+keeps-none which terms past e = record {
   items = [];
   cut = (sym e, IsTail.nothing e);
-  run = run_start profile;
+  run = run_start terms.profile;
   text = [];
-  explained = explained-start which profile (length past);
+  explained = explained-start which terms.profile (length past);
 }
 
 -- the records so far of a part, before which the capture has those of `past`, keep the rules and have these exchanges; the pairer
 -- has their tail, the tracker keeps the states that the runs of their exchanges end in, and what the view shows of these was written
-pub record SoFar {R : Type 0} (view : View) (profile : Profile) (rows : Option Rows) (past : List LineByte) (j : Judging R) (old now : Option (List ℕ))
+pub record SoFar {R : Type 0} (view : View) (terms : Terms) (rows : Option Rows) (past : List LineByte) (j : Judging R) (old now : Option (List ℕ))
     (es : List Exchange) : Type 0 where
-  pub keeps : Keeps view profile past es j.follower.pairer.tail
+  pub keeps : Keeps view terms past es j.follower.pairer.tail
   pub open keeps use {items, cut, run, text, explained}
-  pub follows : KeepsEnds profile es j.follower.tracker
+  pub follows : KeepsEnds terms.profile es j.follower.tracker
   pub wrote : Appends old now text
   pub few : length es ≤ j.rows.given
   pub is_reading : j.rows.standing ≡ Standing.Reading
   pub no_reason : j.follower.pairer.reason ≡ None
-  pub same_rate : j.follower.pairer.rate ≡ profile.rate
+  pub same_rules : j.follower.pairer.rules ≡ line_rules terms
   pub in_order : ForSome j.follower.pairer.last_time (λ time. time ≤ j.rows.last_time)
   pub read : WereRead rows (past ++ items) j.rows.rows
   pub are_given : AreGiven (past ++ items) j.rows
@@ -102,24 +102,24 @@ later {r = r} given takes x e =
     let t : x ≡ r.time_us = cc in omega arith
 
 -- before the first row of a part
-abbrev pub so_far-begin : {R : Type 0} {which : View} {profile : Profile} {rows : Option Rows} {past : List LineByte} {j : Judging R} {now : Option (List ℕ)}
-    → KnowsNothing profile j.follower → j.rows.standing ≡ Standing.Reading → WereRead rows past j.rows.rows → AreGiven past j.rows → SoFar which profile rows past j now now []
-so_far-begin {which = which} {profile = profile} {past = past} {j = j} {now = now} begins is_reading read are_given = record {
-  keeps = keeps-none which profile past (ap (λ (p : Paired). p.tail) begins.fed_nothing);
-  follows = follows-start profile j.follower.tracker begins.states begins.profile;
+abbrev pub so_far-begin : {R : Type 0} {which : View} {terms : Terms} {rows : Option Rows} {past : List LineByte} {j : Judging R} {now : Option (List ℕ)}
+    → KnowsNothing terms j.follower → j.rows.standing ≡ Standing.Reading → WereRead rows past j.rows.rows → AreGiven past j.rows → SoFar which terms rows past j now now []
+so_far-begin {which = which} {terms = terms} {past = past} {j = j} {now = now} begins is_reading read are_given = record {
+  keeps = keeps-none which terms past (ap (λ (p : Paired). p.tail) begins.fed_nothing);
+  follows = follows-start terms.profile j.follower.tracker begins.states begins.profile;
   wrote = Appends-nil now;
   few = omega arith;
   is_reading = is_reading;
   no_reason = rw begins.fed_nothing;
-  same_rate = rw begins.fed_nothing;
+  same_rules = rw begins.fed_nothing;
   in_order = rw begins.fed_nothing (λ x e. cc);
   read = rw append-nil read;
   are_given = rw append-nil are_given;
 }
 
 -- before the first row
-abbrev pub so_far-start : {R : Type 0} {which : View} {profile : Profile} {j : Judging R} {now : Option (List ℕ)} → IsFresh profile j
-    → SoFar which profile j.rows.rows [] j now now []
+abbrev pub so_far-start : {R : Type 0} {which : View} {terms : Terms} {j : Judging R} {now : Option (List ℕ)} → IsFresh terms j
+    → SoFar which terms j.rows.rows [] j now now []
 so_far-start {j = j} fresh = so_far-begin fresh.knows_nothing fresh.is_reading (unread j.rows.rows) (given-none j.rows fresh.none_given fresh.no_time)
 
 -- the time at which exchanges end, one of them last
@@ -128,13 +128,13 @@ ends-more : (records : List LineByte) (es : List Exchange) (e : Exchange) (end_u
 ends-more records [] e end_us is = is
 ends-more records (x ∷ es) e end_us is = is
 
-module _ {R : Type 0} {which : View} {profile : Profile} {rows : Option Rows} {past : List LineByte} {j : Judging R} {old now : Option (List ℕ)}
-    {es : List Exchange} (h : SoFar which profile rows past j old now es) where
+module _ {R : Type 0} {which : View} {terms : Terms} {rows : Option Rows} {past : List LineByte} {j : Judging R} {old now : Option (List ℕ)}
+    {es : List Exchange} (h : SoFar which terms rows past j old now es) where
   -- the rows that it speaks of, where it ends here with no fault
   pub seen_now : Seen rows j.rows.rows (past ++ h.items) None
   seen_now = seen rows j.rows.rows (past ++ h.items) None h.read h.are_given.can_be
 
-  pub so_far-ok : IsOk profile h.items
+  pub so_far-ok : IsOk terms h.items
   so_far-ok = record { exchanges = es; tail = j.follower.pairer.tail; cut = h.cut; run = h.run }
 
   -- a record more was read
@@ -150,26 +150,26 @@ module _ {R : Type 0} {which : View} {profile : Profile} {rows : Option Rows} {p
   pub seen_on : {after : Progress R} {r : LineByte} → GivesRecord j.rows r after → Seen rows after.rows (past ++ (h.items ++ r ∷ [])) None
   seen_on {after = after} {r = r} gives = seen rows after.rows (past ++ (h.items ++ r ∷ [])) None (read_on gives) (given_on gives).can_be
 
-  -- what a record more does, at the rate of the deck
-  pub step_on : {next : Paired} {r : LineByte} {s : Outcome} → Takes j.follower.pairer r s next → Does profile.rate j.follower.pairer.tail r s
-  step_on {r = r} {s = s} takes = subst (λ (rate : Rate). Does rate j.follower.pairer.tail r s) h.same_rate takes.does
+  -- what a record more does, by the rules of the terms
+  pub step_on : {next : Paired} {r : LineByte} {s : Outcome} → Takes j.follower.pairer r s next → Does (line_rules terms) j.follower.pairer.tail r s
+  step_on {r = r} {s = s} takes = subst (λ (rules : LineRules). Does rules j.follower.pairer.tail r s) h.same_rules takes.does
 
   -- and which rule it breaks
-  pub reason_of : {next : Paired} {r : LineByte} {x : Reason} → Refuses j.follower.pairer r x next → IsReason profile.rate j.follower.pairer.tail r x
-  reason_of {r = r} {x = x} refuses = subst (λ (rate : Rate). IsReason rate j.follower.pairer.tail r x) h.same_rate refuses.is_reason
+  pub reason_of : {next : Paired} {r : LineByte} {x : Reason} → Refuses j.follower.pairer r x next → IsReason (line_rules terms) j.follower.pairer.tail r x
+  reason_of {r = r} {x = x} refuses = subst (λ (rules : LineRules). IsReason rules j.follower.pairer.tail r x) h.same_rules refuses.is_reason
 
-  pub not_kept : {next : Paired} {r : LineByte} {x : Reason} → Refuses j.follower.pairer r x next → ¬ IsKept profile.rate (j.follower.pairer.tail ++ r ∷ [])
-  not_kept {r = r} refuses = subst (λ (rate : Rate). ¬ IsKept rate (j.follower.pairer.tail ++ r ∷ [])) h.same_rate refuses.not_kept
+  pub not_kept : {next : Paired} {r : LineByte} {x : Reason} → Refuses j.follower.pairer r x next → ¬ IsKept (line_rules terms) (j.follower.pairer.tail ++ r ∷ [])
+  not_kept {r = r} refuses = subst (λ (rules : LineRules). ¬ IsKept rules (j.follower.pairer.tail ++ r ∷ [])) h.same_rules refuses.not_kept
 
   -- after a row, after which the exchanges have a run and this line was written
   unfoldable pub so_far-more : {k : Judging R} {new : Option (List ℕ)} {r : LineByte} {s : Outcome} (line : List ℕ) → GivesRecord j.rows r k.rows
-      → Takes j.follower.pairer r s k.follower.pairer → HasRun profile (exchanges_after es s) → KeepsEnds profile (exchanges_after es s) k.follower.tracker
-      → IsExplained which profile (length past) (exchanges_after es s) (h.text ++ line) → Appends now new line
-      → length (exchanges_after es s) ≤ length es + 1 → SoFar which profile rows past k old new (exchanges_after es s)
+      → Takes j.follower.pairer r s k.follower.pairer → HasRun terms.profile (exchanges_after es s) → KeepsEnds terms.profile (exchanges_after es s) k.follower.tracker
+      → IsExplained which terms.profile (length past) (exchanges_after es s) (h.text ++ line) → Appends now new line
+      → length (exchanges_after es s) ≤ length es + 1 → SoFar which terms rows past k old new (exchanges_after es s)
   so_far-more {k = k} {new = new} {r = r} {s = s} line gives takes run follows explained wrote few = record {
     keeps = record {
       items = h.items ++ r ∷ [];
-      cut = rw takes.tail (cut-step profile.rate h.items es j.follower.pairer.tail r s h.cut (step_on takes));
+      cut = rw takes.tail (cut-step (line_rules terms) h.items es j.follower.pairer.tail r s h.cut (step_on takes));
       run = run;
       text = h.text ++ line;
       explained = explained;
@@ -179,7 +179,7 @@ module _ {R : Type 0} {which : View} {profile : Profile} {rows : Option Rows} {p
     few = omega arith;
     is_reading = gives.is_reading;
     no_reason = takes.reason;
-    same_rate = takes.rate ∙ h.same_rate;
+    same_rules = takes.rules ∙ h.same_rules;
     in_order = λ x e. later gives takes x e;
     read = read_on gives;
     are_given = given_on gives;
@@ -187,13 +187,13 @@ module _ {R : Type 0} {which : View} {profile : Profile} {rows : Option Rows} {p
 
   -- one that ends no exchange
   so_far-by : {k : Judging R} {r : LineByte} (s : Outcome) → GivesRecord j.rows r k.rows → Takes j.follower.pairer r s k.follower.pairer → IsOpen s
-      → k.follower.tracker ≡ j.follower.tracker → (f : SoFar which profile rows past k old now es) × (f.items ≡ h.items ++ r ∷ [])
+      → k.follower.tracker ≡ j.follower.tracker → (f : SoFar which terms rows past k old now es) × (f.items ≡ h.items ++ r ∷ [])
   unfolding so_far-more
   so_far-by (Outcome.completes e) gives takes is_open same = absurd is_open
   so_far-by s gives takes is_open same =
       (so_far-more [] gives takes h.run (rw same h.follows) (rw append-nil h.explained) (Appends-nil now) (omega arith), refl)
 
-  pub so_far-open : {k : Judging R} {r : LineByte} → Comes j k r None → SoFar which profile rows past k old now es
+  pub so_far-open : {k : Judging R} {r : LineByte} → Comes j k r None → SoFar which terms rows past k old now es
   so_far-open c = let w = c.took in (so_far-by w.outcome c.gives w.takes w.is_open w.same_tracker).0
 
   pub so_far-open_items : {k : Judging R} {r : LineByte} (c : Comes j k r None) → (so_far-open c).items ≡ h.items ++ r ∷ []
@@ -201,28 +201,28 @@ module _ {R : Type 0} {which : View} {profile : Profile} {rows : Option Rows} {p
   so_far-open_items c = let w = c.took in (so_far-by w.outcome c.gives w.takes w.is_open w.same_tracker).1
 
   -- the tracker has observed one exchange more
-  pub observed_more : {k : Tracked} {e : Exchange} {b : Bool} → Observes j.follower.tracker k e b → KeepsEnds profile (es ++ e ∷ []) k
-  observed_more {k = k} {e = e} o = follows-more profile es e j.follower.tracker k h.follows o.reached o.profile
+  pub observed_more : {k : Tracked} {e : Exchange} {b : Bool} → Observes j.follower.tracker k e b → KeepsEnds terms.profile (es ++ e ∷ []) k
+  observed_more {k = k} {e = e} o = follows-more terms.profile es e j.follower.tracker k h.follows o.reached o.profile
 
   -- one that ends an exchange, which the tracker has seen and whose line was written
   unfoldable pub so_far-exchange : {k : Judging R} {new : Option (List ℕ)} {r : LineByte} (line : List ℕ) → GivesRecord j.rows r k.rows
       → (c : Completes j.follower k.follower r true)
-      → IsLineOf which profile k.rows.given c.exchange (Possible k.follower.tracker.states) line → Appends now new line
-      → SoFar which profile rows past k old new (es ++ c.exchange ∷ [])
+      → IsLineOf which terms.profile k.rows.given c.exchange (Possible k.follower.tracker.states) line → Appends now new line
+      → SoFar which terms rows past k old new (es ++ c.exchange ∷ [])
   so_far-exchange {k = k} {r = r} line gives c is wrote =
       let e = c.exchange in
       let follows = observed_more c.observes in
-      let cut = cut-step profile.rate h.items es j.follower.pairer.tail r (Outcome.completes e) h.cut (step_on c.takes) in
+      let cut = cut-step (line_rules terms) h.items es j.follower.pairer.tail r (Outcome.completes e) h.cut (step_on c.takes) in
       let number : k.rows.given ≡ length past + records_in (es ++ e ∷ []) = omega
-      (arith, length-append past (h.items ++ r ∷ []), cut_len profile.rate (h.items ++ r ∷ []) (es ++ e ∷ []) [] cut, given_on gives) in
+      (arith, length-append past (h.items ++ r ∷ []), cut_len (line_rules terms) (h.items ++ r ∷ []) (es ++ e ∷ []) [] cut, given_on gives) in
       let end = c.observes.remains.0 refl in
-      so_far-more line gives c.takes ((some_end profile (es ++ e ∷ [])).0 (end.0, (follows.states end.0).0 end.1)) follows
-      (explained_more which profile (length past) es e k.rows.given h.text line k.follower.tracker follows h.explained is number) wrote
+      so_far-more line gives c.takes ((some_end terms.profile (es ++ e ∷ [])).0 (end.0, (follows.states end.0).0 end.1)) follows
+      (explained_more which terms.profile (length past) es e k.rows.given h.text line k.follower.tracker follows h.explained is number) wrote
       (omega (arith, length_push es e))
 
   pub so_far-exchange_items : {k : Judging R} (new : Option (List ℕ)) {r : LineByte} (line : List ℕ) (gives : GivesRecord j.rows r k.rows)
       (c : Completes j.follower k.follower r true)
-      (is : IsLineOf which profile k.rows.given c.exchange (Possible k.follower.tracker.states) line) (wrote : Appends now new line)
+      (is : IsLineOf which terms.profile k.rows.given c.exchange (Possible k.follower.tracker.states) line) (wrote : Appends now new line)
       → (so_far-exchange {new = new} line gives c is wrote).items ≡ h.items ++ r ∷ []
   unfolding so_far-exchange so_far-more
   so_far-exchange_items new line gives c is wrote = refl
@@ -230,9 +230,9 @@ module _ {R : Type 0} {which : View} {profile : Profile} {rows : Option Rows} {p
   -- so its last record's time is that at which the exchanges end
   pub exchange_ended : {k : Judging R} (new : Option (List ℕ)) {r : LineByte} (line : List ℕ) (gives : GivesRecord j.rows r k.rows)
       (c : Completes j.follower k.follower r true)
-      (is : IsLineOf which profile k.rows.given c.exchange (Possible k.follower.tracker.states) line) (wrote : Appends now new line)
+      (is : IsLineOf which terms.profile k.rows.given c.exchange (Possible k.follower.tracker.states) line) (wrote : Appends now new line)
       → IsEnd (so_far-exchange {new = new} line gives c is wrote).items (es ++ c.exchange ∷ []) k.follower.pairer.last_time
   exchange_ended {k = k} new {r = r} line gives c is wrote =
       ends-more (so_far-exchange {new = new} line gives c is wrote).items es c.exchange k.follower.pairer.last_time
       (c.takes.last_time ∙ ap Some (sym (ap last_time (so_far-exchange_items new line gives c is wrote)
-      ∙ last_time-append profile.rate h.items (r ∷ []) (omega arith))))
+      ∙ last_time-append (line_rules terms) h.items (r ∷ []) (omega arith))))

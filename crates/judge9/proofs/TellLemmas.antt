@@ -1,5 +1,5 @@
 -- What the result of a judging tells at each of its ends, and what it can bring whatever the reader tells of its bytes.
-use Rattle.judge9.proofs.Words.{ComesTo, Follower, Paired, Rate, [], Answer, answer_of, ap, append_assoc, Appends, Appends-nil, Appends-trans, AreCounts, arith, Bool, Breaks, CanBeResult}
+use Rattle.judge9.proofs.Words.{Terms, line_rules, counting, ComesTo, Follower, Paired, LineRules, [], Answer, answer_of, ap, append_assoc, Appends, Appends-nil, Appends-trans, AreCounts, arith, Bool, Breaks, CanBeResult}
 use Rattle.judge9.proofs.Words.{Break, CanBeVerdict, CaptureError, CaptureKind, Completes, Cut, cut_once, EndsRows, Err, Exchange, exchange_less, Explains, false, false≢true, given-more}
 use Rattle.judge9.proofs.Words.{given-refused, GivesRecord, GivesRefusal, Profile, HasHeader, HasRun, IfErr, IfSome, if◌then◌else◌, inl, inr, is_of_text, IsAfter, IsAnswer}
 use Rattle.judge9.proofs.Words.{IsFirstBreak, IsOk, IsOkBefore, IsPlaced, IsSame, IsStartOf, IsTheAnswer, IsVerdictAfter, JudgeError, Judges, Judging, length, length_push}
@@ -51,7 +51,7 @@ stopped_unwritten {j = j} {k = k} x c = by c.turned
 
 -- what is told after these records, of these rows
 unfoldable pub told_after : {which : View} {profile : Profile} {es : List Exchange} {tail items : List LineByte} {rows left : Option Rows}
-    {fault : Option CaptureError} {old new : Option (List ℕ)} (keeps : Keeps which profile [] es tail) (s : Seen rows left items fault)
+    {fault : Option CaptureError} {old new : Option (List ℕ)} (keeps : Keeps which (counting profile) [] es tail) (s : Seen rows left items fault)
     (r : Result Verdict JudgeError)
     → IsStartOf keeps.items s.all.records → IfSome (answer_of r) (IsTheAnswer profile s.all) → Written profile s.all keeps.items keeps.text r old new
     → Told which profile rows r old new
@@ -75,20 +75,20 @@ told_after {es = es} {tail = tail} keeps s r start answer written = record {
 pub told-nothing : (which : View) (profile : Profile) (rows : Option Rows) (old : Option (List ℕ)) → Told which profile rows (Err JudgeError.OutOfMemory) old old
 told-nothing which profile rows old =
     let s = seen rows rows [] None (unread rows) no_rows-can_be in
-    told_after (keeps-none which profile [] refl) s (Err JudgeError.OutOfMemory) s.start tt (Appends-nil old)
+    told_after (keeps-none which (counting profile) [] refl) s (Err JudgeError.OutOfMemory) s.start tt (Appends-nil old)
 
 -- ---- what a judging can bring, whatever the reader tells of its bytes
 
 -- the records of a cut, of which each exchange has 6 to 36
-pub cut_counts : (rate : Rate) (p : List LineByte) (es : List Exchange) (t : List LineByte) → Cut rate p es t
+pub cut_counts : (rules : LineRules) (p : List LineByte) (es : List Exchange) (t : List LineByte) → Cut rules p es t
     → (length es * 6 + length t ≤ length p) × (length p ≤ length es * 36 + length t)
-cut_counts rate p [] t h = (omega (arith, ap length h.0), omega (arith, ap length h.0))
-cut_counts rate p (e ∷ es) t h =
-    let more = cut_counts rate h.1 es t h.4 in
+cut_counts rules p [] t h = (omega (arith, ap length h.0), omega (arith, ap length h.0))
+cut_counts rules p (e ∷ es) t h =
+    let more = cut_counts rules h.1 es t h.4 in
     let parts = length-append h.0 h.1 in
     let asked = h.3.command.whole.spelled.block.data_bytes in
     let answered = h.3.reply.spelled.block.data_bytes in
-    let count = simp length_push at (exchange_len rate h.0 e h.3) in
+    let count = simp length_push at (exchange_len rules h.0 e h.3) in
     (omega (arith, ap length h.2), omega (arith, ap length h.2))
 
 -- ---- all that the result tells, at each end
@@ -110,51 +110,43 @@ judges-told {rows = rows} now line r told can puts = record {
 pub break_given : {R : Type 0} {j k : Judging R} {b : Break} → Turned j (Ok (Turn.Break b)) k → GivesRecord j.rows b.record k.rows
 break_given {j = j} {k = k} t = subst (λ r. GivesRecord j.rows r k.rows) (sym t.1.took.0) t.1.gives
 
-module _ {R : Type 0} {which : View} {profile : Profile} {rows : Option Rows} {past : List LineByte} {j : Judging R} {old now : Option (List ℕ)}
-    {es : List Exchange} (h : SoFar which profile rows past j old now es) where
+module _ {R : Type 0} {which : View} {terms : Terms} {rows : Option Rows} {past : List LineByte} {j : Judging R} {old now : Option (List ℕ)}
+    {es : List Exchange} (h : SoFar which terms rows past j old now es) where
   -- a rule of pairing
   breaks-pairing : {paired : Paired} {next : LineByte} {reason : Reason} → Refuses j.follower.pairer next reason paired
-      → Breaks profile h.items next reason
+      → Breaks terms h.items next reason
   breaks-pairing {next = next} {reason = reason} refuses =
-      tail_breaks profile h.items es j.follower.pairer.tail next reason h.cut h.run
-      (λ kept. not_kept h refuses (tail_by_kept profile.rate h.items es j.follower.pairer.tail (next ∷ []) h.cut kept)) (reason_of h refuses)
+      tail_breaks terms h.items es j.follower.pairer.tail next reason h.cut h.run
+      (λ kept. not_kept h refuses (tail_by_kept (line_rules terms) h.items es j.follower.pairer.tail (next ∷ []) h.cut kept)) (reason_of h refuses)
 
   -- or it ends an exchange with which no run remains
-  pub none_observed : {k : Tracked} {e : Exchange} → Observes j.follower.tracker k e false → ¬ HasRun profile (es ++ e ∷ [])
+  pub none_observed : {k : Tracked} {e : Exchange} → Observes j.follower.tracker k e false → ¬ HasRun terms.profile (es ++ e ∷ [])
   none_observed {e = e} o run =
-      let end = (some_end profile (es ++ e ∷ [])).1 run in
+      let end = (some_end terms.profile (es ++ e ∷ [])).1 run in
       false≢true (o.remains.1 (end.0, ((observed_more h o).states end.0).1 end.1))
 
-  breaks-run : {after : Follower} {r : LineByte} (c : Completes j.follower after r false) → Breaks profile h.items r Reason.NoRun
+  breaks-run : {after : Follower} {r : LineByte} (c : Completes j.follower after r false) → Breaks terms h.items r Reason.NoRun
   breaks-run {r = r} c =
       let e = c.exchange in
       let whole = step_on h c.takes in
-      let cut = cut-exchange profile.rate h.items es j.follower.pairer.tail r e h.cut whole in
-      let first = no_run_first profile es j.follower.pairer.tail r e (exchange_less profile.rate j.follower.pairer.tail r e whole).1 whole
+      let cut = cut-exchange (line_rules terms) h.items es j.follower.pairer.tail r e h.cut whole in
+      let first = no_run_first terms es j.follower.pairer.tail r e (exchange_less (line_rules terms) j.follower.pairer.tail r e whole).1 whole
       (none_observed c.observes) in
-      let not_ok : ¬ IsOk profile (h.items ++ r ∷ []) =
-      λ ok. none_observed c.observes (subst (HasRun profile) (cut_once profile.rate (h.items ++ r ∷ []) ok.exchanges (es ++ e ∷ []) ok.tail [] ok.cut cut).0
+      let not_ok : ¬ IsOk terms (h.items ++ r ∷ []) =
+      λ ok. none_observed c.observes (subst (HasRun terms.profile) (cut_once (line_rules terms) (h.items ++ r ∷ []) ok.exchanges (es ++ e ∷ []) ok.tail [] ok.cut cut).0
       ok.run) in
       record { exchanges = es; tail = j.follower.pairer.tail; cut = h.cut; run = h.run; not_ok = not_ok; is_reason = first }
 
   -- either way
-  pub breaks : {k : Judging R} {b : Break} → Turned j (Ok (Turn.Break b)) k → Breaks profile h.items b.record b.reason
+  pub breaks : {k : Judging R} {b : Break} → Turned j (Ok (Turn.Break b)) k → Breaks terms h.items b.record b.reason
   breaks {k = k} {b = b} t = by t.1.took.1
     where
-      by : Spoils j.follower k.follower b → Breaks profile h.items b.record b.reason
+      by : Spoils j.follower k.follower b → Breaks terms h.items b.record b.reason
       by (inl refused) = breaks-pairing refused.0
       by (inr none) = rw none.0 (breaks-run none.1)
 
-  -- and the pairer keeps the rate of the deck
-  pub break_rate : {k : Judging R} {b : Break} → Turned j (Ok (Turn.Break b)) k → k.follower.pairer.rate ≡ profile.rate
-  break_rate {k = k} {b = b} t = by t.1.took.1
-    where
-      by : Spoils j.follower k.follower b → k.follower.pairer.rate ≡ profile.rate
-      by (inl refused) = refused.0.rate ∙ h.same_rate
-      by (inr none) = none.1.takes.rate ∙ h.same_rate
-
 module _ {R : Type 0} {which : View} {profile : Profile} {rows : Option Rows} {j : Judging R} {old now : Option (List ℕ)} {es : List Exchange}
-    (h : SoFar which profile rows [] j old now es) where
+    (h : SoFar which (counting profile) rows [] j old now es) where
   -- memory was refused
   pub judges-memory : {new : Option (List ℕ)} → Appends now new [] → Judges which profile rows (Err JudgeError.OutOfMemory) old new
   judges-memory {new = new} none =
@@ -192,8 +184,8 @@ module _ {R : Type 0} {which : View} {profile : Profile} {rows : Option Rows} {j
   judges-end {k = k} {n = n} r t count same puts =
       let s = seen_now h in
       let whole : s.all ≡ record { records = h.items; fault = None } = s.whole t.ends.none_left in
-      let some = cut_counts profile.rate h.items es j.follower.pairer.tail h.cut in
-      let counts : AreCounts profile h.items k.rows.given n (length k.follower.pairer.tail) = record {
+      let some = cut_counts (line_rules (counting profile)) h.items es j.follower.pairer.tail h.cut in
+      let counts : AreCounts (counting profile) h.items k.rows.given n (length k.follower.pairer.tail) = record {
         cut_exchanges = es;
         cut_tail = j.follower.pairer.tail;
         cut = h.cut;
@@ -204,7 +196,7 @@ module _ {R : Type 0} {which : View} {profile : Profile} {rows : Option Rows} {j
       } in
       let can : CanBeVerdict (Verdict.Yes k.rows.given n (length k.follower.pairer.tail)) = rw t.same_follower (record {
         few = omega arith;
-        short = tail_short profile.rate j.follower.pairer.tail (cut_tail profile.rate h.items es j.follower.pairer.tail h.cut);
+        short = tail_short (line_rules (counting profile)) j.follower.pairer.tail (cut_tail (line_rules (counting profile)) h.items es j.follower.pairer.tail h.cut);
         enough = omega arith;
         no_more = omega arith;
       }) in
@@ -214,14 +206,14 @@ module _ {R : Type 0} {which : View} {profile : Profile} {rows : Option Rows} {j
 
   -- a record breaks a rule
   pub judges-no : {new : Option (List ℕ)} {given : Progress R} {next : LineByte} {reason : Reason} (r : Result Verdict JudgeError)
-      → GivesRecord j.rows next given → Breaks profile h.items next reason → IsSame (Verdict.No given.given reason) r
+      → GivesRecord j.rows next given → Breaks (counting profile) h.items next reason → IsSame (Verdict.No given.given reason) r
       → Puts (line_of (Verdict.No given.given reason)) r now new
       → (judges : Judges which profile rows r old new) × IsStartOf (h.items ++ next ∷ []) judges.told.rows.records
   judges-no {given = given} {next = next} {reason = reason} r gives breaks same puts =
       let after = given-more h.items j.rows given next h.are_given gives in
       let s = seen rows given.rows (h.items ++ next ∷ []) None (read-more rows j.rows.rows given.rows h.items next h.read gives.rows) after.can_be in
       let split : s.all.records ≡ h.items ++ next ∷ s.start.0 = rw append_assoc at s.start.1 in
-      let is : IsFirstBreak profile s.all.records given.given reason =
+      let is : IsFirstBreak (counting profile) s.all.records given.given reason =
       record { before = h.items; next = next; after = s.start.0; split = split; number = omega arith; breaks = breaks } in
       let both = judges-verdict s (Verdict.No given.given reason) r (next ∷ s.start.0, split) is (omega arith)
       (record { counted = omega arith; few = gives.within }) same puts in

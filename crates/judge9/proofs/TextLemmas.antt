@@ -1,5 +1,5 @@
 -- What was written is a first part of the whole text of the report.
-use Rattle.judge9.proofs.Words.{Rate, [], Answer, answer_of, ap, append-nil, append_assoc, Appends, AppendsPart, AreLines, arith, Cut, cut_once, cut_parted, Err, Exchange, explained_of}
+use Rattle.judge9.proofs.Words.{line_rules, counting, LineRules, [], Answer, answer_of, ap, append-nil, append_assoc, Appends, AppendsPart, AreLines, arith, Cut, cut_once, cut_parted, Err, Exchange, explained_of}
 use Rattle.judge9.proofs.Words.{first_part, Profile, HasRun, IfSome, inl, inr, IsAnswer, IsExplained, IsOk, IsTail, IsText, IsTheAnswer, IsVerdictAfter, JudgeError}
 use Rattle.judge9.proofs.Words.{known_of_ends, last_line, length, length-append, line_of, line_of_exchange, LineByte, List, nil_from_length, Ok, Option, records_of, refl, Result}
 use Rattle.judge9.proofs.Words.{Rows, Some, subst, sym, take-length, Told, Verdict, View, Written, ℕ, ◌++◌, ◌+◌, ◌∙◌, ◌∷◌, ◌≡◌}
@@ -7,8 +7,8 @@ use Rattle.judge9.proofs.RunSteps.{run_less}
 use Rattle.judge9.proofs.LawLemmas.{answer_ok, answer_once, cut_tail, first_of, no_longer, shorter, taken}
 
 -- with no record more there is no exchange more
-no_more : (rate : Rate) (t q : List LineByte) (es : List Exchange) (u : List LineByte) → IsTail rate t → Cut rate (t ++ q) es u → q ≡ [] → es ≡ []
-no_more rate t q es u tail cut none = (cut_once rate t es [] u t (rw (none, append-nil) at cut) (refl, tail)).0
+no_more : (rules : LineRules) (t q : List LineByte) (es : List Exchange) (u : List LineByte) → IsTail rules t → Cut rules (t ++ q) es u → q ≡ [] → es ≡ []
+no_more rules t q es u tail cut none = (cut_once rules t es [] u t (rw (none, append-nil) at cut) (refl, tail)).0
 
 -- ---- the first lines
 
@@ -33,17 +33,17 @@ explained_start View.Explain profile es more text whole run a b = lines_start pr
 
 -- ---- the records that were judged are the first of those that the report explains
 
-within : (profile : Profile) (rows : Rows) (items rest : List LineByte) (a : Answer) → IsOk profile items → rows.records ≡ items ++ rest → IsAnswer profile rows a
+within : (profile : Profile) (rows : Rows) (items rest : List LineByte) (a : Answer) → IsOk (counting profile) items → rows.records ≡ items ++ rest → IsAnswer profile rows a
     → (m : List LineByte) × (explained_of rows a ≡ items ++ m)
 within profile rows items rest (Answer.judged (Verdict.No at reason)) ok start is =
     let more = shorter items rest is.before (is.next ∷ is.after) (sym start ∙ is.split) (no_longer is items rest ok start) in
-    (more.0, taken profile rows at reason is ∙ more.1)
+    (more.0, taken (counting profile) rows at reason is ∙ more.1)
 within profile rows items rest a ok start is = (rest, start)
 
 same_len : (profile : Profile) (rows : Rows) (items : List LineByte) (v : Verdict) → IsVerdictAfter items v → IsAnswer profile rows (Answer.judged v)
     → length (explained_of rows (Answer.judged v)) ≡ length items
 same_len profile rows items (Verdict.Yes r e t) after is = omega (arith, is.1.number)
-same_len profile rows items (Verdict.No at reason) after is = omega (arith, is.number, ap length (taken profile rows at reason is))
+same_len profile rows items (Verdict.No at reason) after is = omega (arith, is.number, ap length (taken (counting profile) rows at reason is))
 
 -- ---- what was written, and the whole text
 
@@ -59,13 +59,13 @@ first_of_text which profile rows r old new a whole told is all = by r told.answe
     first = within profile rows told.items told.start.0 a (record { exchanges = told.exchanges; tail = told.tail; cut = told.cut; run = told.run })
         (ap (λ (x : Rows). x.records) (sym told.is_known) ∙ told.start.1) is
 
-    more : (more : List Exchange) × (all.exchanges ≡ told.exchanges ++ more) × Cut profile.rate (told.tail ++ first.0) more all.tail
-    more = cut_parted profile.rate told.items told.exchanges all.exchanges told.tail first.0 all.tail told.cut (rw first.1 at all.cut)
+    more : (more : List Exchange) × (all.exchanges ≡ told.exchanges ++ more) × Cut (line_rules (counting profile)) (told.tail ++ first.0) more all.tail
+    more = cut_parted (line_rules (counting profile)) told.items told.exchanges all.exchanges told.tail first.0 all.tail told.cut (rw first.1 at all.cut)
 
     -- what the whole text begins with
     lines : (rest : List ℕ) × (all.text ≡ told.text ++ rest) × (more.0 ≡ [] → rest ≡ [])
     lines = let ok = answer_ok profile rows a is in
-        let run = subst (HasRun profile) ((cut_once profile.rate (explained_of rows a) ok.exchanges all.exchanges ok.tail all.tail ok.cut all.cut).0 ∙ more.1) ok.run in
+        let run = subst (HasRun profile) ((cut_once (line_rules (counting profile)) (explained_of rows a) ok.exchanges all.exchanges ok.tail all.tail ok.cut all.cut).0 ∙ more.1) ok.run in
         explained_start which profile told.exchanges more.0 told.text all.text run told.explained (rw more.1 at all.explained)
 
     text : whole ≡ told.text ++ (lines.0 ++ last_line a)
@@ -83,8 +83,8 @@ first_of_text which profile rows r old new a whole told is all = by r told.answe
           ap length first.1,
           length-append told.items first.0,
         )) in
-        text ∙ ap (λ l. told.text ++ (l ++ last_line a)) (lines.2 (no_more profile.rate told.tail first.0 more.0 all.tail
-        (cut_tail profile.rate told.items told.exchanges told.tail told.cut) more.2 none)) ∙ ap (λ x. told.text ++ last_line x) same
+        text ∙ ap (λ l. told.text ++ (l ++ last_line a)) (lines.2 (no_more (line_rules (counting profile)) told.tail first.0 more.0 all.tail
+        (cut_tail (line_rules (counting profile)) told.items told.exchanges told.tail told.cut) more.2 none)) ∙ ap (λ x. told.text ++ last_line x) same
 
     by : (r : Result Verdict JudgeError) → IfSome (answer_of r) (IsTheAnswer profile told.rows) → Written profile told.rows told.items told.text r old new
         → AppendsPart old new whole

@@ -1,6 +1,6 @@
 -- What the rows do whose records come to nothing yet, and what a turn of a judging tells.
 use Rattle.std.specs.declared.alloc.AllocError.{AllocError}
-use Rattle.judge9.proofs.Words.{[], AreOpen, arith, Break, Comes, Completes, ComesTo, Err, Exchange, Follower, ForSome, GivesRecord, IsAtExchange, IsEnd, IsErrAnd, IsObserved, IsOpen}
+use Rattle.judge9.proofs.Words.{Terms, [], AreOpen, arith, Break, Comes, Completes, ComesTo, Err, Exchange, Follower, ForSome, GivesRecord, IsAtExchange, IsEnd, IsErrAnd, IsObserved, IsOpen}
 use Rattle.judge9.proofs.Words.{ap, JudgeError, Judging, LineByte, List, None, Observes, Ok, Option, Outcome, Paired, Profile, Progress, Reason, refl, Result, Rows, Some, Step, step_of, subst, suc, sym, Takes, Took}
 use Rattle.judge9.proofs.Words.{Tracked, Turn, Turned, View, Waits, zero, inr, inl, Bool, if◌then◌else◌, takes_up_at, ℕ, ◌*◌, ◌++◌, ◌+◌, ◌-◌, ◌<◌, ◌∙◌, ◌∷◌, ◌≡◌, ◌≢◌, ◌≤◌}
 use Rattle.judge9.proofs.SoFar.{later, so_far-open, so_far-open_items, SoFar}
@@ -19,11 +19,11 @@ opened P keeps zero front h o = subst P (sym o) h
 opened P keeps (suc n) front h o = keeps o.0 front o.2 (opened P keeps n o.0 h o.1) o.3
 
 -- what holds of what is so far before the row at which something comes
-pub comes : {R : Type 0} {which : View} {profile : Profile} {rows : Option Rows} {past : List LineByte} {j k : Judging R} {old now : Option (List ℕ)}
-    {es : List Exchange} {r : Result Turn JudgeError} {P : Type 0} → SoFar which profile rows past j old now es → ComesTo j r k
-    → ((front : Judging R) → SoFar which profile rows past front old now es → Turned front r k → P) → P
-comes {which = which} {profile = profile} {rows = rows} {past = past} {old = old} {now = now} {es = es} h c at =
-    at c.front (opened (λ k. SoFar which profile rows past k old now es) (λ i k r far one. so_far-open far one) c.are_open.0 c.front h c.are_open.1) c.turned
+pub comes : {R : Type 0} {which : View} {terms : Terms} {rows : Option Rows} {past : List LineByte} {j k : Judging R} {old now : Option (List ℕ)}
+    {es : List Exchange} {r : Result Turn JudgeError} {P : Type 0} → SoFar which terms rows past j old now es → ComesTo j r k
+    → ((front : Judging R) → SoFar which terms rows past front old now es → Turned front r k → P) → P
+comes {which = which} {terms = terms} {rows = rows} {past = past} {old = old} {now = now} {es = es} h c at =
+    at c.front (opened (λ k. SoFar which terms rows past k old now es) (λ i k r far one. so_far-open far one) c.are_open.0 c.front h c.are_open.1) c.turned
 
 -- such a row leaves a record open
 filled : {P : Type 0} (t : List LineByte) (r : LineByte) → t ++ r ∷ [] ≡ [] → P
@@ -35,13 +35,13 @@ left_open (Outcome.completes e) takes is_open nil = absurd is_open
 left_open {old = old} {r = r} s takes is_open nil = filled old.tail r (sym takes.tail ∙ nil)
 
 -- and what holds of its records, where one more keeps it
-pub comes_with : {R : Type 0} {which : View} {profile : Profile} {rows : Option Rows} {past : List LineByte} {j k : Judging R} {old now : Option (List ℕ)}
+pub comes_with : {R : Type 0} {which : View} {terms : Terms} {rows : Option Rows} {past : List LineByte} {j k : Judging R} {old now : Option (List ℕ)}
     {es : List Exchange} {r : Result Turn JudgeError} {P : Type 0} (Q : Judging R → List LineByte → Type 0)
     → ((i k : Judging R) (items : List LineByte) (r : LineByte) → Q i items → Comes i k r None → Q k (items ++ r ∷ []))
-    → (h : SoFar which profile rows past j old now es) → Q j h.items → ComesTo j r k
-    → ((front : Judging R) (f : SoFar which profile rows past front old now es) → Q front f.items → Turned front r k → P) → P
-comes_with {which = which} {profile = profile} {rows = rows} {past = past} {old = old} {now = now} {es = es} Q more h q c at =
-    let w = opened (λ i. (f : SoFar which profile rows past i old now es) × Q i f.items)
+    → (h : SoFar which terms rows past j old now es) → Q j h.items → ComesTo j r k
+    → ((front : Judging R) (f : SoFar which terms rows past front old now es) → Q front f.items → Turned front r k → P) → P
+comes_with {which = which} {terms = terms} {rows = rows} {past = past} {old = old} {now = now} {es = es} Q more h q c at =
+    let w = opened (λ i. (f : SoFar which terms rows past i old now es) × Q i f.items)
     (λ i k r far one. (
       so_far-open far.0 one,
       subst (Q k) (sym (so_far-open_items far.0 one))
@@ -119,11 +119,13 @@ same_exchange one other = cc
 -- what the pairer answered of a record
 pub open_outcome : (s : Step) (o : Outcome) → s ≡ step_of o → s ≢ Step.Exchange → IsOpen o
 open_outcome s Outcome.leaves_open is not = tt
+open_outcome s Outcome.answers_late is not = tt
 open_outcome s Outcome.asks is not = tt
 open_outcome s (Outcome.completes e) is not = absurd (not is)
 
 pub completing : (o : Outcome) → Step.Exchange ≡ step_of o → (e : Exchange) × (o ≡ Outcome.completes e)
 completing Outcome.leaves_open is = absurd (cc is)
+completing Outcome.answers_late is = absurd (cc is)
 completing Outcome.asks is = absurd (cc is)
 completing (Outcome.completes e) is = (e, refl)
 

@@ -39,7 +39,7 @@ pub use Rattle.deck9.specs.declared.state.Hands.TheVariants.{the_data as Hands}
 pub use Rattle.deck9.specs.declared.state.Register.TheVariants.{the_data as Register}
 pub use Rattle.judge9.specs.Judging.{Answer, answer_of, IsAnswer, IsOkBefore, IsTheAnswer}
 pub use Rattle.judge9.specs.Report.{AreLines, explained_of, IsExplained, IsText, IsVerdictAfter, last_line, Written}
-pub use Rattle.judge9.specs.Verdict.{Applies, AreCounts, Breaks, CanBeVerdict, IsFirstBreak, IsOk}
+pub use Rattle.judge9.specs.Verdict.{Applies, AreCounts, Breaks, CanBeVerdict, counting, IsFirstBreak, IsOk, line_rules, Terms}
 pub use Rattle.why9.specs.Shown.{CouldShow}
 pub use Rattle.judge9.specs.Working.{[], All, Appends, AppendsPart, AreReached, Bool, BreaksAtLast, Break, CanBeResult, CaptureError, CaptureKind, Cut, Ends, Err, Exchange, Follower}
 pub use Rattle.judge9.specs.Working.{Exchanges, Explains, false, GivesEnd, GivesRecord, GivesRefusal, Profile, IfErr, IfOk, IfSome, IsBreakAfter, IsKnowledge, IsLineOf, IsSame}
@@ -50,7 +50,7 @@ pub use Rattle.block9.proofs.TailLemmas.{last_time-append}
 pub use Rattle.block9.specs.Line.{last_time}
 pub use Rattle.judge9.specs.Working.Endings.{IsEnd, JudgesRun, JudgesWhy}
 pub use Rattle.track9.specs.Following.{KeepsEnds}
-pub use Rattle.judge9.specs.Parts.{AreParts, AreTotals, BrokenPart, exchanges_of, from_command, IsPart, may_begin, number_of, Part, Rest, rest_after, takes_up_at}
+pub use Rattle.judge9.specs.Parts.{AreParts, AreTotals, BrokenPart, exchanges_of, from_command, in_parts, IsPart, may_begin, number_of, Part, Rest, rest_after, takes_up_at}
 pub use Rattle.judge9.specs.Parts.{begins_next_part}
 pub use Rattle.judge9.specs.PartsReport.{AreTextsOf, InParts, PartsTold, IsRefusedAfter, IsTextOf, IsToTheEnd, ToldInParts, WrittenInParts}
 pub use Rattle.block9.specs.Exchange.{records_in}
@@ -71,7 +71,7 @@ pub use Rattle.std.specs.Io.KnownBytes.{append_known}
 pub use Rattle.std.specs.Option.{ForSome, IfNone}
 pub use Rattle.std.specs.Result.{IsErrAnd}
 pub use Rattle.tc25.specs.Day.{day, time_of}
-pub use Rattle.tc25.specs.declared.rate.Rate.{Rate}
+pub use Rattle.block9.specs.declared.line_rules.LineRules.{LineRules}
 pub use Rattle.text9.proofs.WriteLemmas.{first_part, part_after}
 pub use Rattle.track9.proofs.OneKnowledge.{known_of_ends, knowledge_same}
 pub use Rattle.deck9.specs.Knowledge.{IsKnown, IsKnownEntry}

@@ -13,7 +13,7 @@ use Rattle.verdict9.specs.declared.error.JudgeError.{JudgeError}
 use Rattle.verdict9.specs.declared.error.JudgeError.TheVariants as error
 use Rattle.verdict9.specs.declared.verdict.Verdict.{Verdict}
 use Rattle.verdict9.specs.declared.verdict.Verdict.TheVariants as verdict
-use Rattle.judge9.specs.Verdict.{AreCounts, CanBeVerdict, IsFirstBreak, IsOk}
+use Rattle.judge9.specs.Verdict.{AreCounts, CanBeVerdict, IsFirstBreak, IsOk, counting}
 
 -- a verdict, or the fault of the first bad row of a text that can't be read to its end
 pub data Answer : Type 0 where
@@ -24,9 +24,9 @@ pub data Answer : Type 0 where
 -- no where a record is the first that breaks one, and else the fault of the first bad row, which needs that
 -- all the records before it keep the rules
 abbrev pub IsAnswer : Profile → Rows → Answer → Type 0
-IsAnswer profile rows (judged (verdict.Yes records exchanges tail)) = (rows.fault ≡ None) × AreCounts profile rows.records records exchanges tail
-IsAnswer profile rows (judged (verdict.No at reason)) = IsFirstBreak profile rows.records at reason
-IsAnswer profile rows (unreadable e) = (rows.fault ≡ Some e) × IsOk profile rows.records
+IsAnswer profile rows (judged (verdict.Yes records exchanges tail)) = (rows.fault ≡ None) × AreCounts (counting profile) rows.records records exchanges tail
+IsAnswer profile rows (judged (verdict.No at reason)) = IsFirstBreak (counting profile) rows.records at reason
+IsAnswer profile rows (unreadable e) = (rows.fault ≡ Some e) × IsOk (counting profile) rows.records
 
 -- the answer is right for a text with these rows, and no other one is
 pub record IsTheAnswer (profile : Profile) (rows : Rows) (answer : Answer) : Type 0 where
@@ -47,7 +47,7 @@ pub record IsOkBefore (profile : Profile) (rows : Rows) (e : CaptureError) : Typ
   pub start : IsStartOf items rows.records
   pub place : IsAfter items e
   pub has_header : e.row ≢ 0 → HasHeader rows
-  pub is_ok : IsOk profile items
+  pub is_ok : IsOk (counting profile) items
 
 -- where the reader failed at a row, all the records before it keep the rules
 abbrev pub StoppedBefore : Profile → Rows → JudgeError → Type 0

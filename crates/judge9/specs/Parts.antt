@@ -10,7 +10,7 @@ use Rattle.block9.specs.Line.{byte_gap, is_commands_wire}
 use Rattle.deck9.specs.declared.profile.Profile.{Profile}
 use Rattle.deck9.specs.Run.{HasRun}
 use Rattle.verdict9.specs.declared.totals.Totals.{Totals}
-use Rattle.judge9.specs.Verdict.{Breaks}
+use Rattle.judge9.specs.Verdict.{Breaks, Terms, counting, line_rules}
 
 -- ---- where a part begins
 
@@ -51,6 +51,10 @@ rest_after past reason breaking after =
 
 -- ---- the parts
 
+-- what a part is judged by
+abbrev pub in_parts : Profile → Terms
+in_parts profile = counting profile
+
 -- the first records of a part, and the exchanges and the open records that they are cut into; so many records of the capture
 -- come before them
 pub record Part : Type 0 where
@@ -61,7 +65,7 @@ pub record Part : Type 0 where
 
 -- they keep the rules
 pub record IsPart (profile : Profile) (part : Part) : Type 0 where
-  pub cut : Cut profile.rate part.records part.exchanges part.tail
+  pub cut : Cut (line_rules (in_parts profile)) part.records part.exchanges part.tail
   pub run : HasRun profile part.exchanges
 
 -- a part that breaks: the records before the one that breaks a rule, this record, and the reason
@@ -79,7 +83,7 @@ abbrev pub AreParts : Profile → Rest → List BrokenPart → Rest → Type 0
 AreParts profile rest [] left = left ≡ rest
 AreParts profile rest (b ∷ broken) left =
     (after : List LineByte) × (rest ≡ record { past = b.part.past; records = b.part.records ++ b.breaking ∷ after }) × IsPart profile b.part
-    × Breaks profile b.part.records b.breaking b.reason
+    × Breaks (in_parts profile) b.part.records b.breaking b.reason
     × AreParts profile (rest_after (b.part.past + length b.part.records) b.reason b.breaking after) broken left
 
 -- ---- what is counted

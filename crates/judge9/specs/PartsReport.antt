@@ -21,7 +21,7 @@ use Rattle.verdict9.specs.Telling.{view_of}
 use Rattle.verdict9.specs.declared.why_verdict.WhyVerdict.{WhyVerdict}
 use Rattle.report9.specs.WhyText.{text_of_why}
 use Rattle.text9.specs.Writing.{AppendsPart}
-use Rattle.judge9.specs.Parts.{AreParts, AreTotals, BrokenPart, IsPart, Part, Rest, number_of}
+use Rattle.judge9.specs.Parts.{AreParts, AreTotals, BrokenPart, IsPart, Part, Rest, in_parts, number_of}
 use Rattle.judge9.specs.Report.{IsExplained}
 use Rattle.judge9.specs.WhyVerdict.{HasItsWhy, moved, verdict_of}
 
@@ -32,7 +32,7 @@ IsTextOf (Shown view) profile b text =
     (lines : List ℕ) × IsExplained view profile b.part.past b.part.exchanges lines × (text ≡ lines ++ line_of (No (number_of b) b.reason))
 IsTextOf Why profile b text =
     (why : WhyVerdict) × (verdict_of why ≡ No (length b.part.records + 1) b.reason)
-    × HasItsWhy profile (record { records = b.part.records ++ b.breaking ∷ []; fault = None }) why × (text ≡ text_of_why profile (moved b.part.past why))
+    × HasItsWhy (in_parts profile) (record { records = b.part.records ++ b.breaking ∷ []; fault = None }) why × (text ≡ text_of_why profile (moved b.part.past why))
 
 -- the texts of all these parts, one after another, where this is the text of each
 abbrev pub AreTextsOf : (BrokenPart → List ℕ → Type 0) → List BrokenPart → List ℕ → Type 0

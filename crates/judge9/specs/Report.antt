@@ -25,6 +25,7 @@ use Rattle.text9.specs.Explanation.{line_of_exchange}
 use Rattle.text9.specs.Writing.{AppendsPart}
 use Rattle.judge9.specs.Judging.{Answer, IsAnswer, IsTheAnswer, answer_of}
 use Rattle.judge9.specs.Judging.Answer.{judged, unreadable}
+use Rattle.judge9.specs.Verdict.{counting, line_rules}
 
 -- the lines of exchanges: `before` are those that come before them, and end with the record of this number; each
 -- line names the exchange's last record, and shows what is known of all states that the runs up to it end in
@@ -55,7 +56,7 @@ last_line (unreadable e) = []
 pub record IsText (which : View) (profile : Profile) (rows : Rows) (answer : Answer) (whole : List ℕ) : Type 0 where
   pub exchanges : List Exchange
   pub tail : List LineByte
-  pub cut : Cut profile.rate (explained_of rows answer) exchanges tail
+  pub cut : Cut (line_rules (counting profile)) (explained_of rows answer) exchanges tail
   pub text : List ℕ
   pub explained : IsExplained which profile 0 exchanges text
   pub is_whole : whole ≡ text ++ last_line answer
@@ -88,7 +89,7 @@ pub record Told (which : View) (profile : Profile) (known : Option Rows) (result
   pub start : IsStartOf items rows.records
   pub exchanges : List Exchange
   pub tail : List LineByte
-  pub cut : Cut profile.rate items exchanges tail
+  pub cut : Cut (line_rules (counting profile)) items exchanges tail
   pub run : HasRun profile exchanges
   pub text : List ℕ
   pub explained : IsExplained which profile 0 exchanges text

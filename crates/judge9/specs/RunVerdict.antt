@@ -13,6 +13,7 @@ use Rattle.verdict9.specs.declared.run_verdict.RunVerdict.TheVariants as run
 use Rattle.verdict9.specs.declared.verdict.Verdict.{Verdict}
 use Rattle.verdict9.specs.declared.verdict.Verdict.TheVariants as verdict
 use Rattle.judge9.specs.Judging.{IsTheAnswer, answer_of}
+use Rattle.judge9.specs.Verdict.{counting, line_rules}
 use Rattle.deck9.specs.Run.{IsRun}
 
 -- the verdict alone, with the number of the exchanges
@@ -29,7 +30,7 @@ judged_of (Err e) = Err e
 -- run of the deck
 abbrev pub HasItsRun : Profile → Rows → RunVerdict → Type 0
 HasItsRun profile rows (run.Yes records tail exchanges states) =
-    ((left : List LineByte) × Cut profile.rate rows.records exchanges.items left) × IsRun profile exchanges.items states.items
+    ((left : List LineByte) × Cut (line_rules (counting profile)) rows.records exchanges.items left) × IsRun profile exchanges.items states.items
 HasItsRun profile rows (run.No at reason) = ⊤
 
 -- the rows that a judging speaks of, with its answer for them and its run. The rows are those of the text, where the

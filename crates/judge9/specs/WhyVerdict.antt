@@ -16,6 +16,7 @@ use Rattle.verdict9.specs.declared.verdict.Verdict.TheVariants as verdict
 use Rattle.verdict9.specs.declared.why_verdict.WhyVerdict.{WhyVerdict}
 use Rattle.verdict9.specs.declared.why_verdict.WhyVerdict.TheVariants as why
 use Rattle.judge9.specs.Judging.{IsTheAnswer, answer_of}
+use Rattle.judge9.specs.Verdict.{Terms, counting, line_rules}
 use Rattle.verdict9.specs.OpenRecords.{IsBefore, IsBreakAfter}
 
 -- the verdict alone
@@ -38,13 +39,13 @@ judged_of (Err e) = Err e
 -- where a rule of pairing is broken, the record is the one that breaks it, with the records before it that are open, what is
 -- open in them, and, where none is, the exchange before; where no run remains, the exchanges are those that the records up to the
 -- break are cut into, the replies at these places contradict one another, and this is what the deck could show before the last
-abbrev pub HasItsWhy : Profile → Rows → WhyVerdict → Type 0
-HasItsWhy profile rows (why.Yes records exchanges tail) = ⊤
-HasItsWhy profile rows (why.Break at reason tail o before r) =
-    (reason ≢ NoRun) × IsOpenAfter profile.rate tail.items o
-    × (broken : IsBreakAfter profile.rate rows.records at tail.items r) × IsBefore broken.before broken.exchanges tail.items before
-HasItsWhy profile rows (why.Contradiction at exchanges places known shown) =
-    Cut profile.rate (take at rows.records) exchanges.items [] × IsContradiction profile exchanges.items places.items × CouldShow profile exchanges.items known shown
+abbrev pub HasItsWhy : Terms → Rows → WhyVerdict → Type 0
+HasItsWhy terms rows (why.Yes records exchanges tail) = ⊤
+HasItsWhy terms rows (why.Break at reason tail o before r) =
+    (reason ≢ NoRun) × IsOpenAfter (line_rules terms) tail.items o
+    × (broken : IsBreakAfter (line_rules terms) rows.records at tail.items r) × IsBefore broken.before broken.exchanges tail.items before
+HasItsWhy terms rows (why.Contradiction at exchanges places known shown) =
+    Cut (line_rules terms) (take at rows.records) exchanges.items [] × IsContradiction terms.profile exchanges.items places.items × CouldShow terms.profile exchanges.items known shown
 
 -- the rows that a judging speaks of, with its answer for them and why it is a no. The rows are those of the text, where
 -- the reader tells its bytes; else they are what it gave, and are those of some text
@@ -53,4 +54,4 @@ pub record IsJudgedWhy (profile : Profile) (known : Option Rows) (result : Resul
   pub is_known : IfSome known (λ all. rows ≡ all)
   pub of_a_text : IfNone known (IsOfSomeText rows)
   pub answer : IfSome (answer_of (judged_of result)) (IsTheAnswer profile rows)
-  pub why : IfOk result (HasItsWhy profile rows)
+  pub why : IfOk result (HasItsWhy (counting profile) rows)

@@ -2,10 +2,11 @@
 ghost use Rattle.std.specs.Prelude.{◌≡◌, ◌≤◌, IfOk, None, OnOk};
 ghost use Rattle.std.specs.Option.{ForSome};
 ghost use Rattle.block9.specs.declared.exchange.Exchange.{Exchange as AnExchange};
+ghost use Rattle.judge9.specs.Verdict.{terms_of};
 ghost use Rattle.judge9.specs.Working.Turns.{IsObserved, KnowsNothing, Took};
 
 use crate::turn::{Break, Turn};
-use block9::{Exchange, Pairer, Reason, Step};
+use block9::{Exchange, LineRules, Pairer, Reason, ReplyLimit, Step};
 use capture9::LineByte;
 use deck9::Profile;
 use sets25::SpanSet;
@@ -13,7 +14,7 @@ use std::alloc::{AllocError, Global};
 use std::mem::replace;
 use track9::Tracker;
 
-/// What follows a capture, for a deck that is taken for one profile.
+/// What follows a capture, for a deck that is taken for one profile, where the reply limit counts or is left aside.
 #[derive(Drop)]
 pub(crate) struct Follower<'a> {
     /// The records that are open, and the exchange that the last one completed.
@@ -24,12 +25,19 @@ pub(crate) struct Follower<'a> {
 
 impl<'a> Follower<'a> {
     /// Before the first record: nothing is open, and nothing is known of the deck. An error comes where memory is refused.
-    pub(crate) fn of(alloc: Global, profile: &'a Profile) -> Result<Follower<'a>, AllocError>
-        ensures { IfOk result (KnowsNothing profile.now) }
+    pub(crate) fn of(
+        alloc: Global,
+        reply_limit: ReplyLimit,
+        profile: &'a Profile,
+    ) -> Result<Follower<'a>, AllocError>
+        ensures { IfOk result (KnowsNothing (terms_of reply_limit profile.now)) }
     {
         let tracker = Tracker::of(alloc, profile)?;
         Ok(Follower {
-            pairer: Pairer::at(profile.rate),
+            pairer: Pairer::by(LineRules {
+                rate: profile.rate,
+                reply_limit,
+            }),
             tracker,
         })
     }
@@ -43,7 +51,7 @@ impl<'a> Follower<'a> {
         ensures { Took self.old line_byte result self.new }
     {
         match self.pairer.feed(line_byte) {
-            Ok(Step::Waiting) | Ok(Step::Command) => Ok(None),
+            Ok(Step::Waiting) | Ok(Step::Command) | Ok(Step::LateReply) => Ok(None),
             Ok(Step::Exchange) => self.observe(line_byte),
             Err(reason) => Ok(Some(Turn::Break(Break {
                 reason,
@@ -83,13 +91,17 @@ impl<'a> Follower<'a> {
     pub(crate) fn begin_anew(
         &mut self,
         alloc: Global,
+        reply_limit: ReplyLimit,
         profile: &'a Profile,
     ) -> Result<(), AllocError>
-        ensures { OnOk result (KnowsNothing profile.now self.new) }
+        ensures { OnOk result (KnowsNothing (terms_of reply_limit profile.now) self.new) }
     {
         let tracker = Tracker::of(alloc, profile)?;
         drop(replace(&mut self.tracker, tracker));
-        self.pairer = Pairer::at(profile.rate);
+        self.pairer = Pairer::by(LineRules {
+            rate: profile.rate,
+            reply_limit,
+        });
         Ok(())
     }
 }

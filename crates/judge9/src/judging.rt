@@ -3,13 +3,14 @@ ghost use Rattle.std.specs.Prelude.{◌≡◌, ◌≤◌, IfOk, None, option_map
 ghost use Rattle.std.specs.Option.{ForSome};
 ghost use Rattle.capture9.specs.Records.{GivesRecord, Progress};
 ghost use Rattle.capture9.specs.Rows.{rows_of};
-ghost use Rattle.deck9.specs.declared.profile.Profile.{Profile as AProfile};
+ghost use Rattle.judge9.specs.Verdict.{Terms, terms_of};
 ghost use Rattle.judge9.specs.Working.Parts.{BeginsAfter, TakesUp};
 ghost use Rattle.judge9.specs.Working.Turns.{ComesTo, IsFresh, KnowsNothing};
 
 use crate::follower::Follower;
 use crate::parts::{begins_next_part, pass_over};
 use crate::turn::{Break, Turn};
+use block9::ReplyLimit;
 use capture9::{LineByte, Records};
 use deck9::Profile;
 use std::alloc::{AllocError, Global};
@@ -30,12 +31,13 @@ impl<'a, R: Read + Drop> Judging<'a, R> {
     pub(crate) fn new(
         alloc: Global,
         reader: R,
+        reply_limit: ReplyLimit,
         profile: &'a Profile,
     ) -> Result<Judging<'a, R>, AllocError>
-        ensures fresh { IfOk result (IsFresh profile.now) }
+        ensures fresh { IfOk result (IsFresh (terms_of reply_limit profile.now)) }
         ensures rows { IfOk result (λ j. j.rows.rows ≡ option_map rows_of (R.remaining reader)) }
     {
-        let follower = Follower::of(alloc, profile)?;
+        let follower = Follower::of(alloc, reply_limit, profile)?;
         Ok(Judging {
             rows: Records::new(alloc, reader),
             follower,
@@ -70,13 +72,14 @@ impl<'a, R: Read + Drop> Judging<'a, R> {
     pub(crate) fn take_up(
         &mut self,
         alloc: Global,
+        reply_limit: ReplyLimit,
         profile: &'a Profile,
         broken: Break,
     ) -> Result<Turn, JudgeError>
         requires { (before : Progress R) × GivesRecord before broken.record self.old.rows }
-        ensures { TakesUp profile.now broken self.old result self.new }
+        ensures { TakesUp (terms_of reply_limit profile.now) broken self.old result self.new }
     {
-        self.follower.begin_anew(alloc, profile)?;
+        self.follower.begin_anew(alloc, reply_limit, profile)?;
         if begins_next_part(broken.reason, broken.record) {
             return self.begin(broken.record);
         }
@@ -88,7 +91,7 @@ impl<'a, R: Read + Drop> Judging<'a, R> {
 
     /// What the first record of a part comes to, the one that was read last, with those after it.
     fn begin(&mut self, first: LineByte) -> Result<Turn, JudgeError>
-        requires begins { (profile : AProfile) × KnowsNothing profile self.old.follower }
+        requires begins { (terms : Terms) × KnowsNothing terms self.old.follower }
         requires read { (before : Progress R) × GivesRecord before first self.old.rows }
         ensures { BeginsAfter self.old first result self.new }
     {

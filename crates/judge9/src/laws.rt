@@ -10,14 +10,14 @@ ghost use Rattle.judge9.specs.Judging.{Answer, IsAnswer};
 ghost use Rattle.judge9.specs.Judging.Answer.{judged};
 ghost use Rattle.judge9.specs.Report.{IsText, Told};
 ghost use Rattle.text9.specs.Writing.{AppendsPart};
-ghost use Rattle.judge9.specs.Parts.{AreParts, AreTotals, BrokenPart, IsPart, Part, Rest, number_of};
-ghost use Rattle.judge9.specs.Verdict.{AreCounts, Breaks, IsFirstBreak, IsOk};
+ghost use Rattle.judge9.specs.Parts.{AreParts, AreTotals, BrokenPart, IsPart, Part, Rest, in_parts, number_of};
+ghost use Rattle.judge9.specs.Verdict.{AreCounts, Breaks, IsFirstBreak, IsOk, Terms, counting, line_rules};
 ghost use Rattle.std.specs.List.{All};
 ghost use Rattle.deck9.specs.Run.{HasRun};
 ghost use Rattle.deck9.specs.Laws.{ForgetsNoMore, PassesNoMore};
 ghost use Rattle.deck9.specs.declared.deck.Deck.{Deck as ADeck};
 
-use block9::Reason;
+use block9::{LineRules, Reason};
 use capture9::LineByte;
 use deck9::{Hands, Profile};
 use tc25::Rate;
@@ -25,32 +25,32 @@ use verdict9::{JudgeError, Totals, Verdict, View};
 
 /// A list of records has at most one cut into exchanges and a tail.
 pub fn one_cut()
-    ensures { (rate : Rate) (records : List LineByte) (some others : List Exchange) (tail rest : List LineByte)
-        → Cut rate records some tail → Cut rate records others rest → (some ≡ others) × (tail ≡ rest) }
+    ensures { (rules : LineRules) (records : List LineByte) (some others : List Exchange) (tail rest : List LineByte)
+        → Cut rules records some tail → Cut rules records others rest → (some ≡ others) × (tail ≡ rest) }
 {}
 
 /// Records that keep the rules together with a next one keep them without it.
 pub fn prefix_is_ok()
-    ensures { (profile : Profile) (records : List LineByte) (next : LineByte) → IsOk profile (records ++ next ∷ []) → IsOk profile records }
+    ensures { (terms : Terms) (records : List LineByte) (next : LineByte) → IsOk terms (records ++ next ∷ []) → IsOk terms records }
 {}
 
 /// Whether the next record breaks a rule of blocks, pairing or timing depends on the tail of the records alone, and
 /// where it does, so does the reason.
 pub fn tail_decides()
-    ensures kept { (rate : Rate) (records : List LineByte) (exchanges : List Exchange) (tail : List LineByte) (next : LineByte)
-        → Cut rate records exchanges tail → (IsKept rate (records ++ next ∷ []) ↔ IsKept rate (tail ++ next ∷ [])) }
-    ensures reason { (profile : Profile) (records : List LineByte) (exchanges : List Exchange) (tail : List LineByte)
-        → Cut profile.rate records exchanges tail → HasRun profile exchanges → (next : LineByte) → ¬ IsKept profile.rate (records ++ next ∷ [])
-        → (reason : Reason) → (Breaks profile records next reason ↔ IsReason profile.rate tail next reason) }
+    ensures kept { (rules : LineRules) (records : List LineByte) (exchanges : List Exchange) (tail : List LineByte) (next : LineByte)
+        → Cut rules records exchanges tail → (IsKept rules (records ++ next ∷ []) ↔ IsKept rules (tail ++ next ∷ [])) }
+    ensures reason { (terms : Terms) (records : List LineByte) (exchanges : List Exchange) (tail : List LineByte)
+        → Cut (line_rules terms) records exchanges tail → HasRun terms.profile exchanges → (next : LineByte) → ¬ IsKept (line_rules terms) (records ++ next ∷ [])
+        → (reason : Reason) → (Breaks terms records next reason ↔ IsReason (line_rules terms) tail next reason) }
 {}
 
 /// Where records keep the rules, and with a next one that is not earlier they do not, some reason applies; and
 /// never more than one does.
 pub fn some_reason_applies()
-    ensures some { (profile : Profile) (records : List LineByte) (next : LineByte) → IsOk profile records → last_time records ≤ next.time_us
-        → ¬ IsOk profile (records ++ next ∷ []) → (reason : Reason) × Breaks profile records next reason }
-    ensures one { (profile : Profile) (records : List LineByte) (next : LineByte) (reason other : Reason)
-        → Breaks profile records next reason → Breaks profile records next other → reason ≡ other }
+    ensures some { (terms : Terms) (records : List LineByte) (next : LineByte) → IsOk terms records → last_time records ≤ next.time_us
+        → ¬ IsOk terms (records ++ next ∷ []) → (reason : Reason) × Breaks terms records next reason }
+    ensures one { (terms : Terms) (records : List LineByte) (next : LineByte) (reason other : Reason)
+        → Breaks terms records next reason → Breaks terms records next other → reason ≡ other }
 {}
 
 /// At most one answer is right for a text.
@@ -88,7 +88,7 @@ pub fn parts_without_a_break()
     ensures { (profile : Profile) (items : List LineByte) (left : Rest) (last : Part) (totals : Totals)
         → AreParts profile (record { past = 0; records = items }) [] left → IsPart profile last → last.records ≡ left.records
         → AreTotals (length items) [] last totals
-        → (totals.breaks ≡ 0) × AreCounts profile items totals.records totals.exchanges totals.tail × (totals.passed_over ≡ 0) }
+        → (totals.breaks ≡ 0) × AreCounts (counting profile) items totals.records totals.exchanges totals.tail × (totals.passed_over ≡ 0) }
 {}
 
 /// A capture has one list of parts, of which the last keeps the rules and has all that is left, and one set of totals.
@@ -106,7 +106,7 @@ pub fn one_list_of_parts()
 pub fn each_part_is_a_no()
     ensures each { (profile : Profile) (items : List LineByte) (broken : List BrokenPart) (left : Rest)
         → AreParts profile (record { past = 0; records = items }) broken left
-        → All (λ b. IsFirstBreak profile (drop b.part.past items) (length b.part.records + 1) b.reason) broken }
+        → All (λ b. IsFirstBreak (in_parts profile) (drop b.part.past items) (length b.part.records + 1) b.reason) broken }
     ensures first { (profile : Profile) (items : List LineByte) (b : BrokenPart) (broken : List BrokenPart) (left : Rest)
-        → AreParts profile (record { past = 0; records = items }) (b ∷ broken) left → IsFirstBreak profile items (number_of b) b.reason }
+        → AreParts profile (record { past = 0; records = items }) (b ∷ broken) left → IsFirstBreak (in_parts profile) items (number_of b) b.reason }
 {}

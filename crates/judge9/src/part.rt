@@ -4,6 +4,7 @@
 ghost use Rattle.std.specs.Prelude.{◌≡◌, ◌≢◌, ◌≤◌, ◌<◌, ◌+◌, ◌*◌, ◌++◌, [], ◌∷◌, Err, None, OnOk, Some};
 ghost use Rattle.block9.specs.declared.exchange.Exchange.{Exchange as AnExchange};
 ghost use Rattle.judge9.specs.Working.Part.{IsAtExchange, IsJudgedFirst, IsJudgedPart, IsLogOf, IsLogged, TellsAt};
+ghost use Rattle.judge9.specs.Verdict.{counting};
 ghost use Rattle.judge9.specs.Working.Turns.{IsFresh};
 ghost use Rattle.judge9.specs.Working.{Explains};
 ghost use Rattle.judge9.specs.declared.turn.Turn.TheVariants as ATurn;
@@ -92,7 +93,7 @@ pub(crate) fn judge_first_part<R: Read + Drop, W: Write>(
     writer: &mut W,
     profile: &Profile,
 ) -> Result<Option<Break>, JudgeError>
-    requires fresh { IsFresh profile.now judging.old }
+    requires fresh { IsFresh (counting profile.now) judging.old }
     requires begun { IsLogOf log.old.telling [] None log.old }
     ensures judged { IsJudgedFirst log.old.telling profile.now judging.old (W.contents writer.old) result judging.new log.new (W.contents writer.new) }
     ensures write { log.old.telling ≡ Telling.Why → result ≢ Err JudgeError.Write }

@@ -3,6 +3,7 @@
 ghost use Rattle.std.specs.Prelude.{◌≡◌, ◌≢◌, ◌++◌, [], ◌∷◌, IfOk, IfSome, OnOk, option_map, None, Some};
 ghost use Rattle.block9.specs.declared.exchange.Exchange.{Exchange as AnExchange};
 ghost use Rattle.capture9.specs.Rows.{HasHeader, rows_of};
+ghost use Rattle.judge9.specs.Parts.{in_parts};
 ghost use Rattle.judge9.specs.PartsReport.{IsTextOf, ToldInParts};
 ghost use Rattle.verdict9.specs.Lines.{line_of_totals};
 ghost use Rattle.verdict9.specs.Telling.{view_of};
@@ -15,7 +16,7 @@ use crate::judging::Judging;
 use crate::part::{PartLog, judge_part};
 use crate::turn::Break;
 use crate::why::why_of;
-use block9::Reason;
+use block9::{Reason, ReplyLimit};
 use capture9::{CaptureError, CaptureKind};
 use deck9::Profile;
 use report9::put_why_for;
@@ -59,7 +60,7 @@ pub fn judge_parts_for<R: Read + Drop, W: Write>(
     ensures header { IfSome (R.remaining reader) (λ text. (e : CaptureError)
         → result ≡ Err (JudgeError.Capture e) → e.row ≢ 0 → HasHeader (rows_of text)) }
 {
-    let mut judging = Judging::new(alloc, reader, profile)?;
+    let mut judging = Judging::new(alloc, reader, ReplyLimit::Counts, profile)?;
     let mut line = Vec::new(alloc);
     let totals = judge_rows(alloc, &mut judging, &mut line, writer, telling, profile);
     drop(judging);
@@ -75,7 +76,7 @@ fn judge_rows<'a, R: Read + Drop, W: Write>(
     telling: Telling,
     profile: &'a Profile,
 ) -> Result<Totals, JudgeError>
-    requires { IsFresh profile.now judging.old }
+    requires { IsFresh (in_parts profile.now) judging.old }
     ensures { JudgesParts (IsTextOf telling profile.now) (view_of telling) profile.now judging.old.rows.rows result (W.contents writer.old) (W.contents writer.new) }
 {
     let mut breaks = 0u32;
@@ -94,7 +95,7 @@ fn judge_rows<'a, R: Read + Drop, W: Write>(
         breaks += 1;
         put_break(alloc, line, judging, log, broken, profile)?;
         write_all(writer, line.as_slice())?;
-        turn = judging.take_up(alloc, profile, broken)?;
+        turn = judging.take_up(alloc, ReplyLimit::Counts, profile, broken)?;
     }
     let records = judging.rows.given();
     let tail = judging.follower.pairer.tail_len() as u32;
@@ -118,8 +119,7 @@ fn put_break<R: Read + Drop>(
     broken: Break,
     profile: &Profile,
 ) -> Result<(), AllocError>
-    requires rate { judging.now.follower.pairer.rate ≡ profile.now.rate }
-    requires breaks { log.telling ≡ Telling.Why → broken.reason ≡ Reason.NoRun
+    requires { log.telling ≡ Telling.Why → broken.reason ≡ Reason.NoRun
         → (e : AnExchange) × (judging.now.follower.pairer.exchange ≡ Some e) × BreaksAtLast profile.now (log.kept.items ++ e ∷ []) }
     ensures { OnOk result (IsBreakText log.telling profile.now judging.now.rows.given broken judging.now.follower.pairer log.kept.items log.end_us line.new.items) }
 {

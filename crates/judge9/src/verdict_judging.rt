@@ -7,11 +7,13 @@ ghost use Rattle.judge9.specs.Report.{Told};
 ghost use Rattle.judge9.specs.Working.{IsSame, Judges, Puts, verdict_at};
 ghost use Rattle.verdict9.specs.Telling.{view_of};
 ghost use Rattle.judge9.specs.Working.Part.{IsLogOf};
+ghost use Rattle.judge9.specs.Verdict.{counting};
 ghost use Rattle.judge9.specs.Working.Turns.{IsFresh};
 
 use crate::judging::Judging;
 use crate::part::{PartLog, judge_first_part};
 use crate::turn::Break;
+use block9::ReplyLimit;
 use capture9::{CaptureError, CaptureKind};
 use deck9::Profile;
 use std::alloc::Global;
@@ -80,7 +82,7 @@ pub fn judge_for<R: Read + Drop, W: Write>(
         → e.kind ≢ CaptureKind.OutOfMemory }
     ensures can_be { CanBeResult result }
 {
-    let mut judging = Judging::new(alloc, reader, profile)?;
+    let mut judging = Judging::new(alloc, reader, ReplyLimit::Counts, profile)?;
     let mut line = Vec::new(alloc);
     let mut log = PartLog::new(alloc, Telling::Shown(view));
     let verdict = judge_rows(&mut judging, &mut log, &mut line, writer, profile);
@@ -97,7 +99,7 @@ fn judge_rows<R: Read + Drop, W: Write>(
     writer: &mut W,
     profile: &Profile,
 ) -> Result<Verdict, JudgeError>
-    requires fresh { IsFresh profile.now judging.old }
+    requires fresh { IsFresh (counting profile.now) judging.old }
     requires begun { IsLogOf log.old.telling [] None log.old }
     ensures { Judges (view_of log.old.telling) profile.now judging.old.rows.rows result (W.contents writer.old) (W.contents writer.new) }
 {

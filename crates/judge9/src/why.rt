@@ -29,8 +29,7 @@ pub(crate) fn why_of<R: Read + Drop>(
     broken: Break,
     profile: &Profile,
 ) -> Result<WhyVerdict, AllocError>
-    requires rate { judging.now.follower.pairer.rate ≡ profile.now.rate }
-    requires breaks { broken.reason ≡ Reason.NoRun → (e : AnExchange) × (judging.now.follower.pairer.exchange ≡ Some e) × BreaksAtLast profile.now (log.kept.items ++ e ∷ []) }
+    requires { broken.reason ≡ Reason.NoRun → (e : AnExchange) × (judging.now.follower.pairer.exchange ≡ Some e) × BreaksAtLast profile.now (log.kept.items ++ e ∷ []) }
     ensures { IfOk result (SaysWhy profile.now judging.now.rows.given broken judging.now.follower.pairer log.kept.items log.end_us) }
 {
     let at = judging.rows.given();
@@ -58,8 +57,7 @@ fn why_broken(
     end_us: Option<u64>,
 ) -> Result<WhyVerdict, AllocError>
     requires { broken.reason ≢ Reason.NoRun }
-    ensures { (profile : AProfile) → pairer.now.rate ≡ profile.rate
-        → IfOk result (SaysWhy profile at broken pairer.now exchanges.items end_us) }
+    ensures { (profile : AProfile) → IfOk result (SaysWhy profile at broken pairer.now exchanges.items end_us) }
 {
     let tail = open_records(alloc, pairer)?;
     let before = ended_before(exchanges, tail.as_slice(), end_us);

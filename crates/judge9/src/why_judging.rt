@@ -4,11 +4,13 @@ ghost use Rattle.capture9.specs.Rows.{rows_of};
 ghost use Rattle.judge9.specs.Judging.{CanBeResult, IsTheAnswer, StoppedBefore, answer_of};
 ghost use Rattle.judge9.specs.WhyVerdict.{IsJudgedWhy, judged_of};
 ghost use Rattle.judge9.specs.Working.Endings.{JudgesWhy};
+ghost use Rattle.judge9.specs.Verdict.{counting};
 ghost use Rattle.judge9.specs.Working.Turns.{IsFresh};
 
 use crate::judging::Judging;
 use crate::part::{PartLog, judge_first_part};
 use crate::why::why_of;
+use block9::ReplyLimit;
 use capture9::{CaptureError, CaptureKind};
 use deck9::Profile;
 use std::alloc::Global;
@@ -53,7 +55,7 @@ pub fn judge_with_contradiction_for<R: Read + Drop>(
     ensures write { result ≢ Err JudgeError.Write }
     ensures can_be { CanBeResult (judged_of result) }
 {
-    let mut judging = Judging::new(alloc, reader, profile)?;
+    let mut judging = Judging::new(alloc, reader, ReplyLimit::Counts, profile)?;
     let verdict = judge_rows(alloc, &mut judging, profile);
     drop(judging);
     verdict
@@ -65,7 +67,7 @@ fn judge_rows<R: Read + Drop>(
     judging: &mut Judging<R>,
     profile: &Profile,
 ) -> Result<WhyVerdict, JudgeError>
-    requires { IsFresh profile.now judging.old }
+    requires { IsFresh (counting profile.now) judging.old }
     ensures { JudgesWhy profile.now judging.old.rows.rows result }
 {
     let mut log = PartLog::new(alloc, Telling::Why);

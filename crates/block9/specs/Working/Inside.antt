@@ -1,5 +1,5 @@
 -- What is inside a `Pairer`, which callers do not see, and what a record does to it.
-use Rattle.tc25.specs.declared.rate.Rate.{Rate}
+use Rattle.block9.specs.declared.line_rules.LineRules.{LineRules}
 use Rattle.std.specs.Prelude.{ℕ, ◌≡◌, ◌<◌, ◌+◌, ◌-◌, ◌%◌, ◌==◌, ◌⊎◌, if◌then◌else◌, length, ⊤, Bool, true, false, Option, Some, None, List, [], ◌∷◌, take, drop}
 use Rattle.std.specs.List.{sum}
 use Rattle.capture9.specs.declared.line_byte.LineByte.{LineByte}
@@ -12,22 +12,24 @@ use Rattle.block9.specs.declared.exchange.Exchange.{Exchange}
 use Rattle.block9.specs.declared.place.Place.{Place}
 use Rattle.block9.specs.declared.place.Place.TheVariants.{Idle, InCommand, AfterCommand, InReply}
 use Rattle.block9.specs.declared.reason.Reason.{Reason}
+use Rattle.block9.specs.declared.rules.Turned.{Turned}
+use Rattle.block9.specs.declared.rules.Turned.TheVariants.{Open, Last}
 use Rattle.block9.specs.Exchange.{IsCommand, Outcome}
-use Rattle.block9.specs.Exchange.Outcome.{asks, completes, leaves_open}
+use Rattle.block9.specs.Exchange.Outcome.{answers_late, asks, completes, leaves_open}
 use Rattle.block9.specs.Line.{IsBegun, block_len, bytes_of, first_time, last_time}
 use Rattle.block9.specs.Pairer.{BeginsWith}
 use Rattle.block9.specs.Reason.{IsAnswered}
 use Rattle.block9.specs.Working.Body.{block_of}
-use Rattle.block9.specs.Working.Table.{early_fault, ends_block, open_at, place_of}
+use Rattle.block9.specs.Working.Table.{early_fault, ends_block, is_late, open_at, place_of}
 
 -- the records are a complete command with this meaning
-abbrev pub IsWholeOf : Rate → List LineByte → Command → Type 0
-IsWholeOf rate records c = (b : Block) × IsCommand rate records b c
+abbrev pub IsWholeOf : LineRules → List LineByte → Command → Type 0
+IsWholeOf rules records c = (b : Block) × IsCommand rules records b c
 
 -- the records are a tail, and what is kept beside them is the complete command with which they begin, if they do
-abbrev pub IsTailWith : Rate → List LineByte → Option Command → Type 0
-IsTailWith rate records None = (records ≡ []) ⊎ IsBegun Controller records
-IsTailWith rate records (Some c) = IsWholeOf rate records c ⊎ ((reply : List LineByte) × IsAnswered rate records c reply)
+abbrev pub IsTailWith : LineRules → List LineByte → Option Command → Type 0
+IsTailWith rules records None = (records ≡ []) ⊎ IsBegun Controller records
+IsTailWith rules records (Some c) = IsWholeOf rules records c ⊎ ((reply : List LineByte) × IsAnswered rules records c reply)
 
 -- the command of an exchange is complete where its reply is to come
 abbrev pub asked_on : Wire → Command → Option Command
@@ -82,20 +84,26 @@ completed [] (Some reason) passed e = None
 completed (r ∷ records) reason passed e = None
 
 -- what is inside a `Pairer` fits together: its tail, the block that is open at its end, and the exchange that is under way
-pub record IsInside (rate : Rate) (records : List LineByte) (b : OpenBlock) (e : Exchange) : Type 0 where
-  pub held : IsTailWith rate records (asked_on b.wire e.command)
+pub record IsInside (rules : LineRules) (records : List LineByte) (b : OpenBlock) (e : Exchange) : Type 0 where
+  pub held : IsTailWith rules records (asked_on b.wire e.command)
   pub stands : Stands records b
-  pub asked : b.wire ≡ Deck → (begins : BeginsWith rate records e.command) × (begins.block ≡ e.block)
+  pub asked : b.wire ≡ Deck → (begins : BeginsWith rules records e.command) × (begins.block ≡ e.block)
 
 -- the exchange that a record completes is the one that was under way
 abbrev pub IsOf : Exchange → Outcome → Type 0
 IsOf e leaves_open = ⊤
+IsOf e answers_late = ⊤
 IsOf e asks = ⊤
 IsOf e (completes f) = f ≡ e
 
 -- a record that breaks no rule before its block is complete, and whether it is the last one of its block
-abbrev pub IsTurn : List LineByte → LineByte → Bool → Type 0
-IsTurn tail r ends = (early_fault (place_of tail) tail r ≡ None) × (ends ≡ ends_block (open_at (place_of tail) tail))
+abbrev pub IsTurn : LineRules → List LineByte → LineByte → Bool → Type 0
+IsTurn rules tail r ends = (early_fault rules.reply_limit (place_of tail) tail r ≡ None) × (ends ≡ ends_block (open_at (place_of tail) tail))
+
+-- what such a record makes of the block that is open: it ends it, or leaves it open; and whether it begins a late reply
+abbrev pub IsTurned : List LineByte → OpenBlock → LineByte → Turned → Type 0
+IsTurned tail b r (Open block late) = (Some block ≡ next_of b r.byte) × (late ≡ is_late (place_of tail) tail r)
+IsTurned tail b r Last = None ≡ next_of b r.byte
 
 -- an exchange is the one that a tail inside a reply and one more record are, as it is read, with this command and block
 abbrev pub closed_of : List LineByte → Command → Block → Exchange

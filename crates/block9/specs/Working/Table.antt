@@ -1,7 +1,7 @@
 -- Which rule a record breaks after a tail, as the code reads it: by the place where the tail stands and by lengths.
 -- Private functions alone cite this; it gives the reasons of specs/Reason.antt by proofs/ReasonLemmas.antt.
-use Rattle.tc25.specs.declared.rate.Rate.{Rate}
-use Rattle.std.specs.Prelude.{◌+◌, ◌-◌, ◌%◌, ◌==◌, nat_lt, nat_le, if◌then◌else◌, Bool, false, Option, Some, None, List, [], ◌∷◌, length, take, drop}
+use Rattle.block9.specs.declared.line_rules.LineRules.{LineRules}
+use Rattle.std.specs.Prelude.{◌+◌, ◌-◌, ◌%◌, ◌==◌, nat_lt, nat_le, if◌then◌else◌, Bool, false, not, Option, Some, None, List, [], ◌∷◌, length, take, drop}
 use Rattle.std.specs.List.{sum}
 use Rattle.std.specs.Option.{option_or}
 use Rattle.capture9.specs.declared.line_byte.LineByte.{LineByte}
@@ -9,6 +9,8 @@ use Rattle.capture9.specs.declared.line_byte.Wire.TheVariants.{Controller, Deck}
 use Rattle.capture9.specs.declared.line_byte.Wire.{Wire}
 use Rattle.block9.specs.declared.command.Command.{Command}
 use Rattle.block9.specs.declared.block.Block.{Block}
+use Rattle.block9.specs.declared.line_rules.ReplyLimit.{ReplyLimit}
+use Rattle.block9.specs.declared.line_rules.ReplyLimit.TheVariants.{Counts, LeftAside}
 use Rattle.block9.specs.declared.place.Place.{Place}
 use Rattle.block9.specs.declared.place.Place.TheVariants.{Idle, InCommand, AfterCommand, InReply}
 use Rattle.block9.specs.declared.reason.Reason.{Reason}
@@ -39,6 +41,11 @@ ends_block (first ∷ more) = length (first ∷ more) + 1 == block_len (first �
 abbrev pub is_soon : List LineByte → LineByte → Bool
 is_soon tail r = nat_le r.time_us (last_time tail + reply_limit)
 
+-- the record is of the deck, and begins its reply after the reply limit
+abbrev pub is_late : Place → List LineByte → LineByte → Bool
+is_late AfterCommand tail r = not (is_soon tail r)
+is_late _ tail r = false
+
 -- a record on the wire whose turn it is not
 abbrev pub wire_fault : Place → Wire → Bool → Option Reason
 wire_fault Idle Deck soon = Some ReplyWithoutCommand
@@ -47,11 +54,12 @@ wire_fault AfterCommand Controller soon = if soon then Some CommandBeforeReply e
 wire_fault InReply Controller soon = Some CommandInsideReply
 wire_fault _ _ soon = None
 
--- a record that comes too late: to begin a reply, or to go on with a block
-abbrev pub time_fault : Place → Bool → Bool → Option Reason
-time_fault Idle soon linked = None
-time_fault AfterCommand soon linked = if soon then None else Some LateReply
-time_fault _ soon linked = if linked then None else Some ByteGap
+-- a record that comes too late: to begin a reply, where the reply limit counts, or to go on with a block
+abbrev pub time_fault : Place → ReplyLimit → Bool → Bool → Option Reason
+time_fault Idle limit soon linked = None
+time_fault AfterCommand Counts soon linked = if soon then None else Some LateReply
+time_fault AfterCommand LeftAside soon linked = None
+time_fault _ limit soon linked = if linked then None else Some ByteGap
 
 -- a first byte whose group the wire does not allow
 abbrev pub group_fault : Place → Bool → Option Reason
@@ -65,31 +73,31 @@ command_fault None = Some InvalidCommandTime
 command_fault (Some c) = None
 
 -- a reply to a command with no meaning, of a kind that the command may not have, or with a time that is not valid
-abbrev pub reply_fault : Rate → Option Command → Block → Option Reason
-reply_fault rate None reply = Some InvalidCommandTime
-reply_fault rate (Some c) reply = if fits c reply then (if is_reply_time_valid rate c reply then None else Some InvalidReplyTime) else Some WrongReply
+abbrev pub reply_fault : LineRules → Option Command → Block → Option Reason
+reply_fault rules None reply = Some InvalidCommandTime
+reply_fault rules (Some c) reply = if fits c reply then (if is_reply_time_valid rules.rate c reply then None else Some InvalidReplyTime) else Some WrongReply
 
 -- what the last record of a block breaks beside its sum; the block has the open records as its body
-abbrev pub meaning_fault : Rate → Place → List LineByte → List LineByte → Option Reason
-meaning_fault rate InCommand tail current = command_fault (command_of rate (block_of (bytes_of current)))
-meaning_fault rate InReply tail current = reply_fault rate (command_of rate (block_of (bytes_of (take (block_len tail - 1) tail)))) (block_of (bytes_of current))
-meaning_fault rate _ tail current = None
+abbrev pub meaning_fault : LineRules → Place → List LineByte → List LineByte → Option Reason
+meaning_fault rules InCommand tail current = command_fault (command_of rules.rate (block_of (bytes_of current)))
+meaning_fault rules InReply tail current = reply_fault rules (command_of rules.rate (block_of (bytes_of (take (block_len tail - 1) tail)))) (block_of (bytes_of current))
+meaning_fault rules _ tail current = None
 
 -- what the last record of a block breaks, by its sum or by what the block means: nothing where it is not the last one
-abbrev pub end_fault : Rate → Place → List LineByte → List LineByte → LineByte → Option Reason
-end_fault rate place tail current r =
-    if ends_block current then option_or (if r.byte == sum (bytes_of current) % 256 then None else Some WrongSum) (meaning_fault rate place tail current) else None
+abbrev pub end_fault : LineRules → Place → List LineByte → List LineByte → LineByte → Option Reason
+end_fault rules place tail current r =
+    if ends_block current then option_or (if r.byte == sum (bytes_of current) % 256 then None else Some WrongSum) (meaning_fault rules place tail current) else None
 
 -- what a record breaks by its turn, its time or its group
-abbrev pub early_fault : Place → List LineByte → LineByte → Option Reason
-early_fault place tail r =
-    option_or (option_or (wire_fault place r.wire (is_soon tail r)) (time_fault place (is_soon tail r) (nat_le r.time_us (last_time tail + byte_gap))))
+abbrev pub early_fault : ReplyLimit → Place → List LineByte → LineByte → Option Reason
+early_fault limit place tail r =
+    option_or (option_or (wire_fault place r.wire (is_soon tail r)) (time_fault place limit (is_soon tail r) (nat_le r.time_us (last_time tail + byte_gap))))
     (group_fault place (allows r.wire (group_in r.byte)))
 
 -- the reason that stands first in the table, by the place where the tail stands
-abbrev pub fault_at : Rate → Place → List LineByte → LineByte → Option Reason
-fault_at rate place tail r = option_or (early_fault place tail r) (end_fault rate place tail (open_at place tail) r)
+abbrev pub fault_at : LineRules → Place → List LineByte → LineByte → Option Reason
+fault_at rules place tail r = option_or (early_fault rules.reply_limit place tail r) (end_fault rules place tail (open_at place tail) r)
 
 -- the rule that a record breaks after a tail
-abbrev pub pairing : Rate → List LineByte → LineByte → Option Reason
-pairing rate tail r = fault_at rate (place_of tail) tail r
+abbrev pub pairing : LineRules → List LineByte → LineByte → Option Reason
+pairing rules tail r = fault_at rules (place_of tail) tail r

@@ -1,7 +1,7 @@
 //! What a pairer answers to each record, by hand. Which record of a capture breaks which rule is in `tests/cases/`.
 
 use crate::tests::same;
-use block9::{Block, Command, Exchange, Open, Pairer, Reason, Step};
+use block9::{Block, Command, Exchange, LineRules, Open, Pairer, Reason, ReplyLimit, Step};
 use capture9::Wire::{Controller, Deck};
 use capture9::{LineByte, Wire};
 use std::process::Abort;
@@ -122,6 +122,68 @@ fn a_reason_stays(rt: HostRuntime) {
         same(&rt, fault, Err(Reason::WrongSum), line_byte);
         same(&rt, pairer.last_time(), Some(1_200), line_byte);
         same(&rt, pairer.tail(), [first, second].as_slice(), line_byte);
+    }
+}
+
+/// A pairer that reads times at 25 frames a second and has PLAY complete, whose last record came at this time.
+fn after_play(rt: &impl Abort, reply_limit: ReplyLimit, time_us: u64) -> Pairer {
+    let rate = Rate::Fps25;
+    let mut pairer = Pairer::by(LineRules { rate, reply_limit });
+    for byte in [0x20, 0x01, 0x21] {
+        assert!(rt; feed(rt, &mut pairer, record(time_us, Controller, byte)).is_ok());
+    }
+    pairer
+}
+
+#[test]
+fn a_late_reply_breaks_a_rule_where_the_limit_counts(rt: HostRuntime) {
+    // a command's last record at 1,000, and the reply limit is 9,287
+    for (reply_limit, at, byte, answer) in [
+        (ReplyLimit::Counts, 10_287, 0x10, Ok(Step::Waiting)),
+        (ReplyLimit::Counts, 10_288, 0x10, Err(Reason::LateReply)),
+        (ReplyLimit::Counts, 10_288, 0x00, Err(Reason::LateReply)),
+        (ReplyLimit::LeftAside, 10_287, 0x10, Ok(Step::Waiting)),
+        (ReplyLimit::LeftAside, 10_288, 0x10, Ok(Step::LateReply)),
+        (ReplyLimit::LeftAside, 10_287, 0x00, Err(Reason::WrongGroup)),
+        (ReplyLimit::LeftAside, 10_288, 0x00, Err(Reason::WrongGroup)),
+    ] {
+        let mut pairer = after_play(&rt, reply_limit, 1_000);
+        let first = record(at, Deck, byte);
+        same(
+            &rt,
+            feed(&rt, &mut pairer, first),
+            answer,
+            (reply_limit, at),
+        );
+    }
+    // a command that comes so late is no late reply
+    let mut pairer = after_play(&rt, ReplyLimit::LeftAside, 1_000);
+    let next = record(10_288, Controller, 0x20);
+    let answer = feed(&rt, &mut pairer, next);
+    same(&rt, answer, Err(Reason::NoReply), next);
+}
+
+#[test]
+fn an_exchange_with_a_late_reply_has_its_true_delay(rt: HostRuntime) {
+    let mut pairer = after_play(&rt, ReplyLimit::LeftAside, 1_000);
+    for (at, byte, taken) in [
+        (13_000, 0x10, (Step::LateReply, 4)),
+        (13_400, 0x01, (Step::Waiting, 5)),
+        (13_800, 0x11, (Step::Exchange, 0)),
+    ] {
+        let line_byte = record(at, Deck, byte);
+        same(&rt, take(&rt, &mut pairer, line_byte), taken, line_byte);
+    }
+    let delay_us = pairer.exchange().map(|exchange| exchange.delay_us);
+    same(&rt, delay_us, Some(12_000), "12,000 after the command");
+    // the gap inside the reply counts as ever
+    let mut pairer = after_play(&rt, ReplyLimit::LeftAside, 1_000);
+    for (at, byte, answer) in [
+        (13_000, 0x10, Ok(Step::LateReply)),
+        (23_288, 0x01, Err(Reason::ByteGap)),
+    ] {
+        let line_byte = record(at, Deck, byte);
+        same(&rt, feed(&rt, &mut pairer, line_byte), answer, line_byte);
     }
 }
 

@@ -4,6 +4,7 @@ use Rattle.judge9.specs.Working.{[], Ends, Err, Exchange, Profile, HasItsRun, Ha
 use Rattle.judge9.specs.Working.{Result, Rows, RunVerdict, Some, State, Tracked, View, WhyVerdict, ℕ}
 use Rattle.block9.specs.Line.{last_time}
 use Rattle.judge9.specs.WhyVerdict.{judged_of as why_judged_of}
+use Rattle.judge9.specs.Verdict.{counting}
 use Rattle.track9.specs.Following.{KeepsEnds}
 
 -- the time at which these records end, if they end with one of these exchanges, and none where there is no exchange
@@ -20,5 +21,5 @@ pub record JudgesRun (profile : Profile) (rows : Option Rows) (result : Result R
 -- all that the result of a judging tells that says why no run remains
 pub record JudgesWhy (profile : Profile) (rows : Option Rows) (result : Result WhyVerdict JudgeError) : Type 0 where
   pub judges : Judges View.Verdict profile rows (why_judged_of result) None None
-  pub why : IfOk result (HasItsWhy profile judges.told.rows)
+  pub why : IfOk result (HasItsWhy (counting profile) judges.told.rows)
   pub no_write : result ≢ Err JudgeError.Write

@@ -16,6 +16,7 @@ use Rattle.verdict9.specs.declared.verdict.Telling.TheVariants.{Shown, Why}
 use Rattle.why9.specs.Contradiction.{IsContradiction}
 use Rattle.capture9.specs.Rows.{HasHeader}
 use Rattle.judge9.specs.Parts.{begins_next_part, BrokenPart, may_begin}
+use Rattle.judge9.specs.Verdict.{Terms}
 use Rattle.judge9.specs.Working.Turns.{Comes, ComesTo, KnowsNothing}
 
 -- these records were given, one after another
@@ -59,28 +60,28 @@ BeginsAfter {R} j first result k =
     (before : Progress R) → GivesRecord before first j.rows → BeginsAt (record { rows = before; follower = j.follower }) first result k
 
 -- the first record of the next part is this one, and was read after these rows
-pub record Resumes {R : Type 0} (profile : Profile) (before : Progress R) (first : LineByte) (result : Result Turn JudgeError) (k : Judging R) : Type 0 where
+pub record Resumes {R : Type 0} (terms : Terms) (before : Progress R) (first : LineByte) (result : Result Turn JudgeError) (k : Judging R) : Type 0 where
   pub follower : Follower
-  pub knows_nothing : KnowsNothing profile follower
+  pub knows_nothing : KnowsNothing terms follower
   pub with_first : BeginsAt (record { rows = before; follower = follower }) first result k
 
 -- records were passed over after `last`, and then came the first one of the next part, the end of the rows, or a refusal
-pub record ResumesAfter {R : Type 0} (profile : Profile) (last : LineByte) (old : Progress R) (result : Result Turn JudgeError) (k : Judging R) : Type 0 where
+pub record ResumesAfter {R : Type 0} (terms : Terms) (last : LineByte) (old : Progress R) (result : Result Turn JudgeError) (k : Judging R) : Type 0 where
   pub passed : List LineByte
   pub none_begins : NoneBegins last passed
   pub mid : Progress R
   pub gives : GivesAll old passed mid
   pub then :
-      ((first : LineByte) × (may_begin (last_of last passed) first ≡ true) × Resumes profile mid first result k)
-      ⊎ ((result ≡ Ok Turn.End) × GivesEnd mid k.rows × KnowsNothing profile k.follower)
+      ((first : LineByte) × (may_begin (last_of last passed) first ≡ true) × Resumes terms mid first result k)
+      ⊎ ((result ≡ Ok Turn.End) × GivesEnd mid k.rows × KnowsNothing terms k.follower)
       ⊎ ((e : CaptureError) × GivesRefusal mid e k.rows × (result ≡ Err (refusal_of e)))
 
 -- the judging takes up again after the record that broke a rule, which was read last, or memory is refused
-abbrev pub TakesUp : {R : Type 0} → Profile → Break → Judging R → Result Turn JudgeError → Judging R → Type 0
-TakesUp {R} profile b j result k =
+abbrev pub TakesUp : {R : Type 0} → Terms → Break → Judging R → Result Turn JudgeError → Judging R → Type 0
+TakesUp {R} terms b j result k =
     ((result ≡ Err JudgeError.OutOfMemory) × (k.rows ≡ j.rows))
-    ⊎ MatchBool (begins_next_part b.reason b.record) ((before : Progress R) → GivesRecord before b.record j.rows → Resumes profile before b.record result k)
-    (ResumesAfter profile b.record j.rows result k)
+    ⊎ MatchBool (begins_next_part b.reason b.record) ((before : Progress R) → GivesRecord before b.record j.rows → Resumes terms before b.record result k)
+    (ResumesAfter terms b.record j.rows result k)
 
 -- why no run remains with the last of these exchanges
 abbrev pub SaysNoRun : Profile → ℕ → List Exchange → WhyVerdict → Type 0
@@ -93,7 +94,7 @@ SaysNoRun profile at es why = ⊥
 abbrev pub SaysWhy : Profile → ℕ → Break → Paired → List Exchange → Option ℕ → WhyVerdict → Type 0
 SaysWhy profile at b paired es end_us (WhyVerdict.Yes records exchanges tail) = ⊥
 SaysWhy profile at b paired es end_us (WhyVerdict.Break number x tail o before breaking) =
-    (number ≡ at) × (x ≡ b.reason) × (breaking ≡ b.record) × (tail.items ≡ paired.tail) × IsOpenAfter profile.rate paired.tail o
+    (number ≡ at) × (x ≡ b.reason) × (breaking ≡ b.record) × (tail.items ≡ paired.tail) × IsOpenAfter paired.rules paired.tail o
     × ((records : List LineByte) → (paired.tail ≡ [] → IsEnd records es end_us) → IsBefore records es paired.tail before) × (b.reason ≢ Reason.NoRun)
 SaysWhy profile at b paired es end_us (WhyVerdict.Contradiction number exchanges places known shown) =
     (b.reason ≡ Reason.NoRun) × (e : Exchange) × (paired.exchange ≡ Some e)

@@ -1,27 +1,29 @@
 -- What a judging comes to next: what rows do to those that are still to come, and their records to what follows them.
 use Rattle.std.specs.Prelude.{◌↔◌, ◌≡◌, ◌⊎◌}
 use Rattle.std.specs.declared.alloc.AllocError.{AllocError}
+use Rattle.judge9.specs.Verdict.{Terms, line_rules}
 use Rattle.judge9.specs.Working.{[], AreReached, Bool, Break, CaptureError, Err, Exchange, Exchanges, false, Follower, GivesEnd, GivesRecord, GivesRefusal, Profile, IsFirst, IsTrue, JudgeError}
 use Rattle.judge9.specs.Working.{Judging, LineByte, None, Ok, Option, Possible, Reason, refusal_of, Refuses, Result, Some, Standing, State, Outcome, suc, Takes, Tracked, true, Turn, zero, ℕ, ⊤}
 
 -- nothing is open, and nothing is known of the deck
-pub record KnowsNothing (p : Profile) (f : Follower) : Type 0 where
-  pub fed_nothing : f.pairer ≡ record { tail = []; last_time = None; reason = None; exchange = None; rate = p.rate }
-  pub states : (s : State) → Possible f.tracker.states s ↔ IsFirst p s
-  pub profile : f.tracker.profile ≡ p
+pub record KnowsNothing (terms : Terms) (f : Follower) : Type 0 where
+  pub fed_nothing : f.pairer ≡ record { tail = []; last_time = None; reason = None; exchange = None; rules = line_rules terms }
+  pub states : (s : State) → Possible f.tracker.states s ↔ IsFirst terms.profile s
+  pub profile : f.tracker.profile ≡ terms.profile
 
 -- nothing was judged yet
-pub record IsFresh {R : Type 0} (profile : Profile) (j : Judging R) : Type 0 where
+pub record IsFresh {R : Type 0} (terms : Terms) (j : Judging R) : Type 0 where
   pub none_given : j.rows.given ≡ 0
   pub no_time : j.rows.last_time ≡ 0
   pub is_reading : j.rows.standing ≡ Standing.Reading
-  pub knows_nothing : KnowsNothing profile j.follower
+  pub knows_nothing : KnowsNothing terms j.follower
 
 -- ---- a record
 
 -- a step that ends no exchange
 abbrev pub IsOpen : Outcome → Type 0
 IsOpen Outcome.leaves_open = ⊤
+IsOpen Outcome.answers_late = ⊤
 IsOpen Outcome.asks = ⊤
 IsOpen (Outcome.completes e) = ⊥
 

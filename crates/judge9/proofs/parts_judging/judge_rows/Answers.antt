@@ -4,7 +4,7 @@ use Rattle.judge9.proofs.LogSteps.{records_joined}
 use Rattle.judge9.proofs.PartBreaks.{broken_at}
 use Rattle.judge9.proofs.PartEnds.{at_start, at_the_end, break_memory, break_over, break_told, break_unwritten, counted, end_fits, log_loses_its_runs, part_ends, part_fails, part_fits}
 use Rattle.judge9.proofs.PartMeasure.{less-come, less-part, less-up}
-use Rattle.judge9.proofs.TellLemmas.{break_given, break_rate}
+use Rattle.judge9.proofs.TellLemmas.{break_given}
 use Rattle.judge9.proofs.TurnSteps.{at_completed, handed}
 
 pub returns-in_err-turn : goal.returns-in_err-turn
@@ -48,15 +48,8 @@ overflow_add-in_exchanges g c =
 
 -- ---- a break
 
-pub put_break-requires-clause-rate : goal.put_break-requires-clause-rate
-put_break-requires-clause-rate g c =
-    let so_far = c.parts.invariant in
-    let judged = rw (c.new-log.ensures.tells, c.in-Some.is) at c.in_ok-end.ensures.judged in
-    let ended = part_ends so_far.before c.args.telling _ _ _ (Some c.in-Some.broken) c.judge_part.new.log _ so_far.at_turn judged in
-    break_rate ended.2.so_far ended.2.turned
-
-pub put_break-requires-clause-breaks : goal.put_break-requires-clause-breaks
-put_break-requires-clause-breaks g c =
+pub put_break-requires : goal.put_break-requires
+put_break-requires g c =
     let so_far = c.parts.invariant in
     let judged = rw (c.new-log.ensures.tells, c.in-Some.is) at c.in_ok-end.ensures.judged in
     let ended = part_ends so_far.before c.args.telling _ _ _ (Some c.in-Some.broken) c.judge_part.new.log _ so_far.at_turn judged in

@@ -8,4 +8,4 @@ returns-in-NoRun g c =
     c.exchange-last.ensures c.why_no_run.result said
 
 pub returns-in_default : goal.returns-in_default
-returns-in_default g c = rw c.given-at.ensures at (c.why_broken.ensures c.args.profile.now c.requires.rate)
+returns-in_default g c = rw c.given-at.ensures at (c.why_broken.ensures c.args.profile.now)

@@ -2,7 +2,6 @@ use Rattle.judge9.proofs.Words.{refl, sym, ◌∙◌}
 use Rattle.verdict9.specs.declared.verdict.Telling.TheVariants as Telling
 use Rattle.judge9.proofs.why_judging.judge_rows.Goals as goal
 use Rattle.judge9.proofs.FirstSteps.{first_end, first_memory, first_stop, loses_its_runs, no_why_verdict, not_written, why_logged, why_missing}
-use Rattle.judge9.proofs.TellLemmas.{break_rate}
 use Rattle.judge9.proofs.TurnSteps.{handed}
 
 pub returns-in_err-end : goal.returns-in_err-end
@@ -12,14 +11,8 @@ returns-in_err-end g c =
     (no_why_verdict _ (first_stop Telling.Why _ _ _ _ _ _ c.judge_first_part.new.log c.requires judged)
     (not_written _ (c.in_err-end.ensures.write c.new-log.ensures.tells)))
 
-pub why_of-requires-clause-rate : goal.why_of-requires-clause-rate
-why_of-requires-clause-rate g c =
-    let judged = rw (c.new-log.ensures.tells, c.in-Some.is) at c.in_ok-end.ensures.judged in
-    let ended = first_end Telling.Why _ _ _ _ _ _ c.judge_first_part.new.log c.requires judged in
-    break_rate ended.2.so_far ended.2.turned
-
-pub why_of-requires-clause-breaks : goal.why_of-requires-clause-breaks
-why_of-requires-clause-breaks g c =
+pub why_of-requires : goal.why_of-requires
+why_of-requires g c =
     let judged = rw (c.new-log.ensures.tells, c.in-Some.is) at c.in_ok-end.ensures.judged in
     let ended = first_end Telling.Why _ _ _ _ _ _ c.judge_first_part.new.log c.requires judged in
     λ no_run. rw (ended.3.kept refl).0 (loses_its_runs ended.2 no_run)

@@ -1,0 +1,21 @@
+//! What the records of a line are judged by.
+
+use tc25::Rate;
+
+/// Whether a reply that begins after the reply limit, [`crate::REPLY_LIMIT_US`], breaks a rule.
+#[derive(Clone, Copy, Debug, PartialEq, Eq)]
+pub enum ReplyLimit {
+    /// It does, and the record with which it begins is refused.
+    Counts,
+    /// It does not: that the reply is late is told, and it is taken as if it had come in time.
+    LeftAside,
+}
+
+/// What the records of a line are judged by.
+#[derive(Clone, Copy, Debug, PartialEq, Eq)]
+pub struct LineRules {
+    /// The rate at which times are read.
+    pub rate: Rate,
+    /// Whether the reply limit counts.
+    pub reply_limit: ReplyLimit,
+}
