@@ -1,6 +1,7 @@
 #!/usr/bin/env bash
 # Goes on after each break: draws captures, damages them, and compares what the built program writes with --all with what is composed
-# of what it writes without; and looks at the statuses and the streams. The last line is 'N passed, M failed'.
+# of what it writes without, where late replies are told too; and looks at the statuses and the streams. The last line is
+# 'N passed, M failed'.
 set -u
 cd "$(dirname "$0")/.." || exit 1
 . tests/lib/judge.sh
@@ -10,7 +11,7 @@ cd "$(dirname "$0")/.." || exit 1
 awk=${AWK:-awk}
 
 # How many captures are drawn, every second of them with hands.
-drawn=500
+drawn=1000
 
 # is_composed FILE STATUS: the last run wrote this, said nothing, and ended with this status.
 is_composed() {
@@ -46,8 +47,15 @@ done < "$work/damaged"
 
 # What was drawn has what is to be seen.
 for reason in P1 P2 P3 L2 P4 L1 B3 B1 B2 P6 P5 P7 M1; do
-    judge "breaks by $reason" at_least 15 " $reason$"
+    judge "breaks by $reason" at_least 15 "^[^ ]* $reason$"
 done
+judge 'late replies' at_least 300 ' L1$'
+judge 'parts with two late replies and more' at_least 60 ' late ([2-9]|[1-9][0-9]+), then '
+judge 'late replies, and the part goes on to the end' at_least 30 ' late [0-9]+, then none$'
+for reason in P2 P4 B1 P7; do
+    judge "late replies, and the part ends by $reason" at_least 5 " late [0-9]+, then $reason$"
+done
+judge 'late replies, and no run remains' at_least 50 ' late [0-9]+, then M1$'
 judge 'captures of one part' at_least 10 ' of 1 parts'
 judge 'captures of two parts' at_least 50 ' of 2 parts'
 judge 'captures of five parts and more' at_least 50 ' of ([5-9]|[1-9][0-9]+) parts'
@@ -71,6 +79,17 @@ status=$?
 grep -E '^(no|breaks) ' "$work/out" > "$work/breaks"
 mv "$work/breaks" "$work/out"
 judge 'why of forty thousand parts' is_composed "$work/want" 1
+
+# PLAY and a late acknowledgement, 40,000 times: one part. To say why it breaks its exchanges are kept.
+records 'C 20 01 21 +9000 D 10 01 11' 40000 > "$work/late.csv"
+"$awk" 'BEGIN { for (k = 0; k < 40000; k++) print "no at record " 6 * k + 4 ": L1 late reply"
+    print "breaks 40000: records 240000, exchanges 40000, passed over 0, open 0" }' > "$work/want"
+run check --all "$work/late.csv"
+judge 'forty thousand late replies' is_composed "$work/want" 1
+run why --all "$work/late.csv"
+grep -E '^(no|breaks) ' "$work/out" > "$work/breaks"
+mv "$work/breaks" "$work/out"
+judge 'why of forty thousand late replies' is_composed "$work/want" 1
 
 # A row that can't be read, among records that are passed over and in the last part; and streams that fail. `second` breaks twice.
 second=$work/second.csv

@@ -19,6 +19,9 @@ records "$play" 1000 > "$work/long.csv"
 records "$second_reply" 700 > "$work/parts.csv"
 head -n 25 "$work/parts.csv" > "$work/three.csv"
 
+# The same with acknowledgements that come late: a break each, and one part.
+records 'C 20 01 21 +9000 D 10 01 11' 1000 > "$work/late.csv"
+
 # run_failing WORDS FILE CALL N HOW: the program with call N failing. Leaves its status and its streams, and in $reads and
 # $writes how often it called.
 run_failing() {
@@ -120,9 +123,9 @@ for file in examples/late-reply.csv examples/disputed-in-point.csv; do
     try_all why "$file"
 done
 
-# With --all, in each part: the last read of three.csv, which finds the end, comes in the third.
+# With --all, in each part: the last read of three.csv, which finds the end, comes in the third. And where late replies are told.
 for verb in check explain why; do
-    for file in "$work/three.csv" "$work/parts.csv"; do
+    for file in "$work/three.csv" "$work/parts.csv" "$work/late.csv"; do
         try_all "$verb --all" "$file" is_read_fault_of_parts
     done
 done

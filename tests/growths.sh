@@ -159,4 +159,12 @@ for verb in check explain why; do
 done
 judge "why --all: $written lines of three parts" [ "$written" = 11 ]
 
+# A late reply, one that has a wrong group besides, and a part with replies that contradict one another. The last growth comes after
+# that break too, so why has three lines then, six, and five.
+late="C 20 01 21 +9000 $ack C 20 01 21 +9000 D 20 01 21"
+for verb in check explain why; do
+    try_blocks 1 "$verb --all" "$late $moved"
+done
+judge "why --all: $written lines of late replies and of the part after them" [ "$written" = 14 ]
+
 tell_counts

@@ -20,6 +20,7 @@ mkdir "$TMPDIR"
 #     s=01,00          STATUS SENSE of data 1 and 2, answered with these; d=K,01 of datum K alone
 #     t=10:00:00:00    CURRENT TIME SENSE, answered under 74 04; r=CODE,10:00:00:00 under 74 CODE, whose digits may be any
 #     +N               the next record comes N microseconds later
+#     ~N               the next reply comes N microseconds later
 #     N*(              as often goes what stands up to the next )
 #
 # In a time that is to run with the turns of N*( a `+K` after it adds K frames a turn: t=10:00:00:00+1
@@ -35,6 +36,10 @@ capture_of() {
         function value(digits) { return (index("0123456789ABCDEF", substr(digits, 1, 1)) - 1) * 16 + index("0123456789ABCDEF", substr(digits, 2, 1)) - 1 }
         function send(wire, bytes,    n, part, k, sum) {
             n = split(bytes, part, " ")
+            if (wire == "D") {
+                now += late
+                late = 0
+            }
             for (k = 1; k <= n; k++) {
                 sum += value(part[k])
                 printf "%.0f,%s,%s\n", now += 400, wire, part[k]
@@ -50,6 +55,7 @@ capture_of() {
         }
         function take(word, turn,    part) {
             if (word ~ /^\+/) now += substr(word, 2)
+            else if (word ~ /^~/) late = substr(word, 2)
             else if (word ~ /^s=/) { split(substr(word, 3), part, ","); send("C", "61 20 12"); send("D", "72 20 " part[1] " " part[2]) }
             else if (word ~ /^d=/) { split(substr(word, 3), part, ","); send("C", "61 20 " part[1] "1"); send("D", "71 20 " part[2]) }
             else if (word ~ /^t=/) { send("C", "61 0C 01"); send("D", "74 04 " time_bytes(substr(word, 3), turn)) }
@@ -181,6 +187,34 @@ record 40, 0.016000 s: EJECT: EJECT shown after 0.003600 s, by status 1 of 1 (EJ
 worth looking at: 1
     record 25, 0.010000 s: STOP: STOP not shown, 1 status over 0.003600 s (CUED|EJECT 1)
 yes: records 49, exchanges 6, open 0
+END
+
+# A reply that comes 8,888 microseconds later than the others begins after 9,288, so it is late. It ends nothing: the status counts for
+# the command before, and a late acknowledgement begins a command like any other.
+is_motion 'late replies' 'PLAY ~8888 s=20,00 t=10:00:00:00 s=01,00 ~8888 STOP s=20,00 ~20000 s=20,00/--all' <<'END'
+@first
+record 6, 0.002400 s: PLAY: PLAY shown after 0.020488 s, by status 2 of 2 (STOP 1, PLAY 1); time 10:00:00:00 alone
+record 41, 0.034176 s: STOP: STOP shown after 0.003600 s, by status 1 of 2 (STOP 2)
+@table
+       1      1      0     0.020488          6  PLAY
+       1      1      0     0.003600         41  STOP
+worth looking at: nothing
+breaks 3: records 59, exchanges 7, passed over 0, open 0
+END
+is_motion 'a time that stands still beyond a late reply' 's=01,00 t=10:00:00:00 ~8888 s=01,00 +1000000 t=10:00:00:00 s=01,00/--all' <<'END'
+@first
+no transport command with a mode of its own was acknowledged
+worth looking at: 1
+    record 20, 0.008000 s: time stands still at 10:00:00:00 for 1.016888 s, while PLAY is shown
+breaks 1: records 49, exchanges 5, passed over 0, open 0
+END
+is_motion 'a late reply that is the verdict' 'PLAY s=01,00 ~8888 s=01,00 STOP' <<'END'
+@first
+record 6, 0.002400 s: PLAY: PLAY shown after 0.003600 s, by status 1 of 1 (PLAY 1)
+@table
+       1      1      0     0.003600          6  PLAY
+worth looking at: nothing
+no at record 20: L1 late reply
 END
 
 is_motion 'a deck in local' 'd=0,01 PLAY s=20,00' <<'END'
@@ -409,6 +443,16 @@ worth looking at: nothing
 yes: records 28, exchanges 3, open 0
 END
 
+# A late reply that is the verdict of `check`, which has no line for the exchanges before it.
+capture_of 'PLAY s=01,00 ~8888 s=01,00'
+echo 'no at record 20: L1 late reply' > "$work/in"
+printf '%s\n' 'what the deck did after each transport command that it acknowledged; nothing is judged, a deck may take any time' \
+    'no transport command with a mode of its own was acknowledged' 'worth looking at: nothing' 'no at record 20: L1 late reply' > "$work/want"
+for awk in mawk 'gawk --posix' 'busybox awk'; do
+    motion "-v capture=$work/capture.csv"
+    judge "$awk: a late reply that is the verdict of check" is_made "$work/want"
+done
+
 # A rate that is none, and a report of another rate.
 capture_of 'PLAY t=10:00:00:29'
 "$program" explain --rate 30 "$work/capture.csv" > "$work/in"
@@ -440,6 +484,14 @@ for awk in mawk 'gawk --posix' 'busybox awk'; do
     sed 's/^2000,D/2000,C/' "$work/capture.csv" > "$work/other.csv"
     motion "-v capture=$work/other.csv"
     judge "$awk: a command inside a reply" is_refused "motion.awk: line 1: record 5 of the capture is on the other wire: $work/other.csv"
+    printf '%s\n' 'no at record 4: L1 late reply' > "$work/late"
+    $awk -v capture="$work/capture.csv" -f view/motion.awk < "$work/late" > "$work/out" 2> "$work/err"
+    status=$?
+    judge "$awk: a reply that is not late" is_refused "motion.awk: line 1: record 4 of the capture is no late reply: $work/capture.csv"
+    sed 's/record 4/record 5/' "$work/late" > "$work/later"
+    $awk -v capture="$work/capture.csv" -f view/motion.awk < "$work/later" > "$work/out" 2> "$work/err"
+    status=$?
+    judge "$awk: not where a late reply begins" is_refused "motion.awk: line 1: record 5 of the capture is no late reply: $work/capture.csv"
     sed '$d' "$work/in" > "$work/cut"
     $awk -v capture="$work/capture.csv" -f view/motion.awk < "$work/cut" > "$work/out" 2> "$work/err"
     status=$?

@@ -395,9 +395,12 @@ def check_parts(work):
             now += gap
             file.write(f'{now},{wire},{byte}\n')
     of_pause = ('no at record 1: B1 wrong group for this wire\nno at record 8: L1 late reply\n'
-                'breaks 2: records 8, exchanges 0, passed over 8, open 0\n')
+                'breaks 2: records 8, exchanges 0, passed over 4, open 4\n')
     several = 'examples/views/several-breaks'
-    cases = [(f'{several}.csv', open(f'{several}{report}.txt').read(), {22: 1, 39: 25, 45: 42, 54: 45}) for report in ('', '-why')]
+    late = 'examples/views/late-replies'
+    cases = [(f'{several}.csv', open(f'{several}{report}.txt').read(), {22: 1, 39: 1, 45: 42, 54: 45}) for report in ('', '-why')]
+    cases += [(f'{late}.csv', open(f'{late}{report}.txt').read(), {16: 1, 22: 1, **of_check, 45: 35, 50: 35, 54: 51, 61: 57, 63: 57, 73: 63})
+              for report, of_check in (('', {34: 1}), ('-why', {}))]
     cases.append((pause, of_pause, {1: 1, 8: 5}))
     for capture, report, begins in cases:
         rows = open(capture).read().splitlines()
@@ -405,20 +408,73 @@ def check_parts(work):
             verdict = re.search(f'^no at record {number}: (.*)$', report, re.M)[1]
             part = f'{work}/part.csv'
             open(part, 'w').write('\n'.join([rows[0], *rows[begin:]]) + '\n')
+            # a late reply is drawn with what is judged after it, up to the break that ends the part
+            nos = [f'no at record {number - begin + 1}: {verdict}']
+            for other, text in re.findall(r'^no at record (\d+): (.*)$', report, re.M):
+                if nos[-1].endswith('late reply') and int(other) >= number and text != verdict:
+                    nos.append(f'no at record {int(other) - begin + 1}: {text}')
+            if verdict.startswith('L1'):
+                nos.append(f'breaks {len(nos)}: records 0, exchanges 0, passed over 0, open 0')
             for awk in AWKS:
-                _, alone, _ = picture(awk, f'no at record {number - begin + 1}: {verdict}\n', f'capture={part}')
+                _, alone, _ = picture(awk, '\n'.join(nos) + '\n', f'capture={part}')
                 want = re.sub(r'\brecord (\d+)', lambda found: f'record {int(found[1]) + begin - 1}', alone)
                 status, svg, err = picture(awk, report, f'capture={capture}', f'at={number}')
                 judge(f'{awk}: the break at record {number} of {capture}: {err}', (status, svg, err) == (0, want, '') and want != '')
-                if begin == 1:
+                if number == min(begins):
                     judge(f'{awk}: the first break of {capture}', picture(awk, report, f'capture={capture}') == (0, svg, ''))
     for awk in AWKS:
         rows = open(f'{several}.csv').read().splitlines()
         silent = f'{work}/silent.csv'
-        open(silent, 'w').write('\n'.join([*rows[:23], *(row.replace('C', 'D') for row in rows[23:])]) + '\n')
-        refused = picture(awk, cases[0][1], f'capture={silent}', 'at=39')
+        open(silent, 'w').write('\n'.join([*rows[:40], *(row.replace('C', 'D') for row in rows[40:])]) + '\n')
+        refused = picture(awk, cases[0][1], f'capture={silent}', 'at=45')
         judge(f'{awk}: a capture of another report: {refused}', refused == (
-            1, '', f'picture.awk: line 12: no command can begin between the breaks at records 22 and 39: {silent}\n'))
+            1, '', f'picture.awk: line 14: no command can begin between the breaks at records 39 and 45: {silent}\n'))
+
+
+def check_late(work):
+    """Of a report of --all a late reply is drawn whole, however long it is. What is judged after it is not pale and has no
+    parentheses, and what comes after the break that ends the part is and has."""
+    now, all_rows = 0, []
+    for wire, pause, sent in (
+            ('C', 400, block(6, 0x20, 0x0F)), ('D', 9288, block(7, 0x20, *[0x20] * 15)), ('C', 400, block(2, 0x01)),
+            ('D', 400, block(1, 0x01)), ('D', 400, [0x10]), ('C', 400, block(2, 0x00)), ('D', 400, block(1, 0x01))):
+        for k, byte in enumerate(sent):
+            now += 400 if k else pause
+            all_rows.append(f'{now},{wire},{byte:02X}')
+    late, extra, end = 'no at record 5: L1 late reply\n', 'no at record 29: P1 reply without a command\n', 'records 35, exchanges 3, passed over 1, open 0\n'
+    nothing = 'goal unknown, shown unknown, in unknown, out unknown, local unknown, ain unknown, aout unknown'
+    exchange = f'record 22: STATUS SENSE -> 7F 20, delay 9288, {nothing}\nrecord 28: PLAY -> ACK, delay 400, {nothing}\n'
+    for name, report, judged in (
+            ('the verdict', late, 5), ('no other break', f'{late}breaks 1: records 28, exchanges 2, passed over 0, open 0\n', 28), ('check', f'{late}{extra}breaks 2: {end}', 29),
+            ('explain', f'{late}{exchange}{extra}breaks 2: {end}', 29), ('a wrong group', f'{late}no at record 5: B1 wrong group for this wire\nbreaks 2: {end}', 5)):
+        path, rows = f'{work}/late.csv', all_rows[:28 if name == 'no other break' else 35]
+        open(path, 'w').write('time_us,wire,byte\n' + ''.join(row + '\n' for row in rows))
+        for width in (700, 1200, 4000):
+            for awk in AWKS:
+                status, svg, err = picture(awk, report, f'capture={path}', f'width={width}')
+                judge(f'{awk}: a late reply, {name}, {width}: {err}', status == 0 and not err)
+                problems = problems_of(svg, late.strip(), rows)
+                judge(f'{awk}: a late reply, {name}, {width}: {problems}', not problems)
+                root = xml.fromstring(svg)
+                pale = {int(rect.find(SVG + 'title').text.split()[1].rstrip(',')): rect.get('stroke') == '#999999'
+                        for rect in root.findall(SVG + 'rect') if rect.find(SVG + 'title') is not None}
+                judge(f'{awk}: what is pale, {name}, {width}: {pale}', all(is_pale == (record > judged) for record, is_pale in pale.items()))
+                judge(f'{awk}: the whole reply, {name}, {width}', judged == 5 or set(range(5, 23)) <= set(pale))
+                names = {text.text for text in root.findall(SVG + 'text') if text.text.strip('()') in ('STATUS', 'PLAY', 'STOP')}
+                want = {*(['STATUS'] if 6 in pale else []), *(['PLAY' if judged > 22 else '(PLAY)'] if 25 in pale else []), *(['STOP' if judged > 29 else '(STOP)'] if 32 in pale else [])}
+                judge(f'{awk}: the names, {name}, {width}: {names}', names == want)
+                judge(f'{awk}: all is drawn, {name}, {width}', width < 4000 or len(rows) in pale)
+
+
+def check_late_contradiction():
+    """Replies that contradict one another have their rows also where some of them were late, and other late ones stand between."""
+    capture, report = 'examples/views/late-replies.csv', open('examples/views/late-replies-why.txt').read()
+    why = report[report.index('records 1 to 8 '):]
+    why = why[:why.index('no run remains\n') + len('no run remains\n')]
+    problems = problems_of_rows(picture('mawk', why, f'capture={capture}')[1], why, open(capture).read().split('\n')[1:-1])
+    judge(f'{capture}: {problems}', not problems)
+    for awk in AWKS:
+        judge(f'{awk}: the contradiction of {capture}', picture(awk, report, f'capture={capture}', 'at=34') == picture(awk, why, f'capture={capture}'))
 
 
 def check_refusals(work):
@@ -438,12 +494,12 @@ def check_refusals(work):
         ('a narrow picture', verdict, [f'capture={capture}', 'width=699'], 'line 0: width has to be a number from 700 on: 699'),
         ('no number', verdict, [f'capture={capture}', 'width=wide'], 'line 0: width has to be a number from 700 on: wide'),
         ('another record', verdict, [f'capture={capture}', 'at=5'], 'line 1: there is no break at record 5'),
-        ('a record of no break', several, [f'capture={several_capture}', 'at=23'], 'line 12: there is no break at record 23'),
+        ('a record of no break', several, [f'capture={several_capture}', 'at=23'], 'line 14: there is no break at record 23'),
         ('no record', several, [f'capture={several_capture}', 'at=last'], 'line 0: at has to be the number of a record: last'),
         ('no break', 'breaks 0: records 6, exchanges 1, passed over 0, open 0\n', [f'capture={capture}'],
          'line 1: no part breaks: there is nothing to draw'),
         ('totals that are missing', several[:several.index('breaks')], [f'capture={several_capture}', 'at=39'],
-         "line 11: no totals: the capture can't be read, or the text was cut short"),
+         "line 13: no totals: the capture can't be read, or the text was cut short"),
         ('no verdict', '', [f'capture={capture}'], "line 0: no verdict: the capture can't be read, or the text was cut short"),
         ('another text', 'hello\n', [f'capture={capture}'], 'line 1: unknown line: hello'),
     ]
@@ -469,6 +525,8 @@ def main():
         check_wires(work)
         check_contradictions(work)
         check_parts(work)
+        check_late(work)
+        check_late_contradiction()
         check_refusals(work)
         check_stored()
         check_rendered()

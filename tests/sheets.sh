@@ -69,6 +69,21 @@ judge 'why names the sense' grep -q '^records 27 to 36 at 10800: IN DATA SENSE '
 judge 'why names that the deck was in REMOTE, and no more' [ "$(grep -c '^records ' "$work/out")" = 3 ]
 # A hand may have set IN again, where hands are allowed.
 ends "check --hands --deck $work/ee.toml" 0 "$yes"
+# The same with a late acknowledgement of FULL EE ON, which ends no part: what the sheet says of the command counts.
+capture_of "$stopped $preset C 20 61 81 +9000 $ack $lost"
+late='no at record 24: L1 late reply'
+says "check --all --deck $work/ee.toml" 1 "$late
+$no
+breaks 2: records 36, exchanges 3, passed over 10, open 0"
+says "explain --all --deck $work/ee.toml" 1 "record 10: STATUS SENSE -> 73 20, delay 400, goal unknown, shown STOP, in unknown, out unknown, local no, ain unknown, aout unknown
+record 20: IN DATA PRESET -> ACK, delay 400, goal unknown, shown unknown, in 10:00:00:00, out unknown, local no, ain unknown, aout unknown
+$late
+record 26: 20 61 -> ACK, delay 9400, goal unknown, shown unknown, in 10:00:00:00, out unknown, local no, ain unknown, aout unknown
+$no
+breaks 2: records 36, exchanges 3, passed over 10, open 0"
+says 'check --all' 1 "$late
+breaks 1: records 36, exchanges 4, passed over 0, open 0"
+says "check --deck $work/ee.toml" 1 "$late"
 
 # ---- What is forgotten.
 

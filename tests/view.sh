@@ -22,18 +22,22 @@ view() {
 
 # text_of WORDS: the text that words of printf stand for, with these put in: @nothing for a deck of which nothing is known,
 # @unknown for the same after a delay of 400, @in VALUE where IN alone is known, @state for a state, @preset for a line of a
-# preset that contradicts, @could for what a deck could show of which nothing is known, @known EXCHANGES IN for the end of a digest
-# where IN alone was known at some, @known EXCHANGES IN set SET where it was set at others, and @bar for a bar.
+# preset that contradicts, @late for the lines of why of a late reply, @could for what a deck could show of which nothing is known, @known EXCHANGES IN for the end of a digest
+# where IN alone was known at some, @known EXCHANGES IN set SET where it was set at others, @rows for the rows of a histogram
+# without a reply, and @bar for a bar.
 text_of() {
     local nothing='goal unknown, shown unknown, in unknown, out unknown, local unknown, ain unknown, aout unknown'
     local state='goal STOP, shown PLAY, in clear, out 23:59:59:24, local no, ain clear, aout 00:00:00:00'
     local in_alone=${nothing/in unknown/in \\1}
+    local rows k
+    rows=$(for ((k = 0; k <= 9000; k += 500)); do printf '%4d to %4d @bar 0\\n' $k $((k < 9000 ? k + 499 : 9287)); done)
+    local late='records 1 to 3 at 400: PLAY 20 01 21\nrecord 4 at 10488: D 10, 9288 after the record before, limit 9287\nno at record 4: L1 late reply'
     local preset='records 9 to 18 at 3600: IN DATA PRESET 10:00:00:00 44 14 00 00 00 10 68 -> 10 01 11'
     printf "$1" | sed "s/@in \([a-z]*\)/delay 400, $in_alone/; s/@unknown/delay 400, $nothing/; s/@nothing/$nothing/
         s/@known \([0-9]*\) \([0-9.]*\) set \([0-9.]*\)/@known \1 \2 % (set \3 %)/
         s/@known \([0-9]*\) \([0-9.]* % (set [0-9.]* %)\)/known, of \1 exchanges: shown 0.0 %, in \2, out 0.0 %, local 0.0 %, ain 0.0 %, aout 0.0 %/
         s/@known \([0-9]*\) \([0-9.]*\)/known, of \1 exchanges: shown 0.0 %, in \2 %, out 0.0 %, local 0.0 %, ain 0.0 %, aout 0.0 %/
-        s/@state/$state/; s/@preset/$preset/; s/@could/could show: shown any, ${nothing#*, *, }/; s/@bar/|/g"
+        s/@state/$state/; s/@preset/$preset/; s/@rows/$rows/; s/@late/$late/; s/@could/could show: shown any, ${nothing#*, *, }/; s/@bar/|/g"
 }
 
 # The stored texts, each with what a view makes of it.
@@ -78,6 +82,12 @@ two breaks at one record|json|no at record 4: L2 no reply\nno at record 4: B1 wr
 a part that begins at the record that breaks|json|records 1 to 3 at 400: PLAY 20 01 21\nrecord 4 at 1600: C 20, 400 after the record before, limit 9287\nno at record 4: P3 command before the reply\nrecords 4 to 5 at 1600: 20 01\nrecord 6 at 2400: D 10, 400 after the record before\nno at record 6: P2 reply before the end of the command\nbreaks 2: records 6, exchanges 0, passed over 6, open 0\n|{"line":"open_command","first_record":1,"record":3,"time_us":400,"command":"PLAY","command_bytes":"20 01 21"}\n{"line":"breaking_record","record":4,"time_us":1600,"wire":"C","byte":"20","elapsed_us":400,"limit_us":9287}\n{"line":"verdict","verdict":"no","record":4,"reason":"P3","text":"command before the reply"}\n{"line":"open_command","first_record":4,"record":5,"time_us":1600,"command_bytes":"20 01"}\n{"line":"breaking_record","record":6,"time_us":2400,"wire":"D","byte":"10","elapsed_us":400}\n{"line":"verdict","verdict":"no","record":6,"reason":"P2","text":"reply before the end of the command"}\n{"line":"breaks","breaks":2,"records":6,"exchanges":0,"passed_over":6,"open":0}\n
 an exchange before in each of two parts|json|records 1 to 6 at 400: PLAY 20 01 21 -> 10 01 11\nrecord 7 at 2800: D 10, 400 after the record before\nno at record 7: P1 reply without a command\nrecords 8 to 13 at 3200: PLAY 20 01 21 -> 10 01 11\nrecord 14 at 5600: D 10, 400 after the record before\nno at record 14: P1 reply without a command\nbreaks 2: records 14, exchanges 2, passed over 2, open 0\n|{"line":"exchange_before","first_record":1,"record":6,"time_us":400,"command":"PLAY","command_bytes":"20 01 21","reply_bytes":"10 01 11"}\n{"line":"breaking_record","record":7,"time_us":2800,"wire":"D","byte":"10","elapsed_us":400}\n{"line":"verdict","verdict":"no","record":7,"reason":"P1","text":"reply without a command"}\n{"line":"exchange_before","first_record":8,"record":13,"time_us":3200,"command":"PLAY","command_bytes":"20 01 21","reply_bytes":"10 01 11"}\n{"line":"breaking_record","record":14,"time_us":5600,"wire":"D","byte":"10","elapsed_us":400}\n{"line":"verdict","verdict":"no","record":14,"reason":"P1","text":"reply without a command"}\n{"line":"breaks","breaks":2,"records":14,"exchanges":2,"passed_over":2,"open":0}\n
 contradicting replies in a part after another|json|record 1 at 0: D 10\nno at record 1: P1 reply without a command\n@preset\n@could\nno at record 18: M1 no run remains\nbreaks 2: records 18, exchanges 0, passed over 18, open 0\n|{"line":"breaking_record","record":1,"time_us":0,"wire":"D","byte":"10"}\n{"line":"verdict","verdict":"no","record":1,"reason":"P1","text":"reply without a command"}\n{"line":"contradicting_exchange","first_record":9,"record":18,"time_us":3600,"command":"IN DATA PRESET","command_time":"10:00:00:00","command_bytes":"44 14 00 00 00 10 68","reply_bytes":"10 01 11","says":{}}\n{"line":"could_show","modes":["STOP","PLAY","REC","FF","REW","SHUTTLE","JOG","VAR","CUED","EJECT"],"in":"unknown","out":"unknown","local":"unknown","ain":"unknown","aout":"unknown"}\n{"line":"verdict","verdict":"no","record":18,"reason":"M1","text":"no run remains"}\n{"line":"breaks","breaks":2,"records":18,"exchanges":0,"passed_over":18,"open":0}\n
+what was known before a late reply|digest|record 8: STATUS SENSE -> 71 20, @in set\nno at record 12: L1 late reply\nrecord 14: PLAY -> ACK, delay 9288, goal unknown, shown unknown, in set, out unknown, local unknown, ain unknown, aout unknown\nrecord 22: STATUS SENSE -> 71 20, @in set\nbreaks 1: records 22, exchanges 3, passed over 0, open 0\n|record 8: STATUS SENSE -> 71 20, in: unknown => set\nno at record 12: L1 late reply\nrecord 14: PLAY -> ACK\n... 1 STATUS SENSE\nbreaks 1: records 22, exchanges 3, passed over 0, open 0\nlate replies: 1\n@known 3 0.0 set 100.0\n
+a late reply that breaks another rule|digest|record 8: STATUS SENSE -> 71 20, @in set\nno at record 12: L1 late reply\nno at record 12: B1 wrong group for this wire\nrecord 22: STATUS SENSE -> 71 20, @in set\nbreaks 2: records 22, exchanges 2, passed over 6, open 0\n|record 8: STATUS SENSE -> 71 20, in: unknown => set\nno at record 12: L1 late reply\nno at record 12: B1 wrong group for this wire\nrecord 22: STATUS SENSE -> 71 20, in: unknown => set\nbreaks 2: records 22, exchanges 2, passed over 6, open 0\nlate replies: 1\n@known 2 0.0 set 100.0\n
+a late reply that is the verdict|digest|record 8: STATUS SENSE -> 71 20, @in set\nno at record 12: L1 late reply\n|record 8: STATUS SENSE -> 71 20, in: unknown => set\nno at record 12: L1 late reply\n@known 1 0.0 set 100.0\n
+a late reply that is open at the end|json|no at record 4: L1 late reply\nbreaks 1: records 5, exchanges 0, passed over 0, open 5\n|{"line":"late_reply","record":4,"reason":"L1","text":"late reply"}\n{"line":"breaks","breaks":1,"records":5,"exchanges":0,"passed_over":0,"open":5}\n
+a late reply that is the verdict|json|no at record 4: L1 late reply\n|{"line":"verdict","verdict":"no","record":4,"reason":"L1","text":"late reply"}\n
+a late reply without a capture|delays|no at record 4: L1 late reply\nrecord 6: PLAY -> ACK, delay 123456789012345, @nothing\nno at record 10: L1 late reply\nno at record 10: B1 wrong group for this wire\nbreaks 3: records 10, exchanges 1, passed over 4, open 0\n|replies  least middle   99th greatest  command\n      1 123456789012345 123456789012345 123456789012345 123456789012345  PLAY\n      1 123456789012345 123456789012345 123456789012345 123456789012345  all\n@rows  limit 9287 @bar--------------------------------------------------\n123456789012345 @barlate reply at record 4, 123456789003058 above the limit\nbreaks 3: records 10, exchanges 1, passed over 4, open 0\n
 breaks alone|digest|no at record 3: B2 wrong sum\nno at record 9: B2 wrong sum\nbreaks 2: records 9, exchanges 0, passed over 9, open 0\n|no at record 3: B2 wrong sum\nno at record 9: B2 wrong sum\nbreaks 2: records 9, exchanges 0, passed over 9, open 0\n
 what was known in the part before|digest|record 8: STATUS SENSE -> 71 20, @in set\nno at record 9: P1 reply without a command\nrecord 17: STATUS SENSE -> 71 20, @unknown\nrecord 25: STATUS SENSE -> 71 20, @in set\nbreaks 1: records 25, exchanges 3, passed over 1, open 0\n|record 8: STATUS SENSE -> 71 20, in: unknown => set\nno at record 9: P1 reply without a command\n... 1 STATUS SENSE\nrecord 25: STATUS SENSE -> 71 20, in: unknown => set\nbreaks 1: records 25, exchanges 3, passed over 1, open 0\n@known 3 0.0 set 66.6\n
 nothing open, and no record before|json|record 1 at 0: D 10\nno at record 1: P1 reply without a command\n|{"line":"breaking_record","record":1,"time_us":0,"wire":"D","byte":"10"}\n{"line":"verdict","verdict":"no","record":1,"reason":"P1","text":"reply without a command"}\n
@@ -122,6 +132,15 @@ totals of a break that is not there|1|the totals count 1 breaks, and 0 stand bef
 totals of fewer breaks|3|the totals count 1 breaks, and 2 stand before them|no at record 3: B2 wrong sum\nno at record 9: B2 wrong sum\nbreaks 1: records 9, exchanges 0, passed over 9, open 0\n
 several breaks without totals|2|no totals: the capture can't be read, or the text was cut short|no at record 3: B2 wrong sum\nno at record 9: B2 wrong sum\n
 a part without its end|2|no totals: the capture can't be read, or the text was cut short|no at record 3: B2 wrong sum\nrecord 12: PLAY -> ACK, @unknown\n
+a delay above the limit, of a reply that is not late|1|a delay above the limit of 9287: record 6: PLAY -> ACK, delay 9288, @nothing|record 6: PLAY -> ACK, delay 9288, @nothing\n
+a delay above the limit after another break|2|a delay above the limit of 9287: record 12: PLAY -> ACK, delay 9288, @nothing|no at record 6: L2 no reply\nrecord 12: PLAY -> ACK, delay 9288, @nothing\n
+a delay above the limit after the exchange of a late reply|3|a delay above the limit of 9287: record 12: PLAY -> ACK, delay 9288, @nothing|no at record 4: L1 late reply\nrecord 6: PLAY -> ACK, delay 9288, @nothing\nrecord 12: PLAY -> ACK, delay 9288, @nothing\n
+a late reply in time|2|a late reply with a delay within the limit of 9287: record 6: PLAY -> ACK, delay 9287, @nothing|no at record 4: L1 late reply\nrecord 6: PLAY -> ACK, delay 9287, @nothing\n
+a late reply twice|2|a record that does not come after the one before: no at record 4: L1 late reply|no at record 4: L1 late reply\nno at record 4: L1 late reply\n
+another break where a late reply begins|2|a record that does not come after the one before: no at record 4: P1 reply without a command|no at record 4: L1 late reply\nno at record 4: P1 reply without a command\n
+a wrong group, and then a late reply|2|a record that does not come after the one before: no at record 4: L1 late reply|no at record 4: B1 wrong group for this wire\nno at record 4: L1 late reply\n
+a wrong group after the exchange of a late reply|3|a record that does not come after the one before: no at record 4: B1 wrong group for this wire|no at record 4: L1 late reply\nrecord 6: PLAY -> ACK, delay 9288, @nothing\nno at record 4: B1 wrong group for this wire\n
+an exchange that ends where a late reply begins|2|a record that does not come after the one before: record 4: PLAY -> ACK, delay 9288, @nothing|no at record 4: L1 late reply\nrecord 4: PLAY -> ACK, delay 9288, @nothing\n
 a break at the record of the one before|2|a record that does not come after the one before: no at record 3: B1 wrong group for this wire|no at record 3: B2 wrong sum\nno at record 3: B1 wrong group for this wire\n
 a break before the one before|2|a record that does not come after the one before: no at record 3: B1 wrong group for this wire|no at record 4: L2 no reply\nno at record 3: B1 wrong group for this wire\n
 a yes after a break|2|a line that can't stand here: yes: records 6, exchanges 1, open 0|no at record 3: B2 wrong sum\nyes: records 6, exchanges 1, open 0\n
@@ -197,6 +216,9 @@ a record that breaks among open ones|2|a record that does not come after the one
 why in the first part alone|3|a line that can't stand here: no at record 9: B2 wrong sum|record 1 at 0: D 10\nno at record 1: P1 reply without a command\nno at record 9: B2 wrong sum\n
 why in the second part alone|3|a line that can't stand here: no at record 9: P1 reply without a command|no at record 3: B2 wrong sum\nrecord 9 at 3600: D 10, 400 after the record before\nno at record 9: P1 reply without a command\n
 an explanation after a part of why|3|a line that can't stand here: record 12: PLAY -> ACK, @unknown|record 1 at 0: D 10\nno at record 1: P1 reply without a command\nrecord 12: PLAY -> ACK, @unknown\n
+a late reply again, in why|6|a record that does not come after the one before: no at record 4: L1 late reply|@late\n@late\n
+a break before the late reply, in why|5|a record that does not come after the one before: no at record 2: P2 reply before the end of the command|@late\nrecord 2 at 800: D 10, 400 after the record before\nno at record 2: P2 reply before the end of the command\n
+a reply of the part before, after a late one|6|a record that does not come after the one before: records 1 to 6 at 400: PLAY 20 01 21 -> 10 01 11|record 6 at 0: D 10\nno at record 6: P1 reply without a command\nrecords 7 to 9 at 400: PLAY 20 01 21\nrecord 10 at 10488: D 10, 9288 after the record before, limit 9287\nno at record 10: L1 late reply\nrecords 1 to 6 at 400: PLAY 20 01 21 -> 10 01 11\n
 totals after a state|2|a line that can't stand here: breaks 0: records 6, exchanges 1, passed over 0, open 0|record 6: @state\nbreaks 0: records 6, exchanges 1, passed over 0, open 0\n
 totals after what is open|2|a line that can't stand here: breaks 0: records 1, exchanges 0, passed over 0, open 1|records 1 to 1 at 400: 61\nbreaks 0: records 1, exchanges 0, passed over 0, open 1\n
 a record that breaks on another wire|1|unknown line: record 1 at 0: E 10|record 1 at 0: E 10\n
@@ -250,6 +272,7 @@ another file|0|no header of a capture: @capture|time,wire\n|yes: records 0, exch
 a capture with more records|1|the capture has not 1 records, as the verdict has: @capture|time_us,wire,byte\n1,C,20\n2,C,01\n3,C,21\n|yes: records 1, exchanges 0, open 1\n
 a capture with fewer records|1|the capture has not 3 records, as the verdict has: @capture|time_us,wire,byte\n1,C,20\n2,C,01\n|yes: records 3, exchanges 0, open 3\n
 a capture that ends before the reason|1|the capture ends before record 3: @capture|time_us,wire,byte\n1,C,20\n2,C,01\n|no at record 3: B2 wrong sum\n
+a late reply after another time|2|record 6 of the capture ends another reply: @capture|time_us,wire,byte\n1,C,20\n2,C,01\n3,C,21\n9291,D,10\n9292,D,01\n9293,D,11\n|no at record 4: L1 late reply\nrecord 6: PLAY -> ACK, delay 9289, @nothing\nbreaks 1: records 6, exchanges 1, passed over 0, open 0\n
 a row that is no record|1|row 2 of the capture is no record: 2,C,1|time_us,wire,byte\n1,C,20\n2,C,1\n|no at record 2: P4 command inside a reply\n
 END
 }
@@ -304,24 +327,32 @@ more_delays() {
     judge "$awk: delays: a late reply alone" is_made "$work/want"
 }
 
-# Late replies in 103 parts: PLAY, and its reply after 9,288 microseconds.
+# 103 late replies: PLAY, and its reply after 9,288 to 9,390 microseconds, each once and in no order.
 many_late_replies() {
     awk -v capture="$work/late.csv" -v report="$work/in" 'BEGIN {
         split("C,20 C,01 C,21 D,10 D,01 D,11", row, " ")
+        tail = ", goal unknown, shown unknown, in unknown, out unknown, local unknown, ain unknown, aout unknown"
         print "time_us,wire,byte" > capture
         for (k = 0; k < 103 * 6; k++) {
-            now += k % 6 == 3 ? 9288 : 400
+            delay = 9288 + int(k / 6) * 37 % 103
+            now += k % 6 == 3 ? delay : 400
             print now "," row[k % 6 + 1] > capture
             if (k % 6 == 3) print "no at record " k + 1 ": L1 late reply" > report
+            if (k % 6 == 5) print "record " k + 1 ": PLAY -> ACK, delay " delay tail > report
         }
-        print "breaks 103: records 618, exchanges 0, passed over 618, open 0" > report
+        print "breaks 103: records 618, exchanges 103, passed over 0, open 0" > report
     }'
     {
-        echo 'no whole exchange'
+        echo 'replies  least middle   99th greatest  command'
+        echo '    103   9288   9339   9389     9390  PLAY'
+        echo '    103   9288   9339   9389     9390  all'
+        text_of '@rows'
         echo '  limit 9287 |--------------------------------------------------'
-        for ((k = 0; k < 100; k++)); do echo "        9288 |late reply at record $((6 * k + 4)), 1 above the limit"; done
+        for ((k = 0; k < 100; k++)); do
+            echo "        $((9288 + k * 37 % 103)) |late reply at record $((6 * k + 4)), $((1 + k * 37 % 103)) above the limit"
+        done
         echo '         ... |and 3 late replies more'
-        echo 'breaks 103: records 618, exchanges 0, passed over 618, open 0'
+        echo 'breaks 103: records 618, exchanges 103, passed over 0, open 0'
     } > "$work/want"
     view delays.awk "-v capture=$work/late.csv" < "$work/in"
     judge "$awk: delays: many late replies" is_made "$work/want"
@@ -424,7 +455,7 @@ ends_with_known() {
     local told
     told=$(grep -c -e ' -> ' "$work/in")
     [ "$want_status" -gt 1 ] || [ "$(grep -c "^known, of $told exchanges: " "$work/out")" = $((told > 0)) ] || return 1
-    sed -i '/^known, of /d; /^local was never known: /d; /^no longer known after /d' "$work/out"
+    sed -i '/^late replies: /d; /^known, of /d; /^local was never known: /d; /^no longer known after /d' "$work/out"
     ends_with_verdict
 }
 
@@ -492,6 +523,10 @@ judge 'the stored explanation of keeps-playing.csv' cmp "$work/out" examples/vie
 judge 'the stored explanation of several-breaks.csv' cmp "$work/out" examples/views/several-breaks.txt
 "$program" why --all examples/views/several-breaks.csv > "$work/out" 2> "$work/err"
 judge 'the stored lines of why of several-breaks.csv' cmp "$work/out" examples/views/several-breaks-why.txt
+"$program" explain --all examples/views/late-replies.csv > "$work/out" 2> "$work/err"
+judge 'the stored explanation of late-replies.csv' cmp "$work/out" examples/views/late-replies.txt
+"$program" why --all examples/views/late-replies.csv > "$work/out" 2> "$work/err"
+judge 'the stored lines of why of late-replies.csv' cmp "$work/out" examples/views/late-replies-why.txt
 "$program" explain --rate 29.97df examples/views/drop-frame.csv > "$work/out" 2> "$work/err"
 judge 'the stored explanation of drop-frame.csv' cmp "$work/out" examples/views/drop-frame.txt
 

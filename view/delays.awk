@@ -7,38 +7,46 @@
 # middle is the one at half of n, and the 99th of a hundred the one at 99 hundredths of n, both rounded up and counted
 # from 1. A row of the histogram has the delays from its first number to its second, and says how many they are. The
 # longest bar has fifty marks, each other as many in proportion, rounded up. Where the verdict is L1, with
-# -v capture=FILE the late reply stands below the limit: its delay, its record, and by how much it is late. The verdict
+# -v capture=FILE the late reply stands below the limit: its delay, its first record, and by how much it is late. The verdict
 # is the last line.
 #
-# Of `explain --all` the replies of all parts are counted, and the late reply of each part stands below the limit: a hundred of
-# them, and the number of the others. The totals are the last line.
+# Of `explain --all` the replies of all parts are counted, and the late ones stand below the limit: a hundred of them, and the
+# number of the others. The exchange of a late reply has its delay, so it is counted in the table with the others, and only a late
+# reply that has no exchange, since it is not whole or breaks another rule, is taken from the capture. The totals are the last line.
 
 BEGIN {
     view = "delays.awk"
     limit = 9287
     width = 500
     most_late = 100     # so many late replies are listed, and the rest is counted
+    late_record = ""
+    late_us = 0
 }
 
 { read_explanation() }
 
 kind == "exchange" {
-    if (delay + 0 > limit) refuse("a delay above the limit of " limit ": " $0)
+    tell_late(delay + 0)
     if (!(command in replies)) asked[++commands] = command
     count(command)
     count("")
-    bar[int(delay / width)]++
+    if (delay + 0 <= limit) bar[int(delay / width)]++
     next
 }
 
-late > 0 && ++lates <= most_late {
-    late_line[lates] = sprintf("%12.0f |late reply at record %s, %.0f above the limit", late, record, late - limit)
+{
+    tell_late(late_us)
+    last_line = $0
 }
 
-{ last_line = $0 }
+kind == "no" && reason == "L1" {
+    late_record = record
+    late_us = late
+}
 
 END {
     if (refused) exit 1
+    tell_late(late_us)
     if (lines > 0) {
         put_table()
         put_histogram()
@@ -48,16 +56,25 @@ END {
     put(last_line)
 }
 
+# Tells the late reply whose line was the one before, where its delay is known: its exchange has it, and else the capture.
+function tell_late(us) {
+    if (late_record != "" && us > 0 && ++lates <= most_late) {
+        late_line[lates] = sprintf("%12.0f |late reply at record %s, %.0f above the limit", us, late_record, us - limit)
+    }
+    late_record = ""
+}
+
 function put_late(    k) {
     for (k = 1; k <= lates && k <= most_late; k++) put(late_line[k])
     if (lates > most_late) put(sprintf("%12s |and %d late replies more", "...", lates - most_late))
 }
 
-# Counts a delay of a command, and of all together under no name. Each delay has a counter: there are few of them,
-# however long the capture is.
-function count(name) {
+# Counts a delay of a command, and of all together under no name. Each delay has a counter: within the limit there are few of
+# them, however long the capture is. Those above it are listed too, to be put in order.
+function count(name,    us) {
+    us = delay + 0
     replies[name]++
-    times[name, delay + 0]++
+    if (++times[name, us] == 1 && us > limit) above[name, ++above_of[name]] = us
 }
 
 function put_table(    k) {
@@ -66,7 +83,7 @@ function put_table(    k) {
     put_command("", "all")
 }
 
-function put_command(name, shown,    rank, delay_at, at, seen, next_rank) {
+function put_command(name, shown,    rank, delay_at, at, seen, next_rank, sorted, k) {
     rank[1] = 1
     rank[2] = int((replies[name] + 1) / 2)
     rank[3] = int((99 * replies[name] + 99) / 100)
@@ -78,7 +95,27 @@ function put_command(name, shown,    rank, delay_at, at, seen, next_rank) {
         seen += times[name, at]
         while (next_rank <= 4 && rank[next_rank] <= seen) delay_at[next_rank++] = at
     }
-    put(sprintf("%7d %6d %6d %6d %8d  %s", replies[name], delay_at[1], delay_at[2], delay_at[3], delay_at[4], shown))
+    split("", sorted)
+    for (k = 1; k <= above_of[name] + 0; k++) sorted[k] = above[name, k]
+    sort(sorted, above_of[name] + 0)
+    for (k = 1; next_rank <= 4; k++) {
+        seen += times[name, sorted[k]]
+        while (next_rank <= 4 && rank[next_rank] <= seen) delay_at[next_rank++] = sorted[k]
+    }
+    put(sprintf("%7d %6.0f %6.0f %6.0f %8.0f  %s", replies[name], delay_at[1], delay_at[2], delay_at[3], delay_at[4], shown))
+}
+
+# Puts n numbers in order of size, in steps that grow shorter, each a third of the one before.
+function sort(list, n,    step, k, j, number) {
+    step = 1
+    while (step * 3 + 1 < n) step = step * 3 + 1
+    for (; step >= 1; step = int(step / 3)) {
+        for (k = step + 1; k <= n; k++) {
+            number = list[k]
+            for (j = k; j > step && list[j - step] > number; j -= step) list[j] = list[j - step]
+            list[j] = number
+        }
+    }
 }
 
 function put_histogram(    last, k, greatest) {
@@ -87,7 +124,7 @@ function put_histogram(    last, k, greatest) {
     for (k = 0; k <= last; k++) if (bar[k] + 0 > greatest) greatest = bar[k]
     for (k = 0; k <= last; k++) {
         put(sprintf("%4d to %4d |%s %d", k * width, k < last ? (k + 1) * width - 1 : limit,
-            marks("#", int((bar[k] * 50 + greatest - 1) / greatest)), bar[k]))
+            bar[k] + 0 > 0 ? marks("#", int((bar[k] * 50 + greatest - 1) / greatest)) : "", bar[k]))
     }
 }
 
@@ -107,7 +144,8 @@ BEGIN {
     }
 }
 
-# Takes the line apart, which has to be one of an explanation that is whole, of this capture.
+# Takes the line apart, which has to be one of an explanation that is whole, of this capture. `late` is the delay of the late reply
+# whose line it is, as the capture has it; a view that `reads_bytes` takes it from them.
 function read_explanation() {
     read_line()
     if (kind == "state") refuse("a line of a run, and not of an explanation: " $0)
@@ -120,10 +158,11 @@ function read_explanation() {
     if (kind == "breaks" && exchanges + 0 != lines + 0) {
         refuse("the totals count " exchanges " exchanges, and " lines + 0 " lines stand before them")
     }
+    if (kind == "exchange" && late > 0 && delay + 0 != late) refuse("record " record " of the capture ends another reply: " capture)
     late = 0
     if (capture == "") return
-    if (kind == "no" && reason == "L1") late = late_delay()
-    else if (kind == "no") time_of(record, "CD")
+    if (kind == "no" && reason != "L1") time_of(record, "CD")
+    else if (kind == "no" && !reads_bytes) late = late_delay()
     if (kind == "yes" || kind == "breaks") {
         while (rows <= records + 0 && next_row()) continue
         if (rows != records + 0) {
@@ -132,12 +171,15 @@ function read_explanation() {
     }
 }
 
-# The delay of the late reply at which a part breaks. It has no line, so it stands in the capture alone.
-function late_delay(    asked_at, answer) {
+# The delay of the late reply that begins with the record.
+function late_delay(    asked_at) {
     asked_at = time_of(record - 1, "C")
-    answer = time_of(record, "D") - asked_at
-    if (answer <= 9287) refuse("record " record " of the capture is no late reply: " capture)
-    return answer
+    return above_limit(time_of(record, "D") - asked_at)
+}
+
+function above_limit(us) {
+    if (us <= reply_limit) refuse("record " record " of the capture is no late reply: " capture)
+    return us
 }
 
 # The time of a record of the capture, in microseconds and without zeros in front. It has to stand on one of these
@@ -184,7 +226,8 @@ BEGIN {
     text_of["P5"] = "wrong kind of reply"
     text_of["P7"] = "invalid time in a reply"
     text_of["M1"] = "no run remains"
-    last_record = 0
+    last_record = part_from = late_at = 0
+    reply_limit = 9287
     name_forms()
     # Keeps the lines in a file that has no name any more, and writes them where the last one says that all is whole.
     hold = "{ held=$(mktemp) && exec 3> \"$held\" 4< \"$held\" 5< \"$held\" && rm \"$held\" && cat >&3" \
@@ -225,8 +268,9 @@ function name_forms(    number, stamp_form, mode_form, k) {
 # and `reason`. `known` has the first `told` of the fields. The lines of `why` are "contradicting_exchange", "could_show",
 # "open_command", "open_reply" and "breaking_record"; an exchange right before the last of these contradicts nothing. `given`
 # has what stands in them, by name, `said` counts what a reply says of the deck, and of "could_show" `known` has the fields
-# from the second to the one numbered `told`. With --all a "no" ends each part that breaks, and the text ends with its "breaks",
-# the totals: `breaks`, `records`, `exchanges`, `passed_over` and `open`.
+# from the second to the one numbered `told`. With --all a "no" ends each part that breaks, but a late reply (L1) ends none: the
+# line after it goes on with its exchange. The text then ends with its "breaks", the totals: `breaks`, `records`, `exchanges`,
+# `passed_over` and `open`.
 function read_line(    before) {
     sub(/\r$/, "")
     before = kind == "" ? "nothing" : kind
@@ -242,6 +286,13 @@ function read_line(    before) {
     if (index(may_follow[kind], " " before " ") == 0 || !is_alone(before) || !is_of_one_report(before)) {
         refuse("a line that can't stand here: " $0)
     }
+    if (kind == "exchange") check_delay(before == "no" && reason == "L1")
+}
+
+# A reply is late where the line before says so, and nowhere else.
+function check_delay(is_late) {
+    if (!is_late && delay + 0 > reply_limit) refuse("a delay above the limit of " reply_limit ": " $0)
+    if (is_late && delay + 0 <= reply_limit) refuse("a late reply with a delay within the limit of " reply_limit ": " $0)
 }
 
 # Whether the line is of the same report as those before it: only `why` has lines of its own before each "no".
@@ -253,7 +304,7 @@ function is_of_one_report(before,    tells_why) {
     return tells_why == is_why
 }
 
-# Whether an exchange before a record that breaks is the only one in its part, and says nothing of the deck.
+# Whether an exchange before a record that breaks is the only one that is told, and says nothing of the deck.
 function is_alone(before) {
     return kind != "breaking_record" || before != "contradicting_exchange" || (exchanges_told == 1 && said == 0)
 }
@@ -273,6 +324,7 @@ function read_record(    part, parts, at, before, k) {
     told = parts - before
     if (told < fields - 1 || told > fields) refuse_line()
     for (k = 1; k <= told; k++) read_field(field[k], part[before + k])
+    late_at = 0
     lines++
 }
 
@@ -432,21 +484,33 @@ function read_yes() {
     open = $7
 }
 
-function read_no(    at) {
+function read_no(    at, tells_why, is_second) {
     at = index($0, ": ")
     if (!/^no at record / || at == 0) refuse_line()
     record = substr($0, 14, at - 14)
     reason = substr($0, at + 2, 2)
     if (!(reason in text_of) || substr($0, at + 4) != " " text_of[reason]) refuse_line()
-    if (kind != "could_show" && kind != "breaking_record") record_after(record)
-    else if (record != last_record "" || (kind == "could_show") != (reason == "M1")) {
+    tells_why = kind == "could_show" || kind == "breaking_record"
+    if (tells_why && (record != last_record "" || (kind == "could_show") != (reason == "M1"))) {
         refuse("a verdict that is not that of the lines before it: " $0)
     }
+    # The first record of a late reply may have the wrong group besides.
+    is_second = reason == "B1" && record + 0 == late_at
+    if (late_at > 0 && !is_second && record + 0 <= late_at) refuse("a record that does not come after the one before: " $0)
+    if (!is_second && !tells_why) record_after(record)
     kind = "no"
     breaks_told++
     exchanges_told = 0
+    if (reason == "L1") {
+        late_at = record + 0
+        # `why` may tell what comes before a late reply in its part once more.
+        if (tells_why) last_record = part_from
+        return
+    }
+    late_at = 0
     # The record that breaks so may be the first of the next part.
     if (reason ~ /^(L2|P3|P4|B3)$/) last_record--
+    part_from = last_record
 }
 
 function read_breaks() {

@@ -18,8 +18,9 @@
 # shown that is no longer known: a deck that plays may stop at any time, so only after a STATUS SENSE its mode is known.
 # For any other field that is no longer known it gets a line once for each value.
 #
-# Of `explain --all` each break has its line, nothing is known at the beginning of the part after it, and the totals stand where
-# the verdict does.
+# Of `explain --all` each break has its line, and the totals stand where the verdict does. After a late reply (L1) everything stays
+# known: its line comes first, and then that of its exchange. After every other break nothing is known of before. Under the totals a
+# line counts the late replies, where there are any.
 #
 # Under the verdict stands how strong it is: at how many of the exchanges the shown mode, each register and local were known, as a
 # percentage that is rounded down. A register counts where its time is known, or where it is known to be clear. Where it is known
@@ -57,7 +58,8 @@ kind == "exchange" {
 {
     put_folded()
     put($0)
-    forget()
+    if (kind == "no" && reason == "L1") late_replies++
+    else forget()
 }
 
 # Nothing is known of the deck at the beginning of a part.
@@ -162,7 +164,10 @@ function seconds(digits) {
 }
 
 END {
-    if (!refused && is_whole()) put_known()
+    if (!refused && is_whole()) {
+        if (kind == "breaks" && late_replies > 0) put("late replies: " late_replies)
+        put_known()
+    }
 }
 
 # From here on digest.awk, delays.awk and motion.awk are the same.
@@ -175,7 +180,8 @@ BEGIN {
     }
 }
 
-# Takes the line apart, which has to be one of an explanation that is whole, of this capture.
+# Takes the line apart, which has to be one of an explanation that is whole, of this capture. `late` is the delay of the late reply
+# whose line it is, as the capture has it; a view that `reads_bytes` takes it from them.
 function read_explanation() {
     read_line()
     if (kind == "state") refuse("a line of a run, and not of an explanation: " $0)
@@ -188,10 +194,11 @@ function read_explanation() {
     if (kind == "breaks" && exchanges + 0 != lines + 0) {
         refuse("the totals count " exchanges " exchanges, and " lines + 0 " lines stand before them")
     }
+    if (kind == "exchange" && late > 0 && delay + 0 != late) refuse("record " record " of the capture ends another reply: " capture)
     late = 0
     if (capture == "") return
-    if (kind == "no" && reason == "L1") late = late_delay()
-    else if (kind == "no") time_of(record, "CD")
+    if (kind == "no" && reason != "L1") time_of(record, "CD")
+    else if (kind == "no" && !reads_bytes) late = late_delay()
     if (kind == "yes" || kind == "breaks") {
         while (rows <= records + 0 && next_row()) continue
         if (rows != records + 0) {
@@ -200,12 +207,15 @@ function read_explanation() {
     }
 }
 
-# The delay of the late reply at which a part breaks. It has no line, so it stands in the capture alone.
-function late_delay(    asked_at, answer) {
+# The delay of the late reply that begins with the record.
+function late_delay(    asked_at) {
     asked_at = time_of(record - 1, "C")
-    answer = time_of(record, "D") - asked_at
-    if (answer <= 9287) refuse("record " record " of the capture is no late reply: " capture)
-    return answer
+    return above_limit(time_of(record, "D") - asked_at)
+}
+
+function above_limit(us) {
+    if (us <= reply_limit) refuse("record " record " of the capture is no late reply: " capture)
+    return us
 }
 
 # The time of a record of the capture, in microseconds and without zeros in front. It has to stand on one of these
@@ -252,7 +262,8 @@ BEGIN {
     text_of["P5"] = "wrong kind of reply"
     text_of["P7"] = "invalid time in a reply"
     text_of["M1"] = "no run remains"
-    last_record = 0
+    last_record = part_from = late_at = 0
+    reply_limit = 9287
     name_forms()
     # Keeps the lines in a file that has no name any more, and writes them where the last one says that all is whole.
     hold = "{ held=$(mktemp) && exec 3> \"$held\" 4< \"$held\" 5< \"$held\" && rm \"$held\" && cat >&3" \
@@ -293,8 +304,9 @@ function name_forms(    number, stamp_form, mode_form, k) {
 # and `reason`. `known` has the first `told` of the fields. The lines of `why` are "contradicting_exchange", "could_show",
 # "open_command", "open_reply" and "breaking_record"; an exchange right before the last of these contradicts nothing. `given`
 # has what stands in them, by name, `said` counts what a reply says of the deck, and of "could_show" `known` has the fields
-# from the second to the one numbered `told`. With --all a "no" ends each part that breaks, and the text ends with its "breaks",
-# the totals: `breaks`, `records`, `exchanges`, `passed_over` and `open`.
+# from the second to the one numbered `told`. With --all a "no" ends each part that breaks, but a late reply (L1) ends none: the
+# line after it goes on with its exchange. The text then ends with its "breaks", the totals: `breaks`, `records`, `exchanges`,
+# `passed_over` and `open`.
 function read_line(    before) {
     sub(/\r$/, "")
     before = kind == "" ? "nothing" : kind
@@ -310,6 +322,13 @@ function read_line(    before) {
     if (index(may_follow[kind], " " before " ") == 0 || !is_alone(before) || !is_of_one_report(before)) {
         refuse("a line that can't stand here: " $0)
     }
+    if (kind == "exchange") check_delay(before == "no" && reason == "L1")
+}
+
+# A reply is late where the line before says so, and nowhere else.
+function check_delay(is_late) {
+    if (!is_late && delay + 0 > reply_limit) refuse("a delay above the limit of " reply_limit ": " $0)
+    if (is_late && delay + 0 <= reply_limit) refuse("a late reply with a delay within the limit of " reply_limit ": " $0)
 }
 
 # Whether the line is of the same report as those before it: only `why` has lines of its own before each "no".
@@ -321,7 +340,7 @@ function is_of_one_report(before,    tells_why) {
     return tells_why == is_why
 }
 
-# Whether an exchange before a record that breaks is the only one in its part, and says nothing of the deck.
+# Whether an exchange before a record that breaks is the only one that is told, and says nothing of the deck.
 function is_alone(before) {
     return kind != "breaking_record" || before != "contradicting_exchange" || (exchanges_told == 1 && said == 0)
 }
@@ -341,6 +360,7 @@ function read_record(    part, parts, at, before, k) {
     told = parts - before
     if (told < fields - 1 || told > fields) refuse_line()
     for (k = 1; k <= told; k++) read_field(field[k], part[before + k])
+    late_at = 0
     lines++
 }
 
@@ -500,21 +520,33 @@ function read_yes() {
     open = $7
 }
 
-function read_no(    at) {
+function read_no(    at, tells_why, is_second) {
     at = index($0, ": ")
     if (!/^no at record / || at == 0) refuse_line()
     record = substr($0, 14, at - 14)
     reason = substr($0, at + 2, 2)
     if (!(reason in text_of) || substr($0, at + 4) != " " text_of[reason]) refuse_line()
-    if (kind != "could_show" && kind != "breaking_record") record_after(record)
-    else if (record != last_record "" || (kind == "could_show") != (reason == "M1")) {
+    tells_why = kind == "could_show" || kind == "breaking_record"
+    if (tells_why && (record != last_record "" || (kind == "could_show") != (reason == "M1"))) {
         refuse("a verdict that is not that of the lines before it: " $0)
     }
+    # The first record of a late reply may have the wrong group besides.
+    is_second = reason == "B1" && record + 0 == late_at
+    if (late_at > 0 && !is_second && record + 0 <= late_at) refuse("a record that does not come after the one before: " $0)
+    if (!is_second && !tells_why) record_after(record)
     kind = "no"
     breaks_told++
     exchanges_told = 0
+    if (reason == "L1") {
+        late_at = record + 0
+        # `why` may tell what comes before a late reply in its part once more.
+        if (tells_why) last_record = part_from
+        return
+    }
+    late_at = 0
     # The record that breaks so may be the first of the next part.
     if (reason ~ /^(L2|P3|P4|B3)$/) last_record--
+    part_from = last_record
 }
 
 function read_breaks() {

@@ -18,8 +18,10 @@
 #     {"line":"verdict","verdict":"yes","records":18,"exchanges":2,"open":0}
 #     {"line":"verdict","verdict":"no","record":28,"reason":"M1","text":"no run remains"}
 #     {"line":"breaks","breaks":5,"records":1349,"exchanges":119,"passed_over":43,"open":0}
+#     {"line":"late_reply","record":22,"reason":"L1","text":"late reply"}
 #
-# With --all each part that breaks has its verdict, and the totals, "breaks", are the last line.
+# With --all each part that breaks has its verdict, and the totals, "breaks", are the last line. A late reply (L1) ends no part
+# there: it is a "late_reply" and no verdict, and its exchange follows.
 #
 # A field of the deck is the very word of the line, always a string: a mode, "unknown", "clear", "set", a time such as
 # "10:00:00:00", "yes", "no", "on" or "off". So what is not known is the word "unknown". No value is ever null, since
@@ -41,6 +43,12 @@ waiting != "" {
     waiting = ""
 }
 
+# Only the line after a late reply tells whether it is the verdict, or stands in a part that goes on.
+late_record != "" {
+    put("{\"line\":\"late_reply\"" break_members(late_record, "L1") "}")
+    late_record = ""
+}
+
 kind == "exchange" {
     put("{\"line\":\"exchange\",\"record\":" record ",\"command\":" string(command) "," reply_members() \
         ",\"delay_us\":" delay field_members(1) "}")
@@ -53,10 +61,11 @@ kind == "yes" {
         ",\"open\":" open "}")
 }
 
-kind == "no" {
-    put("{\"line\":\"verdict\",\"verdict\":\"no\",\"record\":" record ",\"reason\":" string(reason) \
-        ",\"text\":" string(text_of[reason]) "}")
-}
+kind == "no" && reason == "L1" { late_record = record }
+
+kind == "no" && reason != "L1" { put_no(record, reason) }
+
+END { if (!refused && late_record != "") put_no(late_record, "L1") }
 
 kind == "breaks" {
     put("{\"line\":\"breaks\",\"breaks\":" breaks ",\"records\":" records ",\"exchanges\":" exchanges \
@@ -77,6 +86,14 @@ kind == "open_command" { put_given("first_record record time_us command command_
 kind == "open_reply" { put_given("first_record record time_us reply_bytes block_length") }
 
 kind == "breaking_record" { put_given("record time_us wire byte elapsed_us limit_us sum") }
+
+function put_no(at_record, why) {
+    put("{\"line\":\"verdict\",\"verdict\":\"no\"" break_members(at_record, why) "}")
+}
+
+function break_members(at_record, why) {
+    return ",\"record\":" at_record ",\"reason\":" string(why) ",\"text\":" string(text_of[why])
+}
 
 # Puts the object of a line of `why`: the members of these names that the line has.
 function put_given(names) {
@@ -154,7 +171,8 @@ BEGIN {
     text_of["P5"] = "wrong kind of reply"
     text_of["P7"] = "invalid time in a reply"
     text_of["M1"] = "no run remains"
-    last_record = 0
+    last_record = part_from = late_at = 0
+    reply_limit = 9287
     name_forms()
     # Keeps the lines in a file that has no name any more, and writes them where the last one says that all is whole.
     hold = "{ held=$(mktemp) && exec 3> \"$held\" 4< \"$held\" 5< \"$held\" && rm \"$held\" && cat >&3" \
@@ -195,8 +213,9 @@ function name_forms(    number, stamp_form, mode_form, k) {
 # and `reason`. `known` has the first `told` of the fields. The lines of `why` are "contradicting_exchange", "could_show",
 # "open_command", "open_reply" and "breaking_record"; an exchange right before the last of these contradicts nothing. `given`
 # has what stands in them, by name, `said` counts what a reply says of the deck, and of "could_show" `known` has the fields
-# from the second to the one numbered `told`. With --all a "no" ends each part that breaks, and the text ends with its "breaks",
-# the totals: `breaks`, `records`, `exchanges`, `passed_over` and `open`.
+# from the second to the one numbered `told`. With --all a "no" ends each part that breaks, but a late reply (L1) ends none: the
+# line after it goes on with its exchange. The text then ends with its "breaks", the totals: `breaks`, `records`, `exchanges`,
+# `passed_over` and `open`.
 function read_line(    before) {
     sub(/\r$/, "")
     before = kind == "" ? "nothing" : kind
@@ -212,6 +231,13 @@ function read_line(    before) {
     if (index(may_follow[kind], " " before " ") == 0 || !is_alone(before) || !is_of_one_report(before)) {
         refuse("a line that can't stand here: " $0)
     }
+    if (kind == "exchange") check_delay(before == "no" && reason == "L1")
+}
+
+# A reply is late where the line before says so, and nowhere else.
+function check_delay(is_late) {
+    if (!is_late && delay + 0 > reply_limit) refuse("a delay above the limit of " reply_limit ": " $0)
+    if (is_late && delay + 0 <= reply_limit) refuse("a late reply with a delay within the limit of " reply_limit ": " $0)
 }
 
 # Whether the line is of the same report as those before it: only `why` has lines of its own before each "no".
@@ -223,7 +249,7 @@ function is_of_one_report(before,    tells_why) {
     return tells_why == is_why
 }
 
-# Whether an exchange before a record that breaks is the only one in its part, and says nothing of the deck.
+# Whether an exchange before a record that breaks is the only one that is told, and says nothing of the deck.
 function is_alone(before) {
     return kind != "breaking_record" || before != "contradicting_exchange" || (exchanges_told == 1 && said == 0)
 }
@@ -243,6 +269,7 @@ function read_record(    part, parts, at, before, k) {
     told = parts - before
     if (told < fields - 1 || told > fields) refuse_line()
     for (k = 1; k <= told; k++) read_field(field[k], part[before + k])
+    late_at = 0
     lines++
 }
 
@@ -402,21 +429,33 @@ function read_yes() {
     open = $7
 }
 
-function read_no(    at) {
+function read_no(    at, tells_why, is_second) {
     at = index($0, ": ")
     if (!/^no at record / || at == 0) refuse_line()
     record = substr($0, 14, at - 14)
     reason = substr($0, at + 2, 2)
     if (!(reason in text_of) || substr($0, at + 4) != " " text_of[reason]) refuse_line()
-    if (kind != "could_show" && kind != "breaking_record") record_after(record)
-    else if (record != last_record "" || (kind == "could_show") != (reason == "M1")) {
+    tells_why = kind == "could_show" || kind == "breaking_record"
+    if (tells_why && (record != last_record "" || (kind == "could_show") != (reason == "M1"))) {
         refuse("a verdict that is not that of the lines before it: " $0)
     }
+    # The first record of a late reply may have the wrong group besides.
+    is_second = reason == "B1" && record + 0 == late_at
+    if (late_at > 0 && !is_second && record + 0 <= late_at) refuse("a record that does not come after the one before: " $0)
+    if (!is_second && !tells_why) record_after(record)
     kind = "no"
     breaks_told++
     exchanges_told = 0
+    if (reason == "L1") {
+        late_at = record + 0
+        # `why` may tell what comes before a late reply in its part once more.
+        if (tells_why) last_record = part_from
+        return
+    }
+    late_at = 0
     # The record that breaks so may be the first of the next part.
     if (reason ~ /^(L2|P3|P4|B3)$/) last_record--
+    part_from = last_record
 }
 
 function read_breaks() {

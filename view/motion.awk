@@ -8,7 +8,7 @@
 # It judges nothing: in the rules a deck may take any time to do what it acknowledged. So a capture of a deck that never
 # does it is a yes, and this view is where that is seen. What comes after a command is what comes before the next transport
 # command that is acknowledged, or before the end. Of `explain --all` a part's end is one too, since a command may be lost where it
-# breaks, and the totals are the last line.
+# breaks, and the totals are the last line. A late reply (L1) ends no part, and so no command's line.
 #
 # Times of records are those of the reply's last record, and a response is the time from the acknowledgement to the first
 # status that shows the mode. A status shows the mode that the explanation knows after it. Where that is unknown it is the mode
@@ -27,6 +27,7 @@
 
 BEGIN {
     view = "motion.awk"
+    reads_bytes = 1
     if (capture == "") refuse("-v capture=FILE is missing")
     count_frames()
     most_worth = 100     # so many are listed, and the rest is counted
@@ -47,15 +48,23 @@ kind == "exchange" {
     next
 }
 
+{ last_line = $0 }
+
+kind == "no" && reason == "L1" {
+    read_late()
+    next
+}
+
 {
     end_part()
-    last_line = $0
+    is_begun = 0
     broke_at = record
     broke_by = reason
 }
 
 END {
     if (refused) exit 1
+    end_part()
     put_table()
     put_worth()
     put(last_line)
@@ -92,29 +101,51 @@ function name_modes() {
 
 # ---- the capture
 
-# The bytes of the exchange: `asked` and `answered`, two digits each, and `now`, the time of the last one.
-function read_bytes(    number, digits, wire, is_answer, n) {
-    is_answer = 0
-    n = 0
-    split("", asked)
-    split("", answered)
-    for (number = first_record(); number <= record + 0; number++) {
-        now = time_of(number, number == record + 0 ? "D" : n == 0 ? "C" : "CD") + 0
-        wire = wire_of_row()
-        digits = toupper(substr(row, length(row) - 1))
-        if (wire == "D" && !is_answer) {
-            is_answer = 1
-            n = 0
-        } else if (wire == "C" && is_answer) refuse("record " number " of the capture is on the other wire: " capture)
-        n++
-        if (is_answer) answered[n] = digits
-        else asked[n] = digits
-    }
-    answered_bytes = n
+# The bytes of the exchange: `asked` and `answered`, two digits each, and `now`, the time of the last one. Those up to the first of
+# a late reply were read at the line that says that it is late.
+function read_bytes(    digits) {
+    if (!is_begun) begin_bytes()
+    is_begun = 0
+    read_to(record + 0)
     digits = answered[1] " " answered[2]
     if (digits == "10 01") digits = "ACK"
     if (digits == "11 12") digits = "NAK"
     if (digits != substr(reply, 1, digits == "NAK" ? 3 : 5)) refuse("record " record " of the capture ends another reply: " capture)
+}
+
+function read_late() {
+    begin_bytes()
+    is_begun = 1
+    read_to(record + 0)
+    late = above_limit(answered_bytes == 1 ? now - asked_at : 0)
+}
+
+function begin_bytes() {
+    forget_bytes()
+    next_record = first_record()
+}
+
+function forget_bytes() {
+    split("", asked)
+    split("", answered)
+    asked_bytes = answered_bytes = 0
+}
+
+# Reads on up to this record of the deck's wire. `asked_at` is the time of the command's last byte. Where a late reply is the
+# verdict, the exchanges before it may have no lines: `check` writes none.
+function read_to(last,    digits) {
+    for (; next_record <= last; next_record++) {
+        now = time_of(next_record, next_record == last ? "D" : asked_bytes == 0 ? "C" : "CD") + 0
+        digits = toupper(substr(row, length(row) - 1))
+        if (wire_of_row() == "D") {
+            answered[++answered_bytes] = digits
+            continue
+        }
+        if (answered_bytes > 0 && is_begun) forget_bytes()
+        if (answered_bytes > 0) refuse("record " next_record " of the capture is on the other wire: " capture)
+        asked[++asked_bytes] = digits
+        asked_at = now
+    }
 }
 
 # The record at which the exchange begins: the one after the exchange before, or after a break the first of the part, which is the
@@ -429,7 +460,8 @@ BEGIN {
     }
 }
 
-# Takes the line apart, which has to be one of an explanation that is whole, of this capture.
+# Takes the line apart, which has to be one of an explanation that is whole, of this capture. `late` is the delay of the late reply
+# whose line it is, as the capture has it; a view that `reads_bytes` takes it from them.
 function read_explanation() {
     read_line()
     if (kind == "state") refuse("a line of a run, and not of an explanation: " $0)
@@ -442,10 +474,11 @@ function read_explanation() {
     if (kind == "breaks" && exchanges + 0 != lines + 0) {
         refuse("the totals count " exchanges " exchanges, and " lines + 0 " lines stand before them")
     }
+    if (kind == "exchange" && late > 0 && delay + 0 != late) refuse("record " record " of the capture ends another reply: " capture)
     late = 0
     if (capture == "") return
-    if (kind == "no" && reason == "L1") late = late_delay()
-    else if (kind == "no") time_of(record, "CD")
+    if (kind == "no" && reason != "L1") time_of(record, "CD")
+    else if (kind == "no" && !reads_bytes) late = late_delay()
     if (kind == "yes" || kind == "breaks") {
         while (rows <= records + 0 && next_row()) continue
         if (rows != records + 0) {
@@ -454,12 +487,15 @@ function read_explanation() {
     }
 }
 
-# The delay of the late reply at which a part breaks. It has no line, so it stands in the capture alone.
-function late_delay(    asked_at, answer) {
+# The delay of the late reply that begins with the record.
+function late_delay(    asked_at) {
     asked_at = time_of(record - 1, "C")
-    answer = time_of(record, "D") - asked_at
-    if (answer <= 9287) refuse("record " record " of the capture is no late reply: " capture)
-    return answer
+    return above_limit(time_of(record, "D") - asked_at)
+}
+
+function above_limit(us) {
+    if (us <= reply_limit) refuse("record " record " of the capture is no late reply: " capture)
+    return us
 }
 
 # The time of a record of the capture, in microseconds and without zeros in front. It has to stand on one of these
@@ -506,7 +542,8 @@ BEGIN {
     text_of["P5"] = "wrong kind of reply"
     text_of["P7"] = "invalid time in a reply"
     text_of["M1"] = "no run remains"
-    last_record = 0
+    last_record = part_from = late_at = 0
+    reply_limit = 9287
     name_forms()
     # Keeps the lines in a file that has no name any more, and writes them where the last one says that all is whole.
     hold = "{ held=$(mktemp) && exec 3> \"$held\" 4< \"$held\" 5< \"$held\" && rm \"$held\" && cat >&3" \
@@ -547,8 +584,9 @@ function name_forms(    number, stamp_form, mode_form, k) {
 # and `reason`. `known` has the first `told` of the fields. The lines of `why` are "contradicting_exchange", "could_show",
 # "open_command", "open_reply" and "breaking_record"; an exchange right before the last of these contradicts nothing. `given`
 # has what stands in them, by name, `said` counts what a reply says of the deck, and of "could_show" `known` has the fields
-# from the second to the one numbered `told`. With --all a "no" ends each part that breaks, and the text ends with its "breaks",
-# the totals: `breaks`, `records`, `exchanges`, `passed_over` and `open`.
+# from the second to the one numbered `told`. With --all a "no" ends each part that breaks, but a late reply (L1) ends none: the
+# line after it goes on with its exchange. The text then ends with its "breaks", the totals: `breaks`, `records`, `exchanges`,
+# `passed_over` and `open`.
 function read_line(    before) {
     sub(/\r$/, "")
     before = kind == "" ? "nothing" : kind
@@ -564,6 +602,13 @@ function read_line(    before) {
     if (index(may_follow[kind], " " before " ") == 0 || !is_alone(before) || !is_of_one_report(before)) {
         refuse("a line that can't stand here: " $0)
     }
+    if (kind == "exchange") check_delay(before == "no" && reason == "L1")
+}
+
+# A reply is late where the line before says so, and nowhere else.
+function check_delay(is_late) {
+    if (!is_late && delay + 0 > reply_limit) refuse("a delay above the limit of " reply_limit ": " $0)
+    if (is_late && delay + 0 <= reply_limit) refuse("a late reply with a delay within the limit of " reply_limit ": " $0)
 }
 
 # Whether the line is of the same report as those before it: only `why` has lines of its own before each "no".
@@ -575,7 +620,7 @@ function is_of_one_report(before,    tells_why) {
     return tells_why == is_why
 }
 
-# Whether an exchange before a record that breaks is the only one in its part, and says nothing of the deck.
+# Whether an exchange before a record that breaks is the only one that is told, and says nothing of the deck.
 function is_alone(before) {
     return kind != "breaking_record" || before != "contradicting_exchange" || (exchanges_told == 1 && said == 0)
 }
@@ -595,6 +640,7 @@ function read_record(    part, parts, at, before, k) {
     told = parts - before
     if (told < fields - 1 || told > fields) refuse_line()
     for (k = 1; k <= told; k++) read_field(field[k], part[before + k])
+    late_at = 0
     lines++
 }
 
@@ -754,21 +800,33 @@ function read_yes() {
     open = $7
 }
 
-function read_no(    at) {
+function read_no(    at, tells_why, is_second) {
     at = index($0, ": ")
     if (!/^no at record / || at == 0) refuse_line()
     record = substr($0, 14, at - 14)
     reason = substr($0, at + 2, 2)
     if (!(reason in text_of) || substr($0, at + 4) != " " text_of[reason]) refuse_line()
-    if (kind != "could_show" && kind != "breaking_record") record_after(record)
-    else if (record != last_record "" || (kind == "could_show") != (reason == "M1")) {
+    tells_why = kind == "could_show" || kind == "breaking_record"
+    if (tells_why && (record != last_record "" || (kind == "could_show") != (reason == "M1"))) {
         refuse("a verdict that is not that of the lines before it: " $0)
     }
+    # The first record of a late reply may have the wrong group besides.
+    is_second = reason == "B1" && record + 0 == late_at
+    if (late_at > 0 && !is_second && record + 0 <= late_at) refuse("a record that does not come after the one before: " $0)
+    if (!is_second && !tells_why) record_after(record)
     kind = "no"
     breaks_told++
     exchanges_told = 0
+    if (reason == "L1") {
+        late_at = record + 0
+        # `why` may tell what comes before a late reply in its part once more.
+        if (tells_why) last_record = part_from
+        return
+    }
+    late_at = 0
     # The record that breaks so may be the first of the next part.
     if (reason ~ /^(L2|P3|P4|B3)$/) last_record--
+    part_from = last_record
 }
 
 function read_breaks() {

@@ -9,7 +9,7 @@
 # -v width=N says how wide the picture may be, in pixels (1200); it is wider where what breaks the rule would not fit.
 #
 # Of a report of --all one break is drawn: the first, or with -v at=RECORD the one at this record. What stands before the part that
-# it breaks is not drawn.
+# it breaks is not drawn. A late reply (L1) ends no part there: it is drawn whole, and what was judged after it is not pale.
 #
 # Of a no by M1 `why` names the replies that contradict one another. Then each of them has a row, with the command that it answers,
 # and between the rows stands how long after the one the other begins.
@@ -40,8 +40,14 @@ BEGIN {
 
 { read_line() }
 
-# What comes after the break that is drawn.
-verdict != "" { next }
+# What comes after the break that is drawn. After a late reply judging goes on as far as the break that ends the part.
+verdict != "" {
+    if (breaking_reason == "L1" && !part_ended) {
+        part_ended = kind == "no" && reason != "L1"
+        judged_to = part_ended ? record + 0 : 1000000000
+    }
+    next
+}
 
 kind == "contradicting_exchange" { keep_exchange() }
 
@@ -53,9 +59,10 @@ kind == "could_show" { could_show = "known of the deck before the last reply: " 
 kind == "no" {
     if (at == "" || at + 0 == record + 0) {
         verdict = $0
-        breaking = record + 0
+        breaking = judged_to = record + 0
         breaking_reason = reason
-    } else {
+    } else if (reason == "L1") exchanges_kept = 0
+    else {
         exchanges_kept = 0
         broke_at = record + 0
         broke_by = reason
@@ -163,7 +170,7 @@ function forget(number) {
 function begin_or_go_on(number,    on, is_open) {
     on = wire[number]
     is_open = held[on] < length_of[first[on]]
-    if (is_open && number > breaking) is_open = goes_on(number, on)
+    if (is_open && number > judged_to) is_open = goes_on(number, on)
     latest[on] = stamp[number]
     if (is_open) held[on]++
     else {
@@ -180,8 +187,8 @@ function begin_or_go_on(number,    on, is_open) {
     is_between[number] = held["C"] == length_of[first["C"]] && held["D"] == length_of[first["D"]]
 }
 
-# Whether the open block of a wire goes on with this record, after the one in question, where nothing is judged any more: not
-# where the wire has rested longer than a block may, nor where the other wire came between and the sum would be wrong.
+# Whether the open block of a wire goes on with this record, where nothing is judged any more: not where the wire has rested longer
+# than a block may, nor where the other wire came between and the sum would be wrong.
 function goes_on(number, on,    k, n, sum) {
     if (stamp[number] - latest[on] > limit_of["B3"]) return 0
     if (wire[number - 1] == on) return 1
@@ -226,20 +233,22 @@ function place_records(    k, rest, step) {
     }
 }
 
-# The records that are drawn: what is open and the record in question, whole blocks after it on a third of the room at
-# most, and as many whole blocks before as then fit.
-function choose_records(    room, need, end, whole, k) {
-    end = x[breaking] + box
+# The records that are drawn: what is open and the record in question, of a late reply what of it was judged, whole blocks after
+# that on a third of the room at most, and as many whole blocks before as then fit.
+function choose_records(    room, need, end, whole, last, k) {
+    last = breaking
+    for (k = breaking + 1; k <= newest && k <= judged_to && first_of[k] == first_of[breaking]; k++) last = k
+    end = x[last] + box
     if (measured && x[breaking - 1] + limit_of[reason] * scale > end) end = x[breaking - 1] + limit_of[reason] * scale
     need = end - x[open_from]
     room = width - 2 * margin - 90
     if (room < need + 100) room = need + 100
-    to = whole = breaking
-    for (k = breaking + 1; k <= newest && x[k] + box - x[open_from] <= room && x[k] - x[breaking] <= room / 3; k++) {
+    to = whole = last
+    for (k = last + 1; k <= newest && x[k] + box - x[open_from] <= room && x[k] - x[breaking] <= room / 3; k++) {
         if (place_of[k] == length_of[first_of[k]]) to = k
         if (is_between[k]) whole = k
     }
-    if (whole > breaking) to = whole
+    if (whole > breaking && is_between[whole]) to = whole
     if (x[to] + box > end) need = x[to] + box - x[open_from]
     from = open_from
     for (k = open_from - 1; k >= oldest && need + x[open_from] - x[k] <= room; k--) if (first_of[k] == k) from = k
@@ -290,7 +299,7 @@ function put_byte(k,    y, look, ink) {
         look = dark_look
         ink = dark_ink
         put_arrow(x_of(k) + box / 2, wire[k] == "C" ? y + tall + 4 : y - 4, wire[k] == "C" ? 12 : -12)
-    } else if (k > breaking) {
+    } else if (k > judged_to) {
         look = "fill=\"#ffffff\" stroke=\"#999999\" stroke-dasharray=\"3 2\""
         ink = "fill=\"#666666\""
     }
@@ -316,9 +325,9 @@ function put_block(begin,    k, last, y, down, x1, x2, name, row_of) {
     x2 = x_of(last) + box
     put("<path d=\"M " px(x1) " " y " v " (down ? 5 : -5) " H " px(x2) " v " (down ? -5 : 5) "\" fill=\"none\" stroke=\"#444444\"/>")
     name = name_of(begin, last)
-    if (begin > breaking) name = "(" name ")"
+    if (begin > judged_to) name = "(" name ")"
     row_of = free_row(wire[begin], (x1 + x2) / 2, name, 3)
-    put_text(middle, down ? y + 18 + row_of * 14 : y - 10 - row_of * 14, "middle", begin > breaking ? "fill=\"#666666\"" : "", name)
+    put_text(middle, down ? y + 18 + row_of * 14 : y - 10 - row_of * 14, "middle", begin > judged_to ? "fill=\"#666666\"" : "", name)
 }
 
 # A row in which a text about this middle lies on no other one. The middle is moved where the text would leave the
@@ -636,7 +645,8 @@ BEGIN {
     text_of["P5"] = "wrong kind of reply"
     text_of["P7"] = "invalid time in a reply"
     text_of["M1"] = "no run remains"
-    last_record = 0
+    last_record = part_from = late_at = 0
+    reply_limit = 9287
     name_forms()
     # Keeps the lines in a file that has no name any more, and writes them where the last one says that all is whole.
     hold = "{ held=$(mktemp) && exec 3> \"$held\" 4< \"$held\" 5< \"$held\" && rm \"$held\" && cat >&3" \
@@ -677,8 +687,9 @@ function name_forms(    number, stamp_form, mode_form, k) {
 # and `reason`. `known` has the first `told` of the fields. The lines of `why` are "contradicting_exchange", "could_show",
 # "open_command", "open_reply" and "breaking_record"; an exchange right before the last of these contradicts nothing. `given`
 # has what stands in them, by name, `said` counts what a reply says of the deck, and of "could_show" `known` has the fields
-# from the second to the one numbered `told`. With --all a "no" ends each part that breaks, and the text ends with its "breaks",
-# the totals: `breaks`, `records`, `exchanges`, `passed_over` and `open`.
+# from the second to the one numbered `told`. With --all a "no" ends each part that breaks, but a late reply (L1) ends none: the
+# line after it goes on with its exchange. The text then ends with its "breaks", the totals: `breaks`, `records`, `exchanges`,
+# `passed_over` and `open`.
 function read_line(    before) {
     sub(/\r$/, "")
     before = kind == "" ? "nothing" : kind
@@ -694,6 +705,13 @@ function read_line(    before) {
     if (index(may_follow[kind], " " before " ") == 0 || !is_alone(before) || !is_of_one_report(before)) {
         refuse("a line that can't stand here: " $0)
     }
+    if (kind == "exchange") check_delay(before == "no" && reason == "L1")
+}
+
+# A reply is late where the line before says so, and nowhere else.
+function check_delay(is_late) {
+    if (!is_late && delay + 0 > reply_limit) refuse("a delay above the limit of " reply_limit ": " $0)
+    if (is_late && delay + 0 <= reply_limit) refuse("a late reply with a delay within the limit of " reply_limit ": " $0)
 }
 
 # Whether the line is of the same report as those before it: only `why` has lines of its own before each "no".
@@ -705,7 +723,7 @@ function is_of_one_report(before,    tells_why) {
     return tells_why == is_why
 }
 
-# Whether an exchange before a record that breaks is the only one in its part, and says nothing of the deck.
+# Whether an exchange before a record that breaks is the only one that is told, and says nothing of the deck.
 function is_alone(before) {
     return kind != "breaking_record" || before != "contradicting_exchange" || (exchanges_told == 1 && said == 0)
 }
@@ -725,6 +743,7 @@ function read_record(    part, parts, at, before, k) {
     told = parts - before
     if (told < fields - 1 || told > fields) refuse_line()
     for (k = 1; k <= told; k++) read_field(field[k], part[before + k])
+    late_at = 0
     lines++
 }
 
@@ -884,21 +903,33 @@ function read_yes() {
     open = $7
 }
 
-function read_no(    at) {
+function read_no(    at, tells_why, is_second) {
     at = index($0, ": ")
     if (!/^no at record / || at == 0) refuse_line()
     record = substr($0, 14, at - 14)
     reason = substr($0, at + 2, 2)
     if (!(reason in text_of) || substr($0, at + 4) != " " text_of[reason]) refuse_line()
-    if (kind != "could_show" && kind != "breaking_record") record_after(record)
-    else if (record != last_record "" || (kind == "could_show") != (reason == "M1")) {
+    tells_why = kind == "could_show" || kind == "breaking_record"
+    if (tells_why && (record != last_record "" || (kind == "could_show") != (reason == "M1"))) {
         refuse("a verdict that is not that of the lines before it: " $0)
     }
+    # The first record of a late reply may have the wrong group besides.
+    is_second = reason == "B1" && record + 0 == late_at
+    if (late_at > 0 && !is_second && record + 0 <= late_at) refuse("a record that does not come after the one before: " $0)
+    if (!is_second && !tells_why) record_after(record)
     kind = "no"
     breaks_told++
     exchanges_told = 0
+    if (reason == "L1") {
+        late_at = record + 0
+        # `why` may tell what comes before a late reply in its part once more.
+        if (tells_why) last_record = part_from
+        return
+    }
+    late_at = 0
     # The record that breaks so may be the first of the next part.
     if (reason ~ /^(L2|P3|P4|B3)$/) last_record--
+    part_from = last_record
 }
 
 function read_breaks() {

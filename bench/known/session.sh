@@ -1,6 +1,6 @@
 #!/bin/sh
-# Draws an edit session of eight edits, and tells at how many of its exchanges IN is known: without a deck sheet, with the shipped one,
-# and of the same session without its EE and EDIT commands. The editor polls time and status; with `--registers` the status that it polls
+# Draws an edit session of eight edits, and tells at how many of its exchanges IN and LOCAL are known: without a deck sheet, with the
+# shipped one, of the same session without its EE and EDIT commands, and of that one where some replies are late. The editor polls time and status; with `--registers` the status that it polls
 # has three data, among them which registers are set. It asks for IN again at the end of each edit.
 set -eu
 here=$(cd "$(dirname "$0")" && pwd)
@@ -57,18 +57,30 @@ for name, switches, three in ('one', True, False), ('three', True, True), ('none
     write(f'{work}/{name}.csv', session(switches, three))
 PYTHON
 
-# tell WHAT CAPTURE WORDS...: at how many of the exchanges IN is known, and how many of them are commands that are not listed.
+# late N: the session without switches, in which every Nth reply begins 12,000 microseconds after its command.
+late() {
+    awk -F , -v every="$1" '
+        NR == 1 { print; next }
+        { if ($2 == "D" && wire == "C" && ++replies % every == 0) shift += last + 12000 - $1
+          wire = $2; last = $1; printf "%.0f,%s,%s\n", $1 + shift, $2, $3 }' "$work/none.csv" > "$work/late-$1.csv"
+}
+late 1000
+late 100
+
+# tell WHAT CAPTURE WORDS...: at how many of the exchanges IN and LOCAL are known, and how many of them are commands that are not listed.
 tell() {
     what=$1
     capture=$work/$2.csv
     shift 2
     "$program" explain "$@" "$capture" | awk -v what="$what" '
-        /^record / { exchanges++; if (/, in [0-9]/) known++; if (/: 20 6[0-9A-F] -> /) switches++ }
+        /^record / { exchanges++; if (/, in [0-9]/) known++; if (/, local (yes|no)/) local++; if (/: 20 6[0-9A-F] -> /) switches++ }
         { last = $0 }
-        END { printf "%s: %d exchanges, %d switches, IN known at %.1f %%; %s\n", what, exchanges, switches, 100 * known / exchanges, last }'
+        END { printf "%s: %d exchanges, %d switches, IN known at %.1f %%, LOCAL at %.1f %%; %s\n", what, exchanges, switches, 100 * known / exchanges, 100 * local / exchanges, last }'
 }
 tell 'status of one datum' one
 tell 'the same, with the sheet' one --deck "$here/../../decks/edit-session.toml"
 tell 'status of three data' three
 tell 'the same, with the sheet' three --deck "$here/../../decks/edit-session.toml"
 tell 'without the switches' none
+tell 'the same, one reply in 1,000 late' late-1000 --all
+tell 'the same, one reply in 100 late' late-100 --all

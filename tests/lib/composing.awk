@@ -2,17 +2,29 @@
 # awk -v program=PROGRAM -v folder=FOLDER -f tests/lib/composing.awk. Each line of the input is a capture, FOLDER/NAME.csv, and 0, or
 # 1 where it is judged with hands: `NAME 1`. The capture is cut at the first record of each part, check, explain and why are run on
 # the rest of it, and the numbers of the records are moved; what is to come of each is FOLDER/NAME.check, .explain and .why. A line is
-# written for each break, `NAME REASON`, and one for each capture, `NAME of PARTS parts, passed over P`.
+# written for each break, `NAME REASON`, one for each part with late replies, `NAME late N, then REASON`, and one for each capture,
+# `NAME of PARTS parts, passed over P`.
+#
+# Where a part's verdict is L1, the reply and all that follows come earlier by as much as the reply is late, and the part is judged
+# again: only what was not told before is added. Each time that is told is the true one, from the capture.
 
 { compose($1, $2 == 1 ? " --hands" : "") }
 
-function compose(name, hands,    begin, parts, breaks, exchanges, in_exchanges, open) {
+function compose(name, hands,    begin, parts, breaks, late, exchanges, in_exchanges, open) {
     read_capture(folder "/" name ".csv")
     parts = breaks = exchanges = in_exchanges = open = 0
     split("", text)
     for (begin = 1; begin > 0; begin = begin_of_part(broke_at, reason)) {
         parts++
-        judge_part(begin, hands)
+        late = told = 0
+        for (judge_part(begin, hands); verdict ~ / L1 / && lateness(broke_at) > 0; judge_part(begin, hands)) {
+            print name, reason
+            late++
+            told = exchanges_of_part
+            come_earlier(broke_at, lateness(broke_at))
+        }
+        breaks += late
+        if (late) print name " late " late ", then " (verdict ~ /^yes/ ? "none" : reason)
         exchanges += exchanges_of_part
         in_exchanges += in_exchanges_of_part
         if (verdict ~ /^yes/) {
@@ -38,40 +50,51 @@ function read_capture(file,    row, part) {
     records = 0
     getline row < file
     while ((getline row < file) > 0) {
-        row_of[++records] = row
+        records++
         split(row, part, ",")
-        stamp[records] = part[1]
+        stamp[records] = judged_at[records] = part[1]
         wire[records] = part[2]
+        byte[records] = part[3]
     }
     close(file)
+}
+
+# By how much a reply is late that begins with this record.
+function lateness(first) { return judged_at[first] - judged_at[first - 1] - 9287 }
+
+# Moves a reply, which begins with this record, and all that follows.
+function come_earlier(first, by,    k) {
+    for (k = first; k <= records; k++) judged_at[k] -= by
 }
 
 # Judges the records from this one on as a capture by itself: its verdict, and where that is a no the record that breaks and the reason.
 function judge_part(begin, hands,    file, k, verb) {
     file = folder "/part.csv"
     print "time_us,wire,byte" > file
-    for (k = begin; k <= records; k++) print row_of[k] > file
+    for (k = begin; k <= records; k++) print judged_at[k] "," wire[k] "," byte[k] > file
     close(file)
     exchanges_of_part = in_exchanges_of_part = 0
     for (verb in verbs) ask(verb, program " " verb hands " " file, begin - 1)
     if (verdict ~ /^no/) {
         split(verdict, word, /[ :]+/)
-        broke_at = word[4]
+        broke_at = word[4] + 0
         reason = word[5]
     }
 }
 
-# What the program writes, with the numbers moved by so much; of a yes without its last line.
+# What the program writes, with the numbers moved by so much; without the exchanges that were told, and of a yes without its last
+# line.
 function ask(verb, command, by,    line, last) {
     last = ""
     while ((command | getline line) > 0) {
+        line = moved(line, by)
         if (verb == "explain" && line ~ /^record /) {
-            split(line, word, /[ :]/)
             exchanges_of_part++
-            in_exchanges_of_part = word[2]
+            in_exchanges_of_part = number_in(line) - by
+            if (exchanges_of_part <= told) continue
         }
         if (last != "") text[verb] = text[verb] last "\n"
-        last = moved(line, by)
+        last = line
     }
     close(command)
     if (last !~ /^yes/) text[verb] = text[verb] last "\n"
@@ -83,6 +106,23 @@ function moved(line, by,    at) {
     at = RSTART + RLENGTH
     line = moved_at(line, at, by)
     if (line ~ /^records / && match(line, / to [0-9]+/)) line = moved_at(line, RSTART + RLENGTH, by)
+    return timed(line, number_in(line))
+}
+
+# The first number of a line.
+function number_in(line) {
+    match(line, /[0-9]+/)
+    return substr(line, RSTART, RLENGTH) + 0
+}
+
+# The line, which is of this record, with the true times: when the record comes, how long after the one before it, and the delay of
+# the reply that it ends.
+function timed(line, k) {
+    sub(/ at [0-9]+: /, " at " stamp[k] ": ", line)
+    sub(/, [0-9]+ after /, ", " (stamp[k] - stamp[k - 1]) " after ", line)
+    if (line !~ /, delay /) return line
+    while (wire[k - 1] == "D") k--
+    sub(/, delay [0-9]+/, ", delay " (stamp[k] - stamp[k - 1]), line)
     return line
 }
 

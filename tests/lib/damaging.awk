@@ -1,7 +1,7 @@
 # Damages captures as lines and machines do: awk -v number=N -v folder=FOLDER -f tests/lib/chance.awk -f tests/lib/damaging.awk. Capture i, the one after it
 # and the next, which are FOLDER/i.csv and so on, stand one after the other in FOLDER/i-damaged.csv, with up to six faults: bytes
 # that come late, are lost, come twice, have another bit, come on both wires or on the other one, a time that is none,
-# another kind of reply, and none. Every run damages the same.
+# another kind of reply, and none, and late replies, one or several. Every run damages the same.
 
 BEGIN {
     seed = 40009
@@ -68,7 +68,7 @@ function last_of(at) {
 }
 
 function damage(at,    kind) {
-    kind = draw(12)
+    kind = draw(14)
     if (kind == 0) gap[at] = some_gap()
     if (kind == 1) gap[first_of(at)] = some_gap()
     if (kind == 2) remove(at)
@@ -81,6 +81,8 @@ function damage(at,    kind) {
     if (kind == 9) acknowledge(at)
     if (kind == 10) silence(at)
     if (kind == 11) ask_for_time(at)
+    if (kind == 12) answer_late(at, 1)
+    if (kind == 13) answer_late(at, 2 + draw(4))
 }
 
 function some_gap() { return one_of("9287 9288 10287 10288 30000") }
@@ -134,4 +136,12 @@ function acknowledge(at,    first) {
     byte[first] = "11"
     insert(first, "D", "01")
     insert(first, "D", "10")
+}
+
+# The deck is slow: so many replies, from here or next on, come late.
+function answer_late(at, times) {
+    for (at = reply_at(at); times > 0 && at <= records; times--) {
+        gap[at] = one_of("9288 10287 12000 30000")
+        at = reply_at(last_of(at) + 1)
+    }
 }

@@ -2,14 +2,17 @@
 use Rattle.block9.proofs.Words.{append_assoc, asked_on, asks, completed, completed_by, completes, IsOf, leaves_open}
 use Rattle.block9.proofs.Words.{answers_late, BeginsLate, Idle, InCommand, is_late, IsTail, Place}
 use Rattle.block9.proofs.Words.{AfterCommand, Bool, InReply, IsOpenAfter, Open, place_at, place_on}
-use Rattle.block9.specs.Pairer.IsOpenAfter.{after_command as is_after_command, in_reply as is_in_reply}
+use Rattle.block9.specs.Line.{reply_limit}
+use Rattle.block9.specs.Pairer.IsOpenAfter.{after_command as is_after_command, in_command as is_in_command, in_reply as is_in_reply, nothing as is_nothing}
+use Rattle.block9.proofs.Words.{IsWholeCommand, nat_lt, TellsLate, ◌-◌}
+use Rattle.block9.proofs.CutLemmas.{last_apart}
 use Rattle.block9.proofs.Words.{Deck, early_fault, next_of, to_come, ends_block, grown, last_fed, length_push, OpenBlock, refl, ◌<◌, ◌≢◌}
 use Rattle.block9.proofs.Words.{append-nil, ap, BeginsWith, Block, ◌↔◌, ◌∙◌, ◌+◌, length, length-append, block_len, inl, inr}
 use Rattle.block9.proofs.Words.{[], arith, block_of, bytes_of, Closes, Command, command_of, Controller, Does, Exchange, false, ForSome, IsInside}
 use Rattle.block9.proofs.Words.{IsCommand, IsExchange, IsTailWith, IsTurn, last_time, LineByte, List, nat_tests, None, open_at, Option, Paired, pairing}
 use Rattle.block9.proofs.Words.{place_of, Reason, Refuses, reply_fault, Some, Outcome, sum, sym, tail_after, Takes, true, ℕ, ◌%◌, ◌++◌, ◌∷◌, ◌≡◌, ◌≤◌}
 use Rattle.block9.proofs.LineLemmas.{block_len-append, whole_len, whole_long, whole_parts}
-use Rattle.block9.proofs.TailLemmas.{answered, last_time-append, place_in_command, place_of_command}
+use Rattle.block9.proofs.TailLemmas.{answered, in_reply_of, last_time-append, place_in_command, place_of_command}
 use Rattle.block9.proofs.StandsLemmas.{ends_by_left, stands_after, stands_push}
 use Rattle.block9.proofs.StepLemmas.{begun_now, closes, commands, held_tail, reply_now, tail_short, waits}
 use Rattle.block9.proofs.ReasonLemmas.{reason_broken, table_reason}
@@ -171,16 +174,67 @@ module _ (rules : LineRules) where
   deck_turn : (b : OpenBlock) (first : Bool) → place_at b ≡ place_on Deck first → b.wire ≡ Deck
   deck_turn b first place = grind (arith, nat_tests)
 
+  -- after a complete command
+  complete : (t : List LineByte) (b : OpenBlock) (e : Exchange) → IsInside rules t b e → place_of t ≡ AfterCommand → IsWholeCommand rules t
+  complete t b e h place = by (command_held t b e h (deck_turn b true (h.stands.place ∙ place)))
+    where
+      by : IsTailWith rules t (Some e.command) → IsWholeCommand rules t
+      by (inl (block, is)) = (block, e.command, is)
+      by (inr (reply, is)) = absurd (let inside = (answered rules t reply e.command is).place in cc)
+
+  pub late_told : (t : List LineByte) (b : OpenBlock) (e : Exchange) (r : LineByte) → IsInside rules t b e → place_at b ≡ AfterCommand → r.wire ≡ Deck → (since : ℕ)
+      → since ≡ r.time_us - last_time t → TellsLate rules t r (nat_lt reply_limit since)
+  late_told t b e r h place wire since is = by (nat_lt reply_limit since) refl
+    where
+      by : (late : Bool) → nat_lt reply_limit since ≡ late → TellsLate rules t r late
+      by true late = record { asked = complete t b e h (sym h.stands.place ∙ place); wire = wire; late = grind (arith, nat_tests) }
+      by false soon = λ begins. let late = begins.late in grind (arith, nat_tests)
+
+  pub late_of_view : (was old : Paired) (r : LineByte) → was ≡ old → was.rules ≡ rules → (late : Bool) → TellsLate rules was.tail r late → TellsLate old.rules old.tail r late
+  late_of_view was old r same at late told = rw (← same, at) told
+
+  -- the record that ends a reply begins none
+  pub exchange_not_late : (t : List LineByte) (r : LineByte) (e : Exchange) → IsExchange rules (t ++ r ∷ []) e → ¬ BeginsLate rules t r
+  exchange_not_late t r e h late =
+      let long = whole_long Deck h.answered e.reply h.reply in
+      let apart = last_apart rules t h.asked h.answered r h.split (omega arith) in
+      let some : 0 < length apart.0 = omega (arith, ap length apart.1, length_push apart.0 r) in
+      let inside = (in_reply_of rules h.asked apart.0 t e.block e.command apart.2 h.command some).place in
+      let after = place_of_command rules Controller t late.asked.0 late.asked.2.whole in
+      cc
+
+  -- the command that is open before a late reply
+  abbrev IsAsked : List LineByte → Open → Type 0
+  IsAsked t o = (o.asked ≡ length t) × IsOpenAfter rules t (record { command = o.command; asked = o.asked; answered = 0; wanted = 0; sum = 0 })
+
+  pub open_before_late : (t : List LineByte) (b : Block) (c : Command) (o : Open) → IsCommand rules t b c → IsOpenAfter rules t o → IsAsked t o
+  open_before_late t b c o whole (is_nothing e same) = absurd (let long = whole_long Controller t b whole.whole in omega (arith, ap length e))
+  open_before_late t b c o whole (is_in_command begun same) =
+      absurd (let after = place_of_command rules Controller t b whole.whole in let inside = place_in_command rules Controller t begun in cc)
+  open_before_late t b c o whole (is_after_command block command is same) = rw same (refl, is_after_command block command is refl)
+  open_before_late t b c o whole (is_in_reply command reply block asked split is begun soon same) =
+      absurd (let after = place_of_command rules Controller t b whole.whole in let inside = (in_reply_of rules command reply t block asked split is begun.begun).place in cc)
+
+  pub open_after_late : (t : List LineByte) (r : LineByte) (b : Block) (c : Command) (o : Open) → IsCommand rules t b c → IsOpenAfter rules (t ++ r ∷ []) o → IsAsked t o
+  open_after_late t r b c o whole (is_nothing e same) = absurd (omega (arith, ap length e, length_push t r))
+  open_after_late t r b c o whole (is_in_command begun same) =
+      absurd (let len = whole_len Controller t b whole.whole in let long = whole_long Controller t b whole.whole in let short = begun.short in
+      omega (arith, length_push t r, block_len-append t (r ∷ []) (omega arith)))
+  open_after_late t r b c o whole (is_after_command block command is same) =
+      absurd (let len = whole_len Controller t b whole.whole in let long = whole_long Controller t b whole.whole in let all = whole_len Controller (t ++ r ∷ []) block is.whole in
+      omega (arith, length_push t r, block_len-append t (r ∷ []) (omega arith)))
+  open_after_late t r b c o whole (is_in_reply command reply block asked split is begun soon same) =
+      let first = (whole_parts Controller t command (r ∷ []) reply b block whole.whole is.whole split).0 in
+      rw same (ap length (sym first), is_after_command block asked (rw (sym first) at is) (rw (sym first) refl))
+
   pub is_late_reply : (t : List LineByte) (b : OpenBlock) (e : Exchange) (r : LineByte) → IsInside rules t b e
       → early_fault rules.reply_limit (place_of t) t r ≡ None → true ≡ is_late (place_of t) t r → BeginsLate rules t r
   is_late_reply t b e r h quiet late =
       let place = late_place (place_of t) t r late in
-      by (command_held t b e h (deck_turn b true (h.stands.place ∙ place))) place (rw place at quiet) (rw place at late)
+      by (complete t b e h place) (rw place at quiet) (rw place at late)
     where
-      by : IsTailWith rules t (Some e.command) → place_of t ≡ AfterCommand → early_fault rules.reply_limit AfterCommand t r ≡ None → true ≡ is_late AfterCommand t r
-          → BeginsLate rules t r
-      by (inl (block, is)) place quiet late = record { asked = (block, e.command, is); wire = grind (arith, nat_tests); late = grind (arith, nat_tests) }
-      by (inr (reply, is)) place quiet late = absurd (let inside = (answered rules t reply e.command is).place in cc)
+      by : IsWholeCommand rules t → early_fault rules.reply_limit AfterCommand t r ≡ None → true ≡ is_late AfterCommand t r → BeginsLate rules t r
+      by whole quiet late = record { asked = whole; wire = grind (arith, nat_tests); late = grind (arith, nat_tests) }
 
   -- ---- what a caller is told
 

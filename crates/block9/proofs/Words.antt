@@ -1,7 +1,7 @@
 -- The names from elsewhere that the proofs of this crate cite, passed on from one place. Declares nothing.
 pub use Rattle.block9.specs.Block.{body_of, spelling, Spells}
 pub use Rattle.block9.specs.Command.{command_of, fits, is_reply_time_valid}
-pub use Rattle.block9.specs.Exchange.{BeginsLate, completed_by, Cut, Does, IsCommand, IsExchange, IsInTime, IsKept, IsTail, Outcome, records_in, tail_after}
+pub use Rattle.block9.specs.Exchange.{BeginsLate, completed_by, Cut, Does, IsCommand, IsExchange, IsInTime, IsKept, IsTail, Outcome, records_in, tail_after, TellsLate}
 pub use Rattle.block9.specs.Exchange.Outcome.{answers_late, asks, completes, leaves_open}
 pub use Rattle.block9.specs.Exchange.IsTail.{after_command, in_command, in_reply, nothing}
 pub use Rattle.block9.specs.Line.{block_len, byte_gap, bytes_of, first_time, IsBegun, IsLinked, IsWhole, last_time}
@@ -33,5 +33,5 @@ pub use Rattle.std.proofs.lemmas.Grind.{common_steps}
 pub use Rattle.std.proofs.lemmas.List.{append-nil, append_assoc, drop_at, length-map, length_push, map_push, same_from_push, take-append-le, take_all, take_at, take_more}
 pub use Rattle.std.specs.List.{slice_get, sum}
 pub use Rattle.std.specs.Option.{ForSome, option_or}
-pub use Rattle.std.specs.Prelude.{if◌then◌else◌, nat_le}
+pub use Rattle.std.specs.Prelude.{if◌then◌else◌, nat_le, nat_lt}
 unfoldable pub use Rattle.tc25.specs.Day.{time_of}

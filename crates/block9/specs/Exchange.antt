@@ -1,6 +1,6 @@
 -- Exchanges, tails, and how a list of records is cut into them.
 use Rattle.block9.specs.declared.line_rules.LineRules.{LineRules}
-use Rattle.std.specs.Prelude.{ℕ, ◌+◌, ◌<◌, ◌≤◌, ◌≡◌, true, None, Option, Some, List, [], ◌∷◌, ◌++◌, length}
+use Rattle.std.specs.Prelude.{ℕ, ◌+◌, ◌<◌, ◌≤◌, ◌≡◌, Bool, true, false, None, Option, Some, List, [], ◌∷◌, ◌++◌, length}
 use Rattle.capture9.specs.declared.line_byte.LineByte.{LineByte}
 use Rattle.capture9.specs.declared.line_byte.Wire.TheVariants.{Controller, Deck}
 use Rattle.block9.specs.declared.block.Block.{Block}
@@ -69,6 +69,11 @@ pub record BeginsLate (rules : LineRules) (tail : List LineByte) (r : LineByte) 
   pub asked : (b : Block) × (c : Command) × IsCommand rules tail b c
   pub wire : r.wire ≡ Deck
   pub late : last_time tail + reply_limit < r.time_us
+
+-- whether it does
+abbrev pub TellsLate : LineRules → List LineByte → LineByte → Bool → Type 0
+TellsLate rules tail r true = BeginsLate rules tail r
+TellsLate rules tail r false = ¬ BeginsLate rules tail r
 
 -- what a record does that keeps the rules: it begins a block or goes on with one, it begins a late reply where the reply limit is left aside, it ends a
 -- command, or it ends a reply and so completes this exchange

@@ -17,7 +17,7 @@ pub struct Exchange {
     /// The time of the command's first record, in microseconds.
     pub time_us: u64,
     /// The time from the command's last record to the reply's first one, in microseconds: at most
-    /// [`crate::REPLY_LIMIT_US`].
+    /// [`crate::REPLY_LIMIT_US`] where the reply limit counts.
     pub delay_us: u64,
 }
 

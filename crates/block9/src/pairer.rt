@@ -10,6 +10,7 @@ ghost use Rattle.block9.specs.Working.Body.{block_of};
 ghost use Rattle.block9.specs.Working.Inside.{Closes, IsInside, IsOf, IsTurn, to_come};
 ghost use Rattle.block9.specs.Working.Table.{ends_block, open_at, pairing, place_of, reply_fault};
 
+use crate::REPLY_LIMIT_US;
 use crate::command::Command;
 use crate::exchange::Exchange;
 use crate::line::{block_len, last_time};
@@ -77,7 +78,7 @@ pub enum Step {
 impl Pairer {
     ghost use Rattle.std.specs.Prelude.{◌≡◌, ◌≤◌, ◌↔◌, length, option_map, None, Some, [], IfOk, IfErr};
     ghost use Rattle.std.specs.Option.{ForSome};
-    ghost use Rattle.block9.specs.Exchange.{Outcome, step_of};
+    ghost use Rattle.block9.specs.Exchange.{Outcome, TellsLate, step_of};
     ghost use Rattle.block9.specs.Pairer.{BeginsWith, IsOpenAfter, Takes, Refuses};
 
     /// A pairer that was fed nothing, and judges records by these rules: it has no tail, no last time, no reason and no exchange.
@@ -174,6 +175,22 @@ impl Pairer {
         self.tail.as_slice()
     }
 
+    /// Whether a record begins the reply to a complete command after the reply limit, of the records that this pairer has open and
+    /// this one. It is to be asked of the record that was just refused: it may begin late and break a rule besides.
+    pub fn begins_late(&self, line_byte: LineByte) -> bool
+        ensures { TellsLate self.now.rules self.now.tail line_byte result }
+    {
+        match (self.block.place(), line_byte.wire) {
+            (Place::AfterCommand, Wire::Deck) => {
+                let since = line_byte
+                    .time_us
+                    .saturating_sub(last_time(self.tail.as_slice()));
+                since > REPLY_LIMIT_US
+            }
+            _ => false,
+        }
+    }
+
     /// What the command means with which the tail begins, once that is complete. After a reason it is that of the tail before
     /// the record which broke the rule.
     pub fn open_command(&self) -> Option<Command>
@@ -236,7 +253,8 @@ impl Pairer {
         }
     }
 
-    /// The exchange that the last record completed, where it did: this asks nothing, so it costs nothing.
+    /// The exchange that the last record completed: to be asked right after `feed` answered [`Step::Exchange`]. This asks nothing, so
+    /// it costs nothing.
     #[inline(always)]
     pub fn completed_exchange(&self) -> &Exchange
         requires { (e : AnExchange) × (self.now.exchange ≡ Some e) }

@@ -1,5 +1,5 @@
 -- A cut that gets one record more.
-use Rattle.judge9.proofs.Words.{LineRules, [], append-nil, arith, Cut, cut_joined, Does, Exchange, inl, inr, IsExchange, IsKept, IsTail, last_apart, LineByte, List, refl, Outcome}
+use Rattle.judge9.proofs.Words.{exchanges_after, LineRules, [], append-nil, arith, Cut, cut_joined, Does, Exchange, inl, inr, IsExchange, IsKept, IsTail, last_apart, LineByte, List, refl, Outcome}
 use Rattle.judge9.proofs.Words.{still_tail, subst, sym, tail_after, tail_no_exchange, ◌++◌, ◌∙◌, ◌∷◌, ◌⊎◌}
 
 -- a tail that grows
@@ -12,13 +12,7 @@ pub cut-exchange : (rules : LineRules) (p : List LineByte) (es : List Exchange) 
     → Cut rules (p ++ r ∷ []) (es ++ e ∷ []) []
 cut-exchange rules p es t r e h more = cut_joined rules p es (e ∷ []) t (r ∷ []) [] h (t ++ r ∷ [], [], sym (append-nil (t ++ r ∷ [])), more, (refl, IsTail.nothing refl))
 
--- the exchanges after a step
-abbrev pub exchanges_after : List Exchange → Outcome → List Exchange
-exchanges_after es Outcome.leaves_open = es
-exchanges_after es Outcome.answers_late = es
-exchanges_after es Outcome.asks = es
-exchanges_after es (Outcome.completes e) = es ++ e ∷ []
-
+-- what a record does
 pub cut-step : (rules : LineRules) (p : List LineByte) (es : List Exchange) (t : List LineByte) (r : LineByte) (s : Outcome) → Cut rules p es t → Does rules t r s
     → Cut rules (p ++ r ∷ []) (exchanges_after es s) (tail_after t r s)
 cut-step rules p es t r (Outcome.completes e) h done = cut-exchange rules p es t r e h done

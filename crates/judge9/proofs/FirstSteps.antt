@@ -1,64 +1,84 @@
 -- The first part of a capture, where its judging ends with it.
-use Rattle.judge9.proofs.Words.{Terms, line_rules, counting, [], ap, append_assoc, arith, Break, BreaksAtLast, ComesTo, Completes, Cut, Err, Exchange, GoesThrough, Appends-nil, HasItsWhy, inl, inr, IsFresh, IsJudgedFirst, IsLogOf, IsRun, IsSame, JudgesWhy, SaysWhy, WhyVerdict, ◌+◌}
+use Rattle.judge9.proofs.Words.{TellsNot, Terms, line_rules, counting, [], ap, append_assoc, arith, Break, BreaksAtLast, ComesTo, Cut, Err, Exchange, Appends-nil, HasItsWhy, inl, inr, IsFresh, IsJudgedFirst, IsLogOf, IsRun, IsSame, JudgesWhy, SaysWhy, WhyVerdict, ◌+◌}
 use Rattle.judge9.proofs.Words.{JudgeError, Judges, JudgesRun, Judging, KeepsEnds, length, line_of, LineByte, List, None, Ok, Option, PartLog, Possible, Profile, Puts, Reason, refl, Result, Rows, RunVerdict, some_end, Some, subst, sym}
-use Rattle.judge9.proofs.Words.{Spoils, State, Turn, Turned, turn_of, Verdict, verdict_at, View, ℕ, ⊤, ◌++◌, ◌∙◌, ◌∷◌, ◌≡◌, ◌≢◌}
+use Rattle.judge9.proofs.Words.{Spoils, State, Turn, turn_of, Verdict, verdict_at, View, ℕ, ⊤, ◌++◌, ◌∙◌, ◌∷◌, ◌≡◌, ◌≢◌}
 use Rattle.std.specs.Global.{Global}
 use Rattle.std.specs.Prelude.{Vec}
 use Rattle.verdict9.specs.Telling.{view_of}
 use Rattle.verdict9.specs.declared.verdict.Telling.TheVariants.{the_data as Telling}
 use Rattle.judge9.proofs.LawLemmas.{pairing_reason}
 use Rattle.judge9.proofs.PartTurns.{arrive, AtTurn, next_stop, through, told_of}
-use Rattle.judge9.proofs.SoFar.{so_far-start, SoFar}
-use Rattle.judge9.proofs.TellLemmas.{break_given, breaks, judges-end, judges-explained, judges-memory, judges-no, judges-stopped, none_observed}
+use Rattle.judge9.proofs.SoFar.{so_far-start}
+use Rattle.judge9.proofs.TellLemmas.{break_given, breaks, judges-end, judges-explained, judges-late, judges-memory, judges-no, judges-stopped, none_observed, stopped_unwritten}
 use Rattle.judge9.proofs.TurnSteps.{comes}
 use Rattle.judge9.proofs.WhySteps.{why_is}
 
 -- a turn in it, whatever holds of what comes after
-abbrev pub AtFirst : {R : Type 0} → View → Profile → Option Rows → Turn → Judging R → Option (List ℕ) → Option (List ℕ) → List Exchange → Option ℕ → Type 0
-AtFirst view profile rows turn k old new es end_us = AtTurn (λ items. ⊤) view (counting profile) rows [] turn k old new es end_us
+abbrev pub AtFirst : {R : Type 0} → Telling → Profile → Option Rows → Turn → Judging R → Option (List ℕ) → Option (List ℕ) → List Exchange → ℕ → Option ℕ → Type 0
+AtFirst telling profile rows turn k old new es late end_us = AtTurn (λ items. ⊤) telling (counting profile) rows [] turn k old new es late end_us
 
-first_turn : {R : Type 0} (view : View) (profile : Profile) (old : Option (List ℕ)) {j mid : Judging R} {first : Turn} → IsFresh (counting profile) j → ComesTo j (Ok first) mid
-    → AtFirst view profile j.rows.rows first mid old old [] None
-first_turn view profile old fresh come = arrive (λ items. ⊤) None (so_far-start fresh) (λ more. tt) (λ nil. refl) come
+first_turn : {R : Type 0} (telling : Telling) (profile : Profile) (old : Option (List ℕ)) {j mid : Judging R} {first : Turn} → IsFresh (counting profile) j → ComesTo j (Ok first) mid
+    → AtFirst telling profile j.rows.rows first mid old old [] 0 None
+first_turn telling profile old fresh come = arrive (λ items. ⊤) None (so_far-start fresh) (λ more. tt) (λ nil. refl) come
 
 -- what ends it
 pub first_end : {R : Type 0} (telling : Telling) (profile : Profile) (old new : Option (List ℕ)) (j k : Judging R) (end : Option Break) (log : PartLog) → IsFresh (counting profile) j
     → IsJudgedFirst telling profile j old (Ok end) k log new
-    → (es : List Exchange) × (end_us : Option ℕ) × AtFirst (view_of telling) profile j.rows.rows (turn_of end) k old new es end_us × IsLogOf telling es end_us log
+    → (es : List Exchange) × (late : ℕ) × (end_us : Option ℕ) × AtFirst telling profile j.rows.rows (turn_of end) k old new es late end_us × IsLogOf telling es late end_us log
 first_end telling profile old new j k end log fresh (inl (x, is, come, same)) = absurd (cc is)
-first_end telling profile old new j k end log fresh (inr (first, mid, come, (n, es, end_us, goes, logged))) =
-    (es, end_us, through (first_turn (view_of telling) profile old fresh come) n es end_us (turn_of end) k new goes, logged)
+first_end telling profile old new j k end log fresh (inr (first, mid, come, (n, es, late, end_us, goes, logged))) =
+    (es, late, end_us, through (first_turn telling profile old fresh come) n es late end_us (turn_of end) k new goes, logged)
+
+-- a turn that was not told
+first_untold : {R : Type 0} {telling : Telling} {profile : Profile} {rows : Option Rows} {j : Judging R} {old now new : Option (List ℕ)} {es : List Exchange} {late : ℕ}
+    {us : Option ℕ} (at : Turn) (x : JudgeError) → AtFirst telling profile rows at j old now es late us → TellsNot telling profile j at x now new
+    → Judges (view_of telling) profile rows (Err x) old new
+first_untold Turn.Exchange x h (e, tells, unwritten) = judges-explained h.so_far x h.turned (told_of h.turned tells).1
+first_untold (Turn.Late r) x h tells = judges-late h.so_far h.turned
+first_untold at x h tells = absurd tells
 
 -- or the judging stopped
 pub first_stop : {R : Type 0} (telling : Telling) (profile : Profile) (old new : Option (List ℕ)) (j k : Judging R) (x : JudgeError) (log : PartLog) → IsFresh (counting profile) j
     → IsJudgedFirst telling profile j old (Err x) k log new → Judges (view_of telling) profile j.rows.rows (Err x) old new
 first_stop telling profile old new j k x log fresh (inl (y, is, come, same)) =
     let is_y : x ≡ y = cc in
-    rw (same, is_y) (comes (so_far-start fresh) come (λ front h t. judges-stopped h k y t))
-first_stop telling profile old new j k x log fresh (inr (first, mid, come, (n, es, us, at, now, goes, e, inl (same, tells)))) =
-    let turn = through (first_turn (view_of telling) profile old fresh come) n es us Turn.Exchange at now goes in
-    judges-explained turn.so_far x turn.turned (told_of turn.turned tells).1
-first_stop telling profile old new j k x log fresh (inr (first, mid, come, (n, es, us, at, now, goes, e, inr (tells, stopped)))) =
-    let turn = through (first_turn (view_of telling) profile old fresh come) n es us Turn.Exchange at now goes in
-    next_stop turn tells stopped (λ fs front f on t. judges-stopped f k x t)
+    rw (same, is_y) (comes (so_far-start {telling = telling} fresh) come (λ front h t. judges-stopped h k y t))
+first_stop telling profile old new j k x log fresh (inr (first, mid, come, (n, before, lates, us, at, last, now, goes, inl (same, tells)))) =
+    first_untold at x (through (first_turn telling profile old fresh come) n before lates us at last now goes) tells
+first_stop telling profile old new j k x log fresh (inr (first, mid, come, (n, before, lates, us, at, last, now, goes, inr (es, late, end_us, tells, stopped)))) =
+    next_stop es late end_us new (through (first_turn telling profile old fresh come) n before lates us at last now goes) tells stopped (λ front f on t. judges-stopped f k x t)
 
-module _ {R : Type 0} {view : View} {profile : Profile} {rows : Option Rows} {k : Judging R} {old now : Option (List ℕ)} {es : List Exchange} {end_us : Option ℕ} where
+-- which writes nothing, where nothing is shown
+pub first_unwritten : {R : Type 0} (profile : Profile) (old new : Option (List ℕ)) (j k : Judging R) (x : JudgeError) (log : PartLog) → IsFresh (counting profile) j
+    → IsJudgedFirst Telling.Why profile j old (Err x) k log new → x ≢ JudgeError.Write
+first_unwritten profile old new j k x log fresh (inl (y, is, come, same)) = let is_y : x ≡ y = cc in rw is_y (stopped_unwritten y come)
+first_unwritten profile old new j k x log fresh (inr (first, mid, come, (n, before, lates, us, at, last, now, goes, inl (same, tells)))) =
+    by at (through (first_turn Telling.Why profile old fresh come) n before lates us at last now goes) tells
+  where
+    by : (at : Turn) → AtFirst Telling.Why profile j.rows.rows at last old now before lates us → TellsNot Telling.Why profile last at x now new → x ≢ JudgeError.Write
+    by Turn.Exchange h (e, tells, unwritten) = unwritten refl
+    by (Turn.Late r) h tells = judges-late h.so_far h.turned
+    by at h tells = absurd tells
+first_unwritten profile old new j k x log fresh (inr (first, mid, come, (n, before, lates, us, at, last, now, goes, inr (es, late, end_us, tells, stopped)))) =
+    stopped_unwritten x stopped
+
+module _ {R : Type 0} {telling : Telling} {profile : Profile} {rows : Option Rows} {k : Judging R} {old now : Option (List ℕ)} {es : List Exchange} {late : ℕ} {end_us : Option ℕ} where
   -- the verdict, told
-  pub judges-at : {n : ℕ} {new : Option (List ℕ)} (end : Option Break) (r : Result Verdict JudgeError) → AtFirst view profile rows (turn_of end) k old now es end_us
-      → n ≡ length es → IsSame (verdict_at k n end) r → Puts (line_of (verdict_at k n end)) r now new → Judges view profile rows r old new
+  pub judges-at : {n : ℕ} {new : Option (List ℕ)} (end : Option Break) (r : Result Verdict JudgeError) → AtFirst telling profile rows (turn_of end) k old now es late end_us
+      → n ≡ length es → IsSame (verdict_at k n end) r → Puts (line_of (verdict_at k n end)) r now new → Judges (view_of telling) profile rows r old new
   judges-at None r h count same puts = (judges-end h.so_far r h.turned count same puts).0
   judges-at (Some b) r h count same puts = (judges-no h.so_far r (break_given h.turned) (breaks h.so_far h.turned) same puts).0
 
   -- at the end the tracker keeps the states in which the runs end
-  pub keeps_at_end : AtFirst view profile rows Turn.End k old now es end_us → KeepsEnds profile es k.follower.tracker × (s : State) × Possible k.follower.tracker.states s
+  pub keeps_at_end : AtFirst telling profile rows Turn.End k old now es late end_us → KeepsEnds profile es k.follower.tracker × (s : State) × Possible k.follower.tracker.states s
   keeps_at_end h =
       let last = (some_end profile es).1 h.so_far.run in
       let follows : KeepsEnds profile es k.follower.tracker = rw h.turned.same_follower h.so_far.follows in
       (follows, last.0, (follows.states last.0).1 last.1)
 
 -- where no run remains the exchanges have one without the last alone
-pub loses_its_runs : {R : Type 0} {Q : List LineByte → Type 0} {view : View} {terms : Terms} {rows : Option Rows} {past : List LineByte} {k : Judging R}
-    {old now : Option (List ℕ)} {es : List Exchange} {end_us : Option ℕ} {b : Break} → AtTurn Q view terms rows past (Turn.Break b) k old now es end_us
+pub loses_its_runs : {R : Type 0} {Q : List LineByte → Type 0} {telling : Telling} {terms : Terms} {rows : Option Rows} {past : List LineByte} {k : Judging R}
+    {old now : Option (List ℕ)} {es : List Exchange} {late : ℕ} {end_us : Option ℕ} {b : Break} → AtTurn Q telling terms rows past (Turn.Break b) k old now es late end_us
     → b.reason ≡ Reason.NoRun → (e : Exchange) × (k.follower.pairer.exchange ≡ Some e) × BreaksAtLast terms.profile (es ++ e ∷ [])
 loses_its_runs {terms = terms} {k = k} {es = es} {b = b} h no_run = by h.turned.1.took.1
   where
@@ -71,8 +91,8 @@ loses_its_runs {terms = terms} {k = k} {es = es} {b = b} h no_run = by h.turned.
 -- ---- a yes with its run, and a no with its why
 
 -- no row is left, and these states are those of a run
-pub run_found : {R : Type 0} {profile : Profile} {rows : Option Rows} {k : Judging R} {es : List Exchange} {end_us : Option ℕ}
-    (h : AtFirst View.Verdict profile rows Turn.End k None None es end_us) (exchanges : Vec Exchange Global) (states : Vec State Global) → exchanges.items ≡ es
+pub run_found : {R : Type 0} {profile : Profile} {rows : Option Rows} {k : Judging R} {es : List Exchange} {late : ℕ} {end_us : Option ℕ}
+    (h : AtFirst Telling.Why profile rows Turn.End k None None es late end_us) (exchanges : Vec Exchange Global) (states : Vec State Global) → exchanges.items ≡ es
     → IsRun profile es states.items
     → JudgesRun profile rows (Ok (RunVerdict.Yes k.rows.given (length k.follower.pairer.tail) exchanges states))
 run_found {profile = profile} {k = k} h exchanges states same run =
@@ -81,8 +101,8 @@ run_found {profile = profile} {k = k} h exchanges states same run =
     record { judges = both.0; run = ((h.front.follower.pairer.tail, cut), rw same run); no_write = λ q. cc }
 
 -- or a record breaks a rule
-pub run_missing : {R : Type 0} {profile : Profile} {rows : Option Rows} {k : Judging R} {es : List Exchange} {end_us : Option ℕ} {b : Break}
-    → AtFirst View.Verdict profile rows (Turn.Break b) k None None es end_us → JudgesRun profile rows (Ok (RunVerdict.No k.rows.given b.reason))
+pub run_missing : {R : Type 0} {profile : Profile} {rows : Option Rows} {k : Judging R} {es : List Exchange} {late : ℕ} {end_us : Option ℕ} {b : Break}
+    → AtFirst Telling.Why profile rows (Turn.Break b) k None None es late end_us → JudgesRun profile rows (Ok (RunVerdict.No k.rows.given b.reason))
 run_missing {k = k} {b = b} h =
     let both = judges-no h.so_far {new = None} (Ok (Verdict.No k.rows.given b.reason)) (break_given h.turned) (breaks h.so_far h.turned) refl tt in
     record { judges = both.0; run = tt; no_write = λ q. cc }
@@ -96,19 +116,14 @@ pub no_why_verdict : {profile : Profile} {rows : Option Rows} (x : JudgeError) �
     → (let r : Result WhyVerdict JudgeError = Err x in r) ≢ Err JudgeError.Write → JudgesWhy profile rows (Err x)
 no_why_verdict x judges other = record { judges = judges; why = tt; no_write = other }
 
--- with the same error of another result
-pub not_written : {A B : Type 0} (x : JudgeError) → (let r : Result A JudgeError = Err x in r) ≢ Err JudgeError.Write
-    → (let r : Result B JudgeError = Err x in r) ≢ Err JudgeError.Write
-not_written x other q = other (ap Err (let same : x ≡ JudgeError.Write = cc in same))
-
 -- memory was refused after it
-pub first_memory : {R : Type 0} {view : View} {profile : Profile} {rows : Option Rows} {turn : Turn} {k : Judging R} {old now : Option (List ℕ)} {es : List Exchange}
-    {end_us : Option ℕ} → AtFirst view profile rows turn k old now es end_us → Judges view profile rows (Err JudgeError.OutOfMemory) old now
+pub first_memory : {R : Type 0} {telling : Telling} {profile : Profile} {rows : Option Rows} {turn : Turn} {k : Judging R} {old now : Option (List ℕ)} {es : List Exchange} {late : ℕ}
+    {end_us : Option ℕ} → AtFirst telling profile rows turn k old now es late end_us → Judges (view_of telling) profile rows (Err JudgeError.OutOfMemory) old now
 first_memory {now = now} h = judges-memory h.so_far (Appends-nil now)
 
 -- why a record breaks a rule
-pub why_found : {R : Type 0} {profile : Profile} {rows : Option Rows} {k : Judging R} {es : List Exchange} {end_us : Option ℕ} {b : Break} (why : WhyVerdict)
-    → AtFirst View.Verdict profile rows (Turn.Break b) k None None es end_us → SaysWhy profile k.rows.given b k.follower.pairer es end_us why
+pub why_found : {R : Type 0} {profile : Profile} {rows : Option Rows} {k : Judging R} {es : List Exchange} {late : ℕ} {end_us : Option ℕ} {b : Break} (why : WhyVerdict)
+    → AtFirst Telling.Why profile rows (Turn.Break b) k None None es late end_us → SaysWhy profile k.rows.given b k.follower.pairer es end_us why
     → JudgesWhy profile rows (Ok why)
 why_found {profile = profile} {rows = rows} {k = k} {b = b} why h says =
     let f = h.so_far in
@@ -121,14 +136,14 @@ why_found {profile = profile} {rows = rows} {k = k} {b = b} why h says =
     record { judges = all.0; why = all.1; no_write = λ q. cc }
 
 -- by what was kept
-pub why_logged : {R : Type 0} {profile : Profile} {rows : Option Rows} {k : Judging R} {es : List Exchange} {end_us : Option ℕ} {b : Break} (why : WhyVerdict)
-    (log : PartLog) → AtFirst View.Verdict profile rows (Turn.Break b) k None None es end_us → IsLogOf Telling.Why es end_us log
+pub why_logged : {R : Type 0} {profile : Profile} {rows : Option Rows} {k : Judging R} {es : List Exchange} {late : ℕ} {end_us : Option ℕ} {b : Break} (why : WhyVerdict)
+    (log : PartLog) → AtFirst Telling.Why profile rows (Turn.Break b) k None None es late end_us → IsLogOf Telling.Why es late end_us log
     → SaysWhy profile k.rows.given b k.follower.pairer log.kept.items log.end_us why → JudgesWhy profile rows (Ok why)
 why_logged why log h logged says = let kept = logged.kept refl in why_found why h (rw (kept.0, kept.1) at says)
 
 -- or none does
-pub why_missing : {R : Type 0} {profile : Profile} {rows : Option Rows} {k : Judging R} {es : List Exchange} {end_us : Option ℕ} (n : ℕ)
-    → AtFirst View.Verdict profile rows Turn.End k None None es end_us → n ≡ length es
+pub why_missing : {R : Type 0} {profile : Profile} {rows : Option Rows} {k : Judging R} {es : List Exchange} {late : ℕ} {end_us : Option ℕ} (n : ℕ)
+    → AtFirst Telling.Why profile rows Turn.End k None None es late end_us → n ≡ length es
     → JudgesWhy profile rows (Ok (WhyVerdict.Yes k.rows.given n (length k.follower.pairer.tail)))
 why_missing {k = k} n h count =
     let both = judges-end h.so_far {new = None} (Ok (Verdict.Yes k.rows.given n (length k.follower.pairer.tail))) h.turned count refl tt in

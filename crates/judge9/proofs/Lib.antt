@@ -1,4 +1,7 @@
+pub mod CountingSteps
 pub mod CutSteps
+pub mod EventSteps
+pub mod FirstBreak
 pub mod FirstSteps
 pub mod LawLemmas
 pub mod LineSteps

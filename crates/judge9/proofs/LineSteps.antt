@@ -1,7 +1,7 @@
 -- The lines of one exchange more.
 use Rattle.judge9.proofs.Words.{LineRules, records_in, [], ap, append-nil, append_assoc, append_known, Appends, Appends-trans, AreLines, arith, Cut, Ends, Exchange, KeepsEnds, Profile, IsExchange}
 use Rattle.judge9.proofs.Words.{IsExplained, IsKnowledge, IsLineOf, Knowledge, knowledge_same, length, length-append, length-map, line_of_exchange}
-use Rattle.judge9.proofs.Words.{LineByte, List, None, Option, Possible, records_of, refl, Some, subst, sym, Tracked, View, ℕ, ◌++◌, ◌+◌, ◌↔◌, ◌∙◌, ◌∷◌, ◌≡◌}
+use Rattle.judge9.proofs.Words.{LineByte, List, None, Option, Possible, records_of, refl, Some, subst, sym, Tracked, View, ℕ, ◌++◌, ◌+◌, ◌∙◌, ◌∷◌, ◌≡◌}
 
 -- ---- how many records exchanges have
 

@@ -1,10 +1,12 @@
 -- What comes before a part, and after a break: where the next part begins, and how far there is to go.
-use Rattle.judge9.proofs.Words.{line_rules, in_parts, [], ap, append-nil, append_assoc, Appends, AppendsPart, AreParts, AreTextsOf, arith, begins_next_part, BeginsAt, Bool, Break, Breaks, BrokenPart}
+use Rattle.judge9.proofs.Words.{events_of, events_in, TellsLate, line_rules, in_parts, [], ap, append-nil, append_assoc, Appends, AppendsPart, AreParts, AreTextsOf, arith, begins_next_part, BeginsAt, Bool, Break, Breaks, BrokenPart}
 use Rattle.judge9.proofs.Words.{CaptureError, Comes, ComesTo, Err, Exchange, exchanges_of, false, Follower, GivesAll, GivesEnd, GivesRecord, GivesRefusal, KnowsNothing, Profile, inl, inr, JudgeError}
 use Rattle.judge9.proofs.Words.{JudgesParts, Judging, last_of, length, length-append, length_push, LineByte, List, may_begin, NoneBegins, None, Ok}
-use Rattle.judge9.proofs.Words.{Option, Progress, Reason, records_in, refl, refusal_of, Rest, rest_after, Result, Resumes, ResumesAfter, Rows, Some, subst, sym}
-use Rattle.judge9.proofs.Words.{Appends-trans, TakesUp, true, Turn, Turned, View, ℕ, ◌++◌, ◌+◌, ◌∙◌, ◌∷◌, ◌≡◌, ◌≤◌, ◌⊎◌}
+use Rattle.judge9.proofs.Words.{Option, Progress, records_in, refl, refusal_of, Rest, rest_after, Result, Resumes, ResumesAfter, Rows, Some, subst, sym}
+use Rattle.judge9.proofs.Words.{Appends-trans, TakesUp, true, Turn, Turned, ℕ, ◌++◌, ◌+◌, ◌∙◌, ◌∷◌, ◌≡◌, ◌≤◌, ◌⊎◌}
+use Rattle.verdict9.specs.declared.verdict.Telling.TheVariants.{the_data as Telling}
 use Rattle.std.specs.Bool.{MatchBool}
+use Rattle.judge9.proofs.EventSteps.{texts_push}
 use Rattle.judge9.proofs.LineSteps.{cut_len}
 use Rattle.judge9.proofs.LogSteps.{records_joined}
 use Rattle.judge9.proofs.PartLemmas.{Onward, parts-memory, parts-refusal, parts-write}
@@ -12,7 +14,6 @@ use Rattle.judge9.proofs.PartSteps.{AreRead, passed_all, passed_to, read_all, re
 use Rattle.judge9.proofs.PartTurns.{Ahead, arrive, AtTurn, came, HoldsOn, holds-more}
 use Rattle.judge9.proofs.SoFar.{Keeps, keeps-none, Seen, seen, seen_now, seen_on, so_far-begin, so_far-open, so_far-open_items, SoFar}
 use Rattle.judge9.proofs.TellLemmas.{cut_counts}
-use Rattle.judge9.proofs.TurnSteps.{turned_by}
 
 -- ---- before a part
 
@@ -25,11 +26,11 @@ pub record Before (T : BrokenPart → List ℕ → Type 0) (broken : List Broken
   pub fits : records_in (exchanges_of broken) ≤ length past
 
 -- a turn came with which the next part begins, or the judging stopped
-abbrev pub Arrives : {R : Type 0} → (BrokenPart → List ℕ → Type 0) → View → Profile → Option Rows → Option (List ℕ) → Option (List ℕ) → List BrokenPart
+abbrev pub Arrives : {R : Type 0} → (BrokenPart → List ℕ → Type 0) → Telling → Profile → Option Rows → Option (List ℕ) → Option (List ℕ) → List BrokenPart
     → Result Turn JudgeError → Judging R → Type 0
-Arrives T view profile rows old now broken (Ok turn) k =
-    (past : List LineByte) × Before T broken past old now × AtTurn (Onward profile broken past) view (in_parts profile) rows past turn k now now [] None
-Arrives T view profile rows old now broken (Err x) k = JudgesParts T view profile rows (Err x) old now
+Arrives T telling profile rows old now broken (Ok turn) k =
+    (past : List LineByte) × Before T broken past old now × AtTurn (Onward profile broken past) telling (in_parts profile) rows past turn k now now [] 0 None
+Arrives T telling profile rows old now broken (Err x) k = JudgesParts T telling profile rows (Err x) old now
 
 -- what was written, with that of this part
 pub wrote_all : {T : BrokenPart → List ℕ → Type 0} {broken : List BrokenPart} {past : List LineByte} {old begun : Option (List ℕ)}
@@ -38,10 +39,10 @@ pub wrote_all : {T : BrokenPart → List ℕ → Type 0} {broken : List BrokenPa
 wrote_all {old = old} {begun = begun} before new text wrote = Appends-trans old begun new before.texts text before.wrote wrote
 
 -- the judging stopped at its rows
-pub part_stops : {R : Type 0} {T : BrokenPart → List ℕ → Type 0} {view : View} {profile : Profile} {rows : Option Rows} {old begun now : Option (List ℕ)}
-    {broken : List BrokenPart} {past : List LineByte} {es : List Exchange} {front : Judging R} (k : Judging R) (before : Before T broken past old begun) (x : JudgeError)
-    (f : SoFar view (in_parts profile) rows past front begun now es) → HoldsOn (Onward profile broken past) f.items → Turned front (Err x) k
-    → JudgesParts T view profile rows (Err x) old now
+pub part_stops : {R : Type 0} {T : BrokenPart → List ℕ → Type 0} {telling : Telling} {profile : Profile} {rows : Option Rows} {old begun now : Option (List ℕ)}
+    {broken : List BrokenPart} {past : List LineByte} {es : List Exchange} {late : ℕ} {front : Judging R} (k : Judging R) (before : Before T broken past old begun) (x : JudgeError)
+    (f : SoFar telling (in_parts profile) rows past front begun now es late) → HoldsOn (Onward profile broken past) f.items → Turned front (Err x) k
+    → JudgesParts T telling profile rows (Err x) old now
 part_stops {now = now} {broken = broken} {past = past} {front = front} k before x f all (inl memory) =
     rw memory (parts-memory broken before.texts before.are_texts f.keeps {left = front.rows.rows} [] (all []) (rw append-nil (seen_now f))
     (wrote_all before now f.text f.wrote))
@@ -56,12 +57,12 @@ first_ahead j k Q first Turn.End comes on = absurd comes.took
 first_ahead j k Q first turn comes on = ((first, comes), on)
 
 -- the first record of a part comes
-arrive_first : {R : Type 0} (view : View) {T : BrokenPart → List ℕ → Type 0} {profile : Profile} {rows : Option Rows} {old now : Option (List ℕ)}
+arrive_first : {R : Type 0} (telling : Telling) {T : BrokenPart → List ℕ → Type 0} {profile : Profile} {rows : Option Rows} {old now : Option (List ℕ)}
     {broken : List BrokenPart} {past : List LineByte} {before_rows : Progress R} {follower : Follower} {k : Judging R} {first : LineByte} {r : Result Turn JudgeError}
     → Before T broken past old now → KnowsNothing (in_parts profile) follower → AreRead rows past before_rows
     → ((more : List LineByte) → Onward profile broken past (first ∷ more)) → BeginsAt (record { rows = before_rows; follower = follower }) first r k
-    → Arrives T view profile rows old now broken r k
-arrive_first {R = R} view {T = T} {profile = profile} {rows = rows} {old = old} {now = now} {broken = broken} {past = past} {before_rows = before_rows} {follower = follower} {k = k} {first = first} {r = r}
+    → Arrives T telling profile rows old now broken r k
+arrive_first {R = R} telling {T = T} {profile = profile} {rows = rows} {old = old} {now = now} {broken = broken} {past = past} {before_rows = before_rows} {follower = follower} {k = k} {first = first} {r = r}
     before knows read on with_first = by (so_far-begin knows read.is_reading read.read read.are_given) refl with_first
   where
     j : Judging R
@@ -70,7 +71,7 @@ arrive_first {R = R} view {T = T} {profile = profile} {rows = rows} {old = old} 
     Q : List LineByte → Type 0
     Q = Onward profile broken past
 
-    by : (h : SoFar view (in_parts profile) rows past j now now []) → h.items ≡ [] → BeginsAt j first r k → Arrives T view profile rows old now broken r k
+    by : (h : SoFar telling (in_parts profile) rows past j now now [] 0) → h.items ≡ [] → BeginsAt j first r k → Arrives T telling profile rows old now broken r k
     by h nil (inl (is, gives)) =
         rw is (parts-memory broken before.texts before.are_texts h.keeps {left = k.rows.rows} (first ∷ []) (rw nil (on [])) (seen_on h gives)
         (wrote_all before now h.text h.wrote))
@@ -82,15 +83,15 @@ arrive_first {R = R} view {T = T} {profile = profile} {rows = rows} {old = old} 
         let all : HoldsOn Q f.items = subst (HoldsOn Q) (sym (so_far-open_items h comes ∙ ap (λ l. l ++ first ∷ []) nil)) (holds-more Q [] first on) in
         on_result r f all come
       where
-        on_result : (result : Result Turn JudgeError) → (f : SoFar view (in_parts profile) rows past mid now now []) → HoldsOn Q f.items → ComesTo mid result k
-            → Arrives T view profile rows old now broken result k
+        on_result : (result : Result Turn JudgeError) → (f : SoFar telling (in_parts profile) rows past mid now now [] 0) → HoldsOn Q f.items → ComesTo mid result k
+            → Arrives T telling profile rows old now broken result k
         on_result (Ok turn) f all come = (past, before, arrive Q None f all (λ none. refl) come)
         on_result (Err x) f all come = came Q None f all (λ none. refl) come (λ front g kept ended t. part_stops k before x g kept t)
 
 -- ---- after the line of a break
 
 -- a record broke a rule, the last one that was read, and these are the texts of the parts up to that break
-pub record AfterBreak {R : Type 0} (T : BrokenPart → List ℕ → Type 0) (view : View) (profile : Profile) (rows : Option Rows) (j : Judging R) (b : Break)
+pub record AfterBreak {R : Type 0} (T : BrokenPart → List ℕ → Type 0) (telling : Telling) (profile : Profile) (rows : Option Rows) (j : Judging R) (b : Break)
     (broken : List BrokenPart) (texts : List ℕ) : Type 0 where
   pub items : List LineByte
   pub front : Progress R
@@ -108,30 +109,30 @@ exchanges_push [] b = append-nil b.part.exchanges
 exchanges_push (x ∷ broken) b = ap (λ l. x.part.exchanges ++ l) (exchanges_push broken b)
     ∙ sym (append_assoc x.part.exchanges (exchanges_of broken) b.part.exchanges)
 
-texts_push : (T : BrokenPart → List ℕ → Type 0) (broken : List BrokenPart) (b : BrokenPart) (texts text : List ℕ) → AreTextsOf T broken texts
-    → T b text → AreTextsOf T (broken ++ b ∷ []) (texts ++ text)
-texts_push T [] b texts text are is = (text, [], is, refl, rw are (sym (append-nil text)))
-texts_push T (x ∷ broken) b texts text are is =
-    (are.0, are.1 ++ text, are.2, texts_push T broken b are.1 text are.3 is, ap (λ t. t ++ text) are.4 ∙ append_assoc are.0 are.1 text)
+pub events_push : (broken : List BrokenPart) (b : BrokenPart) → events_of (broken ++ b ∷ []) ≡ events_of broken ++ events_in b
+events_push [] b = append-nil (events_in b)
+events_push (x ∷ broken) b = ap (λ l. events_in x ++ l) (events_push broken b) ∙ sym (append_assoc (events_in x) (events_of broken) (events_in b))
 
--- the part that breaks at a record
-abbrev pub broken_at : {R : Type 0} {view : View} {profile : Profile} {rows : Option Rows} {past : List LineByte} {front : Judging R} {old now : Option (List ℕ)}
-    {es : List Exchange} → SoFar view (in_parts profile) rows past front old now es → Break → BrokenPart
-broken_at {past = past} {front = front} {es = es} f b = record {
-  part = record { past = length past; records = f.items; exchanges = es; tail = front.follower.pairer.tail };
+-- the part that breaks at a record, and whether that begins a late reply besides
+abbrev pub broken_at : {R : Type 0} {telling : Telling} {profile : Profile} {rows : Option Rows} {past : List LineByte} {front : Judging R} {old now : Option (List ℕ)}
+    {es : List Exchange} {late : ℕ} → SoFar telling (in_parts profile) rows past front old now es late → Break → Bool → BrokenPart
+broken_at {past = past} {front = front} {es = es} f b besides = record {
+  part = record { past = length past; records = f.items; exchanges = es; tail = front.follower.pairer.tail; events = f.events };
   breaking = b.record;
   reason = b.reason;
+  late = besides;
 }
 
-pub after_break : {R : Type 0} {T : BrokenPart → List ℕ → Type 0} {view : View} {profile : Profile} {rows : Option Rows} {broken : List BrokenPart}
+pub after_break : {R : Type 0} {T : BrokenPart → List ℕ → Type 0} {telling : Telling} {profile : Profile} {rows : Option Rows} {broken : List BrokenPart}
     {past : List LineByte}
-    {old begun now : Option (List ℕ)} {front : Judging R} {es : List Exchange} (j : Judging R) (before : Before T broken past old begun)
-    (f : SoFar view (in_parts profile) rows past front begun now es) (b : Break) (text : List ℕ) → T (broken_at f b) text
+    {old begun now : Option (List ℕ)} {front : Judging R} {es : List Exchange} {late : ℕ} (j : Judging R) (before : Before T broken past old begun)
+    (f : SoFar telling (in_parts profile) rows past front begun now es late) (b : Break) (besides : Bool) (text : List ℕ) → T (broken_at f b besides) text
     → GivesRecord front.rows b.record j.rows → Breaks (in_parts profile) f.items b.record b.reason
+    → TellsLate (line_rules (in_parts profile)) front.follower.pairer.tail b.record besides
     → ((more : List LineByte) → Onward profile broken past (f.items ++ b.record ∷ more))
-    → AfterBreak T view profile rows j b (broken ++ broken_at f b ∷ []) (before.texts ++ text)
-after_break {T = T} {view = view} {profile = profile} {broken = broken} {past = past} {front = front} {es = es} j before f b text is gives breaks on =
-    let part : BrokenPart = broken_at f b in
+    → AfterBreak T telling profile rows j b (broken ++ broken_at f b besides ∷ []) (before.texts ++ text)
+after_break {T = T} {telling = telling} {profile = profile} {broken = broken} {past = past} {front = front} {es = es} j before f b besides text is gives breaks tells on =
+    let part : BrokenPart = broken_at f b besides in
     let tail = front.follower.pairer.tail in
     let size = length-append past f.items in
     let counts = cut_counts (line_rules (in_parts profile)) f.items es tail f.cut in
@@ -147,12 +148,12 @@ after_break {T = T} {view = view} {profile = profile} {broken = broken} {past = 
       onward = λ after others left parts.
           let rest : AreParts profile (rest_after (length past + length f.items) b.reason b.record after) others left =
           subst (λ n. AreParts profile (rest_after n b.reason b.record after) others left) size parts in
-          let all = on after (part ∷ others) left (after, refl, record { cut = f.cut; run = f.run }, breaks, rest) in
+          let all = on after (part ∷ others) left (after, refl, record { cut = f.cut; run = f.run; are_events = f.are_events }, breaks, tells, rest) in
           rw (append_assoc past f.items (b.record ∷ after), append_assoc broken (part ∷ []) others) all;
     }
 
-module _ {R : Type 0} {T : BrokenPart → List ℕ → Type 0} {view : View} {profile : Profile} {rows : Option Rows} {j : Judging R} {b : Break}
-    {broken : List BrokenPart} {texts : List ℕ} (h : AfterBreak T view profile rows j b broken texts) where
+module _ {R : Type 0} {T : BrokenPart → List ℕ → Type 0} {telling : Telling} {profile : Profile} {rows : Option Rows} {j : Judging R} {b : Break}
+    {broken : List BrokenPart} {texts : List ℕ} (h : AfterBreak T telling profile rows j b broken texts) where
   -- the record that broke is the first of the next part
   at_breaking : begins_next_part b.reason b.record ≡ true → (more : List LineByte) → Onward profile broken h.items (b.record ∷ more)
   at_breaking begins more others left parts = h.onward more others left (rw begins parts)
@@ -195,7 +196,7 @@ module _ {R : Type 0} {T : BrokenPart → List ℕ → Type 0} {view : View} {pr
   }
 
   -- the judging stops before the next part
-  stopped : {P : Type 0} → ((past : List LineByte) (keeps : Keeps view (in_parts profile) past [] []) (more : List LineByte) → keeps.text ≡ []
+  stopped : {P : Type 0} → ((past : List LineByte) (keeps : Keeps telling (in_parts profile) past [] []) (more : List LineByte) → keeps.text ≡ []
       → Onward profile broken past (keeps.items ++ more) → Seen rows j.rows.rows (past ++ (keeps.items ++ more)) None → P) → P
   stopped {P = P} told = by (begins_next_part b.reason b.record) refl
     where
@@ -203,27 +204,27 @@ module _ {R : Type 0} {T : BrokenPart → List ℕ → Type 0} {view : View} {pr
       read = read_one rows h.items h.front j.rows b.record h.read h.gives
 
       by : (c : Bool) → begins_next_part b.reason b.record ≡ c → P
-      by true begins = told h.items (keeps-none view (in_parts profile) h.items refl) (b.record ∷ []) refl (at_breaking begins [])
+      by true begins = told h.items (keeps-none telling (in_parts profile) h.items refl) (b.record ∷ []) refl (at_breaking begins [])
           (seen rows j.rows.rows (h.items ++ b.record ∷ []) None read.read read.are_given.can_be)
       by false after =
           let all = read_past [] refl in
-          told (past_of []) (keeps-none view (in_parts profile) (past_of []) refl) [] refl (at_end [] after tt)
+          told (past_of []) (keeps-none telling (in_parts profile) (past_of []) refl) [] refl (at_end [] after tt)
           (rw (append-nil (past_of [])) (seen rows j.rows.rows (past_of []) None all.read all.are_given.can_be))
 
   longer : (passed : List LineByte) → length h.items ≤ length (past_of passed)
   longer passed = omega (arith, past_size passed)
 
   -- since the line of the break was not written whole
-  pub break-write : {old new : Option (List ℕ)} → AppendsPart old new texts → JudgesParts T view profile rows (Err JudgeError.Write) old new
+  pub break-write : {old new : Option (List ℕ)} → AppendsPart old new texts → JudgesParts T telling profile rows (Err JudgeError.Write) old new
   break-write part = stopped (λ past keeps more nil on s. parts-write broken texts h.are_texts keeps more on s (rw (nil, append-nil) part))
 
   -- or memory was refused after it
-  break-memory : {old now : Option (List ℕ)} → Appends old now texts → JudgesParts T view profile rows (Err JudgeError.OutOfMemory) old now
+  break-memory : {old now : Option (List ℕ)} → Appends old now texts → JudgesParts T telling profile rows (Err JudgeError.OutOfMemory) old now
   break-memory wrote = stopped (λ past keeps more nil on s. parts-memory broken texts h.are_texts keeps more on s (rw (nil, append-nil) wrote))
 
   -- or the next turn comes
   pub resume : (old now : Option (List ℕ)) (k : Judging R) (r : Result Turn JudgeError) → Appends old now texts → TakesUp (in_parts profile) b j r k
-      → Arrives T view profile rows old now broken r k
+      → Arrives T telling profile rows old now broken r k
   resume old now k r wrote (inl (is, rest)) = rw is (break-memory wrote)
   resume old now k r wrote (inr taken) = by (begins_next_part b.reason b.record) refl taken
     where
@@ -231,9 +232,9 @@ module _ {R : Type 0} {T : BrokenPart → List ℕ → Type 0} {view : View} {pr
           → ((first : LineByte) × (may_begin (last_of b.record passed) first ≡ true) × Resumes (in_parts profile) mid first r k)
           ⊎ ((r ≡ Ok Turn.End) × GivesEnd mid k.rows × KnowsNothing (in_parts profile) k.follower)
           ⊎ ((e : CaptureError) × GivesRefusal mid e k.rows × (r ≡ Err (refusal_of e)))
-          → Arrives T view profile rows old now broken r k
+          → Arrives T telling profile rows old now broken r k
       resumed passed mid after none gives (inl (first, may, new)) =
-          arrive_first view (before_next (past_of passed) (longer passed) wrote) new.knows_nothing (read_past passed gives)
+          arrive_first telling (before_next (past_of passed) (longer passed) wrote) new.knows_nothing (read_past passed gives)
           (at_first passed first after none may) new.with_first
       resumed passed mid after none gives (inr (inl (is, ends, knows))) =
           let read = read_past passed gives in
@@ -249,13 +250,13 @@ module _ {R : Type 0} {T : BrokenPart → List ℕ → Type 0} {view : View} {pr
             },
           )
       resumed passed mid after none gives (inr (inr (e, refusal, is))) =
-          rw is (parts-refusal broken texts h.are_texts (keeps-none view (in_parts profile) (past_of passed) refl) (rw append-nil (read_past passed gives))
+          rw is (parts-refusal broken texts h.are_texts (keeps-none telling (in_parts profile) (past_of passed) refl) (rw append-nil (read_past passed gives))
           (at_end passed after none) refusal refl
           (rw append-nil wrote))
 
       by : (c : Bool) → begins_next_part b.reason b.record ≡ c → MatchBool c ((before : Progress R) → GivesRecord before b.record j.rows
-          → Resumes (in_parts profile) before b.record r k) (ResumesAfter (in_parts profile) b.record j.rows r k) → Arrives T view profile rows old now broken r k
+          → Resumes (in_parts profile) before b.record r k) (ResumesAfter (in_parts profile) b.record j.rows r k) → Arrives T telling profile rows old now broken r k
       by true begins up =
           let new = up h.front h.gives in
-          arrive_first view (before_next h.items (omega arith) wrote) new.knows_nothing h.read (at_breaking begins) new.with_first
+          arrive_first telling (before_next h.items (omega arith) wrote) new.knows_nothing h.read (at_breaking begins) new.with_first
       by false after up = resumed up.passed up.mid after up.none_begins up.gives up.then

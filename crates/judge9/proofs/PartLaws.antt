@@ -1,9 +1,11 @@
 -- What the parts of a capture are to the capture that begins with each.
-use Rattle.judge9.proofs.Words.{counting, line_rules, in_parts, [], All, All-cons, All-nil, ap, AreCounts, AreParts, AreTotals, arith, begins_next_part, Bool, Breaks, BrokenPart, cut_once, drop, false, from_command, Profile, IsFirstBreak}
+use Rattle.judge9.proofs.Words.{late_replies, TellsLate, LineRules, counting, line_rules, in_parts, [], All, All-cons, All-nil, ap, AreCounts, AreParts, AreTotals, arith, begins_next_part, Bool, Breaks, BrokenPart, cut_once, drop, false, from_command, Profile, IsFirstBreak}
 use Rattle.judge9.proofs.Words.{IsOk, IsPart, length, LineByte, List, may_begin, number_of, Part, Reason, refl, Rest, rest_after, same_parts, sym, true, ℕ, ◌++◌, ◌+◌, ◌∙◌, ◌∷◌, ◌≡◌}
 use Rattle.std.proofs.lemmas.List.{drop-drop}
 use Rattle.std.proofs.Math.Seq.{drop-append_seam}
 use Rattle.verdict9.specs.declared.totals.Totals.{Totals}
+use Rattle.judge9.proofs.CountingSteps.{cut_counts_all}
+use Rattle.judge9.proofs.EventSteps.{events_once}
 use Rattle.judge9.proofs.LawLemmas.{break_once, no_break}
 use Rattle.judge9.proofs.LineSteps.{cut_len}
 
@@ -44,7 +46,7 @@ IsOwnNo profile items b = IsFirstBreak (in_parts profile) (drop b.part.past item
 pub each_is_a_no : (profile : Profile) (items : List LineByte) (rest : Rest) (broken : List BrokenPart) (left : Rest) → IsRestOf items rest
     → AreParts profile rest broken left → All (IsOwnNo profile items) broken
 each_is_a_no profile items rest [] left is parts = All-nil (IsOwnNo profile items)
-each_is_a_no profile items rest (b ∷ broken) left is (after, same, part, breaks, others) =
+each_is_a_no profile items rest (b ∷ broken) left is (after, same, part, breaks, tells, others) =
     let records : b.part.records ++ b.breaking ∷ after ≡ drop b.part.past items = rw same at is in
     let next = behind items b.part.past b.part.records b.breaking after records in
     let on = rest_after_rest items (b.part.past + length b.part.records) b.reason b.breaking after next.0 next.1 in
@@ -54,7 +56,7 @@ each_is_a_no profile items rest (b ∷ broken) left is (after, same, part, break
 
 pub first_is_a_no : (profile : Profile) (items : List LineByte) (b : BrokenPart) (broken : List BrokenPart) (left : Rest)
     → AreParts profile (record { past = 0; records = items }) (b ∷ broken) left → IsFirstBreak (in_parts profile) items (number_of b) b.reason
-first_is_a_no profile items b broken left (after, same, part, breaks, others) = record {
+first_is_a_no profile items b broken left (after, same, part, breaks, tells, others) = record {
   before = b.part.records;
   next = b.breaking;
   after = after;
@@ -65,15 +67,15 @@ first_is_a_no profile items b broken left (after, same, part, breaks, others) = 
 
 pub counts_of_a_yes : (profile : Profile) (items : List LineByte) (left : Rest) (last : Part) (totals : Totals)
     → AreParts profile (record { past = 0; records = items }) [] left → IsPart profile last → last.records ≡ left.records → AreTotals (length items) [] last totals
-    → (totals.breaks ≡ 0) × AreCounts (counting profile) items totals.records totals.exchanges totals.tail × (totals.passed_over ≡ 0)
-counts_of_a_yes profile items left last totals parts part all are =
+    → totals.breaks ≡ 0 → AreCounts (counting profile) items totals.records totals.exchanges totals.tail × (totals.passed_over ≡ 0)
+counts_of_a_yes profile items left last totals parts part all are none =
     let same : last.records ≡ items = all ∙ ap (λ (x : Rest). x.records) parts in
-    let size = cut_len (line_rules (in_parts profile)) last.records last.exchanges last.tail part.cut in (
-      are.breaks,
+    let size = cut_len (line_rules (in_parts profile)) last.records last.exchanges last.tail part.cut in
+    let in_time : late_replies last.events ≡ 0 = omega (arith, are.breaks, none) in (
       record {
         cut_exchanges = last.exchanges;
         cut_tail = last.tail;
-        cut = rw same at part.cut;
+        cut = rw same at (cut_counts_all profile last.past last.records last.exchanges last.tail last.events part.cut part.are_events in_time);
         run = part.run;
         number = are.all_records;
         exchange_number = are.exchanges;
@@ -102,11 +104,18 @@ first_no : (profile : Profile) (rest : Rest) (b : BrokenPart) (after : List Line
 first_no profile rest b after same breaks =
     record { before = b.part.records; next = b.breaking; after = after; split = ap (λ (x : Rest). x.records) same; number = refl; breaks = breaks }
 
-part_by_fields : (a b : Part) → a.past ≡ b.past → a.records ≡ b.records → a.exchanges ≡ b.exchanges → a.tail ≡ b.tail → a ≡ b
-part_by_fields a b past records exchanges tail = grind arith
+part_by_fields : (a b : Part) → a.past ≡ b.past → a.records ≡ b.records → a.exchanges ≡ b.exchanges → a.tail ≡ b.tail → a.events ≡ b.events → a ≡ b
+part_by_fields a b past records exchanges tail events = grind arith
 
-broken_by_fields : (a b : BrokenPart) → a.part ≡ b.part → a.breaking ≡ b.breaking → a.reason ≡ b.reason → a ≡ b
-broken_by_fields a b part breaking reason = grind arith
+broken_by_fields : (a b : BrokenPart) → a.part ≡ b.part → a.breaking ≡ b.breaking → a.reason ≡ b.reason → a.late ≡ b.late → a ≡ b
+broken_by_fields a b part breaking reason late = grind arith
+
+-- whether a record begins a late reply
+late_once : (rules : LineRules) (t : List LineByte) (r : LineByte) (some other : Bool) → TellsLate rules t r some → TellsLate rules t r other → some ≡ other
+late_once rules t r true true h k = refl
+late_once rules t r false false h k = refl
+late_once rules t r true false h k = absurd (k h)
+late_once rules t r false true h k = absurd (h k)
 
 totals_by_fields : (a b : Totals) → a.breaks ≡ b.breaks → a.records ≡ b.records → a.exchanges ≡ b.exchanges → a.passed_over ≡ b.passed_over → a.tail ≡ b.tail → a ≡ b
 totals_by_fields a b breaks records exchanges passed tail = grind arith
@@ -115,7 +124,8 @@ same_part : (profile : Profile) (some other : Part) → IsPart profile some → 
     → some ≡ other
 same_part profile some other is also past records =
     let cut = cut_once (line_rules (in_parts profile)) other.records some.exchanges other.exchanges some.tail other.tail (rw records at is.cut) also.cut in
-    part_by_fields some other past records cut.0 cut.1
+    let events = events_once (line_rules (in_parts profile)) other.past [] [] other.records some.events other.events (rw (past, records) at is.are_events) also.are_events in
+    part_by_fields some other past records cut.0 cut.1 events
 
 pub one_list : (profile : Profile) (rest left remaining : Rest) (broken others : List BrokenPart) (last other : Part) → AreParts profile rest broken left
     → IsLast profile left last → AreParts profile rest others remaining → IsLast profile remaining other → (broken ≡ others) × (last ≡ other)
@@ -124,11 +134,11 @@ one_list profile rest left remaining [] [] last other p is q also = (
   same_part profile last other is.is_part also.is_part (is.past ∙ ap (λ (x : Rest). x.past) (p ∙ sym q) ∙ sym also.past)
       (is.has_all ∙ ap (λ (x : Rest). x.records) (p ∙ sym q) ∙ sym also.has_all),
 )
-one_list profile rest left remaining [] (c ∷ others) last other p is (after, same, part, breaks, more) also =
+one_list profile rest left remaining [] (c ∷ others) last other p is (after, same, part, breaks, tells, more) also =
     absurd (no_break (in_parts profile) rest.records (length c.part.records + 1) c.reason (last_is_ok profile rest left last p is) (first_no profile rest c after same breaks))
-one_list profile rest left remaining (b ∷ broken) [] last other (after, same, part, breaks, more) is q also =
+one_list profile rest left remaining (b ∷ broken) [] last other (after, same, part, breaks, tells, more) is q also =
     absurd (no_break (in_parts profile) rest.records (length b.part.records + 1) b.reason (last_is_ok profile rest remaining other q also) (first_no profile rest b after same breaks))
-one_list profile rest left remaining (b ∷ broken) (c ∷ others) last other (after, same, part, breaks, more) is (behind_c, same_c, part_c, breaks_c, more_c) also =
+one_list profile rest left remaining (b ∷ broken) (c ∷ others) last other (after, same, part, breaks, tells, more) is (behind_c, same_c, part_c, breaks_c, tells_c, more_c) also =
     let once = break_once (in_parts profile) rest.records (length b.part.records + 1) (length c.part.records + 1) b.reason c.reason
     (first_no profile rest b after same breaks) (first_no profile rest c behind_c same_c breaks_c) in
     let records : b.part.records ++ b.breaking ∷ after ≡ c.part.records ++ c.breaking ∷ behind_c =
@@ -137,7 +147,8 @@ one_list profile rest left remaining (b ∷ broken) (c ∷ others) last other (a
     let breaking : b.breaking ≡ c.breaking = let e = split.1 in cc in
     let behind : after ≡ behind_c = let e = split.1 in cc in
     let equal = same_part profile b.part c.part part part_c (sym (ap (λ (x : Rest). x.past) same) ∙ ap (λ (x : Rest). x.past) same_c) split.0 in
-    let first = broken_by_fields b c equal breaking once.1 in
+    let late = late_once (line_rules (in_parts profile)) c.part.tail c.breaking b.late c.late (rw (ap (λ (x : Part). x.tail) equal, breaking) at tells) tells_c in
+    let first = broken_by_fields b c equal breaking once.1 late in
     let parts = one_list profile (rest_after (c.part.past + length c.part.records) c.reason c.breaking behind_c) left remaining broken others last other
     (rw (equal, breaking, behind, once.1) at more) is more_c also in
     (cc (first, parts.0), parts.1)

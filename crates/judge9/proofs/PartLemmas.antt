@@ -1,5 +1,6 @@
 -- What is told of all parts of a capture, at each end of the judging.
-use Rattle.judge9.proofs.Words.{in_parts, [], ap, append-nil, append_assoc, Appends, AppendsPart, AreParts, AreTextsOf, Bool, BrokenPart, CaptureError, CaptureKind, Err, Exchange, false, false≢true, given-refused, GivesRefusal, Profile, HasHeader, IfSome, if◌then◌else◌, inl, is_of_text, IsPlaced, IsTrue, JudgeError, JudgesParts, length, LineByte, List, None, Ok, Option, Progress, refl, refusal_of, refused-after, Rest, Result, Rows, Some, subst, sym, PartsTold, true, View, WrittenInParts, ℕ, ⊤, ◌++◌, ◌∙◌, ◌∷◌, ◌≡◌, ◌≢◌}
+use Rattle.judge9.proofs.Words.{in_parts, [], ap, append-nil, append_assoc, Appends, AppendsPart, AreParts, AreTextsOf, Bool, BrokenPart, CaptureError, CaptureKind, Err, Exchange, false, false≢true, given-refused, GivesRefusal, Profile, HasHeader, IfSome, if◌then◌else◌, inl, is_of_text, IsPlaced, IsTrue, JudgeError, JudgesParts, length, LineByte, List, None, Ok, Option, Progress, refl, refusal_of, refused-after, Rest, Result, Rows, Some, subst, sym, PartsTold, true, WrittenInParts, ℕ, ⊤, ◌++◌, ◌∙◌, ◌∷◌, ◌≡◌, ◌≢◌}
+use Rattle.verdict9.specs.declared.verdict.Telling.TheVariants.{the_data as Telling}
 use Rattle.verdict9.specs.declared.totals.Totals.{Totals}
 use Rattle.judge9.proofs.PartSteps.{AreRead}
 use Rattle.judge9.proofs.SoFar.{Keeps, Seen, seen, WereRead}
@@ -39,21 +40,21 @@ all_rows : (o : Option Rows) (P : Rows → Type 0) → ((all : Rows) → P all) 
 all_rows None P h = tt
 all_rows (Some all) P h = h all
 
-pub plain : {T : BrokenPart → List ℕ → Type 0} {view : View} {profile : Profile} {rows : Option Rows} {old new : Option (List ℕ)} (r : Result Totals JudgeError)
+pub plain : {T : BrokenPart → List ℕ → Type 0} {telling : Telling} {profile : Profile} {rows : Option Rows} {old new : Option (List ℕ)} (r : Result Totals JudgeError)
     → IsPlain r
-    → PartsTold T view profile rows r old new → JudgesParts T view profile rows r old new
+    → PartsTold T telling profile rows r old new → JudgesParts T telling profile rows r old new
 plain (Err (JudgeError.Capture e)) is told = absurd is
 plain {rows = rows} r is told = record { told = told; is_kind = λ e q. cc; headed = all_rows rows _ (λ all e q. cc) }
 
-module _ {T : BrokenPart → List ℕ → Type 0} {view : View} {profile : Profile} {rows : Option Rows} {past : List LineByte} {es : List Exchange}
+module _ {T : BrokenPart → List ℕ → Type 0} {telling : Telling} {profile : Profile} {rows : Option Rows} {past : List LineByte} {es : List Exchange}
     {tail : List LineByte} {old : Option (List ℕ)}
-    (broken : List BrokenPart) (texts : List ℕ) (are_texts : AreTextsOf T broken texts) (keeps : Keeps view (in_parts profile) past es tail) where
+    (broken : List BrokenPart) (texts : List ℕ) (are_texts : AreTextsOf T broken texts) (keeps : Keeps telling (in_parts profile) past es tail) where
   -- these records were read, and so many of them judged
   pub told_in_parts : {left : Option Rows} {fault : Option CaptureError} {new : Option (List ℕ)} (more : List LineByte)
       → Onward profile broken past (keeps.items ++ more) → (s : Seen rows left (past ++ (keeps.items ++ more)) fault) → (r : Result Totals JudgeError)
       → WrittenInParts s.all (past ++ (keeps.items ++ more)) broken (record { past = length past; records = keeps.items ++ more })
-      (record { past = length past; records = keeps.items; exchanges = es; tail = tail }) (texts ++ keeps.text) r old new
-      → PartsTold T view profile rows r old new
+      (record { past = length past; records = keeps.items; exchanges = es; tail = tail; events = keeps.events }) (texts ++ keeps.text) r old new
+      → PartsTold T telling profile rows r old new
   told_in_parts more onward s r written =
       let left : Rest = record { past = length past; records = keeps.items ++ more } in record {
         rows = s.all;
@@ -62,18 +63,18 @@ module _ {T : BrokenPart → List ℕ → Type 0} {view : View} {profile : Profi
         items = past ++ (keeps.items ++ more);
         broken = broken;
         left = left;
-        last = record { past = length past; records = keeps.items; exchanges = es; tail = tail };
+        last = record { past = length past; records = keeps.items; exchanges = es; tail = tail; events = keeps.events };
         text = texts ++ keeps.text;
         in_parts = record {
           start = s.start;
           parts = rw append-nil at (onward [] left refl);
-          is_part = record { cut = keeps.cut; run = keeps.run };
+          is_part = record { cut = keeps.cut; run = keeps.run; are_events = keeps.are_events };
           past = refl;
           begins = (more, refl);
           texts = texts;
           are_texts = are_texts;
           lines = keeps.text;
-          explained = keeps.explained;
+          are_lines = keeps.texts;
           whole = refl;
         };
         written = written;
@@ -82,22 +83,22 @@ module _ {T : BrokenPart → List ℕ → Type 0} {view : View} {profile : Profi
   -- memory was refused
   pub parts-memory : {left : Option Rows} {new : Option (List ℕ)} (more : List LineByte) → Onward profile broken past (keeps.items ++ more)
       → Seen rows left (past ++ (keeps.items ++ more)) None → Appends old new (texts ++ keeps.text)
-      → JudgesParts T view profile rows (Err JudgeError.OutOfMemory) old new
+      → JudgesParts T telling profile rows (Err JudgeError.OutOfMemory) old new
   parts-memory more onward s wrote =
       plain (Err JudgeError.OutOfMemory) tt (told_in_parts more onward s (Err JudgeError.OutOfMemory) wrote)
 
   -- the writer failed within this text
   pub parts-write : {left : Option Rows} {new : Option (List ℕ)} (more : List LineByte) → Onward profile broken past (keeps.items ++ more)
       → Seen rows left (past ++ (keeps.items ++ more)) None → AppendsPart old new (texts ++ keeps.text)
-      → JudgesParts T view profile rows (Err JudgeError.Write) old new
+      → JudgesParts T telling profile rows (Err JudgeError.Write) old new
   parts-write more onward s part = plain (Err JudgeError.Write) tt (told_in_parts more onward s (Err JudgeError.Write) (inl part))
 
   -- the capture is refused
   pub parts-refusal : {R : Type 0} {now : Option (List ℕ)} {progress given : Progress R} {e : CaptureError} {x : JudgeError}
       → AreRead rows (past ++ keeps.items) progress → Onward profile broken past keeps.items → GivesRefusal progress e given → x ≡ refusal_of e
-      → Appends old now (texts ++ keeps.text) → JudgesParts T view profile rows (Err x) old now
+      → Appends old now (texts ++ keeps.text) → JudgesParts T telling profile rows (Err x) old now
   parts-refusal {now = now} {progress = progress} {given = given} {e = e} {x = x} h onward refusal same wrote =
-      rw same (refusal_cases (λ y. JudgesParts T view profile rows (Err y) old now) e.kind e whole
+      rw same (refusal_cases (λ y. JudgesParts T telling profile rows (Err y) old now) e.kind e whole
       (parts-memory [] on seen_all wrote))
     where
       all_read : AreRead rows (past ++ (keeps.items ++ [])) progress
@@ -130,7 +131,7 @@ module _ {T : BrokenPart → List ℕ → Type 0} {view : View} {profile : Profi
           let has : HasHeader read.0 = rw read.1 at (refusal.has_header (headed given.is_headed refusal.place (rw is low))) in
           rw read.2 has
 
-      whole : e.kind ≢ CaptureKind.OutOfMemory → JudgesParts T view profile rows (Err (JudgeError.Capture e)) old now
+      whole : e.kind ≢ CaptureKind.OutOfMemory → JudgesParts T telling profile rows (Err (JudgeError.Capture e)) old now
       whole other =
           let known = known_rows (is_of_text e.kind) refl in
           let place = refused-after progress given e (past ++ (keeps.items ++ [])) refusal all_read.are_given.given in record {

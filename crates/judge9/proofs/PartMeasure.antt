@@ -1,20 +1,29 @@
 -- Each turn of a judging of all parts leaves less to do: rows that are still to come, or the same record in a part of its own.
-use Rattle.judge9.proofs.Words.{Terms, LineRules, line_rules, [], ap, arith, begins_next_part, BeginsAt, Bool, Break, CaptureError, Command, Comes, ComesTo, Completes, Err, false, first_holds, Follower, GivesEnd, GivesRecord}
-use Rattle.judge9.proofs.Words.{GivesRefusal, GoesThrough, IsJudgedPart, PartLog, turn_of, Profile, if◌then◌else◌, inl, inr, JudgeError, Judging, KnowsNothing, last_of, length, length-append, LineByte, List, may_begin, None, Ok, Option, Exchange}
-use Rattle.judge9.proofs.Words.{Paired, Progress, Reason, refl, Refuses, refusal_of, Result, Resumes, ResumesAfter, Some, Spoils, subst, suc, TakesUp, takes_up_at, true, Turn, Turned, View, zero, ℕ, ◌*◌, ◌+◌, ◌-◌, ◌<◌, ◌≡◌, ◌≤◌, ◌⊎◌}
+use Rattle.judge9.proofs.Words.{TellsTurn, Terms, LineRules, line_rules, [], ap, arith, begins_next_part, BeginsAt, Bool, Break, CaptureError, Command, Comes, ComesTo, Err, false, first_holds, Follower, GivesEnd, GivesRecord}
+use Rattle.judge9.proofs.Words.{GivesRefusal, GoesThrough, IsJudgedPart, PartLog, turn_of, Profile, if◌then◌else◌, inl, inr, JudgeError, Judging, KnowsNothing, last_of, length, length-append, LineByte, List, may_begin, Ok, Option, Exchange}
+use Rattle.judge9.proofs.Words.{Paired, Progress, Reason, refl, refusal_of, Result, Resumes, ResumesAfter, Some, Spoils, subst, suc, TakesUp, takes_up_at, true, Turn, Turned, zero, ℕ, ◌*◌, ◌+◌, ◌-◌, ◌≡◌, ◌≤◌, ◌⊎◌}
 use Rattle.std.proofs.Common.{◌&&◌}
-use Rattle.verdict9.specs.Telling.{view_of}
+use Rattle.block9.specs.Line.{is_commands_wire}
 use Rattle.verdict9.specs.declared.verdict.Telling.{Telling}
 use Rattle.std.specs.Bool.{MatchBool}
 use Rattle.block9.specs.Reason.{Holds, IsAnswered, IsOpen as IsOpenBlock, IsReason, order}
+use mir.Val.{bool_byte}
 use Rattle.judge9.proofs.PartSteps.{none_fewer}
-use Rattle.judge9.proofs.TurnSteps.{left_at, none_lost, weight}
+use Rattle.judge9.proofs.TurnSteps.{left_at, less_after, none_lost, weight}
 
-at_least_one : (b : Bool) → 1 ≤ (if b then 2 else 1)
-at_least_one b = grind arith
+pub at_least_two : (b : Bool) → 2 ≤ (if b then 3 else 2)
+at_least_two b = grind arith
 
-first_true : (a b : Bool) → (a && b) ≡ true → a ≡ true
-first_true a b both = grind arith
+-- a flag as a number
+pub as_one : (b : Bool) → bool_byte b ≡ (if b then 1 else 0)
+as_one true = refl
+as_one false = refl
+
+pub small_one : (b : Bool) → (if b then 1 else 0) ≤ 1
+small_one b = grind arith
+
+both_true : (a b : Bool) → (a && b) ≡ true → (a ≡ true) × (b ≡ true)
+both_true a b both = grind arith
 
 -- the first record of a part breaks by none of the reasons for which it would be taken up again
 none_answered : (rules : LineRules) (c : Command) (reply : List LineByte) → IsAnswered rules [] c reply → ⊥
@@ -33,29 +42,36 @@ none_open rules reason r h = refl
 
 -- ---- a turn after rows
 
-weight_small : (turn : Turn) → weight turn ≤ 2
+weight_small : (turn : Turn) → weight turn ≤ 3
 weight_small Turn.End = omega arith
 weight_small Turn.Exchange = omega arith
+weight_small (Turn.Late r) = omega arith
 weight_small (Turn.Break b) = grind arith
 
-less-turned : {R : Type 0} (j k : Judging R) (turn : Turn) → Turned j (Ok turn) k → left_at turn k ≤ 3 * (4000000 - j.rows.given)
+less-turned : {R : Type 0} (j k : Judging R) (turn : Turn) → Turned j (Ok turn) k → left_at turn k ≤ 4 * (4000000 - j.rows.given)
 less-turned j k Turn.End t = omega (arith, t.ends.given)
 less-turned j k turn t = omega (arith, t.1.gives.given, t.1.gives.within, weight_small turn)
 
-pub less-come : {R : Type 0} (j k : Judging R) (turn : Turn) → ComesTo j (Ok turn) k → left_at turn k ≤ 3 * (4000000 - j.rows.given)
+pub less-come : {R : Type 0} (j k : Judging R) (turn : Turn) → ComesTo j (Ok turn) k → left_at turn k ≤ 4 * (4000000 - j.rows.given)
 less-come j k turn c = omega (arith, none_lost c, less-turned c.front k turn c.turned)
 
--- the exchanges of a part
-pub less-through : {R : Type 0} (view : View) (profile : Profile) (first : Turn) (j : Judging R) (old : Option (List ℕ)) (n : ℕ) (es : List Exchange) (end_us : Option ℕ)
-    (turn : Turn) (k : Judging R) (new : Option (List ℕ)) → GoesThrough view profile first j old n es end_us turn k new → left_at turn k ≤ left_at first j
-less-through view profile first j old zero es end_us turn k new (_, _, turn_is, k_is, _) = rw (turn_is, k_is) (omega arith)
-less-through view profile first j old (suc n) es end_us turn k new (before, us, mid, now, goes, e, tells, come, _, _) =
-    omega (arith, less-through view profile first j old n before us Turn.Exchange mid now goes, less-come mid k turn come)
+-- the turns of a part, of which so many are late replies
+pub less-through : {R : Type 0} (telling : Telling) (profile : Profile) (first : Turn) (j : Judging R) (old : Option (List ℕ)) (n : ℕ) (es : List Exchange) (late : ℕ)
+    (end_us : Option ℕ) (turn : Turn) (k : Judging R) (new : Option (List ℕ)) → GoesThrough telling profile first j old n es late end_us turn k new
+    → late + left_at turn k ≤ left_at first j
+less-through telling profile first j old zero es late end_us turn k new (_, late_is, _, turn_is, k_is, _) = rw (late_is, turn_is, k_is) (omega arith)
+less-through telling profile first j old (suc n) es late end_us turn k new (before, lates, us, at, mid, now, goes, tells, come) =
+    by at (less-through telling profile first j old n before lates us at mid now goes) tells
+  where
+    by : (at : Turn) → lates + left_at at mid ≤ left_at first j → TellsTurn telling profile mid at before lates us es late end_us now new → late + left_at turn k ≤ left_at first j
+    by Turn.Exchange less (e, told, es_is, late_is, us_is) = omega (arith, less, late_is, less_after turn mid k come)
+    by (Turn.Late r) less (told, es_is, late_is, us_is) = omega (arith, less, late_is, less_after turn mid k come)
+    by at less told = absurd told
 
 pub less-part : {R : Type 0} (telling : Telling) (profile : Profile) (first : Turn) (j : Judging R) (old : Option (List ℕ)) (end : Option Break) (k : Judging R)
-    (log : PartLog) (new : Option (List ℕ)) → IsJudgedPart telling profile first j old (Ok end) k log new → left_at (turn_of end) k ≤ left_at first j
-less-part telling profile first j old end k log new (n, es, end_us, goes, logged) =
-    less-through (view_of telling) profile first j old n es end_us (turn_of end) k new goes
+    (log : PartLog) (new : Option (List ℕ)) → IsJudgedPart telling profile first j old (Ok end) k log new → log.late + left_at (turn_of end) k ≤ left_at first j
+less-part telling profile first j old end k log new (n, es, late, end_us, goes, logged) =
+    omega (arith, logged.late_replies, less-through telling profile first j old n es late end_us (turn_of end) k new goes)
 
 -- ---- a turn after a break
 
@@ -68,28 +84,29 @@ first_break terms f first b knows same (inl refused) =
 first_break terms f first b knows same (inr none) = rw none.0 refl
 
 less-at_once : {R : Type 0} (terms : Terms) (j k : Judging R) (first : LineByte) (turn : Turn) → KnowsNothing terms j.follower → Comes j k first (Some turn)
-    → left_at turn k + 2 ≤ 3 * (4000000 - j.rows.given)
+    → left_at turn k + 2 ≤ 4 * (4000000 - j.rows.given)
 less-at_once terms j k first Turn.End knows c = absurd c.took
 less-at_once terms j k first Turn.Exchange knows c = omega (arith, c.gives.given, c.gives.within)
+less-at_once terms j k first (Turn.Late x) knows c = omega (arith, c.gives.given, c.gives.within)
 less-at_once terms j k first (Turn.Break b) knows c =
     rw (first_break terms j.follower first b knows c.took.0 c.took.1) (omega (arith, c.gives.given, c.gives.within))
 
 -- with the first record of the next part
 less-first : {R : Type 0} (terms : Terms) (before : Progress R) (first : LineByte) (turn : Turn) (k : Judging R) → Resumes terms before first (Ok turn) k
-    → left_at turn k + 2 ≤ 3 * (4000000 - before.given)
+    → left_at turn k + 2 ≤ 4 * (4000000 - before.given)
 less-first {R = R} terms before first turn k h = by h.with_first
   where
     j : Judging R
     j = record { rows = before; follower = h.follower }
 
-    by : BeginsAt j first (Ok turn) k → left_at turn k + 2 ≤ 3 * (4000000 - before.given)
+    by : BeginsAt j first (Ok turn) k → left_at turn k + 2 ≤ 4 * (4000000 - before.given)
     by (inl (is, rest)) = absurd (cc is)
     by (inr (inl (other, is, comes))) = let same : turn ≡ other = cc in rw same (less-at_once terms j k first other h.knows_nothing comes)
     by (inr (inr (mid, comes, come))) = omega (arith, comes.gives.given, comes.gives.within, less-come mid k turn come)
 
 -- after records were passed over
 less-passed : {R : Type 0} (terms : Terms) (last : LineByte) (old : Progress R) (turn : Turn) (k : Judging R) → ResumesAfter terms last old (Ok turn) k
-    → left_at turn k ≤ 3 * (4000000 - old.given)
+    → left_at turn k ≤ 4 * (4000000 - old.given)
 less-passed terms last old turn k h = by h.then
   where
     more : old.given ≤ h.mid.given
@@ -98,18 +115,22 @@ less-passed terms last old turn k h = by h.then
     by : ((first : LineByte) × (may_begin (last_of last h.passed) first ≡ true) × Resumes terms h.mid first (Ok turn) k)
         ⊎ ((let r : Result Turn JudgeError = Ok turn in r) ≡ Ok Turn.End) × GivesEnd h.mid k.rows × KnowsNothing terms k.follower
         ⊎ ((e : CaptureError) × GivesRefusal h.mid e k.rows × ((let r : Result Turn JudgeError = Ok turn in r) ≡ Err (refusal_of e)))
-        → left_at turn k ≤ 3 * (4000000 - old.given)
+        → left_at turn k ≤ 4 * (4000000 - old.given)
     by (inl (first, may, new)) = omega (arith, more, less-first terms h.mid first turn k new)
     by (inr (inl (is, ends, begins))) = let same : turn ≡ Turn.End = cc in rw same (omega (arith, more, ends.given))
     by (inr (inr (e, refusal, is))) = absurd (cc is)
 
-pub less-up : {R : Type 0} (terms : Terms) (before : Progress R) (b : Break) (j : Judging R) (turn : Turn) (k : Judging R)
-    → GivesRecord before b.record j.rows → TakesUp terms b j (Ok turn) k → left_at turn k < left_at (Turn.Break b) j
-less-up terms before b j turn k gives (inl (is, rest)) = absurd (cc is)
-less-up terms before b j turn k gives (inr taken) = by (begins_next_part b.reason b.record) refl taken
+pub less-up : {R : Type 0} (terms : Terms) (before : Progress R) (b : Break) (j : Judging R) (turn : Turn) (k : Judging R) (late : Bool)
+    → (late ≡ true → is_commands_wire b.record.wire ≡ false) → GivesRecord before b.record j.rows → TakesUp terms b j (Ok turn) k
+    → left_at turn k + 1 + (if late then 1 else 0) ≤ left_at (Turn.Break b) j
+less-up terms before b j turn k late wire gives (inl (is, rest)) = absurd (cc is)
+less-up terms before b j turn k late wire gives (inr taken) = by late (begins_next_part b.reason b.record) refl wire taken
   where
-    by : (c : Bool) → begins_next_part b.reason b.record ≡ c → MatchBool c ((p : Progress _) → GivesRecord p b.record j.rows → Resumes terms p b.record (Ok turn) k)
-        (ResumesAfter terms b.record j.rows (Ok turn) k) → left_at turn k < left_at (Turn.Break b) j
-    by true is up =
-        rw (first_true (takes_up_at b.reason) _ is) (omega (arith, gives.given, gives.within, less-first terms before b.record turn k (up before gives)))
-    by false is up = omega (arith, at_least_one (takes_up_at b.reason), less-passed terms b.record j.rows turn k up)
+    by : (late c : Bool) → begins_next_part b.reason b.record ≡ c → (late ≡ true → is_commands_wire b.record.wire ≡ false)
+        → MatchBool c ((p : Progress _) → GivesRecord p b.record j.rows → Resumes terms p b.record (Ok turn) k) (ResumesAfter terms b.record j.rows (Ok turn) k)
+        → left_at turn k + 1 + (if late then 1 else 0) ≤ left_at (Turn.Break b) j
+    by true true is wire up = absurd (let both = both_true (takes_up_at b.reason) (is_commands_wire b.record.wire) is in let deck = wire refl in cc)
+    by false true is wire up =
+        rw (both_true (takes_up_at b.reason) _ is).0 (omega (arith, gives.given, gives.within, less-first terms before b.record turn k (up before gives)))
+    by true false is wire up = omega (arith, at_least_two (takes_up_at b.reason), less-passed terms b.record j.rows turn k up)
+    by false false is wire up = omega (arith, at_least_two (takes_up_at b.reason), less-passed terms b.record j.rows turn k up)

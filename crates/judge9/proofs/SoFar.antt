@@ -1,11 +1,16 @@
 -- Where the judging of a text stands: the invariant of its loop, the rows that it speaks of, and what a row more does.
-use Rattle.judge9.proofs.Words.{Terms, LineRules, line_rules, Comes, Completes, Follower, IsKept, IsReason, Does, KnowsNothing, Reason, Refuses, length-append, records_in, IsEnd, last_time, last_time-append}
+use Rattle.judge9.proofs.Words.{AreEvents, AreTextsOf, BeginsReplyLate, Event, events_by, exchanges_after, IsEventText, late_replies, Terms, LineRules, line_rules, Comes, Completes, IsKept, IsReason, Does, KnowsNothing, Reason, Refuses, length-append, records_in, IsEnd, last_time, last_time-append}
 use Rattle.judge9.proofs.Words.{[], ap, append-nil, append_assoc, Appends, Appends-nil, Appends-trans, AreGiven, arith, Bool, CanBeRows, CaptureError, Cut, Exchange}
 use Rattle.judge9.proofs.Words.{KeepsEnds, ForSome, given-more, given-none, GivesRecord, Profile, HasRun, IfNone, IfSome, IsExplained, IsFresh, IsLineOf, IsOfSomeText, IsOk, IsOpen}
 use Rattle.judge9.proofs.Words.{IsStartOf, IsTail, Judging, length, length_push, LineByte, List, None, Observes, Option, Paired, Possible, Progress, refl, Rows, run_start, Some}
-use Rattle.judge9.proofs.Words.{some-text, some_end, Standing, Outcome, subst, sym, Takes, TakesRecord, Tracked, true, View, Waits, ℕ, ⊤, ◌++◌, ◌+◌, ◌∙◌, ◌∷◌, ◌≡◌, ◌≤◌}
+use Rattle.judge9.proofs.Words.{some-text, some_end, Standing, Outcome, subst, sym, Takes, TakesRecord, Tracked, true, View, ℕ, ⊤, ◌++◌, ◌+◌, ◌∙◌, ◌∷◌, ◌≡◌, ◌≤◌}
+use Rattle.verdict9.specs.Telling.{view_of}
+use Rattle.verdict9.specs.declared.verdict.Telling.TheVariants.{the_data as Telling}
 use Rattle.judge9.proofs.RunSteps.{follows-more, follows-start}
-use Rattle.judge9.proofs.CutSteps.{cut-step, exchanges_after}
+use Rattle.judge9.proofs.CutSteps.{cut-step}
+use Rattle.judge9.proofs.EventSteps.{events_push, exchange_text, late_more, late_with, limit_counts, texts_joined}
+use Rattle.block9.specs.declared.line_rules.ReplyLimit.TheVariants.{Counts}
+use Rattle.judge9.specs.Parts.Event.{late_reply}
 use Rattle.judge9.proofs.LineSteps.{cut_len, explained_more}
 
 -- these records were read, and the rest of the rows is still to come
@@ -13,33 +18,41 @@ abbrev pub WereRead : Option Rows → List LineByte → Option Rows → Type 0
 WereRead None items left = ⊤
 WereRead (Some rows) items left = (rest : Rows) × (left ≡ Some rest) × (rows ≡ record { records = items ++ rest.records; fault = rest.fault })
 
--- these records keep the rules and are cut into the exchanges and the tail, and the text is what the view shows of them
-pub record Keeps (view : View) (terms : Terms) (past : List LineByte) (es : List Exchange) (tail : List LineByte) : Type 0 where
+-- these records keep the rules and are cut into the exchanges and the tail, and the text is what is told of them
+pub record Keeps (telling : Telling) (terms : Terms) (past : List LineByte) (es : List Exchange) (tail : List LineByte) : Type 0 where
   pub items : List LineByte
   pub cut : Cut (line_rules terms) items es tail
   pub run : HasRun terms.profile es
+  pub events : List Event
+  pub are_events : AreEvents (line_rules terms) (length past) [] [] items events
   pub text : List ℕ
-  pub explained : IsExplained view terms.profile (length past) es text
+  pub texts : AreTextsOf (IsEventText telling terms) events text
+  pub explained : terms.reply_limit ≡ Counts → IsExplained (view_of telling) terms.profile (length past) es text
 
 -- before the first record
-pub explained-start : (which : View) (profile : Profile) (n : ℕ) → IsExplained which profile n [] []
-explained-start which profile n = grind arith
+pub explained-start : (view : View) (profile : Profile) (n : ℕ) → IsExplained view profile n [] []
+explained-start view profile n = grind arith
 
-abbrev pub keeps-none : {tail : List LineByte} (which : View) (terms : Terms) (past : List LineByte) → tail ≡ [] → Keeps which terms past [] tail
-keeps-none which terms past e = record {
+abbrev pub keeps-none : {tail : List LineByte} (telling : Telling) (terms : Terms) (past : List LineByte) → tail ≡ [] → Keeps telling terms past [] tail
+keeps-none telling terms past e = record {
   items = [];
   cut = (sym e, IsTail.nothing e);
   run = run_start terms.profile;
+  events = [];
+  are_events = refl;
   text = [];
-  explained = explained-start which terms.profile (length past);
+  texts = refl;
+  explained = λ counts. explained-start (view_of telling) terms.profile (length past);
 }
 
 -- the records so far of a part, before which the capture has those of `past`, keep the rules and have these exchanges; the pairer
--- has their tail, the tracker keeps the states that the runs of their exchanges end in, and what the view shows of these was written
-pub record SoFar {R : Type 0} (view : View) (terms : Terms) (rows : Option Rows) (past : List LineByte) (j : Judging R) (old now : Option (List ℕ))
-    (es : List Exchange) : Type 0 where
-  pub keeps : Keeps view terms past es j.follower.pairer.tail
-  pub open keeps use {items, cut, run, text, explained}
+-- has their tail, the tracker keeps the states that the runs of their exchanges end in, what is told of them was written, and so many late replies are
+-- among it
+pub record SoFar {R : Type 0} (telling : Telling) (terms : Terms) (rows : Option Rows) (past : List LineByte) (j : Judging R) (old now : Option (List ℕ))
+    (es : List Exchange) (late : ℕ) : Type 0 where
+  pub keeps : Keeps telling terms past es j.follower.pairer.tail
+  pub open keeps use {items, cut, run, events, are_events, text, texts, explained}
+  pub counted : late ≡ late_replies events
   pub follows : KeepsEnds terms.profile es j.follower.tracker
   pub wrote : Appends old now text
   pub few : length es ≤ j.rows.given
@@ -102,10 +115,11 @@ later {r = r} given takes x e =
     let t : x ≡ r.time_us = cc in omega arith
 
 -- before the first row of a part
-abbrev pub so_far-begin : {R : Type 0} {which : View} {terms : Terms} {rows : Option Rows} {past : List LineByte} {j : Judging R} {now : Option (List ℕ)}
-    → KnowsNothing terms j.follower → j.rows.standing ≡ Standing.Reading → WereRead rows past j.rows.rows → AreGiven past j.rows → SoFar which terms rows past j now now []
-so_far-begin {which = which} {terms = terms} {past = past} {j = j} {now = now} begins is_reading read are_given = record {
-  keeps = keeps-none which terms past (ap (λ (p : Paired). p.tail) begins.fed_nothing);
+abbrev pub so_far-begin : {R : Type 0} {telling : Telling} {terms : Terms} {rows : Option Rows} {past : List LineByte} {j : Judging R} {now : Option (List ℕ)}
+    → KnowsNothing terms j.follower → j.rows.standing ≡ Standing.Reading → WereRead rows past j.rows.rows → AreGiven past j.rows → SoFar telling terms rows past j now now [] 0
+so_far-begin {telling = telling} {terms = terms} {past = past} {j = j} {now = now} begins is_reading read are_given = record {
+  keeps = keeps-none telling terms past (ap (λ (p : Paired). p.tail) begins.fed_nothing);
+  counted = refl;
   follows = follows-start terms.profile j.follower.tracker begins.states begins.profile;
   wrote = Appends-nil now;
   few = omega arith;
@@ -118,8 +132,8 @@ so_far-begin {which = which} {terms = terms} {past = past} {j = j} {now = now} b
 }
 
 -- before the first row
-abbrev pub so_far-start : {R : Type 0} {which : View} {terms : Terms} {j : Judging R} {now : Option (List ℕ)} → IsFresh terms j
-    → SoFar which terms j.rows.rows [] j now now []
+abbrev pub so_far-start : {R : Type 0} {telling : Telling} {terms : Terms} {j : Judging R} {now : Option (List ℕ)} → IsFresh terms j
+    → SoFar telling terms j.rows.rows [] j now now [] 0
 so_far-start {j = j} fresh = so_far-begin fresh.knows_nothing fresh.is_reading (unread j.rows.rows) (given-none j.rows fresh.none_given fresh.no_time)
 
 -- the time at which exchanges end, one of them last
@@ -128,8 +142,8 @@ ends-more : (records : List LineByte) (es : List Exchange) (e : Exchange) (end_u
 ends-more records [] e end_us is = is
 ends-more records (x ∷ es) e end_us is = is
 
-module _ {R : Type 0} {which : View} {terms : Terms} {rows : Option Rows} {past : List LineByte} {j : Judging R} {old now : Option (List ℕ)}
-    {es : List Exchange} (h : SoFar which terms rows past j old now es) where
+module _ {R : Type 0} {telling : Telling} {terms : Terms} {rows : Option Rows} {past : List LineByte} {j : Judging R} {old now : Option (List ℕ)}
+    {es : List Exchange} {late : ℕ} (h : SoFar telling terms rows past j old now es late) where
   -- the rows that it speaks of, where it ends here with no fault
   pub seen_now : Seen rows j.rows.rows (past ++ h.items) None
   seen_now = seen rows j.rows.rows (past ++ h.items) None h.read h.are_given.can_be
@@ -161,39 +175,62 @@ module _ {R : Type 0} {which : View} {terms : Terms} {rows : Option Rows} {past 
   pub not_kept : {next : Paired} {r : LineByte} {x : Reason} → Refuses j.follower.pairer r x next → ¬ IsKept (line_rules terms) (j.follower.pairer.tail ++ r ∷ [])
   not_kept {r = r} refuses = subst (λ (rules : LineRules). ¬ IsKept rules (j.follower.pairer.tail ++ r ∷ [])) h.same_rules refuses.not_kept
 
-  -- after a row, after which the exchanges have a run and this line was written
+  -- after a row, after which the exchanges have a run, and after which what is told of its record was written
   unfoldable pub so_far-more : {k : Judging R} {new : Option (List ℕ)} {r : LineByte} {s : Outcome} (line : List ℕ) → GivesRecord j.rows r k.rows
       → Takes j.follower.pairer r s k.follower.pairer → HasRun terms.profile (exchanges_after es s) → KeepsEnds terms.profile (exchanges_after es s) k.follower.tracker
-      → IsExplained which terms.profile (length past) (exchanges_after es s) (h.text ++ line) → Appends now new line
-      → length (exchanges_after es s) ≤ length es + 1 → SoFar which terms rows past k old new (exchanges_after es s)
-  so_far-more {k = k} {new = new} {r = r} {s = s} line gives takes run follows explained wrote few = record {
-    keeps = record {
-      items = h.items ++ r ∷ [];
-      cut = rw takes.tail (cut-step (line_rules terms) h.items es j.follower.pairer.tail r s h.cut (step_on takes));
-      run = run;
-      text = h.text ++ line;
-      explained = explained;
-    };
-    follows = follows;
-    wrote = Appends-trans old now new h.text line h.wrote wrote;
-    few = omega arith;
-    is_reading = gives.is_reading;
-    no_reason = takes.reason;
-    same_rules = takes.rules ∙ h.same_rules;
-    in_order = λ x e. later gives takes x e;
-    read = read_on gives;
-    are_given = given_on gives;
-  }
+      → AreTextsOf (IsEventText telling terms) (events_by k.rows.given es j.follower.pairer.tail r s) line
+      → (terms.reply_limit ≡ Counts → IsExplained (view_of telling) terms.profile (length past) (exchanges_after es s) (h.text ++ line)) → Appends now new line
+      → length (exchanges_after es s) ≤ length es + 1 → SoFar telling terms rows past k old new (exchanges_after es s) (late_with late s)
+  so_far-more {k = k} {new = new} {r = r} {s = s} line gives takes run follows is explained wrote few =
+      let at : k.rows.given ≡ length past + length h.items + 1 = omega (arith, gives.given, h.are_given.given, length-append past h.items) in
+      record {
+        keeps = record {
+          items = h.items ++ r ∷ [];
+          cut = rw takes.tail (cut-step (line_rules terms) h.items es j.follower.pairer.tail r s h.cut (step_on takes));
+          run = run;
+          events = h.events ++ events_by k.rows.given es j.follower.pairer.tail r s;
+          are_events = rw at (events_push (line_rules terms) [] (length past) [] [] h.items r h.events es j.follower.pairer.tail s (refl, IsTail.nothing refl) h.cut h.are_events
+              (step_on takes));
+          text = h.text ++ line;
+          texts = texts_joined (IsEventText telling terms) h.events _ h.text line h.texts is;
+          explained = explained;
+        };
+        counted = late_more late s k.rows.given es j.follower.pairer.tail r h.events h.counted;
+        follows = follows;
+        wrote = Appends-trans old now new h.text line h.wrote wrote;
+        few = omega arith;
+        is_reading = gives.is_reading;
+        no_reason = takes.reason;
+        same_rules = takes.rules ∙ h.same_rules;
+        in_order = λ x e. later gives takes x e;
+        read = read_on gives;
+        are_given = given_on gives;
+      }
 
-  -- one that ends no exchange
+  -- one of which nothing is told
   so_far-by : {k : Judging R} {r : LineByte} (s : Outcome) → GivesRecord j.rows r k.rows → Takes j.follower.pairer r s k.follower.pairer → IsOpen s
-      → k.follower.tracker ≡ j.follower.tracker → (f : SoFar which terms rows past k old now es) × (f.items ≡ h.items ++ r ∷ [])
+      → k.follower.tracker ≡ j.follower.tracker → (f : SoFar telling terms rows past k old now es late) × (f.items ≡ h.items ++ r ∷ [])
   unfolding so_far-more
   so_far-by (Outcome.completes e) gives takes is_open same = absurd is_open
+  so_far-by Outcome.answers_late gives takes is_open same = absurd is_open
   so_far-by s gives takes is_open same =
-      (so_far-more [] gives takes h.run (rw same h.follows) (rw append-nil h.explained) (Appends-nil now) (omega arith), refl)
+      (so_far-more [] gives takes h.run (rw same h.follows) refl (λ counts. rw append-nil (h.explained counts)) (Appends-nil now) (omega arith), refl)
 
-  pub so_far-open : {k : Judging R} {r : LineByte} → Comes j k r None → SoFar which terms rows past k old now es
+  -- one with which a late reply begins, which was told
+  unfoldable pub so_far-late : {k : Judging R} {new : Option (List ℕ)} {r : LineByte} (line : List ℕ) → GivesRecord j.rows r k.rows → (b : BeginsReplyLate j.follower k.follower r)
+      → IsEventText telling terms (late_reply k.rows.given j.follower.pairer.tail r) line → Appends now new line → SoFar telling terms rows past k old new es (late + 1)
+  so_far-late {r = r} line gives b is wrote =
+      so_far-more line gives b.takes h.run (rw b.same_tracker h.follows) (line, [], is, refl, sym (append-nil line))
+      (λ counts. absurd (limit_counts (line_rules terms) j.follower.pairer.tail r counts (step_on b.takes))) wrote (omega arith)
+
+  pub so_far-late_items : {k : Judging R} (new : Option (List ℕ)) {r : LineByte} (line : List ℕ) (gives : GivesRecord j.rows r k.rows)
+      (b : BeginsReplyLate j.follower k.follower r)
+      (is : IsEventText telling terms (late_reply k.rows.given j.follower.pairer.tail r) line) (wrote : Appends now new line)
+      → (so_far-late {new = new} line gives b is wrote).items ≡ h.items ++ r ∷ []
+  unfolding so_far-late so_far-more
+  so_far-late_items new line gives b is wrote = refl
+
+  pub so_far-open : {k : Judging R} {r : LineByte} → Comes j k r None → SoFar telling terms rows past k old now es late
   so_far-open c = let w = c.took in (so_far-by w.outcome c.gives w.takes w.is_open w.same_tracker).0
 
   pub so_far-open_items : {k : Judging R} {r : LineByte} (c : Comes j k r None) → (so_far-open c).items ≡ h.items ++ r ∷ []
@@ -207,8 +244,8 @@ module _ {R : Type 0} {which : View} {terms : Terms} {rows : Option Rows} {past 
   -- one that ends an exchange, which the tracker has seen and whose line was written
   unfoldable pub so_far-exchange : {k : Judging R} {new : Option (List ℕ)} {r : LineByte} (line : List ℕ) → GivesRecord j.rows r k.rows
       → (c : Completes j.follower k.follower r true)
-      → IsLineOf which terms.profile k.rows.given c.exchange (Possible k.follower.tracker.states) line → Appends now new line
-      → SoFar which terms rows past k old new (es ++ c.exchange ∷ [])
+      → IsLineOf (view_of telling) terms.profile k.rows.given c.exchange (Possible k.follower.tracker.states) line → Appends now new line
+      → SoFar telling terms rows past k old new (es ++ c.exchange ∷ []) late
   so_far-exchange {k = k} {r = r} line gives c is wrote =
       let e = c.exchange in
       let follows = observed_more c.observes in
@@ -217,12 +254,13 @@ module _ {R : Type 0} {which : View} {terms : Terms} {rows : Option Rows} {past 
       (arith, length-append past (h.items ++ r ∷ []), cut_len (line_rules terms) (h.items ++ r ∷ []) (es ++ e ∷ []) [] cut, given_on gives) in
       let end = c.observes.remains.0 refl in
       so_far-more line gives c.takes ((some_end terms.profile (es ++ e ∷ [])).0 (end.0, (follows.states end.0).0 end.1)) follows
-      (explained_more which terms.profile (length past) es e k.rows.given h.text line k.follower.tracker follows h.explained is number) wrote
+      (line, [], exchange_text telling terms es e k.rows.given line k.follower.tracker follows is, refl, sym (append-nil line))
+      (λ counts. explained_more (view_of telling) terms.profile (length past) es e k.rows.given h.text line k.follower.tracker follows (h.explained counts) is number) wrote
       (omega (arith, length_push es e))
 
   pub so_far-exchange_items : {k : Judging R} (new : Option (List ℕ)) {r : LineByte} (line : List ℕ) (gives : GivesRecord j.rows r k.rows)
       (c : Completes j.follower k.follower r true)
-      (is : IsLineOf which terms.profile k.rows.given c.exchange (Possible k.follower.tracker.states) line) (wrote : Appends now new line)
+      (is : IsLineOf (view_of telling) terms.profile k.rows.given c.exchange (Possible k.follower.tracker.states) line) (wrote : Appends now new line)
       → (so_far-exchange {new = new} line gives c is wrote).items ≡ h.items ++ r ∷ []
   unfolding so_far-exchange so_far-more
   so_far-exchange_items new line gives c is wrote = refl
@@ -230,7 +268,7 @@ module _ {R : Type 0} {which : View} {terms : Terms} {rows : Option Rows} {past 
   -- so its last record's time is that at which the exchanges end
   pub exchange_ended : {k : Judging R} (new : Option (List ℕ)) {r : LineByte} (line : List ℕ) (gives : GivesRecord j.rows r k.rows)
       (c : Completes j.follower k.follower r true)
-      (is : IsLineOf which terms.profile k.rows.given c.exchange (Possible k.follower.tracker.states) line) (wrote : Appends now new line)
+      (is : IsLineOf (view_of telling) terms.profile k.rows.given c.exchange (Possible k.follower.tracker.states) line) (wrote : Appends now new line)
       → IsEnd (so_far-exchange {new = new} line gives c is wrote).items (es ++ c.exchange ∷ []) k.follower.pairer.last_time
   exchange_ended {k = k} new {r = r} line gives c is wrote =
       ends-more (so_far-exchange {new = new} line gives c is wrote).items es c.exchange k.follower.pairer.last_time

@@ -4,10 +4,13 @@ use Rattle.judge9.proofs.Words.{Break, CanBeVerdict, CaptureError, CaptureKind, 
 use Rattle.judge9.proofs.Words.{given-refused, GivesRecord, GivesRefusal, Profile, HasHeader, HasRun, IfErr, IfSome, if◌then◌else◌, inl, inr, is_of_text, IsAfter, IsAnswer}
 use Rattle.judge9.proofs.Words.{IsFirstBreak, IsOk, IsOkBefore, IsPlaced, IsSame, IsStartOf, IsTheAnswer, IsVerdictAfter, JudgeError, Judges, Judging, length, length_push}
 use Rattle.judge9.proofs.Words.{length-append, line_of, LineByte, List, no_rows-can_be, None, Observes, Ok, Option, option_map, part_after, Possible, Progress, Puts, Reason}
-use Rattle.judge9.proofs.Words.{refl, refusal_by, refusal_of, refused-after, Refuses, Result, Rows, rows_of, Some, some_end, Outcome, StoppedBefore, subst, sym, tail_by_kept, tail_short}
+use Rattle.judge9.proofs.Words.{refl, refusal_by, refusal_of, refused-after, Refuses, Result, Rows, rows_of, Some, some_end, StoppedBefore, subst, sym, tail_by_kept, tail_short}
 use Rattle.judge9.proofs.Words.{Spoils, Told, Tracked, true, Turn, Turned, Verdict, View, Written, ℕ, ⊤, ◌*◌, ◌++◌, ◌+◌, ◌∙◌, ◌∷◌, ◌≡◌, ◌≢◌, ◌≤◌}
 use Rattle.std.specs.Result.{result_map_both}
+use Rattle.verdict9.specs.Telling.{view_of}
+use Rattle.verdict9.specs.declared.verdict.Telling.TheVariants.{the_data as Telling}
 use Rattle.judge9.proofs.CutSteps.{cut-exchange}
+use Rattle.judge9.proofs.EventSteps.{limit_counts}
 use Rattle.judge9.proofs.LineSteps.{appended, exchange_len, none_after}
 use Rattle.judge9.proofs.LawLemmas.{answer_once, cut_tail, no_run_first, tail_breaks}
 use Rattle.judge9.proofs.SoFar.{Keeps, keeps-none, not_kept, observed_more, of_known, read-more, reason_of, Seen, seen, seen_now, so_far-exchange, so_far-more, so_far-ok, SoFar, step_on, unread, WereRead}
@@ -21,15 +24,15 @@ pub of_text : (text : Option (List ℕ)) (P : Rows → Type 0) → IfSome (optio
 of_text None P k = tt
 of_text (Some t) P k = k
 
-pub answer_of_text : {which : View} {profile : Profile} {result : Result Verdict JudgeError} {old new : Option (List ℕ)} (text : Option (List ℕ))
-    → Judges which profile (option_map rows_of text) result old new → IfSome text (λ t. IfSome (answer_of result) (IsTheAnswer profile (rows_of t)))
+pub answer_of_text : {view : View} {profile : Profile} {result : Result Verdict JudgeError} {old new : Option (List ℕ)} (text : Option (List ℕ))
+    → Judges view profile (option_map rows_of text) result old new → IfSome text (λ t. IfSome (answer_of result) (IsTheAnswer profile (rows_of t)))
 answer_of_text {profile = profile} {result = result} text j =
     let Answered : Rows → Type 0 = λ rows. IfSome (answer_of result) (IsTheAnswer profile rows) in
     of_text text Answered (of_known (option_map rows_of text) j.told.rows Answered j.told.is_known j.told.answer)
 
-pub stopped_of_text : {A : Type 0} {which : View} {profile : Profile} {old new : Option (List ℕ)} (verdict_of : A → Verdict) (result : Result A JudgeError)
+pub stopped_of_text : {A : Type 0} {view : View} {profile : Profile} {old new : Option (List ℕ)} (verdict_of : A → Verdict) (result : Result A JudgeError)
     (text : Option (List ℕ))
-    → Judges which profile (option_map rows_of text) (result_map_both verdict_of (λ e. e) result) old new
+    → Judges view profile (option_map rows_of text) (result_map_both verdict_of (λ e. e) result) old new
     → IfSome text (λ t. IfErr result (StoppedBefore profile (rows_of t)))
 stopped_of_text verdict_of result None j = tt
 stopped_of_text verdict_of (Ok v) (Some t) j = tt
@@ -50,11 +53,11 @@ stopped_unwritten {j = j} {k = k} x c = by c.turned
     by (inr refused) = rw refused.2 (refusal_cases (λ y. y ≢ JudgeError.Write) refused.0.kind refused.0 (λ _ q. cc) (λ q. cc))
 
 -- what is told after these records, of these rows
-unfoldable pub told_after : {which : View} {profile : Profile} {es : List Exchange} {tail items : List LineByte} {rows left : Option Rows}
-    {fault : Option CaptureError} {old new : Option (List ℕ)} (keeps : Keeps which (counting profile) [] es tail) (s : Seen rows left items fault)
+unfoldable pub told_after : {telling : Telling} {profile : Profile} {es : List Exchange} {tail items : List LineByte} {rows left : Option Rows}
+    {fault : Option CaptureError} {old new : Option (List ℕ)} (keeps : Keeps telling (counting profile) [] es tail) (s : Seen rows left items fault)
     (r : Result Verdict JudgeError)
     → IsStartOf keeps.items s.all.records → IfSome (answer_of r) (IsTheAnswer profile s.all) → Written profile s.all keeps.items keeps.text r old new
-    → Told which profile rows r old new
+    → Told (view_of telling) profile rows r old new
 told_after {es = es} {tail = tail} keeps s r start answer written = record {
   rows = s.all;
   is_known = s.is_known;
@@ -67,15 +70,15 @@ told_after {es = es} {tail = tail} keeps s r start answer written = record {
   cut = keeps.cut;
   run = keeps.run;
   text = keeps.text;
-  explained = keeps.explained;
+  explained = keeps.explained refl;
   written = written;
 }
 
 -- where there was no memory for the tracker, and nothing was read
-pub told-nothing : (which : View) (profile : Profile) (rows : Option Rows) (old : Option (List ℕ)) → Told which profile rows (Err JudgeError.OutOfMemory) old old
-told-nothing which profile rows old =
+pub told-nothing : (view : View) (profile : Profile) (rows : Option Rows) (old : Option (List ℕ)) → Told view profile rows (Err JudgeError.OutOfMemory) old old
+told-nothing view profile rows old =
     let s = seen rows rows [] None (unread rows) no_rows-can_be in
-    told_after (keeps-none which (counting profile) [] refl) s (Err JudgeError.OutOfMemory) s.start tt (Appends-nil old)
+    told_after (keeps-none (Telling.Shown view) (counting profile) [] refl) s (Err JudgeError.OutOfMemory) s.start tt (Appends-nil old)
 
 -- ---- what a judging can bring, whatever the reader tells of its bytes
 
@@ -94,8 +97,8 @@ cut_counts rules p (e ∷ es) t h =
 -- ---- all that the result tells, at each end
 
 -- a result that is no refusal of the capture, by what was written with it
-pub judges-told : {which : View} {profile : Profile} {rows : Option Rows} {old new : Option (List ℕ)} (now : Option (List ℕ)) (line : List ℕ)
-    (r : Result Verdict JudgeError) → Told which profile rows r old new → CanBeResult r → Puts line r now new → Judges which profile rows r old new
+pub judges-told : {view : View} {profile : Profile} {rows : Option Rows} {old new : Option (List ℕ)} (now : Option (List ℕ)) (line : List ℕ)
+    (r : Result Verdict JudgeError) → Told view profile rows r old new → CanBeResult r → Puts line r now new → Judges view profile rows r old new
 judges-told now line (Err (JudgeError.Capture e)) told can puts = absurd puts
 judges-told {rows = rows} now line r told can puts = record {
   told = told;
@@ -110,8 +113,8 @@ judges-told {rows = rows} now line r told can puts = record {
 pub break_given : {R : Type 0} {j k : Judging R} {b : Break} → Turned j (Ok (Turn.Break b)) k → GivesRecord j.rows b.record k.rows
 break_given {j = j} {k = k} t = subst (λ r. GivesRecord j.rows r k.rows) (sym t.1.took.0) t.1.gives
 
-module _ {R : Type 0} {which : View} {terms : Terms} {rows : Option Rows} {past : List LineByte} {j : Judging R} {old now : Option (List ℕ)}
-    {es : List Exchange} (h : SoFar which terms rows past j old now es) where
+module _ {R : Type 0} {telling : Telling} {terms : Terms} {rows : Option Rows} {past : List LineByte} {j : Judging R} {old now : Option (List ℕ)}
+    {es : List Exchange} {late : ℕ} (h : SoFar telling terms rows past j old now es late) where
   -- a rule of pairing
   breaks-pairing : {paired : Paired} {next : LineByte} {reason : Reason} → Refuses j.follower.pairer next reason paired
       → Breaks terms h.items next reason
@@ -145,10 +148,10 @@ module _ {R : Type 0} {which : View} {terms : Terms} {rows : Option Rows} {past 
       by (inl refused) = breaks-pairing refused.0
       by (inr none) = rw none.0 (breaks-run none.1)
 
-module _ {R : Type 0} {which : View} {profile : Profile} {rows : Option Rows} {j : Judging R} {old now : Option (List ℕ)} {es : List Exchange}
-    (h : SoFar which (counting profile) rows [] j old now es) where
+module _ {R : Type 0} {telling : Telling} {profile : Profile} {rows : Option Rows} {j : Judging R} {old now : Option (List ℕ)} {es : List Exchange} {late : ℕ}
+    (h : SoFar telling (counting profile) rows [] j old now es late) where
   -- memory was refused
-  pub judges-memory : {new : Option (List ℕ)} → Appends now new [] → Judges which profile rows (Err JudgeError.OutOfMemory) old new
+  pub judges-memory : {new : Option (List ℕ)} → Appends now new [] → Judges (view_of telling) profile rows (Err JudgeError.OutOfMemory) old new
   judges-memory {new = new} none =
       let s = seen_now h in judges-told now [] (Err JudgeError.OutOfMemory)
       (told_after h.keeps s (Err JudgeError.OutOfMemory) s.start tt (none_after old now new h.text h.wrote none)) tt none
@@ -157,7 +160,7 @@ module _ {R : Type 0} {which : View} {profile : Profile} {rows : Option Rows} {j
   judges-verdict : {new : Option (List ℕ)} {items : List LineByte} {left : Option Rows} {fault : Option CaptureError} (s : Seen rows left items fault)
       (v : Verdict) (r : Result Verdict JudgeError) → IsStartOf h.items s.all.records → IsAnswer profile s.all (Answer.judged v) → IsVerdictAfter h.items v
       → CanBeVerdict v
-      → IsSame v r → Puts (line_of v) r now new → (judges : Judges which profile rows r old new) × (judges.told.rows ≡ s.all)
+      → IsSame v r → Puts (line_of v) r now new → (judges : Judges (view_of telling) profile rows r old new) × (judges.told.rows ≡ s.all)
   unfolding told_after judges-told
   judges-verdict {new = new} s v (Ok w) start is after can same puts =
       rw same (
@@ -180,7 +183,7 @@ module _ {R : Type 0} {which : View} {profile : Profile} {rows : Option Rows} {j
   -- there is no row left
   pub judges-end : {k : Judging R} {new : Option (List ℕ)} {n : ℕ} (r : Result Verdict JudgeError) → EndsRows j k → n ≡ length es
       → IsSame (Verdict.Yes k.rows.given n (length k.follower.pairer.tail)) r → Puts (line_of (Verdict.Yes k.rows.given n (length k.follower.pairer.tail))) r now new
-      → (judges : Judges which profile rows r old new) × (judges.told.rows.records ≡ h.items)
+      → (judges : Judges (view_of telling) profile rows r old new) × (judges.told.rows.records ≡ h.items)
   judges-end {k = k} {n = n} r t count same puts =
       let s = seen_now h in
       let whole : s.all ≡ record { records = h.items; fault = None } = s.whole t.ends.none_left in
@@ -208,7 +211,7 @@ module _ {R : Type 0} {which : View} {profile : Profile} {rows : Option Rows} {j
   pub judges-no : {new : Option (List ℕ)} {given : Progress R} {next : LineByte} {reason : Reason} (r : Result Verdict JudgeError)
       → GivesRecord j.rows next given → Breaks (counting profile) h.items next reason → IsSame (Verdict.No given.given reason) r
       → Puts (line_of (Verdict.No given.given reason)) r now new
-      → (judges : Judges which profile rows r old new) × IsStartOf (h.items ++ next ∷ []) judges.told.rows.records
+      → (judges : Judges (view_of telling) profile rows r old new) × IsStartOf (h.items ++ next ∷ []) judges.told.rows.records
   judges-no {given = given} {next = next} {reason = reason} r gives breaks same puts =
       let after = given-more h.items j.rows given next h.are_given gives in
       let s = seen rows given.rows (h.items ++ next ∷ []) None (read-more rows j.rows.rows given.rows h.items next h.read gives.rows) after.can_be in
@@ -221,9 +224,9 @@ module _ {R : Type 0} {which : View} {profile : Profile} {rows : Option Rows} {j
 
   -- the capture is refused
   pub judges-refusal : {given : Progress R} {e : CaptureError} {x : JudgeError} → GivesRefusal j.rows e given → x ≡ refusal_of e
-      → Judges which profile rows (Err x) old now
+      → Judges (view_of telling) profile rows (Err x) old now
   judges-refusal {given = given} {e = e} {x = x} refusal same =
-      rw same (refusal_cases (λ y. Judges which profile rows (Err y) old now) e.kind e whole (judges-memory (Appends-nil now)))
+      rw same (refusal_cases (λ y. Judges (view_of telling) profile rows (Err y) old now) e.kind e whole (judges-memory (Appends-nil now)))
     where
       place : IsAfter h.items e
       place = refused-after j.rows given e h.items refusal h.are_given.given
@@ -253,7 +256,7 @@ module _ {R : Type 0} {which : View} {profile : Profile} {rows : Option Rows} {j
             is_ok = so_far-ok h;
           }
 
-      whole : e.kind ≢ CaptureKind.OutOfMemory → Judges which profile rows (Err (JudgeError.Capture e)) old now
+      whole : e.kind ≢ CaptureKind.OutOfMemory → Judges (view_of telling) profile rows (Err (JudgeError.Capture e)) old now
       whole other =
           let known = told_rows (is_of_text e.kind) refl in record {
             told = told_after h.keeps known.0 (Err (JudgeError.Capture e)) known.0.start known.1 (place, h.wrote);
@@ -264,7 +267,7 @@ module _ {R : Type 0} {which : View} {profile : Profile} {rows : Option Rows} {j
 
   -- an exchange, whose line was not written whole
   pub judges-explained : {k : Judging R} {new : Option (List ℕ)} (x : JudgeError) (t : Turned j (Ok Turn.Exchange) k)
-      → Explains which profile k.rows.given t.1.took.exchange (Possible k.follower.tracker.states) (Err x) now new → Judges which profile rows (Err x) old new
+      → Explains (view_of telling) profile k.rows.given t.1.took.exchange (Possible k.follower.tracker.states) (Err x) now new → Judges (view_of telling) profile rows (Err x) old new
   unfolding so_far-exchange so_far-more
   judges-explained (JudgeError.Capture c) t line = absurd line.puts
   judges-explained {new = new} JudgeError.Write t line =
@@ -274,7 +277,11 @@ module _ {R : Type 0} {which : View} {profile : Profile} {rows : Option Rows} {j
       (inl (part_after old now new h.text line.line h.wrote line.puts))) tt line.puts
   judges-explained JudgeError.OutOfMemory t line = judges-memory line.puts
 
+  -- a late reply, which there is none of where the limit counts
+  pub judges-late : {k : Judging R} {r : LineByte} {P : Type 0} → Turned j (Ok (Turn.Late r)) k → P
+  judges-late t = absurd (limit_counts (line_rules (counting profile)) j.follower.pairer.tail t.0 refl (step_on h t.1.took.1.takes))
+
   -- the rows were refused, or memory was
-  pub judges-stopped : (k : Judging R) (x : JudgeError) → Turned j (Err x) k → Judges which profile rows (Err x) old now
+  pub judges-stopped : (k : Judging R) (x : JudgeError) → Turned j (Err x) k → Judges (view_of telling) profile rows (Err x) old now
   judges-stopped k x (inl memory) = rw memory (judges-memory (Appends-nil now))
   judges-stopped k x (inr refused) = judges-refusal refused.1 refused.2

@@ -1,8 +1,9 @@
 -- What the rows do whose records come to nothing yet, and what a turn of a judging tells.
 use Rattle.std.specs.declared.alloc.AllocError.{AllocError}
-use Rattle.judge9.proofs.Words.{Terms, [], AreOpen, arith, Break, Comes, Completes, ComesTo, Err, Exchange, Follower, ForSome, GivesRecord, IsAtExchange, IsEnd, IsErrAnd, IsObserved, IsOpen}
-use Rattle.judge9.proofs.Words.{ap, JudgeError, Judging, LineByte, List, None, Observes, Ok, Option, Outcome, Paired, Profile, Progress, Reason, refl, Result, Rows, Some, Step, step_of, subst, suc, sym, Takes, Took}
-use Rattle.judge9.proofs.Words.{Tracked, Turn, Turned, View, Waits, zero, inr, inl, Bool, if◌then◌else◌, takes_up_at, ℕ, ◌*◌, ◌++◌, ◌+◌, ◌-◌, ◌<◌, ◌∙◌, ◌∷◌, ◌≡◌, ◌≢◌, ◌≤◌}
+use Rattle.judge9.proofs.Words.{IsAtLate, Terms, [], AreOpen, arith, Comes, ComesTo, Err, Exchange, Follower, ForSome, IsAtExchange, IsEnd, IsErrAnd, IsObserved, IsOpen}
+use Rattle.judge9.proofs.Words.{ap, JudgeError, Judging, LineByte, List, None, Ok, Option, Outcome, Paired, refl, Result, Rows, Some, Step, step_of, subst, suc, sym, Takes, Took}
+use Rattle.judge9.proofs.Words.{Turn, Turned, zero, inr, Bool, if◌then◌else◌, takes_up_at, ℕ, ◌*◌, ◌++◌, ◌+◌, ◌-◌, ◌<◌, ◌∙◌, ◌∷◌, ◌≡◌, ◌≢◌, ◌≤◌}
+use Rattle.verdict9.specs.declared.verdict.Telling.TheVariants.{the_data as Telling}
 use Rattle.judge9.proofs.SoFar.{later, so_far-open, so_far-open_items, SoFar}
 
 -- an error that is handed on
@@ -19,29 +20,30 @@ opened P keeps zero front h o = subst P (sym o) h
 opened P keeps (suc n) front h o = keeps o.0 front o.2 (opened P keeps n o.0 h o.1) o.3
 
 -- what holds of what is so far before the row at which something comes
-pub comes : {R : Type 0} {which : View} {terms : Terms} {rows : Option Rows} {past : List LineByte} {j k : Judging R} {old now : Option (List ℕ)}
-    {es : List Exchange} {r : Result Turn JudgeError} {P : Type 0} → SoFar which terms rows past j old now es → ComesTo j r k
-    → ((front : Judging R) → SoFar which terms rows past front old now es → Turned front r k → P) → P
-comes {which = which} {terms = terms} {rows = rows} {past = past} {old = old} {now = now} {es = es} h c at =
-    at c.front (opened (λ k. SoFar which terms rows past k old now es) (λ i k r far one. so_far-open far one) c.are_open.0 c.front h c.are_open.1) c.turned
+pub comes : {R : Type 0} {telling : Telling} {terms : Terms} {rows : Option Rows} {past : List LineByte} {j k : Judging R} {old now : Option (List ℕ)}
+    {es : List Exchange} {late : ℕ} {r : Result Turn JudgeError} {P : Type 0} → SoFar telling terms rows past j old now es late → ComesTo j r k
+    → ((front : Judging R) → SoFar telling terms rows past front old now es late → Turned front r k → P) → P
+comes {telling = telling} {terms = terms} {rows = rows} {past = past} {old = old} {now = now} {es = es} {late = late} h c at =
+    at c.front (opened (λ k. SoFar telling terms rows past k old now es late) (λ i k r far one. so_far-open far one) c.are_open.0 c.front h c.are_open.1) c.turned
 
 -- such a row leaves a record open
-filled : {P : Type 0} (t : List LineByte) (r : LineByte) → t ++ r ∷ [] ≡ [] → P
+pub filled : {P : Type 0} (t : List LineByte) (r : LineByte) → t ++ r ∷ [] ≡ [] → P
 filled [] r e = cc
 filled (x ∷ t) r e = cc
 
 left_open : {P : Type 0} {old new : Paired} {r : LineByte} (s : Outcome) → Takes old r s new → IsOpen s → new.tail ≡ [] → P
 left_open (Outcome.completes e) takes is_open nil = absurd is_open
+left_open Outcome.answers_late takes is_open nil = absurd is_open
 left_open {old = old} {r = r} s takes is_open nil = filled old.tail r (sym takes.tail ∙ nil)
 
 -- and what holds of its records, where one more keeps it
-pub comes_with : {R : Type 0} {which : View} {terms : Terms} {rows : Option Rows} {past : List LineByte} {j k : Judging R} {old now : Option (List ℕ)}
-    {es : List Exchange} {r : Result Turn JudgeError} {P : Type 0} (Q : Judging R → List LineByte → Type 0)
+pub comes_with : {R : Type 0} {telling : Telling} {terms : Terms} {rows : Option Rows} {past : List LineByte} {j k : Judging R} {old now : Option (List ℕ)}
+    {es : List Exchange} {late : ℕ} {r : Result Turn JudgeError} {P : Type 0} (Q : Judging R → List LineByte → Type 0)
     → ((i k : Judging R) (items : List LineByte) (r : LineByte) → Q i items → Comes i k r None → Q k (items ++ r ∷ []))
-    → (h : SoFar which terms rows past j old now es) → Q j h.items → ComesTo j r k
-    → ((front : Judging R) (f : SoFar which terms rows past front old now es) → Q front f.items → Turned front r k → P) → P
-comes_with {which = which} {terms = terms} {rows = rows} {past = past} {old = old} {now = now} {es = es} Q more h q c at =
-    let w = opened (λ i. (f : SoFar which terms rows past i old now es) × Q i f.items)
+    → (h : SoFar telling terms rows past j old now es late) → Q j h.items → ComesTo j r k
+    → ((front : Judging R) (f : SoFar telling terms rows past front old now es late) → Q front f.items → Turned front r k → P) → P
+comes_with {telling = telling} {terms = terms} {rows = rows} {past = past} {old = old} {now = now} {es = es} {late = late} Q more h q c at =
+    let w = opened (λ i. (f : SoFar telling terms rows past i old now es late) × Q i f.items)
     (λ i k r far one. (
       so_far-open far.0 one,
       subst (Q k) (sym (so_far-open_items far.0 one))
@@ -89,26 +91,45 @@ at_completed j k t =
 pub at_exchange_of : {R : Type 0} (j k : Judging R) → ComesTo j (Ok Turn.Exchange) k → IsAtExchange k
 at_exchange_of j k c = at_completed c.front k c.turned
 
+-- and what it is at that came to a late reply
+pub at_late_of : {R : Type 0} (j k : Judging R) {r : LineByte} → ComesTo j (Ok (Turn.Late r)) k → IsAtLate k
+at_late_of j k c =
+    let t = c.turned in record {
+      no_reason = t.1.took.1.takes.reason;
+      in_order = λ x e. later t.1.gives t.1.took.1.takes x e;
+      given = omega (arith, t.1.gives);
+      within = t.1.gives.within;
+    }
+
 -- it takes a row at least
 pub more_given : {R : Type 0} (j k : Judging R) → ComesTo j (Ok Turn.Exchange) k → j.rows.given + 1 ≤ k.rows.given
 more_given j k c = omega (arith, none_lost c, c.turned.1.gives)
 
--- what is left to do where a turn came: rows, and a record that broke a part may break the next, for another reason
+pub more_given_late : {R : Type 0} (j k : Judging R) {r : LineByte} → ComesTo j (Ok (Turn.Late r)) k → j.rows.given + 1 ≤ k.rows.given
+more_given_late j k c = omega (arith, none_lost c, c.turned.1.gives)
+
+-- what is left to do where a turn came: rows, and a record that broke a part may begin a late reply besides, or break the next for another reason
 abbrev pub weight : Turn → ℕ
 weight Turn.End = 0
 weight Turn.Exchange = 1
-weight (Turn.Break b) = if takes_up_at b.reason then 2 else 1
+weight (Turn.Late r) = 1
+weight (Turn.Break b) = if takes_up_at b.reason then 3 else 2
 
 abbrev pub left_at : {R : Type 0} → Turn → Judging R → ℕ
-left_at turn k = 3 * (4000000 - k.rows.given) + weight turn
+left_at turn k = 4 * (4000000 - k.rows.given) + weight turn
 
-small : (b : Bool) → (if b then 2 else 1) ≤ 2
+small : (b : Bool) → (if b then 3 else 2) ≤ 3
 small b = grind arith
 
 pub less_after : {R : Type 0} (turn : Turn) (j k : Judging R) → ComesTo j (Ok turn) k → left_at turn k < left_at Turn.Exchange j
 less_after Turn.End j k c = omega (arith, none_lost c, c.turned.ends.given)
 less_after Turn.Exchange j k c = omega (arith, none_lost c, c.turned.1.gives.given, c.turned.1.gives.within)
+less_after (Turn.Late r) j k c = omega (arith, none_lost c, c.turned.1.gives.given, c.turned.1.gives.within)
 less_after (Turn.Break b) j k c = omega (arith, small (takes_up_at b.reason), none_lost c, c.turned.1.gives.given, c.turned.1.gives.within)
+
+pub given_on_turn : {R : Type 0} (turn : Turn) (j k : Judging R) → ComesTo j (Ok turn) k → j.rows.given ≤ k.rows.given
+given_on_turn Turn.End j k c = omega (arith, none_lost c, c.turned.ends.given)
+given_on_turn turn j k c = omega (arith, none_lost c, c.turned.1.gives.given)
 
 -- the exchange is the one that the pairer shows
 pub same_exchange : {o : Option Exchange} {e f : Exchange} → o ≡ Some f → o ≡ Some e → f ≡ e
@@ -117,11 +138,17 @@ same_exchange one other = cc
 -- ---- what a record comes to
 
 -- what the pairer answered of a record
-pub open_outcome : (s : Step) (o : Outcome) → s ≡ step_of o → s ≢ Step.Exchange → IsOpen o
-open_outcome s Outcome.leaves_open is not = tt
-open_outcome s Outcome.answers_late is not = tt
-open_outcome s Outcome.asks is not = tt
-open_outcome s (Outcome.completes e) is not = absurd (not is)
+pub open_outcome : (s : Step) (o : Outcome) → s ≡ step_of o → s ≢ Step.Exchange → s ≢ Step.LateReply → IsOpen o
+open_outcome s Outcome.leaves_open is not late = tt
+open_outcome s Outcome.answers_late is not late = absurd (late is)
+open_outcome s Outcome.asks is not late = tt
+open_outcome s (Outcome.completes e) is not late = absurd (not is)
+
+pub answering_late : (o : Outcome) → Step.LateReply ≡ step_of o → o ≡ Outcome.answers_late
+answering_late Outcome.leaves_open is = absurd (cc is)
+answering_late Outcome.answers_late is = refl
+answering_late Outcome.asks is = absurd (cc is)
+answering_late (Outcome.completes e) is = absurd (cc is)
 
 pub completing : (o : Outcome) → Step.Exchange ≡ step_of o → (e : Exchange) × (o ≡ Outcome.completes e)
 completing Outcome.leaves_open is = absurd (cc is)
@@ -136,6 +163,7 @@ took-observed f g {e = e} (Ok (Some Turn.Exchange)) takes same o = record { exch
 took-observed f g {e = e} (Ok (Some (Turn.Break b))) takes same o =
     (o.0, inr (o.1, record { exchange = e; takes = rw (same, o.0) takes; observes = o.2 }))
 took-observed f g (Ok (Some Turn.End)) takes same o = absurd o
+took-observed f g (Ok (Some (Turn.Late x))) takes same o = absurd o
 took-observed f g (Ok None) takes same o = absurd o
 took-observed f g (Err x) takes same o = tt
 

@@ -1,8 +1,12 @@
 -- Why a record broke a rule.
-use Rattle.judge9.proofs.Words.{Terms, LineRules, line_rules, Err, IfOk, Result, SaysNoRun, [], ap, append_assoc, arith, Break, Completes, Cut, EndedExchange, Exchange, HasItsWhy, inl, inr, IsBefore, IsBreakAfter, IsEnd, Judging}
+use Rattle.judge9.proofs.Words.{BeginsLate, take_all, ◌⊎◌, Terms, LineRules, line_rules, Err, IfOk, Result, SaysNoRun, [], ap, append_assoc, arith, Break, Cut, EndedExchange, Exchange, HasItsWhy, inl, inr, IsBefore, IsBreakAfter, IsEnd, Judging}
 use Rattle.judge9.proofs.Words.{length, length_push, LineByte, List, Ok, Option, Paired, Profile, Reason, refl, Rows, SaysWhy, Spoils, subst, sym, take, take-append_seam, Turn, Turned}
-use Rattle.judge9.proofs.Words.{Some, Verdict, View, WhyVerdict, ℕ, ◌++◌, ◌+◌, ◌∙◌, ◌∷◌, ◌≡◌, ◌≢◌}
+use Rattle.judge9.proofs.Words.{Some, Verdict, WhyVerdict, ℕ, ◌++◌, ◌+◌, ◌∙◌, ◌∷◌, ◌≡◌, ◌≢◌}
+use Rattle.verdict9.specs.declared.verdict.Telling.TheVariants.{the_data as Telling}
 use Rattle.std.specs.declared.alloc.AllocError.{AllocError}
+use Rattle.block9.proofs.FeedLemmas.{open_after_late, open_before_late}
+use Rattle.block9.specs.Pairer.{IsOpenAfter}
+use Rattle.block9.specs.declared.open.Open.{Open}
 use Rattle.judge9.specs.WhyVerdict.{moved, verdict_of}
 use Rattle.judge9.proofs.CutSteps.{cut-exchange}
 use Rattle.judge9.proofs.LawLemmas.{pairing_reason}
@@ -75,8 +79,8 @@ unmoved profile past at b paired es end_us (WhyVerdict.Contradiction number exch
 )
 
 -- what is said of a break is right for records that go on with the one that breaks
-pub why_is : {R : Type 0} {view : View} {terms : Terms} {all : Option Rows} {past : List LineByte} {old now : Option (List ℕ)} {front : Judging R} {es : List Exchange}
-    (end_us : Option ℕ) {b : Break} {k : Judging R} (f : SoFar view terms all past front old now es) → IsEnded es end_us front f.items
+pub why_is : {R : Type 0} {telling : Telling} {terms : Terms} {all : Option Rows} {past : List LineByte} {old now : Option (List ℕ)} {front : Judging R} {es : List Exchange} {late : ℕ}
+    (end_us : Option ℕ) {b : Break} {k : Judging R} (f : SoFar telling terms all past front old now es late) → IsEnded es end_us front f.items
     → Turned front (Ok (Turn.Break b)) k → (rows : Rows) (after : List LineByte) → rows.records ≡ f.items ++ b.record ∷ after → (at : ℕ) → at ≡ length f.items + 1
     → (why : WhyVerdict) → SaysWhy terms.profile at b k.follower.pairer es end_us why → (verdict_of why ≡ Verdict.No at b.reason) × HasItsWhy terms rows why
 why_is {terms = terms} {front = front} {es = es} end_us {b = b} {k = k} f ended t rows after split at number why says = by t.1.took.1
@@ -95,3 +99,15 @@ why_is {terms = terms} {front = front} {es = es} end_us {b = b} {k = k} f ended 
         let size : at ≡ length read = omega (arith, number, length_push f.items b.record) in
         let up_to : take at rows.records ≡ read = rw whole (ap (λ n. take n (read ++ after)) size ∙ take-append_seam read after) in
         no_run_why terms rows at b k.follower.pairer es end_us c.exchange why says none.0 c.takes.exchange (rw up_to cut)
+
+-- why a reply is late: what is open of its command
+pub late_said : (rules : LineRules) (tail asked items : List LineByte) (r : LineByte) (o : Open) → IsOpenAfter rules tail o → items ≡ take o.asked tail
+    → BeginsLate rules asked r → (tail ≡ asked) ⊎ (tail ≡ asked ++ r ∷ [])
+    → (items ≡ asked) × IsOpenAfter rules asked (record { command = o.command; asked = o.asked; answered = 0; wanted = 0; sum = 0 })
+late_said rules tail asked items r o opened is late (inl same) =
+    let whole = late.asked.2 in
+    let told = open_before_late rules asked late.asked.0 late.asked.1 o whole (rw same at opened) in
+    (is ∙ ap (λ n. take n tail) told.0 ∙ ap (take (length asked)) same ∙ take_all (length asked) asked (omega arith), told.1)
+late_said rules tail asked items r o opened is late (inr same) =
+    let told = open_after_late rules asked r late.asked.0 late.asked.1 o late.asked.2 (rw same at opened) in
+    (is ∙ ap (λ n. take n tail) told.0 ∙ ap (take (length asked)) same ∙ take-append_seam asked (r ∷ []), told.1)

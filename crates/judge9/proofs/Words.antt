@@ -9,7 +9,7 @@ pub use Rattle.verdict9.specs.OpenRecords.{IsBefore}
 pub use Rattle.verdict9.specs.declared.why_verdict.EndedExchange.{EndedExchange}
 pub use Rattle.block9.specs.Command.{meaning_in, Row}
 unfoldable pub use Rattle.block9.specs.Command.{command_of}
-pub use Rattle.block9.specs.Exchange.{Does, IsExchange, IsKept, IsTail, step_of, tail_after}
+pub use Rattle.block9.specs.Exchange.{BeginsLate, Does, IsExchange, IsKept, IsTail, step_of, tail_after, TellsLate}
 pub use Rattle.block9.specs.declared.pairer.Step.TheVariants.{the_data as Step}
 pub use Rattle.block9.specs.Line.{bytes_of, last_time}
 pub use Rattle.block9.specs.Pairer.{Paired}
@@ -51,14 +51,14 @@ pub use Rattle.block9.specs.Line.{last_time}
 pub use Rattle.judge9.specs.Working.Endings.{IsEnd, JudgesRun, JudgesWhy}
 pub use Rattle.track9.specs.Following.{KeepsEnds}
 pub use Rattle.judge9.specs.Parts.{AreParts, AreTotals, BrokenPart, exchanges_of, from_command, in_parts, IsPart, may_begin, number_of, Part, Rest, rest_after, takes_up_at}
-pub use Rattle.judge9.specs.Parts.{begins_next_part}
-pub use Rattle.judge9.specs.PartsReport.{AreTextsOf, InParts, PartsTold, IsRefusedAfter, IsTextOf, IsToTheEnd, ToldInParts, WrittenInParts}
+pub use Rattle.judge9.specs.Parts.{AreEvents, begins_next_part, Event, events_by, events_in, events_of, exchanges_after, late_replies}
+pub use Rattle.judge9.specs.PartsReport.{AreTextsOf, InParts, IsEndText, IsEventText, SaysLate, PartsTold, IsRefusedAfter, IsTextOf, IsToTheEnd, ToldInParts, WrittenInParts}
 pub use Rattle.block9.specs.Exchange.{records_in}
 pub use Rattle.report9.specs.WhyText.{text_of_why}
-pub use Rattle.judge9.specs.Working.Parts.{BeginsAfter, BeginsAt, ComesThen, IsBreakText, SaysNoRun, SaysWhy, GivesAll, JudgesParts, last_of, NoneBegins, Resumes, PassesOver, ResumesAfter, TakesUp}
-pub use Rattle.judge9.specs.Working.Turns.{AreOpen, Comes, Completes, ComesTo, EndsRows, IsFresh, IsObserved, IsOpen, KnowsNothing, Observes, Spoils, Took, Turned, Waits}
+pub use Rattle.judge9.specs.Working.Parts.{BeginsAfter, BeginsAt, ComesThen, IsBreakText, IsLateBefore, IsPutBreak, SaysNoRun, SaysWhy, GivesAll, JudgesParts, last_of, NoneBegins, Resumes, PassesOver, ResumesAfter, TakesUp}
+pub use Rattle.judge9.specs.Working.Turns.{AreOpen, BeginsReplyLate, Comes, Completes, ComesTo, EndsRows, IsFresh, IsObserved, IsOpen, KnowsNothing, Observes, Spoils, Took, Turned, Waits}
 pub use Rattle.judge9.specs.declared.part.PartLog.{PartLog}
-pub use Rattle.judge9.specs.Working.Part.{GoesThrough, IsAtExchange, IsJudgedFirst, IsJudgedPart, IsLogOf, IsLogged, TellsAt, turn_of}
+pub use Rattle.judge9.specs.Working.Part.{GoesThrough, IsAtExchange, IsAtLate, IsJudgedFirst, IsJudgedPart, IsLateText, IsLogOf, IsLogged, IsLoggedLate, TellsAt, TellsLateAt, TellsNot, TellsTurn, turn_of}
 pub use Rattle.std.proofs.Common.{ap, arith, drop, get_or, if◌then◌else◌, inl, inr, length-append, OnOk, option_map, refl, slice_range, subst, sym, take-add}
 pub use Rattle.std.proofs.Common.{◌*◌, ◌+◌, ◌++◌, ◌-◌, ◌/◌, ◌<◌, ◌^◌, ◌↔◌, ◌∙◌, ◌∷◌, ◌≡◌, ◌≢◌, ◌≤◌, ◌⊎◌}
 pub use Rattle.std.proofs.KnownBytes.{Appends-nil, Appends-trans}

@@ -8,41 +8,67 @@ use Rattle.capture9.specs.Capture.{IsStartOf}
 use Rattle.capture9.specs.Error.{IsAfter, is_of_text}
 use Rattle.capture9.specs.Rows.{Rows}
 use Rattle.capture9.specs.SomeText.{IsOfSomeText}
+use Rattle.block9.specs.Pairer.{IsOpenAfter}
+use Rattle.block9.specs.declared.line_rules.LineRules.{LineRules}
+use Rattle.block9.specs.declared.reason.Reason.TheVariants.{LateReply}
+use Rattle.deck9.specs.Knowledge.{IsKnowledge}
+use Rattle.deck9.specs.Run.{Ends}
+use Rattle.deck9.specs.declared.knowledge.Knowledge.{Knowledge}
 use Rattle.deck9.specs.declared.profile.Profile.{Profile}
 use Rattle.verdict9.specs.Lines.{line_of, line_of_totals}
 use Rattle.verdict9.specs.declared.error.JudgeError.{JudgeError}
 use Rattle.verdict9.specs.declared.error.JudgeError.TheVariants as error
 use Rattle.verdict9.specs.declared.totals.Totals.{Totals}
 use Rattle.verdict9.specs.declared.verdict.Verdict.TheVariants.{No}
-use Rattle.verdict9.specs.declared.verdict.View.{View}
+use Rattle.verdict9.specs.declared.verdict.View.TheVariants.{Explain}
 use Rattle.verdict9.specs.declared.verdict.Telling.{Telling}
 use Rattle.verdict9.specs.declared.verdict.Telling.TheVariants.{Shown, Why}
-use Rattle.verdict9.specs.Telling.{view_of}
 use Rattle.verdict9.specs.declared.why_verdict.WhyVerdict.{WhyVerdict}
+use Rattle.verdict9.specs.declared.why_verdict.WhyVerdict.TheVariants as why
+use Rattle.text9.specs.Explanation.{line_of_exchange}
 use Rattle.report9.specs.WhyText.{text_of_why}
 use Rattle.text9.specs.Writing.{AppendsPart}
-use Rattle.judge9.specs.Parts.{AreParts, AreTotals, BrokenPart, IsPart, Part, Rest, in_parts, number_of}
-use Rattle.judge9.specs.Report.{IsExplained}
+use Rattle.judge9.specs.Parts.{AreParts, AreTotals, BrokenPart, Event, IsPart, Part, Rest, events_in, in_parts, number_of}
+use Rattle.judge9.specs.Parts.Event.{exchange, late_reply}
+use Rattle.judge9.specs.Verdict.{Terms, line_rules}
 use Rattle.judge9.specs.WhyVerdict.{HasItsWhy, moved, verdict_of}
 
--- what is told of a part that breaks: what the view shows of its exchanges, and the line of its break; or why it breaks, as of a
--- capture that ends with the record that breaks, with the numbers that its records have in the whole capture
-abbrev pub IsTextOf : Telling → Profile → BrokenPart → List ℕ → Type 0
-IsTextOf (Shown view) profile b text =
-    (lines : List ℕ) × IsExplained view profile b.part.past b.part.exchanges lines × (text ≡ lines ++ line_of (No (number_of b) b.reason))
-IsTextOf Why profile b text =
+-- the texts of all these, one after another, where this is the text of each
+abbrev pub AreTextsOf : {A : Type 0} → (A → List ℕ → Type 0) → List A → List ℕ → Type 0
+AreTextsOf IsText [] text = text ≡ []
+AreTextsOf IsText (x ∷ all) text =
+    (first : List ℕ) × (others : List ℕ) × IsText x first × AreTextsOf IsText all others × (text ≡ first ++ others)
+
+-- why a reply is late that begins with this record: the records of its command are open
+abbrev pub SaysLate : LineRules → ℕ → List LineByte → LineByte → WhyVerdict → Type 0
+SaysLate rules at asked r (why.Break number reason tail o before breaking) =
+    (number ≡ at) × (reason ≡ LateReply) × (tail.items ≡ asked) × IsOpenAfter rules asked o × (before ≡ None) × (breaking ≡ r)
+SaysLate rules at asked r _ = ⊥
+
+-- what is written where a late reply begins: the line of its break, or why it is late; and of an exchange what the view shows of it
+abbrev pub IsEventText : Telling → Terms → Event → List ℕ → Type 0
+IsEventText (Shown view) terms (late_reply at asked r) text = text ≡ line_of (No at LateReply)
+IsEventText Why terms (late_reply at asked r) text = (why : WhyVerdict) × SaysLate (line_rules terms) at asked r why × (text ≡ text_of_why terms.profile why)
+IsEventText (Shown Explain) terms (exchange at before e) text =
+    (known : Knowledge) × IsKnowledge (Ends terms.profile (before ++ e ∷ [])) known × (text ≡ line_of_exchange terms.profile at e known)
+IsEventText _ terms (exchange at before e) text = text ≡ []
+
+-- what is written at the break of a part: its line, or why the part breaks, as of a capture that ends with the record that breaks, with the numbers that its
+-- records have in the whole capture
+abbrev pub IsEndText : Telling → Profile → BrokenPart → List ℕ → Type 0
+IsEndText (Shown view) profile b text = text ≡ line_of (No (number_of b) b.reason)
+IsEndText Why profile b text =
     (why : WhyVerdict) × (verdict_of why ≡ No (length b.part.records + 1) b.reason)
     × HasItsWhy (in_parts profile) (record { records = b.part.records ++ b.breaking ∷ []; fault = None }) why × (text ≡ text_of_why profile (moved b.part.past why))
 
--- the texts of all these parts, one after another, where this is the text of each
-abbrev pub AreTextsOf : (BrokenPart → List ℕ → Type 0) → List BrokenPart → List ℕ → Type 0
-AreTextsOf IsText [] text = text ≡ []
-AreTextsOf IsText (b ∷ broken) text =
-    (first : List ℕ) × (others : List ℕ) × IsText b first × AreTextsOf IsText broken others × (text ≡ first ++ others)
+-- what is written of a part that breaks
+abbrev pub IsTextOf : Telling → Profile → BrokenPart → List ℕ → Type 0
+IsTextOf telling profile b text =
+    (lines : List ℕ) × (end : List ℕ) × AreTextsOf (IsEventText telling (in_parts profile)) (events_in b) lines × IsEndText telling profile b end × (text ≡ lines ++ end)
 
 -- what came of these rows is told of the first of their records, `items`: they have these parts that break, and what is left
--- of them begins with the last part, which keeps the rules; `text` is that of the parts that break, and what the view shows of the last
-pub record InParts (IsText : BrokenPart → List ℕ → Type 0) (view : View) (profile : Profile) (rows : Rows) (items : List LineByte) (broken : List BrokenPart)
+-- of them begins with the last part, which keeps the rules; `text` is that of the parts that break, and what is told of the last
+pub record InParts (IsText : BrokenPart → List ℕ → Type 0) (telling : Telling) (profile : Profile) (rows : Rows) (items : List LineByte) (broken : List BrokenPart)
     (left : Rest) (last : Part)
     (text : List ℕ) : Type 0 where
   pub start : IsStartOf items rows.records
@@ -53,7 +79,7 @@ pub record InParts (IsText : BrokenPart → List ℕ → Type 0) (view : View) (
   pub texts : List ℕ
   pub are_texts : AreTextsOf IsText broken texts
   pub lines : List ℕ
-  pub explained : IsExplained view profile last.past last.exchanges lines
+  pub are_lines : AreTextsOf (IsEventText telling (in_parts profile)) last.events lines
   pub whole : text ≡ texts ++ lines
 
 -- the last part has all the records that are left
@@ -86,7 +112,7 @@ WrittenInParts rows items broken left last text (Err error.OutOfMemory) old new 
 
 -- the rows that a judging of all parts speaks of, their parts, and what was written. The rows are those of the text, where the
 -- reader tells its bytes; else they are what it gave, and are those of some text
-pub record PartsTold (IsText : BrokenPart → List ℕ → Type 0) (view : View) (profile : Profile) (known : Option Rows) (result : Result Totals JudgeError)
+pub record PartsTold (IsText : BrokenPart → List ℕ → Type 0) (telling : Telling) (profile : Profile) (known : Option Rows) (result : Result Totals JudgeError)
     (old new : Option (List ℕ)) : Type 0 where
   pub rows : Rows
   pub is_known : IfSome known (λ all. rows ≡ all)
@@ -96,9 +122,9 @@ pub record PartsTold (IsText : BrokenPart → List ℕ → Type 0) (view : View)
   pub left : Rest
   pub last : Part
   pub text : List ℕ
-  pub in_parts : InParts IsText view profile rows items broken left last text
+  pub in_parts : InParts IsText telling profile rows items broken left last text
   pub written : WrittenInParts rows items broken left last text result old new
 
--- with what is told of each part, and what is shown of the last, which does not break
+-- with what is written of each part
 abbrev pub ToldInParts : Telling → Profile → Option Rows → Result Totals JudgeError → Option (List ℕ) → Option (List ℕ) → Type 0
-ToldInParts telling profile known result old new = PartsTold (IsTextOf telling profile) (view_of telling) profile known result old new
+ToldInParts telling profile known result old new = PartsTold (IsTextOf telling profile) telling profile known result old new

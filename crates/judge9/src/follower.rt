@@ -42,7 +42,7 @@ impl<'a> Follower<'a> {
         })
     }
 
-    /// Takes the next record, and answers what it comes to, if it does: an exchange, or a break. An error comes where the tracker
+    /// Takes the next record, and answers what it comes to, if it does: an exchange, a late reply, or a break. An error comes where the tracker
     /// finds no room. Nothing is taken after an error, nor after a break.
     #[inline(always)] // else each answer is handed on through memory
     pub(crate) fn take(&mut self, line_byte: LineByte) -> Result<Option<Turn>, AllocError>
@@ -51,7 +51,8 @@ impl<'a> Follower<'a> {
         ensures { Took self.old line_byte result self.new }
     {
         match self.pairer.feed(line_byte) {
-            Ok(Step::Waiting) | Ok(Step::Command) | Ok(Step::LateReply) => Ok(None),
+            Ok(Step::Waiting) | Ok(Step::Command) => Ok(None),
+            Ok(Step::LateReply) => Ok(Some(Turn::Late(line_byte))),
             Ok(Step::Exchange) => self.observe(line_byte),
             Err(reason) => Ok(Some(Turn::Break(Break {
                 reason,

@@ -1,6 +1,6 @@
 //! The laws of the definitions that contracts cite, each the contract of a function that does nothing: what
 //! carries a verdict from a record to the next.
-ghost use Rattle.std.specs.Prelude.{◌≡◌, ◌≤◌, ◌+◌, ◌↔◌, ℕ, List, [], ◌∷◌, ◌++◌, drop, length, Option, Some, Result};
+ghost use Rattle.std.specs.Prelude.{◌≡◌, ◌≤◌, ◌+◌, ◌↔◌, ℕ, if◌then◌else◌, List, [], ◌∷◌, ◌++◌, drop, length, Option, Some, Result};
 ghost use Rattle.block9.specs.Exchange.{Cut, IsKept};
 ghost use Rattle.block9.specs.Line.{last_time};
 ghost use Rattle.block9.specs.Reason.{IsReason};
@@ -10,7 +10,8 @@ ghost use Rattle.judge9.specs.Judging.{Answer, IsAnswer};
 ghost use Rattle.judge9.specs.Judging.Answer.{judged};
 ghost use Rattle.judge9.specs.Report.{IsText, Told};
 ghost use Rattle.text9.specs.Writing.{AppendsPart};
-ghost use Rattle.judge9.specs.Parts.{AreParts, AreTotals, BrokenPart, IsPart, Part, Rest, in_parts, number_of};
+ghost use Rattle.judge9.specs.Parts.{AreParts, AreTotals, BrokenPart, Event, IsPart, Part, Rest, in_parts, late_replies, number_of};
+ghost use Rattle.judge9.specs.Parts.Event.{late_reply};
 ghost use Rattle.judge9.specs.Verdict.{AreCounts, Breaks, IsFirstBreak, IsOk, Terms, counting, line_rules};
 ghost use Rattle.std.specs.List.{All};
 ghost use Rattle.deck9.specs.Run.{HasRun};
@@ -83,12 +84,12 @@ pub fn a_sheet_that_forgets_less_judges_no_easier()
         → IsAnswer (record p { deck = less }) rows (judged (Verdict.No at reason)) → IsAnswer (record p { deck = more }) rows (judged (Verdict.No other another)) → at ≤ other }
 {}
 
-/// Where no part breaks, the totals are the counts of a yes, and no record is passed over.
+/// Where nothing breaks, the totals are the counts of a yes, and no record is passed over.
 pub fn parts_without_a_break()
     ensures { (profile : Profile) (items : List LineByte) (left : Rest) (last : Part) (totals : Totals)
         → AreParts profile (record { past = 0; records = items }) [] left → IsPart profile last → last.records ≡ left.records
-        → AreTotals (length items) [] last totals
-        → (totals.breaks ≡ 0) × AreCounts (counting profile) items totals.records totals.exchanges totals.tail × (totals.passed_over ≡ 0) }
+        → AreTotals (length items) [] last totals → totals.breaks ≡ 0
+        → AreCounts (counting profile) items totals.records totals.exchanges totals.tail × (totals.passed_over ≡ 0) }
 {}
 
 /// A capture has one list of parts, of which the last keeps the rules and has all that is left, and one set of totals.
@@ -101,8 +102,19 @@ pub fn one_list_of_parts()
         → AreTotals records broken last totals → AreTotals records broken last others → totals ≡ others }
 {}
 
-/// Each part that breaks is the no of a capture that begins with its first record, its number moved by how many come before it;
-/// the first is the no of the whole capture.
+/// The first break is the no of the whole capture, as it is judged without going on: a late reply before which none is late, or the
+/// record that ends the first part, where no reply of it is late before.
+pub fn the_first_break_is_the_verdict()
+    ensures late { (profile : Profile) (items after : List LineByte) (part : Part) (front more : List Event) (at : ℕ) (asked : List LineByte) (r : LineByte)
+        → items ≡ part.records ++ after → part.past ≡ 0 → IsPart profile part → part.events ≡ front ++ late_reply at asked r ∷ more → late_replies front ≡ 0
+        → IsFirstBreak (counting profile) items at Reason.LateReply }
+    ensures end { (profile : Profile) (items : List LineByte) (b : BrokenPart) (broken : List BrokenPart) (left : Rest)
+        → AreParts profile (record { past = 0; records = items }) (b ∷ broken) left → late_replies b.part.events ≡ 0
+        → IsFirstBreak (counting profile) items (number_of b) (if b.late then Reason.LateReply else b.reason) }
+{}
+
+/// Where the reply limit is left aside, each part that breaks is the no of a capture that begins with its first record, its number
+/// moved by how many come before it; the first is the no of the whole capture.
 pub fn each_part_is_a_no()
     ensures each { (profile : Profile) (items : List LineByte) (broken : List BrokenPart) (left : Rest)
         → AreParts profile (record { past = 0; records = items }) broken left

@@ -1,9 +1,11 @@
-//! A part of a capture: its exchanges are told as they come, up to the first record that breaks a rule, or the end of the rows.
+//! A part of a capture: its exchanges and its late replies are told as they come, up to the record that ends it, or the end of
+//! the rows.
 //!
 //! This is the one loop over what a judging comes to. Whoever judges a capture does its own with what ends a part.
-ghost use Rattle.std.specs.Prelude.{◌≡◌, ◌≢◌, ◌≤◌, ◌<◌, ◌+◌, ◌*◌, ◌++◌, [], ◌∷◌, Err, None, OnOk, Some};
+ghost use Rattle.std.specs.Prelude.{◌≡◌, ◌≢◌, ◌≤◌, ◌<◌, ◌+◌, ◌*◌, ◌++◌, [], ◌∷◌, ℕ, Err, List, None, OnOk, Some};
+ghost use Rattle.capture9.specs.declared.line_byte.LineByte.{LineByte as ALineByte};
 ghost use Rattle.block9.specs.declared.exchange.Exchange.{Exchange as AnExchange};
-ghost use Rattle.judge9.specs.Working.Part.{IsAtExchange, IsJudgedFirst, IsJudgedPart, IsLogOf, IsLogged, TellsAt};
+ghost use Rattle.judge9.specs.Working.Part.{IsAtExchange, IsAtLate, IsJudgedFirst, IsJudgedPart, IsLateText, IsLogOf, IsLogged, IsLoggedLate, TellsAt, TellsLateAt};
 ghost use Rattle.judge9.specs.Verdict.{counting};
 ghost use Rattle.judge9.specs.Working.Turns.{IsFresh};
 ghost use Rattle.judge9.specs.Working.{Explains};
@@ -15,20 +17,27 @@ ghost use Rattle.verdict9.specs.declared.verdict.View.TheVariants as AView;
 
 use crate::judging::Judging;
 use crate::turn::{Break, Turn};
-use block9::Exchange;
+use crate::why::why_late;
+use block9::{Exchange, Reason};
+use capture9::LineByte;
 use deck9::{Profile, Register};
+use report9::put_why_for;
 use sets25::SpanSet;
 use std::alloc::{AllocError, Global};
 use std::io::{Read, Write};
 use text9::{put_exchange_line_for, write_all};
 use track9::Tracker;
-use verdict9::{JudgeError, Telling, View};
+use verdict9::{JudgeError, Telling, Verdict, View, put_verdict_line};
 
-/// What is counted of the exchanges of a part, and what is kept of them.
+/// What is counted of the exchanges and the late replies of a part, and what is kept of them.
 #[derive(Drop)]
 pub(crate) struct PartLog {
+    /// Where memory comes from.
+    pub(crate) alloc: Global,
     /// What is told of the part: to say why it breaks, its exchanges are kept.
     pub(crate) telling: Telling,
+    /// How many late replies there are.
+    pub(crate) late: u32,
     /// How many exchanges there are.
     pub(crate) exchanges: u32,
     /// The exchanges, where they are kept.
@@ -44,10 +53,12 @@ pub(crate) struct PartLog {
 impl PartLog {
     /// Of a part that has no exchange yet.
     pub(crate) fn new(alloc: Global, telling: Telling) -> PartLog
-        ensures { IsLogOf telling [] None result }
+        ensures { IsLogOf telling [] 0 None result }
     {
         PartLog {
+            alloc,
             telling,
+            late: 0,
             exchanges: 0,
             kept: Vec::new(alloc),
             records: 0,
@@ -64,7 +75,7 @@ impl PartLog {
         ensures exchanges { self.new.exchanges ≡ self.old.exchanges + 1 }
         ensures records { self.new.records ≡ self.old.records + records_of exchange.now }
         ensures short { self.new.records ≤ 36 * self.new.exchanges }
-        ensures telling { self.new.telling ≡ self.old.telling }
+        ensures telling { (self.new.telling ≡ self.old.telling) × (self.new.late ≡ self.old.late) }
         ensures kept { (self.new.kept ≡ self.old.kept) × (self.new.end_us ≡ self.old.end_us) }
     {
         self.exchanges += 1;
@@ -76,7 +87,7 @@ impl PartLog {
         requires { IsAtExchange judging.now }
         ensures kept { (e : AnExchange) → judging.now.follower.pairer.exchange ≡ Some e → OnOk result (self.new.kept.items ≡ self.old.kept.items ++ e ∷ []) }
         ensures end { OnOk result (self.new.end_us ≡ judging.now.follower.pairer.last_time) }
-        ensures counts { (self.new.exchanges ≡ self.old.exchanges) × (self.new.records ≡ self.old.records) × (self.new.telling ≡ self.old.telling) }
+        ensures counts { (self.new.exchanges ≡ self.old.exchanges) × (self.new.records ≡ self.old.records) × (self.new.telling ≡ self.old.telling) × (self.new.late ≡ self.old.late) }
     {
         self.kept.push(judging.follower.exchange().copy())?;
         self.end_us = judging.follower.pairer.last_time();
@@ -94,16 +105,15 @@ pub(crate) fn judge_first_part<R: Read + Drop, W: Write>(
     profile: &Profile,
 ) -> Result<Option<Break>, JudgeError>
     requires fresh { IsFresh (counting profile.now) judging.old }
-    requires begun { IsLogOf log.old.telling [] None log.old }
-    ensures judged { IsJudgedFirst log.old.telling profile.now judging.old (W.contents writer.old) result judging.new log.new (W.contents writer.new) }
-    ensures write { log.old.telling ≡ Telling.Why → result ≢ Err JudgeError.Write }
+    requires begun { IsLogOf log.old.telling [] 0 None log.old }
+    ensures { IsJudgedFirst log.old.telling profile.now judging.old (W.contents writer.old) result judging.new log.new (W.contents writer.new) }
 {
     let first = judging.next()?;
     judge_part(judging, first, log, line, writer, profile)
 }
 
-/// Judges a part that begins with this turn, which the judging came to last, and tells of its exchanges: up to the break that ends
-/// it, or to the end of the rows, where there is none. `line` is room for a line, whose content is not kept.
+/// Judges a part that begins with this turn, which the judging came to last, and tells of its exchanges and late replies: up to the
+/// break that ends it, or to the end of the rows, where there is none. `line` is room for a line, whose content is not kept.
 #[inline(always)] // so that the loop is made for what each caller tells
 pub(crate) fn judge_part<R: Read + Drop, W: Write>(
     judging: &mut Judging<R>,
@@ -114,15 +124,19 @@ pub(crate) fn judge_part<R: Read + Drop, W: Write>(
     profile: &Profile,
 ) -> Result<Option<Break>, JudgeError>
     requires at { first ≡ ATurn.Exchange → IsAtExchange judging.old }
-    requires begun { IsLogOf log.old.telling [] None log.old }
-    ensures judged { IsJudgedPart log.old.telling profile.now first judging.old (W.contents writer.old) result judging.new log.new (W.contents writer.new) }
-    ensures write { log.old.telling ≡ Telling.Why → result ≢ Err JudgeError.Write }
+    requires at_late { (r : ALineByte) → first ≡ ATurn.Late r → IsAtLate judging.old }
+    requires begun { IsLogOf log.old.telling [] 0 None log.old }
+    ensures { IsJudgedPart log.old.telling profile.now first judging.old (W.contents writer.old) result judging.new log.new (W.contents writer.new) }
 {
     let mut turn = first;
     'exchanges: loop {
         turn = match turn {
             Turn::Exchange => {
                 tell(judging, log, line, writer, profile)?;
+                judging.next()?
+            }
+            Turn::Late(first) => {
+                tell_late(judging, first, log, line, writer, profile)?;
                 judging.next()?
             }
             Turn::Break(broken) => return Ok(Some(broken)),
@@ -156,6 +170,49 @@ fn tell<R: Read + Drop, W: Write>(
         Telling::Shown(View::Verdict) => Ok(()),
         Telling::Shown(View::Explain) => write_line(line, writer, profile, judging),
         Telling::Why => Ok(log.keep(judging)?),
+    }
+}
+
+/// Tells of the late reply that the judging came to last, which begins with this record, and counts it.
+fn tell_late<R: Read + Drop, W: Write>(
+    judging: &Judging<R>,
+    first: LineByte,
+    log: &mut PartLog,
+    line: &mut Vec<u8>,
+    writer: &mut W,
+    profile: &Profile,
+) -> Result<(), JudgeError>
+    requires few { log.old.late < 4000000 }
+    ensures told { TellsLateAt log.old.telling profile.now judging.now first result (W.contents writer.old) (W.contents writer.new) }
+    ensures logged { IsLoggedLate log.old log.new }
+{
+    log.late += 1;
+    line.clear();
+    put_late(line, judging, log, first, profile)?;
+    write_all(writer, line.as_slice())?;
+    Ok(())
+}
+
+/// Puts what is told of a late reply that begins with this record, which was read last, behind what the buffer holds. An error comes
+/// where memory is refused.
+pub(crate) fn put_late<R: Read + Drop>(
+    line: &mut Vec<u8>,
+    judging: &Judging<R>,
+    log: &PartLog,
+    first: LineByte,
+    profile: &Profile,
+) -> Result<(), AllocError>
+    ensures { OnOk result ((text : List ℕ) × IsLateText log.now.telling profile.now judging.now.rows.given judging.now.follower.pairer first text
+        × (line.new.items ≡ line.old.items ++ text)) }
+{
+    let at = judging.rows.given();
+    let reason = Reason::LateReply;
+    match log.telling {
+        Telling::Shown(_) => put_verdict_line(line, Verdict::No { at, reason }),
+        Telling::Why => {
+            let why = why_late(log.alloc, &judging.follower.pairer, at, first)?;
+            put_why_for(line, profile, &why)
+        }
     }
 }
 

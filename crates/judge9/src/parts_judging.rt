@@ -1,19 +1,18 @@
 //! Judges the whole capture, part by part: after a record that breaks a rule the judging goes on with the next part, and the totals
 //! come last.
-ghost use Rattle.std.specs.Prelude.{◌≡◌, ◌≢◌, ◌++◌, [], ◌∷◌, IfOk, IfSome, OnOk, option_map, None, Some};
+ghost use Rattle.std.specs.Prelude.{◌≡◌, ◌≢◌, ◌++◌, [], ◌∷◌, ℕ, List, IfOk, IfSome, OnOk, option_map, None, Some};
 ghost use Rattle.block9.specs.declared.exchange.Exchange.{Exchange as AnExchange};
 ghost use Rattle.capture9.specs.Rows.{HasHeader, rows_of};
 ghost use Rattle.judge9.specs.Parts.{in_parts};
 ghost use Rattle.judge9.specs.PartsReport.{IsTextOf, ToldInParts};
 ghost use Rattle.verdict9.specs.Lines.{line_of_totals};
-ghost use Rattle.verdict9.specs.Telling.{view_of};
 ghost use Rattle.why9.specs.Contradiction.{BreaksAtLast};
 ghost use Rattle.judge9.specs.Working.{Puts};
-ghost use Rattle.judge9.specs.Working.Parts.{IsBreakText, JudgesParts};
+ghost use Rattle.judge9.specs.Working.Parts.{IsBreakText, IsPutBreak, JudgesParts};
 ghost use Rattle.judge9.specs.Working.Turns.{IsFresh};
 
 use crate::judging::Judging;
-use crate::part::{PartLog, judge_part};
+use crate::part::{PartLog, judge_part, put_late};
 use crate::turn::Break;
 use crate::why::why_of;
 use block9::{Reason, ReplyLimit};
@@ -27,15 +26,16 @@ use verdict9::{JudgeError, Telling, Totals, Verdict, put_totals_line, put_verdic
 
 /// Judges the capture that the reader gives, part by part, and writes what is asked for.
 ///
-/// Each part is judged as [`judge_for`](crate::judge_for) judges a capture: nothing is known of the deck where it begins. It ends with
-/// the first record that breaks a rule, and the next part begins with the first record that may begin a command: with the one
-/// that breaks, where it comes on the controller's wire and a reply is missing, unfinished or late in coming, or the block before
+/// Each part is judged as [`judge_for`](crate::judge_for) judges a capture: nothing is known of the deck where it begins. A late reply
+/// breaks a rule and ends no part: it is told at its first record, and judged as if it had come in time. The part ends with the
+/// first record that breaks another rule, and the next part begins with the first record that may begin a command: with the one
+/// that breaks, where it comes on the controller's wire and a reply is missing or unfinished, or the block before
 /// it did not end; else after it, with the first on the controller's wire that comes after a record of the deck's wire or after
 /// the byte gap. Where there is none, the rest is passed over. That is a choice of these rules.
 ///
 /// For each part it writes what `judge` writes for a capture that breaks there, or what `report9`'s `write_why` writes of it, with
-/// the numbers that the records have in the whole capture; for a part that does not break the lines of its exchanges alone, where
-/// these are asked for; and the line of the totals last. It keeps no list of records or parts, and the exchanges of a part only to
+/// the numbers that the records have in the whole capture, and where a late reply begins what these write of that break; for a part
+/// that does not break what stands before a break, where it is asked for; and the line of the totals last. It keeps no list of records or parts, and the exchanges of a part only to
 /// say why it breaks. The writer is not flushed.
 ///
 /// `Ok(totals)` comes exactly where no row of the text is bad: no break ends the reading. Errors come as with `judge`, and the
@@ -60,7 +60,7 @@ pub fn judge_parts_for<R: Read + Drop, W: Write>(
     ensures header { IfSome (R.remaining reader) (λ text. (e : CaptureError)
         → result ≡ Err (JudgeError.Capture e) → e.row ≢ 0 → HasHeader (rows_of text)) }
 {
-    let mut judging = Judging::new(alloc, reader, ReplyLimit::Counts, profile)?;
+    let mut judging = Judging::new(alloc, reader, ReplyLimit::LeftAside, profile)?;
     let mut line = Vec::new(alloc);
     let totals = judge_rows(alloc, &mut judging, &mut line, writer, telling, profile);
     drop(judging);
@@ -77,7 +77,7 @@ fn judge_rows<'a, R: Read + Drop, W: Write>(
     profile: &'a Profile,
 ) -> Result<Totals, JudgeError>
     requires { IsFresh (in_parts profile.now) judging.old }
-    ensures { JudgesParts (IsTextOf telling profile.now) (view_of telling) profile.now judging.old.rows.rows result (W.contents writer.old) (W.contents writer.new) }
+    ensures { JudgesParts (IsTextOf telling profile.now) telling profile.now judging.old.rows.rows result (W.contents writer.old) (W.contents writer.new) }
 {
     let mut breaks = 0u32;
     let mut exchanges = 0u32;
@@ -86,16 +86,18 @@ fn judge_rows<'a, R: Read + Drop, W: Write>(
     'parts: loop {
         let mut log = PartLog::new(alloc, telling);
         let end = judge_part(judging, turn, &mut log, line, writer, profile)?;
+        breaks += log.late;
         exchanges += log.exchanges;
         in_exchanges += log.records;
         let broken = match end {
             Some(broken) => broken,
             None => break 'parts,
         };
-        breaks += 1;
-        put_break(alloc, line, judging, log, broken, profile)?;
+        let late = judging.follower.pairer.begins_late(broken.record);
+        breaks += 1 + u32::from(late);
+        put_break(line, judging, log, broken, late, profile)?;
         write_all(writer, line.as_slice())?;
-        turn = judging.take_up(alloc, ReplyLimit::Counts, profile, broken)?;
+        turn = judging.take_up(alloc, ReplyLimit::LeftAside, profile, broken)?;
     }
     let records = judging.rows.given();
     let tail = judging.follower.pairer.tail_len() as u32;
@@ -109,10 +111,29 @@ fn judge_rows<'a, R: Read + Drop, W: Write>(
     tell_totals(line, writer, totals)
 }
 
-/// Puts what is told of a break at the record that was read last, in place of what the buffer holds. An error comes where memory is
-/// refused.
+/// Puts what is told of a break at the record that was read last, in place of what the buffer holds. `late`: the record begins a late
+/// reply besides, which is told first. An error comes where memory is refused.
 fn put_break<R: Read + Drop>(
-    alloc: Global,
+    line: &mut Vec<u8>,
+    judging: &Judging<R>,
+    log: PartLog,
+    broken: Break,
+    late: bool,
+    profile: &Profile,
+) -> Result<(), AllocError>
+    requires { log.telling ≡ Telling.Why → broken.reason ≡ Reason.NoRun
+        → (e : AnExchange) × (judging.now.follower.pairer.exchange ≡ Some e) × BreaksAtLast profile.now (log.kept.items ++ e ∷ []) }
+    ensures { OnOk result (IsPutBreak log.telling profile.now judging.now.rows.given broken judging.now.follower.pairer log.kept.items log.end_us late line.new.items) }
+{
+    line.clear();
+    if late {
+        put_late(line, judging, &log, broken.record, profile)?;
+    }
+    put_end(line, judging, log, broken, profile)
+}
+
+/// Puts what is told of the break itself behind what the buffer holds. An error comes where memory is refused.
+fn put_end<R: Read + Drop>(
     line: &mut Vec<u8>,
     judging: &Judging<R>,
     log: PartLog,
@@ -121,16 +142,16 @@ fn put_break<R: Read + Drop>(
 ) -> Result<(), AllocError>
     requires { log.telling ≡ Telling.Why → broken.reason ≡ Reason.NoRun
         → (e : AnExchange) × (judging.now.follower.pairer.exchange ≡ Some e) × BreaksAtLast profile.now (log.kept.items ++ e ∷ []) }
-    ensures { OnOk result (IsBreakText log.telling profile.now judging.now.rows.given broken judging.now.follower.pairer log.kept.items log.end_us line.new.items) }
+    ensures { OnOk result ((end : List ℕ) × IsBreakText log.telling profile.now judging.now.rows.given broken judging.now.follower.pairer log.kept.items log.end_us end
+        × (line.new.items ≡ line.old.items ++ end)) }
 {
-    line.clear();
     match log.telling {
         Telling::Shown(_) => {
             let (at, reason) = (judging.rows.given(), broken.reason);
             put_verdict_line(line, Verdict::No { at, reason })
         }
         Telling::Why => {
-            let why = why_of(alloc, judging, log, broken, profile)?;
+            let why = why_of(judging, log, broken, profile)?;
             put_why_for(line, profile, &why)
         }
     }

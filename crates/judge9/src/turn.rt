@@ -18,7 +18,9 @@ pub(crate) enum Turn {
     /// A complete exchange, whose reply some run of the deck gives after those before it. The follower shows it up to the next
     /// record.
     Exchange,
-    /// A record that breaks a rule.
+    /// A late reply, which begins with this record: the reply limit is left aside, so the part goes on.
+    Late(LineByte),
+    /// A record that breaks a rule, and ends the part.
     Break(Break),
     /// The end of the rows.
     End,

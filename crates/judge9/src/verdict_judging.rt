@@ -100,7 +100,7 @@ fn judge_rows<R: Read + Drop, W: Write>(
     profile: &Profile,
 ) -> Result<Verdict, JudgeError>
     requires fresh { IsFresh (counting profile.now) judging.old }
-    requires begun { IsLogOf log.old.telling [] None log.old }
+    requires begun { IsLogOf log.old.telling [] 0 None log.old }
     ensures { Judges (view_of log.old.telling) profile.now judging.old.rows.rows result (W.contents writer.old) (W.contents writer.new) }
 {
     let end = judge_first_part(judging, log, line, writer, profile)?;

@@ -1,6 +1,8 @@
 //! Why a record breaks a rule: what is open where it is one of blocks, pairing or timing, and which replies contradict one another
 //! where no run of the deck remains.
-ghost use Rattle.std.specs.Prelude.{◌≡◌, ◌≢◌, ◌++◌, ◌∷◌, [], IfOk, List, Some};
+ghost use Rattle.std.specs.Prelude.{◌≡◌, ◌≢◌, ◌⊎◌, ◌++◌, ◌∷◌, [], IfOk, List, Some};
+ghost use Rattle.block9.specs.Exchange.{BeginsLate};
+ghost use Rattle.judge9.specs.PartsReport.{SaysLate};
 ghost use Rattle.verdict9.specs.OpenRecords.{IsBefore};
 ghost use Rattle.block9.specs.declared.exchange.Exchange.{Exchange as AnExchange};
 ghost use Rattle.why9.specs.Contradiction.{BreaksAtLast};
@@ -12,7 +14,7 @@ ghost use Rattle.capture9.specs.declared.line_byte.LineByte.{LineByte as ALineBy
 use crate::judging::Judging;
 use crate::part::PartLog;
 use crate::turn::Break;
-use block9::{Exchange, Pairer, Reason};
+use block9::{Exchange, Open, Pairer, Reason};
 use capture9::LineByte;
 use deck9::Profile;
 use std::alloc::{AllocError, Global};
@@ -23,7 +25,6 @@ use why9::{contradicting_for, could_show_for};
 /// Why a record broke a rule, the one that was read last, after the exchanges of its part that were kept. An error comes where
 /// memory is refused.
 pub(crate) fn why_of<R: Read + Drop>(
-    alloc: Global,
     judging: &Judging<R>,
     log: PartLog,
     broken: Break,
@@ -33,6 +34,7 @@ pub(crate) fn why_of<R: Read + Drop>(
     ensures { IfOk result (SaysWhy profile.now judging.now.rows.given broken judging.now.follower.pairer log.kept.items log.end_us) }
 {
     let at = judging.rows.given();
+    let alloc = log.alloc;
     let exchanges = log.kept;
     match broken.reason {
         Reason::NoRun => {
@@ -68,6 +70,36 @@ fn why_broken(
         open: pairer.open(),
         before,
         breaking: broken.record,
+    })
+}
+
+/// Why a reply is late that begins with this record, the one of this number, which was read last: the records of its command are
+/// open. An error comes where memory is refused.
+pub(crate) fn why_late(
+    alloc: Global,
+    pairer: &Pairer,
+    at: u32,
+    first: LineByte,
+) -> Result<WhyVerdict, AllocError>
+    ensures { (asked : List ALineByte) → BeginsLate pairer.now.rules asked first → (pairer.now.tail ≡ asked) ⊎ (pairer.now.tail ≡ asked ++ first ∷ [])
+        → IfOk result (SaysLate pairer.now.rules at asked first) }
+{
+    let open = pairer.open();
+    let mut tail = Vec::new(alloc);
+    tail.extend_from_slice(&pairer.tail()[..open.asked])?;
+    Ok(WhyVerdict::Break {
+        at,
+        reason: Reason::LateReply,
+        tail,
+        open: Open {
+            command: open.command,
+            asked: open.asked,
+            answered: 0,
+            wanted: 0,
+            sum: 0,
+        },
+        before: None,
+        breaking: first,
     })
 }
 

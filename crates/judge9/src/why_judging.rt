@@ -74,7 +74,7 @@ fn judge_rows<R: Read + Drop>(
     let mut line = Vec::new(alloc);
     let end = judge_first_part(judging, &mut log, &mut line, &mut io::sink(), profile)?;
     match end {
-        Some(broken) => Ok(why_of(alloc, judging, log, broken, profile)?),
+        Some(broken) => Ok(why_of(judging, log, broken, profile)?),
         None => Ok(WhyVerdict::Yes {
             records: judging.rows.given(),
             exchanges: log.exchanges,

@@ -1,11 +1,10 @@
 -- The end of a judging that keeps its exchanges.
-use Rattle.std.specs.Prelude.{◌↔◌, ◌∷◌, ◌≡◌, ◌≢◌}
-use Rattle.judge9.specs.Working.{[], Ends, Err, Exchange, Profile, HasItsRun, HasItsWhy, IfOk, judged_of, JudgeError, Judges, LineByte, List, None, Option, Possible}
-use Rattle.judge9.specs.Working.{Result, Rows, RunVerdict, Some, State, Tracked, View, WhyVerdict, ℕ}
+use Rattle.std.specs.Prelude.{◌∷◌, ◌≡◌, ◌≢◌}
+use Rattle.judge9.specs.Working.{[], Err, Exchange, Profile, HasItsRun, HasItsWhy, IfOk, judged_of, JudgeError, Judges, LineByte, List, None, Option}
+use Rattle.judge9.specs.Working.{Result, Rows, RunVerdict, Some, View, WhyVerdict, ℕ}
 use Rattle.block9.specs.Line.{last_time}
 use Rattle.judge9.specs.WhyVerdict.{judged_of as why_judged_of}
 use Rattle.judge9.specs.Verdict.{counting}
-use Rattle.track9.specs.Following.{KeepsEnds}
 
 -- the time at which these records end, if they end with one of these exchanges, and none where there is no exchange
 abbrev pub IsEnd : List LineByte → List Exchange → Option ℕ → Type 0

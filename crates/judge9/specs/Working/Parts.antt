@@ -1,12 +1,13 @@
 -- Where a judging takes up again after a break: the records that are passed over, and the first one of the next part.
-use Rattle.std.specs.Prelude.{◌≡◌, ◌≢◌, ◌↔◌, ◌++◌, ◌∷◌, ◌⊎◌}
+use Rattle.std.specs.Prelude.{◌≡◌, ◌≢◌, ◌++◌, ◌∷◌, ◌⊎◌}
 use Rattle.std.specs.Bool.{MatchBool}
 use Rattle.judge9.specs.Working.{[], CaptureError, CaptureKind, Err, false, GivesEnd, GivesRecord, GivesRefusal, Profile, IfSome, JudgeError, Judging, LineByte, List, None, Ok, Option, Progress}
-use Rattle.judge9.specs.Working.{Break, Exchange, Follower, Paired, Reason, refusal_of, Result, Rows, Some, true, Turn, Verdict, View, WhyVerdict, ℕ, ⊤}
+use Rattle.judge9.specs.Working.{Bool, Break, Exchange, Follower, Paired, Reason, refusal_of, Result, Rows, Some, true, Turn, Verdict, WhyVerdict, ℕ, ⊤}
 use Rattle.verdict9.specs.declared.totals.Totals.{Totals}
 use Rattle.judge9.specs.PartsReport.{PartsTold}
 use Rattle.why9.specs.Shown.{CouldShow}
 use Rattle.judge9.specs.Working.Endings.{IsEnd}
+use Rattle.judge9.specs.Working.Part.{IsLateText}
 use Rattle.block9.specs.Pairer.{IsOpenAfter}
 use Rattle.report9.specs.WhyText.{text_of_why}
 use Rattle.verdict9.specs.Lines.{line_of}
@@ -106,9 +107,22 @@ IsBreakText (Shown view) profile at b paired es end_us text = text ≡ line_of (
 IsBreakText Why profile at b paired es end_us text =
     (why : WhyVerdict) × SaysWhy profile at b paired es end_us why × (text ≡ text_of_why profile why)
 
+-- and before it, where its record begins a late reply besides
+abbrev pub IsLateBefore : Telling → Profile → ℕ → Paired → LineByte → Bool → List ℕ → Type 0
+IsLateBefore telling profile at paired r true text = IsLateText telling profile at paired r text
+IsLateBefore telling profile at paired r false text = text ≡ []
+
+pub record IsPutBreak (telling : Telling) (profile : Profile) (at : ℕ) (b : Break) (paired : Paired) (es : List Exchange) (end_us : Option ℕ) (late : Bool)
+    (text : List ℕ) : Type 0 where
+  pub first : List ℕ
+  pub is_first : IsLateBefore telling profile at paired b.record late first
+  pub end : List ℕ
+  pub is_end : IsBreakText telling profile at b paired es end_us end
+  pub whole : text ≡ first ++ end
+
 -- all that the result of a judging in parts tells
-pub record JudgesParts (IsText : BrokenPart → List ℕ → Type 0) (view : View) (profile : Profile) (rows : Option Rows) (result : Result Totals JudgeError)
+pub record JudgesParts (IsText : BrokenPart → List ℕ → Type 0) (telling : Telling) (profile : Profile) (rows : Option Rows) (result : Result Totals JudgeError)
     (old new : Option (List ℕ)) : Type 0 where
-  pub told : PartsTold IsText view profile rows result old new
+  pub told : PartsTold IsText telling profile rows result old new
   pub is_kind : (e : CaptureError) → result ≡ Err (JudgeError.Capture e) → e.kind ≢ CaptureKind.OutOfMemory
   pub headed : IfSome rows (λ all. (e : CaptureError) → result ≡ Err (JudgeError.Capture e) → e.row ≢ 0 → HasHeader all)

@@ -2,7 +2,7 @@
 use Rattle.std.specs.Prelude.{◌↔◌, ◌≡◌, ◌⊎◌}
 use Rattle.std.specs.declared.alloc.AllocError.{AllocError}
 use Rattle.judge9.specs.Verdict.{Terms, line_rules}
-use Rattle.judge9.specs.Working.{[], AreReached, Bool, Break, CaptureError, Err, Exchange, Exchanges, false, Follower, GivesEnd, GivesRecord, GivesRefusal, Profile, IsFirst, IsTrue, JudgeError}
+use Rattle.judge9.specs.Working.{[], AreReached, Bool, Break, CaptureError, Err, Exchange, Exchanges, false, Follower, GivesEnd, GivesRecord, GivesRefusal, IsFirst, IsTrue, JudgeError}
 use Rattle.judge9.specs.Working.{Judging, LineByte, None, Ok, Option, Possible, Reason, refusal_of, Refuses, Result, Some, Standing, State, Outcome, suc, Takes, Tracked, true, Turn, zero, ℕ, ⊤}
 
 -- nothing is open, and nothing is known of the deck
@@ -20,10 +20,10 @@ pub record IsFresh {R : Type 0} (terms : Terms) (j : Judging R) : Type 0 where
 
 -- ---- a record
 
--- a step that ends no exchange
+-- a record with which nothing is told
 abbrev pub IsOpen : Outcome → Type 0
 IsOpen Outcome.leaves_open = ⊤
-IsOpen Outcome.answers_late = ⊤
+IsOpen Outcome.answers_late = ⊥
 IsOpen Outcome.asks = ⊤
 IsOpen (Outcome.completes e) = ⊥
 
@@ -40,7 +40,12 @@ IsObserved old e last (Ok (Some (Turn.Break b))) new = (b.record ≡ last) × (b
 IsObserved old e last (Err x) new = ⊤
 IsObserved old e last _ new = ⊥
 
--- a record that ends no exchange
+-- a record with which a late reply begins
+pub record BeginsReplyLate (f g : Follower) (r : LineByte) : Type 0 where
+  pub takes : Takes f.pairer r Outcome.answers_late g.pairer
+  pub same_tracker : g.tracker ≡ f.tracker
+
+-- a record with which nothing is told
 pub record Waits (f g : Follower) (r : LineByte) : Type 0 where
   pub outcome : Outcome
   pub takes : Takes f.pairer r outcome g.pairer
@@ -60,6 +65,7 @@ Spoils f g b = (Refuses f.pairer b.record b.reason g.pairer × (g.tracker ≡ f.
 -- what a record comes to that was taken
 abbrev pub Took : Follower → LineByte → Result (Option Turn) AllocError → Follower → Type 0
 Took f r (Ok None) g = Waits f g r
+Took f r (Ok (Some (Turn.Late first))) g = (first ≡ r) × BeginsReplyLate f g r
 Took f r (Ok (Some Turn.Exchange)) g = Completes f g r true
 Took f r (Ok (Some (Turn.Break b))) g = (b.record ≡ r) × Spoils f g b
 Took f r (Ok (Some Turn.End)) g = ⊥

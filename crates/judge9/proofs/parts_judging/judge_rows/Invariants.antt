@@ -1,5 +1,4 @@
-use Rattle.judge9.proofs.Words.{[], BrokenPart, exchanges_of, in_parts, IsTextOf, length, LineByte, List, None, records_in, ◌+◌, ◌≡◌, ◌≤◌}
-use Rattle.verdict9.specs.Telling.{view_of}
+use Rattle.judge9.proofs.Words.{◌+◌, [], BrokenPart, events_of, exchanges_of, late_replies, in_parts, IsTextOf, length, LineByte, List, None, records_in, ◌+◌, ◌≡◌, ◌≤◌}
 use Rattle.judge9.proofs.parts_judging.judge_rows.Given as goal
 use Rattle.judge9.proofs.PartBreaks.{Before}
 use Rattle.judge9.proofs.PartLemmas.{Onward}
@@ -12,12 +11,12 @@ invariant-parts g l = record {
   broken : List BrokenPart;
   past : List LineByte;
   before : Before (IsTextOf l.telling l.profile) broken past (g.W.Write.contents l.fn.writer) (g.W.Write.contents l.writer);
-  at_turn : AtTurn (Onward l.profile broken past) (view_of l.telling) (in_parts l.profile) l.fn.judging.rows.rows past l.turn l.judging (g.W.Write.contents l.writer)
-      (g.W.Write.contents l.writer) [] None;
-  breaks : l.breaks ≡ length broken;
+  at_turn : AtTurn (Onward l.profile broken past) l.telling (in_parts l.profile) l.fn.judging.rows.rows past l.turn l.judging (g.W.Write.contents l.writer)
+      (g.W.Write.contents l.writer) [] 0 None;
+  breaks : l.breaks ≡ length broken + late_replies (events_of broken);
   exchanges : l.exchanges ≡ length (exchanges_of broken);
   in_exchanges : l.in_exchanges ≡ records_in (exchanges_of broken);
-  bound : l.breaks + left_at l.turn l.judging ≤ 12000002;
+  bound : l.breaks + left_at l.turn l.judging ≤ 16000000;
 }
 
 abbrev pub decreases-parts : goal.decreases-parts

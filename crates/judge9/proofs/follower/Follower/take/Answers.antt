@@ -1,5 +1,12 @@
+use Rattle.judge9.proofs.Words.{refl}
 use Rattle.judge9.proofs.follower.Follower.take.Goals as goal
-use Rattle.judge9.proofs.TurnSteps.{completing, took-observed}
+use Rattle.judge9.proofs.TurnSteps.{answering_late, completing, took-observed}
+
+pub returns-in-Ok-LateReply : goal.returns-in-Ok-LateReply
+returns-in-Ok-LateReply c =
+    let told = rw c.in-Ok-LateReply.field-0-is at (c.in-Ok-LateReply.ensures.takes c.requires.no_reason) in
+    let takes = rw (answering_late told.0 told.1) at told.2 in
+    (refl, record { takes = takes; same_tracker = refl })
 
 pub returns-in-Ok-Exchange : goal.returns-in-Ok-Exchange
 returns-in-Ok-Exchange c =

@@ -1,6 +1,5 @@
-use Rattle.judge9.proofs.Words.{ap, Err, inl, inr, None, Paired, refl, Some}
+use Rattle.judge9.proofs.Words.{inl, inr, refl}
 use Rattle.judge9.proofs.judging.Judging.begin.Goals as goal
-use Rattle.judge9.proofs.TurnSteps.{handed}
 
 pub returns-in-Some : goal.returns-in-Some
 returns-in-Some g c = λ before gives.
