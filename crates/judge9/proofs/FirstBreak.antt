@@ -1,4 +1,5 @@
--- The first break of a capture whose parts are judged with the limit left aside is the one at which its judging would end where it counts.
+-- The first break of a capture whose parts are judged with the limit left aside is the one at which its judging would end where it
+-- counts.
 use Rattle.judge9.proofs.Words.{[], ap, append-nil, append_assoc, Applies, AreEvents, AreParts, arith, BeginsLate, Bool, Breaks, BrokenPart, counting, Cut, cut_once, cut_parted, Does, Event}
 use Rattle.judge9.proofs.Words.{Exchange, exchanges_after, false, HasRun, if◌then◌else◌, in_parts, inl, inr, IsFirst, IsFirstBreak, IsPart}
 use Rattle.judge9.proofs.Words.{IsTail, late_replies, length, line_rules, LineByte, List, number_of, order, Outcome, pairing, Part, Profile, Reason}

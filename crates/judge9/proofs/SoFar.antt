@@ -46,8 +46,8 @@ keeps-none telling terms past e = record {
 }
 
 -- the records so far of a part, before which the capture has those of `past`, keep the rules and have these exchanges; the pairer
--- has their tail, the tracker keeps the states that the runs of their exchanges end in, what is told of them was written, and so many late replies are
--- among it
+-- has their tail, the tracker keeps the states that the runs of their exchanges end in, what is told of them was written, and so
+-- many late replies are among it
 pub record SoFar {R : Type 0} (telling : Telling) (terms : Terms) (rows : Option Rows) (past : List LineByte) (j : Judging R) (old now : Option (List ℕ))
     (es : List Exchange) (late : ℕ) : Type 0 where
   pub keeps : Keeps telling terms past es j.follower.pairer.tail

@@ -108,7 +108,8 @@ more_given j k c = omega (arith, none_lost c, c.turned.1.gives)
 pub more_given_late : {R : Type 0} (j k : Judging R) {r : LineByte} → ComesTo j (Ok (Turn.Late r)) k → j.rows.given + 1 ≤ k.rows.given
 more_given_late j k c = omega (arith, none_lost c, c.turned.1.gives)
 
--- what is left to do where a turn came: rows, and a record that broke a part may begin a late reply besides, or break the next for another reason
+-- what is left to do where a turn came: rows, and a record that broke a part may begin a late reply besides, or break the next for
+-- another reason
 abbrev pub weight : Turn → ℕ
 weight Turn.End = 0
 weight Turn.Exchange = 1

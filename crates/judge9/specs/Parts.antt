@@ -1,6 +1,6 @@
 -- The parts that a capture is judged in where the judging goes on after each break. Each part is judged as a capture by itself:
--- nothing is known of the deck where it begins. A late reply is told where it begins, and ends no part. Records keep the numbers that they have in
--- the whole capture.
+-- nothing is known of the deck where it begins. A late reply is told where it begins, and ends no part. Records keep the numbers
+-- that they have in the whole capture.
 use Rattle.std.specs.Prelude.{◌≡◌, ℕ, ◌+◌, nat_lt, not, ◌&&◌, ◌||◌, Bool, true, false, if◌then◌else◌, List, [], ◌∷◌, ◌++◌, length}
 use Rattle.capture9.specs.declared.line_byte.LineByte.{LineByte}
 use Rattle.block9.specs.declared.exchange.Exchange.{Exchange}
@@ -59,8 +59,8 @@ rest_after past reason breaking after =
 abbrev pub in_parts : Profile → Terms
 in_parts profile = terms_of LeftAside profile
 
--- what is told of a part where it stands: a reply that begins late with the record of this number, after these records of its command; or an exchange
--- that ends with the record of this number, after these exchanges of the part
+-- what is told of a part where it stands: a reply that begins late with the record of this number, after these records of its
+-- command; or an exchange that ends with the record of this number, after these exchanges of the part
 pub data Event : Type 0 where
   late_reply : ℕ → List LineByte → LineByte → Event
   exchange : ℕ → List Exchange → Exchange → Event
@@ -85,15 +85,16 @@ events_by at es tail r answers_late = late_reply at tail r ∷ []
 events_by at es tail r asks = []
 events_by at es tail r (completes e) = exchange at es e ∷ []
 
--- what is told of these records of a part, one after another, which come after these exchanges and this tail, and after so many records of the capture
+-- what is told of these records of a part, one after another, which come after these exchanges and this tail, and after so many
+-- records of the capture
 abbrev pub AreEvents : LineRules → ℕ → List Exchange → List LineByte → List LineByte → List Event → Type 0
 AreEvents rules past es tail [] events = events ≡ []
 AreEvents rules past es tail (r ∷ records) events =
     (o : Outcome) × (more : List Event) × Does rules tail r o
     × AreEvents rules (past + 1) (exchanges_after es o) (tail_after tail r o) records more × (events ≡ events_by (past + 1) es tail r o ++ more)
 
--- the first records of a part, the exchanges and the open records that they are cut into, and what is told of them; so many records of the capture
--- come before them
+-- the first records of a part, the exchanges and the open records that they are cut into, and what is told of them; so many
+-- records of the capture come before them
 pub record Part : Type 0 where
   pub past : ℕ
   pub records : List LineByte
@@ -107,7 +108,8 @@ pub record IsPart (profile : Profile) (part : Part) : Type 0 where
   pub run : HasRun profile part.exchanges
   pub are_events : AreEvents (line_rules (in_parts profile)) part.past [] [] part.records part.events
 
--- a part that breaks: the records before the one that breaks a rule, this record, the reason, and whether the record begins a late reply besides
+-- a part that breaks: the records before the one that breaks a rule, this record, the reason, and whether the record begins a late
+-- reply besides
 pub record BrokenPart : Type 0 where
   pub part : Part
   pub breaking : LineByte
@@ -142,8 +144,8 @@ abbrev pub events_of : List BrokenPart → List Event
 events_of [] = []
 events_of (b ∷ broken) = events_in b ++ events_of broken
 
--- what is counted of a capture with so many records, over the parts that break and the last, which does not: each late reply is a break, and each record
--- that ends a part
+-- what is counted of a capture with so many records, over the parts that break and the last, which does not: each late reply is a
+-- break, and each record that ends a part
 pub record AreTotals (records : ℕ) (broken : List BrokenPart) (last : Part) (totals : Totals) : Type 0 where
   pub breaks : totals.breaks ≡ length broken + late_replies (events_of broken ++ last.events)
   pub all_records : totals.records ≡ records

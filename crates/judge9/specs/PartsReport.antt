@@ -53,8 +53,8 @@ IsEventText (Shown Explain) terms (exchange at before e) text =
     (known : Knowledge) × IsKnowledge (Ends terms.profile (before ++ e ∷ [])) known × (text ≡ line_of_exchange terms.profile at e known)
 IsEventText _ terms (exchange at before e) text = text ≡ []
 
--- what is written at the break of a part: its line, or why the part breaks, as of a capture that ends with the record that breaks, with the numbers that its
--- records have in the whole capture
+-- what is written at the break of a part: its line, or why the part breaks, as of a capture that ends with the record that breaks,
+-- with the numbers that its records have in the whole capture
 abbrev pub IsEndText : Telling → Profile → BrokenPart → List ℕ → Type 0
 IsEndText (Shown view) profile b text = text ≡ line_of (No (number_of b) b.reason)
 IsEndText Why profile b text =

@@ -59,7 +59,8 @@ abbrev pub TellsAt : {R : Type 0} → View → Profile → Judging R → Exchang
 TellsAt view profile j e result old new =
     (j.follower.pairer.exchange ≡ Some e) × Explains view profile j.rows.given e (Possible j.follower.tracker.states) result old new
 
--- what is written of a late reply that begins with this record, which was read last: a pairer has it open, or refused it for a rule that it breaks besides
+-- what is written of a late reply that begins with this record, which was read last: a pairer has it open, or refused it for a
+-- rule that it breaks besides
 abbrev pub IsLateText : Telling → Profile → ℕ → Paired → LineByte → List ℕ → Type 0
 IsLateText telling profile at paired r text =
     (terms : Terms) (asked : List LineByte) → terms.profile ≡ profile → line_rules terms ≡ paired.rules → BeginsLate paired.rules asked r
@@ -71,8 +72,8 @@ TellsLateAt telling profile j r (Err JudgeError.OutOfMemory) old new = Appends o
 TellsLateAt telling profile j r result old new =
     (text : List ℕ) × IsLateText telling profile j.rows.given j.follower.pairer r text × Puts text result old new
 
--- the turn that a judging came to was told, and these are the exchanges and the late replies of the part with it, which were those before; the last of
--- the exchanges ended at this time
+-- the turn that a judging came to was told, and these are the exchanges and the late replies of the part with it, which were those
+-- before; the last of the exchanges ended at this time
 abbrev pub TellsTurn : {R : Type 0} → Telling → Profile → Judging R → Turn → List Exchange → ℕ → Option ℕ → List Exchange → ℕ → Option ℕ → Option (List ℕ)
     → Option (List ℕ) → Type 0
 TellsTurn telling profile j Turn.Exchange before lates us es late end_us old new =
@@ -81,8 +82,8 @@ TellsTurn telling profile j (Turn.Late r) before lates us es late end_us old new
     TellsLateAt telling profile j r (Ok tt) old new × (es ≡ before) × (late ≡ lates + 1) × (end_us ≡ us)
 TellsTurn telling profile j _ before lates us es late end_us old new = ⊥
 
--- a judging that came to this turn went through so many turns, each of which was told, and then came to this one: with these exchanges, the last of which
--- ended at this time, and so many late replies
+-- a judging that came to this turn went through so many turns, each of which was told, and then came to this one: with these
+-- exchanges, the last of which ended at this time, and so many late replies
 abbrev pub GoesThrough : {R : Type 0} → Telling → Profile → Turn → Judging R → Option (List ℕ) → ℕ → List Exchange → ℕ → Option ℕ → Turn → Judging R
     → Option (List ℕ) → Type 0
 GoesThrough telling profile first j old zero es late end_us turn k new =
@@ -104,7 +105,8 @@ TellsNot telling profile j Turn.Exchange x old new =
 TellsNot telling profile j (Turn.Late r) x old new = TellsLateAt telling profile j r (Err x) old new
 TellsNot telling profile j _ x old new = ⊥
 
--- what became of a part that began with this turn: all of it was told, and this is what ends it; or a turn was not told, or the judging stopped after it
+-- what became of a part that began with this turn: all of it was told, and this is what ends it; or a turn was not told, or the
+-- judging stopped after it
 abbrev pub IsJudgedPart : {R : Type 0} → Telling → Profile → Turn → Judging R → Option (List ℕ) → Result (Option Break) JudgeError → Judging R → PartLog
     → Option (List ℕ) → Type 0
 IsJudgedPart telling profile first j old (Ok end) k log new =
