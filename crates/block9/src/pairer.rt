@@ -175,8 +175,8 @@ impl Pairer {
         self.tail.as_slice()
     }
 
-    /// Whether a record begins the reply to a complete command after the reply limit, of the records that this pairer has open and
-    /// this one. It is to be asked of the record that was just refused: it may begin late and break a rule besides.
+    /// Whether this record begins a late reply: the command is complete, no record of its reply came yet, and this one comes
+    /// after the reply limit. Ask it of a record that was just refused, which may begin a late reply and break another rule.
     pub fn begins_late(&self, line_byte: LineByte) -> bool
         ensures { TellsLate self.now.rules self.now.tail line_byte result }
     {

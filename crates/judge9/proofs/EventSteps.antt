@@ -62,7 +62,7 @@ limit_counts rules t r counts done = none_holds rules t r (tail_less rules t r d
 whole_open : (rules : LineRules) (records : List LineByte) (e : Exchange) → IsTail rules records → IsExchange rules records e → ⊥
 whole_open rules records e tail whole = tail_no_exchange rules records records [] e tail whole (sym (append-nil records))
 
-command_twice : (rules : LineRules) (t : List LineByte) (r : LineByte) → BeginsLate rules t r → (b : Block) (c : Command) → IsCommand rules (t ++ r ∷ []) b c → ⊥
+pub command_twice : (rules : LineRules) (t : List LineByte) (r : LineByte) → BeginsLate rules t r → (b : Block) (c : Command) → IsCommand rules (t ++ r ∷ []) b c → ⊥
 command_twice rules t r late b c whole =
     let long = whole_long Controller t late.asked.0 late.asked.2.whole in
     omega (

@@ -6,6 +6,13 @@ pub mod FirstSteps
 pub mod LawLemmas
 pub mod LineSteps
 pub mod LogSteps
+pub mod MovedBreak
+pub mod MovedEvents
+pub mod MovedPart
+pub mod MovedParts
+pub mod MovedRecords
+pub mod MovedSteps
+pub mod MovedTails
 pub mod PartBreaks
 pub mod PartEnds
 pub mod PartLaws

@@ -139,12 +139,6 @@ same_exchange one other = cc
 -- ---- what a record comes to
 
 -- what the pairer answered of a record
-pub open_outcome : (s : Step) (o : Outcome) → s ≡ step_of o → s ≢ Step.Exchange → s ≢ Step.LateReply → IsOpen o
-open_outcome s Outcome.leaves_open is not late = tt
-open_outcome s Outcome.answers_late is not late = absurd (late is)
-open_outcome s Outcome.asks is not late = tt
-open_outcome s (Outcome.completes e) is not late = absurd (not is)
-
 pub answering_late : (o : Outcome) → Step.LateReply ≡ step_of o → o ≡ Outcome.answers_late
 answering_late Outcome.leaves_open is = absurd (cc is)
 answering_late Outcome.answers_late is = refl

@@ -1,5 +1,6 @@
 pub mod Verdict
 pub mod Judging
+pub mod InTime
 pub mod Parts
 pub mod PartsReport
 pub mod Report

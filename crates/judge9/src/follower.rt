@@ -2,7 +2,7 @@
 ghost use Rattle.std.specs.Prelude.{◌≡◌, ◌≤◌, IfOk, None, OnOk};
 ghost use Rattle.std.specs.Option.{ForSome};
 ghost use Rattle.block9.specs.declared.exchange.Exchange.{Exchange as AnExchange};
-ghost use Rattle.judge9.specs.Verdict.{terms_of};
+ghost use Rattle.judge9.specs.Verdict.{line_rules, terms_of};
 ghost use Rattle.judge9.specs.Working.Turns.{IsObserved, KnowsNothing, Took};
 
 use crate::turn::{Break, Turn};
@@ -23,6 +23,16 @@ pub(crate) struct Follower<'a> {
     pub(crate) tracker: Tracker<'a, SpanSet>,
 }
 
+/// What the records of a line are judged by.
+fn line_rules(reply_limit: ReplyLimit, profile: &Profile) -> LineRules
+    ensures { result ≡ line_rules (terms_of reply_limit profile.now) }
+{
+    LineRules {
+        rate: profile.rate,
+        reply_limit,
+    }
+}
+
 impl<'a> Follower<'a> {
     /// Before the first record: nothing is open, and nothing is known of the deck. An error comes where memory is refused.
     pub(crate) fn of(
@@ -34,16 +44,13 @@ impl<'a> Follower<'a> {
     {
         let tracker = Tracker::of(alloc, profile)?;
         Ok(Follower {
-            pairer: Pairer::by(LineRules {
-                rate: profile.rate,
-                reply_limit,
-            }),
+            pairer: Pairer::by(line_rules(reply_limit, profile)),
             tracker,
         })
     }
 
-    /// Takes the next record, and answers what it comes to, if it does: an exchange, a late reply, or a break. An error comes where the tracker
-    /// finds no room. Nothing is taken after an error, nor after a break.
+    /// Takes the next record, and answers what it comes to, if it does: an exchange, a late reply, or a break. An error comes
+    /// where the tracker finds no room. Nothing is taken after an error, nor after a break.
     #[inline(always)] // else each answer is handed on through memory
     pub(crate) fn take(&mut self, line_byte: LineByte) -> Result<Option<Turn>, AllocError>
         requires no_reason { self.old.pairer.reason ≡ None }
@@ -99,10 +106,7 @@ impl<'a> Follower<'a> {
     {
         let tracker = Tracker::of(alloc, profile)?;
         drop(replace(&mut self.tracker, tracker));
-        self.pairer = Pairer::by(LineRules {
-            rate: profile.rate,
-            reply_limit,
-        });
+        self.pairer = Pairer::by(line_rules(reply_limit, profile));
         Ok(())
     }
 }

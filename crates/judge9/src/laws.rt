@@ -10,10 +10,12 @@ ghost use Rattle.judge9.specs.Judging.{Answer, IsAnswer};
 ghost use Rattle.judge9.specs.Judging.Answer.{judged};
 ghost use Rattle.judge9.specs.Report.{IsText, Told};
 ghost use Rattle.text9.specs.Writing.{AppendsPart};
-ghost use Rattle.judge9.specs.Parts.{AreParts, AreTotals, BrokenPart, Event, IsPart, Part, Rest, in_parts, late_replies, number_of};
+ghost use Rattle.judge9.specs.InTime.{AreSameParts, ComeInTime, IsSamePart, late_at};
+ghost use Rattle.judge9.specs.Parts.{AreParts, AreTotals, BrokenPart, Event, IsPart, Part, Rest, events_of, in_parts, late_replies, number_of};
 ghost use Rattle.judge9.specs.Parts.Event.{late_reply};
 ghost use Rattle.judge9.specs.Verdict.{AreCounts, Breaks, IsFirstBreak, IsOk, Terms, counting, line_rules};
 ghost use Rattle.std.specs.List.{All};
+ghost use Rattle.std.specs.List.Sorted.{IsNonDecreasingBy};
 ghost use Rattle.deck9.specs.Run.{HasRun};
 ghost use Rattle.deck9.specs.Laws.{ForgetsNoMore, PassesNoMore};
 ghost use Rattle.deck9.specs.declared.deck.Deck.{Deck as ADeck};
@@ -121,4 +123,17 @@ pub fn each_part_is_a_no()
         → All (λ b. IsFirstBreak (in_parts profile) (drop b.part.past items) (length b.part.records + 1) b.reason) broken }
     ensures first { (profile : Profile) (items : List LineByte) (b : BrokenPart) (broken : List BrokenPart) (left : Rest)
         → AreParts profile (record { past = 0; records = items }) (b ∷ broken) left → IsFirstBreak (in_parts profile) items (number_of b) b.reason }
+{}
+
+/// A late reply is late, and nothing else: where each one comes at the reply limit, and every other record as long after the one
+/// before it as it did, the parts break at the same records and for the same reasons, the same is told of every exchange, no reply
+/// is late, and of the totals only the breaks differ. A capture, in which times never fall, has such another one.
+pub fn a_late_reply_is_nothing_else()
+    ensures same { (profile : Profile) (items moved : List LineByte) (broken : List BrokenPart) (left : Rest) (last : Part) (totals : Totals)
+        → AreParts profile (record { past = 0; records = items }) broken left → IsPart profile last → last.past ≡ left.past → last.records ≡ left.records
+        → AreTotals (length items) broken last totals → ComeInTime (late_at (events_of broken ++ last.events)) 0 0 0 items moved
+        → (others : List BrokenPart) × (behind : Rest) × (end : Part) × AreParts profile (record { past = 0; records = moved }) others behind × IsPart profile end
+        × (end.past ≡ behind.past) × (end.records ≡ behind.records) × AreSameParts broken others × IsSamePart last end
+        × AreTotals (length moved) others end (record totals { breaks = length broken }) }
+    ensures there_is_one { (late : ℕ → ℕ) (items : List LineByte) → IsNonDecreasingBy (λ r. r.time_us) items → (moved : List LineByte) × ComeInTime late 0 0 0 items moved }
 {}
