@@ -1,6 +1,6 @@
 # Completes the words of ninecheck in bash.
 _ninecheck() {
-    local word=${COMP_WORDS[COMP_CWORD]} before=${COMP_WORDS[COMP_CWORD - 1]} options='--hands --all --rate --deck --help'
+    local word=${COMP_WORDS[COMP_CWORD]} before=${COMP_WORDS[COMP_CWORD - 1]} options='--hands --all --line-buffered --rate --deck --help'
     if [ "$COMP_CWORD" = 1 ]; then
         mapfile -t COMPREPLY < <(compgen -W 'check explain run why help --help --version' -- "$word")
         return

@@ -92,7 +92,7 @@ judge 'a bad row, the lines before it' has_lines 1
 judge 'a bad row, the line of PLAY' has_line 1 \
     "record 6: PLAY -> ACK, delay 400, goal unknown, shown unknown, in unknown, out unknown, local unknown$audio"
 
-# A pipe that closes while a long report is written ends the program, with two lines on standard error.
+# A pipe that closes while a long report is written ends the program, which says nothing of it.
 records "$play" 100000 > "$work/long.csv"
 judge_closed_pipe explain "$work/long.csv"
 "$program" explain "$work/long.csv" > "$work/out" 2> "$work/err"

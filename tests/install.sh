@@ -145,7 +145,7 @@ done <<'END'
 ninecheck |check explain help run why|check explain help run why
 ninecheck e|explain|explain
 ninecheck -|--help --version -V -h|--help --version -V -h
-ninecheck why -|--all --deck --hands --help --rate -h|--all --deck --hands --help --rate -h
+ninecheck why -|--all --deck --hands --help --line-buffered --rate -h|--all --deck --hands --help --line-buffered --rate -h
 ninecheck check --a|--all|--all
 ninecheck run -|--deck --hands --help --rate -h|--deck --hands --help --rate -h
 ninecheck check --rate |24 25 29.97df 30|24 25 29.97df 30
@@ -208,7 +208,7 @@ expect 'verbs are offered' 0 'check explain run why help --help --version' ''
 complete_words ninecheck run --
 expect 'options are offered' 0 '--hands --rate --deck --help' ''
 complete_words ninecheck explain --
-expect 'options are offered where the judging can go on' 0 '--hands --all --rate --deck --help' ''
+expect 'options are offered where the judging can go on' 0 '--hands --all --line-buffered --rate --deck --help' ''
 complete_words ninecheck why --rate ''
 expect 'rates are offered' 0 '24 25 30 29.97df' ''
 complete_words ninecheck why --rate = 2

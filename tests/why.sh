@@ -342,7 +342,7 @@ echo '12000,C,G1' >> "$work/capture.csv"
 why "$work/capture.csv"
 judge 'a bad row after the break' is_why 1 'no at record 28: M1 no run remains' ''
 
-# A pipe that is closed before the text is written ends the program, with two lines on standard error.
+# A pipe that is closed before the text is written ends the program, which says nothing of it.
 capture_of "$remote $preset $sensed_at_11"
 {
     sleep 1
@@ -351,7 +351,7 @@ capture_of "$remote $preset $sensed_at_11"
 } | true
 status=$(cat "$work/status")
 : > "$work/out"
-judge 'a closed pipe' is_text 4 '' "$(both_lines 'write fault')"
+judge 'a closed pipe' is_text 4 '' ''
 "$program" why "$work/capture.csv" > /dev/full 2> "$work/err"
 status=$?
 judge 'a full device' is_text 4 '' "$(both_lines 'write fault')"

@@ -19,8 +19,7 @@ has_lines() {
     [ "$(wc -l < "$work/out")" = "$1" ]
 }
 
-# judge_closed_pipe WORDS...: a pipe that closes after the first line of a long text ends the program, with two lines on standard
-# error. A script that asks this has errors.sh too.
+# judge_closed_pipe WORDS...: a pipe that closes after the first line of a long text ends the program, which says nothing of it.
 judge_closed_pipe() {
     {
         "$program" "$@" 2> "$work/err"
@@ -28,6 +27,6 @@ judge_closed_pipe() {
     } | head -n 1 > "$work/out"
     status=$(cat "$work/status")
     judge 'a closed pipe, the status' [ "$status" = 4 ]
-    judge 'a closed pipe, the lines on standard error' [ "$(cat "$work/err")" = "$(both_lines 'write fault')" ]
+    judge 'a closed pipe, standard error' [ ! -s "$work/err" ]
     judge 'a closed pipe, the first line' has_lines 1
 }

@@ -28,7 +28,7 @@ module _ (profile : Profile) where
       (m.0, m.2, λ run. none (run_moved profile (fs ++ m.0 ∷ []) (es ++ e ∷ []) (blocks_back (es ++ e ∷ []) (fs ++ m.0 ∷ []) both) run))
   applies_moved from to es fs t u r s same n soon came early y h = holds_moved profile.rate from to t u r s n soon early y h
 
-  -- records that keep the rules with the next one keep them where they come later
+  -- with the next one they keep the rules at the first times where they do at the others
   ok_back : (to : ReplyLimit) (p : List LineByte) (es : List Exchange) (t q : List LineByte) (fs : List Exchange) (u : List LineByte) (last before : ℕ) (r s : LineByte)
       → Along profile.rate to p es t q fs u last before → Near profile.rate LeftAside t r u s → HasRun profile es → IsOk (terms_of to profile) (q ++ s ∷ [])
       → IsOk (in_parts profile) (p ++ r ∷ [])

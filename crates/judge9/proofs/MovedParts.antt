@@ -191,7 +191,7 @@ module _ (profile : Profile) where
     pub same : AreSameParts broken others
     pub same_end : IsSamePart last end
 
-  -- by how much the record that breaks is late
+  -- whether the record that breaks begins a late reply
   comes_at : (late : ℕ → ℕ) (b : BrokenPart) (u : List LineByte) (s : LineByte) (last before : ℕ) → TellsLate (line_rules (in_parts profile)) b.part.tail b.breaking b.late
       → late (number_of b) ≡ late_in_break b (number_of b) → b.breaking.wire ≡ s.wire → b.breaking.byte ≡ s.byte → (late (number_of b) ≡ 0 → s.time_us + last ≡ b.breaking.time_us + before)
       → (late (number_of b) ≢ 0 → s.time_us ≡ before + reply_limit) → Comes profile.rate LeftAside b.part.tail b.breaking u s last before (late (number_of b))
@@ -333,7 +333,7 @@ in_time_parts profile items moved broken left last totals parts part past all ar
       totals_moved items moved broken m.others last m.end totals (come_count late 0 0 0 items moved come) m.same m.same_end are,
     )
 
--- times that do not fall can come so
+-- times that never fall can be moved so
 pub there_is_one : (late : ℕ → ℕ) (past last before : ℕ) (records : List LineByte) → IsNonDecreasingBy (λ r. r.time_us) records → (0 < length records → last ≤ first_time records)
     → (moved : List LineByte) × ComeInTime late past last before records moved
 there_is_one late past last before [] rising first = ([], refl)

@@ -3,6 +3,7 @@ pub mod Text
 pub mod Opening
 pub mod Outcome
 pub mod Output
+pub mod WholeLines
 pub mod Judging
 pub mod Sheet
 pub mod Status

@@ -8,6 +8,7 @@ use Rattle.verdict9.specs.declared.error.JudgeError.TheVariants as error
 use Rattle.verdict9.specs.declared.totals.Totals.{Totals}
 use Rattle.verdict9.specs.declared.verdict.Verdict.{Verdict}
 use Rattle.verdict9.specs.declared.verdict.Verdict.TheVariants as verdict
+use Rattle.program9.specs.declared.ending.Message.{Message}
 use Rattle.program9.specs.declared.ending.Message.TheVariants as message
 use Rattle.program9.specs.declared.ending.Outcome.{Outcome}
 
@@ -41,3 +42,12 @@ outcome_of (Err e) = outcome_refused e
 abbrev pub outcome_in_parts : Result Totals JudgeError → Outcome
 outcome_in_parts (Ok totals) = record { status = (if (totals.breaks == 0) then 0 else 1); message = message.Nothing }
 outcome_in_parts (Err e) = outcome_refused e
+
+-- what is said, but of a write fault nothing
+abbrev pub unless_write_fault : Message → Message
+unless_write_fault message.WriteFault = message.Nothing
+unless_write_fault said = said
+
+-- the same end, which says nothing of a write fault
+abbrev pub without_write_fault : Outcome → Outcome
+without_write_fault end = record end { message = unless_write_fault end.message }

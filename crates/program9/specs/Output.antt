@@ -9,7 +9,7 @@ contents_behind contents b = contents b.to
 
 -- what the writer holds, and then what the buffer holds
 abbrev pub held_contents : {W : Type 0} → (W → Option (List ℕ)) → Buffered W → Option (List ℕ)
-held_contents contents b = append_known (contents b.to) b.held.items
+held_contents contents b = append_known (contents b.to) b.held.bytes.items
 
 -- known bytes are a first part of these
 abbrev pub IsFirstPart : Option (List ℕ) → Option (List ℕ) → Type 0

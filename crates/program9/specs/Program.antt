@@ -30,7 +30,7 @@ use Rattle.program9.specs.declared.ending.End.TheVariants as end
 use Rattle.program9.specs.declared.ending.Outcome.{Outcome}
 use Rattle.program9.specs.Judging.{EndsAs, TellsRun, TellsWhy}
 use Rattle.program9.specs.Opening.{no_memory, outcome_unopened}
-use Rattle.program9.specs.Outcome.{outcome_in_parts, outcome_of}
+use Rattle.program9.specs.Outcome.{outcome_in_parts, outcome_of, without_write_fault}
 use Rattle.program9.specs.Sheet.{FindsDeck}
 use Rattle.program9.specs.Version.{TellsVersion}
 
@@ -81,13 +81,19 @@ EndsJudged None verb profile capture old end now =
 abbrev pub profile_of : Task → Option Deck → Profile
 profile_of task deck = record { rate = task.rate; hands = task.hands; deck = deck }
 
+-- the end after this one of the judging: the same, or where the reader of a pipe is gone, without the message of a write fault. No
+-- contract of a writer says when that is
+abbrev pub IsToldAs : Outcome → Outcome → Type 0
+IsToldAs judged end = (end ≡ judged) ⊎ (end ≡ without_write_fault judged)
+
 -- a capture was opened so, and this is the end: it was not opened, and nothing is written; or it was judged with this verb, for a
 -- deck that is taken for this, going on after a break or not; or memory for the buffer was refused, and nothing is written
 abbrev pub EndsOpened : {R : Type 0} → (R → Option (List ℕ)) → Option (String Global) → Verb → Bool → Profile → Result R Error → Option (List ℕ) → Outcome
     → Option (List ℕ) → Type 0
 EndsOpened coming file verb all profile (Err e) old end now = (end ≡ outcome_unopened file e) × Keeps old now
 EndsOpened coming file verb all profile (Ok reader) old end now =
-    ((end ≡ no_memory) × Keeps old now) ⊎ EndsJudged (told_of_parts verb all) verb profile (coming reader) old end now
+    ((end ≡ no_memory) × Keeps old now)
+    ⊎ ((judged : Outcome) × EndsJudged (told_of_parts verb all) verb profile (coming reader) old judged now × IsToldAs judged end)
 
 -- the capture was opened, or standard input where there is no file, and this is the end
 pub record EndsCapture {R : Type 0} (opens : Option (String Global) → Result R Error → Type 0) (coming : R → Option (List ℕ)) (file : Option (String Global))

@@ -4,7 +4,9 @@
 
 mod buffered;
 mod ending;
+mod held;
 mod judging;
+pub mod laws;
 mod message;
 mod program;
 mod sheet;

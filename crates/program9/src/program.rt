@@ -4,6 +4,7 @@ ghost use Rattle.std.specs.Fn.{FnOnceReturnsAt};
 ghost use Rattle.program9.specs.Output.{contents_behind, held_contents};
 ghost use Rattle.program9.specs.Program.{EndsCapture, EndsJudged, EndsProgram, EndsTask, EndsWithout, told_of_parts};
 ghost use Rattle.program9.specs.Opening.{outcome_unopened, why_of};
+ghost use Rattle.program9.specs.Outcome.{without_write_fault};
 
 use crate::buffered::Buffered;
 use crate::ending::{End, Message, Outcome, Unopened, WhyUnopened};
@@ -17,6 +18,17 @@ use std::alloc::Global;
 use std::io::{self, Read, Write};
 use words9::{Task, Verb, WordsFault, read_words};
 
+/// What is to be done with a capture.
+#[derive(Clone, Copy)]
+struct Asked {
+    /// What is judged and written.
+    verb: Verb,
+    /// Whether the judging goes on after a break.
+    all: bool,
+    /// Whether each line is handed on as soon as it is complete.
+    line_buffered: bool,
+}
+
 /// The program from its words, or from why there are none, to its end: reads the task, reads the deck's sheet that it names, opens
 /// its capture, judges that and writes the report to `out`; or writes its version there. It answers how the program ends, and the
 /// writer as it left it.
@@ -25,7 +37,8 @@ use words9::{Task, Verb, WordsFault, read_words};
 /// is a task and its sheet is none that was refused. The end is
 ///
 /// * `Usage` only where the words are no command, or could not be fetched as text: nothing is written;
-/// * the `Outcome` of the judging that the words ask for: with their verb, at their rate, with hands where they say so, for a deck
+/// * the `Outcome` of the judging that the words ask for, without the message of a write fault where `out` is a pipe whose reader is
+///   gone: with their verb, at their rate, with hands where they say so, for a deck
 ///   that does what the sheet says, and with `check`, `explain` and `why` part by part where they say `--all`;
 /// * status 3 with `UnreadableSheet`, the file and what is wrong, where the sheet is none; status 4 with `CannotOpenSheet`, the file
 ///   and the reason, where `sheet_opener` or its reader failed: nothing is written;
@@ -98,11 +111,17 @@ fn carry_out<
         hands,
         deck,
         all,
+        line_buffered,
     } = task;
     match find_deck(alloc, deck, sheet_opener) {
         Ok(deck) => {
             let profile = Profile { rate, hands, deck };
-            judge_capture(alloc, file, opener, verb, &profile, all, out)
+            let asked = Asked {
+                verb,
+                all,
+                line_buffered,
+            };
+            judge_capture(alloc, file, opener, asked, &profile, out)
         }
         Err(end) => (end, out),
     }
@@ -113,24 +132,38 @@ fn judge_capture<F: FnOnce(&Option<String>) -> io::Result<R>, R: Read + Drop, W:
     alloc: Global,
     file: Option<String>,
     opener: F,
-    verb: Verb,
+    asked: Asked,
     profile: &Profile,
-    all: bool,
     out: W,
 ) -> (Outcome, W)
     requires { F.IsAlwaysCallable opener }
-    ensures { EndsCapture (FnOnceReturnsAt F.FnOnce opener) R.remaining file verb all profile.now (W.contents out) result.0 (W.contents result.1) }
+    ensures { EndsCapture (FnOnceReturnsAt F.FnOnce opener) R.remaining file asked.verb asked.all profile.now (W.contents out) result.0 (W.contents result.1) }
 {
     let reader = match opener(&file) {
         Ok(reader) => reader,
         Err(e) => return (not_opened(file, &e), out),
     };
-    let mut out = match Buffered::new(alloc, out) {
+    let mut out = match Buffered::new(alloc, out, asked.line_buffered) {
         Ok(out) => out,
         Err(out) => return (Outcome::new(5, Message::NoMemory), out),
     };
-    let end = judge_task(alloc, reader, &mut out, verb, profile, all);
+    let end = judge_task(alloc, reader, &mut out, asked, profile);
+    let end = if out.reader_is_gone() {
+        without_write_fault(end)
+    } else {
+        end
+    };
     (end, out.into_writer())
+}
+
+/// The same end, which says nothing of a write fault: who made the reader of a pipe end knows of it.
+fn without_write_fault(end: Outcome) -> Outcome
+    ensures { result ≡ without_write_fault end }
+{
+    match end.message {
+        Message::WriteFault => Outcome::new(end.status, Message::Nothing),
+        _ => end,
+    }
 }
 
 /// Judges the capture with the verb, part by part where it goes on after a break, and hands the report on: the end.
@@ -138,18 +171,18 @@ fn judge_task<R: Read + Drop, W: Write + Drop>(
     alloc: Global,
     reader: R,
     out: &mut Buffered<W>,
-    verb: Verb,
+    asked: Asked,
     profile: &Profile,
-    all: bool,
 ) -> Outcome
-    ensures { EndsJudged (told_of_parts verb all) verb profile.now (R.remaining reader)
+    requires line_buffered { out.old.held.line_buffered ≡ asked.line_buffered }
+    ensures { EndsJudged (told_of_parts asked.verb asked.all) asked.verb profile.now (R.remaining reader)
         (held_contents W.contents out.old) result (contents_behind W.contents out.new) }
 {
-    match told_of_parts(verb, all) {
+    match told_of_parts(asked.verb, asked.all) {
         Some(telling) => outcome_in_parts(&judge_parts_and_flush_for(
             alloc, reader, out, telling, profile,
         )),
-        None => outcome(&judge_and_flush_for(alloc, reader, out, verb, profile)),
+        None => outcome(&judge_and_flush_for(alloc, reader, out, asked.verb, profile)),
     }
 }
 

@@ -56,6 +56,10 @@ deck_rule = record (new_rule (codes "deck")) { long = Some (codes "deck"); value
 abbrev pub all_rule : Rule
 all_rule = record (new_rule (codes "all")) { long = Some (codes "all"); action = Some SetTrue }
 
+-- the same
+abbrev pub line_buffered_rule : Rule
+line_buffered_rule = record (new_rule (codes "line-buffered")) { long = Some (codes "line-buffered"); action = Some SetTrue }
+
 -- the word of a verb
 abbrev pub name_of : Verb → Text
 name_of verb.Check = codes "check"
@@ -71,10 +75,10 @@ plain_app_for names verb =
 
 -- the subcommand of a verb
 abbrev pub app_for : RateNames → Verb → App
-app_for names verb.Check = with_rule (plain_app_for names verb.Check) all_rule
-app_for names verb.Explain = with_rule (plain_app_for names verb.Explain) all_rule
+app_for names verb.Check = with_rule (with_rule (plain_app_for names verb.Check) all_rule) line_buffered_rule
+app_for names verb.Explain = with_rule (with_rule (plain_app_for names verb.Explain) all_rule) line_buffered_rule
 app_for names verb.Run = plain_app_for names verb.Run
-app_for names verb.Why = with_rule (plain_app_for names verb.Why) all_rule
+app_for names verb.Why = with_rule (with_rule (plain_app_for names verb.Why) all_rule) line_buffered_rule
 
 -- the program, which wants a subcommand, and has a version; its own name is not among the words
 abbrev pub top : App
@@ -107,6 +111,7 @@ pub record GivesTask (names : RateNames) (words : List Text) (task : Task) : Typ
   pub hands : task.hands ≡ (if is_on (first_of (codes "hands") rows) then hands.Allowed else hands.None)
   pub deck : option_map string_bytes task.deck ≡ first_of (codes "deck") rows
   pub all : task.all ≡ is_on (first_of (codes "all") rows)
+  pub line_buffered : task.line_buffered ≡ is_on (first_of (codes "line-buffered") rows)
 
 -- it does not take them
 abbrev pub GivesNoTask : RateNames → List Text → Type 0

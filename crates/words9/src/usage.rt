@@ -3,7 +3,7 @@ ghost use Rattle.std.specs.Prelude.{◌≡◌, IfOk, false, map};
 ghost use Rattle.std.specs.String.{string_bytes};
 ghost use Rattle.clap.specs.Words.{FailsBy, app_of, fault_of, rule_of, subcommand_of, subcommand_rows_of, with_subcommand};
 ghost use Rattle.clap.specs.declared.builder.command.Command.TheViews.{out-Command as fields_of};
-ghost use Rattle.words9.specs.Words.{AreRateNames, app_for, deck_rule, hands_rule, name_of, plain_app_for, program, rate_rule, top};
+ghost use Rattle.words9.specs.Words.{AreRateNames, all_rule, app_for, deck_rule, hands_rule, line_buffered_rule, name_of, plain_app_for, program, rate_rule, top};
 
 use crate::task::{VERSION_LINE, Verb};
 use clap::{Arg, ArgAction, ArgMatches, Command, Error};
@@ -82,11 +82,7 @@ fn subcommand<'a>(
     match verb {
         Verb::Run => Ok(command),
         Verb::Check | Verb::Explain | Verb::Why => {
-            let all = Arg::new(alloc, "all")
-                .long("all")
-                .action(ArgAction::SetTrue)
-                .help("Go on after each break, and judge the whole capture");
-            command.arg(all)
+            command.arg(all(alloc))?.arg(line_buffered(alloc))
         }
     }
 }
@@ -147,6 +143,28 @@ fn deck<'a>(alloc: Global) -> Arg<'a>
     Arg::new(alloc, "deck").long("deck").value_name("FILE").help(
         "A sheet of what this deck does of its own, as TOML: what it forgets, and through which modes it passes",
     )
+}
+
+/// The option that goes on after a break.
+fn all<'a>(alloc: Global) -> Arg<'a>
+    ensures rule { rule_of result ≡ all_rule }
+    ensures local { result.global ≡ false }
+{
+    Arg::new(alloc, "all")
+        .long("all")
+        .action(ArgAction::SetTrue)
+        .help("Go on after each break, and judge the whole capture")
+}
+
+/// The option that hands each line on at once.
+fn line_buffered<'a>(alloc: Global) -> Arg<'a>
+    ensures rule { rule_of result ≡ line_buffered_rule }
+    ensures local { result.global ≡ false }
+{
+    Arg::new(alloc, "line-buffered")
+        .long("line-buffered")
+        .action(ArgAction::SetTrue)
+        .help("Write each line as soon as it is complete, to watch a capture while it grows")
 }
 
 /// A verb's word.

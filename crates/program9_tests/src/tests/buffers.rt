@@ -23,7 +23,7 @@ fn judged(
     verb: Verb,
     writer: Narrow,
 ) -> Option<(Result<Verdict, JudgeError>, Narrow)> {
-    let mut out = Buffered::new(alloc, writer).ok()?;
+    let mut out = Buffered::new(alloc, writer, false).ok()?;
     let answer = judge_and_flush(alloc, text.as_bytes(), &mut out, verb, Hands::None);
     Some((answer, out.into_writer()))
 }
@@ -122,7 +122,7 @@ fn nothing_is_written_after_a_write_that_failed(rt: HostRuntime) {
 #[test]
 fn more_than_the_buffer_holds(rt: HostRuntime) {
     let writer = Narrow::new(rt.alloc(), usize::MAX);
-    let found = Buffered::new(rt.alloc(), writer).ok();
+    let found = Buffered::new(rt.alloc(), writer, false).ok();
     let mut out = found.expect(&rt, "memory");
     for _ in 0..5 {
         for digit in b"0123456789" {
@@ -140,7 +140,7 @@ fn more_than_the_buffer_holds(rt: HostRuntime) {
 #[test]
 fn a_dropped_buffer_writes_nothing(rt: HostRuntime) {
     let mut writer = Narrow::new(rt.alloc(), usize::MAX);
-    let is_held = match Buffered::new(rt.alloc(), &mut writer) {
+    let is_held = match Buffered::new(rt.alloc(), &mut writer, false) {
         Ok(mut out) => out.write_all(b"held").is_ok(),
         Err(_) => false,
     };
