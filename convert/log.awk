@@ -221,17 +221,22 @@ function write(wire,    k) {
     printf "%.0f,%s,%s\n", times[k] + later, wire, bytes[k] | output
 }
 
-# The capture goes through `cat`, since no awk tells what became of its own output. Where it can't be written the rest is
-# read all the same: an awk whose pipe has lost its reader is ended, and says nothing. A reader that ends before the capture
-# does, as `ninecheck check` at a break, ends `cat` by a signal, which the shell tells as 141: then nothing is said, and the
-# status is the same. One awk answers 256 times the status.
+# Writes the header, unless it is written. The capture goes through `cat`, since no awk tells what became of its own output.
+# Where it can't be written the rest is read all the same: an awk whose pipe has lost its reader is ended, and says nothing.
+function begin_capture() {
+    if (output != "") return
+    output = "cat || { ended=$?; cat > /dev/null; exit $ended; }"
+    print "time_us,wire,byte" | output
+}
+
+# A reader that ends before the capture does, as `ninecheck check` at a break, ends `cat` by a signal, which the shell tells as
+# 141: then nothing is said, and the status is the same. One awk answers 256 times the status.
 END {
     if (refused) exit 1
     count["C"] += 0
     count["D"] += 0
     if (count["C"] + count["D"] == 0) refuse("no byte in " (from to == "" ? "the export" : "this stretch of the export"))
-    output = "cat || { ended=$?; cat > /dev/null; exit $ended; }"
-    print "time_us,wire,byte" | output
+    begin_capture()
     while (written["C"] < count["C"] || written["D"] < count["D"]) write(next_wire())
     ended = close(output)
     if (ended == 141 || ended == 141 * 256) exit 141
