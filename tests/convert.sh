@@ -327,41 +327,22 @@ printf 'time_us,wire,byte\n5,C,20\n6,C,01\n7,D,10\n8,C,20\n' > "$work/want"
 judge "the page's command for the beginning" cmp "$work/begun.csv" "$work/want"
 
 # The page's commands that log two serial ports and convert the log, as they stand, with two terminals in their place: each
-# wire's bytes are sent once its port is set as the page sets it. A terminal of a machine alone has no parity, so that is the
-# one thing which is not seen, and stty says that it could not do all.
-sed -n '/^    for port in /,/^$/s/^    //p' docs/CAPTURE.md > "$work/log.sh"
-python3 - "$work" > "$work/out" 2> "$work/err" <<'PY'
-import os, pty, subprocess, sys, termios, time
+# wire's bytes are sent once its port is set as the page sets it.
+sed -n '/^    for port in /,/^$/{s/^    //p;/^$/q}' docs/CAPTURE.md > "$work/log.sh"
+PYTHONPATH=tests/lib python3 -B - "$work" > "$work/out" 2> "$work/err" <<'PY'
+import os, subprocess, sys
+from ports import close_ports, must_wait_for, send, with_ports
 work = sys.argv[1]
-ports = [pty.openpty(), pty.openpty()]
-commands = open(f'{work}/log.sh').read()
-for k, (_, port) in enumerate(ports):
-    commands = commands.replace(f'/dev/ttyUSB{k}', os.ttyname(port))
-
-def wait_for(is_so):
-    end = time.monotonic() + 60
-    while not is_so():
-        if time.monotonic() > end:
-            sys.exit('it takes too long')
-        time.sleep(0.01)
-
-def is_set(port):
-    iflag, _, cflag, lflag, _, speed, _ = termios.tcgetattr(port)
-    return (speed == termios.B38400 and cflag & termios.CSIZE == termios.CS8 and cflag & termios.PARODD
-            and not cflag & termios.CSTOPB and not lflag & (termios.ICANON | termios.ECHO) and not iflag & termios.IXON)
 
 def logged():
     path = f'{work}/serial.log'
     return len(open(path).readlines()) if os.path.exists(path) else 0
 
-logging = subprocess.Popen(['sh', '-c', commands], cwd=work)
+logging = subprocess.Popen(['sh', '-c', with_ports(open(f'{work}/log.sh').read())], cwd=work)
 for k, sent in enumerate((bytes([0x20, 0x01, 0x21]), bytes([0x10, 0x01, 0x11]))):
-    wait_for(lambda: is_set(ports[k][1]))
-    os.write(ports[k][0], sent)
-    wait_for(lambda: logged() == 3 * k + 3)
-for line, port in ports:
-    os.close(line)
-    os.close(port)
+    send(k, sent)
+    must_wait_for(lambda: logged() == 3 * k + 3)
+close_ports()
 sys.exit(logging.wait())
 PY
 status=$?
