@@ -17,12 +17,18 @@
 # Where the timestamps are coarser than 100 microseconds a line on standard error says that limits of time mean little. That is so
 # where each stamp of the log is a multiple of 125 microseconds or each one of 200: so are stamps in milliseconds, however many
 # zeros stand after them, and those of clocks that tick every 125, 200, 250 or 500 microseconds or every 15.625 milliseconds.
+#
+# With `-v live=1` it keeps up with a log that grows: the bytes of a line are written once the next line was read, and those of
+# the last line at the end. Memory does not grow with the log. What is written can't be taken back. So no line may have an
+# earlier time than the line before, and where something is refused, the rows before it stay. `mawk` reads each line of a pipe
+# as it comes only with `-W interactive`.
 
 BEGIN {
     converter = "log.awk"
     in_order = 1
     if (controller == "" || deck == "") refuse("-v controller=PORT or -v deck=PORT is missing")
     if (controller "" == deck "") refuse("-v controller and -v deck are the same port")
+    if (live != "" && live != "1") refuse("-v live=1 is wrong")
     port_wire[controller] = "C"
     port_wire[deck] = "D"
 }
@@ -32,10 +38,13 @@ BEGIN {
 {
     sub(/\r$/, "")
     port_at = is_date($1) ? 3 : 2
-    if (NF <= port_at) refuse("unknown line: " $0)
+    if (NF <= port_at) refuse_line("unknown line: " $0)
     time = time_of(port_at == 3 ? $1 "T" $2 : $1)
     if (time % 125 != 0) is_off_125 = 1
     if (time % 200 != 0) is_off_200 = 1
+    if (live && time < waiting_time) {
+        refuse_line("a time before the line before, which -v live=1 can't put in its place: " $0)
+    }
     if (NR > 1) take_waiting(time)
     waiting = $0
     waiting_number = NR
@@ -44,11 +53,22 @@ BEGIN {
 
 END {
     if (refused) exit 1
-    if (NR > 0) take_waiting(waiting_time + 287 * length(waiting))
+    take_last()
     if (count["C"] + count["D"] > 0 && !(is_off_125 && is_off_200)) {
         print converter ": timestamps are coarser than 100 microseconds, so L1, L2 and B3 mean little" | "cat >&2"
         close("cat >&2")
     }
+}
+
+# Refuses the line that was read. With -v live=1 the line that waits is written first, as the last one is.
+function refuse_line(what) {
+    if (live) take_last()
+    refuse(what)
+}
+
+# Keeps the bytes of the line that waits, where no next line has a say.
+function take_last() {
+    if (waiting_number > 0) take_waiting(waiting_time + 287 * length(waiting))
 }
 
 # Keeps the bytes of the line that waited. It is made the line that is read for as long, so that it is told where it is refused.
@@ -64,6 +84,7 @@ function take_waiting(next_time,    line, line_number, k, time) {
         if (next_time >= waiting_time && time > next_time) time = next_time
         if (inside(time)) keep_field($k, time)
     }
+    if (live && output != "") fflush(output)
     $0 = line
     NR = line_number
 }
@@ -71,13 +92,23 @@ function take_waiting(next_time,    line, line_number, k, time) {
 function keep_field(byte, time) {
     if (!($port_at in port_wire)) refuse("neither the controller's port nor the deck's: " $0)
     if (byte !~ /^[0-9A-Fa-f][0-9A-Fa-f]$/) refuse("no byte of two hexadecimal digits: " $0)
-    keep(time, port_wire[$port_at], byte)
+    if (live) write_at_once(time, port_wire[$port_at], byte)
+    else keep(time, port_wire[$port_at], byte)
+}
+
+# The byte is kept in the place of the one before it on its wire, which is written.
+function write_at_once(time, wire, byte) {
+    count[wire] = 0
+    written[wire] = 0
+    keep(time, wire, byte)
+    begin_capture()
+    write(wire)
 }
 
 function time_of(stamp,    form) {
     if (stamp ~ /^\[.*:.*\]$/) stamp = substr(stamp, 2, length(stamp) - 2)
     form = form_of(stamp)
-    if (form_before != "" && form != form_before) refuse("a stamp of another form than the line before: " $0)
+    if (form_before != "" && form != form_before) refuse_line("a stamp of another form than the line before: " $0)
     form_before = form
     if (form == "seconds") return microseconds(stamp)
     return form == "clock" ? time_of_clock(stamp) : time_of_date(substr(stamp, 1, 10), substr(stamp, 12))
@@ -87,7 +118,7 @@ function form_of(stamp) {
     if (stamp ~ /^[0-9]+(\.[0-9]+)?$/) return "seconds"
     if (is_clock(stamp)) return "clock"
     if (is_date(substr(stamp, 1, 10)) && substr(stamp, 11, 1) == "T" && is_clock(substr(stamp, 12))) return "date"
-    refuse((stamp ~ /:/ ? "no clock of the form 12:34:56.789: " : "no time in seconds: ") $0)
+    refuse_line((stamp ~ /:/ ? "no clock of the form 12:34:56.789: " : "no time in seconds: ") $0)
 }
 
 # Whether this is a date; the bracket of its clock may stand before it.
@@ -102,7 +133,7 @@ function is_clock(text) {
 # A clock alone tells no day, so that one that falls back has gone past midnight or was set.
 function time_of_clock(clock,    time) {
     time = since_midnight(clock)
-    if (time < clock_before) refuse("a clock without a date falls back: " $0)
+    if (time < clock_before) refuse_line("a clock without a date falls back: " $0)
     clock_before = time
     return time
 }
@@ -110,14 +141,14 @@ function time_of_clock(clock,    time) {
 function time_of_date(date, clock,    day) {
     day = day_number(date)
     if (first_day == "") first_day = day
-    if (day < first_day) refuse("a day before the first line's: " $0)
+    if (day < first_day) refuse_line("a day before the first line's: " $0)
     return (day - first_day) * 86400000000 + since_midnight(clock)
 }
 
 function since_midnight(clock,    hours, minutes) {
     hours = number(substr(clock, 1, 2))
     minutes = number(substr(clock, 4, 2))
-    if (hours > 23 || minutes > 59 || number(substr(clock, 7, 2)) > 59) refuse("no time of day: " $0)
+    if (hours > 23 || minutes > 59 || number(substr(clock, 7, 2)) > 59) refuse_line("no time of day: " $0)
     return (hours * 60 + minutes) * 60000000 + microseconds(substr(clock, 7))
 }
 
@@ -126,7 +157,7 @@ function day_number(date,    year, month, day) {
     year = number(substr(date, 1, 4))
     month = number(substr(date, 6, 2))
     day = number(substr(date, 9, 2))
-    if (month < 1 || month > 12 || day < 1 || day > days_of(month, year)) refuse("no day of the calendar: " $0)
+    if (month < 1 || month > 12 || day < 1 || day > days_of(month, year)) refuse_line("no day of the calendar: " $0)
     if (month < 3) {
         month += 12
         year--

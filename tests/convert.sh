@@ -30,6 +30,9 @@ stored_exports() {
         convert "$converter" "$words" < "examples/exports/$export"
         judge "$awk: $export" is_made "examples/exports/$capture"
         judge "$awk: the program on $export" is_verdict "$want_status" "$want_line"
+        [ "$converter" = log.awk ] || continue
+        convert "$converter" "$words -v live=1" < "examples/exports/$export"
+        judge "$awk: $export, live" is_made "examples/exports/$capture"
     done < examples/exports/ANSWERS
     convert sigrok.awk '-v rate=2000000' < examples/exports/sigrok-damaged.txt
     judge "$awk: sigrok-damaged.txt" is_refused 'sigrok.awk: line 10: a damaged byte: 5613-5666 uart-2: Parity error'
@@ -38,21 +41,33 @@ stored_exports() {
 # The line that a log with coarse stamps has on standard error.
 coarse='log.awk: timestamps are coarser than 100 microseconds, so L1, L2 and B3 mean little'
 
-# is_coarse_capture FILE: the same, but for that line.
-is_coarse_capture() {
-    [ "$status" = 0 ] && cmp "$work/out" "$1" && [ "$(cat "$work/err")" = "$coarse" ]
+# judge_good NAME: the last run made $work/want, and said what belongs to a log that is called coarse.
+judge_good() {
+    case $1 in
+        coarse*) judge "$awk: $1" is_made_with "$coarse" ;;
+        *) judge "$awk: $1" is_made "$work/want" ;;
+    esac
 }
 
-# Exports with printf's escapes, and the rows of their captures. A log that is called coarse has the line on standard error.
+# is_made_with LINE: the last run made $work/want, and wrote this line to standard error.
+is_made_with() {
+    [ "$status" = 0 ] && cmp "$work/out" "$work/want" && [ "$(cat "$work/err")" = "$1" ]
+}
+
+# Exports with printf's escapes, and the rows of their captures. A log whose lines do not go back has the same rows live; what
+# becomes of the others is in the table of stopped logs.
 good_exports() {
     local name converter words text rows
     while IFS='|' read -r name converter words text rows; do
         printf "$text" > "$work/in"
-        convert "$converter" "$words" < "$work/in"
         printf "time_us,wire,byte\n$rows" > "$work/want"
+        convert "$converter" "$words" < "$work/in"
+        judge_good "$name"
         case $name in
-            coarse*) judge "$awk: $name" is_coarse_capture "$work/want" ;;
-            *) judge "$awk: $name" is_made "$work/want" ;;
+            *log:*' after the other'*) ;;
+            *log:*)
+                convert "$converter" "$words -v live=1" < "$work/in"
+                judge_good "$name, live" ;;
         esac
     done <<'END'
 sigrok: the deck's wire first|sigrok.awk|-v rate=1000000|1626-1834 uart-2: 10\n426-634 uart-1: 20\n|426,C,20\n1626,D,10\n
@@ -205,7 +220,6 @@ log: a date that falls back at one port|log.awk|-v controller=A -v deck=B|2|a ti
 log: a day before the first line's|log.awk|-v controller=A -v deck=B|2|a day before the first line's: 2024-02-29 23:59:59.999 B 10|2024-03-01 00:00:00.001 A 20\n2024-02-29 23:59:59.999 B 10\n
 log: a date, then a clock alone|log.awk|-v controller=A -v deck=B|2|a stamp of another form than the line before: 12:00:00.000 A 21|2024-03-01 12:00:00.000 A 20\n12:00:00.000 A 21\n
 log: seconds, then a clock|log.awk|-v controller=A -v deck=B|2|a stamp of another form than the line before: 12:00:00.000 A 21|1 A 20\n12:00:00.000 A 21\n
-log: a clock in whole seconds|log.awk|-v controller=A -v deck=B|1|no clock of the form 12:34:56.789: 12:34:56 A 20|12:34:56 A 20\n
 log: a clock in hundredths|log.awk|-v controller=A -v deck=B|1|no clock of the form 12:34:56.789: 12:34:56.78 A 20|12:34:56.78 A 20\n
 log: a clock with a decimal comma|log.awk|-v controller=A -v deck=B|1|no clock of the form 12:34:56.789: 12:34:56,789 A 20|12:34:56,789 A 20\n
 log: a clock with an hour of one digit|log.awk|-v controller=A -v deck=B|1|no clock of the form 12:34:56.789: 9:34:56.789 A 20|9:34:56.789 A 20\n
@@ -213,7 +227,6 @@ log: a bracket that is not closed|log.awk|-v controller=A -v deck=B|1|no clock o
 log: a date and a clock with a line between|log.awk|-v controller=A -v deck=B|1|no clock of the form 12:34:56.789: 2024-03-01_12:34:56.789 A 20|2024-03-01_12:34:56.789 A 20\n
 log: a bracket that was not opened|log.awk|-v controller=A -v deck=B|1|no clock of the form 12:34:56.789: 12:34:56.789] A 20|12:34:56.789] A 20\n
 log: a date with its zone|log.awk|-v controller=A -v deck=B|1|no clock of the form 12:34:56.789: 2024-03-01T12:34:56.789Z A 20|2024-03-01T12:34:56.789Z A 20\n
-log: a date with its clock in whole seconds|log.awk|-v controller=A -v deck=B|1|no clock of the form 12:34:56.789: 2024-03-01 12:34:56 A 20|2024-03-01 12:34:56 A 20\n
 log: a date of another order|log.awk|-v controller=A -v deck=B|1|no clock of the form 12:34:56.789: 01.03.2024T12:34:56.789 A 20|01.03.2024T12:34:56.789 A 20\n
 log: seconds in brackets|log.awk|-v controller=A -v deck=B|1|no time in seconds: [1.5] A 20|[1.5] A 20\n
 log: a date without a clock|log.awk|-v controller=A -v deck=B|1|no time in seconds: 2024-03-01 A 20 01|2024-03-01 A 20 01\n
@@ -233,7 +246,83 @@ log: the 30th of February|log.awk|-v controller=A -v deck=B|1|no day of the cale
 log: the 29th of February 2023|log.awk|-v controller=A -v deck=B|1|no day of the calendar: 2023-02-29 12:00:00.000 A 20|2023-02-29 12:00:00.000 A 20\n
 log: the 29th of February 2100|log.awk|-v controller=A -v deck=B|1|no day of the calendar: 2100-02-29 12:00:00.000 A 20|2100-02-29 12:00:00.000 A 20\n
 log: another port, after a date|log.awk|-v controller=A -v deck=B|1|neither the controller's port nor the deck's: 2024-03-01 12:00:00.000 C 20|2024-03-01 12:00:00.000 C 20\n
+log: live that is not 1|log.awk|-v controller=A -v deck=B -v live=yes|0|-v live=1 is wrong|1 A 20\n
+log: live that is 0|log.awk|-v controller=A -v deck=B -v live=0|0|-v live=1 is wrong|1 A 20\n
+log: an empty log, live|log.awk|-v controller=A -v deck=B -v live=1|0|no byte in the export|
+log: no byte in the stretch, live|log.awk|-v controller=A -v deck=B -v live=1 -v from=3|2|no byte in this stretch of the export|1 A 20\n2 A 01\n
+log: a first line that is none, live|log.awk|-v controller=A -v deck=B -v live=1|1|no time in seconds: x A 20|x A 20\n1 A 20\n
+log: a byte that is marked before a line that is none, live|log.awk|-v controller=A -v deck=B -v live=1|1|no byte of two hexadecimal digits: 1 A 2!|1 A 2!\nx\n
 END
+}
+
+# is_stopped LINE: the last run made $work/want, wrote this line to standard error, and was refused.
+is_stopped() {
+    [ "$status" = 1 ] && cmp "$work/out" "$work/want" && [ "$(cat "$work/err")" = "$1" ]
+}
+
+# Logs that are refused live, and the rows that stay: those of the lines before what is refused, as if the log ended there.
+stopped_logs() {
+    local name words line what text rows
+    while IFS='|' read -r name words line what text rows; do
+        printf "$text" > "$work/in"
+        printf "time_us,wire,byte\n$rows" > "$work/want"
+        convert log.awk "-v controller=A -v deck=B -v live=1 $words" < "$work/in"
+        judge "$awk: live: $name" is_stopped "log.awk: line $line: $what"
+    done <<'END'
+one port after the other, and one time||3|a time before the line before, which -v live=1 can't put in its place: 1.000001 A 20 01|2.000001 B 10 01\n3.000001 B 11\n1.000001 A 20 01\n3.000001 A 21\n|2000001,D,10\n2000288,D,01\n3000001,D,11\n
+one port after the other, with dates||2|a time before the line before, which -v live=1 can't put in its place: 2024-03-01 12:00:00.000 A 20|2024-03-01 12:00:01.000 B 10\n2024-03-01 12:00:00.000 A 20\n|43201000000,D,10\n
+a line before the last one at its port||2|a time before the line before, which -v live=1 can't put in its place: 1.4 A 21|1.5 A 20\n1.4 A 21\n1.6 A 22\n|1500000,C,20\n
+a line before the last one, by a microsecond||3|a time before the line before, which -v live=1 can't put in its place: 1.000000 B 10|1 A 20\n1.000001 A 01\n1.000000 B 10\n|1000000,C,20\n1000001,C,01\n
+a line before the last one, out of the stretch|-v to=1|3|a time before the line before, which -v live=1 can't put in its place: 1.5 B 10|0.5 A 20\n2 A 21\n1.5 B 10\n|500000,C,20\n
+bytes of the line before one that goes back||2|a time before the line before, which -v live=1 can't put in its place: 0.5 B 10|1 A 20 01 21\n0.5 B 10\n|1000000,C,20\n1000287,C,01\n1000574,C,21\n
+a clock that falls back||2|a clock without a date falls back: 00:00:00.001 B 10|23:59:59.999 A 20\n00:00:00.001 B 10\n|86399999000,C,20\n
+a line without a byte||3|unknown line: 3 A|1 A 20\n2 B 10 01\n3 A\n|1000000,C,20\n2000000,D,10\n2000287,D,01\n
+another port||2|neither the controller's port nor the deck's: 2 C 20|1 A 20\n2 C 20\n3 A 01\n|1000000,C,20\n
+a byte that is marked, and those before it in its line||2|no byte of two hexadecimal digits: 2 A 01 21! 20|1 A 20\n2 A 01 21! 20\n|1000000,C,20\n2000000,C,01\n
+seconds since 1970||2|a time of more than fifteen digits: 1700000000.5 A 20|1 A 20\n1700000000.5 A 20\n|1000000,C,20\n
+END
+}
+
+# The rows of a line are there once the next line has come, while the log is still open. mawk has to be told to read it line by line.
+open_log() {
+    rm -f "$work/log"
+    mkfifo "$work/log"
+    ${awk/#mawk/mawk -W interactive} -v live=1 -v controller=A -v deck=B -f convert/log.awk \
+        < "$work/log" > "$work/out" 2> "$work/err" &
+    exec 3> "$work/log"
+    printf '0.000426 A 20 01\n0.001900 B 10\n' >&3
+    judge "$awk: an open log, its first line" is_soon 'time_us,wire,byte\n426,C,20\n713,C,01\n'
+    printf '0.002187 B 01\n' >&3
+    judge "$awk: an open log, its second line" is_soon 'time_us,wire,byte\n426,C,20\n713,C,01\n1900,D,10\n'
+    exec 3>&-
+    wait $!
+    status=$?
+    printf 'time_us,wire,byte\n426,C,20\n713,C,01\n1900,D,10\n2187,D,01\n' > "$work/want"
+    judge "$awk: an open log, once it has ended" is_made "$work/want"
+}
+
+# is_soon TEXT: within two seconds this is what was made, with printf's escapes.
+is_soon() {
+    local look
+    printf "$1" > "$work/want"
+    for look in {1..40}; do
+        ! cmp -s "$work/out" "$work/want" || return 0
+        sleep 0.05
+    done
+    return 1
+}
+
+# A log of 80,000 bytes in 12 MB of memory, in which no awk can keep so many.
+long_log() {
+    awk 'BEGIN {
+        for (k = 1; k <= 5000; k++) printf "%d.000001 %s 20 01 21 22 23 24 25 26 27 28 29 2A 2B 2C 2D 2E\n", k, k % 3 ? "A" : "B"
+    }' > "$work/in"
+    (
+        ulimit -v 12288
+        LC_ALL=C $awk -v live=1 -v controller=A -v deck=B -f convert/log.awk < "$work/in" > "$work/out" 2> "$work/err"
+    )
+    status=$?
+    judge "$awk: a long log, live" [ "$status" = 0 -a "$(wc -l < "$work/out")" = 80001 -a ! -s "$work/err" ]
 }
 
 # A full device, with a capture that a pipe holds and with one that it does not: the rest is still to be written when the
@@ -247,7 +336,18 @@ full_device() {
         judge "$awk: a full device, $lines lines" [ "$status" = 1 ]
         judge "$awk: the message of a full device, $lines lines" \
             grep -q "^sigrok.awk: line $lines: the capture can't be written$" "$work/err"
+        log_of $lines > "$work/in"
+        ${awk% --posix} -v live=1 -v controller=A -v deck=B -f convert/log.awk < "$work/in" > /dev/full 2> "$work/err"
+        status=$?
+        judge "$awk: a full device, $lines lines live" [ "$status" = 1 ]
+        judge "$awk: the message of a full device, $lines lines live" \
+            grep -q "^log.awk: line $lines: the capture can't be written$" "$work/err"
     done
+}
+
+# log_of N: a log of so many lines of a byte, a millisecond apart.
+log_of() {
+    awk -v lines="$1" 'BEGIN { for (k = 1; k <= lines; k++) printf "%d.%06d A 20\n", k / 1000, k % 1000 * 1000 + 1 }'
 }
 
 # Reads 40 polls of a deck, whose bytes come 300 microseconds apart, as a log in whole milliseconds: a line for each byte, or for
@@ -291,9 +391,11 @@ closed_early() {
         awk -v lines=$lines 'BEGIN { for (k = 1; k <= lines; k++) print k * 1000 "-" k * 1000 + 208 " uart-1: 20" }' > "$work/in"
         into_closed $awk -v rate=1000000 -f convert/sigrok.awk
         judge "$awk: sigrok: a reader that has gone, $lines lines" is_silent
-        awk -v lines=$lines 'BEGIN { for (k = 1; k <= lines; k++) printf "%d.%06d A 20\n", k / 1000, k % 1000 * 1000 + 1 }' > "$work/in"
+        log_of $lines > "$work/in"
         into_closed $awk -v controller=A -v deck=B -f convert/log.awk
         judge "$awk: log: a reader that has gone, $lines lines" is_silent
+        into_closed $awk -v live=1 -v controller=A -v deck=B -f convert/log.awk
+        judge "$awk: log: a reader that has gone, $lines lines live" is_silent
         awk -v lines=$lines 'BEGIN { print "name,type,start_time,duration,data,error"
             for (k = 1; k <= lines; k++) printf "A,data,%d.%06d,1,0x20,\n", k / 1000, k % 1000 * 1000 }' > "$work/in"
         into_closed $awk -v controller=A -v deck=B -f convert/saleae.awk
@@ -305,6 +407,9 @@ for awk in mawk 'gawk --posix' 'busybox awk'; do
     stored_exports
     good_exports
     bad_exports
+    stopped_logs
+    open_log
+    long_log
     coarse_logs
     full_device
     closed_early
