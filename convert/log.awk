@@ -10,6 +10,9 @@
 # A stamp is in seconds, a clock or a date and a clock, of one form in the whole log. A clock has three digits or more after
 # the point, and may stand in brackets, with its date. Its times count from the beginning of the first line's day.
 #
+# With `-v unit=ms` or `-v unit=us` a stamp is a counter instead: a whole number of milliseconds or of microseconds. Without
+# it a log whose stamps are all whole numbers is read as seconds, and a line on standard error says so.
+#
 # The line's time is that of its first byte, cut to whole microseconds; each next byte of the line is taken to
 # come 287 microseconds later, one byte's time on the wire, but not later than the next line. Bytes of the same time stay in
 # the order of the log. `-v from=SECONDS` and `-v to=SECONDS` leave the bytes before the one and from the other on out.
@@ -28,6 +31,7 @@ BEGIN {
     in_order = 1
     if (controller == "" || deck == "") refuse("-v controller=PORT or -v deck=PORT is missing")
     if (controller "" == deck "") refuse("-v controller and -v deck are the same port")
+    if (unit != "" && unit != "ms" && unit != "us") refuse("-v unit=ms or -v unit=us is wrong")
     if (live != "" && live != "1") refuse("-v live=1 is wrong")
     port_wire[controller] = "C"
     port_wire[deck] = "D"
@@ -42,6 +46,7 @@ BEGIN {
     time = time_of(port_at == 3 ? $1 "T" $2 : $1)
     if (time % 125 != 0) is_off_125 = 1
     if (time % 200 != 0) is_off_200 = 1
+    if (NR > 1 && time != waiting_time) times_differ = 1
     if (live && time < waiting_time) {
         refuse_line("a time before the line before, which -v live=1 can't put in its place: " $0)
     }
@@ -54,10 +59,20 @@ BEGIN {
 END {
     if (refused) exit 1
     take_last()
-    if (count["C"] + count["D"] > 0 && !(is_off_125 && is_off_200)) {
-        print converter ": timestamps are coarser than 100 microseconds, so L1, L2 and B3 mean little" | "cat >&2"
+    notice = notice_of_times()
+    if (count["C"] + count["D"] > 0 && notice != "") {
+        print converter ": " notice | "cat >&2"
         close("cat >&2")
     }
+}
+
+# What is to be said of the times of the whole log, or nothing. Of whole seconds it matters more that they may be a counter.
+function notice_of_times() {
+    if (unit == "" && !has_point && times_differ) {
+        return "all times are whole numbers, and were read as seconds; -v unit=ms or -v unit=us reads a counter"
+    }
+    if (is_off_125 && is_off_200) return ""
+    return "timestamps are coarser than 100 microseconds, so L1, L2 and B3 mean little"
 }
 
 # Refuses the line that was read. With -v live=1 the line that waits is written first, as the last one is.
@@ -106,12 +121,19 @@ function write_at_once(time, wire, byte) {
 }
 
 function time_of(stamp,    form) {
+    if (unit != "") return time_of_counter(stamp)
+    if (stamp ~ /\./) has_point = 1
     if (stamp ~ /^\[.*:.*\]$/) stamp = substr(stamp, 2, length(stamp) - 2)
     form = form_of(stamp)
     if (form_before != "" && form != form_before) refuse_line("a stamp of another form than the line before: " $0)
     form_before = form
     if (form == "seconds") return microseconds(stamp)
     return form == "clock" ? time_of_clock(stamp) : time_of_date(substr(stamp, 1, 10), substr(stamp, 12))
+}
+
+function time_of_counter(stamp) {
+    if (stamp !~ /^[0-9]+$/) refuse_line("no whole number of " (unit == "ms" ? "milliseconds: " : "microseconds: ") $0)
+    return number(stamp) * (unit == "ms" ? 1000 : 1)
 }
 
 function form_of(stamp) {

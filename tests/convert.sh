@@ -38,13 +38,15 @@ stored_exports() {
     judge "$awk: sigrok-damaged.txt" is_refused 'sigrok.awk: line 10: a damaged byte: 5613-5666 uart-2: Parity error'
 }
 
-# The line that a log with coarse stamps has on standard error.
+# The lines that a log with coarse stamps, and one with whole seconds alone, has on standard error.
 coarse='log.awk: timestamps are coarser than 100 microseconds, so L1, L2 and B3 mean little'
+whole='log.awk: all times are whole numbers, and were read as seconds; -v unit=ms or -v unit=us reads a counter'
 
-# judge_good NAME: the last run made $work/want, and said what belongs to a log that is called coarse.
+# judge_good NAME: the last run made $work/want, and said what belongs to a log that is called coarse or whole.
 judge_good() {
     case $1 in
         coarse*) judge "$awk: $1" is_made_with "$coarse" ;;
+        whole*) judge "$awk: $1" is_made_with "$whole" ;;
         *) judge "$awk: $1" is_made "$work/want" ;;
     esac
 }
@@ -127,6 +129,20 @@ coarse log: a clock that ticks every 125 microseconds|log.awk|-v controller=A -v
 coarse log: a clock that ticks every 200 microseconds|log.awk|-v controller=A -v deck=B|0.000200 A 20\n0.000600 A 01\n|200,C,20\n600,C,01\n
 log: a clock that ticks every 100 microseconds|log.awk|-v controller=A -v deck=B|0.000200 A 20\n0.000300 A 01\n|200,C,20\n300,C,01\n
 log: one fine stamp, out of the stretch|log.awk|-v controller=A -v deck=B -v to=0.002|0.001 A 20\n0.002001 A 01\n|1000,C,20\n
+coarse log: a counter of milliseconds|log.awk|-v controller=A -v deck=B -v unit=ms|12345 A 20 01 21\n12347 B 10\n|12345000,C,20\n12345287,C,01\n12345574,C,21\n12347000,D,10\n
+log: a counter of microseconds|log.awk|-v controller=A -v deck=B -v unit=us|12345 A 20 01\n12500 B 10 01\r\n|12345,C,20\n12500,C,01\n12500,D,10\n12787,D,01\n
+coarse log: a counter of microseconds that ticks every millisecond|log.awk|-v controller=A -v deck=B -v unit=us|1000 A 20\n2000 B 10\n|1000,C,20\n2000,D,10\n
+coarse log: a counter with zeros in front, and one line|log.awk|-v controller=A -v deck=B -v unit=ms|010 A 20 01\n|10000,C,20\n10287,C,01\n
+coarse log: a counter up to fifteen digits of microseconds|log.awk|-v controller=A -v deck=B -v unit=ms|999999999999 A 20\n|999999999999000,C,20\n
+coarse log: a stretch of a counter, in seconds|log.awk|-v controller=A -v deck=B -v unit=ms -v from=1.001 -v to=1.003|1000 A 2!\n1001 A 20\n1002 B 10\n1003 B 1!\n|1001000,C,20\n1002000,D,10\n
+log: a counter, and one port after the other|log.awk|-v controller=A -v deck=B -v unit=us|2001 B 10\n1001 A 20\n|1001,C,20\n2001,D,10\n
+whole log: seconds without a point|log.awk|-v controller=A -v deck=B|10 A 20 01\n11 B 10\n|10000000,C,20\n10000287,C,01\n11000000,D,10\n
+whole log: zeros in front, and a stretch|log.awk|-v controller=A -v deck=B -v to=11|010 A 20\n0011 B 10\n|10000000,C,20\n
+whole log: one port after the other|log.awk|-v controller=A -v deck=B|11 B 10\n10 A 20\n|10000000,C,20\n11000000,D,10\n
+coarse log: whole seconds, one of them with a point|log.awk|-v controller=A -v deck=B|10 A 20\n11.0 B 10\n|10000000,C,20\n11000000,D,10\n
+coarse log: whole seconds in a single line|log.awk|-v controller=A -v deck=B|10 A 20 01\n|10000000,C,20\n10000287,C,01\n
+coarse log: whole seconds, two lines of the same|log.awk|-v controller=A -v deck=B|10 A 20\n10 B 10\n|10000000,C,20\n10000000,D,10\n
+log: whole seconds, and a fine stamp at the end|log.awk|-v controller=A -v deck=B|10 A 20\n11 B 10\n11.000001 B 01\n|10000000,C,20\n11000000,D,10\n11000001,D,01\n
 END
 }
 
@@ -220,6 +236,7 @@ log: a date that falls back at one port|log.awk|-v controller=A -v deck=B|2|a ti
 log: a day before the first line's|log.awk|-v controller=A -v deck=B|2|a day before the first line's: 2024-02-29 23:59:59.999 B 10|2024-03-01 00:00:00.001 A 20\n2024-02-29 23:59:59.999 B 10\n
 log: a date, then a clock alone|log.awk|-v controller=A -v deck=B|2|a stamp of another form than the line before: 12:00:00.000 A 21|2024-03-01 12:00:00.000 A 20\n12:00:00.000 A 21\n
 log: seconds, then a clock|log.awk|-v controller=A -v deck=B|2|a stamp of another form than the line before: 12:00:00.000 A 21|1 A 20\n12:00:00.000 A 21\n
+log: a clock in whole seconds|log.awk|-v controller=A -v deck=B|1|no clock of the form 12:34:56.789: 12:34:56 A 20|12:34:56 A 20\n
 log: a clock in hundredths|log.awk|-v controller=A -v deck=B|1|no clock of the form 12:34:56.789: 12:34:56.78 A 20|12:34:56.78 A 20\n
 log: a clock with a decimal comma|log.awk|-v controller=A -v deck=B|1|no clock of the form 12:34:56.789: 12:34:56,789 A 20|12:34:56,789 A 20\n
 log: a clock with an hour of one digit|log.awk|-v controller=A -v deck=B|1|no clock of the form 12:34:56.789: 9:34:56.789 A 20|9:34:56.789 A 20\n
@@ -227,6 +244,7 @@ log: a bracket that is not closed|log.awk|-v controller=A -v deck=B|1|no clock o
 log: a date and a clock with a line between|log.awk|-v controller=A -v deck=B|1|no clock of the form 12:34:56.789: 2024-03-01_12:34:56.789 A 20|2024-03-01_12:34:56.789 A 20\n
 log: a bracket that was not opened|log.awk|-v controller=A -v deck=B|1|no clock of the form 12:34:56.789: 12:34:56.789] A 20|12:34:56.789] A 20\n
 log: a date with its zone|log.awk|-v controller=A -v deck=B|1|no clock of the form 12:34:56.789: 2024-03-01T12:34:56.789Z A 20|2024-03-01T12:34:56.789Z A 20\n
+log: a date with its clock in whole seconds|log.awk|-v controller=A -v deck=B|1|no clock of the form 12:34:56.789: 2024-03-01 12:34:56 A 20|2024-03-01 12:34:56 A 20\n
 log: a date of another order|log.awk|-v controller=A -v deck=B|1|no clock of the form 12:34:56.789: 01.03.2024T12:34:56.789 A 20|01.03.2024T12:34:56.789 A 20\n
 log: seconds in brackets|log.awk|-v controller=A -v deck=B|1|no time in seconds: [1.5] A 20|[1.5] A 20\n
 log: a date without a clock|log.awk|-v controller=A -v deck=B|1|no time in seconds: 2024-03-01 A 20 01|2024-03-01 A 20 01\n
@@ -246,6 +264,16 @@ log: the 30th of February|log.awk|-v controller=A -v deck=B|1|no day of the cale
 log: the 29th of February 2023|log.awk|-v controller=A -v deck=B|1|no day of the calendar: 2023-02-29 12:00:00.000 A 20|2023-02-29 12:00:00.000 A 20\n
 log: the 29th of February 2100|log.awk|-v controller=A -v deck=B|1|no day of the calendar: 2100-02-29 12:00:00.000 A 20|2100-02-29 12:00:00.000 A 20\n
 log: another port, after a date|log.awk|-v controller=A -v deck=B|1|neither the controller's port nor the deck's: 2024-03-01 12:00:00.000 C 20|2024-03-01 12:00:00.000 C 20\n
+log: a unit that is none|log.awk|-v controller=A -v deck=B -v unit=s|0|-v unit=ms or -v unit=us is wrong|1 A 20\n
+log: a unit in capitals|log.awk|-v controller=A -v deck=B -v unit=MS|0|-v unit=ms or -v unit=us is wrong|1 A 20\n
+log: a counter of milliseconds with a point|log.awk|-v controller=A -v deck=B -v unit=ms|2|no whole number of milliseconds: 2.5 A 01|1 A 20\n2.5 A 01\n
+log: a counter of microseconds with a point|log.awk|-v controller=A -v deck=B -v unit=us|1|no whole number of microseconds: 1.0 A 20|1.0 A 20\n
+log: a counter below 0|log.awk|-v controller=A -v deck=B -v unit=us|2|no whole number of microseconds: -1 A 21|1 A 20\n-1 A 21\n
+log: a clock with a unit|log.awk|-v controller=A -v deck=B -v unit=ms|1|no whole number of milliseconds: 12:34:56.789 A 20|12:34:56.789 A 20\n
+log: a date and a clock with a unit|log.awk|-v controller=A -v deck=B -v unit=us|1|no whole number of microseconds: 2024-03-01 12:34:56.789 A 20|2024-03-01 12:34:56.789 A 20\n
+log: a counter in brackets|log.awk|-v controller=A -v deck=B -v unit=ms|1|no whole number of milliseconds: [12345] A 20|[12345] A 20\n
+log: a counter that is too great|log.awk|-v controller=A -v deck=B -v unit=ms|1|a time of more than fifteen digits: 1000000000000 A 20|1000000000000 A 20\n
+log: a counter before the last one at its port|log.awk|-v controller=A -v deck=B -v unit=us|2|a time below the one before on this wire: 14 A 21|15 A 20\n14 A 21\n
 log: live that is not 1|log.awk|-v controller=A -v deck=B -v live=yes|0|-v live=1 is wrong|1 A 20\n
 log: live that is 0|log.awk|-v controller=A -v deck=B -v live=0|0|-v live=1 is wrong|1 A 20\n
 log: an empty log, live|log.awk|-v controller=A -v deck=B -v live=1|0|no byte in the export|
@@ -271,12 +299,14 @@ stopped_logs() {
     done <<'END'
 one port after the other, and one time||3|a time before the line before, which -v live=1 can't put in its place: 1.000001 A 20 01|2.000001 B 10 01\n3.000001 B 11\n1.000001 A 20 01\n3.000001 A 21\n|2000001,D,10\n2000288,D,01\n3000001,D,11\n
 one port after the other, with dates||2|a time before the line before, which -v live=1 can't put in its place: 2024-03-01 12:00:00.000 A 20|2024-03-01 12:00:01.000 B 10\n2024-03-01 12:00:00.000 A 20\n|43201000000,D,10\n
+one port after the other, with a counter|-v unit=us|2|a time before the line before, which -v live=1 can't put in its place: 1001 A 20|2001 B 10\n1001 A 20\n|2001,D,10\n
 a line before the last one at its port||2|a time before the line before, which -v live=1 can't put in its place: 1.4 A 21|1.5 A 20\n1.4 A 21\n1.6 A 22\n|1500000,C,20\n
 a line before the last one, by a microsecond||3|a time before the line before, which -v live=1 can't put in its place: 1.000000 B 10|1 A 20\n1.000001 A 01\n1.000000 B 10\n|1000000,C,20\n1000001,C,01\n
 a line before the last one, out of the stretch|-v to=1|3|a time before the line before, which -v live=1 can't put in its place: 1.5 B 10|0.5 A 20\n2 A 21\n1.5 B 10\n|500000,C,20\n
 bytes of the line before one that goes back||2|a time before the line before, which -v live=1 can't put in its place: 0.5 B 10|1 A 20 01 21\n0.5 B 10\n|1000000,C,20\n1000287,C,01\n1000574,C,21\n
 a clock that falls back||2|a clock without a date falls back: 00:00:00.001 B 10|23:59:59.999 A 20\n00:00:00.001 B 10\n|86399999000,C,20\n
 a line without a byte||3|unknown line: 3 A|1 A 20\n2 B 10 01\n3 A\n|1000000,C,20\n2000000,D,10\n2000287,D,01\n
+a counter with a point|-v unit=ms|3|no whole number of milliseconds: 3.5 A 01|1 A 20\n2 B 10\n3.5 A 01\n|1000,C,20\n2000,D,10\n
 another port||2|neither the controller's port nor the deck's: 2 C 20|1 A 20\n2 C 20\n3 A 01\n|1000000,C,20\n
 a byte that is marked, and those before it in its line||2|no byte of two hexadecimal digits: 2 A 01 21! 20|1 A 20\n2 A 01 21! 20\n|1000000,C,20\n2000000,C,01\n
 seconds since 1970||2|a time of more than fifteen digits: 1700000000.5 A 20|1 A 20\n1700000000.5 A 20\n|1000000,C,20\n
