@@ -41,6 +41,7 @@ convert.sh;docs/CAPTURE.md;awk -v controller=COM3 -v deck=COM4 -f convert/log.aw
 convert.sh;docs/CAPTURE.md;awk -v controller=COM3 -v deck=COM4 -f convert/log.awk < examples/exports/serial-clock.log
 convert.sh;docs/CAPTURE.md;for port in /dev/ttyUSB0 /dev/ttyUSB1
 coarse;docs/CAPTURE.md;log.awk: timestamps are coarser
+live.sh;docs/CAPTURE.md;for port in /dev/ttyUSB0 /dev/ttyUSB1
 convert.sh;docs/CAPTURE.md;awk -v rate=2000000 -v from=0.02 -f convert/sigrok.awk < examples/exports/sigrok-damaged.txt
 refuse;docs/CAPTURE.md;sigrok.awk: line 10:
 convert.sh;docs/CAPTURE.md;awk -F,

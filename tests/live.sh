@@ -1,0 +1,76 @@
+#!/usr/bin/env bash
+# Runs the commands of docs/CAPTURE.md that show breaks while two serial ports are recorded, as they stand there, with the built
+# program and two terminals in place of the ports. The last line is 'N passed, M failed'.
+set -u
+cd "$(dirname "$0")/.." || exit 1
+. tests/lib/tools.sh
+need_tools gawk python3 ts=moreutils
+. tests/lib/judge.sh
+. tests/lib/program.sh
+
+ln -s "$PWD/convert" "$work/convert"
+ln -s "$program" "$work/ninecheck"
+sed -n '/^## While it is recorded/,/^## /{/^    for port in /,/^$/s/^    //p}' docs/CAPTURE.md > "$work/live.sh"
+
+# record END: the controller sends PLAY. The deck's reply is late, so that it is certain to stand after PLAY, and its sum is
+# wrong. Then one byte more comes. What stands on the screen is left in $work/replied and in $work/more, each once it has two
+# lines, or a second after the bytes. In the end the ports go, or where END is interrupt, the commands get what Ctrl-C sends, and
+# $work/taken says whether a byte that comes afterwards is read all the same.
+record() {
+    PYTHONPATH=tests/lib python3 -B - "$work" "$1" 2> "$work/err" <<'PY'
+import os, select, shutil, signal, subprocess, sys, time
+from ports import close_ports, ports, send, wait_for, with_ports
+work, end = sys.argv[1:]
+screen = open(f'{work}/out', 'w')
+
+def look(name, lines):
+    wait_for(lambda: len(open(f'{work}/out').readlines()) >= lines, 1)
+    shutil.copy(f'{work}/out', f'{work}/{name}')
+
+def interrupt():
+    os.killpg(live.pid, signal.SIGINT)
+    live.wait()
+    time.sleep(0.3)
+    send(0, bytes([0x20]))
+    time.sleep(0.3)
+    is_there = select.select([ports[0][1]], [], [], 0)[0]
+    open(f'{work}/taken', 'w').write('no' if is_there else 'yes')
+
+commands = with_ports(open(f'{work}/live.sh').read())
+live = subprocess.Popen(['sh', '-c', commands], cwd=work, stdout=screen, start_new_session=True)
+send(0, bytes([0x20, 0x01, 0x21]))
+time.sleep(0.3)
+send(1, bytes([0x10, 0x01, 0x12]))
+look('replied', 2)
+send(0, bytes([0x20]))
+look('more', 2)
+open(f'{work}/open', 'w').write('yes' if live.poll() is None else 'no')
+if end == 'interrupt':
+    interrupt()
+close_ports()
+sys.exit(live.wait())
+PY
+    status=$?
+}
+
+# A machine that is busy may stamp bytes of a block more than ten milliseconds apart, which breaks B3. Then it is tried again.
+for attempt in {1..5}; do
+    record close
+    grep -q ': B3 ' "$work/out" || break
+done
+
+late='no at record 4: L1 late reply'
+wrong='no at record 6: B2 wrong sum'
+judge 'the late reply, and not yet its last byte' [ "$(cat "$work/replied")" = "$late" ]
+judge 'the wrong sum, within a second of the byte after it' [ "$(cat "$work/more")" = "$late
+$wrong" ]
+judge 'the ports are still open then' [ "$(cat "$work/open")" = yes ]
+judge 'the end, once the ports have gone' [ "$status" = 1 ]
+judge 'what stands on the screen in the end' [ "$(cat "$work/out")" = "$late
+$wrong
+breaks 2: records 7, exchanges 0, passed over 6, open 1" ]
+
+record interrupt
+judge 'nothing reads a port after Ctrl-C' [ "$(cat "$work/taken")" = no ]
+
+tell_counts
