@@ -53,14 +53,17 @@ PY
     status=$?
 }
 
-# A machine that is busy may stamp bytes of a block more than ten milliseconds apart, which breaks B3. Then it is tried again.
-for attempt in {1..5}; do
-    record close
-    grep -q ': B3 ' "$work/out" || break
-done
-
 late='no at record 4: L1 late reply'
 wrong='no at record 6: B2 wrong sum'
+
+# A machine that is busy may stamp bytes of a block more than ten milliseconds apart, which breaks B3, or take more than a second.
+# Then it is tried again.
+for attempt in {1..5}; do
+    record close
+    [ "$(cat "$work/replied")" != "$late" ] || [ "$(cat "$work/more")" != "$late
+$wrong" ] || break
+done
+
 judge 'the late reply, and not yet its last byte' [ "$(cat "$work/replied")" = "$late" ]
 judge 'the wrong sum, within a second of the byte after it' [ "$(cat "$work/more")" = "$late
 $wrong" ]
