@@ -18,7 +18,7 @@ sed -n '/^## While it is recorded/,/^## /{/^    for port in /,/^$/s/^    //p}' d
 # $work/taken says whether a byte that comes afterwards is read all the same.
 record() {
     PYTHONPATH=tests/lib python3 -B - "$work" "$1" 2> "$work/err" <<'PY'
-import os, select, shutil, signal, subprocess, sys, time
+import os, select, shutil, signal, subprocess, sys, threading, time
 from ports import close_ports, ports, send, wait_for, with_ports
 work, end = sys.argv[1:]
 screen = open(f'{work}/out', 'w')
@@ -36,8 +36,13 @@ def interrupt():
     is_there = select.select([ports[0][1]], [], [], 0)[0]
     open(f'{work}/taken', 'w').write('no' if is_there else 'yes')
 
-commands = with_ports(open(f'{work}/live.sh').read())
-live = subprocess.Popen(['sh', '-c', commands], cwd=work, stdout=screen, start_new_session=True)
+# What a shell starts in the background ignores what Ctrl-C sends, as this script may.
+commands = ['env', '--default-signal=INT', 'sh', '-c', with_ports(open(f'{work}/live.sh').read())]
+live = subprocess.Popen(commands, cwd=work, stdout=screen, start_new_session=True)
+# Should it never end, it is ended, and the test fails.
+stop = threading.Timer(60, os.killpg, (live.pid, signal.SIGKILL))
+stop.daemon = True
+stop.start()
 send(0, bytes([0x20, 0x01, 0x21]))
 time.sleep(0.3)
 send(1, bytes([0x10, 0x01, 0x12]))
