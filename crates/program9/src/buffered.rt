@@ -1,6 +1,7 @@
 //! A writer behind a buffer that tries no failed write again, and writes nothing when it is dropped.
-ghost use Rattle.std.specs.Prelude.{◌≡◌, ◌≢◌, ◌+◌, ◌-◌, ◌<◌, ◌≤◌, ℕ, Ok, true, slice_index, take, vec_capacity, [], drop, IfErr, IfOk, OnErr, OnOk, vec_len};
+ghost use Rattle.std.specs.Prelude.{IsTrue, Some, None, ◌↔◌, ◌≡◌, ◌≢◌, ◌+◌, ◌-◌, ◌<◌, ◌≤◌, ℕ, Ok, true, slice_index, take, vec_capacity, [], drop, IfErr, IfOk, OnErr, OnOk, vec_len};
 ghost use Rattle.program9.specs.Output.{held_contents};
+ghost use Rattle.std.specs.declared.io.ErrorKind.TheVariants.{BrokenPipe};
 
 use crate::held::Held;
 use std::alloc::Global;
@@ -48,7 +49,9 @@ impl<W: Write + Drop> Buffered<W> {
     }
 
     /// Whether what failed was a write to a pipe whose reader is gone.
-    pub(crate) fn reader_is_gone(&self) -> bool {
+    pub(crate) fn reader_is_gone(&self) -> bool
+        ensures { IsTrue result ↔ self.now.held.failed ≡ Some BrokenPipe }
+    {
         matches!(self.held.failed, Some(io::ErrorKind::BrokenPipe))
     }
 
@@ -56,6 +59,7 @@ impl<W: Write + Drop> Buffered<W> {
     fn hand_on(&mut self) -> io::Result<()>
         ensures kept { Keeps (held_contents W.contents self.old) (held_contents W.contents self.new) }
         ensures empty { OnOk result (self.new.held.bytes.items ≡ []) }
+        ensures noted { OnErr result (self.new.held.failed ≢ None) }
         ensures line_buffered { self.new.held.line_buffered ≡ self.old.held.line_buffered }
     {
         let (sent, result) = write_some(&mut self.to, self.held.bytes.as_slice());
@@ -70,6 +74,7 @@ impl<W: Write + Drop> Buffered<W> {
     fn pass_on(&mut self) -> io::Result<()>
         ensures kept { Keeps (held_contents W.contents self.old) (held_contents W.contents self.new) }
         ensures empty { OnOk result (self.new.held.bytes.items ≡ []) }
+        ensures noted { OnErr result (self.new.held.failed ≢ None) }
         ensures line_buffered { self.new.held.line_buffered ≡ self.old.held.line_buffered }
     {
         self.hand_on()?;
@@ -102,9 +107,11 @@ impl<W: Write + Drop> Buffered<W> {
         ensures bytes { WriteAppends (held_contents W.contents self.old) (held_contents W.contents self.new) result bytes.now }
         ensures held_back { (n : ℕ) → result ≡ Ok n → vec_len self.old.held.bytes < vec_capacity self.old.held.bytes
             → HoldsBack self.old.held.line_buffered (take n bytes.now) → self.new.to ≡ self.old.to }
+        ensures none_failed { OnOk result (self.old.held.failed ≡ None) }
+        ensures not_again { self.old.held.failed ≢ None → self.new ≡ self.old }
         ensures one_line { (n k : ℕ) → result ≡ Ok n → self.old.held.line_buffered ≡ true → k + 1 < n → slice_index bytes.now k ≢ 0x0A }
     {
-        self.held.writes_on()?;
+        self.held.earlier_error()?;
         if self.held.bytes.len() >= self.held.bytes.capacity() {
             self.hand_on()?;
         }
@@ -120,6 +127,17 @@ impl<W: Write + Drop> Buffered<W> {
                 Ok(taken.len())
             }
         }
+    }
+
+    /// Hands on what is held, and flushes, unless a write failed before.
+    fn finish(&mut self) -> io::Result<()>
+        ensures kept { Keeps (held_contents W.contents self.old) (held_contents W.contents self.new) }
+        ensures empty { OnOk result (self.new.held.bytes.items ≡ []) }
+        ensures none_failed { OnOk result (self.old.held.failed ≡ None) }
+        ensures not_again { self.old.held.failed ≢ None → self.new ≡ self.old }
+    {
+        self.held.earlier_error()?;
+        self.pass_on()
     }
 }
 
@@ -137,8 +155,7 @@ impl<W: Write + Drop> Write for Buffered<W> {
         ensures bytes { Keeps (held_contents W.contents self.old) (held_contents W.contents self.new) }
         ensures empty { OnOk result (self.new.held.bytes.items ≡ []) }
     {
-        self.held.writes_on()?;
-        self.pass_on()
+        self.finish()
     }
 }
 

@@ -1,5 +1,5 @@
 //! The bytes that a buffer holds back.
-ghost use Rattle.std.specs.Prelude.{◌≡◌, ◌<◌, length, None, [], IfOk, IfSome, true};
+ghost use Rattle.std.specs.Prelude.{◌≡◌, ◌≢◌, ◌<◌, length, None, [], IfOk, IfSome, OnErr, OnOk, true};
 ghost use Rattle.program9.specs.WholeLines.{HasNoLine, HoldsNoLine, IsLineEnd};
 
 use memchr::memchr;
@@ -35,8 +35,11 @@ impl Held {
         })
     }
 
-    /// The error of a write that failed, where one did.
-    pub(crate) fn writes_on(&self) -> io::Result<()> {
+    /// The error of the write that failed before, where one did.
+    pub(crate) fn earlier_error(&self) -> io::Result<()>
+        ensures ok { OnOk result (self.now.failed ≡ None) }
+        ensures err { OnErr result (self.now.failed ≢ None) }
+    {
         match self.failed {
             None => Ok(()),
             Some(kind) => Err(io::Error::from(kind)),

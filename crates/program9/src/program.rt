@@ -156,7 +156,7 @@ fn judge_capture<F: FnOnce(&Option<String>) -> io::Result<R>, R: Read + Drop, W:
     (end, out.into_writer())
 }
 
-/// The same end, which says nothing of a write fault: who made the reader of a pipe end knows of it.
+/// The same end, which says nothing of a write fault: whoever ended the reader of a pipe knows of it.
 fn without_write_fault(end: Outcome) -> Outcome
     ensures { result ≡ without_write_fault end }
 {
