@@ -1,8 +1,8 @@
 -- A text for rows that some text can hold.
 use Rattle.capture9.proofs.Words.{[], add-zero, All, ap, append-nil, arith, bad_row, byte_in, CanBeRows, CanFollow, CaptureError, CaptureKind, codes, Controller, decimal}
 use Rattle.capture9.proofs.Words.{decimal_nonempty, Deck, default_config, default_writer, digits_decimal, digits_value-decimal, false, fields_text, get_or, hex_digit_of}
-use Rattle.capture9.proofs.Words.{if◌then◌else◌, is_blank, IsNonDecreasingBy, IsOfSomeText, last_time, le-leb, length, length-decimal-le, LineByte, List, lit<, map, most_rows}
-use Rattle.capture9.proofs.Words.{nat_lt, nat_tests, no_rows, None, Ok, Option, read-write, read_back, records_at, refl, row_of, row_text, Rows, rows_from, rows_of, rows_text}
+use Rattle.capture9.proofs.Words.{if◌then◌else◌, is_blank, IsNonDecreasingBy, IsOfSomeText, last_time, le-leb, length, length-decimal-le, LineByte, List, lit<, map}
+use Rattle.capture9.proofs.Words.{nat_lt, nat_tests, no_rows, None, Ok, Option, read-write, read_back, records_at, refl, row_of, row_text, Rows, rows_from, rows_text, rows_within}
 use Rattle.capture9.proofs.Words.{Some, State, strip_bom, suc, time_in, Wire, wire_in, ℕ, ◌%◌, ◌*◌, ◌++◌, ◌+◌, ◌/◌, ◌<◌, ◌^◌, ◌∙◌, ◌∷◌, ◌≡◌, ◌≢◌, ◌≤◌}
 use Rattle.capture9.proofs.FieldLemmas.{numerals}
 use Rattle.capture9.proofs.CsvLemmas.{none_at_start, records_at-some}
@@ -39,10 +39,10 @@ letter Deck = codes "D"
 abbrev spelled : LineByte → List (List ℕ)
 spelled r = decimal r.time_us ∷ letter r.wire ∷ (hex (r.byte / 16) ∷ hex (r.byte % 16) ∷ []) ∷ []
 
-spelled-read : (number before : ℕ) (r : LineByte) → number ≤ most_rows → before ≤ r.time_us → r.time_us < 10 ^ 15 → r.byte < 256
-    → row_of number before (spelled r) ≡ Ok r
-spelled-read number before r within order range byte =
-    let few : (nat_lt most_rows number ≡ false) × (nat_lt r.time_us before ≡ false) = grind (arith, nat_tests) in
+spelled-read : (limit number before : ℕ) (r : LineByte) → number ≤ limit → before ≤ r.time_us → r.time_us < 10 ^ 15 → r.byte < 256
+    → row_of limit number before (spelled r) ≡ Ok r
+spelled-read limit number before r within order range byte =
+    let few : (nat_lt limit number ≡ false) × (nat_lt r.time_us before ≡ false) = grind (arith, nat_tests) in
     let named : wire_in (letter r.wire) ≡ Some r.wire = grind arith in
     rw (few.0, time-read r.time_us range, named, byte-read r.byte byte, few.1) refl
 
@@ -55,19 +55,19 @@ bad_fields CaptureKind.Backwards = codes "0" ∷ codes "C" ∷ codes "00" ∷ []
 bad_fields _ = [] ∷ []
 
 -- records that keep the limits, from the row with this number on and after a row of this time
-abbrev AreInRange : ℕ → ℕ → List LineByte → Type 0
-AreInRange number before [] = Unit {0}
-AreInRange number before (r ∷ rest) = (number ≤ most_rows) × (before ≤ r.time_us) × (r.time_us < 10 ^ 15) × (r.byte < 256)
-    × AreInRange (number + 1) r.time_us rest
+abbrev AreInRange : ℕ → ℕ → ℕ → List LineByte → Type 0
+AreInRange limit number before [] = Unit {0}
+AreInRange limit number before (r ∷ rest) = (number ≤ limit) × (before ≤ r.time_us) × (r.time_us < 10 ^ 15) × (r.byte < 256)
+    × AreInRange limit (number + 1) r.time_us rest
 
-in-range : (number before : ℕ) (items : List LineByte) → number + length items ≤ most_rows + 1
+in-range : (limit number before : ℕ) (items : List LineByte) → number + length items ≤ limit + 1
     → ((d : LineByte) → 0 < length items → before ≤ (get_or items 0 d).time_us)
     → IsNonDecreasingBy (λ (r : LineByte). r.time_us) items → All (λ r. r.time_us < 10 ^ 15) items → All (λ r. r.byte < 256) items
-    → AreInRange number before items
-in-range number before [] limit first order range byte = tt
-in-range number before (r ∷ rest) limit first order range byte =
+    → AreInRange limit number before items
+in-range limit number before [] few first order range byte = tt
+in-range limit number before (r ∷ rest) few first order range byte =
     let rise = λ (i j : ℕ) (d : LineByte) (le : i ≤ j) (lt : j < length rest). order (suc i) (suc j) d (omega arith) (omega arith) in
-    let later = in-range (number + 1) r.time_us rest (omega arith) (λ d lt. order 0 1 d (omega arith) (omega arith)) rise in (
+    let later = in-range limit (number + 1) r.time_us rest (omega arith) (λ d lt. order 0 1 d (omega arith) (omega arith)) rise in (
       omega arith,
       first r (omega arith),
       range 0 r (omega arith),
@@ -77,13 +77,13 @@ in-range number before (r ∷ rest) limit first order range byte =
     )
 
 -- their rows are read as those records, and then the others
-read-then : (number before : ℕ) (items : List LineByte) (rest : List (List (List ℕ))) (tail : Rows) → AreInRange number before items
-    → rows_from (number + length items) (last_time before items) (map read_back rest) ≡ tail
-    → rows_from number before (map read_back (map spelled items ++ rest)) ≡ record { records = items ++ tail.records; fault = tail.fault }
-read-then number before [] rest tail good left = rw add-zero at left
-read-then number before (r ∷ items) rest tail good left =
+read-then : (limit number before : ℕ) (items : List LineByte) (rest : List (List (List ℕ))) (tail : Rows) → AreInRange limit number before items
+    → rows_from limit (number + length items) (last_time before items) (map read_back rest) ≡ tail
+    → rows_from limit number before (map read_back (map spelled items ++ rest)) ≡ record { records = items ++ tail.records; fault = tail.fault }
+read-then limit number before [] rest tail good left = rw add-zero at left
+read-then limit number before (r ∷ items) rest tail good left =
     let next : number + length (r ∷ items) ≡ number + 1 + length items = omega arith in
-    rw (spelled-read number before r good.0 good.1 good.2 good.3, read-then (number + 1) r.time_us items rest tail good.4 (rw next at left)) refl
+    rw (spelled-read limit number before r good.0 good.1 good.2 good.3, read-then limit (number + 1) r.time_us items rest tail good.4 (rw next at left)) refl
 
 -- ---- the text
 
@@ -103,39 +103,39 @@ no-mark : (rows : List (List (List ℕ))) → strip_bom (rows_text (header ∷ r
 unfolding strip_bom rows_text fields_text is_blank
 no-mark rows = refl
 
-headed-text : (rows : List (List (List ℕ))) → rows_of (rows_text (header ∷ rows)) ≡ rows_from 1 0 (map read_back rows)
-headed-text rows = rw (no-mark rows, records-rows (header ∷ rows)) refl
+headed-text : (limit : ℕ) (rows : List (List (List ℕ))) → rows_within limit (rows_text (header ∷ rows)) ≡ rows_from limit 1 0 (map read_back rows)
+headed-text limit rows = rw (no-mark rows, records-rows (header ∷ rows)) refl
 
 -- the row of a fault that can follow these records
-bad-read : (k : CaptureKind) (items : List LineByte) (row : ℕ) → CanFollow k items row → k ≢ CaptureKind.Header
-    → rows_from (1 + length items) (last_time 0 items) (map read_back (bad_fields k ∷ [])) ≡ bad_row k row
-bad-read k items row follows other = grind (arith, nat_tests)
+bad-read : (limit : ℕ) (k : CaptureKind) (items : List LineByte) (row : ℕ) → CanFollow limit k items row → k ≢ CaptureKind.Header
+    → rows_from limit (1 + length items) (last_time 0 items) (map read_back (bad_fields k ∷ [])) ≡ bad_row k row
+bad-read limit k items row follows other = grind (arith, nat_tests)
 
 -- a text of these records and then others
-text-then : (items : List LineByte) (rest : List (List (List ℕ))) (tail : Rows) (fault : Option CaptureError)
-    → CanBeRows (record { records = items; fault = fault })
-    → rows_from (1 + length items) (last_time 0 items) (map read_back rest) ≡ tail
-    → (text : List ℕ) × (rows_of text ≡ record { records = items ++ tail.records; fault = tail.fault })
-text-then items rest tail fault h left =
-    let good = in-range 1 0 items (omega (arith, h.limit)) (λ d lt. omega arith) h.in_order h.in_range h.bytes in
-    (rows_text (header ∷ (map spelled items ++ rest)), headed-text (map spelled items ++ rest) ∙ read-then 1 0 items rest tail good left)
+text-then : (limit : ℕ) (items : List LineByte) (rest : List (List (List ℕ))) (tail : Rows) (fault : Option CaptureError)
+    → CanBeRows limit (record { records = items; fault = fault })
+    → rows_from limit (1 + length items) (last_time 0 items) (map read_back rest) ≡ tail
+    → (text : List ℕ) × (rows_within limit text ≡ record { records = items ++ tail.records; fault = tail.fault })
+text-then limit items rest tail fault h left =
+    let good = in-range limit 1 0 items (omega (arith, h.within)) (λ d lt. omega arith) h.in_order h.in_range h.bytes in
+    (rows_text (header ∷ (map spelled items ++ rest)), headed-text limit (map spelled items ++ rest) ∙ read-then limit 1 0 items rest tail good left)
 
-empty-text : rows_of [] ≡ bad_row CaptureKind.Header 0
+empty-text : (limit : ℕ) → rows_within limit [] ≡ bad_row CaptureKind.Header 0
 unfolding strip_bom
-empty-text = rw (none_at_start default_config 1) refl
+empty-text limit = rw (none_at_start default_config 1) refl
 
 -- a text of these records and this fault
-text-of : (items : List LineByte) (fault : Option CaptureError) → CanBeRows (record { records = items; fault = fault })
-    → (text : List ℕ) × (rows_of text ≡ record { records = items; fault = fault })
-text-of items None h = rw (append-nil items) at (text-then items [] no_rows None h refl)
-text-of items (Some e) h = by e.kind items e.row h
+text-of : (limit : ℕ) (items : List LineByte) (fault : Option CaptureError) → CanBeRows limit (record { records = items; fault = fault })
+    → (text : List ℕ) × (rows_within limit text ≡ record { records = items; fault = fault })
+text-of limit items None h = rw (append-nil items) at (text-then limit items [] no_rows None h refl)
+text-of limit items (Some e) h = by e.kind items e.row h
   where
     by : (k : CaptureKind) (items : List LineByte) (row : ℕ) → (let fault : CaptureError = record { kind = k; row = row } in
-        CanBeRows (record { records = items; fault = Some fault }))
-        → (text : List ℕ) × (rows_of text ≡ record { records = items; fault = Some (record { kind = k; row = row }) })
-    by CaptureKind.Header items row h = ([], rw (h.fault.0, h.fault.1) empty-text)
-    by k items row h = rw (append-nil items) at (text-then items (bad_fields k ∷ []) (bad_row k row) (Some (record { kind = k; row = row })) h
-        (bad-read k items row h.fault (λ e. cc)))
+        CanBeRows limit (record { records = items; fault = Some fault }))
+        → (text : List ℕ) × (rows_within limit text ≡ record { records = items; fault = Some (record { kind = k; row = row }) })
+    by CaptureKind.Header items row h = ([], rw (h.fault.0, h.fault.1) (empty-text limit))
+    by k items row h = rw (append-nil items) at (text-then limit items (bad_fields k ∷ []) (bad_row k row) (Some (record { kind = k; row = row })) h
+        (bad-read limit k items row h.fault (λ e. cc)))
 
-pub some-text : (rows : Rows) → CanBeRows rows → IsOfSomeText rows
-some-text rows h = text-of rows.records rows.fault h
+pub some-text : (limit : ℕ) (rows : Rows) → CanBeRows limit rows → IsOfSomeText limit rows
+some-text limit rows h = text-of limit rows.records rows.fault h

@@ -1,9 +1,9 @@
 -- The names from elsewhere that the proofs of this crate cite, passed on from one place. Declares nothing.
 pub use Rattle.capture9.specs.Error.{is_of_text, IsAfter, IsAtItsRow}
-pub use Rattle.capture9.specs.Fields.{byte_in, decimal_value, hex_digit_of, is_header, most_rows, time_in, wire_in}
+pub use Rattle.capture9.specs.Fields.{byte_in, decimal_value, greatest_limit, hex_digit_of, is_header, most_rows, time_in, wire_in}
 pub use Rattle.capture9.specs.Records.{GivesRecord, GivesRefusal, IsPlaced, Progress, TakesRecord}
 pub use Rattle.capture9.specs.RowRules.{AreGood, AreLeft, HasFirstPart, IsFirstOf, last_time, row_kinds, RowBreaks, Spell}
-pub use Rattle.capture9.specs.Rows.{bad_row, fields_record, good_row, HasHeader, headed_rows, no_rows, record_of, row_of, row_then, Rows, rows_from, rows_of}
+pub use Rattle.capture9.specs.Rows.{bad_row, fields_record, good_row, HasHeader, headed_rows, no_rows, record_of, row_of, row_then, Rows, rows_from, rows_within}
 pub use Rattle.capture9.specs.SomeText.{CanBeRows, CanFollow, IsOfSomeText}
 pub use Rattle.capture9.specs.Working.{digits_after, HoldsInRecords, is_past_header, IsPlain, records_at, rows_to_come, standing_at, TakesFields, unread_records}
 pub use Rattle.capture9.specs.declared.error.CaptureError.{CaptureError}

@@ -5,9 +5,13 @@ use Rattle.std.specs.Str.{all_ascii_digits, bytes_eq}
 use Rattle.capture9.specs.declared.line_byte.Wire.{Wire}
 use Rattle.capture9.specs.declared.line_byte.Wire.TheVariants.{Controller, Deck}
 
--- the most data rows of a capture
+-- the most data rows of a capture where no other limit is given
 abbrev pub most_rows : ℕ
 most_rows = 4000000
+
+-- the greatest limit that can be given: the row after it has the last number of 32 bits
+abbrev pub greatest_limit : ℕ
+greatest_limit = 4294967294
 
 -- the names of the three columns, as the first record of the text has them
 abbrev pub is_header : List (List ℕ) → Bool

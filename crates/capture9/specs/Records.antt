@@ -6,13 +6,15 @@ use Rattle.capture9.specs.declared.line_byte.LineByte.{LineByte}
 use Rattle.capture9.specs.declared.records.Standing.{Standing}
 use Rattle.capture9.specs.declared.records.Standing.TheVariants as standing
 use Rattle.capture9.specs.Error.{IsAtItsRow, is_of_text}
-use Rattle.capture9.specs.Fields.{most_rows}
+use Rattle.capture9.specs.Fields.{greatest_limit}
 use Rattle.capture9.specs.Rows.{Rows, HasHeader, no_rows, bad_row, good_row}
 
 -- how far a `Records` over a reader has come
 pub record Progress (R : Type 0) : Type 0 where
   -- what is still to come of the text's rows, where the reader tells its bytes and nothing was refused
   pub rows : Option Rows
+  -- how many rows the text may have
+  pub most_rows : ℕ
   -- how many records were given
   pub given : ℕ
   -- whether the header was read
@@ -34,7 +36,9 @@ pub record GivesRecord {R : Type 0} (old : Progress R) (r : LineByte) (new : Pro
   pub was_reading : old.standing ≡ standing.Reading
   pub is_reading : new.standing ≡ standing.Reading
   pub given : new.given ≡ old.given + 1
-  pub within : new.given ≤ most_rows
+  pub within : new.given ≤ old.most_rows
+  pub numbered : new.given ≤ greatest_limit
+  pub same_limit : new.most_rows ≡ old.most_rows
   pub is_headed : new.is_headed ≡ true
   pub in_order : old.last_time ≤ r.time_us
   pub in_range : r.time_us < 10 ^ 15
@@ -47,6 +51,7 @@ pub record GivesRecord {R : Type 0} (old : Progress R) (r : LineByte) (new : Pro
 pub record GivesEnd {R : Type 0} (old new : Progress R) : Type 0 where
   pub was_open : (old.standing ≡ standing.Reading) ⊎ (old.standing ≡ standing.Ended)
   pub is_ended : new.standing ≡ standing.Ended
+  pub same_limit : new.most_rows ≡ old.most_rows
   pub given : new.given ≡ old.given
   pub is_headed : new.is_headed ≡ true
   pub last_time : new.last_time ≡ old.last_time
@@ -54,15 +59,16 @@ pub record GivesEnd {R : Type 0} (old new : Progress R) : Type 0 where
   pub rows : new.rows ≡ Some no_rows
 
 -- where a refusal stands: at row 0 while the header is being read, and else at the row after the records given
-pub record IsPlaced (is_headed : Bool) (given : ℕ) (e : CaptureError) : Type 0 where
+pub record IsPlaced (limit : ℕ) (is_headed : Bool) (given : ℕ) (e : CaptureError) : Type 0 where
   pub row : e.row ≡ (if is_headed then given + 1 else 0)
   pub none_given : is_headed ≡ false → given ≡ 0
-  pub at_its_row : IsTrue (is_of_text e.kind) → IsAtItsRow e
+  pub at_its_row : IsTrue (is_of_text e.kind) → IsAtItsRow limit e
 
 -- reading is refused
 pub record GivesRefusal {R : Type 0} (old : Progress R) (e : CaptureError) (new : Progress R) : Type 0 where
   pub is_refused : new.standing ≡ standing.Refused e
-  pub place : IsPlaced new.is_headed new.given e
+  pub place : IsPlaced old.most_rows new.is_headed new.given e
+  pub same_limit : new.most_rows ≡ old.most_rows
   pub given : new.given ≡ old.given
   pub last_time : new.last_time ≡ old.last_time
   -- the header stays read, and is read only where the text has it

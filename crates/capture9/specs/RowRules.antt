@@ -4,7 +4,7 @@ use Rattle.capture9.specs.declared.error.CaptureError.{CaptureError}
 use Rattle.capture9.specs.declared.error.CaptureKind.{CaptureKind}
 use Rattle.capture9.specs.declared.error.CaptureKind.TheVariants as kind
 use Rattle.capture9.specs.declared.line_byte.LineByte.{LineByte}
-use Rattle.capture9.specs.Fields.{byte_in, most_rows, time_in, wire_in}
+use Rattle.capture9.specs.Fields.{byte_in, time_in, wire_in}
 use Rattle.capture9.specs.Rows.{Rows}
 
 -- the fields are a time, a wire and a byte of which this holds
@@ -13,18 +13,18 @@ AreThree P (time ∷ wire ∷ byte ∷ []) = P time wire byte
 AreThree P fields = ⊥
 
 -- the row with this number and these fields, after a row of this time (0 before the first), breaks the rule whose
--- breach is told as this kind
-abbrev pub RowBreaks : CaptureKind → ℕ → ℕ → List (List ℕ) → Type 0
-RowBreaks kind.TooMany number before fields = most_rows < number
-RowBreaks kind.Fields number before fields = length fields ≢ 3
-RowBreaks kind.Time number before fields = AreThree (λ time wire byte. time_in time ≡ None) fields
-RowBreaks kind.Wire number before fields = AreThree (λ time wire byte. wire_in wire ≡ None) fields
-RowBreaks kind.Byte number before fields = AreThree (λ time wire byte. byte_in byte ≡ None) fields
-RowBreaks kind.Backwards number before fields =
+-- breach is told as this kind, where a text may have so many rows
+abbrev pub RowBreaks : ℕ → CaptureKind → ℕ → ℕ → List (List ℕ) → Type 0
+RowBreaks limit kind.TooMany number before fields = limit < number
+RowBreaks limit kind.Fields number before fields = length fields ≢ 3
+RowBreaks limit kind.Time number before fields = AreThree (λ time wire byte. time_in time ≡ None) fields
+RowBreaks limit kind.Wire number before fields = AreThree (λ time wire byte. wire_in wire ≡ None) fields
+RowBreaks limit kind.Byte number before fields = AreThree (λ time wire byte. byte_in byte ≡ None) fields
+RowBreaks limit kind.Backwards number before fields =
     AreThree (λ time wire byte. (told : ℕ) × (time_in time ≡ Some told) × (told < before)) fields
-RowBreaks kind.Header number before fields = ⊥
-RowBreaks kind.Read number before fields = ⊥
-RowBreaks kind.OutOfMemory number before fields = ⊥
+RowBreaks limit kind.Header number before fields = ⊥
+RowBreaks limit kind.Read number before fields = ⊥
+RowBreaks limit kind.OutOfMemory number before fields = ⊥
 
 -- the order in which the rules of a row count
 abbrev pub row_kinds : List CaptureKind
@@ -49,24 +49,24 @@ last_time before [] = before
 last_time before (r ∷ rest) = last_time r.time_us rest
 
 -- these rows, from this number on and after a row of this time, spell these records one each, and none breaks a rule
-abbrev pub AreGood : ℕ → ℕ → List (List (List ℕ)) → List LineByte → Type 0
-AreGood number before [] items = items ≡ []
-AreGood number before (fields ∷ rows) [] = ⊥
-AreGood number before (fields ∷ rows) (r ∷ items) =
-    Spell fields r × ((k : CaptureKind) → ¬ (RowBreaks k number before fields)) × AreGood (number + 1) r.time_us rows items
+abbrev pub AreGood : ℕ → ℕ → ℕ → List (List (List ℕ)) → List LineByte → Type 0
+AreGood limit number before [] items = items ≡ []
+AreGood limit number before (fields ∷ rows) [] = ⊥
+AreGood limit number before (fields ∷ rows) (r ∷ items) =
+    Spell fields r × ((k : CaptureKind) → ¬ (RowBreaks limit k number before fields)) × AreGood limit (number + 1) r.time_us rows items
 
 -- no row is left, and there is no fault; or the first that is left breaks a rule, and the fault is the first in order
 -- that it breaks
-abbrev pub AreLeft : ℕ → ℕ → List (List (List ℕ)) → Option CaptureError → Type 0
-AreLeft number before [] fault = fault ≡ None
-AreLeft number before (fields ∷ rows) fault =
-    (k : CaptureKind) × IsFirstOf (λ j. RowBreaks j number before fields) row_kinds k × (fault ≡ Some (record { kind = k; row = number }))
+abbrev pub AreLeft : ℕ → ℕ → ℕ → List (List (List ℕ)) → Option CaptureError → Type 0
+AreLeft limit number before [] fault = fault ≡ None
+AreLeft limit number before (fields ∷ rows) fault =
+    (k : CaptureKind) × IsFirstOf (λ j. RowBreaks limit j number before fields) row_kinds k × (fault ≡ Some (record { kind = k; row = number }))
 
 -- the data rows of a text hold this: the records of the longest first part of good rows, and the fault of the row
 -- after it
-pub record HasFirstPart (rows : List (List (List ℕ))) (held : Rows) : Type 0 where
+pub record HasFirstPart (limit : ℕ) (rows : List (List (List ℕ))) (held : Rows) : Type 0 where
   pub good : List (List (List ℕ))
   pub left : List (List (List ℕ))
   pub split : rows ≡ good ++ left
-  pub are_good : AreGood 1 0 good held.records
-  pub are_left : AreLeft (length good + 1) (last_time 0 held.records) left held.fault
+  pub are_good : AreGood limit 1 0 good held.records
+  pub are_left : AreLeft limit (length good + 1) (last_time 0 held.records) left held.fault

@@ -43,9 +43,9 @@ fields_record before (time ∷ wire ∷ byte ∷ []) = record_of before (time_in
 fields_record before _ = Err kind.Fields
 
 -- the record of the row with this number and these fields, after a row of this time (0 at first), or the
--- first rule that the row breaks
-abbrev pub row_of : ℕ → ℕ → List (List ℕ) → Result LineByte CaptureKind
-row_of number before fields = if nat_lt most_rows number then Err kind.TooMany else fields_record before fields
+-- first rule that the row breaks; a text may have so many rows
+abbrev pub row_of : ℕ → ℕ → ℕ → List (List ℕ) → Result LineByte CaptureKind
+row_of limit number before fields = if nat_lt limit number then Err kind.TooMany else fields_record before fields
 
 -- what a row and the rows after it hold, which depend on the row's time
 abbrev pub row_then : ℕ → Result LineByte CaptureKind → (ℕ → Rows) → Rows
@@ -53,16 +53,20 @@ row_then number (Ok r) rest = good_row r (rest r.time_us)
 row_then number (Err k) rest = bad_row k number
 
 -- what the rows from the one with this number on hold; the first bad row ends the list
-abbrev pub rows_from : ℕ → ℕ → List (List (List ℕ)) → Rows
-rows_from number before [] = no_rows
-rows_from number before (fields ∷ rest) =
-    row_then number (row_of number before fields) (λ time. rows_from (number + 1) time rest)
+abbrev pub rows_from : ℕ → ℕ → ℕ → List (List (List ℕ)) → Rows
+rows_from limit number before [] = no_rows
+rows_from limit number before (fields ∷ rest) =
+    row_then number (row_of limit number before fields) (λ time. rows_from limit (number + 1) time rest)
 
 -- what CSV records hold: first the header, and then data rows, numbered from 1
-abbrev pub headed_rows : List (List (List ℕ)) → Rows
-headed_rows [] = bad_row kind.Header 0
-headed_rows (fields ∷ rest) = if is_header fields then rows_from 1 0 rest else bad_row kind.Header 0
+abbrev pub headed_rows : ℕ → List (List (List ℕ)) → Rows
+headed_rows limit [] = bad_row kind.Header 0
+headed_rows limit (fields ∷ rest) = if is_header fields then rows_from limit 1 0 rest else bad_row kind.Header 0
 
--- what a text holds, by its bytes; a byte order mark before the header is no part of it
+-- what a text holds that may have so many rows, by its bytes; a byte order mark before the header is no part of it
+abbrev pub rows_within : ℕ → List ℕ → Rows
+rows_within limit text = headed_rows limit (records default_config (strip_bom text))
+
+-- what a text of a capture holds, where no other limit is given
 abbrev pub rows_of : List ℕ → Rows
-rows_of text = headed_rows (records default_config (strip_bom text))
+rows_of text = rows_within most_rows text

@@ -11,7 +11,7 @@ use Rattle.capture9.specs.declared.records.Stage.TheVariants as stage
 use Rattle.capture9.specs.declared.records.Standing.{Standing}
 use Rattle.capture9.specs.declared.records.Standing.TheVariants as standing
 use Rattle.std.specs.Str.{all_ascii_digits}
-use Rattle.capture9.specs.Fields.{decimal_value, most_rows}
+use Rattle.capture9.specs.Fields.{decimal_value, greatest_limit}
 use Rattle.capture9.specs.Records.{IsPlaced, Progress}
 use Rattle.capture9.specs.Rows.{Rows, headed_rows, no_rows, rows_from}
 
@@ -37,12 +37,12 @@ is_past_header stage.InRows = true
 is_past_header stage.Ended = true
 is_past_header (stage.Refused e) = nat_lt 0 e.row
 
--- the rows that are still to come, by the number of rows given, the time of the last one, and the CSV records left
-abbrev pub rows_to_come : Stage → ℕ → ℕ → Option (List (List (List ℕ))) → Option Rows
-rows_to_come stage.BeforeHeader given last_time unread = option_map headed_rows unread
-rows_to_come stage.InRows given last_time unread = option_map (rows_from (given + 1) last_time) unread
-rows_to_come stage.Ended given last_time unread = Some no_rows
-rows_to_come (stage.Refused e) given last_time unread = None
+-- the rows that are still to come, by how many there may be, the number of rows given, the time of the last one, and the CSV records left
+abbrev pub rows_to_come : ℕ → Stage → ℕ → ℕ → Option (List (List (List ℕ))) → Option Rows
+rows_to_come limit stage.BeforeHeader given last_time unread = option_map (headed_rows limit) unread
+rows_to_come limit stage.InRows given last_time unread = option_map (rows_from limit (given + 1) last_time) unread
+rows_to_come limit stage.Ended given last_time unread = Some no_rows
+rows_to_come limit (stage.Refused e) given last_time unread = None
 
 -- a reader that takes every record as it stands: commas, no trimming, any number of fields, no header of its own
 pub record IsPlain {R : Type 0} (r : Reader R) : Type 0 where
@@ -52,11 +52,12 @@ pub record IsPlain {R : Type 0} (r : Reader R) : Type 0 where
   pub ready : Ready r
 
 -- what always holds of the fields of a `Records`
-pub record HoldsInRecords {R : Type 0} (s : Stage) (given last_time : ℕ) (r : Reader R) : Type 0 where
+pub record HoldsInRecords {R : Type 0} (limit : ℕ) (s : Stage) (given last_time : ℕ) (r : Reader R) : Type 0 where
   pub plain : standing_at s ≡ standing.Reading → IsPlain r
-  pub within : given ≤ most_rows
+  pub within : given ≤ limit
+  pub numbered : limit ≤ greatest_limit
   pub fresh : is_past_header s ≡ false → (given ≡ 0) × (last_time ≡ 0)
-  pub refused : (e : CaptureError) → s ≡ stage.Refused e → IsPlaced (is_past_header s) given e
+  pub refused : (e : CaptureError) → s ≡ stage.Refused e → IsPlaced limit (is_past_header s) given e
 
 -- what a read of a CSV record did: there was one, with these fields, or there was none
 abbrev pub TakesFields : List (List (List ℕ)) → Bool → List (List ℕ) → Option (List (List (List ℕ))) → Type 0
@@ -68,6 +69,7 @@ pub record PassesHeader {R : Type 0} (old new : Progress R) : Type 0 where
   pub was_reading : old.standing ≡ standing.Reading
   pub is_reading : new.standing ≡ standing.Reading
   pub is_headed : new.is_headed ≡ true
+  pub same_limit : new.most_rows ≡ old.most_rows
   pub given : new.given ≡ old.given
   pub last_time : new.last_time ≡ old.last_time
   pub rows : IfSome old.rows (λ rows. new.rows ≡ Some rows)

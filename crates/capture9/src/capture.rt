@@ -9,7 +9,7 @@ ghost use Rattle.capture9.specs.Rows.{rows_of};
 
 use crate::error::{CaptureError, CaptureKind};
 use crate::line_byte::LineByte;
-use crate::records::{Records, Standing};
+use crate::records::{MOST_ROWS, Records, Standing};
 use std::alloc::Global;
 use std::io::Read;
 
@@ -29,10 +29,10 @@ pub struct Capture {
 pub fn read_capture<R: Read + Drop>(alloc: Global, reader: R) -> Capture
     ensures rows { IfSome (R.remaining reader)
         (λ text. WasRead (rows_of text) result.rows.items result.fault) }
-    ensures place { IfSome result.fault (λ e. IsAfter result.rows.items e) }
+    ensures place { IfSome result.fault (λ e. IsAfter most_rows result.rows.items e) }
     ensures limit { length result.rows.items ≤ most_rows }
 {
-    let mut records = Records::new(alloc, reader);
+    let mut records = Records::new(alloc, reader, MOST_ROWS);
     let mut rows = Vec::new(alloc);
     let fault = read_into(&mut rows, &mut records).err();
     Capture { rows, fault }
@@ -46,8 +46,9 @@ fn read_into<R: Read + Drop>(
     requires empty { rows.old.items ≡ [] }
     requires reading { records.old.standing ≡ Standing.Reading }
     requires none_given { records.old.given ≡ 0 }
+    requires limit { records.old.most_rows ≡ most_rows }
     ensures rows { IfSome records.old.rows (λ all. WasRead all rows.new.items (result_err result)) }
-    ensures place { IfErr result (λ e. IsAfter rows.new.items e) }
+    ensures place { IfErr result (λ e. IsAfter most_rows rows.new.items e) }
     ensures limit { length rows.new.items ≤ most_rows }
 {
     while let Some(record) = records.next()? {

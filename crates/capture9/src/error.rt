@@ -22,7 +22,7 @@ pub enum CaptureKind {
     Byte,
     /// The time is below the time of the row before.
     Backwards,
-    /// It is data row 4,000,001.
+    /// It is the data row after the last that there may be.
     TooMany,
     /// The reader failed.
     Read,

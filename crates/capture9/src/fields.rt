@@ -13,9 +13,6 @@ use crate::line_byte::{LineByte, Wire};
 use csv::ByteRecord;
 use std::simd::prelude::*;
 
-/// The most data rows of a capture.
-const MAX_ROWS: u32 = 4_000_000;
-
 /// The most digits of a time.
 const MAX_TIME_DIGITS: usize = 15;
 
@@ -60,16 +57,21 @@ pub(crate) fn is_header(row: &ByteRecord) -> bool
 }
 
 /// The record of the data row with this number, after a row of the time `before`, or None where the row
-/// breaks a rule.
+/// breaks a rule. There may be `most_rows` of them.
 #[inline(always)] // else each record is handed on through memory
-pub(crate) fn read_row(number: u32, before: u64, row: &ByteRecord) -> Option<LineByte>
-    ensures { result ≡ result_ok (row_of number before (fields_of row.now)) }
+pub(crate) fn read_row(
+    number: u32,
+    most_rows: u32,
+    before: u64,
+    row: &ByteRecord,
+) -> Option<LineByte>
+    ensures { result ≡ result_ok (row_of most_rows number before (fields_of row.now)) }
 {
     let columns = three_columns(row)?;
     let time_us = read_time(columns.time)?;
     let wire = read_wire(columns.wire)?;
     let byte = read_byte(columns.byte)?;
-    if time_us < before || number > MAX_ROWS {
+    if time_us < before || number > most_rows {
         return None;
     }
     Some(LineByte {
@@ -84,10 +86,10 @@ pub(crate) fn read_row(number: u32, before: u64, row: &ByteRecord) -> Option<Lin
 /// It reads the fields again, so that `read_row` says nothing of rules: nearly every row keeps them all.
 #[cold]
 #[inline(never)]
-pub(crate) fn fault_in(number: u32, row: &ByteRecord) -> CaptureKind
-    ensures { (before : ℕ) → IfErr (row_of number before (fields_of row.now)) (λ k. result ≡ k) }
+pub(crate) fn fault_in(number: u32, most_rows: u32, row: &ByteRecord) -> CaptureKind
+    ensures { (before : ℕ) → IfErr (row_of most_rows number before (fields_of row.now)) (λ k. result ≡ k) }
 {
-    if number > MAX_ROWS {
+    if number > most_rows {
         return CaptureKind::TooMany;
     }
     let Some(columns) = three_columns(row) else {

@@ -3,9 +3,9 @@ ghost use Rattle.std.specs.Prelude.{◌≡◌, ◌↔◌, ◌∷◌, true, ℕ, 
 ghost use Rattle.std.specs.List.{All};
 ghost use Rattle.std.specs.List.Sorted.{IsNonDecreasingBy};
 ghost use Rattle.capture9.specs.Error.{IsAfter, is_of_text};
-ghost use Rattle.capture9.specs.Fields.{is_header, most_rows};
+ghost use Rattle.capture9.specs.Fields.{is_header};
 ghost use Rattle.capture9.specs.RowRules.{HasFirstPart};
-ghost use Rattle.capture9.specs.Rows.{HasHeader, Rows, rows_of};
+ghost use Rattle.capture9.specs.Rows.{HasHeader, Rows, rows_within};
 ghost use Rattle.capture9.specs.SomeText.{CanBeRows, IsOfSomeText};
 ghost use Rattle.csv.specs.Reading.{default_config, records, strip_bom};
 
@@ -13,38 +13,38 @@ use crate::error::CaptureError;
 
 /// A text has its header exactly where its first CSV record is one.
 pub fn header_of_a_text()
-    ensures { (text : List ℕ) → HasHeader (rows_of text)
+    ensures { (limit : ℕ) (text : List ℕ) → HasHeader (rows_within limit text)
         ↔ ((fields : List (List ℕ)) × (rest : List (List (List ℕ)))
         × (records default_config (strip_bom text) ≡ fields ∷ rest) × (is_header fields ≡ true)) }
 {}
 
-/// A text has at most 4,000,000 records. Their times never fall, and each is below 10^15.
+/// A text has no more records than it may have. Their times never fall, and each is below 10^15.
 pub fn records_of_a_text()
-    ensures limit { (text : List ℕ) → length (rows_of text).records ≤ most_rows }
-    ensures in_order { (text : List ℕ) → IsNonDecreasingBy (λ r. r.time_us) (rows_of text).records }
-    ensures in_range { (text : List ℕ) → All (λ r. r.time_us < 10 ^ 15) (rows_of text).records }
+    ensures within { (limit : ℕ) (text : List ℕ) → length (rows_within limit text).records ≤ limit }
+    ensures in_order { (limit : ℕ) (text : List ℕ) → IsNonDecreasingBy (λ r. r.time_us) (rows_within limit text).records }
+    ensures in_range { (limit : ℕ) (text : List ℕ) → All (λ r. r.time_us < 10 ^ 15) (rows_within limit text).records }
 {}
 
 /// The fault of a text is of the text itself. The header's is at row 0, where there is no record, and every
-/// other is at the row after the records: 4,000,001 exactly where that is a row too many.
+/// other is at the row after the records: at the one after the limit exactly where that is a row too many.
 pub fn fault_of_a_text()
-    ensures of_text { (text : List ℕ) (e : CaptureError) → (rows_of text).fault ≡ Some e
+    ensures of_text { (limit : ℕ) (text : List ℕ) (e : CaptureError) → (rows_within limit text).fault ≡ Some e
         → IsTrue (is_of_text e.kind) }
-    ensures place { (text : List ℕ) (e : CaptureError) → (rows_of text).fault ≡ Some e
-        → IsAfter (rows_of text).records e }
+    ensures place { (limit : ℕ) (text : List ℕ) (e : CaptureError) → (rows_within limit text).fault ≡ Some e
+        → IsAfter limit (rows_within limit text).records e }
 {}
 
 /// Behind its header a text holds the records that its longest first part of good rows spells, one each. Where a row
 /// is left, the text's fault is the first rule in order that this row breaks, and else there is none.
 pub fn longest_first_part()
-    ensures { (text : List ℕ) (header : List (List ℕ)) (rows : List (List (List ℕ)))
+    ensures { (limit : ℕ) (text : List ℕ) (header : List (List ℕ)) (rows : List (List (List ℕ)))
         → records default_config (strip_bom text) ≡ header ∷ rows → is_header header ≡ true
-        → HasFirstPart rows (rows_of text) }
+        → HasFirstPart limit rows (rows_within limit text) }
 {}
 
 /// The rows of a text are a list of records that keeps the limits, with no fault or one that can follow it, and each
 /// such list is that of some text.
 pub fn rows_of_some_text()
-    ensures each_text { (text : List ℕ) → CanBeRows (rows_of text) }
-    ensures some_text { (rows : Rows) → CanBeRows rows → IsOfSomeText rows }
+    ensures each_text { (limit : ℕ) (text : List ℕ) → CanBeRows limit (rows_within limit text) }
+    ensures some_text { (limit : ℕ) (rows : Rows) → CanBeRows limit rows → IsOfSomeText limit rows }
 {}

@@ -3,8 +3,9 @@
 //! The form of the text is a choice of these rules. Its first CSV record is the header
 //! `time_us,wire,byte`, and each further one is a data row of three fields: the time in microseconds as
 //! 1 to 15 decimal digits, the wire as `C` (controller) or `D` (deck), and the byte as two hexadecimal
-//! digits of either case. Times never fall, and there are at most 4,000,000 data rows. What a CSV record
-//! is, with its quotes, line ends and skipped empty lines, is as `csv` says.
+//! digits of either case. Times never fall, and there are no more data rows
+//! than the reading is given as its limit. What a CSV record is, with its quotes, line ends and skipped
+//! empty lines, is as `csv` says.
 #![tactic(auto)]
 
 mod capture;
@@ -17,4 +18,4 @@ mod records;
 pub use crate::capture::{Capture, read_capture};
 pub use crate::error::{CaptureError, CaptureKind};
 pub use crate::line_byte::{LineByte, Wire};
-pub use crate::records::Records;
+pub use crate::records::{GREATEST_LIMIT, MOST_ROWS, Records};

@@ -5,10 +5,10 @@ ghost use Rattle.csv.specs.Reading.{error_kind};
 ghost use Rattle.csv.specs.Records.{fields_of};
 ghost use Rattle.csv.specs.declared.error.ErrorKind.TheVariants.{OutOfMemory};
 ghost use Rattle.capture9.specs.Error.{is_of_text};
-ghost use Rattle.capture9.specs.Fields.{most_rows};
+ghost use Rattle.capture9.specs.Fields.{greatest_limit};
 ghost use Rattle.capture9.specs.Working.{IsPlain, PassesHeader, TakesFields, unread_records};
 ghost use Rattle.capture9.specs.Records.{GivesEnd, GivesRecord, GivesRefusal};
-ghost use Rattle.capture9.specs.Rows.{rows_of};
+ghost use Rattle.capture9.specs.Rows.{rows_within};
 
 use crate::error::{CaptureError, CaptureKind};
 use crate::fields;
@@ -29,6 +29,12 @@ pub enum Standing {
     Refused(CaptureError),
 }
 
+/// The most data rows of a capture where no other limit is given.
+pub const MOST_ROWS: u32 = 4_000_000;
+
+/// The greatest limit that can be given: the row after it still has a number.
+pub const GREATEST_LIMIT: u32 = u32::MAX - 1;
+
 /// How far in the text a `Records` has come.
 #[derive(Clone, Copy)]
 enum Stage {
@@ -44,12 +50,13 @@ enum Stage {
 
 /// The records of a capture's text, read one at a time.
 ///
-/// A contract sees it as what is still to come of the text's rows, the number of records given, whether
+/// A contract sees it as what is still to come of the text's rows, how many there may be, the number of records given, whether
 /// the header was read, the time of the last record, whether it reads on, and the reader as it stands.
 #[derive(Drop)]
 pub struct Records<R: Read + Drop> {
     reader: Reader<R>,
     row: ByteRecord,
+    most_rows: u32,
     given: u32,
     last_time: u64,
     stage: Stage,
@@ -64,7 +71,8 @@ impl<R: Read + Drop> Model for Records<R> {
     ghost use Rattle.capture9.specs.Working.{HoldsInRecords, is_past_header, rows_to_come, standing_at, unread_records};
 
     ghost view = { λ r. record {
-      rows = rows_to_come r.stage r.given r.last_time (unread_records R.remaining r.reader);
+      rows = rows_to_come r.most_rows r.stage r.given r.last_time (unread_records R.remaining r.reader);
+      most_rows = r.most_rows;
       given = r.given;
       is_headed = is_past_header r.stage;
       last_time = r.last_time;
@@ -72,14 +80,16 @@ impl<R: Read + Drop> Model for Records<R> {
       source = reader_source r.reader;
     } };
 
-    ghost invariant = { λ r. HoldsInRecords r.stage r.given r.last_time r.reader };
+    ghost invariant = { λ r. HoldsInRecords r.most_rows r.stage r.given r.last_time r.reader };
 }
 
 impl<R: Read + Drop> Records<R> {
-    /// The records of the text that a reader gives. It reads nothing yet, and takes no memory.
-    pub fn new(alloc: Global, reader: R) -> Records<R>
+    /// The records of the text that a reader gives, of which there may be `most_rows`. It reads nothing yet, and takes no memory.
+    pub fn new(alloc: Global, reader: R, most_rows: u32) -> Records<R>
+        requires { most_rows ≤ greatest_limit }
         ensures { result ≡ record {
-          rows = option_map rows_of (R.remaining reader);
+          rows = option_map (rows_within most_rows) (R.remaining reader);
+          most_rows = most_rows;
           given = 0;
           is_headed = false;
           last_time = 0;
@@ -95,6 +105,7 @@ impl<R: Read + Drop> Records<R> {
                 .flexible(true)
                 .from_reader(alloc, reader),
             row: ByteRecord::new(alloc),
+            most_rows,
             given: 0,
             last_time: 0,
             stage: Stage::BeforeHeader,
@@ -109,7 +120,7 @@ impl<R: Read + Drop> Records<R> {
     ///
     /// After the end it gives None each time, and after a refusal the same refusal each time, and reads
     /// no more. A call asks `csv` for one record, and the first call for the header too. So `csv` is asked
-    /// for 4,000,002 at most: the header, the rows, and one row too many.
+    /// for two more than there may be at most: the header, the rows, and one row too many.
     #[inline(always)] // each loop over records calls it, and else it would be inlined in none
     pub fn next(&mut self) -> Result<Option<LineByte>, CaptureError>
         ensures given { IfOk result (λ o. IfSome o (λ r. GivesRecord self.old r self.new)) }
@@ -119,7 +130,7 @@ impl<R: Read + Drop> Records<R> {
             → (result ≡ Ok None) × (self.new ≡ self.old) }
         ensures after_refusal { (e : CaptureError) → self.old.standing ≡ Standing.Refused e
             → (result ≡ Err e) × (self.new ≡ self.old) }
-        ensures within { self.new.given ≤ most_rows }
+        ensures within { self.new.given ≤ self.new.most_rows }
     {
         if !matches!(self.stage, Stage::InRows) && !self.enter_rows()? {
             return Ok(None);
@@ -188,17 +199,17 @@ impl<R: Read + Drop> Records<R> {
         ensures ended { IfOk result (λ o. IfNone o (GivesEnd self.old self.new)) }
         ensures refused { IfErr result (λ e. GivesRefusal self.old e self.new) }
         ensures stays_headed { self.new.is_headed ≡ true }
-        ensures within { self.new.given ≤ most_rows }
+        ensures within { self.new.given ≤ self.new.most_rows }
     {
         let number = self.given + 1;
         let fault = match read_record(&mut self.reader, &mut self.row) {
-            Ok(true) => match fields::read_row(number, self.last_time, &self.row) {
+            Ok(true) => match fields::read_row(number, self.most_rows, self.last_time, &self.row) {
                 Some(record) => {
                     self.given = number;
                     self.last_time = record.time_us;
                     return Ok(Some(record));
                 }
-                None => fields::fault_in(number, &self.row),
+                None => fields::fault_in(number, self.most_rows, &self.row),
             },
             Ok(false) => {
                 self.stage = Stage::Ended;

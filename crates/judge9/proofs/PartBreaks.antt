@@ -1,5 +1,5 @@
 -- What comes before a part, and after a break: where the next part begins, and how far there is to go.
-use Rattle.judge9.proofs.Words.{events_of, events_in, TellsLate, line_rules, in_parts, [], ap, append-nil, append_assoc, Appends, AppendsPart, AreParts, AreTextsOf, arith, begins_next_part, BeginsAt, Bool, Break, Breaks, BrokenPart}
+use Rattle.judge9.proofs.Words.{greatest_limit, events_of, events_in, TellsLate, line_rules, in_parts, [], ap, append-nil, append_assoc, Appends, AppendsPart, AreParts, AreTextsOf, arith, begins_next_part, BeginsAt, Bool, Break, Breaks, BrokenPart}
 use Rattle.judge9.proofs.Words.{CaptureError, Comes, ComesTo, Err, Exchange, exchanges_of, false, Follower, GivesAll, GivesEnd, GivesRecord, GivesRefusal, KnowsNothing, Profile, inl, inr, JudgeError}
 use Rattle.judge9.proofs.Words.{JudgesParts, Judging, last_of, length, length-append, length_push, LineByte, List, may_begin, NoneBegins, None, Ok}
 use Rattle.judge9.proofs.Words.{Option, Progress, records_in, refl, refusal_of, Rest, rest_after, Result, Resumes, ResumesAfter, Rows, Some, subst, sym}
@@ -197,7 +197,7 @@ module _ {R : Type 0} {T : BrokenPart → List ℕ → Type 0} {telling : Tellin
 
   -- the judging stops before the next part
   stopped : {P : Type 0} → ((past : List LineByte) (keeps : Keeps telling (in_parts profile) past [] []) (more : List LineByte) → keeps.text ≡ []
-      → Onward profile broken past (keeps.items ++ more) → Seen rows j.rows.rows (past ++ (keeps.items ++ more)) None → P) → P
+      → Onward profile broken past (keeps.items ++ more) → Seen greatest_limit rows j.rows.rows (past ++ (keeps.items ++ more)) None → P) → P
   stopped {P = P} told = by (begins_next_part b.reason b.record) refl
     where
       read : AreRead rows (h.items ++ b.record ∷ []) j.rows
@@ -205,11 +205,11 @@ module _ {R : Type 0} {T : BrokenPart → List ℕ → Type 0} {telling : Tellin
 
       by : (c : Bool) → begins_next_part b.reason b.record ≡ c → P
       by true begins = told h.items (keeps-none telling (in_parts profile) h.items refl) (b.record ∷ []) refl (at_breaking begins [])
-          (seen rows j.rows.rows (h.items ++ b.record ∷ []) None read.read read.are_given.can_be)
+          (seen greatest_limit rows j.rows.rows (h.items ++ b.record ∷ []) None read.read read.are_given.can_be)
       by false after =
           let all = read_past [] refl in
           told (past_of []) (keeps-none telling (in_parts profile) (past_of []) refl) [] refl (at_end [] after tt)
-          (rw (append-nil (past_of [])) (seen rows j.rows.rows (past_of []) None all.read all.are_given.can_be))
+          (rw (append-nil (past_of [])) (seen greatest_limit rows j.rows.rows (past_of []) None all.read all.are_given.can_be))
 
   longer : (passed : List LineByte) → length h.items ≤ length (past_of passed)
   longer passed = omega (arith, past_size passed)

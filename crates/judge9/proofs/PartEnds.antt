@@ -1,5 +1,5 @@
 -- What each turn of a judging of all parts leads to.
-use Rattle.judge9.proofs.Words.{Terms, true, append_assoc, BeginsLate, Event, events_in, events_of, IsEndText, IsEventText, IsLateBefore, IsPutBreak, late_replies, LineRules, TellsLate, TellsLateAt, TellsNot, Spoils, false, if◌then◌else◌, Bool, AreTextsOf, line_rules, in_parts, BreaksAtLast, append-nil, [], ap, Appends, Appends-nil, Appends-trans, arith, Break, BrokenPart, ComesTo, Err, Exchange, exchanges_of, inl, inr, IsBreakText, IsFresh, IsJudgedPart}
+use Rattle.judge9.proofs.Words.{greatest_limit, Terms, true, append_assoc, BeginsLate, Event, events_in, events_of, IsEndText, IsEventText, IsLateBefore, IsPutBreak, late_replies, LineRules, TellsLate, TellsLateAt, TellsNot, Spoils, false, if◌then◌else◌, Bool, AreTextsOf, line_rules, in_parts, BreaksAtLast, append-nil, [], ap, Appends, Appends-nil, Appends-trans, arith, Break, BrokenPart, ComesTo, Err, Exchange, exchanges_of, inl, inr, IsBreakText, IsFresh, IsJudgedPart}
 use Rattle.judge9.proofs.Words.{IfOk, IsLogOf, IsToTheEnd, IsTextOf, JudgeError, JudgesParts, Judging, length, length-append, line_of, LineByte, List, None, no_rows-can_be, number_of, Ok, Option, part_after, PartLog}
 use Rattle.judge9.proofs.Words.{AppendsPart, PartsTold, Profile, Puts, Reason, records_in, refl, Result, Rows, Some, subst, sym, TakesUp, TellsAt, text_of_why, Turn, turn_of, Verdict}
 use Rattle.judge9.proofs.Words.{Follower, WrittenInParts, ℕ, ◌++◌, ◌+◌, ◌∙◌, ◌∷◌, ◌≡◌, ◌≤◌}
@@ -37,7 +37,7 @@ at_start T telling profile old j k (Err x) fresh come =
 pub nothing_told : (T : BrokenPart → List ℕ → Type 0) (telling : Telling) (profile : Profile) (rows : Option Rows) (old : Option (List ℕ)) → PartsTold T telling profile rows
     (Err JudgeError.OutOfMemory) old old
 nothing_told T telling profile rows old =
-    told_in_parts [] [] refl (keeps-none telling (in_parts profile) [] refl) {left = rows} [] (onward-start profile []) (seen rows rows [] None (unread rows) no_rows-can_be)
+    told_in_parts [] [] refl (keeps-none telling (in_parts profile) [] refl) {left = rows} [] (onward-start profile []) (seen greatest_limit rows rows [] None (unread rows) (no_rows-can_be greatest_limit))
     (Err JudgeError.OutOfMemory) (Appends-nil old)
 
 -- ---- a part
@@ -109,13 +109,13 @@ module _ {R : Type 0} {T : BrokenPart → List ℕ → Type 0} {profile : Profil
   -- how many records and exchanges there are with it
   pub part_fits : {telling : Telling} {turn : Turn} {k : Judging R} {now : Option (List ℕ)} {es : List Exchange} {late : ℕ} {end_us : Option ℕ}
       → AtTurn (Onward profile broken past) telling (in_parts profile) rows past turn k begun now es late end_us
-      → (records_in (exchanges_of broken ++ es) ≤ 4000000) × (length (exchanges_of broken ++ es) ≤ 4000000)
+      → (records_in (exchanges_of broken ++ es) ≤ greatest_limit) × (length (exchanges_of broken ++ es) ≤ greatest_limit)
   part_fits {es = es} h =
       let f = h.so_far in
       let tail = h.front.follower.pairer.tail in
       let size = length-append past f.items in (
-        omega (arith, f.are_given.can_be.limit, size, cut_len (line_rules (in_parts profile)) f.items es tail f.cut, before.fits, records_joined (exchanges_of broken) es),
-        omega (arith, f.are_given.can_be.limit, size, (cut_counts (line_rules (in_parts profile)) f.items es tail f.cut).0, before.few, length-append (exchanges_of broken) es),
+        omega (arith, f.are_given.can_be.within, size, cut_len (line_rules (in_parts profile)) f.items es tail f.cut, before.fits, records_joined (exchanges_of broken) es),
+        omega (arith, f.are_given.can_be.within, size, (cut_counts (line_rules (in_parts profile)) f.items es tail f.cut).0, before.few, length-append (exchanges_of broken) es),
       )
 
 -- ---- a break
@@ -278,7 +278,7 @@ module _ {R : Type 0} {T : BrokenPart → List ℕ → Type 0} {telling : Tellin
       → JudgesParts T telling profile rows r old new
   at_the_end {new = new} t r many records exchanges tail passed same puts = by r same puts
     where
-      s : Seen rows h.front.rows.rows (past ++ (f.items ++ [])) None
+      s : Seen greatest_limit rows h.front.rows.rows (past ++ (f.items ++ [])) None
       s = rw append-nil (seen_now f)
 
       on : Onward profile broken past (f.items ++ [])

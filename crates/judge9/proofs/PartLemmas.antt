@@ -1,5 +1,5 @@
 -- What is told of all parts of a capture, at each end of the judging.
-use Rattle.judge9.proofs.Words.{in_parts, [], ap, append-nil, append_assoc, Appends, AppendsPart, AreParts, AreTextsOf, Bool, BrokenPart, CaptureError, CaptureKind, Err, Exchange, false, false≢true, given-refused, GivesRefusal, Profile, HasHeader, IfSome, if◌then◌else◌, inl, is_of_text, IsPlaced, IsTrue, JudgeError, JudgesParts, length, LineByte, List, None, Ok, Option, Progress, refl, refusal_of, refused-after, Rest, Result, Rows, Some, subst, sym, PartsTold, true, WrittenInParts, ℕ, ⊤, ◌++◌, ◌∙◌, ◌∷◌, ◌≡◌, ◌≢◌}
+use Rattle.judge9.proofs.Words.{in_parts, [], ap, append-nil, append_assoc, Appends, AppendsPart, AreParts, AreTextsOf, Bool, BrokenPart, CaptureError, CaptureKind, Err, Exchange, false, false≢true, given-refused, GivesRefusal, greatest_limit, Profile, HasHeader, IfSome, if◌then◌else◌, inl, is_of_text, IsPlaced, IsTrue, JudgeError, JudgesParts, length, LineByte, List, None, Ok, Option, Progress, refl, refusal_of, refused-after, Rest, Result, Rows, Some, subst, sym, PartsTold, true, WrittenInParts, ℕ, ⊤, ◌++◌, ◌∙◌, ◌∷◌, ◌≡◌, ◌≢◌}
 use Rattle.verdict9.specs.declared.verdict.Telling.TheVariants.{the_data as Telling}
 use Rattle.verdict9.specs.declared.totals.Totals.{Totals}
 use Rattle.judge9.proofs.PartSteps.{AreRead}
@@ -51,7 +51,7 @@ module _ {T : BrokenPart → List ℕ → Type 0} {telling : Telling} {profile :
     (broken : List BrokenPart) (texts : List ℕ) (are_texts : AreTextsOf T broken texts) (keeps : Keeps telling (in_parts profile) past es tail) where
   -- these records were read, and so many of them judged
   pub told_in_parts : {left : Option Rows} {fault : Option CaptureError} {new : Option (List ℕ)} (more : List LineByte)
-      → Onward profile broken past (keeps.items ++ more) → (s : Seen rows left (past ++ (keeps.items ++ more)) fault) → (r : Result Totals JudgeError)
+      → Onward profile broken past (keeps.items ++ more) → (s : Seen greatest_limit rows left (past ++ (keeps.items ++ more)) fault) → (r : Result Totals JudgeError)
       → WrittenInParts s.all (past ++ (keeps.items ++ more)) broken (record { past = length past; records = keeps.items ++ more })
       (record { past = length past; records = keeps.items; exchanges = es; tail = tail; events = keeps.events }) (texts ++ keeps.text) r old new
       → PartsTold T telling profile rows r old new
@@ -82,14 +82,14 @@ module _ {T : BrokenPart → List ℕ → Type 0} {telling : Telling} {profile :
 
   -- memory was refused
   pub parts-memory : {left : Option Rows} {new : Option (List ℕ)} (more : List LineByte) → Onward profile broken past (keeps.items ++ more)
-      → Seen rows left (past ++ (keeps.items ++ more)) None → Appends old new (texts ++ keeps.text)
+      → Seen greatest_limit rows left (past ++ (keeps.items ++ more)) None → Appends old new (texts ++ keeps.text)
       → JudgesParts T telling profile rows (Err JudgeError.OutOfMemory) old new
   parts-memory more onward s wrote =
       plain (Err JudgeError.OutOfMemory) tt (told_in_parts more onward s (Err JudgeError.OutOfMemory) wrote)
 
   -- the writer failed within this text
   pub parts-write : {left : Option Rows} {new : Option (List ℕ)} (more : List LineByte) → Onward profile broken past (keeps.items ++ more)
-      → Seen rows left (past ++ (keeps.items ++ more)) None → AppendsPart old new (texts ++ keeps.text)
+      → Seen greatest_limit rows left (past ++ (keeps.items ++ more)) None → AppendsPart old new (texts ++ keeps.text)
       → JudgesParts T telling profile rows (Err JudgeError.Write) old new
   parts-write more onward s part = plain (Err JudgeError.Write) tt (told_in_parts more onward s (Err JudgeError.Write) (inl part))
 
@@ -107,18 +107,18 @@ module _ {T : BrokenPart → List ℕ → Type 0} {telling : Telling} {profile :
       on : Onward profile broken past (keeps.items ++ [])
       on = rw append-nil onward
 
-      seen_all : Seen rows progress.rows (past ++ (keeps.items ++ [])) None
-      seen_all = seen rows progress.rows (past ++ (keeps.items ++ [])) None all_read.read all_read.are_given.can_be
+      seen_all : Seen greatest_limit rows progress.rows (past ++ (keeps.items ++ [])) None
+      seen_all = seen greatest_limit rows progress.rows (past ++ (keeps.items ++ [])) None all_read.read all_read.are_given.can_be
 
-      known_rows : (b : Bool) → is_of_text e.kind ≡ b → (s : Seen rows progress.rows (past ++ (keeps.items ++ [])) (if b then Some e else None))
+      known_rows : (b : Bool) → is_of_text e.kind ≡ b → (s : Seen greatest_limit rows progress.rows (past ++ (keeps.items ++ [])) (if b then Some e else None))
           × (IsTrue (is_of_text e.kind) → s.all ≡ record { records = past ++ (keeps.items ++ []); fault = Some e })
       known_rows true t =
           let can = given-refused (past ++ (keeps.items ++ [])) progress given e all_read.are_given all_read.is_reading refusal t in
-          let s = seen rows progress.rows (past ++ (keeps.items ++ [])) (Some e) all_read.read can in
+          let s = seen greatest_limit rows progress.rows (past ++ (keeps.items ++ [])) (Some e) all_read.read can in
           (s, λ _. s.whole (refusal.fault t))
       known_rows false t = (seen_all, λ is. absurd (false≢true (sym t ∙ is)))
 
-      headed : (b : Bool) → IsPlaced b given.given e → e.row ≢ 0 → b ≡ true
+      headed : (b : Bool) → IsPlaced progress.most_rows b given.given e → e.row ≢ 0 → b ≡ true
       headed true placed low = refl
       headed false placed low = absurd (low placed.row)
 
@@ -134,7 +134,7 @@ module _ {T : BrokenPart → List ℕ → Type 0} {telling : Telling} {profile :
       whole : e.kind ≢ CaptureKind.OutOfMemory → JudgesParts T telling profile rows (Err (JudgeError.Capture e)) old now
       whole other =
           let known = known_rows (is_of_text e.kind) refl in
-          let place = refused-after progress given e (past ++ (keeps.items ++ [])) refusal all_read.are_given.given in record {
+          let place = refused-after progress given e (past ++ (keeps.items ++ [])) refusal all_read.are_given.same_limit all_read.are_given.given in record {
             told = told_in_parts [] on known.0 (Err (JudgeError.Capture e)) (
               record {
                 place = place;

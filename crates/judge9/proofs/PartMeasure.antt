@@ -1,5 +1,5 @@
 -- Each turn of a judging of all parts leaves less to do: rows that are still to come, or the same record in a part of its own.
-use Rattle.judge9.proofs.Words.{TellsTurn, Terms, LineRules, line_rules, [], ap, arith, begins_next_part, BeginsAt, Bool, Break, CaptureError, Command, Comes, ComesTo, Err, false, first_holds, Follower, GivesEnd, GivesRecord}
+use Rattle.judge9.proofs.Words.{greatest_limit, TellsTurn, Terms, LineRules, line_rules, [], ap, arith, begins_next_part, BeginsAt, Bool, Break, CaptureError, Command, Comes, ComesTo, Err, false, first_holds, Follower, GivesEnd, GivesRecord}
 use Rattle.judge9.proofs.Words.{GivesRefusal, GoesThrough, IsJudgedPart, PartLog, turn_of, Profile, if◌then◌else◌, inl, inr, JudgeError, Judging, KnowsNothing, last_of, length, length-append, LineByte, List, may_begin, Ok, Option, Exchange}
 use Rattle.judge9.proofs.Words.{Paired, Progress, Reason, refl, refusal_of, Result, Resumes, ResumesAfter, Some, Spoils, subst, suc, TakesUp, takes_up_at, true, Turn, Turned, zero, ℕ, ◌*◌, ◌+◌, ◌-◌, ◌≡◌, ◌≤◌, ◌⊎◌}
 use Rattle.std.proofs.Common.{◌&&◌}
@@ -48,11 +48,11 @@ weight_small Turn.Exchange = omega arith
 weight_small (Turn.Late r) = omega arith
 weight_small (Turn.Break b) = grind arith
 
-less-turned : {R : Type 0} (j k : Judging R) (turn : Turn) → Turned j (Ok turn) k → left_at turn k ≤ 4 * (4000000 - j.rows.given)
+less-turned : {R : Type 0} (j k : Judging R) (turn : Turn) → Turned j (Ok turn) k → left_at turn k ≤ 4 * (greatest_limit - j.rows.given)
 less-turned j k Turn.End t = omega (arith, t.ends.given)
-less-turned j k turn t = omega (arith, t.1.gives.given, t.1.gives.within, weight_small turn)
+less-turned j k turn t = omega (arith, t.1.gives.given, t.1.gives.numbered, weight_small turn)
 
-pub less-come : {R : Type 0} (j k : Judging R) (turn : Turn) → ComesTo j (Ok turn) k → left_at turn k ≤ 4 * (4000000 - j.rows.given)
+pub less-come : {R : Type 0} (j k : Judging R) (turn : Turn) → ComesTo j (Ok turn) k → left_at turn k ≤ 4 * (greatest_limit - j.rows.given)
 less-come j k turn c = omega (arith, none_lost c, less-turned c.front k turn c.turned)
 
 -- the turns of a part, of which so many are late replies
@@ -84,29 +84,29 @@ first_break terms f first b knows same (inl refused) =
 first_break terms f first b knows same (inr none) = rw none.0 refl
 
 less-at_once : {R : Type 0} (terms : Terms) (j k : Judging R) (first : LineByte) (turn : Turn) → KnowsNothing terms j.follower → Comes j k first (Some turn)
-    → left_at turn k + 2 ≤ 4 * (4000000 - j.rows.given)
+    → left_at turn k + 2 ≤ 4 * (greatest_limit - j.rows.given)
 less-at_once terms j k first Turn.End knows c = absurd c.took
-less-at_once terms j k first Turn.Exchange knows c = omega (arith, c.gives.given, c.gives.within)
-less-at_once terms j k first (Turn.Late x) knows c = omega (arith, c.gives.given, c.gives.within)
+less-at_once terms j k first Turn.Exchange knows c = omega (arith, c.gives.given, c.gives.numbered)
+less-at_once terms j k first (Turn.Late x) knows c = omega (arith, c.gives.given, c.gives.numbered)
 less-at_once terms j k first (Turn.Break b) knows c =
-    rw (first_break terms j.follower first b knows c.took.0 c.took.1) (omega (arith, c.gives.given, c.gives.within))
+    rw (first_break terms j.follower first b knows c.took.0 c.took.1) (omega (arith, c.gives.given, c.gives.numbered))
 
 -- with the first record of the next part
 less-first : {R : Type 0} (terms : Terms) (before : Progress R) (first : LineByte) (turn : Turn) (k : Judging R) → Resumes terms before first (Ok turn) k
-    → left_at turn k + 2 ≤ 4 * (4000000 - before.given)
+    → left_at turn k + 2 ≤ 4 * (greatest_limit - before.given)
 less-first {R = R} terms before first turn k h = by h.with_first
   where
     j : Judging R
     j = record { rows = before; follower = h.follower }
 
-    by : BeginsAt j first (Ok turn) k → left_at turn k + 2 ≤ 4 * (4000000 - before.given)
+    by : BeginsAt j first (Ok turn) k → left_at turn k + 2 ≤ 4 * (greatest_limit - before.given)
     by (inl (is, rest)) = absurd (cc is)
     by (inr (inl (other, is, comes))) = let same : turn ≡ other = cc in rw same (less-at_once terms j k first other h.knows_nothing comes)
-    by (inr (inr (mid, comes, come))) = omega (arith, comes.gives.given, comes.gives.within, less-come mid k turn come)
+    by (inr (inr (mid, comes, come))) = omega (arith, comes.gives.given, comes.gives.numbered, less-come mid k turn come)
 
 -- after records were passed over
 less-passed : {R : Type 0} (terms : Terms) (last : LineByte) (old : Progress R) (turn : Turn) (k : Judging R) → ResumesAfter terms last old (Ok turn) k
-    → left_at turn k ≤ 4 * (4000000 - old.given)
+    → left_at turn k ≤ 4 * (greatest_limit - old.given)
 less-passed terms last old turn k h = by h.then
   where
     more : old.given ≤ h.mid.given
@@ -115,7 +115,7 @@ less-passed terms last old turn k h = by h.then
     by : ((first : LineByte) × (may_begin (last_of last h.passed) first ≡ true) × Resumes terms h.mid first (Ok turn) k)
         ⊎ ((let r : Result Turn JudgeError = Ok turn in r) ≡ Ok Turn.End) × GivesEnd h.mid k.rows × KnowsNothing terms k.follower
         ⊎ ((e : CaptureError) × GivesRefusal h.mid e k.rows × ((let r : Result Turn JudgeError = Ok turn in r) ≡ Err (refusal_of e)))
-        → left_at turn k ≤ 4 * (4000000 - old.given)
+        → left_at turn k ≤ 4 * (greatest_limit - old.given)
     by (inl (first, may, new)) = omega (arith, more, less-first terms h.mid first turn k new)
     by (inr (inl (is, ends, begins))) = let same : turn ≡ Turn.End = cc in rw same (omega (arith, more, ends.given))
     by (inr (inr (e, refusal, is))) = absurd (cc is)
@@ -131,6 +131,6 @@ less-up terms before b j turn k late wire gives (inr taken) = by late (begins_ne
         → left_at turn k + 1 + (if late then 1 else 0) ≤ left_at (Turn.Break b) j
     by true true is wire up = absurd (let both = both_true (takes_up_at b.reason) (is_commands_wire b.record.wire) is in let deck = wire refl in cc)
     by false true is wire up =
-        rw (both_true (takes_up_at b.reason) _ is).0 (omega (arith, gives.given, gives.within, less-first terms before b.record turn k (up before gives)))
+        rw (both_true (takes_up_at b.reason) _ is).0 (omega (arith, gives.given, gives.numbered, less-first terms before b.record turn k (up before gives)))
     by true false is wire up = omega (arith, at_least_two (takes_up_at b.reason), less-passed terms b.record j.rows turn k up)
     by false false is wire up = omega (arith, at_least_two (takes_up_at b.reason), less-passed terms b.record j.rows turn k up)

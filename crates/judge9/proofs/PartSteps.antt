@@ -1,5 +1,5 @@
 -- What is passed over after a break, where the next part begins, and what a judging of all parts comes to.
-use Rattle.judge9.proofs.Words.{[], append-nil, append_assoc, AreGiven, arith, false, from_command, given-more, GivesAll, GivesRecord, last_of, length, LineByte}
+use Rattle.judge9.proofs.Words.{[], append-nil, append_assoc, AreGiven, arith, false, from_command, greatest_limit, given-more, GivesAll, GivesRecord, last_of, length, LineByte}
 use Rattle.judge9.proofs.Words.{List, may_begin, NoneBegins, Option, Progress, refl, Rows, Standing, subst, true, ℕ, ◌++◌, ◌+◌, ◌∙◌, ◌∷◌, ◌≡◌, ◌≤◌}
 use Rattle.judge9.proofs.SoFar.{read-more, WereRead}
 
@@ -15,7 +15,7 @@ gives-more old mid new (x ∷ records) all gives = (all.0, all.1, gives-more all
 pub record AreRead {R : Type 0} (rows : Option Rows) (items : List LineByte) (progress : Progress R) : Type 0 where
   pub is_reading : progress.standing ≡ Standing.Reading
   pub read : WereRead rows items progress.rows
-  pub are_given : AreGiven items progress
+  pub are_given : AreGiven greatest_limit items progress
 
 pub read_one : {R : Type 0} (rows : Option Rows) (items : List LineByte) (old new : Progress R) (r : LineByte) → AreRead rows items old
     → GivesRecord old r new → AreRead rows (items ++ r ∷ []) new

@@ -3,7 +3,7 @@ use Rattle.judge9.proofs.Words.{AreEvents, AreTextsOf, BeginsReplyLate, Event, e
 use Rattle.judge9.proofs.Words.{[], ap, append-nil, append_assoc, Appends, Appends-nil, Appends-trans, AreGiven, arith, Bool, CanBeRows, CaptureError, Cut, Exchange}
 use Rattle.judge9.proofs.Words.{KeepsEnds, ForSome, given-more, given-none, GivesRecord, Profile, HasRun, IfNone, IfSome, IsExplained, IsFresh, IsLineOf, IsOfSomeText, IsOk, IsOpen}
 use Rattle.judge9.proofs.Words.{IsStartOf, IsTail, Judging, length, length_push, LineByte, List, None, Observes, Option, Paired, Possible, Progress, refl, Rows, run_start, Some}
-use Rattle.judge9.proofs.Words.{some-text, some_end, Standing, Outcome, subst, sym, Takes, TakesRecord, Tracked, true, View, ℕ, ⊤, ◌++◌, ◌+◌, ◌∙◌, ◌∷◌, ◌≡◌, ◌≤◌}
+use Rattle.judge9.proofs.Words.{rows_allowed, some-text, some_end, Standing, Outcome, subst, sym, Takes, TakesRecord, Tracked, true, View, ℕ, ⊤, ◌++◌, ◌+◌, ◌∙◌, ◌∷◌, ◌≡◌, ◌≤◌}
 use Rattle.verdict9.specs.Telling.{view_of}
 use Rattle.verdict9.specs.declared.verdict.Telling.TheVariants.{the_data as Telling}
 use Rattle.judge9.proofs.RunSteps.{follows-more, follows-start}
@@ -61,28 +61,29 @@ pub record SoFar {R : Type 0} (telling : Telling) (terms : Terms) (rows : Option
   pub same_rules : j.follower.pairer.rules ≡ line_rules terms
   pub in_order : ForSome j.follower.pairer.last_time (λ time. time ≤ j.rows.last_time)
   pub read : WereRead rows (past ++ items) j.rows.rows
-  pub are_given : AreGiven (past ++ items) j.rows
+  pub are_given : AreGiven (rows_allowed terms.reply_limit) (past ++ items) j.rows
 
 -- ---- the rows that a judging speaks of
 
--- after these records: the rows of the text where they are known, and else the records alone with this fault or none
-pub record Seen (rows left : Option Rows) (items : List LineByte) (fault : Option CaptureError) : Type 0 where
+-- after these records: the rows of the text where they are known, and else the records alone with this fault or none; a text may have
+-- so many rows
+pub record Seen (limit : ℕ) (rows left : Option Rows) (items : List LineByte) (fault : Option CaptureError) : Type 0 where
   pub all : Rows
   pub is_known : IfSome rows (λ a. all ≡ a)
-  pub of_a_text : IfNone rows (IsOfSomeText all)
+  pub of_a_text : IfNone rows (IsOfSomeText limit all)
   pub start : IsStartOf items all.records
   pub whole : IfSome left (λ rest. rest ≡ record { records = []; fault = fault }) → all ≡ record { records = items; fault = fault }
 
-pub seen : (rows left : Option Rows) (items : List LineByte) (fault : Option CaptureError) → WereRead rows items left
-    → CanBeRows (record { records = items; fault = fault }) → Seen rows left items fault
-seen None left items fault read can = record {
+pub seen : (limit : ℕ) (rows left : Option Rows) (items : List LineByte) (fault : Option CaptureError) → WereRead rows items left
+    → CanBeRows limit (record { records = items; fault = fault }) → Seen limit rows left items fault
+seen limit None left items fault read can = record {
   all = record { records = items; fault = fault };
   is_known = tt;
-  of_a_text = some-text _ can;
+  of_a_text = some-text limit _ can;
   start = ([], sym (append-nil items));
   whole = λ _. refl;
 }
-seen (Some a) left items fault read can =
+seen limit (Some a) left items fault read can =
     let whole : IfSome left (λ rest. rest ≡ record { records = []; fault = fault }) → a ≡ record { records = items; fault = fault } = λ none. let last =
     rw read.1 at none in rw (last, append-nil) at read.2 in
     record { all = a; is_known = refl; of_a_text = tt; start = (read.0.records, ap (λ (x : Rows). x.records) read.2); whole = whole }
@@ -116,7 +117,7 @@ later {r = r} given takes x e =
 
 -- before the first row of a part
 abbrev pub so_far-begin : {R : Type 0} {telling : Telling} {terms : Terms} {rows : Option Rows} {past : List LineByte} {j : Judging R} {now : Option (List ℕ)}
-    → KnowsNothing terms j.follower → j.rows.standing ≡ Standing.Reading → WereRead rows past j.rows.rows → AreGiven past j.rows → SoFar telling terms rows past j now now [] 0
+    → KnowsNothing terms j.follower → j.rows.standing ≡ Standing.Reading → WereRead rows past j.rows.rows → AreGiven (rows_allowed terms.reply_limit) past j.rows → SoFar telling terms rows past j now now [] 0
 so_far-begin {telling = telling} {terms = terms} {past = past} {j = j} {now = now} begins is_reading read are_given = record {
   keeps = keeps-none telling terms past (ap (λ (p : Paired). p.tail) begins.fed_nothing);
   counted = refl;
@@ -134,7 +135,7 @@ so_far-begin {telling = telling} {terms = terms} {past = past} {j = j} {now = no
 -- before the first row
 abbrev pub so_far-start : {R : Type 0} {telling : Telling} {terms : Terms} {j : Judging R} {now : Option (List ℕ)} → IsFresh terms j
     → SoFar telling terms j.rows.rows [] j now now [] 0
-so_far-start {j = j} fresh = so_far-begin fresh.knows_nothing fresh.is_reading (unread j.rows.rows) (given-none j.rows fresh.none_given fresh.no_time)
+so_far-start {terms = terms} {j = j} fresh = so_far-begin fresh.knows_nothing fresh.is_reading (unread j.rows.rows) (given-none (rows_allowed terms.reply_limit) j.rows fresh.limit fresh.none_given fresh.no_time)
 
 -- the time at which exchanges end, one of them last
 ends-more : (records : List LineByte) (es : List Exchange) (e : Exchange) (end_us : Option ℕ) → end_us ≡ Some (last_time records)
@@ -145,8 +146,8 @@ ends-more records (x ∷ es) e end_us is = is
 module _ {R : Type 0} {telling : Telling} {terms : Terms} {rows : Option Rows} {past : List LineByte} {j : Judging R} {old now : Option (List ℕ)}
     {es : List Exchange} {late : ℕ} (h : SoFar telling terms rows past j old now es late) where
   -- the rows that it speaks of, where it ends here with no fault
-  pub seen_now : Seen rows j.rows.rows (past ++ h.items) None
-  seen_now = seen rows j.rows.rows (past ++ h.items) None h.read h.are_given.can_be
+  pub seen_now : Seen (rows_allowed terms.reply_limit) rows j.rows.rows (past ++ h.items) None
+  seen_now = seen (rows_allowed terms.reply_limit) rows j.rows.rows (past ++ h.items) None h.read h.are_given.can_be
 
   pub so_far-ok : IsOk terms h.items
   so_far-ok = record { exchanges = es; tail = j.follower.pairer.tail; cut = h.cut; run = h.run }
@@ -156,13 +157,13 @@ module _ {R : Type 0} {telling : Telling} {terms : Terms} {rows : Option Rows} {
   read_on {after = after} {r = r} gives =
       subst (λ l. WereRead rows l after.rows) (append_assoc past h.items (r ∷ [])) (read-more rows j.rows.rows after.rows (past ++ h.items) r h.read gives.rows)
 
-  pub given_on : {after : Progress R} {r : LineByte} → GivesRecord j.rows r after → AreGiven (past ++ (h.items ++ r ∷ [])) after
+  pub given_on : {after : Progress R} {r : LineByte} → GivesRecord j.rows r after → AreGiven (rows_allowed terms.reply_limit) (past ++ (h.items ++ r ∷ [])) after
   given_on {after = after} {r = r} gives =
-      subst (λ l. AreGiven l after) (append_assoc past h.items (r ∷ [])) (given-more (past ++ h.items) j.rows after r h.are_given gives)
+      subst (λ l. AreGiven (rows_allowed terms.reply_limit) l after) (append_assoc past h.items (r ∷ [])) (given-more (past ++ h.items) j.rows after r h.are_given gives)
 
   -- the rows that it speaks of, where it ends after that one
-  pub seen_on : {after : Progress R} {r : LineByte} → GivesRecord j.rows r after → Seen rows after.rows (past ++ (h.items ++ r ∷ [])) None
-  seen_on {after = after} {r = r} gives = seen rows after.rows (past ++ (h.items ++ r ∷ [])) None (read_on gives) (given_on gives).can_be
+  pub seen_on : {after : Progress R} {r : LineByte} → GivesRecord j.rows r after → Seen (rows_allowed terms.reply_limit) rows after.rows (past ++ (h.items ++ r ∷ [])) None
+  seen_on {after = after} {r = r} gives = seen (rows_allowed terms.reply_limit) rows after.rows (past ++ (h.items ++ r ∷ [])) None (read_on gives) (given_on gives).can_be
 
   -- what a record more does, by the rules of the terms
   pub step_on : {next : Paired} {r : LineByte} {s : Outcome} → Takes j.follower.pairer r s next → Does (line_rules terms) j.follower.pairer.tail r s

@@ -3,8 +3,8 @@ use Rattle.judge9.proofs.Words.{Terms, line_rules, counting, ComesTo, Follower, 
 use Rattle.judge9.proofs.Words.{Break, CanBeVerdict, CaptureError, CaptureKind, Completes, Cut, cut_once, EndsRows, Err, Exchange, exchange_less, Explains, false, false≢true, given-more}
 use Rattle.judge9.proofs.Words.{given-refused, GivesRecord, GivesRefusal, Profile, HasHeader, HasRun, IfErr, IfSome, if◌then◌else◌, inl, inr, is_of_text, IsAfter, IsAnswer}
 use Rattle.judge9.proofs.Words.{IsFirstBreak, IsOk, IsOkBefore, IsPlaced, IsSame, IsStartOf, IsTheAnswer, IsVerdictAfter, JudgeError, Judges, Judging, length, length_push}
-use Rattle.judge9.proofs.Words.{length-append, line_of, LineByte, List, no_rows-can_be, None, Observes, Ok, Option, option_map, part_after, Possible, Progress, Puts, Reason}
-use Rattle.judge9.proofs.Words.{refl, refusal_by, refusal_of, refused-after, Refuses, Result, Rows, rows_of, Some, some_end, StoppedBefore, subst, sym, tail_by_kept, tail_short}
+use Rattle.judge9.proofs.Words.{length-append, line_of, LineByte, List, most_rows, no_rows-can_be, None, Observes, Ok, Option, option_map, part_after, Possible, Progress, Puts, Reason}
+use Rattle.judge9.proofs.Words.{refl, refusal_by, refusal_of, refused-after, Refuses, Result, Rows, rows_of, rows_within, Some, some_end, StoppedBefore, subst, sym, tail_by_kept, tail_short}
 use Rattle.judge9.proofs.Words.{Spoils, Told, Tracked, true, Turn, Turned, Verdict, View, Written, ℕ, ⊤, ◌*◌, ◌++◌, ◌+◌, ◌∙◌, ◌∷◌, ◌≡◌, ◌≢◌, ◌≤◌}
 use Rattle.std.specs.Result.{result_map_both}
 use Rattle.verdict9.specs.Telling.{view_of}
@@ -20,15 +20,15 @@ the_answer : (profile : Profile) (rows : Rows) (answer : Answer) → IsAnswer pr
 the_answer profile rows answer h = record { is_answer = h; only = λ other k. answer_once profile rows other answer k h }
 
 -- what is told of the rows of a text is told of the text
-pub of_text : (text : Option (List ℕ)) (P : Rows → Type 0) → IfSome (option_map rows_of text) P → IfSome text (λ t. P (rows_of t))
-of_text None P k = tt
-of_text (Some t) P k = k
+pub of_text : (limit : ℕ) (text : Option (List ℕ)) (P : Rows → Type 0) → IfSome (option_map (rows_within limit) text) P → IfSome text (λ t. P (rows_within limit t))
+of_text limit None P k = tt
+of_text limit (Some t) P k = k
 
 pub answer_of_text : {view : View} {profile : Profile} {result : Result Verdict JudgeError} {old new : Option (List ℕ)} (text : Option (List ℕ))
     → Judges view profile (option_map rows_of text) result old new → IfSome text (λ t. IfSome (answer_of result) (IsTheAnswer profile (rows_of t)))
 answer_of_text {profile = profile} {result = result} text j =
     let Answered : Rows → Type 0 = λ rows. IfSome (answer_of result) (IsTheAnswer profile rows) in
-    of_text text Answered (of_known (option_map rows_of text) j.told.rows Answered j.told.is_known j.told.answer)
+    of_text most_rows text Answered (of_known (option_map rows_of text) j.told.rows Answered j.told.is_known j.told.answer)
 
 pub stopped_of_text : {A : Type 0} {view : View} {profile : Profile} {old new : Option (List ℕ)} (verdict_of : A → Verdict) (result : Result A JudgeError)
     (text : Option (List ℕ))
@@ -54,7 +54,7 @@ stopped_unwritten {j = j} {k = k} x c = by c.turned
 
 -- what is told after these records, of these rows
 unfoldable pub told_after : {telling : Telling} {profile : Profile} {es : List Exchange} {tail items : List LineByte} {rows left : Option Rows}
-    {fault : Option CaptureError} {old new : Option (List ℕ)} (keeps : Keeps telling (counting profile) [] es tail) (s : Seen rows left items fault)
+    {fault : Option CaptureError} {old new : Option (List ℕ)} (keeps : Keeps telling (counting profile) [] es tail) (s : Seen most_rows rows left items fault)
     (r : Result Verdict JudgeError)
     → IsStartOf keeps.items s.all.records → IfSome (answer_of r) (IsTheAnswer profile s.all) → Written profile s.all keeps.items keeps.text r old new
     → Told (view_of telling) profile rows r old new
@@ -77,7 +77,7 @@ told_after {es = es} {tail = tail} keeps s r start answer written = record {
 -- where there was no memory for the tracker, and nothing was read
 pub told-nothing : (view : View) (profile : Profile) (rows : Option Rows) (old : Option (List ℕ)) → Told view profile rows (Err JudgeError.OutOfMemory) old old
 told-nothing view profile rows old =
-    let s = seen rows rows [] None (unread rows) no_rows-can_be in
+    let s = seen most_rows rows rows [] None (unread rows) (no_rows-can_be most_rows) in
     told_after (keeps-none (Telling.Shown view) (counting profile) [] refl) s (Err JudgeError.OutOfMemory) s.start tt (Appends-nil old)
 
 -- ---- what a judging can bring, whatever the reader tells of its bytes
@@ -157,7 +157,7 @@ module _ {R : Type 0} {telling : Telling} {profile : Profile} {rows : Option Row
       (told_after h.keeps s (Err JudgeError.OutOfMemory) s.start tt (none_after old now new h.text h.wrote none)) tt none
 
   -- a verdict is told, or its line was not written whole
-  judges-verdict : {new : Option (List ℕ)} {items : List LineByte} {left : Option Rows} {fault : Option CaptureError} (s : Seen rows left items fault)
+  judges-verdict : {new : Option (List ℕ)} {items : List LineByte} {left : Option Rows} {fault : Option CaptureError} (s : Seen most_rows rows left items fault)
       (v : Verdict) (r : Result Verdict JudgeError) → IsStartOf h.items s.all.records → IsAnswer profile s.all (Answer.judged v) → IsVerdictAfter h.items v
       → CanBeVerdict v
       → IsSame v r → Puts (line_of v) r now new → (judges : Judges (view_of telling) profile rows r old new) × (judges.told.rows ≡ s.all)
@@ -214,12 +214,12 @@ module _ {R : Type 0} {telling : Telling} {profile : Profile} {rows : Option Row
       → (judges : Judges (view_of telling) profile rows r old new) × IsStartOf (h.items ++ next ∷ []) judges.told.rows.records
   judges-no {given = given} {next = next} {reason = reason} r gives breaks same puts =
       let after = given-more h.items j.rows given next h.are_given gives in
-      let s = seen rows given.rows (h.items ++ next ∷ []) None (read-more rows j.rows.rows given.rows h.items next h.read gives.rows) after.can_be in
+      let s = seen most_rows rows given.rows (h.items ++ next ∷ []) None (read-more rows j.rows.rows given.rows h.items next h.read gives.rows) after.can_be in
       let split : s.all.records ≡ h.items ++ next ∷ s.start.0 = rw append_assoc at s.start.1 in
       let is : IsFirstBreak (counting profile) s.all.records given.given reason =
       record { before = h.items; next = next; after = s.start.0; split = split; number = omega arith; breaks = breaks } in
       let both = judges-verdict s (Verdict.No given.given reason) r (next ∷ s.start.0, split) is (omega arith)
-      (record { counted = omega arith; few = gives.within }) same puts in
+      (record { counted = omega arith; few = omega (arith, gives.within, h.are_given.same_limit) }) same puts in
       (both.0, rw both.1 s.start)
 
   -- the capture is refused
@@ -228,19 +228,19 @@ module _ {R : Type 0} {telling : Telling} {profile : Profile} {rows : Option Row
   judges-refusal {given = given} {e = e} {x = x} refusal same =
       rw same (refusal_cases (λ y. Judges (view_of telling) profile rows (Err y) old now) e.kind e whole (judges-memory (Appends-nil now)))
     where
-      place : IsAfter h.items e
-      place = refused-after j.rows given e h.items refusal h.are_given.given
+      place : IsAfter most_rows h.items e
+      place = refused-after j.rows given e h.items refusal h.are_given.same_limit h.are_given.given
 
       -- where nothing is known of the rows, a refusal leaves the bad row, where it is a fault of the text
-      told_rows : (b : Bool) → is_of_text e.kind ≡ b → (s : Seen rows j.rows.rows h.items (if b then Some e else None))
+      told_rows : (b : Bool) → is_of_text e.kind ≡ b → (s : Seen most_rows rows j.rows.rows h.items (if b then Some e else None))
           × IfSome (if b then Some (Answer.unreadable e) else None) (IsTheAnswer profile s.all)
       told_rows true t =
-          let s = seen rows j.rows.rows h.items (Some e) h.read (given-refused h.items j.rows given e h.are_given h.is_reading refusal t) in
+          let s = seen most_rows rows j.rows.rows h.items (Some e) h.read (given-refused h.items j.rows given e h.are_given h.is_reading refusal t) in
           let all = s.whole (refusal.fault t) in
           (s, the_answer profile s.all (Answer.unreadable e) (ap (λ (x : Rows). x.fault) all, rw all (so_far-ok h)))
       told_rows false t = (seen_now h, tt)
 
-      headed : (b : Bool) → IsPlaced b given.given e → e.row ≢ 0 → b ≡ true
+      headed : (b : Bool) → IsPlaced j.rows.most_rows b given.given e → e.row ≢ 0 → b ≡ true
       headed true placed low = refl
       headed false placed low = absurd (low placed.row)
 
@@ -262,7 +262,7 @@ module _ {R : Type 0} {telling : Telling} {profile : Profile} {rows : Option Row
             told = told_after h.keeps known.0 (Err (JudgeError.Capture e)) known.0.start known.1 (place, h.wrote);
             stopped = before rows h.read;
             is_kind = λ d q wrong. let same : e ≡ d = cc in other (ap (λ (y : CaptureError). y.kind) same ∙ wrong);
-            can_be = record { few = grind arith; at_its_row = refusal.place.at_its_row };
+            can_be = record { few = grind arith; at_its_row = rw h.are_given.same_limit at refusal.place.at_its_row };
           }
 
   -- an exchange, whose line was not written whole

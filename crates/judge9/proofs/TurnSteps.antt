@@ -1,6 +1,6 @@
 -- What the rows do whose records come to nothing yet, and what a turn of a judging tells.
 use Rattle.std.specs.declared.alloc.AllocError.{AllocError}
-use Rattle.judge9.proofs.Words.{IsAtLate, Terms, [], AreOpen, arith, Comes, ComesTo, Err, Exchange, Follower, ForSome, IsAtExchange, IsEnd, IsErrAnd, IsObserved, IsOpen}
+use Rattle.judge9.proofs.Words.{greatest_limit, IsAtLate, Terms, [], AreOpen, arith, Comes, ComesTo, Err, Exchange, Follower, ForSome, IsAtExchange, IsEnd, IsErrAnd, IsObserved, IsOpen}
 use Rattle.judge9.proofs.Words.{ap, JudgeError, Judging, LineByte, List, None, Ok, Option, Outcome, Paired, refl, Result, Rows, Some, Step, step_of, subst, suc, sym, Takes, Took}
 use Rattle.judge9.proofs.Words.{Turn, Turned, zero, inr, Bool, if◌then◌else◌, takes_up_at, ℕ, ◌*◌, ◌++◌, ◌+◌, ◌-◌, ◌<◌, ◌∙◌, ◌∷◌, ◌≡◌, ◌≢◌, ◌≤◌}
 use Rattle.verdict9.specs.declared.verdict.Telling.TheVariants.{the_data as Telling}
@@ -85,7 +85,7 @@ at_completed j k t =
       no_reason = c.takes.reason;
       in_order = λ x e. later t.1.gives c.takes x e;
       given = omega (arith, t.1.gives);
-      within = t.1.gives.within;
+      within = t.1.gives.numbered;
     }
 
 pub at_exchange_of : {R : Type 0} (j k : Judging R) → ComesTo j (Ok Turn.Exchange) k → IsAtExchange k
@@ -98,7 +98,7 @@ at_late_of j k c =
       no_reason = t.1.took.1.takes.reason;
       in_order = λ x e. later t.1.gives t.1.took.1.takes x e;
       given = omega (arith, t.1.gives);
-      within = t.1.gives.within;
+      within = t.1.gives.numbered;
     }
 
 -- it takes a row at least
@@ -117,16 +117,16 @@ weight (Turn.Late r) = 1
 weight (Turn.Break b) = if takes_up_at b.reason then 3 else 2
 
 abbrev pub left_at : {R : Type 0} → Turn → Judging R → ℕ
-left_at turn k = 4 * (4000000 - k.rows.given) + weight turn
+left_at turn k = 4 * (greatest_limit - k.rows.given) + weight turn
 
 small : (b : Bool) → (if b then 3 else 2) ≤ 3
 small b = grind arith
 
 pub less_after : {R : Type 0} (turn : Turn) (j k : Judging R) → ComesTo j (Ok turn) k → left_at turn k < left_at Turn.Exchange j
 less_after Turn.End j k c = omega (arith, none_lost c, c.turned.ends.given)
-less_after Turn.Exchange j k c = omega (arith, none_lost c, c.turned.1.gives.given, c.turned.1.gives.within)
-less_after (Turn.Late r) j k c = omega (arith, none_lost c, c.turned.1.gives.given, c.turned.1.gives.within)
-less_after (Turn.Break b) j k c = omega (arith, small (takes_up_at b.reason), none_lost c, c.turned.1.gives.given, c.turned.1.gives.within)
+less_after Turn.Exchange j k c = omega (arith, none_lost c, c.turned.1.gives.given, c.turned.1.gives.numbered)
+less_after (Turn.Late r) j k c = omega (arith, none_lost c, c.turned.1.gives.given, c.turned.1.gives.numbered)
+less_after (Turn.Break b) j k c = omega (arith, small (takes_up_at b.reason), none_lost c, c.turned.1.gives.given, c.turned.1.gives.numbered)
 
 pub given_on_turn : {R : Type 0} (turn : Turn) (j k : Judging R) → ComesTo j (Ok turn) k → j.rows.given ≤ k.rows.given
 given_on_turn Turn.End j k c = omega (arith, none_lost c, c.turned.ends.given)

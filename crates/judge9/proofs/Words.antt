@@ -22,8 +22,9 @@ pub use Rattle.capture9.proofs.RecordsLemmas.{refused-after}
 pub use Rattle.capture9.proofs.TextLemmas.{some-text}
 pub use Rattle.capture9.specs.Capture.{IsStartOf}
 pub use Rattle.capture9.specs.Error.{is_of_text, IsAfter}
+pub use Rattle.capture9.specs.Fields.{greatest_limit, most_rows}
 pub use Rattle.capture9.specs.Records.{IsPlaced, Progress, TakesRecord}
-pub use Rattle.capture9.specs.Rows.{HasHeader, rows_of}
+pub use Rattle.capture9.specs.Rows.{HasHeader, rows_of, rows_within}
 pub use Rattle.capture9.specs.SomeText.{CanBeRows, IsOfSomeText}
 pub use Rattle.deck9.specs.declared.deck.Deck.{Deck}
 pub use Rattle.deck9.proofs.RunLemmas.{ends_more, ends_none, join_runs, last_joined, some_end}
@@ -56,7 +57,7 @@ pub use Rattle.judge9.specs.PartsReport.{AreTextsOf, InParts, IsEndText, IsEvent
 pub use Rattle.block9.specs.Exchange.{records_in}
 pub use Rattle.report9.specs.WhyText.{text_of_why}
 pub use Rattle.judge9.specs.Working.Parts.{BeginsAfter, BeginsAt, ComesThen, IsBreakText, IsLateBefore, IsPutBreak, SaysNoRun, SaysWhy, GivesAll, JudgesParts, last_of, NoneBegins, Resumes, PassesOver, ResumesAfter, TakesUp}
-pub use Rattle.judge9.specs.Working.Turns.{AreOpen, BeginsReplyLate, Comes, Completes, ComesTo, EndsRows, IsFresh, IsObserved, IsOpen, KnowsNothing, Observes, Spoils, Took, Turned, Waits}
+pub use Rattle.judge9.specs.Working.Turns.{AreOpen, BeginsReplyLate, Comes, Completes, ComesTo, EndsRows, IsFresh, IsObserved, IsOpen, KnowsNothing, Observes, rows_allowed, Spoils, Took, Turned, Waits}
 pub use Rattle.judge9.specs.declared.part.PartLog.{PartLog}
 pub use Rattle.judge9.specs.Working.Part.{GoesThrough, IsAtExchange, IsAtLate, IsJudgedFirst, IsJudgedPart, IsLateText, IsLogOf, IsLogged, IsLoggedLate, TellsAt, TellsLateAt, TellsNot, TellsTurn, turn_of}
 pub use Rattle.std.proofs.Common.{ap, arith, drop, get_or, if◌then◌else◌, inl, inr, length-append, OnOk, option_map, refl, slice_range, subst, sym, take-add}

@@ -45,7 +45,7 @@ answer_of (Err error.OutOfMemory) = None
 pub record IsOkBefore (profile : Profile) (rows : Rows) (e : CaptureError) : Type 0 where
   pub items : List LineByte
   pub start : IsStartOf items rows.records
-  pub place : IsAfter items e
+  pub place : IsAfter most_rows items e
   pub has_header : e.row ≢ 0 → HasHeader rows
   pub is_ok : IsOk (counting profile) items
 
@@ -58,7 +58,7 @@ StoppedBefore profile rows error.OutOfMemory = ⊤
 -- a row that a refusal of a capture can name
 pub record CanBeRefusal (e : CaptureError) : Type 0 where
   pub few : e.row ≤ most_rows + 1
-  pub at_its_row : IsTrue (is_of_text e.kind) → IsAtItsRow e
+  pub at_its_row : IsTrue (is_of_text e.kind) → IsAtItsRow most_rows e
 
 -- a result that some reader brings, whether or not it tells its bytes
 abbrev pub CanBeResult : Result Verdict JudgeError → Type 0

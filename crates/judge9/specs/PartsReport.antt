@@ -6,6 +6,7 @@ use Rattle.capture9.specs.declared.error.CaptureError.{CaptureError}
 use Rattle.capture9.specs.declared.line_byte.LineByte.{LineByte}
 use Rattle.capture9.specs.Capture.{IsStartOf}
 use Rattle.capture9.specs.Error.{IsAfter, is_of_text}
+use Rattle.capture9.specs.Fields.{greatest_limit}
 use Rattle.capture9.specs.Rows.{Rows}
 use Rattle.capture9.specs.SomeText.{IsOfSomeText}
 use Rattle.block9.specs.Pairer.{IsOpenAfter}
@@ -94,7 +95,7 @@ pub record IsToTheEnd (rows : Rows) (items : List LineByte) (broken : List Broke
 
 -- the records are all those before the row of this refusal, and where it is a fault of the text, that is the fault of the rows
 pub record IsRefusedAfter (rows : Rows) (items : List LineByte) (left : Rest) (last : Part) (e : CaptureError) : Type 0 where
-  pub place : IsAfter items e
+  pub place : IsAfter greatest_limit items e
   pub has_all : HasAll last left
   pub fault : IsTrue (is_of_text e.kind) → rows ≡ record { records = items; fault = Some e }
 
@@ -111,12 +112,12 @@ WrittenInParts rows items broken left last text (Err error.Write) old new =
 WrittenInParts rows items broken left last text (Err error.OutOfMemory) old new = Appends old new text
 
 -- the rows that a judging of all parts speaks of, their parts, and what was written. The rows are those of the text, where the
--- reader tells its bytes; else they are what it gave, and are those of some text
+-- reader tells its bytes; else they are what it gave, and are those of some text. A text may have as many rows as can be numbered
 pub record PartsTold (IsText : BrokenPart → List ℕ → Type 0) (telling : Telling) (profile : Profile) (known : Option Rows) (result : Result Totals JudgeError)
     (old new : Option (List ℕ)) : Type 0 where
   pub rows : Rows
   pub is_known : IfSome known (λ all. rows ≡ all)
-  pub of_a_text : IfNone known (IsOfSomeText rows)
+  pub of_a_text : IfNone known (IsOfSomeText greatest_limit rows)
   pub items : List LineByte
   pub broken : List BrokenPart
   pub left : Rest

@@ -5,6 +5,7 @@ use Rattle.std.specs.Io.KnownBytes.{Appends}
 use Rattle.capture9.specs.declared.line_byte.LineByte.{LineByte}
 use Rattle.capture9.specs.Capture.{IsStartOf}
 use Rattle.capture9.specs.Error.{IsAfter}
+use Rattle.capture9.specs.Fields.{most_rows}
 use Rattle.capture9.specs.Rows.{Rows}
 use Rattle.capture9.specs.SomeText.{IsOfSomeText}
 use Rattle.block9.specs.declared.exchange.Exchange.{Exchange}
@@ -72,7 +73,7 @@ IsVerdictAfter items (No at reason) = at ≡ length items + 1
 -- verdict's line; where memory ran out the text
 abbrev pub Written : Profile → Rows → List LineByte → List ℕ → Result Verdict JudgeError → Option (List ℕ) → Option (List ℕ) → Type 0
 Written profile rows items text (Ok v) old new = IsVerdictAfter items v × Appends old new (text ++ line_of v)
-Written profile rows items text (Err (error.Capture e)) old new = IsAfter items e × Appends old new text
+Written profile rows items text (Err (error.Capture e)) old new = IsAfter most_rows items e × Appends old new text
 Written profile rows items text (Err error.Write) old new =
     AppendsPart old new text ⊎ ((v : Verdict) × IsAnswer profile rows (judged v) × IsVerdictAfter items v × AppendsPart old new (text ++ line_of v))
 Written profile rows items text (Err error.OutOfMemory) old new = Appends old new text
@@ -83,7 +84,7 @@ Written profile rows items text (Err error.OutOfMemory) old new = Appends old ne
 pub record Told (which : View) (profile : Profile) (known : Option Rows) (result : Result Verdict JudgeError) (old new : Option (List ℕ)) : Type 0 where
   pub rows : Rows
   pub is_known : IfSome known (λ all. rows ≡ all)
-  pub of_a_text : IfNone known (IsOfSomeText rows)
+  pub of_a_text : IfNone known (IsOfSomeText most_rows rows)
   pub answer : IfSome (answer_of result) (IsTheAnswer profile rows)
   pub items : List LineByte
   pub start : IsStartOf items rows.records

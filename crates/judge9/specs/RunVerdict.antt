@@ -3,6 +3,7 @@ use Rattle.std.specs.Prelude.{◌≡◌, ⊤, List, length, Option, Result, Ok, 
 use Rattle.std.specs.Option.{IfNone, IfSome}
 use Rattle.std.specs.Result.{IfOk}
 use Rattle.capture9.specs.declared.line_byte.LineByte.{LineByte}
+use Rattle.capture9.specs.Fields.{most_rows}
 use Rattle.capture9.specs.Rows.{Rows}
 use Rattle.capture9.specs.SomeText.{IsOfSomeText}
 use Rattle.block9.specs.Exchange.{Cut}
@@ -38,6 +39,6 @@ HasItsRun profile rows (run.No at reason) = ⊤
 pub record IsJudgedRun (profile : Profile) (known : Option Rows) (result : Result RunVerdict JudgeError) : Type 0 where
   pub rows : Rows
   pub is_known : IfSome known (λ all. rows ≡ all)
-  pub of_a_text : IfNone known (IsOfSomeText rows)
+  pub of_a_text : IfNone known (IsOfSomeText most_rows rows)
   pub answer : IfSome (answer_of (judged_of result)) (IsTheAnswer profile rows)
   pub run : IfOk result (HasItsRun profile rows)

@@ -2,6 +2,7 @@
 use Rattle.std.specs.Prelude.{ℕ, ◌+◌, ◌≡◌, ◌≢◌, ⊤, [], take, Option, Result, Ok, Err}
 use Rattle.std.specs.Option.{IfNone, IfSome}
 use Rattle.std.specs.Result.{IfOk}
+use Rattle.capture9.specs.Fields.{most_rows}
 use Rattle.capture9.specs.Rows.{Rows}
 use Rattle.capture9.specs.SomeText.{IsOfSomeText}
 use Rattle.block9.specs.declared.reason.Reason.TheVariants.{NoRun}
@@ -52,6 +53,6 @@ HasItsWhy terms rows (why.Contradiction at exchanges places known shown) =
 pub record IsJudgedWhy (profile : Profile) (known : Option Rows) (result : Result WhyVerdict JudgeError) : Type 0 where
   pub rows : Rows
   pub is_known : IfSome known (λ all. rows ≡ all)
-  pub of_a_text : IfNone known (IsOfSomeText rows)
+  pub of_a_text : IfNone known (IsOfSomeText most_rows rows)
   pub answer : IfSome (answer_of (judged_of result)) (IsTheAnswer profile rows)
   pub why : IfOk result (HasItsWhy (counting profile) rows)

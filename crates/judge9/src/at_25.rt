@@ -1,6 +1,7 @@
 //! The calls at 25 frames a second, each beside one that takes a profile.
 ghost use Rattle.std.specs.Prelude.{◌≡◌, ◌≢◌, IfSome, IfErr, option_map, None};
-ghost use Rattle.capture9.specs.Rows.{HasHeader, rows_of};
+ghost use Rattle.capture9.specs.Fields.{greatest_limit};
+ghost use Rattle.capture9.specs.Rows.{HasHeader, rows_of, rows_within};
 ghost use Rattle.judge9.specs.Judging.{CanBeResult, IsTheAnswer, StoppedBefore, answer_of};
 ghost use Rattle.judge9.specs.PartsReport.{ToldInParts};
 ghost use Rattle.judge9.specs.Report.{Told};
@@ -85,12 +86,12 @@ pub fn judge_parts<R: Read + Drop, W: Write>(
     telling: Telling,
     hands: Hands,
 ) -> Result<Totals, JudgeError>
-    ensures told { ToldInParts telling (record { rate = Rate.Fps25; hands = hands; deck = None }) (option_map rows_of (R.remaining reader)) result
+    ensures told { ToldInParts telling (record { rate = Rate.Fps25; hands = hands; deck = None }) (option_map (rows_within greatest_limit) (R.remaining reader)) result
         (W.contents writer.old) (W.contents writer.new) }
     ensures kind { (e : CaptureError) → result ≡ Err (JudgeError.Capture e)
         → e.kind ≢ CaptureKind.OutOfMemory }
     ensures header { IfSome (R.remaining reader) (λ text. (e : CaptureError)
-        → result ≡ Err (JudgeError.Capture e) → e.row ≢ 0 → HasHeader (rows_of text)) }
+        → result ≡ Err (JudgeError.Capture e) → e.row ≢ 0 → HasHeader (rows_within greatest_limit text)) }
 {
     judge_parts_for(alloc, reader, writer, telling, &Profile::of(hands))
 }

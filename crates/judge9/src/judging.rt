@@ -2,16 +2,16 @@
 ghost use Rattle.std.specs.Prelude.{◌≡◌, ◌≤◌, IfOk, None, option_map};
 ghost use Rattle.std.specs.Option.{ForSome};
 ghost use Rattle.capture9.specs.Records.{GivesRecord, Progress};
-ghost use Rattle.capture9.specs.Rows.{rows_of};
+ghost use Rattle.capture9.specs.Rows.{rows_within};
 ghost use Rattle.judge9.specs.Verdict.{Terms, terms_of};
 ghost use Rattle.judge9.specs.Working.Parts.{BeginsAfter, TakesUp};
-ghost use Rattle.judge9.specs.Working.Turns.{ComesTo, IsFresh, KnowsNothing};
+ghost use Rattle.judge9.specs.Working.Turns.{ComesTo, IsFresh, KnowsNothing, rows_allowed};
 
 use crate::follower::Follower;
 use crate::parts::{begins_next_part, pass_over};
 use crate::turn::{Break, Turn};
 use block9::ReplyLimit;
-use capture9::{LineByte, Records};
+use capture9::{GREATEST_LIMIT, LineByte, MOST_ROWS, Records};
 use deck9::Profile;
 use std::alloc::{AllocError, Global};
 use std::io::Read;
@@ -26,6 +26,16 @@ pub(crate) struct Judging<'a, R: Read + Drop> {
     pub(crate) follower: Follower<'a>,
 }
 
+/// How many rows a capture may have: with the reply limit left aside all of it is judged, in parts, however long it is.
+fn rows_allowed(reply_limit: ReplyLimit) -> u32
+    ensures { result ≡ rows_allowed reply_limit }
+{
+    match reply_limit {
+        ReplyLimit::Counts => MOST_ROWS,
+        ReplyLimit::LeftAside => GREATEST_LIMIT,
+    }
+}
+
 impl<'a, R: Read + Drop> Judging<'a, R> {
     /// The judging of what the reader gives. It reads nothing yet; an error comes where memory is refused.
     pub(crate) fn new(
@@ -35,11 +45,11 @@ impl<'a, R: Read + Drop> Judging<'a, R> {
         profile: &'a Profile,
     ) -> Result<Judging<'a, R>, AllocError>
         ensures fresh { IfOk result (IsFresh (terms_of reply_limit profile.now)) }
-        ensures rows { IfOk result (λ j. j.rows.rows ≡ option_map rows_of (R.remaining reader)) }
+        ensures rows { IfOk result (λ j. j.rows.rows ≡ option_map (rows_within (rows_allowed reply_limit)) (R.remaining reader)) }
     {
         let follower = Follower::of(alloc, reply_limit, profile)?;
         Ok(Judging {
-            rows: Records::new(alloc, reader),
+            rows: Records::new(alloc, reader, rows_allowed(reply_limit)),
             follower,
         })
     }

@@ -3,6 +3,7 @@
 //!
 //! This is the one loop over what a judging comes to. Whoever judges a capture does its own with what ends a part.
 ghost use Rattle.std.specs.Prelude.{◌≡◌, ◌≢◌, ◌≤◌, ◌<◌, ◌+◌, ◌*◌, ◌++◌, [], ◌∷◌, ℕ, Err, List, None, OnOk, Some};
+ghost use Rattle.capture9.specs.Fields.{greatest_limit};
 ghost use Rattle.capture9.specs.declared.line_byte.LineByte.{LineByte as ALineByte};
 ghost use Rattle.block9.specs.declared.exchange.Exchange.{Exchange as AnExchange};
 ghost use Rattle.judge9.specs.Working.Part.{IsAtExchange, IsAtLate, IsJudgedFirst, IsJudgedPart, IsLateText, IsLogOf, IsLogged, IsLoggedLate, TellsAt, TellsLateAt};
@@ -43,7 +44,7 @@ pub(crate) struct PartLog {
     /// The exchanges, where they are kept.
     pub(crate) kept: Vec<Exchange>,
     /// How many records the exchanges have.
-    pub(crate) records: u32,
+    pub(crate) records: u64,
     /// The time of the last record of the last exchange that is kept, in microseconds, if there is one.
     pub(crate) end_us: Option<u64>,
     /// About how many spans of times the tracker had when it had most, where exchanges are kept. It bears on speed and memory alone.
@@ -70,7 +71,7 @@ impl PartLog {
     /// Counts the exchange that the judging came to last.
     #[inline(always)] // it is done with every exchange
     fn count(&mut self, exchange: &Exchange)
-        requires few { self.old.exchanges < 4000000 }
+        requires few { self.old.exchanges < greatest_limit }
         requires short { self.old.records ≤ 36 * self.old.exchanges }
         ensures exchanges { self.new.exchanges ≡ self.old.exchanges + 1 }
         ensures records { self.new.records ≡ self.old.records + records_of exchange.now }
@@ -79,7 +80,7 @@ impl PartLog {
         ensures kept { (self.new.kept ≡ self.old.kept) × (self.new.end_us ≡ self.old.end_us) }
     {
         self.exchanges += 1;
-        self.records += exchange.records() as u32;
+        self.records += exchange.records() as u64;
     }
 
     /// Keeps the exchange that the judging came to last. An error comes where memory is refused.
@@ -156,7 +157,7 @@ fn tell<R: Read + Drop, W: Write>(
     profile: &Profile,
 ) -> Result<(), JudgeError>
     requires at { IsAtExchange judging.now }
-    requires few { log.old.exchanges < 4000000 }
+    requires few { log.old.exchanges < greatest_limit }
     requires short { log.old.records ≤ 36 * log.old.exchanges }
     ensures told { (e : AnExchange) → judging.now.follower.pairer.exchange ≡ Some e
         → TellsAt (view_of log.old.telling) profile.now judging.now e result (W.contents writer.old) (W.contents writer.new) }
@@ -182,7 +183,7 @@ fn tell_late<R: Read + Drop, W: Write>(
     writer: &mut W,
     profile: &Profile,
 ) -> Result<(), JudgeError>
-    requires few { log.old.late < 4000000 }
+    requires few { log.old.late < greatest_limit }
     ensures told { TellsLateAt log.old.telling profile.now judging.now first result (W.contents writer.old) (W.contents writer.new) }
     ensures logged { IsLoggedLate log.old log.new }
 {

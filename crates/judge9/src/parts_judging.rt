@@ -2,7 +2,8 @@
 //! come last.
 ghost use Rattle.std.specs.Prelude.{◌≡◌, ◌≢◌, ◌++◌, [], ◌∷◌, ℕ, List, IfOk, IfSome, OnOk, option_map, None, Some};
 ghost use Rattle.block9.specs.declared.exchange.Exchange.{Exchange as AnExchange};
-ghost use Rattle.capture9.specs.Rows.{HasHeader, rows_of};
+ghost use Rattle.capture9.specs.Fields.{greatest_limit};
+ghost use Rattle.capture9.specs.Rows.{HasHeader, rows_within};
 ghost use Rattle.judge9.specs.Parts.{in_parts};
 ghost use Rattle.judge9.specs.PartsReport.{IsTextOf, ToldInParts};
 ghost use Rattle.verdict9.specs.Lines.{line_of_totals};
@@ -53,12 +54,12 @@ pub fn judge_parts_for<R: Read + Drop, W: Write>(
     telling: Telling,
     profile: &Profile,
 ) -> Result<Totals, JudgeError>
-    ensures told { ToldInParts telling profile.now (option_map rows_of (R.remaining reader)) result
+    ensures told { ToldInParts telling profile.now (option_map (rows_within greatest_limit) (R.remaining reader)) result
         (W.contents writer.old) (W.contents writer.new) }
     ensures kind { (e : CaptureError) → result ≡ Err (JudgeError.Capture e)
         → e.kind ≢ CaptureKind.OutOfMemory }
     ensures header { IfSome (R.remaining reader) (λ text. (e : CaptureError)
-        → result ≡ Err (JudgeError.Capture e) → e.row ≢ 0 → HasHeader (rows_of text)) }
+        → result ≡ Err (JudgeError.Capture e) → e.row ≢ 0 → HasHeader (rows_within greatest_limit text)) }
 {
     let mut judging = Judging::new(alloc, reader, ReplyLimit::LeftAside, profile)?;
     let mut line = Vec::new(alloc);
@@ -79,14 +80,14 @@ fn judge_rows<'a, R: Read + Drop, W: Write>(
     requires { IsFresh (in_parts profile.now) judging.old }
     ensures { JudgesParts (IsTextOf telling profile.now) telling profile.now judging.old.rows.rows result (W.contents writer.old) (W.contents writer.new) }
 {
-    let mut breaks = 0u32;
+    let mut breaks = 0u64;
     let mut exchanges = 0u32;
-    let mut in_exchanges = 0u32;
+    let mut in_exchanges = 0u64;
     let mut turn = judging.next()?;
     'parts: loop {
         let mut log = PartLog::new(alloc, telling);
         let end = judge_part(judging, turn, &mut log, line, writer, profile)?;
-        breaks += log.late;
+        breaks += u64::from(log.late);
         exchanges += log.exchanges;
         in_exchanges += log.records;
         let broken = match end {
@@ -94,7 +95,7 @@ fn judge_rows<'a, R: Read + Drop, W: Write>(
             None => break 'parts,
         };
         let late = judging.follower.pairer.begins_late(broken.record);
-        breaks += 1 + u32::from(late);
+        breaks += 1 + u64::from(late);
         put_break(line, judging, log, broken, late, profile)?;
         write_all(writer, line.as_slice())?;
         turn = judging.take_up(alloc, ReplyLimit::LeftAside, profile, broken)?;
@@ -105,7 +106,7 @@ fn judge_rows<'a, R: Read + Drop, W: Write>(
         breaks,
         records,
         exchanges,
-        passed_over: records - in_exchanges - tail,
+        passed_over: (u64::from(records) - in_exchanges) as u32 - tail,
         tail,
     };
     tell_totals(line, writer, totals)

@@ -6,7 +6,8 @@ use Rattle.std.specs.String.{string_bytes}
 use Rattle.std.specs.declared.io.Error.{Error}
 use Rattle.capture9.specs.declared.error.CaptureError.{CaptureError}
 use Rattle.capture9.specs.declared.error.CaptureKind.TheVariants as kind
-use Rattle.capture9.specs.Rows.{HasHeader, Rows, rows_of}
+use Rattle.capture9.specs.Fields.{greatest_limit}
+use Rattle.capture9.specs.Rows.{HasHeader, Rows, rows_of, rows_within}
 use Rattle.deck9.specs.declared.deck.Deck.{Deck}
 use Rattle.deck9.specs.declared.profile.Profile.{Profile}
 use Rattle.verdict9.specs.declared.error.JudgeError.{JudgeError}
@@ -65,9 +66,9 @@ told_of_parts verb false = None
 -- of each part: the result, and what the writer holds before and after
 pub record IsJudgedInParts (telling : Telling) (profile : Profile) (capture : Option (List ℕ)) (old : Option (List ℕ)) (result : Result Totals JudgeError)
     (now : Option (List ℕ)) : Type 0 where
-  pub told : EndsAs (λ judged all. ToldInParts telling profile (option_map rows_of capture) judged old all) result now
+  pub told : EndsAs (λ judged all. ToldInParts telling profile (option_map (rows_within greatest_limit) capture) judged old all) result now
   pub kind : (e : CaptureError) → result ≡ Err (error.Capture e) → e.kind ≢ kind.OutOfMemory
-  pub header : IfSome capture (λ text. (e : CaptureError) → result ≡ Err (error.Capture e) → e.row ≢ 0 → HasHeader (rows_of text))
+  pub header : IfSome capture (λ text. (e : CaptureError) → result ≡ Err (error.Capture e) → e.row ≢ 0 → HasHeader (rows_within greatest_limit text))
 
 -- a capture was judged with this verb, for a deck that is taken for this, and this is the end: it was judged part by part, or
 -- to its first break

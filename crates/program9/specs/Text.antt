@@ -10,7 +10,7 @@ use Rattle.program9.specs.Word.{expected_of, file_name_of, first_line_of, reason
 -- two lines, without a line feed at the end; nothing where there is a verdict, or the version was told
 abbrev pub text_of : Message → List ℕ
 text_of message.Nothing = []
-text_of (message.Unreadable e) = codes "unreadable at row " ++ decimal e.row ++ codes ": " ++ word_of e.kind ++ codes "\n" ++ expected_of e.kind
+text_of (message.Unreadable e) = codes "unreadable at row " ++ decimal e.row ++ codes ": " ++ word_of e.kind ++ codes "\n" ++ expected_of e.kind e.row
 text_of (message.ReadFault row) = codes "read fault at row " ++ decimal row ++ codes "\nexpected a capture that can be read to its end, not a directory"
 text_of (message.CannotOpen u) = first_line_of u.why ++ codes "\n" ++ file_name_of u.file ++ codes ": " ++ reason_of u.why
 text_of (message.UnreadableSheet u) = codes "unreadable deck sheet\n" ++ string_bytes u.file ++ codes ": " ++ sheet.text_of u.refusal

@@ -1,7 +1,8 @@
 -- The words for what is wrong, for what was expected, and for why a file was not opened.
-use Rattle.std.specs.Prelude.{ℕ, List, Option, Some, None, String, codes}
+use Rattle.std.specs.Prelude.{ℕ, ◌+◌, ◌==◌, if◌then◌else◌, List, Option, Some, None, String, codes}
 use Rattle.std.specs.Global.{Global}
 use Rattle.std.specs.String.{string_bytes}
+use Rattle.capture9.specs.Fields.{most_rows}
 use Rattle.capture9.specs.declared.error.CaptureKind.{CaptureKind}
 use Rattle.capture9.specs.declared.error.CaptureKind.TheVariants as kind
 use Rattle.program9.specs.declared.ending.WhyUnopened.{WhyUnopened}
@@ -19,17 +20,18 @@ word_of kind.TooMany = codes "too many rows"
 word_of kind.Read = codes "read fault"
 word_of kind.OutOfMemory = codes "out of memory"
 
--- what was expected where there is this fault
-abbrev pub expected_of : CaptureKind → List ℕ
-expected_of kind.Header = codes "expected the header time_us,wire,byte; convert/ makes captures of exports, see docs/CAPTURE.md"
-expected_of kind.Fields = codes "expected three fields: time_us,wire,byte"
-expected_of kind.Time = codes "expected 1 to 15 decimal digits, the time in microseconds"
-expected_of kind.Wire = codes "expected C for the controller's wire, or D for the deck's"
-expected_of kind.Byte = codes "expected two hexadecimal digits"
-expected_of kind.Backwards = codes "expected a time no earlier than that of the row before"
-expected_of kind.TooMany = codes "expected at most 4000000 rows; convert/split.awk cuts a longer capture, see docs/CAPTURE.md"
-expected_of kind.Read = codes "expected a capture that can be read to its end"
-expected_of kind.OutOfMemory = codes "expected a row that ends"
+-- what was expected where there is this fault at this row; the row after the last that there may be tells how many that are
+abbrev pub expected_of : CaptureKind → ℕ → List ℕ
+expected_of kind.Header row = codes "expected the header time_us,wire,byte; convert/ makes captures of exports, see docs/CAPTURE.md"
+expected_of kind.Fields row = codes "expected three fields: time_us,wire,byte"
+expected_of kind.Time row = codes "expected 1 to 15 decimal digits, the time in microseconds"
+expected_of kind.Wire row = codes "expected C for the controller's wire, or D for the deck's"
+expected_of kind.Byte row = codes "expected two hexadecimal digits"
+expected_of kind.Backwards row = codes "expected a time no earlier than that of the row before"
+expected_of kind.TooMany row =
+    if row == most_rows + 1 then codes "expected at most 4000000 rows; --all judges a longer capture" else codes "expected at most 4294967294 rows"
+expected_of kind.Read row = codes "expected a capture that can be read to its end"
+expected_of kind.OutOfMemory row = codes "expected a row that ends"
 
 -- the first line where a file was not opened: a directory is told as its first read would be
 abbrev pub first_line_of : WhyUnopened → List ℕ

@@ -1,6 +1,7 @@
 //! The judging that a verb asks for, whose report goes through a buffer, and the flush after it.
 ghost use Rattle.std.specs.Prelude.{◌≡◌, ◌≢◌, Err, IfSome, IfErr, option_map, None};
-ghost use Rattle.capture9.specs.Rows.{HasHeader, rows_of};
+ghost use Rattle.capture9.specs.Fields.{greatest_limit};
+ghost use Rattle.capture9.specs.Rows.{HasHeader, rows_of, rows_within};
 ghost use Rattle.judge9.specs.Judging.{CanBeResult, IsTheAnswer, StoppedBefore, answer_of};
 ghost use Rattle.judge9.specs.PartsReport.{ToldInParts};
 ghost use Rattle.judge9.specs.RunVerdict.{judged_of, verdict_of};
@@ -90,13 +91,13 @@ pub fn judge_parts_and_flush<R: Read + Drop, W: Write + Drop>(
     hands: Hands,
 ) -> Result<Totals, JudgeError>
     ensures told { EndsAs
-        (λ judged all. ToldInParts telling (record { rate = Rate.Fps25; hands = hands; deck = None }) (option_map rows_of (R.remaining reader)) judged
+        (λ judged all. ToldInParts telling (record { rate = Rate.Fps25; hands = hands; deck = None }) (option_map (rows_within greatest_limit) (R.remaining reader)) judged
         (held_contents W.contents out.old) all)
         result (contents_behind W.contents out.new) }
     ensures kind { (e : CaptureError) → result ≡ Err (JudgeError.Capture e)
         → e.kind ≢ CaptureKind.OutOfMemory }
     ensures header { IfSome (R.remaining reader) (λ text. (e : CaptureError)
-        → result ≡ Err (JudgeError.Capture e) → e.row ≢ 0 → HasHeader (rows_of text)) }
+        → result ≡ Err (JudgeError.Capture e) → e.row ≢ 0 → HasHeader (rows_within greatest_limit text)) }
 {
     judge_parts_and_flush_for(alloc, reader, out, telling, &Profile::of(hands))
 }
@@ -111,13 +112,13 @@ pub fn judge_parts_and_flush_for<R: Read + Drop, W: Write + Drop>(
     profile: &Profile,
 ) -> Result<Totals, JudgeError>
     ensures told { EndsAs
-        (λ judged all. ToldInParts telling profile.now (option_map rows_of (R.remaining reader)) judged
+        (λ judged all. ToldInParts telling profile.now (option_map (rows_within greatest_limit) (R.remaining reader)) judged
         (held_contents W.contents out.old) all)
         result (contents_behind W.contents out.new) }
     ensures kind { (e : CaptureError) → result ≡ Err (JudgeError.Capture e)
         → e.kind ≢ CaptureKind.OutOfMemory }
     ensures header { IfSome (R.remaining reader) (λ text. (e : CaptureError)
-        → result ≡ Err (JudgeError.Capture e) → e.row ≢ 0 → HasHeader (rows_of text)) }
+        → result ≡ Err (JudgeError.Capture e) → e.row ≢ 0 → HasHeader (rows_within greatest_limit text)) }
 {
     let judged = judge_parts_for(alloc, reader, out, telling, profile);
     ended(out, judged)

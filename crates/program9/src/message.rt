@@ -3,7 +3,7 @@ ghost use Rattle.std.specs.Prelude.{◌≡◌};
 ghost use Rattle.program9.specs.Word.{expected_of, file_name_of, first_line_of, reason_of, word_of};
 
 use crate::ending::{Message, WhyUnopened};
-use capture9::CaptureKind;
+use capture9::{CaptureKind, MOST_ROWS};
 use std::fmt;
 
 impl fmt::Display for Message {
@@ -16,7 +16,7 @@ impl fmt::Display for Message {
         match self {
             Message::Nothing => Ok(()),
             Message::Unreadable(e) => {
-                let (row, word, expected) = (e.row, word_of(e.kind), expected_of(e.kind));
+                let (row, word, expected) = (e.row, word_of(e.kind), expected_of(e.kind, e.row));
                 write!(f, "unreadable at row {row}: {word}\n{expected}")
             }
             Message::ReadFault(row) => {
@@ -69,8 +69,8 @@ fn word_of<'a>(kind: CaptureKind) -> &'a str
 }
 
 /// What was expected at a row where this is wrong.
-fn expected_of<'a>(kind: CaptureKind) -> &'a str
-    ensures { result.now ≡ expected_of kind }
+fn expected_of<'a>(kind: CaptureKind, row: u32) -> &'a str
+    ensures { result.now ≡ expected_of kind row }
 {
     match kind {
         CaptureKind::Header =>
@@ -80,8 +80,10 @@ fn expected_of<'a>(kind: CaptureKind) -> &'a str
         CaptureKind::Wire => "expected C for the controller's wire, or D for the deck's",
         CaptureKind::Byte => "expected two hexadecimal digits",
         CaptureKind::Backwards => "expected a time no earlier than that of the row before",
-        CaptureKind::TooMany =>
-            "expected at most 4000000 rows; convert/split.awk cuts a longer capture, see docs/CAPTURE.md",
+        CaptureKind::TooMany if row == MOST_ROWS + 1 => {
+            "expected at most 4000000 rows; --all judges a longer capture"
+        }
+        CaptureKind::TooMany => "expected at most 4294967294 rows",
         CaptureKind::Read => "expected a capture that can be read to its end",
         CaptureKind::OutOfMemory => "expected a row that ends",
     }

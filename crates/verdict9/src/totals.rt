@@ -9,7 +9,7 @@ use text9::{put_count, put_text};
 #[derive(Clone, Copy, Debug, PartialEq, Eq)]
 pub struct Totals {
     /// How many records break a rule. A record counts twice that breaks one in a part and another as the first of the next.
-    pub breaks: u32,
+    pub breaks: u64,
     /// How many records the capture has.
     pub records: u32,
     /// How many complete exchanges come before the breaks and after the last one. One with which no run remains is none
@@ -27,7 +27,7 @@ pub struct Totals {
 pub fn put_totals_line(line: &mut Vec<u8>, totals: &Totals) -> Result<(), AllocError>
     ensures { OnOk result (line.new.items ≡ line.old.items ++ line_of_totals totals.now) }
 {
-    put_count(line, "breaks ", u64::from(totals.breaks))?;
+    put_count(line, "breaks ", totals.breaks)?;
     put_count(line, ": records ", u64::from(totals.records))?;
     put_count(line, ", exchanges ", u64::from(totals.exchanges))?;
     put_count(line, ", passed over ", u64::from(totals.passed_over))?;

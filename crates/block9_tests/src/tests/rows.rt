@@ -3,7 +3,7 @@
 mod readers;
 
 use crate::tests::same;
-use capture9::{CaptureError, CaptureKind, LineByte, Records, Wire, read_capture};
+use capture9::{CaptureError, CaptureKind, GREATEST_LIMIT, LineByte, MOST_ROWS, Records, Wire, read_capture};
 use readers::{Cut, Repeated};
 use std::alloc::Global;
 use std::io::Read;
@@ -109,7 +109,7 @@ fn a_reader_of_single_bytes(rt: HostRuntime) {
 
 #[test]
 fn the_end_is_told_again(rt: HostRuntime) {
-    let mut records = Records::new(rt.alloc(), SIX);
+    let mut records = Records::new(rt.alloc(), SIX, MOST_ROWS);
     for record in SIX_RECORDS {
         same(&rt, records.next(), Ok(Some(record)), record);
     }
@@ -120,7 +120,7 @@ fn the_end_is_told_again(rt: HostRuntime) {
 #[test]
 fn a_refusal_is_told_again(rt: HostRuntime) {
     let refusal = error(CaptureKind::Byte, 7);
-    let mut records = Records::new(rt.alloc(), Repeated::new(SIX, b"2800,C,G1\n", 3));
+    let mut records = Records::new(rt.alloc(), Repeated::new(SIX, b"2800,C,G1\n", 3), MOST_ROWS);
     for record in SIX_RECORDS {
         same(&rt, records.next(), Ok(Some(record)), record);
     }
@@ -131,7 +131,7 @@ fn a_refusal_is_told_again(rt: HostRuntime) {
 #[test]
 fn a_read_fault_is_told_again(rt: HostRuntime) {
     let refusal = error(CaptureKind::Read, 2);
-    let mut records = Records::new(rt.alloc(), Cut::new(SIX, 30));
+    let mut records = Records::new(rt.alloc(), Cut::new(SIX, 30), MOST_ROWS);
     let record = from_controller(400, 0x20);
     same(&rt, records.next(), Ok(Some(record)), record);
     same(&rt, records.next(), Err(refusal), "the refusal");
@@ -139,12 +139,26 @@ fn a_read_fault_is_told_again(rt: HostRuntime) {
 }
 
 #[test]
-fn four_million_records_and_no_more(rt: HostRuntime) {
+fn as_many_records_as_there_may_be(rt: HostRuntime) {
     let record = from_controller(400, 0x20);
-    let too_many = error(CaptureKind::TooMany, 4_000_001);
-    for (rows, after) in [(4_000_000, Ok(None)), (u64::MAX, Err(too_many))] {
-        let mut records = Records::new(rt.alloc(), Repeated::new(HEADER, b"400,C,20\n", rows));
-        for _ in 0..4_000_000u32 {
+    for (limit, rows, given) in [
+        (0, 0, 0),
+        (0, u64::MAX, 0),
+        (6, 6, 6),
+        (6, 7, 6),
+        (MOST_ROWS, 4_000_000, 4_000_000),
+        (MOST_ROWS, u64::MAX, 4_000_000),
+        (5_000_000, u64::MAX, 5_000_000),
+        (GREATEST_LIMIT, 5_000_001, 5_000_001),
+    ] {
+        let after = if rows > u64::from(limit) {
+            Err(error(CaptureKind::TooMany, given + 1))
+        } else {
+            Ok(None)
+        };
+        let text = Repeated::new(HEADER, b"400,C,20\n", rows);
+        let mut records = Records::new(rt.alloc(), text, limit);
+        for _ in 0..given {
             same(&rt, records.next(), Ok(Some(record)), rows);
         }
         same(&rt, records.next(), after, rows);
@@ -154,7 +168,7 @@ fn four_million_records_and_no_more(rt: HostRuntime) {
 
 /// How often a reader is asked in so many calls of `next`.
 fn reads_in(alloc: Global, mut reader: Repeated<'_>, calls: u32) -> u32 {
-    let mut records = Records::new(alloc, &mut reader);
+    let mut records = Records::new(alloc, &mut reader, MOST_ROWS);
     for _ in 0..calls {
         let _ = records.next();
     }
@@ -226,7 +240,7 @@ fn a_growth_refused_while_csv_reads(rt: HostRuntime) {
     // Row 1 is longer than the header, so that `csv` asks for more room at each. It is no record.
     let text =
         b"time_us,wire,byte\n1234567890123456789012345678901234567890123456789012345678901234567890\n";
-    let mut records = Records::new(rt.alloc(), text.as_slice());
+    let mut records = Records::new(rt.alloc(), text.as_slice(), MOST_ROWS);
     let first = records.next();
     let memory = refused(first.err());
     if memory.is_none() {

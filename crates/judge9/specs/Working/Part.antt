@@ -1,6 +1,7 @@
 -- A part of a capture, as the loop over its exchanges goes through it.
 use Rattle.std.specs.Prelude.{◌+◌, ◌++◌, ◌∷◌, ◌≡◌, ◌≢◌, ◌≤◌, ◌⊎◌}
 use Rattle.block9.specs.Exchange.{BeginsLate}
+use Rattle.capture9.specs.Fields.{greatest_limit}
 use Rattle.judge9.specs.Parts.Event.{late_reply}
 use Rattle.judge9.specs.PartsReport.{IsEventText}
 use Rattle.judge9.specs.Verdict.{Terms, line_rules}
@@ -43,7 +44,7 @@ pub record IsAtLate {R : Type 0} (j : Judging R) : Type 0 where
   pub no_reason : j.follower.pairer.reason ≡ None
   pub in_order : ForSome j.follower.pairer.last_time (λ time. time ≤ j.rows.last_time)
   pub given : 1 ≤ j.rows.given
-  pub within : j.rows.given ≤ 4000000
+  pub within : j.rows.given ≤ greatest_limit
 
 -- a judging came to an exchange, with which a state of the deck remains, and may go on
 pub record IsAtExchange {R : Type 0} (j : Judging R) : Type 0 where
@@ -52,7 +53,7 @@ pub record IsAtExchange {R : Type 0} (j : Judging R) : Type 0 where
   pub no_reason : j.follower.pairer.reason ≡ None
   pub in_order : ForSome j.follower.pairer.last_time (λ time. time ≤ j.rows.last_time)
   pub given : 1 ≤ j.rows.given
-  pub within : j.rows.given ≤ 4000000
+  pub within : j.rows.given ≤ greatest_limit
 
 -- the exchange that a judging came to was told, and this is the result
 abbrev pub TellsAt : {R : Type 0} → View → Profile → Judging R → Exchange → Result Unit JudgeError → Option (List ℕ) → Option (List ℕ) → Type 0

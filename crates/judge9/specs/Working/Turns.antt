@@ -1,6 +1,9 @@
 -- What a judging comes to next: what rows do to those that are still to come, and their records to what follows them.
 use Rattle.std.specs.Prelude.{◌↔◌, ◌≡◌, ◌⊎◌}
 use Rattle.std.specs.declared.alloc.AllocError.{AllocError}
+use Rattle.block9.specs.declared.line_rules.ReplyLimit.{ReplyLimit}
+use Rattle.block9.specs.declared.line_rules.ReplyLimit.TheVariants.{Counts, LeftAside}
+use Rattle.capture9.specs.Fields.{greatest_limit, most_rows}
 use Rattle.judge9.specs.Verdict.{Terms, line_rules}
 use Rattle.judge9.specs.Working.{[], AreReached, Bool, Break, CaptureError, Err, Exchange, Exchanges, false, Follower, GivesEnd, GivesRecord, GivesRefusal, IsFirst, IsTrue, JudgeError}
 use Rattle.judge9.specs.Working.{Judging, LineByte, None, Ok, Option, Possible, Reason, refusal_of, Refuses, Result, Some, Standing, State, Outcome, suc, Takes, Tracked, true, Turn, zero, ℕ, ⊤}
@@ -11,8 +14,14 @@ pub record KnowsNothing (terms : Terms) (f : Follower) : Type 0 where
   pub states : (s : State) → Possible f.tracker.states s ↔ IsFirst terms.profile s
   pub profile : f.tracker.profile ≡ terms.profile
 
+-- how many rows a text may have: with the reply limit left aside all of it is judged, in parts, however long it is
+abbrev pub rows_allowed : ReplyLimit → ℕ
+rows_allowed Counts = most_rows
+rows_allowed LeftAside = greatest_limit
+
 -- nothing was judged yet
 pub record IsFresh {R : Type 0} (terms : Terms) (j : Judging R) : Type 0 where
+  pub limit : j.rows.most_rows ≡ rows_allowed terms.reply_limit
   pub none_given : j.rows.given ≡ 0
   pub no_time : j.rows.last_time ≡ 0
   pub is_reading : j.rows.standing ≡ Standing.Reading

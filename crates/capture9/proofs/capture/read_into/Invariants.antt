@@ -7,6 +7,7 @@ abbrev pub invariant-loop-record : goal.invariant-loop-record
 invariant-loop-record g l = record {
   reading : l.records.standing ≡ Standing.Reading;
   given : l.records.given ≡ length l.rows.items;
+  limit : l.records.most_rows ≡ most_rows;
   within : l.records.given ≤ most_rows;
   headed : l.records.is_headed ≡ false → l.rows.items ≡ [];
   rows : IsReadUpTo l.fn.records.rows l.rows.items l.records.rows;

@@ -5,5 +5,5 @@ use Rattle.capture9.proofs.laws.fault_of_a_text.Goals as goal
 
 pub returns : goal.returns
 returns c =
-    let held = λ (text : List ℕ). of-fault (records default_config (strip_bom text)) in
-    record { of_text = λ text e same. (held text e same).0; place = λ text e same. (held text e same).1 }
+    let held = λ (limit : ℕ) (text : List ℕ). of-fault limit (records default_config (strip_bom text)) in
+    record { of_text = λ limit text e same. (held limit text e same).0; place = λ limit text e same. (held limit text e same).1 }

@@ -4,4 +4,4 @@ use Rattle.capture9.proofs.TextLemmas.{some-text}
 use Rattle.capture9.proofs.laws.rows_of_some_text.Goals as goal
 
 pub returns : goal.returns
-returns c = record { each_text = λ text. can-be (records default_config (strip_bom text)); some_text = some-text }
+returns c = record { each_text = λ limit text. can-be limit (records default_config (strip_bom text)); some_text = some-text }

@@ -1,4 +1,4 @@
-use Rattle.judge9.proofs.Words.{GivesAll, last_of, LineByte, List, NoneBegins, ◌-◌, ◌≡◌}
+use Rattle.judge9.proofs.Words.{GivesAll, greatest_limit, last_of, LineByte, List, NoneBegins, ◌-◌, ◌≡◌}
 use Rattle.judge9.proofs.parts.pass_over.Given as goal
 
 -- none of the records so far may begin a command
@@ -11,4 +11,4 @@ invariant-passed g l = record {
 }
 
 abbrev pub decreases-passed : goal.decreases-passed
-decreases-passed g l = 4000000 - l.rows.given
+decreases-passed g l = greatest_limit - l.rows.given

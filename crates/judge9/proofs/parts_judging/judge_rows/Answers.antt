@@ -56,7 +56,7 @@ pub overflow_add-breaks-in-parts-2 : goal.overflow_add-breaks-in-parts-2
 overflow_add-breaks-in-parts-2 g c =
     let so_far = c.parts.invariant in
     let judged = rw (c.new-log.ensures.tells, c.in-Some.is) at c.in_ok-end.ensures in
-    omega (arith, so_far.bound, less-part c.args.telling _ _ _ _ (Some c.in-Some.broken) _ c.judge_part.new.log _ judged, c.from.ensures, as_one c.begins_late-late.result, at_least_two (takes_up_at c.in-Some.broken.reason), small_one c.begins_late-late.result)
+    omega (arith, so_far.bound, less-part c.args.telling _ _ _ _ (Some c.in-Some.broken) _ c.judge_part.new.log _ judged, c.from.ensures, c.from-breaks.ensures, as_one c.begins_late-late.result, at_least_two (takes_up_at c.in-Some.broken.reason), small_one c.begins_late-late.result)
 
 -- ---- a break
 
@@ -124,10 +124,10 @@ parts-preserved g c =
       past = next.0;
       before = next.1;
       at_turn = next.2;
-      breaks = omega (arith, so_far.breaks, length_push so_far.broken b, late_counted so_far.broken b, ended.3.so_far.counted, ended.4.late_replies, c.from.ensures, as_one c.begins_late-late.result);
+      breaks = omega (arith, so_far.breaks, length_push so_far.broken b, late_counted so_far.broken b, ended.3.so_far.counted, ended.4.late_replies, c.from.ensures, c.from-breaks.ensures, as_one c.begins_late-late.result);
       exchanges = omega (arith, so_far.exchanges, ended.4.exchanges, length-append (exchanges_of so_far.broken) ended.0, counts.0);
       in_exchanges = omega (arith, so_far.in_exchanges, ended.4.records, records_joined (exchanges_of so_far.broken) ended.0, counts.1);
-      bound = omega (arith, so_far.bound, less, less-part c.args.telling _ _ _ _ (Some c.in-Some.broken) _ c.judge_part.new.log _ judged, c.from.ensures, as_one c.begins_late-late.result);
+      bound = omega (arith, so_far.bound, less, less-part c.args.telling _ _ _ _ (Some c.in-Some.broken) _ c.judge_part.new.log _ judged, c.from.ensures, c.from-breaks.ensures, as_one c.begins_late-late.result);
     }
 
 -- ---- the end

@@ -1,4 +1,4 @@
-use Rattle.judge9.proofs.Words.{◌+◌, [], BrokenPart, events_of, exchanges_of, late_replies, in_parts, IsTextOf, length, LineByte, List, None, records_in, ◌+◌, ◌≡◌, ◌≤◌}
+use Rattle.judge9.proofs.Words.{◌*◌, [], BrokenPart, events_of, exchanges_of, greatest_limit, late_replies, in_parts, IsTextOf, length, LineByte, List, None, records_in, ◌+◌, ◌≡◌, ◌≤◌}
 use Rattle.judge9.proofs.parts_judging.judge_rows.Given as goal
 use Rattle.judge9.proofs.PartBreaks.{Before}
 use Rattle.judge9.proofs.PartLemmas.{Onward}
@@ -16,7 +16,7 @@ invariant-parts g l = record {
   breaks : l.breaks ≡ length broken + late_replies (events_of broken);
   exchanges : l.exchanges ≡ length (exchanges_of broken);
   in_exchanges : l.in_exchanges ≡ records_in (exchanges_of broken);
-  bound : l.breaks + left_at l.turn l.judging ≤ 16000000;
+  bound : l.breaks + left_at l.turn l.judging ≤ 4 * greatest_limit;
 }
 
 abbrev pub decreases-parts : goal.decreases-parts

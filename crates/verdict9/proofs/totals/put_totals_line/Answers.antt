@@ -15,6 +15,6 @@ returns c =
     on_ok_weaker c.put_text.result (λ last. pieces_of_totals c.args.line.now.items (codes "breaks ") (decimal c.args.totals.now.breaks)
     (codes ": records ") (decimal c.args.totals.now.records) (codes ", exchanges ") (decimal c.args.totals.now.exchanges)
     (codes ", passed over ") (decimal c.args.totals.now.passed_over) (codes ", open ") (decimal c.args.totals.now.tail) (codes "\n") _ _ _ _ _ _
-    (rw c.from.ensures at c.in_ok-put_count.ensures) (rw c.from-2.ensures at c.in_ok-put_count-2.ensures)
-    (rw c.from-3.ensures at c.in_ok-put_count-3.ensures) (rw c.from-4.ensures at c.in_ok-put_count-4.ensures)
-    (rw c.from-5.ensures at c.in_ok-put_count-5.ensures) last) c.put_text.ensures
+    c.in_ok-put_count.ensures (rw c.from.ensures at c.in_ok-put_count-2.ensures)
+    (rw c.from-2.ensures at c.in_ok-put_count-3.ensures) (rw c.from-3.ensures at c.in_ok-put_count-4.ensures)
+    (rw c.from-4.ensures at c.in_ok-put_count-5.ensures) last) c.put_text.ensures

@@ -16,27 +16,27 @@ pub returns-in-Some-clause-given : goal.returns-in-Some-clause-given
 returns-in-Some-clause-given g c =
     let before = rw (← c.self.view_is) at c.requires in
     let read = rw c.in-Ok-true.field-0-test at c.in-Ok-true.ensures.next in
-    rw (← c.self.view_is) (gives-record _ _ _ _ _ _ _ (fields_of c.read_record.new.row) c.in-Some.record before.reading before.headed read
-    (told-record _ _ c.in-Some.ensures))
+    rw (← c.self.view_is) (gives-record _ _ _ _ _ _ _ _ (fields_of c.read_record.new.row) c.in-Some.record before.reading before.headed read
+    (told-record _ _ c.in-Some.ensures) c.self.invariant.numbered)
 
 -- what is wrong with the row, or that the fault is not of the text
-wrong : (g : Over) (c : After-refuse g) → IsRowFault c.self.inside.given c.self.inside.last_time (unread_records g.R.Read.remaining c.self.inside.reader)
+wrong : (g : Over) (c : After-refuse g) → IsRowFault c.self.inside.most_rows c.self.inside.given c.self.inside.last_time (unread_records g.R.Read.remaining c.self.inside.reader)
     c.match-read_record.fault
 wrong g c =
     elim c.match-read_record.branch [
       | in-Ok-true+in-None w ↦
-          rw w.fault-is (bad-first _ _ _ (unread_records g.R.Read.remaining c.read_record.new.reader) (fields_of c.read_record.new.row) _ c.self.invariant.within
+          rw w.fault-is (bad-first _ _ _ _ (unread_records g.R.Read.remaining c.read_record.new.reader) (fields_of c.read_record.new.row) _ c.self.invariant.within
           (rw w.in-Ok-true.field-0-test at w.in-Ok-true.ensures.next) (told-fault _ _ w.in-None.ensures (w.fault_in.ensures c.self.inside.last_time)))
-      | in-Err w ↦ rw w.fault-is (not-of-text _ _ _ _ w.in-Err.ensures.refused)
+      | in-Err w ↦ rw w.fault-is (not-of-text _ _ _ _ _ w.in-Err.ensures.refused)
     ]
 
 pub returns-clause-refused : goal.returns-clause-refused
 returns-clause-refused g c =
     let before = rw (← c.self.view_is) at c.requires in
-    rw (← c.self.view_is) (refuses-row _ _ _ _ _ _ _ _ _ c.refuse.result before.reading before.headed c.refuse.ensures.error c.refuse.ensures.marked
+    rw (← c.self.view_is) (refuses-row _ _ _ _ _ _ _ _ _ _ c.refuse.result before.reading before.headed c.refuse.ensures.error c.refuse.ensures.marked
     (wrong g c))
 
 pub invariant_of-self-2 : goal.invariant_of-self-2
 invariant_of-self-2 g c =
-    refused-holds _ _ _ _ _ c.refuse.result c.self.invariant.within c.refuse.ensures.error
+    refused-holds _ _ _ _ _ _ c.refuse.result c.self.invariant.within c.self.invariant.numbered c.refuse.ensures.error
     c.refuse.ensures.marked (wrong g c).at_its_row

@@ -1,4 +1,4 @@
-use Rattle.judge9.proofs.Words.{AreOpen, ForSome, None, ℕ, ◌-◌, ◌≡◌, ◌≤◌}
+use Rattle.judge9.proofs.Words.{AreOpen, ForSome, greatest_limit, None, ℕ, ◌-◌, ◌≡◌, ◌≤◌}
 use Rattle.judge9.proofs.judging.Judging.next.Given as goal
 
 -- the rows so far end no exchange
@@ -10,4 +10,4 @@ invariant-open g l = record {
 }
 
 abbrev pub decreases-open : goal.decreases-open
-decreases-open g l = 4000000 - l.self.rows.given
+decreases-open g l = greatest_limit - l.self.rows.given
