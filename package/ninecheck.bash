@@ -1,13 +1,13 @@
 # Completes the words of ninecheck in bash.
 _ninecheck() {
-    local word=${COMP_WORDS[COMP_CWORD]} before=${COMP_WORDS[COMP_CWORD - 1]} options='--hands --all --line-buffered --rate --deck --help'
+    local word=${COMP_WORDS[COMP_CWORD]} before=${COMP_WORDS[COMP_CWORD - 1]} options='--hands --sync --all --line-buffered --rate --deck --help'
     if [ "$COMP_CWORD" = 1 ]; then
         mapfile -t COMPREPLY < <(compgen -W 'check explain run why help --help --version' -- "$word")
         return
     fi
     case ${COMP_WORDS[1]} in
         check | explain | run | why)
-            [ "${COMP_WORDS[1]}" != run ] || options='--hands --rate --deck --help'
+            [ "${COMP_WORDS[1]}" != run ] || options='--hands --sync --rate --deck --help'
             # In `--rate=25` the equals sign is a word of its own.
             [ "$word" != = ] || word=
             [ "$before" != = ] || before=${COMP_WORDS[COMP_CWORD - 2]}

@@ -6,6 +6,7 @@ complete -c ninecheck -n __fish_use_subcommand -f -a why -d 'Why a no is one, an
 complete -c ninecheck -n __fish_use_subcommand -f -a help -d 'What can be asked for'
 complete -c ninecheck -n '__fish_seen_subcommand_from help' -f -a 'check explain run why help'
 complete -c ninecheck -n '__fish_seen_subcommand_from check explain run why; and not __fish_seen_subcommand_from help' -l hands -d "Somebody may have touched the deck's panel"
+complete -c ninecheck -n '__fish_seen_subcommand_from check explain run why; and not __fish_seen_subcommand_from help' -l sync -d 'The capture may begin inside a command or a reply'
 complete -c ninecheck -n '__fish_seen_subcommand_from check explain why; and not __fish_seen_subcommand_from help run' -l all -d 'Go on after each break'
 complete -c ninecheck -n '__fish_seen_subcommand_from check explain why; and not __fish_seen_subcommand_from help run' -l line-buffered -d 'Write each line as soon as it is complete'
 complete -c ninecheck -n '__fish_seen_subcommand_from check explain run why; and not __fish_seen_subcommand_from help' -l rate -x -a '24 25 30 29.97df' -d 'The frame rate of the machine, 25 if left out'

@@ -20,6 +20,7 @@ case $words[2] in
     check | explain | run | why)
         options=(
             '--hands[somebody may have touched the panel of the deck]'
+            '--sync[the capture may begin inside a command or a reply]'
             '--rate[the frame rate of the machine, 25 if left out]:rate:(24 25 30 29.97df)'
             '--deck[a sheet of what this deck does of its own]:sheet:_files'
         )

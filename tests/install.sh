@@ -145,9 +145,9 @@ done <<'END'
 ninecheck |check explain help run why|check explain help run why
 ninecheck e|explain|explain
 ninecheck -|--help --version -V -h|--help --version -V -h
-ninecheck why -|--all --deck --hands --help --line-buffered --rate -h|--all --deck --hands --help --line-buffered --rate -h
+ninecheck why -|--all --deck --hands --help --line-buffered --rate --sync -h|--all --deck --hands --help --line-buffered --rate --sync -h
 ninecheck check --a|--all|--all
-ninecheck run -|--deck --hands --help --rate -h|--deck --hands --help --rate -h
+ninecheck run -|--deck --hands --help --rate --sync -h|--deck --hands --help --rate --sync -h
 ninecheck check --rate |24 25 29.97df 30|24 25 29.97df 30
 ninecheck run --rate 2|24 25 29.97df|24 25 29.97df
 ninecheck explain capture.csv --rate 3|30|30
@@ -206,9 +206,9 @@ expect 'a verb is completed' 0 'explain' ''
 complete_words ninecheck ''
 expect 'verbs are offered' 0 'check explain run why help --help --version' ''
 complete_words ninecheck run --
-expect 'options are offered' 0 '--hands --rate --deck --help' ''
+expect 'options are offered' 0 '--hands --sync --rate --deck --help' ''
 complete_words ninecheck explain --
-expect 'options are offered where the judging can go on' 0 '--hands --all --line-buffered --rate --deck --help' ''
+expect 'options are offered where the judging can go on' 0 '--hands --sync --all --line-buffered --rate --deck --help' ''
 complete_words ninecheck why --rate ''
 expect 'rates are offered' 0 '24 25 30 29.97df' ''
 complete_words ninecheck why --rate = 2
@@ -224,7 +224,7 @@ status=$?
 expect 'the man page' 0 '' ''
 
 # Each subcommand and option that the program's help names stands in the man page and in each completion.
-for word in $("$program" --help | awk '/^Commands:/ { on = 1; next } /^$/ { on = 0 } on { print $1 }') hands all rate deck version; do
+for word in $("$program" --help | awk '/^Commands:/ { on = 1; next } /^$/ { on = 0 } on { print $1 }') hands sync all rate deck version; do
     for file in package/ninecheck.1 package/ninecheck.bash package/ninecheck.zsh package/ninecheck.fish; do
         holds "$word in $file" grep -qw -- "$word" "$file"
     done

@@ -231,6 +231,8 @@ err|check --hands --hands|error: the argument '--hands' cannot be used multiple 
 err|check --hands=yes|error: unexpected value 'yes' for '--hands' found; no more were expected
 err|check --hand|  tip: a similar argument exists: '--hands'
 err|--hands check|error: unexpected argument '--hands' found
+err|check --sync --sync|error: the argument '--sync' cannot be used multiple times
+err|--sync check|error: unexpected argument '--sync' found
 err|check --version|error: unexpected argument '--version' found
 err|run -V|error: unexpected argument '-V' found
 err|check -V|error: unexpected argument '-V' found

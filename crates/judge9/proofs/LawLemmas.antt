@@ -1,5 +1,5 @@
 -- The laws on lists of records that keep the rules, on answers, on judging with hands, and on reasons.
-use Rattle.judge9.proofs.Words.{Terms, LineRules, line_rules, counting, Deck, Hands, [], Answer, ap, append-nil, append_assoc, Applies, arith, Breaks, cases_lt, Cut, cut_once, cut_parted, drop, Exchange, exchange_kept, explained_of}
+use Rattle.judge9.proofs.Words.{Beginning, IsAnswerFrom, judged_rows, moved_by, passed_before, Terms, LineRules, line_rules, counting, Deck, Hands, [], Answer, ap, append-nil, append_assoc, Applies, arith, Breaks, cases_lt, Cut, cut_once, cut_parted, drop, Exchange, exchange_kept, explained_of}
 use Rattle.judge9.proofs.Words.{first_before_last, first_holds, first_once, Profile, HasRun, Holds, inl, inr, IsAnswer, IsExchange, IsFirst, IsFirstBreak, IsKept, IsOk, IsReason}
 use Rattle.judge9.proofs.Words.{IsTail, kept_by_tail, kept_less, last_is_first, last_time, last_time-append, length, length-append, length_push, LineByte, List, None, Option}
 use Rattle.judge9.proofs.Words.{order, pairing, quiet_kept, rank, rank_low, rank_once, Reason, refl, Rows, same_parts, Some, subst, sym, take, take-append-drop, take-append-le}
@@ -89,6 +89,11 @@ answer_once profile rows (Answer.judged (Verdict.Yes r e t)) (Answer.judged (Ver
     let others = j.1 in
     cc (ap length same.0, ap length same.1)
 answer_once profile rows a b i j = cc (i.0, j.0)
+
+-- wherever its judging begins
+pub answer_once_from : (beginning : Beginning) (profile : Profile) (rows : Rows) (a b : Answer) → IsAnswerFrom beginning profile rows a → IsAnswerFrom beginning profile rows b → a ≡ b
+answer_once_from beginning profile rows a b (own, is, moved) (other, be, same) =
+    moved ∙ ap (moved_by (passed_before beginning rows)) (answer_once profile (judged_rows beginning rows) own other is be) ∙ sym same
 
 -- ---- what one deck explains, another of its rules that has all its runs explains too, and no break comes earlier
 

@@ -21,6 +21,7 @@ pub mod PartMeasure
 pub mod PartSteps
 pub mod PartTurns
 pub mod PutSteps
+pub mod Resuming
 pub mod RunSteps
 pub mod SoFar
 pub mod TellLemmas

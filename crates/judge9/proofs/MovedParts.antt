@@ -1,7 +1,7 @@
 -- A capture in which each late reply, and all after it, comes as much earlier as it is late: its parts, and its totals.
 use Rattle.judge9.proofs.Words.{[], ap, append-nil, AreParts, AreTotals, arith, BeginsLate, begins_next_part, Bool, BrokenPart, cases_lt, cut_once, events_in, events_of, exchanges_of}
 use Rattle.judge9.proofs.Words.{false, from_command, if◌then◌else◌, in_parts, inl, inr, IsPart, length, line_rules, LineByte, List, may_begin}
-use Rattle.judge9.proofs.Words.{number_of, Part, Profile, Reason, refl, Rest, rest_after, subst, sym, takes_up_at, TellsLate, true, ℕ, ◌++◌, ◌+◌, ◌-◌, ◌<◌, ◌∙◌, ◌∷◌, ◌≡◌, ◌≢◌, ◌≤◌, ◌⊎◌}
+use Rattle.judge9.proofs.Words.{number_of, Option, Part, Profile, Reason, refl, Rest, rest_after, Some, subst, sym, takes_up_at, TellsLate, true, ℕ, ◌++◌, ◌+◌, ◌-◌, ◌<◌, ◌∙◌, ◌∷◌, ◌≡◌, ◌≢◌, ◌≤◌, ◌⊎◌}
 use Rattle.std.proofs.lemmas.List.Sorted.{IsNonDecreasingBy-drop}
 use Rattle.std.specs.List.Sorted.{IsNonDecreasingBy}
 use Rattle.std.specs.Prelude.{nat_lt, not, ◌&&◌, ◌||◌, ◌==◌}
@@ -19,6 +19,7 @@ use Rattle.judge9.proofs.MovedEvents.{late_at_joined, none_first, none_outside}
 use Rattle.judge9.proofs.MovedPart.{Along, arrive, at_start, blocks_count, blocks_joined, Comes, events_joined, never_late, none_late, run_moved}
 use Rattle.judge9.proofs.MovedRecords.{alike_len}
 use Rattle.judge9.proofs.PartLaws.{IsLast}
+use Rattle.judge9.proofs.PartSteps.{from_command_low}
 
 -- ---- where the next part begins
 
@@ -26,16 +27,8 @@ use Rattle.judge9.proofs.PartLaws.{IsLast}
 abbrev pub RestMoved : (ℕ → ℕ) → Rest → Rest → Type 0
 RestMoved late rest other = (last before : ℕ) × (rest.past ≡ other.past) × ComeInTime late rest.past last before rest.records other.records
 
-from_command_low : (past : ℕ) (last : LineByte) (records : List LineByte) → past ≤ (from_command past last records).past
-from_command_low past last [] = omega arith
-from_command_low past last (r ∷ records) = by (may_begin last r) refl (from_command_low (past + 1) r records)
-  where
-    by : (b : Bool) → may_begin last r ≡ b → past + 1 ≤ (from_command (past + 1) r records).past → past ≤ (from_command past last (r ∷ records)).past
-    by true begins later = rw begins (omega arith)
-    by false none later = rw none (omega (arith, later))
-
 begins_same : (last next other moved : LineByte) → last.wire ≡ other.wire → next.wire ≡ moved.wire
-    → moved.time_us + last.time_us ≡ next.time_us + other.time_us → may_begin last next ≡ may_begin other moved
+    → moved.time_us + last.time_us ≡ next.time_us + other.time_us → may_begin (Some last) next ≡ may_begin (Some other) moved
 begins_same last next other moved first second time = rw (first, second) (by (is_commands_wire moved.wire) (is_commands_wire other.wire))
   where
     gap : nat_lt (last.time_us + byte_gap) next.time_us ≡ nat_lt (other.time_us + byte_gap) moved.time_us
@@ -45,18 +38,18 @@ begins_same last next other moved first second time = rw (first, second) (by (is
     by a b = ap (λ (g : Bool). a && (not b || g)) gap
 
 from_command_moved : (late : ℕ → ℕ) (past : ℕ) (last other : LineByte) (records moved : List LineByte) → last.wire ≡ other.wire
-    → ((n : ℕ) → past < n → n ≤ (from_command past last records).past + 1 → late n ≡ 0) → ComeInTime late past last.time_us other.time_us records moved
-    → RestMoved late (from_command past last records) (from_command past other moved)
+    → ((n : ℕ) → past < n → n ≤ (from_command past (Some last) records).past + 1 → late n ≡ 0) → ComeInTime late past last.time_us other.time_us records moved
+    → RestMoved late (from_command past (Some last) records) (from_command past (Some other) moved)
 from_command_moved late past last other [] moved wire none come = rw come (last.time_us, other.time_us, refl, refl)
 from_command_moved late past last other (r ∷ records) moved wire none come =
-    let here : late (past + 1) ≡ 0 = none (past + 1) (omega arith) (omega (arith, from_command_low past last (r ∷ records))) in
+    let here : late (past + 1) ≡ 0 = none (past + 1) (omega arith) (omega (arith, from_command_low past (Some last) (r ∷ records))) in
     let same = begins_same last r other come.0 wire come.3 (come.5 here) in
-    rw come.2 (by (may_begin last r) refl same (λ b.
+    rw come.2 (by (may_begin (Some last) r) refl same (λ b.
     from_command_moved late (past + 1) r come.0 records come.1 come.3 (λ n low high. none n (omega (arith, low)) (rw b high)) come.7))
   where
-    by : (b : Bool) → may_begin last r ≡ b → may_begin last r ≡ may_begin other come.0
-        → (may_begin last r ≡ false → RestMoved late (from_command (past + 1) r records) (from_command (past + 1) come.0 come.1))
-        → RestMoved late (from_command past last (r ∷ records)) (from_command past other (come.0 ∷ come.1))
+    by : (b : Bool) → may_begin (Some last) r ≡ b → may_begin (Some last) r ≡ may_begin (Some other) come.0
+        → (may_begin (Some last) r ≡ false → RestMoved late (from_command (past + 1) (Some r) records) (from_command (past + 1) (Some come.0) come.1))
+        → RestMoved late (from_command past (Some last) (r ∷ records)) (from_command past (Some other) (come.0 ∷ come.1))
     by true begins same more = rw (begins, sym same ∙ begins) (last.time_us, other.time_us, refl, (come.0, come.1, refl, come.3, come.4, come.5, come.6, come.7))
     by false begins same more = rw (begins, sym same ∙ begins) (more begins)
 
@@ -66,13 +59,13 @@ rest_after_low n reason breaking after = by (begins_next_part reason breaking) r
   where
     by : (b : Bool) → begins_next_part reason breaking ≡ b → n ≤ (rest_after n reason breaking after).past
     by true begins = rw begins (omega arith)
-    by false none = rw none (omega (arith, from_command_low (n + 1) breaking after))
+    by false none = rw none (omega (arith, from_command_low (n + 1) (Some breaking) after))
 
 -- a record of the deck begins no part
 rest_after_deck : (n : ℕ) (reason : Reason) (breaking : LineByte) (after : List LineByte) → breaking.wire ≡ Deck → n + 1 ≤ (rest_after n reason breaking after).past
 rest_after_deck n reason breaking after wire =
     let none : begins_next_part reason breaking ≡ false = rw wire (by (takes_up_at reason)) in
-    rw none (from_command_low (n + 1) breaking after)
+    rw none (from_command_low (n + 1) (Some breaking) after)
   where
     by : (b : Bool) → (b && is_commands_wire Deck) ≡ false
     by true = refl

@@ -1,6 +1,6 @@
 -- What the parts of a capture are to the capture that begins with each.
 use Rattle.judge9.proofs.Words.{late_replies, TellsLate, LineRules, counting, line_rules, in_parts, [], All, All-cons, All-nil, ap, AreCounts, AreParts, AreTotals, arith, begins_next_part, Bool, Breaks, BrokenPart, cut_once, drop, false, from_command, Profile, IsFirstBreak}
-use Rattle.judge9.proofs.Words.{IsOk, IsPart, length, LineByte, List, may_begin, number_of, Part, Reason, refl, Rest, rest_after, same_parts, sym, true, ℕ, ◌++◌, ◌+◌, ◌∙◌, ◌∷◌, ◌≡◌}
+use Rattle.judge9.proofs.Words.{IsOk, IsPart, length, LineByte, List, may_begin, number_of, Option, Part, Reason, refl, Rest, rest_after, same_parts, Some, sym, true, ℕ, ◌++◌, ◌+◌, ◌∙◌, ◌∷◌, ◌≡◌}
 use Rattle.std.proofs.lemmas.List.{drop-drop}
 use Rattle.std.proofs.Math.Seq.{drop-append_seam}
 use Rattle.verdict9.specs.declared.totals.Totals.{Totals}
@@ -21,13 +21,13 @@ behind items n records r after is =
     sym (drop-append_seam records (r ∷ after)) ∙ ap (drop (length records)) is ∙ drop-drop (length records) n items in
     (at, ap (drop 1) at ∙ drop-drop 1 (n + length records) items)
 
-from_command_rest : (items : List LineByte) (n : ℕ) (last : LineByte) (records : List LineByte) → records ≡ drop n items
+from_command_rest : (items : List LineByte) (n : ℕ) (last : Option LineByte) (records : List LineByte) → records ≡ drop n items
     → IsRestOf items (from_command n last records)
 from_command_rest items n last [] is = is
 from_command_rest items n last (r ∷ records) is =
-    by (may_begin last r) refl (from_command_rest items (n + 1) r records (ap (drop 1) is ∙ drop-drop 1 n items))
+    by (may_begin last r) refl (from_command_rest items (n + 1) (Some r) records (ap (drop 1) is ∙ drop-drop 1 n items))
   where
-    by : (b : Bool) → may_begin last r ≡ b → IsRestOf items (from_command (n + 1) r records) → IsRestOf items (from_command n last (r ∷ records))
+    by : (b : Bool) → may_begin last r ≡ b → IsRestOf items (from_command (n + 1) (Some r) records) → IsRestOf items (from_command n last (r ∷ records))
     by true begins later = rw begins is
     by false none later = rw none later
 
@@ -37,7 +37,7 @@ rest_after_rest items n reason breaking after is next = by (begins_next_part rea
   where
     by : (b : Bool) → begins_next_part reason breaking ≡ b → IsRestOf items (rest_after n reason breaking after)
     by true begins = rw begins is
-    by false none = rw none (from_command_rest items (n + 1) breaking after next)
+    by false none = rw none (from_command_rest items (n + 1) (Some breaking) after next)
 
 -- a part is the no of the capture that begins with it
 abbrev pub IsOwnNo : Profile → List LineByte → BrokenPart → Type 0

@@ -1,31 +1,30 @@
 -- What is told of all parts of a capture, at each end of the judging.
-use Rattle.judge9.proofs.Words.{in_parts, [], ap, append-nil, append_assoc, Appends, AppendsPart, AreParts, AreTextsOf, Bool, BrokenPart, CaptureError, CaptureKind, Err, Exchange, false, false≢true, given-refused, GivesRefusal, greatest_limit, Profile, HasHeader, IfSome, if◌then◌else◌, inl, is_of_text, IsPlaced, IsTrue, JudgeError, JudgesParts, length, LineByte, List, None, Ok, Option, Progress, refl, refusal_of, refused-after, Rest, Result, Rows, Some, subst, sym, PartsTold, true, WrittenInParts, ℕ, ⊤, ◌++◌, ◌∙◌, ◌∷◌, ◌≡◌, ◌≢◌}
+use Rattle.judge9.proofs.Words.{in_parts, [], ap, append-nil, append_assoc, Appends, AppendsPart, AreParts, AreTextsOf, Beginning, Bool, BrokenPart, CaptureError, CaptureKind, Err, Exchange, false, false≢true, given-refused, GivesRefusal, greatest_limit, Profile, HasHeader, IfSome, if◌then◌else◌, inl, is_of_text, IsPlaced, IsTrue, JudgeError, judged_from, JudgesParts, length, LineByte, List, None, Ok, Option, Progress, refl, refusal_of, refused-after, Rest, Result, Rows, Some, subst, sym, PartsTold, true, WrittenInParts, ℕ, ⊤, ◌++◌, ◌∙◌, ◌∷◌, ◌≡◌, ◌≢◌}
 use Rattle.verdict9.specs.declared.verdict.Telling.TheVariants.{the_data as Telling}
 use Rattle.verdict9.specs.declared.totals.Totals.{Totals}
-use Rattle.judge9.proofs.PartSteps.{AreRead}
+use Rattle.judge9.proofs.PartSteps.{AreRead, IsFrom}
 use Rattle.judge9.proofs.SoFar.{Keeps, Seen, seen, WereRead}
 use Rattle.judge9.proofs.TellLemmas.{refusal_cases}
 
 -- ---- the parts of records that go on
 
 -- what the parts after these are, of the records from the part's first on, they are of the whole capture
-abbrev pub Onward : Profile → List BrokenPart → List LineByte → List LineByte → Type 0
-Onward profile broken past records = (others : List BrokenPart) (left : Rest)
-    → AreParts profile (record { past = length past; records = records }) others left
-    → AreParts profile (record { past = 0; records = past ++ records }) (broken ++ others) left
+pub record Onward (beginning : Beginning) (profile : Profile) (broken : List BrokenPart) (past records : List LineByte) : Type 0 where
+  pub parts : (others : List BrokenPart) (left : Rest) → AreParts profile (record { past = length past; records = records }) others left
+      → AreParts profile (judged_from beginning (past ++ records)) (broken ++ others) left
 
 -- so are they whatever comes after these records
-abbrev pub OnwardAll : Profile → List BrokenPart → List LineByte → List LineByte → Type 0
-OnwardAll profile broken past items = (more : List LineByte) → Onward profile broken past (items ++ more)
+abbrev pub OnwardAll : Beginning → Profile → List BrokenPart → List LineByte → List LineByte → Type 0
+OnwardAll beginning profile broken past items = (more : List LineByte) → Onward beginning profile broken past (items ++ more)
 
 -- a record more
-pub onward-more : (profile : Profile) (broken : List BrokenPart) (past items : List LineByte) (r : LineByte)
-    → ((more : List LineByte) → Onward profile broken past (items ++ r ∷ more)) → OnwardAll profile broken past (items ++ r ∷ [])
-onward-more profile broken past items r on more = subst (Onward profile broken past) (sym (append_assoc items (r ∷ []) more)) (on more)
+pub onward-more : (beginning : Beginning) (profile : Profile) (broken : List BrokenPart) (past items : List LineByte) (r : LineByte)
+    → ((more : List LineByte) → Onward beginning profile broken past (items ++ r ∷ more)) → OnwardAll beginning profile broken past (items ++ r ∷ [])
+onward-more beginning profile broken past items r on more = subst (Onward beginning profile broken past) (sym (append_assoc items (r ∷ []) more)) (on more)
 
--- the whole capture is its own first part
-pub onward-start : (profile : Profile) → OnwardAll profile [] [] []
-onward-start profile more others left parts = parts
+-- what is judged is its own first part
+pub onward-from : (beginning : Beginning) (profile : Profile) (past items : List LineByte) → IsFrom beginning past items → Onward beginning profile [] past items
+onward-from beginning profile past items is = record { parts = λ others left parts. rw is.same parts }
 
 -- ---- what is told
 
@@ -40,21 +39,21 @@ all_rows : (o : Option Rows) (P : Rows → Type 0) → ((all : Rows) → P all) 
 all_rows None P h = tt
 all_rows (Some all) P h = h all
 
-pub plain : {T : BrokenPart → List ℕ → Type 0} {telling : Telling} {profile : Profile} {rows : Option Rows} {old new : Option (List ℕ)} (r : Result Totals JudgeError)
+pub plain : {T : BrokenPart → List ℕ → Type 0} {beginning : Beginning} {telling : Telling} {profile : Profile} {rows : Option Rows} {old new : Option (List ℕ)} (r : Result Totals JudgeError)
     → IsPlain r
-    → PartsTold T telling profile rows r old new → JudgesParts T telling profile rows r old new
+    → PartsTold T beginning telling profile rows r old new → JudgesParts T beginning telling profile rows r old new
 plain (Err (JudgeError.Capture e)) is told = absurd is
 plain {rows = rows} r is told = record { told = told; is_kind = λ e q. cc; headed = all_rows rows _ (λ all e q. cc) }
 
-module _ {T : BrokenPart → List ℕ → Type 0} {telling : Telling} {profile : Profile} {rows : Option Rows} {past : List LineByte} {es : List Exchange}
+module _ {T : BrokenPart → List ℕ → Type 0} {beginning : Beginning} {telling : Telling} {profile : Profile} {rows : Option Rows} {past : List LineByte} {es : List Exchange}
     {tail : List LineByte} {old : Option (List ℕ)}
     (broken : List BrokenPart) (texts : List ℕ) (are_texts : AreTextsOf T broken texts) (keeps : Keeps telling (in_parts profile) past es tail) where
   -- these records were read, and so many of them judged
   pub told_in_parts : {left : Option Rows} {fault : Option CaptureError} {new : Option (List ℕ)} (more : List LineByte)
-      → Onward profile broken past (keeps.items ++ more) → (s : Seen greatest_limit rows left (past ++ (keeps.items ++ more)) fault) → (r : Result Totals JudgeError)
+      → Onward beginning profile broken past (keeps.items ++ more) → (s : Seen greatest_limit rows left (past ++ (keeps.items ++ more)) fault) → (r : Result Totals JudgeError)
       → WrittenInParts s.all (past ++ (keeps.items ++ more)) broken (record { past = length past; records = keeps.items ++ more })
       (record { past = length past; records = keeps.items; exchanges = es; tail = tail; events = keeps.events }) (texts ++ keeps.text) r old new
-      → PartsTold T telling profile rows r old new
+      → PartsTold T beginning telling profile rows r old new
   told_in_parts more onward s r written =
       let left : Rest = record { past = length past; records = keeps.items ++ more } in record {
         rows = s.all;
@@ -67,7 +66,7 @@ module _ {T : BrokenPart → List ℕ → Type 0} {telling : Telling} {profile :
         text = texts ++ keeps.text;
         in_parts = record {
           start = s.start;
-          parts = rw append-nil at (onward [] left refl);
+          parts = rw append-nil at (onward.parts [] left refl);
           is_part = record { cut = keeps.cut; run = keeps.run; are_events = keeps.are_events };
           past = refl;
           begins = (more, refl);
@@ -81,30 +80,30 @@ module _ {T : BrokenPart → List ℕ → Type 0} {telling : Telling} {profile :
       }
 
   -- memory was refused
-  pub parts-memory : {left : Option Rows} {new : Option (List ℕ)} (more : List LineByte) → Onward profile broken past (keeps.items ++ more)
+  pub parts-memory : {left : Option Rows} {new : Option (List ℕ)} (more : List LineByte) → Onward beginning profile broken past (keeps.items ++ more)
       → Seen greatest_limit rows left (past ++ (keeps.items ++ more)) None → Appends old new (texts ++ keeps.text)
-      → JudgesParts T telling profile rows (Err JudgeError.OutOfMemory) old new
+      → JudgesParts T beginning telling profile rows (Err JudgeError.OutOfMemory) old new
   parts-memory more onward s wrote =
       plain (Err JudgeError.OutOfMemory) tt (told_in_parts more onward s (Err JudgeError.OutOfMemory) wrote)
 
   -- the writer failed within this text
-  pub parts-write : {left : Option Rows} {new : Option (List ℕ)} (more : List LineByte) → Onward profile broken past (keeps.items ++ more)
+  pub parts-write : {left : Option Rows} {new : Option (List ℕ)} (more : List LineByte) → Onward beginning profile broken past (keeps.items ++ more)
       → Seen greatest_limit rows left (past ++ (keeps.items ++ more)) None → AppendsPart old new (texts ++ keeps.text)
-      → JudgesParts T telling profile rows (Err JudgeError.Write) old new
+      → JudgesParts T beginning telling profile rows (Err JudgeError.Write) old new
   parts-write more onward s part = plain (Err JudgeError.Write) tt (told_in_parts more onward s (Err JudgeError.Write) (inl part))
 
   -- the capture is refused
   pub parts-refusal : {R : Type 0} {now : Option (List ℕ)} {progress given : Progress R} {e : CaptureError} {x : JudgeError}
-      → AreRead rows (past ++ keeps.items) progress → Onward profile broken past keeps.items → GivesRefusal progress e given → x ≡ refusal_of e
-      → Appends old now (texts ++ keeps.text) → JudgesParts T telling profile rows (Err x) old now
+      → AreRead greatest_limit rows (past ++ keeps.items) progress → Onward beginning profile broken past keeps.items → GivesRefusal progress e given → x ≡ refusal_of e
+      → Appends old now (texts ++ keeps.text) → JudgesParts T beginning telling profile rows (Err x) old now
   parts-refusal {now = now} {progress = progress} {given = given} {e = e} {x = x} h onward refusal same wrote =
-      rw same (refusal_cases (λ y. JudgesParts T telling profile rows (Err y) old now) e.kind e whole
+      rw same (refusal_cases (λ y. JudgesParts T beginning telling profile rows (Err y) old now) e.kind e whole
       (parts-memory [] on seen_all wrote))
     where
-      all_read : AreRead rows (past ++ (keeps.items ++ [])) progress
+      all_read : AreRead greatest_limit rows (past ++ (keeps.items ++ [])) progress
       all_read = rw append-nil h
 
-      on : Onward profile broken past (keeps.items ++ [])
+      on : Onward beginning profile broken past (keeps.items ++ [])
       on = rw append-nil onward
 
       seen_all : Seen greatest_limit rows progress.rows (past ++ (keeps.items ++ [])) None
@@ -131,7 +130,7 @@ module _ {T : BrokenPart → List ℕ → Type 0} {telling : Telling} {profile :
           let has : HasHeader read.0 = rw read.1 at (refusal.has_header (headed given.is_headed refusal.place (rw is low))) in
           rw read.2 has
 
-      whole : e.kind ≢ CaptureKind.OutOfMemory → JudgesParts T telling profile rows (Err (JudgeError.Capture e)) old now
+      whole : e.kind ≢ CaptureKind.OutOfMemory → JudgesParts T beginning telling profile rows (Err (JudgeError.Capture e)) old now
       whole other =
           let known = known_rows (is_of_text e.kind) refl in
           let place = refused-after progress given e (past ++ (keeps.items ++ [])) refusal all_read.are_given.same_limit all_read.are_given.given in record {

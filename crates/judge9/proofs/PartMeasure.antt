@@ -1,5 +1,5 @@
 -- Each turn of a judging of all parts leaves less to do: rows that are still to come, or the same record in a part of its own.
-use Rattle.judge9.proofs.Words.{greatest_limit, TellsTurn, Terms, LineRules, line_rules, [], ap, arith, begins_next_part, BeginsAt, Bool, Break, CaptureError, Command, Comes, ComesTo, Err, false, first_holds, Follower, GivesEnd, GivesRecord}
+use Rattle.judge9.proofs.Words.{Beginning, ComesFirst, greatest_limit, IsFresh, None, TellsTurn, Terms, LineRules, line_rules, [], ap, arith, begins_next_part, BeginsAt, Bool, Break, CaptureError, Command, Comes, ComesTo, Err, false, first_holds, Follower, GivesEnd, GivesRecord}
 use Rattle.judge9.proofs.Words.{GivesRefusal, GoesThrough, IsJudgedPart, PartLog, turn_of, Profile, if◌then◌else◌, inl, inr, JudgeError, Judging, KnowsNothing, last_of, length, length-append, LineByte, List, may_begin, Ok, Option, Exchange}
 use Rattle.judge9.proofs.Words.{Paired, Progress, Reason, refl, refusal_of, Result, Resumes, ResumesAfter, Some, Spoils, subst, suc, TakesUp, takes_up_at, true, Turn, Turned, zero, ℕ, ◌*◌, ◌+◌, ◌-◌, ◌≡◌, ◌≤◌, ◌⊎◌}
 use Rattle.std.proofs.Common.{◌&&◌}
@@ -105,7 +105,7 @@ less-first {R = R} terms before first turn k h = by h.with_first
     by (inr (inr (mid, comes, come))) = omega (arith, comes.gives.given, comes.gives.numbered, less-come mid k turn come)
 
 -- after records were passed over
-less-passed : {R : Type 0} (terms : Terms) (last : LineByte) (old : Progress R) (turn : Turn) (k : Judging R) → ResumesAfter terms last old (Ok turn) k
+less-passed : {R : Type 0} (terms : Terms) (last : Option LineByte) (old : Progress R) (turn : Turn) (k : Judging R) → ResumesAfter terms last old (Ok turn) k
     → left_at turn k ≤ 4 * (greatest_limit - old.given)
 less-passed terms last old turn k h = by h.then
   where
@@ -120,6 +120,12 @@ less-passed terms last old turn k h = by h.then
     by (inr (inl (is, ends, begins))) = let same : turn ≡ Turn.End = cc in rw same (omega (arith, more, ends.given))
     by (inr (inr (e, refusal, is))) = absurd (cc is)
 
+-- where nothing was judged yet
+pub less-first-come : {R : Type 0} {terms : Terms} (beginning : Beginning) (j k : Judging R) (turn : Turn) → IsFresh terms j → ComesFirst terms beginning j (Ok turn) k
+    → left_at turn k ≤ 4 * greatest_limit
+less-first-come Beginning.FirstRecord j k turn fresh come = omega (arith, less-come j k turn come)
+less-first-come {terms = terms} Beginning.FirstCommand j k turn fresh come = omega (arith, less-passed terms None j.rows turn k come)
+
 pub less-up : {R : Type 0} (terms : Terms) (before : Progress R) (b : Break) (j : Judging R) (turn : Turn) (k : Judging R) (late : Bool)
     → (late ≡ true → is_commands_wire b.record.wire ≡ false) → GivesRecord before b.record j.rows → TakesUp terms b j (Ok turn) k
     → left_at turn k + 1 + (if late then 1 else 0) ≤ left_at (Turn.Break b) j
@@ -127,10 +133,10 @@ less-up terms before b j turn k late wire gives (inl (is, rest)) = absurd (cc is
 less-up terms before b j turn k late wire gives (inr taken) = by late (begins_next_part b.reason b.record) refl wire taken
   where
     by : (late c : Bool) → begins_next_part b.reason b.record ≡ c → (late ≡ true → is_commands_wire b.record.wire ≡ false)
-        → MatchBool c ((p : Progress _) → GivesRecord p b.record j.rows → Resumes terms p b.record (Ok turn) k) (ResumesAfter terms b.record j.rows (Ok turn) k)
+        → MatchBool c ((p : Progress _) → GivesRecord p b.record j.rows → Resumes terms p b.record (Ok turn) k) (ResumesAfter terms (Some b.record) j.rows (Ok turn) k)
         → left_at turn k + 1 + (if late then 1 else 0) ≤ left_at (Turn.Break b) j
     by true true is wire up = absurd (let both = both_true (takes_up_at b.reason) (is_commands_wire b.record.wire) is in let deck = wire refl in cc)
     by false true is wire up =
         rw (both_true (takes_up_at b.reason) _ is).0 (omega (arith, gives.given, gives.numbered, less-first terms before b.record turn k (up before gives)))
-    by true false is wire up = omega (arith, at_least_two (takes_up_at b.reason), less-passed terms b.record j.rows turn k up)
-    by false false is wire up = omega (arith, at_least_two (takes_up_at b.reason), less-passed terms b.record j.rows turn k up)
+    by true false is wire up = omega (arith, at_least_two (takes_up_at b.reason), less-passed terms (Some b.record) j.rows turn k up)
+    by false false is wire up = omega (arith, at_least_two (takes_up_at b.reason), less-passed terms (Some b.record) j.rows turn k up)

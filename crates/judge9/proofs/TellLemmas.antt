@@ -1,8 +1,8 @@
 -- What the result of a judging tells at each of its ends, and what it can bring whatever the reader tells of its bytes.
 use Rattle.judge9.proofs.Words.{Terms, line_rules, counting, ComesTo, Follower, Paired, LineRules, [], Answer, answer_of, ap, append_assoc, Appends, Appends-nil, Appends-trans, AreCounts, arith, Bool, Breaks, CanBeResult}
-use Rattle.judge9.proofs.Words.{Break, CanBeVerdict, CaptureError, CaptureKind, Completes, Cut, cut_once, EndsRows, Err, Exchange, exchange_less, Explains, false, false≢true, given-more}
-use Rattle.judge9.proofs.Words.{given-refused, GivesRecord, GivesRefusal, Profile, HasHeader, HasRun, IfErr, IfSome, if◌then◌else◌, inl, inr, is_of_text, IsAfter, IsAnswer}
-use Rattle.judge9.proofs.Words.{IsFirstBreak, IsOk, IsOkBefore, IsPlaced, IsSame, IsStartOf, IsTheAnswer, IsVerdictAfter, JudgeError, Judges, Judging, length, length_push}
+use Rattle.judge9.proofs.Words.{Break, CanBeVerdict, CaptureError, CaptureKind, Completes, Cut, cut_once, EndsRows, Err, Exchange, exchange_less, Explains, false, false≢true, Beginning}
+use Rattle.judge9.proofs.Words.{given-refused, GivesRecord, GivesRefusal, Profile, HasHeader, HasRun, IfErr, IfSome, if◌then◌else◌, inl, inr, is_of_text, IsAfter, IsAnswerFrom}
+use Rattle.judge9.proofs.Words.{IsFirstBreak, IsOk, IsOkBefore, IsPlaced, IsSame, IsStartOf, IsTheAnswer, IsVerdictAfter, JudgeError, Judges, Judging, judged_from, judged_rows, length, length_push, passed_before, records_in, Rest}
 use Rattle.judge9.proofs.Words.{length-append, line_of, LineByte, List, most_rows, no_rows-can_be, None, Observes, Ok, Option, option_map, part_after, Possible, Progress, Puts, Reason}
 use Rattle.judge9.proofs.Words.{refl, refusal_by, refusal_of, refused-after, Refuses, Result, Rows, rows_of, rows_within, Some, some_end, StoppedBefore, subst, sym, tail_by_kept, tail_short}
 use Rattle.judge9.proofs.Words.{Spoils, Told, Tracked, true, Turn, Turned, Verdict, View, Written, ℕ, ⊤, ◌*◌, ◌++◌, ◌+◌, ◌∙◌, ◌∷◌, ◌≡◌, ◌≢◌, ◌≤◌}
@@ -11,29 +11,30 @@ use Rattle.verdict9.specs.Telling.{view_of}
 use Rattle.verdict9.specs.declared.verdict.Telling.TheVariants.{the_data as Telling}
 use Rattle.judge9.proofs.CutSteps.{cut-exchange}
 use Rattle.judge9.proofs.EventSteps.{limit_counts}
-use Rattle.judge9.proofs.LineSteps.{appended, exchange_len, none_after}
-use Rattle.judge9.proofs.LawLemmas.{answer_once, cut_tail, no_run_first, tail_breaks}
-use Rattle.judge9.proofs.SoFar.{Keeps, keeps-none, not_kept, observed_more, of_known, read-more, reason_of, Seen, seen, seen_now, so_far-exchange, so_far-more, so_far-ok, SoFar, step_on, unread, WereRead}
+use Rattle.judge9.proofs.LineSteps.{appended, cut_len, exchange_len, none_after}
+use Rattle.judge9.proofs.LawLemmas.{answer_once_from, cut_tail, no_run_first, tail_breaks}
+use Rattle.judge9.proofs.PartSteps.{from_none, IsFrom}
+use Rattle.judge9.proofs.SoFar.{Keeps, keeps-none, not_kept, observed_more, of_known, reason_of, Seen, seen, seen_now, seen_on, so_far-exchange, so_far-more, so_far-ok, SoFar, step_on, unread, WereRead}
 
 -- the only answer, of an answer
-the_answer : (profile : Profile) (rows : Rows) (answer : Answer) → IsAnswer profile rows answer → IsTheAnswer profile rows answer
-the_answer profile rows answer h = record { is_answer = h; only = λ other k. answer_once profile rows other answer k h }
+the_answer : (beginning : Beginning) (profile : Profile) (rows : Rows) (answer : Answer) → IsAnswerFrom beginning profile rows answer → IsTheAnswer beginning profile rows answer
+the_answer beginning profile rows answer h = record { is_answer = h; only = λ other k. answer_once_from beginning profile rows other answer k h }
 
 -- what is told of the rows of a text is told of the text
 pub of_text : (limit : ℕ) (text : Option (List ℕ)) (P : Rows → Type 0) → IfSome (option_map (rows_within limit) text) P → IfSome text (λ t. P (rows_within limit t))
 of_text limit None P k = tt
 of_text limit (Some t) P k = k
 
-pub answer_of_text : {view : View} {profile : Profile} {result : Result Verdict JudgeError} {old new : Option (List ℕ)} (text : Option (List ℕ))
-    → Judges view profile (option_map rows_of text) result old new → IfSome text (λ t. IfSome (answer_of result) (IsTheAnswer profile (rows_of t)))
-answer_of_text {profile = profile} {result = result} text j =
-    let Answered : Rows → Type 0 = λ rows. IfSome (answer_of result) (IsTheAnswer profile rows) in
+pub answer_of_text : {view : View} {beginning : Beginning} {profile : Profile} {result : Result Verdict JudgeError} {old new : Option (List ℕ)} (text : Option (List ℕ))
+    → Judges view beginning profile (option_map rows_of text) result old new → IfSome text (λ t. IfSome (answer_of result) (IsTheAnswer beginning profile (rows_of t)))
+answer_of_text {beginning = beginning} {profile = profile} {result = result} text j =
+    let Answered : Rows → Type 0 = λ rows. IfSome (answer_of result) (IsTheAnswer beginning profile rows) in
     of_text most_rows text Answered (of_known (option_map rows_of text) j.told.rows Answered j.told.is_known j.told.answer)
 
-pub stopped_of_text : {A : Type 0} {view : View} {profile : Profile} {old new : Option (List ℕ)} (verdict_of : A → Verdict) (result : Result A JudgeError)
+pub stopped_of_text : {A : Type 0} {view : View} {beginning : Beginning} {profile : Profile} {old new : Option (List ℕ)} (verdict_of : A → Verdict) (result : Result A JudgeError)
     (text : Option (List ℕ))
-    → Judges view profile (option_map rows_of text) (result_map_both verdict_of (λ e. e) result) old new
-    → IfSome text (λ t. IfErr result (StoppedBefore profile (rows_of t)))
+    → Judges view beginning profile (option_map rows_of text) (result_map_both verdict_of (λ e. e) result) old new
+    → IfSome text (λ t. IfErr result (StoppedBefore beginning profile (rows_of t)))
 stopped_of_text verdict_of result None j = tt
 stopped_of_text verdict_of (Ok v) (Some t) j = tt
 stopped_of_text verdict_of (Err e) (Some t) j = j.stopped
@@ -53,32 +54,34 @@ stopped_unwritten {j = j} {k = k} x c = by c.turned
     by (inr refused) = rw refused.2 (refusal_cases (λ y. y ≢ JudgeError.Write) refused.0.kind refused.0 (λ _ q. cc) (λ q. cc))
 
 -- what is told after these records, of these rows
-unfoldable pub told_after : {telling : Telling} {profile : Profile} {es : List Exchange} {tail items : List LineByte} {rows left : Option Rows}
-    {fault : Option CaptureError} {old new : Option (List ℕ)} (keeps : Keeps telling (counting profile) [] es tail) (s : Seen most_rows rows left items fault)
-    (r : Result Verdict JudgeError)
-    → IsStartOf keeps.items s.all.records → IfSome (answer_of r) (IsTheAnswer profile s.all) → Written profile s.all keeps.items keeps.text r old new
-    → Told (view_of telling) profile rows r old new
-told_after {es = es} {tail = tail} keeps s r start answer written = record {
+unfoldable pub told_after : {telling : Telling} {beginning : Beginning} {profile : Profile} {past : List LineByte} {es : List Exchange} {tail items : List LineByte} {rows left : Option Rows}
+    {fault : Option CaptureError} {old new : Option (List ℕ)} (keeps : Keeps telling (counting profile) past es tail) (from : IsFrom beginning past keeps.items)
+    (s : Seen most_rows rows left items fault) (r : Result Verdict JudgeError)
+    → IsStartOf (past ++ keeps.items) s.all.records → IfSome (answer_of r) (IsTheAnswer beginning profile s.all)
+    → Written beginning profile s.all (past ++ keeps.items) keeps.text r old new
+    → Told (view_of telling) beginning profile rows r old new
+told_after {past = past} {es = es} {tail = tail} keeps from s r start answer written = record {
   rows = s.all;
   is_known = s.is_known;
   of_a_text = s.of_a_text;
   answer = answer;
-  items = keeps.items;
+  items = past ++ keeps.items;
   start = start;
   exchanges = es;
   tail = tail;
-  cut = keeps.cut;
+  cut = rw from.same keeps.cut;
   run = keeps.run;
   text = keeps.text;
-  explained = keeps.explained refl;
+  explained = rw from.same (keeps.explained refl);
   written = written;
 }
 
 -- where there was no memory for the tracker, and nothing was read
-pub told-nothing : (view : View) (profile : Profile) (rows : Option Rows) (old : Option (List ℕ)) → Told view profile rows (Err JudgeError.OutOfMemory) old old
-told-nothing view profile rows old =
+pub told-nothing : (view : View) (beginning : Beginning) (profile : Profile) (rows : Option Rows) (old : Option (List ℕ))
+    → Told view beginning profile rows (Err JudgeError.OutOfMemory) old old
+told-nothing view beginning profile rows old =
     let s = seen most_rows rows rows [] None (unread rows) (no_rows-can_be most_rows) in
-    told_after (keeps-none (Telling.Shown view) (counting profile) [] refl) s (Err JudgeError.OutOfMemory) s.start tt (Appends-nil old)
+    told_after (keeps-none (Telling.Shown view) (counting profile) [] refl) (from_none beginning) s (Err JudgeError.OutOfMemory) s.start tt (Appends-nil old)
 
 -- ---- what a judging can bring, whatever the reader tells of its bytes
 
@@ -97,8 +100,8 @@ cut_counts rules p (e ∷ es) t h =
 -- ---- all that the result tells, at each end
 
 -- a result that is no refusal of the capture, by what was written with it
-pub judges-told : {view : View} {profile : Profile} {rows : Option Rows} {old new : Option (List ℕ)} (now : Option (List ℕ)) (line : List ℕ)
-    (r : Result Verdict JudgeError) → Told view profile rows r old new → CanBeResult r → Puts line r now new → Judges view profile rows r old new
+pub judges-told : {view : View} {beginning : Beginning} {profile : Profile} {rows : Option Rows} {old new : Option (List ℕ)} (now : Option (List ℕ)) (line : List ℕ)
+    (r : Result Verdict JudgeError) → Told view beginning profile rows r old new → CanBeResult r → Puts line r now new → Judges view beginning profile rows r old new
 judges-told now line (Err (JudgeError.Capture e)) told can puts = absurd puts
 judges-told {rows = rows} now line r told can puts = record {
   told = told;
@@ -148,140 +151,158 @@ module _ {R : Type 0} {telling : Telling} {terms : Terms} {rows : Option Rows} {
       by (inl refused) = breaks-pairing refused.0
       by (inr none) = rw none.0 (breaks-run none.1)
 
-module _ {R : Type 0} {telling : Telling} {profile : Profile} {rows : Option Rows} {j : Judging R} {old now : Option (List ℕ)} {es : List Exchange} {late : ℕ}
-    (h : SoFar telling (counting profile) rows [] j old now es late) where
+-- there is no late reply where the limit counts
+pub judges-late : {R : Type 0} {telling : Telling} {profile : Profile} {rows : Option Rows} {past : List LineByte} {j k : Judging R} {old now : Option (List ℕ)}
+    {es : List Exchange} {late : ℕ} {r : LineByte} {P : Type 0} (h : SoFar telling (counting profile) rows past j old now es late) → Turned j (Ok (Turn.Late r)) k → P
+judges-late {profile = profile} {j = j} h t = absurd (limit_counts (line_rules (counting profile)) j.follower.pairer.tail t.0 refl (step_on h t.1.took.1.takes))
+
+module _ {R : Type 0} {telling : Telling} {beginning : Beginning} {profile : Profile} {rows : Option Rows} {past : List LineByte} {j : Judging R} {old now : Option (List ℕ)}
+    {es : List Exchange} {late : ℕ} (h : SoFar telling (counting profile) rows past j old now es late) (from : IsFrom beginning past h.items) where
   -- memory was refused
-  pub judges-memory : {new : Option (List ℕ)} → Appends now new [] → Judges (view_of telling) profile rows (Err JudgeError.OutOfMemory) old new
+  pub judges-memory : {new : Option (List ℕ)} → Appends now new [] → Judges (view_of telling) beginning profile rows (Err JudgeError.OutOfMemory) old new
   judges-memory {new = new} none =
       let s = seen_now h in judges-told now [] (Err JudgeError.OutOfMemory)
-      (told_after h.keeps s (Err JudgeError.OutOfMemory) s.start tt (none_after old now new h.text h.wrote none)) tt none
+      (told_after h.keeps from s (Err JudgeError.OutOfMemory) s.start tt (none_after old now new h.text h.wrote none)) tt none
 
   -- a verdict is told, or its line was not written whole
   judges-verdict : {new : Option (List ℕ)} {items : List LineByte} {left : Option Rows} {fault : Option CaptureError} (s : Seen most_rows rows left items fault)
-      (v : Verdict) (r : Result Verdict JudgeError) → IsStartOf h.items s.all.records → IsAnswer profile s.all (Answer.judged v) → IsVerdictAfter h.items v
-      → CanBeVerdict v
-      → IsSame v r → Puts (line_of v) r now new → (judges : Judges (view_of telling) profile rows r old new) × (judges.told.rows ≡ s.all)
+      (v : Verdict) (r : Result Verdict JudgeError) → IsStartOf (past ++ h.items) s.all.records → IsAnswerFrom beginning profile s.all (Answer.judged v)
+      → IsVerdictAfter beginning (past ++ h.items) v → CanBeVerdict v
+      → IsSame v r → Puts (line_of v) r now new → (judges : Judges (view_of telling) beginning profile rows r old new) × (judges.told.rows ≡ s.all)
   unfolding told_after judges-told
   judges-verdict {new = new} s v (Ok w) start is after can same puts =
       rw same (
-        judges-told now (line_of v) (Ok v) (told_after h.keeps s (Ok v) start (the_answer profile s.all (Answer.judged v) is)
+        judges-told now (line_of v) (Ok v) (told_after h.keeps from s (Ok v) start (the_answer beginning profile s.all (Answer.judged v) is)
             (after, Appends-trans old now new h.text (line_of v) h.wrote puts)) can puts,
         refl,
       )
   judges-verdict s v (Err (JudgeError.Capture e)) start is after can same puts = absurd puts
   judges-verdict {new = new} s v (Err JudgeError.Write) start is after can same puts = (
-    judges-told now (line_of v) (Err JudgeError.Write) (told_after h.keeps s (Err JudgeError.Write) start tt
+    judges-told now (line_of v) (Err JudgeError.Write) (told_after h.keeps from s (Err JudgeError.Write) start tt
         (inr (v, is, after, part_after old now new h.text (line_of v) h.wrote puts))) tt puts,
     refl,
   )
   judges-verdict {new = new} s v (Err JudgeError.OutOfMemory) start is after can same puts = (
-    judges-told now [] (Err JudgeError.OutOfMemory) (told_after h.keeps s (Err JudgeError.OutOfMemory) start tt (none_after old now new h.text h.wrote puts))
+    judges-told now [] (Err JudgeError.OutOfMemory) (told_after h.keeps from s (Err JudgeError.OutOfMemory) start tt (none_after old now new h.text h.wrote puts))
         tt puts,
     refl,
   )
 
-  -- there is no row left
-  pub judges-end : {k : Judging R} {new : Option (List ℕ)} {n : ℕ} (r : Result Verdict JudgeError) → EndsRows j k → n ≡ length es
-      → IsSame (Verdict.Yes k.rows.given n (length k.follower.pairer.tail)) r → Puts (line_of (Verdict.Yes k.rows.given n (length k.follower.pairer.tail))) r now new
-      → (judges : Judges (view_of telling) profile rows r old new) × (judges.told.rows.records ≡ h.items)
-  judges-end {k = k} {n = n} r t count same puts =
+  -- there is no row left; so many records are in these exchanges or open
+  pub judges-end : {k : Judging R} {new : Option (List ℕ)} {m n : ℕ} (r : Result Verdict JudgeError) → EndsRows j k → n ≡ length es
+      → m ≡ records_in es + length k.follower.pairer.tail → IsSame (Verdict.Yes m n (length k.follower.pairer.tail)) r
+      → Puts (line_of (Verdict.Yes m n (length k.follower.pairer.tail))) r now new
+      → (judges : Judges (view_of telling) beginning profile rows r old new) × (judges.told.rows.records ≡ past ++ h.items)
+  judges-end {k = k} {m = m} {n = n} r t count size same puts =
       let s = seen_now h in
-      let whole : s.all ≡ record { records = h.items; fault = None } = s.whole t.ends.none_left in
+      let whole : s.all ≡ record { records = past ++ h.items; fault = None } = s.whole t.ends.none_left in
+      let tails : length k.follower.pairer.tail ≡ length j.follower.pairer.tail = ap (λ (f : Follower). length f.pairer.tail) t.same_follower in
       let some = cut_counts (line_rules (counting profile)) h.items es j.follower.pairer.tail h.cut in
-      let counts : AreCounts (counting profile) h.items k.rows.given n (length k.follower.pairer.tail) = record {
+      let all : m ≡ length h.items = omega (arith, size, tails, cut_len (line_rules (counting profile)) h.items es j.follower.pairer.tail h.cut) in
+      let counts : AreCounts (counting profile) h.items m n (length k.follower.pairer.tail) = record {
         cut_exchanges = es;
         cut_tail = j.follower.pairer.tail;
         cut = h.cut;
         run = h.run;
-        number = omega arith;
+        number = all;
         exchange_number = count;
-        tail_number = rw t.same_follower;
+        tail_number = tails;
       } in
-      let can : CanBeVerdict (Verdict.Yes k.rows.given n (length k.follower.pairer.tail)) = rw t.same_follower (record {
-        few = omega arith;
+      let can : CanBeVerdict (Verdict.Yes m n (length k.follower.pairer.tail)) = rw tails (record {
+        few = omega (arith, all, h.are_given.can_be.within, length-append past h.items);
         short = tail_short (line_rules (counting profile)) j.follower.pairer.tail (cut_tail (line_rules (counting profile)) h.items es j.follower.pairer.tail h.cut);
-        enough = omega arith;
-        no_more = omega arith;
+        enough = omega (arith, all, count, some.0);
+        no_more = omega (arith, all, count, some.1);
       }) in
-      let both = judges-verdict s (Verdict.Yes k.rows.given n (length k.follower.pairer.tail)) r s.start (ap (λ (x : Rows). x.fault) whole, rw whole counts)
-      (omega arith) can same puts in
-      (both.0, rw (both.1, whole))
+      let own : IsAnswerFrom beginning profile (record { records = past ++ h.items; fault = None }) (Answer.judged (Verdict.Yes m n (length k.follower.pairer.tail))) =
+      rw from.same (Answer.judged (Verdict.Yes m n (length k.follower.pairer.tail)), (refl, counts), refl) in
+      let after : IsVerdictAfter beginning (past ++ h.items) (Verdict.Yes m n (length k.follower.pairer.tail)) = rw from.same all in
+      let both = judges-verdict s (Verdict.Yes m n (length k.follower.pairer.tail)) r s.start (rw whole own) after can same puts in
+      (both.0, ap (λ (x : Rows). x.records) (both.1 ∙ whole))
 
   -- a record breaks a rule
   pub judges-no : {new : Option (List ℕ)} {given : Progress R} {next : LineByte} {reason : Reason} (r : Result Verdict JudgeError)
-      → GivesRecord j.rows next given → Breaks (counting profile) h.items next reason → IsSame (Verdict.No given.given reason) r
+      → GivesRecord j.rows next given → Breaks (counting profile) h.items next reason
+      → ((more : List LineByte) → IsFrom beginning past (h.items ++ next ∷ more)) → IsSame (Verdict.No given.given reason) r
       → Puts (line_of (Verdict.No given.given reason)) r now new
-      → (judges : Judges (view_of telling) profile rows r old new) × IsStartOf (h.items ++ next ∷ []) judges.told.rows.records
-  judges-no {given = given} {next = next} {reason = reason} r gives breaks same puts =
-      let after = given-more h.items j.rows given next h.are_given gives in
-      let s = seen most_rows rows given.rows (h.items ++ next ∷ []) None (read-more rows j.rows.rows given.rows h.items next h.read gives.rows) after.can_be in
-      let split : s.all.records ≡ h.items ++ next ∷ s.start.0 = rw append_assoc at s.start.1 in
-      let is : IsFirstBreak (counting profile) s.all.records given.given reason =
-      record { before = h.items; next = next; after = s.start.0; split = split; number = omega arith; breaks = breaks } in
-      let both = judges-verdict s (Verdict.No given.given reason) r (next ∷ s.start.0, split) is (omega arith)
-      (record { counted = omega arith; few = omega (arith, gives.within, h.are_given.same_limit) }) same puts in
-      (both.0, rw both.1 s.start)
+      → (judges : Judges (view_of telling) beginning profile rows r old new) × ((after : List LineByte) × (judges.told.rows.records ≡ past ++ (h.items ++ next ∷ after)))
+  judges-no {given = given} {next = next} {reason = reason} r gives breaks on same puts =
+      let s = seen_on h gives in
+      let after = s.start.0 in
+      let split : s.all.records ≡ past ++ (h.items ++ next ∷ after) =
+      s.start.1 ∙ append_assoc past (h.items ++ next ∷ []) after ∙ ap (λ l. past ++ l) (append_assoc h.items (next ∷ []) after) in
+      let is : IsFirstBreak (counting profile) (h.items ++ next ∷ after) (length h.items + 1) reason =
+      record { before = h.items; next = next; after = after; split = refl; number = refl; breaks = breaks } in
+      let size : given.given ≡ length past + (length h.items + 1) = omega (arith, gives.given, h.are_given.given, length-append past h.items) in
+      let judged : (judged_rows beginning s.all).records ≡ h.items ++ next ∷ after =
+      ap (λ l. (judged_from beginning l).records) split ∙ ap (λ (x : Rest). x.records) (on after).same in
+      let before : passed_before beginning s.all ≡ length past = ap (λ l. (judged_from beginning l).past) split ∙ ap (λ (x : Rest). x.past) (on after).same in
+      let own : IsAnswerFrom beginning profile s.all (Answer.judged (Verdict.No given.given reason)) = (
+        Answer.judged (Verdict.No (length h.items + 1) reason),
+        subst (λ l. IsFirstBreak (counting profile) l (length h.items + 1) reason) (sym judged) is,
+        ap (λ n. Answer.judged (Verdict.No n reason)) (size ∙ ap (λ n. n + (length h.items + 1)) (sym before)),
+      ) in
+      let both = judges-verdict s (Verdict.No given.given reason) r (next ∷ after, split ∙ sym (append_assoc past h.items (next ∷ after))) own
+      (omega (arith, gives.given, h.are_given.given)) (record { counted = omega (arith, size); few = omega (arith, gives.within, h.are_given.same_limit) }) same puts in
+      (both.0, (after, ap (λ (x : Rows). x.records) both.1 ∙ split))
 
   -- the capture is refused
   pub judges-refusal : {given : Progress R} {e : CaptureError} {x : JudgeError} → GivesRefusal j.rows e given → x ≡ refusal_of e
-      → Judges (view_of telling) profile rows (Err x) old now
+      → Judges (view_of telling) beginning profile rows (Err x) old now
   judges-refusal {given = given} {e = e} {x = x} refusal same =
-      rw same (refusal_cases (λ y. Judges (view_of telling) profile rows (Err y) old now) e.kind e whole (judges-memory (Appends-nil now)))
+      rw same (refusal_cases (λ y. Judges (view_of telling) beginning profile rows (Err y) old now) e.kind e whole (judges-memory (Appends-nil now)))
     where
-      place : IsAfter most_rows h.items e
-      place = refused-after j.rows given e h.items refusal h.are_given.same_limit h.are_given.given
+      place : IsAfter most_rows (past ++ h.items) e
+      place = refused-after j.rows given e (past ++ h.items) refusal h.are_given.same_limit h.are_given.given
 
       -- where nothing is known of the rows, a refusal leaves the bad row, where it is a fault of the text
-      told_rows : (b : Bool) → is_of_text e.kind ≡ b → (s : Seen most_rows rows j.rows.rows h.items (if b then Some e else None))
-          × IfSome (if b then Some (Answer.unreadable e) else None) (IsTheAnswer profile s.all)
+      told_rows : (b : Bool) → is_of_text e.kind ≡ b → (s : Seen most_rows rows j.rows.rows (past ++ h.items) (if b then Some e else None))
+          × IfSome (if b then Some (Answer.unreadable e) else None) (IsTheAnswer beginning profile s.all)
       told_rows true t =
-          let s = seen most_rows rows j.rows.rows h.items (Some e) h.read (given-refused h.items j.rows given e h.are_given h.is_reading refusal t) in
+          let s = seen most_rows rows j.rows.rows (past ++ h.items) (Some e) h.read (given-refused (past ++ h.items) j.rows given e h.are_given h.is_reading refusal t) in
           let all = s.whole (refusal.fault t) in
-          (s, the_answer profile s.all (Answer.unreadable e) (ap (λ (x : Rows). x.fault) all, rw all (so_far-ok h)))
+          (s, the_answer beginning profile s.all (Answer.unreadable e) (rw (all, from.same) (Answer.unreadable e, (refl, so_far-ok h), refl)))
       told_rows false t = (seen_now h, tt)
 
       headed : (b : Bool) → IsPlaced j.rows.most_rows b given.given e → e.row ≢ 0 → b ≡ true
       headed true placed low = refl
       headed false placed low = absurd (low placed.row)
 
-      before : (o : Option Rows) → WereRead o h.items j.rows.rows → IfSome o (λ all. e.kind ≡ CaptureKind.Read → IsOkBefore profile all e)
+      before : (o : Option Rows) → WereRead o (past ++ h.items) j.rows.rows → IfSome o (λ all. e.kind ≡ CaptureKind.Read → IsOkBefore beginning profile all e)
       before None read = tt
       before (Some all) read = λ _.
           let has : e.row ≢ 0 → HasHeader read.0 = λ low. rw read.1 at (refusal.has_header (headed given.is_headed refusal.place low)) in
           record {
-            items = h.items;
+            items = past ++ h.items;
             start = (read.0.records, ap (λ (x : Rows). x.records) read.2);
             place = place;
             has_header = λ low. rw read.2 (has low);
-            is_ok = so_far-ok h;
+            is_ok = rw from.same (so_far-ok h);
           }
 
-      whole : e.kind ≢ CaptureKind.OutOfMemory → Judges (view_of telling) profile rows (Err (JudgeError.Capture e)) old now
+      whole : e.kind ≢ CaptureKind.OutOfMemory → Judges (view_of telling) beginning profile rows (Err (JudgeError.Capture e)) old now
       whole other =
           let known = told_rows (is_of_text e.kind) refl in record {
-            told = told_after h.keeps known.0 (Err (JudgeError.Capture e)) known.0.start known.1 (place, h.wrote);
+            told = told_after h.keeps from known.0 (Err (JudgeError.Capture e)) known.0.start known.1 (place, h.wrote);
             stopped = before rows h.read;
             is_kind = λ d q wrong. let same : e ≡ d = cc in other (ap (λ (y : CaptureError). y.kind) same ∙ wrong);
             can_be = record { few = grind arith; at_its_row = rw h.are_given.same_limit at refusal.place.at_its_row };
           }
 
   -- an exchange, whose line was not written whole
-  pub judges-explained : {k : Judging R} {new : Option (List ℕ)} (x : JudgeError) (t : Turned j (Ok Turn.Exchange) k)
-      → Explains (view_of telling) profile k.rows.given t.1.took.exchange (Possible k.follower.tracker.states) (Err x) now new → Judges (view_of telling) profile rows (Err x) old new
+  pub judges-explained : {k : Judging R} {new : Option (List ℕ)} (x : JudgeError) (t : Turned j (Ok Turn.Exchange) k) → IsFrom beginning past (h.items ++ t.0 ∷ [])
+      → Explains (view_of telling) profile k.rows.given t.1.took.exchange (Possible k.follower.tracker.states) (Err x) now new
+      → Judges (view_of telling) beginning profile rows (Err x) old new
   unfolding so_far-exchange so_far-more
-  judges-explained (JudgeError.Capture c) t line = absurd line.puts
-  judges-explained {new = new} JudgeError.Write t line =
+  judges-explained (JudgeError.Capture c) t on line = absurd line.puts
+  judges-explained {new = new} JudgeError.Write t on line =
       let far = so_far-exchange h line.line t.1.gives t.1.took line.is_line (appended now line.line) in
       let s = seen_now far in
-      judges-told now line.line (Err JudgeError.Write) (told_after far.keeps s (Err JudgeError.Write) s.start tt
+      judges-told now line.line (Err JudgeError.Write) (told_after far.keeps on s (Err JudgeError.Write) s.start tt
       (inl (part_after old now new h.text line.line h.wrote line.puts))) tt line.puts
-  judges-explained JudgeError.OutOfMemory t line = judges-memory line.puts
-
-  -- a late reply, which there is none of where the limit counts
-  pub judges-late : {k : Judging R} {r : LineByte} {P : Type 0} → Turned j (Ok (Turn.Late r)) k → P
-  judges-late t = absurd (limit_counts (line_rules (counting profile)) j.follower.pairer.tail t.0 refl (step_on h t.1.took.1.takes))
+  judges-explained JudgeError.OutOfMemory t on line = judges-memory line.puts
 
   -- the rows were refused, or memory was
-  pub judges-stopped : (k : Judging R) (x : JudgeError) → Turned j (Err x) k → Judges (view_of telling) profile rows (Err x) old now
+  pub judges-stopped : (k : Judging R) (x : JudgeError) → Turned j (Err x) k → Judges (view_of telling) beginning profile rows (Err x) old now
   judges-stopped k x (inl memory) = rw memory (judges-memory (Appends-nil now))
   judges-stopped k x (inr refused) = judges-refusal refused.1 refused.2

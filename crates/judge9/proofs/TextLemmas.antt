@@ -3,6 +3,8 @@ use Rattle.judge9.proofs.Words.{line_rules, counting, LineRules, [], Answer, ans
 use Rattle.judge9.proofs.Words.{first_part, Profile, HasRun, IfSome, inl, inr, IsAnswer, IsExplained, IsOk, IsTail, IsText, IsTheAnswer, IsVerdictAfter, JudgeError}
 use Rattle.judge9.proofs.Words.{known_of_ends, last_line, length, length-append, line_of, line_of_exchange, LineByte, List, nil_from_length, Ok, Option, records_of, refl, Result}
 use Rattle.judge9.proofs.Words.{Rows, Some, subst, sym, take-length, Told, Verdict, View, Written, ℕ, ◌++◌, ◌+◌, ◌∙◌, ◌∷◌, ◌≡◌}
+use Rattle.judge9.proofs.Words.{Beginning, IsAnswerFrom, judged_from, judged_rows, moved_by, passed_before, Rest, ⊤, ◌≤◌, ◌⊎◌}
+use Rattle.judge9.proofs.PartSteps.{AreJudged, ArePassed, judged_more}
 use Rattle.judge9.proofs.RunSteps.{run_less}
 use Rattle.judge9.proofs.LawLemmas.{answer_ok, answer_once, cut_tail, first_of, no_longer, shorter, taken}
 
@@ -26,10 +28,10 @@ lines_start profile before at (e ∷ es) more text whole run a b =
       next.2,
     )
 
-explained_start : (which : View) (profile : Profile) (es more : List Exchange) (text whole : List ℕ) → HasRun profile (es ++ more) → IsExplained which profile 0 es text
-    → IsExplained which profile 0 (es ++ more) whole → (rest : List ℕ) × (whole ≡ text ++ rest) × (more ≡ [] → rest ≡ [])
-explained_start View.Verdict profile es more text whole run a b = ([], b ∙ sym a ∙ sym (append-nil text), λ _. refl)
-explained_start View.Explain profile es more text whole run a b = lines_start profile [] 0 es more text whole run a b
+explained_start : (which : View) (profile : Profile) (past : ℕ) (es more : List Exchange) (text whole : List ℕ) → HasRun profile (es ++ more)
+    → IsExplained which profile past es text → IsExplained which profile past (es ++ more) whole → (rest : List ℕ) × (whole ≡ text ++ rest) × (more ≡ [] → rest ≡ [])
+explained_start View.Verdict profile past es more text whole run a b = ([], b ∙ sym a ∙ sym (append-nil text), λ _. refl)
+explained_start View.Explain profile past es more text whole run a b = lines_start profile [] past es more text whole run a b
 
 -- ---- the records that were judged are the first of those that the report explains
 
@@ -40,54 +42,149 @@ within profile rows items rest (Answer.judged (Verdict.No at reason)) ok start i
     (more.0, taken (counting profile) rows at reason is ∙ more.1)
 within profile rows items rest a ok start is = (rest, start)
 
-same_len : (profile : Profile) (rows : Rows) (items : List LineByte) (v : Verdict) → IsVerdictAfter items v → IsAnswer profile rows (Answer.judged v)
-    → length (explained_of rows (Answer.judged v)) ≡ length items
-same_len profile rows items (Verdict.Yes r e t) after is = omega (arith, is.1.number)
-same_len profile rows items (Verdict.No at reason) after is = omega (arith, is.number, ap length (taken (counting profile) rows at reason is))
+-- the number of a verdict on records before which so many are passed over, of which so many were judged
+abbrev IsNumbered : ℕ → ℕ → Verdict → Type 0
+IsNumbered past size (Verdict.Yes records exchanges tail) = records ≡ size
+IsNumbered past size (Verdict.No at reason) = at ≡ size + 1
+
+abbrev IsCounted : Verdict → Type 0
+IsCounted (Verdict.Yes records exchanges tail) = ⊤
+IsCounted (Verdict.No at reason) = 1 ≤ at
+
+counted_of : (profile : Profile) (rows : Rows) (own : Verdict) → IsAnswer profile rows (Answer.judged own) → IsCounted own
+counted_of profile rows (Verdict.Yes r e t) is = tt
+counted_of profile rows (Verdict.No at reason) is = omega (arith, is.number)
+
+-- so many they are where the verdict was told after these
+same_len : (profile : Profile) (past : ℕ) (rows : Rows) (size : ℕ) (own : Verdict) → IsAnswer profile rows (Answer.judged own) → IsNumbered past size own
+    → length (explained_of rows (Answer.judged own)) ≡ size
+same_len profile past rows size (Verdict.Yes r e t) is after = omega (arith, is.1.number, after)
+same_len profile past rows size (Verdict.No at reason) is after =
+    omega (arith, is.number, after, ap length (taken (counting profile) rows at reason is))
 
 -- ---- what was written, and the whole text
 
 all_of : (old new : Option (List ℕ)) (bytes : List ℕ) → Appends old new bytes → AppendsPart old new bytes
 all_of old new bytes h = (length bytes, omega arith, subst (λ t. Appends old new t) (sym (take-length bytes)) h)
 
--- what was written is a first part of the whole text
-pub first_of_text : (which : View) (profile : Profile) (rows : Rows) (r : Result Verdict JudgeError) (old new : Option (List ℕ)) (a : Answer) (whole : List ℕ)
-    → Told which profile (Some rows) r old new → IsAnswer profile rows a → IsText which profile rows a whole → AppendsPart old new whole
-first_of_text which profile rows r old new a whole told is all = by r told.answer told.written
+-- the first records of the rows that are judged keep the rules, so many come before them, and this is told of them
+record AreExplained (which : View) (profile : Profile) (past : ℕ) (rows : Rows) (read : List LineByte) (exchanges : List Exchange) (tail : List LineByte) (text : List ℕ) : Type 0 where
+  pub rest : List LineByte
+  pub split : rows.records ≡ read ++ rest
+  pub cut : Cut (line_rules (counting profile)) read exchanges tail
+  pub run : HasRun profile exchanges
+  pub explained : IsExplained which profile past exchanges text
+
+none_explained : (which : View) (profile : Profile) (past other : ℕ) (text : List ℕ) → IsExplained which profile past [] text → IsExplained which profile other [] text
+none_explained View.Verdict profile past other text is = is
+none_explained View.Explain profile past other text is = is
+
+none_cut : (rules : LineRules) (records : List LineByte) (es : List Exchange) (t : List LineByte) → records ≡ [] → Cut rules records es t → es ≡ []
+none_cut rules records es t none cut = (cut_once rules [] es [] t [] (rw none at cut) (refl, IsTail.nothing refl)).0
+
+-- they are the first, whatever comes after them
+explained_of_judged : (which : View) (beginning : Beginning) (profile : Profile) (rows : Rows) (items rest : List LineByte) (exchanges : List Exchange) (tail : List LineByte)
+    (text : List ℕ) → rows.records ≡ items ++ rest → Cut (line_rules (counting profile)) (judged_from beginning items).records exchanges tail → HasRun profile exchanges
+    → IsExplained which profile (judged_from beginning items).past exchanges text
+    → AreExplained which profile (passed_before beginning rows) (judged_rows beginning rows) (judged_from beginning items).records exchanges tail text
+explained_of_judged which beginning profile rows items rest exchanges tail text split cut run explained = by (judged_more beginning items rest)
   where
-    first : (m : List LineByte) × (explained_of rows a ≡ told.items ++ m)
-    first = within profile rows told.items told.start.0 a (record { exchanges = told.exchanges; tail = told.tail; cut = told.cut; run = told.run })
-        (ap (λ (x : Rows). x.records) (sym told.is_known) ∙ told.start.1) is
+    by : ArePassed beginning items rest ⊎ AreJudged beginning items rest
+        → AreExplained which profile (passed_before beginning rows) (judged_rows beginning rows) (judged_from beginning items).records exchanges tail text
+    by (inl passed) =
+        let none = none_cut (line_rules (counting profile)) (judged_from beginning items).records exchanges tail passed.none_judged cut in record {
+          rest = (judged_rows beginning rows).records;
+          split = ap (λ l. l ++ (judged_rows beginning rows).records) (sym passed.none_judged);
+          cut = cut;
+          run = run;
+          explained = rw none (none_explained which profile (judged_from beginning items).past (passed_before beginning rows) text (rw none at explained));
+        }
+    by (inr judged) = record {
+      rest = rest;
+      split = ap (λ l. (judged_from beginning l).records) split ∙ ap (λ (r : Rest). r.records) judged.same;
+      cut = cut;
+      run = run;
+      explained = rw (ap (λ l. (judged_from beginning l).past) split ∙ ap (λ (r : Rest). r.past) judged.same) explained;
+    }
+
+-- a verdict that was told after these items numbers what is judged of them
+numbered : (beginning : Beginning) (rows : Rows) (items rest : List LineByte) (v own : Verdict) → rows.records ≡ items ++ rest → IsVerdictAfter beginning items v
+    → Answer.judged v ≡ moved_by (passed_before beginning rows) (Answer.judged own) → IsCounted own
+    → IsNumbered (passed_before beginning rows) (length (judged_from beginning items).records) own
+numbered beginning rows items rest v (Verdict.Yes r e t) split after same counted = cc (rw same_yes at after)
+  where
+    same_yes : v ≡ Verdict.Yes r e t
+    same_yes = cc same
+numbered beginning rows items rest v (Verdict.No at reason) split after same counted = by (judged_more beginning items rest)
+  where
+    same_no : v ≡ Verdict.No (passed_before beginning rows + at) reason
+    same_no = cc same
+
+    number : passed_before beginning rows + at ≡ length items + 1
+    number = rw same_no at after
+
+    by : ArePassed beginning items rest ⊎ AreJudged beginning items rest → at ≡ length (judged_from beginning items).records + 1
+    by (inl passed) =
+        omega (arith, number, counted, passed.later, ap (λ l. (judged_from beginning l).past) split, ap length passed.none_judged)
+    by (inr judged) =
+        omega (arith, number, judged.size, ap (λ l. (judged_from beginning l).past) split, ap (λ (r : Rest). r.past) judged.same)
+
+-- what was written is a first part of the whole text
+pub first_of_text : (which : View) (beginning : Beginning) (profile : Profile) (rows : Rows) (r : Result Verdict JudgeError) (old new : Option (List ℕ)) (a : Answer) (whole : List ℕ)
+    → Told which beginning profile (Some rows) r old new → IsAnswer profile (judged_rows beginning rows) a
+    → IsText which profile (passed_before beginning rows) (judged_rows beginning rows) a whole → AppendsPart old new whole
+first_of_text which beginning profile rows r old new a whole told is all = by r told.answer told.written
+  where
+    judged : Rows
+    judged = judged_rows beginning rows
+
+    past : ℕ
+    past = passed_before beginning rows
+
+    read : List LineByte
+    read = (judged_from beginning told.items).records
+
+    start : rows.records ≡ told.items ++ told.start.0
+    start = ap (λ (x : Rows). x.records) (sym told.is_known) ∙ told.start.1
+
+    so_far : AreExplained which profile past judged read told.exchanges told.tail told.text
+    so_far = explained_of_judged which beginning profile rows told.items told.start.0 told.exchanges told.tail told.text start told.cut told.run told.explained
+
+    first : (m : List LineByte) × (explained_of judged a ≡ read ++ m)
+    first = within profile judged read so_far.rest a (record { exchanges = told.exchanges; tail = told.tail; cut = told.cut; run = told.run }) so_far.split is
 
     more : (more : List Exchange) × (all.exchanges ≡ told.exchanges ++ more) × Cut (line_rules (counting profile)) (told.tail ++ first.0) more all.tail
-    more = cut_parted (line_rules (counting profile)) told.items told.exchanges all.exchanges told.tail first.0 all.tail told.cut (rw first.1 at all.cut)
+    more = cut_parted (line_rules (counting profile)) read told.exchanges all.exchanges told.tail first.0 all.tail told.cut (rw first.1 at all.cut)
 
     -- what the whole text begins with
     lines : (rest : List ℕ) × (all.text ≡ told.text ++ rest) × (more.0 ≡ [] → rest ≡ [])
-    lines = let ok = answer_ok profile rows a is in
-        let run = subst (HasRun profile) ((cut_once (line_rules (counting profile)) (explained_of rows a) ok.exchanges all.exchanges ok.tail all.tail ok.cut all.cut).0 ∙ more.1) ok.run in
-        explained_start which profile told.exchanges more.0 told.text all.text run told.explained (rw more.1 at all.explained)
+    lines = let ok = answer_ok profile judged a is in
+        let run = subst (HasRun profile) ((cut_once (line_rules (counting profile)) (explained_of judged a) ok.exchanges all.exchanges ok.tail all.tail ok.cut all.cut).0 ∙ more.1) ok.run in
+        explained_start which profile past told.exchanges more.0 told.text all.text run so_far.explained (rw more.1 at all.explained)
 
-    text : whole ≡ told.text ++ (lines.0 ++ last_line a)
-    text = all.is_whole ∙ ap (λ l. l ++ last_line a) lines.1 ∙ append_assoc told.text lines.0 (last_line a)
+    text : whole ≡ told.text ++ (lines.0 ++ last_line (moved_by past a))
+    text = all.is_whole ∙ ap (λ l. l ++ last_line (moved_by past a)) lines.1 ∙ append_assoc told.text lines.0 (last_line (moved_by past a))
 
     -- and what it is where the verdict was told
-    line : (v : Verdict) → IsAnswer profile told.rows (Answer.judged v) → IsVerdictAfter told.items v → whole ≡ told.text ++ line_of v
-    line v k after =
-        let same = answer_once profile rows a (Answer.judged v) is (subst (λ (x : Rows). IsAnswer profile x (Answer.judged v)) told.is_known k) in
-        let none : first.0 ≡ [] = nil_from_length first.0 (omega (
-          arith,
-          same_len profile rows told.items v after (subst (IsAnswer profile rows) same is),
-          ap
-              (λ x. length (explained_of rows x)) same,
-          ap length first.1,
-          length-append told.items first.0,
-        )) in
-        text ∙ ap (λ l. told.text ++ (l ++ last_line a)) (lines.2 (no_more (line_rules (counting profile)) told.tail first.0 more.0 all.tail
-        (cut_tail (line_rules (counting profile)) told.items told.exchanges told.tail told.cut) more.2 none)) ∙ ap (λ x. told.text ++ last_line x) same
+    line_by : (v : Verdict) (own : Answer) → own ≡ a → Answer.judged v ≡ moved_by past own → IsAnswer profile judged own → IsVerdictAfter beginning told.items v
+        → whole ≡ told.text ++ line_of v
+    line_by v (Answer.unreadable e) same moved be after = absurd (cc moved)
+    line_by v (Answer.judged own) same moved be after =
+        let size = same_len profile past judged (length read) own be
+        (numbered beginning rows told.items told.start.0 v own start after moved (counted_of profile judged own be)) in
+        let none : first.0 ≡ [] = nil_from_length first.0
+        (omega (arith, size, ap (λ x. length (explained_of judged x)) same, ap length first.1, length-append read first.0)) in
+        text ∙ ap (λ l. told.text ++ (l ++ last_line (moved_by past a))) (lines.2 (no_more (line_rules (counting profile)) told.tail first.0 more.0 all.tail
+        (cut_tail (line_rules (counting profile)) read told.exchanges told.tail told.cut) more.2 none))
+        ∙ ap (λ x. told.text ++ last_line x) (ap (moved_by past) (sym same) ∙ sym moved)
 
-    by : (r : Result Verdict JudgeError) → IfSome (answer_of r) (IsTheAnswer profile told.rows) → Written profile told.rows told.items told.text r old new
-        → AppendsPart old new whole
+    line : (v : Verdict) → IsAnswerFrom beginning profile told.rows (Answer.judged v) → IsVerdictAfter beginning told.items v → whole ≡ told.text ++ line_of v
+    line v k after =
+        let own = subst (λ (x : Rows). IsAnswerFrom beginning profile x (Answer.judged v)) told.is_known k in
+        line_by v own.0 (answer_once profile judged own.0 a own.1 is) own.2 own.1 after
+
+    by : (r : Result Verdict JudgeError) → IfSome (answer_of r) (IsTheAnswer beginning profile told.rows)
+        → Written beginning profile told.rows told.items told.text r old new → AppendsPart old new whole
     by (Ok v) answer written = rw (line v answer.is_answer written.0) (all_of old new (told.text ++ line_of v) written.1)
     by (Err (JudgeError.Capture e)) answer written = rw text (first_part old new told.text _ (all_of old new told.text written.1))
     by (Err JudgeError.Write) answer (inl part) = rw text (first_part old new told.text _ part)

@@ -38,7 +38,8 @@ pub use Rattle.deck9.specs.declared.effect.Effect.TheVariants.{the_data as Effec
 pub use Rattle.deck9.specs.declared.mode.Mode.{Mode}
 pub use Rattle.deck9.specs.declared.state.Hands.TheVariants.{the_data as Hands}
 pub use Rattle.deck9.specs.declared.state.Register.TheVariants.{the_data as Register}
-pub use Rattle.judge9.specs.Judging.{Answer, answer_of, IsAnswer, IsOkBefore, IsTheAnswer}
+pub use Rattle.judge9.specs.Judging.{Answer, answer_of, IsAnswer, IsAnswerFrom, IsOkBefore, IsTheAnswer, moved_by}
+pub use Rattle.verdict9.specs.declared.verdict.Beginning.TheVariants.{the_data as Beginning}
 pub use Rattle.judge9.specs.Report.{AreLines, explained_of, IsExplained, IsText, IsVerdictAfter, last_line, Written}
 pub use Rattle.judge9.specs.Verdict.{Applies, AreCounts, Breaks, CanBeVerdict, counting, IsFirstBreak, IsOk, line_rules, Terms}
 pub use Rattle.why9.specs.Shown.{CouldShow}
@@ -51,12 +52,14 @@ pub use Rattle.block9.proofs.TailLemmas.{last_time-append}
 pub use Rattle.block9.specs.Line.{last_time}
 pub use Rattle.judge9.specs.Working.Endings.{IsEnd, JudgesRun, JudgesWhy}
 pub use Rattle.track9.specs.Following.{KeepsEnds}
-pub use Rattle.judge9.specs.Parts.{AreParts, AreTotals, BrokenPart, exchanges_of, from_command, in_parts, IsPart, may_begin, number_of, Part, Rest, rest_after, takes_up_at}
-pub use Rattle.judge9.specs.Parts.{AreEvents, begins_next_part, Event, events_by, events_in, events_of, exchanges_after, late_replies}
+pub use Rattle.judge9.specs.Beginning.{begins_next_part, from_command, judged_from, judged_rows, may_begin, passed_before, Rest, rest_after, takes_up_at}
+pub use Rattle.judge9.specs.Parts.{AreParts, AreTotals, BrokenPart, exchanges_of, in_parts, IsPart, number_of, Part}
+pub use Rattle.judge9.specs.Parts.{AreEvents, Event, events_by, events_in, events_of, exchanges_after, late_replies}
 pub use Rattle.judge9.specs.PartsReport.{AreTextsOf, InParts, IsEndText, IsEventText, SaysLate, PartsTold, IsRefusedAfter, IsTextOf, IsToTheEnd, ToldInParts, WrittenInParts}
 pub use Rattle.block9.specs.Exchange.{records_in}
 pub use Rattle.report9.specs.WhyText.{text_of_why}
-pub use Rattle.judge9.specs.Working.Parts.{BeginsAfter, BeginsAt, ComesThen, IsBreakText, IsLateBefore, IsPutBreak, SaysNoRun, SaysWhy, GivesAll, JudgesParts, last_of, NoneBegins, Resumes, PassesOver, ResumesAfter, TakesUp}
+pub use Rattle.judge9.specs.Working.Beginnings.{BeginsAfter, BeginsAt, ComesFirst, ComesThen, GivesAll, last_of, NoneBegins, PassesOver, Resumes, ResumesAfter, TakesUp}
+pub use Rattle.judge9.specs.Working.Parts.{IsBreakText, IsLateBefore, IsPutBreak, SaysNoRun, SaysWhy, JudgesParts}
 pub use Rattle.judge9.specs.Working.Turns.{AreOpen, BeginsReplyLate, Comes, Completes, ComesTo, EndsRows, IsFresh, IsObserved, IsOpen, KnowsNothing, Observes, rows_allowed, Spoils, Took, Turned, Waits}
 pub use Rattle.judge9.specs.declared.part.PartLog.{PartLog}
 pub use Rattle.judge9.specs.Working.Part.{GoesThrough, IsAtExchange, IsAtLate, IsJudgedFirst, IsJudgedPart, IsLateText, IsLogOf, IsLogged, IsLoggedLate, TellsAt, TellsLateAt, TellsNot, TellsTurn, turn_of}

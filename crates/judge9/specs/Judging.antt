@@ -1,6 +1,6 @@
 -- The answer to a text: a verdict on its records, or the fault for which it can't be read to its end. And what
 -- a result of `judge` tells of it.
-use Rattle.std.specs.Prelude.{◌≡◌, ◌≢◌, ⊤, ◌+◌, ◌≤◌, IsTrue, List, Option, Some, None, Result, Ok, Err, if◌then◌else◌}
+use Rattle.std.specs.Prelude.{◌≡◌, ◌≢◌, ⊤, ℕ, ◌+◌, ◌≤◌, IsTrue, List, Option, Some, None, Result, Ok, Err, if◌then◌else◌}
 use Rattle.capture9.specs.declared.error.CaptureError.{CaptureError}
 use Rattle.capture9.specs.declared.error.CaptureKind.TheVariants as kind
 use Rattle.capture9.specs.declared.line_byte.LineByte.{LineByte}
@@ -13,6 +13,8 @@ use Rattle.verdict9.specs.declared.error.JudgeError.{JudgeError}
 use Rattle.verdict9.specs.declared.error.JudgeError.TheVariants as error
 use Rattle.verdict9.specs.declared.verdict.Verdict.{Verdict}
 use Rattle.verdict9.specs.declared.verdict.Verdict.TheVariants as verdict
+use Rattle.verdict9.specs.declared.verdict.Beginning.{Beginning}
+use Rattle.judge9.specs.Beginning.{judged_from, judged_rows, passed_before}
 use Rattle.judge9.specs.Verdict.{AreCounts, CanBeVerdict, IsFirstBreak, IsOk, counting}
 
 -- a verdict, or the fault of the first bad row of a text that can't be read to its end
@@ -28,10 +30,21 @@ IsAnswer profile rows (judged (verdict.Yes records exchanges tail)) = (rows.faul
 IsAnswer profile rows (judged (verdict.No at reason)) = IsFirstBreak (counting profile) rows.records at reason
 IsAnswer profile rows (unreadable e) = (rows.fault ≡ Some e) × IsOk (counting profile) rows.records
 
--- the answer is right for a text with these rows, and no other one is
-pub record IsTheAnswer (profile : Profile) (rows : Rows) (answer : Answer) : Type 0 where
-  pub is_answer : IsAnswer profile rows answer
-  pub only : (other : Answer) → IsAnswer profile rows other → other ≡ answer
+-- the same answer of records before which so many are passed over: they keep the numbers that they have in the whole capture
+abbrev pub moved_by : ℕ → Answer → Answer
+moved_by past (judged (verdict.Yes records exchanges tail)) = judged (verdict.Yes records exchanges tail)
+moved_by past (judged (verdict.No at reason)) = judged (verdict.No (past + at) reason)
+moved_by past (unreadable e) = unreadable e
+
+-- the answer is right for a text with these rows where its judging begins so: it is that of the rows that are judged, moved
+abbrev pub IsAnswerFrom : Beginning → Profile → Rows → Answer → Type 0
+IsAnswerFrom beginning profile rows answer =
+    (own : Answer) × IsAnswer profile (judged_rows beginning rows) own × (answer ≡ moved_by (passed_before beginning rows) own)
+
+-- it is right, and no other one is
+pub record IsTheAnswer (beginning : Beginning) (profile : Profile) (rows : Rows) (answer : Answer) : Type 0 where
+  pub is_answer : IsAnswerFrom beginning profile rows answer
+  pub only : (other : Answer) → IsAnswerFrom beginning profile rows other → other ≡ answer
 
 -- the answer that a result of `judge` tells: none where the reader, the writer or the memory failed
 abbrev pub answer_of : Result Verdict JudgeError → Option Answer
@@ -40,20 +53,20 @@ answer_of (Err (error.Capture e)) = if is_of_text e.kind then Some (unreadable e
 answer_of (Err error.Write) = None
 answer_of (Err error.OutOfMemory) = None
 
--- all the records before the row of this refusal keep the rules; before row 0, the header, there are none, and
+-- all the records before the row of this refusal that are judged keep the rules; before row 0, the header, there are none, and
 -- after it the text has its header
-pub record IsOkBefore (profile : Profile) (rows : Rows) (e : CaptureError) : Type 0 where
+pub record IsOkBefore (beginning : Beginning) (profile : Profile) (rows : Rows) (e : CaptureError) : Type 0 where
   pub items : List LineByte
   pub start : IsStartOf items rows.records
   pub place : IsAfter most_rows items e
   pub has_header : e.row ≢ 0 → HasHeader rows
-  pub is_ok : IsOk (counting profile) items
+  pub is_ok : IsOk (counting profile) (judged_from beginning items).records
 
--- where the reader failed at a row, all the records before it keep the rules
-abbrev pub StoppedBefore : Profile → Rows → JudgeError → Type 0
-StoppedBefore profile rows (error.Capture e) = e.kind ≡ kind.Read → IsOkBefore profile rows e
-StoppedBefore profile rows error.Write = ⊤
-StoppedBefore profile rows error.OutOfMemory = ⊤
+-- where the reader failed at a row, all the records before it that are judged keep the rules
+abbrev pub StoppedBefore : Beginning → Profile → Rows → JudgeError → Type 0
+StoppedBefore beginning profile rows (error.Capture e) = e.kind ≡ kind.Read → IsOkBefore beginning profile rows e
+StoppedBefore beginning profile rows error.Write = ⊤
+StoppedBefore beginning profile rows error.OutOfMemory = ⊤
 
 -- a row that a refusal of a capture can name
 pub record CanBeRefusal (e : CaptureError) : Type 0 where

@@ -1,5 +1,6 @@
 pub mod Verdict
 pub mod Judging
+pub mod Beginning
 pub mod InTime
 pub mod Parts
 pub mod PartsReport

@@ -1,57 +1,19 @@
 -- The parts that a capture is judged in where the judging goes on after each break. Each part is judged as a capture by itself:
 -- nothing is known of the deck where it begins. A late reply is told where it begins, and ends no part. Records keep the numbers
 -- that they have in the whole capture.
-use Rattle.std.specs.Prelude.{◌≡◌, ℕ, ◌+◌, nat_lt, not, ◌&&◌, ◌||◌, Bool, true, false, if◌then◌else◌, List, [], ◌∷◌, ◌++◌, length}
+use Rattle.std.specs.Prelude.{◌≡◌, ℕ, ◌+◌, Bool, if◌then◌else◌, List, [], ◌∷◌, ◌++◌, length}
 use Rattle.capture9.specs.declared.line_byte.LineByte.{LineByte}
 use Rattle.block9.specs.declared.exchange.Exchange.{Exchange}
 use Rattle.block9.specs.declared.line_rules.LineRules.{LineRules}
 use Rattle.block9.specs.declared.line_rules.ReplyLimit.TheVariants.{LeftAside}
 use Rattle.block9.specs.declared.reason.Reason.{Reason}
-use Rattle.block9.specs.declared.reason.Reason.TheVariants.{ByteGap, CommandBeforeReply, CommandInsideReply, NoReply}
 use Rattle.block9.specs.Exchange.{Cut, Does, Outcome, TellsLate, records_in, tail_after}
 use Rattle.block9.specs.Exchange.Outcome.{answers_late, asks, completes, leaves_open}
-use Rattle.block9.specs.Line.{byte_gap, is_commands_wire}
 use Rattle.deck9.specs.declared.profile.Profile.{Profile}
 use Rattle.deck9.specs.Run.{HasRun}
 use Rattle.verdict9.specs.declared.totals.Totals.{Totals}
+use Rattle.judge9.specs.Beginning.{Rest, rest_after}
 use Rattle.judge9.specs.Verdict.{Breaks, Terms, line_rules, terms_of}
-
--- ---- where a part begins
-
--- a record that comes after `last` may be the first of a command: it comes on the controller's wire, and after a record of the
--- deck or after the byte gap
-abbrev pub may_begin : LineByte → LineByte → Bool
-may_begin last next = is_commands_wire next.wire && (not (is_commands_wire last.wire) || nat_lt (last.time_us + byte_gap) next.time_us)
-
--- the reasons for which a command may begin at the record that breaks: it comes where a reply is to come or to end, or after
--- the byte gap
-abbrev pub takes_up_at : Reason → Bool
-takes_up_at CommandBeforeReply = true
-takes_up_at NoReply = true
-takes_up_at CommandInsideReply = true
-takes_up_at ByteGap = true
-takes_up_at _ = false
-
--- the record that breaks is itself the first of the next part
-abbrev pub begins_next_part : Reason → LineByte → Bool
-begins_next_part reason breaking = takes_up_at reason && is_commands_wire breaking.wire
-
--- records of a capture that are still to be judged, and how many records of it come before them
-pub record Rest : Type 0 where
-  pub past : ℕ
-  pub records : List LineByte
-
--- what is left of these records from the first on that may begin a command, and nothing where none may; so many records come
--- before them, the last of which is `last`
-abbrev pub from_command : ℕ → LineByte → List LineByte → Rest
-from_command past last [] = record { past = past; records = [] }
-from_command past last (r ∷ records) =
-    if may_begin last r then record { past = past; records = r ∷ records } else from_command (past + 1) r records
-
--- what the next part begins with after a break for this reason: so many records come before the one that breaks, and these after it
-abbrev pub rest_after : ℕ → Reason → LineByte → List LineByte → Rest
-rest_after past reason breaking after =
-    if begins_next_part reason breaking then record { past = past; records = breaking ∷ after } else from_command (past + 1) breaking after
 
 -- ---- the parts
 

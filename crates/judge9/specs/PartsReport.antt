@@ -29,7 +29,9 @@ use Rattle.verdict9.specs.declared.why_verdict.WhyVerdict.TheVariants as why
 use Rattle.text9.specs.Explanation.{line_of_exchange}
 use Rattle.report9.specs.WhyText.{text_of_why}
 use Rattle.text9.specs.Writing.{AppendsPart}
-use Rattle.judge9.specs.Parts.{AreParts, AreTotals, BrokenPart, Event, IsPart, Part, Rest, events_in, in_parts, number_of}
+use Rattle.verdict9.specs.declared.verdict.Beginning.{Beginning}
+use Rattle.judge9.specs.Beginning.{Rest, judged_from}
+use Rattle.judge9.specs.Parts.{AreParts, AreTotals, BrokenPart, Event, IsPart, Part, events_in, in_parts, number_of}
 use Rattle.judge9.specs.Parts.Event.{exchange, late_reply}
 use Rattle.judge9.specs.Verdict.{Terms, line_rules}
 use Rattle.judge9.specs.WhyVerdict.{HasItsWhy, moved, verdict_of}
@@ -67,13 +69,13 @@ abbrev pub IsTextOf : Telling → Profile → BrokenPart → List ℕ → Type 0
 IsTextOf telling profile b text =
     (lines : List ℕ) × (end : List ℕ) × AreTextsOf (IsEventText telling (in_parts profile)) (events_in b) lines × IsEndText telling profile b end × (text ≡ lines ++ end)
 
--- what came of these rows is told of the first of their records, `items`: they have these parts that break, and what is left
+-- what came of these rows is told of the first of their records, `items`: those that are judged have these parts that break, and what is left
 -- of them begins with the last part, which keeps the rules; `text` is that of the parts that break, and what is told of the last
-pub record InParts (IsText : BrokenPart → List ℕ → Type 0) (telling : Telling) (profile : Profile) (rows : Rows) (items : List LineByte) (broken : List BrokenPart)
+pub record InParts (IsText : BrokenPart → List ℕ → Type 0) (beginning : Beginning) (telling : Telling) (profile : Profile) (rows : Rows) (items : List LineByte) (broken : List BrokenPart)
     (left : Rest) (last : Part)
     (text : List ℕ) : Type 0 where
   pub start : IsStartOf items rows.records
-  pub parts : AreParts profile (record { past = 0; records = items }) broken left
+  pub parts : AreParts profile (judged_from beginning items) broken left
   pub is_part : IsPart profile last
   pub past : last.past ≡ left.past
   pub begins : IsStartOf last.records left.records
@@ -113,7 +115,7 @@ WrittenInParts rows items broken left last text (Err error.OutOfMemory) old new 
 
 -- the rows that a judging of all parts speaks of, their parts, and what was written. The rows are those of the text, where the
 -- reader tells its bytes; else they are what it gave, and are those of some text. A text may have as many rows as can be numbered
-pub record PartsTold (IsText : BrokenPart → List ℕ → Type 0) (telling : Telling) (profile : Profile) (known : Option Rows) (result : Result Totals JudgeError)
+pub record PartsTold (IsText : BrokenPart → List ℕ → Type 0) (beginning : Beginning) (telling : Telling) (profile : Profile) (known : Option Rows) (result : Result Totals JudgeError)
     (old new : Option (List ℕ)) : Type 0 where
   pub rows : Rows
   pub is_known : IfSome known (λ all. rows ≡ all)
@@ -123,9 +125,9 @@ pub record PartsTold (IsText : BrokenPart → List ℕ → Type 0) (telling : Te
   pub left : Rest
   pub last : Part
   pub text : List ℕ
-  pub in_parts : InParts IsText telling profile rows items broken left last text
+  pub in_parts : InParts IsText beginning telling profile rows items broken left last text
   pub written : WrittenInParts rows items broken left last text result old new
 
 -- with what is written of each part
-abbrev pub ToldInParts : Telling → Profile → Option Rows → Result Totals JudgeError → Option (List ℕ) → Option (List ℕ) → Type 0
-ToldInParts telling profile known result old new = PartsTold (IsTextOf telling profile) telling profile known result old new
+abbrev pub ToldInParts : Beginning → Telling → Profile → Option Rows → Result Totals JudgeError → Option (List ℕ) → Option (List ℕ) → Type 0
+ToldInParts beginning telling profile known result old new = PartsTold (IsTextOf telling profile) beginning telling profile known result old new

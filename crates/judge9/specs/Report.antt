@@ -24,7 +24,9 @@ use Rattle.verdict9.specs.declared.verdict.View.{View}
 use Rattle.verdict9.specs.declared.verdict.View.TheVariants as view
 use Rattle.text9.specs.Explanation.{line_of_exchange}
 use Rattle.text9.specs.Writing.{AppendsPart}
-use Rattle.judge9.specs.Judging.{Answer, IsAnswer, IsTheAnswer, answer_of}
+use Rattle.verdict9.specs.declared.verdict.Beginning.{Beginning}
+use Rattle.judge9.specs.Beginning.{judged_from}
+use Rattle.judge9.specs.Judging.{Answer, IsAnswerFrom, IsTheAnswer, answer_of, moved_by}
 use Rattle.judge9.specs.Judging.Answer.{judged, unreadable}
 use Rattle.judge9.specs.Verdict.{counting, line_rules}
 
@@ -53,45 +55,45 @@ abbrev pub last_line : Answer → List ℕ
 last_line (judged v) = line_of v
 last_line (unreadable e) = []
 
--- the whole text of a report on a text with these rows, of which this is the answer
-pub record IsText (which : View) (profile : Profile) (rows : Rows) (answer : Answer) (whole : List ℕ) : Type 0 where
+-- the whole text of a report on these rows, of which this is the answer; so many records are passed over before them
+pub record IsText (which : View) (profile : Profile) (past : ℕ) (rows : Rows) (answer : Answer) (whole : List ℕ) : Type 0 where
   pub exchanges : List Exchange
   pub tail : List LineByte
   pub cut : Cut (line_rules (counting profile)) (explained_of rows answer) exchanges tail
   pub text : List ℕ
-  pub explained : IsExplained which profile 0 exchanges text
-  pub is_whole : whole ≡ text ++ last_line answer
+  pub explained : IsExplained which profile past exchanges text
+  pub is_whole : whole ≡ text ++ last_line (moved_by past answer)
 
--- a verdict for which these records are the ones that keep the rules: all of them, or those before the break
-abbrev pub IsVerdictAfter : List LineByte → Verdict → Type 0
-IsVerdictAfter items (Yes records exchanges tail) = records ≡ length items
-IsVerdictAfter items (No at reason) = at ≡ length items + 1
+-- a verdict for which these records are all of them, or those before the break; those that are judged keep the rules
+abbrev pub IsVerdictAfter : Beginning → List LineByte → Verdict → Type 0
+IsVerdictAfter beginning items (Yes records exchanges tail) = records ≡ length (judged_from beginning items).records
+IsVerdictAfter beginning items (No at reason) = at ≡ length items + 1
 
--- what was written, by the result, where these records were found to keep the rules and `text` is what the view shows
--- of their exchanges: with a verdict the text and the verdict's line; at a refusal of the capture the text, and these
+-- what was written, by the result, where of these records those that are judged were found to keep the rules and `text` is what
+-- the view shows of their exchanges: with a verdict the text and the verdict's line; at a refusal of the capture the text, and these
 -- records are all those before its row; where the writer failed a first part of the text, or of the text and the right
 -- verdict's line; where memory ran out the text
-abbrev pub Written : Profile → Rows → List LineByte → List ℕ → Result Verdict JudgeError → Option (List ℕ) → Option (List ℕ) → Type 0
-Written profile rows items text (Ok v) old new = IsVerdictAfter items v × Appends old new (text ++ line_of v)
-Written profile rows items text (Err (error.Capture e)) old new = IsAfter most_rows items e × Appends old new text
-Written profile rows items text (Err error.Write) old new =
-    AppendsPart old new text ⊎ ((v : Verdict) × IsAnswer profile rows (judged v) × IsVerdictAfter items v × AppendsPart old new (text ++ line_of v))
-Written profile rows items text (Err error.OutOfMemory) old new = Appends old new text
+abbrev pub Written : Beginning → Profile → Rows → List LineByte → List ℕ → Result Verdict JudgeError → Option (List ℕ) → Option (List ℕ) → Type 0
+Written beginning profile rows items text (Ok v) old new = IsVerdictAfter beginning items v × Appends old new (text ++ line_of v)
+Written beginning profile rows items text (Err (error.Capture e)) old new = IsAfter most_rows items e × Appends old new text
+Written beginning profile rows items text (Err error.Write) old new =
+    AppendsPart old new text ⊎ ((v : Verdict) × IsAnswerFrom beginning profile rows (judged v) × IsVerdictAfter beginning items v × AppendsPart old new (text ++ line_of v))
+Written beginning profile rows items text (Err error.OutOfMemory) old new = Appends old new text
 
--- the rows that a judging speaks of, its answer for them, the first of their records, which it found to keep the rules,
--- and what it wrote. The rows are those of the text, where the reader tells its bytes; else they are what it gave, and
+-- the rows that a judging speaks of, its answer for them, the first of their records, of which it found those that are judged to
+-- keep the rules, and what it wrote. The rows are those of the text, where the reader tells its bytes; else they are what it gave, and
 -- are those of some text
-pub record Told (which : View) (profile : Profile) (known : Option Rows) (result : Result Verdict JudgeError) (old new : Option (List ℕ)) : Type 0 where
+pub record Told (which : View) (beginning : Beginning) (profile : Profile) (known : Option Rows) (result : Result Verdict JudgeError) (old new : Option (List ℕ)) : Type 0 where
   pub rows : Rows
   pub is_known : IfSome known (λ all. rows ≡ all)
   pub of_a_text : IfNone known (IsOfSomeText most_rows rows)
-  pub answer : IfSome (answer_of result) (IsTheAnswer profile rows)
+  pub answer : IfSome (answer_of result) (IsTheAnswer beginning profile rows)
   pub items : List LineByte
   pub start : IsStartOf items rows.records
   pub exchanges : List Exchange
   pub tail : List LineByte
-  pub cut : Cut (line_rules (counting profile)) items exchanges tail
+  pub cut : Cut (line_rules (counting profile)) (judged_from beginning items).records exchanges tail
   pub run : HasRun profile exchanges
   pub text : List ℕ
-  pub explained : IsExplained which profile 0 exchanges text
-  pub written : Written profile rows items text result old new
+  pub explained : IsExplained which profile (judged_from beginning items).past exchanges text
+  pub written : Written beginning profile rows items text result old new

@@ -16,6 +16,8 @@ use Rattle.verdict9.specs.declared.verdict.Verdict.{Verdict}
 use Rattle.verdict9.specs.declared.verdict.Verdict.TheVariants as verdict
 use Rattle.verdict9.specs.declared.why_verdict.WhyVerdict.{WhyVerdict}
 use Rattle.verdict9.specs.declared.why_verdict.WhyVerdict.TheVariants as why
+use Rattle.verdict9.specs.declared.verdict.Beginning.{Beginning}
+use Rattle.judge9.specs.Beginning.{judged_rows, passed_before}
 use Rattle.judge9.specs.Judging.{IsTheAnswer, answer_of}
 use Rattle.judge9.specs.Verdict.{Terms, counting, line_rules}
 use Rattle.verdict9.specs.OpenRecords.{IsBefore, IsBreakAfter}
@@ -48,11 +50,16 @@ HasItsWhy terms rows (why.Break at reason tail o before r) =
 HasItsWhy terms rows (why.Contradiction at exchanges places known shown) =
     Cut (line_rules terms) (take at rows.records) exchanges.items [] × IsContradiction terms.profile exchanges.items places.items × CouldShow terms.profile exchanges.items known shown
 
+-- the same where the judging begins so: it is that of the rows that are judged, moved
+abbrev pub HasItsWhyFrom : Beginning → Profile → Rows → WhyVerdict → Type 0
+HasItsWhyFrom beginning profile rows why =
+    (own : WhyVerdict) × HasItsWhy (counting profile) (judged_rows beginning rows) own × (why ≡ moved (passed_before beginning rows) own)
+
 -- the rows that a judging speaks of, with its answer for them and why it is a no. The rows are those of the text, where
 -- the reader tells its bytes; else they are what it gave, and are those of some text
-pub record IsJudgedWhy (profile : Profile) (known : Option Rows) (result : Result WhyVerdict JudgeError) : Type 0 where
+pub record IsJudgedWhy (beginning : Beginning) (profile : Profile) (known : Option Rows) (result : Result WhyVerdict JudgeError) : Type 0 where
   pub rows : Rows
   pub is_known : IfSome known (λ all. rows ≡ all)
   pub of_a_text : IfNone known (IsOfSomeText most_rows rows)
-  pub answer : IfSome (answer_of (judged_of result)) (IsTheAnswer profile rows)
-  pub why : IfOk result (HasItsWhy (counting profile) rows)
+  pub answer : IfSome (answer_of (judged_of result)) (IsTheAnswer beginning profile rows)
+  pub why : IfOk result (HasItsWhyFrom beginning profile rows)

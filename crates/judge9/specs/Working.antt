@@ -1,5 +1,6 @@
 -- What the clauses of private functions cite, and the names from elsewhere that its parts need, passed on from here. No public
 -- contract reaches it, so no reader has to believe it.
+pub mod Beginnings
 pub mod Endings
 pub mod Part
 pub mod Parts
@@ -32,7 +33,7 @@ pub use Rattle.std.specs.Io.KnownBytes.{Appends}
 pub use Rattle.std.specs.List.{All}
 pub use Rattle.std.specs.Option.{IfSome}
 pub use Rattle.std.specs.Prelude.{[], Bool, Err, false, IsTrue, length, List, None, Ok, Option, Result, reverse, slice_get, Some, suc, take, true, zero, ℕ, ⊤}
-use Rattle.std.specs.Prelude.{◌≡◌, ◌≢◌}
+use Rattle.std.specs.Prelude.{◌≡◌, ◌≢◌, ◌+◌}
 pub use Rattle.std.specs.Result.{IfErr, IfOk}
 pub use Rattle.text9.specs.Explanation.{line_of_exchange}
 pub use Rattle.text9.specs.Writing.{AppendsPart}
@@ -43,6 +44,7 @@ pub use Rattle.verdict9.specs.Error.{refusal_of}
 pub use Rattle.verdict9.specs.OpenRecords.{IsBreakAfter}
 pub use Rattle.verdict9.specs.declared.error.JudgeError.TheVariants.{the_data as JudgeError}
 pub use Rattle.verdict9.specs.declared.run_verdict.RunVerdict.TheVariants.{the_data as RunVerdict}
+pub use Rattle.verdict9.specs.declared.verdict.Beginning.TheVariants.{the_data as Beginning}
 pub use Rattle.verdict9.specs.declared.verdict.Verdict.TheVariants.{the_data as Verdict}
 pub use Rattle.verdict9.specs.declared.verdict.View.TheVariants.{the_data as View}
 pub use Rattle.verdict9.specs.declared.why_verdict.WhyVerdict.TheVariants.{the_data as WhyVerdict}
@@ -74,13 +76,13 @@ pub record Explains (which : View) (profile : Profile) (at : ℕ) (e : Exchange)
   pub puts : Puts line result old new
 
 -- all that the result of a judging tells
-pub record Judges (which : View) (profile : Profile) (rows : Option Rows) (result : Result Verdict JudgeError) (old new : Option (List ℕ)) : Type 0 where
-  pub told : Told which profile rows result old new
-  pub stopped : IfSome rows (λ all. IfErr result (StoppedBefore profile all))
+pub record Judges (which : View) (beginning : Beginning) (profile : Profile) (rows : Option Rows) (result : Result Verdict JudgeError) (old new : Option (List ℕ)) : Type 0 where
+  pub told : Told which beginning profile rows result old new
+  pub stopped : IfSome rows (λ all. IfErr result (StoppedBefore beginning profile all))
   pub is_kind : (e : CaptureError) → result ≡ Err (JudgeError.Capture e) → e.kind ≢ CaptureKind.OutOfMemory
   pub can_be : CanBeResult result
 
--- the verdict where a part that came to so many exchanges, all of whose records come first, ends so
-abbrev pub verdict_at : {R : Type 0} → Judging R → ℕ → Option Break → Verdict
-verdict_at j exchanges None = Verdict.Yes j.rows.given exchanges (length j.follower.pairer.tail)
-verdict_at j exchanges (Some b) = Verdict.No j.rows.given b.reason
+-- the verdict where a part ends so that came to so many exchanges, which have so many records
+abbrev pub verdict_at : {R : Type 0} → Judging R → ℕ → ℕ → Option Break → Verdict
+verdict_at j exchanges records None = Verdict.Yes (records + length j.follower.pairer.tail) exchanges (length j.follower.pairer.tail)
+verdict_at j exchanges records (Some b) = Verdict.No j.rows.given b.reason

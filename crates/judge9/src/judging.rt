@@ -4,7 +4,7 @@ ghost use Rattle.std.specs.Option.{ForSome};
 ghost use Rattle.capture9.specs.Records.{GivesRecord, Progress};
 ghost use Rattle.capture9.specs.Rows.{rows_within};
 ghost use Rattle.judge9.specs.Verdict.{Terms, terms_of};
-ghost use Rattle.judge9.specs.Working.Parts.{BeginsAfter, TakesUp};
+ghost use Rattle.judge9.specs.Working.Beginnings.{BeginsAfter, ComesFirst, TakesUp};
 ghost use Rattle.judge9.specs.Working.Turns.{ComesTo, IsFresh, KnowsNothing, rows_allowed};
 
 use crate::follower::Follower;
@@ -15,7 +15,7 @@ use capture9::{GREATEST_LIMIT, LineByte, MOST_ROWS, Records};
 use deck9::Profile;
 use std::alloc::{AllocError, Global};
 use std::io::Read;
-use verdict9::JudgeError;
+use verdict9::{Beginning, JudgeError};
 
 /// How far the judging of a capture has come.
 #[derive(Drop)]
@@ -77,6 +77,21 @@ impl<'a, R: Read + Drop> Judging<'a, R> {
         }
     }
 
+    /// Comes to the first turn of a capture of which nothing was judged yet, whose judging begins so. Errors are those of `next`.
+    #[inline(always)] // else the turn would be handed on through memory
+    pub(crate) fn first(&mut self, beginning: Beginning) -> Result<Turn, JudgeError>
+        requires { (terms : Terms) × IsFresh terms self.old }
+        ensures { (terms : Terms) → IsFresh terms self.old → ComesFirst terms beginning self.old result self.new }
+    {
+        match beginning {
+            Beginning::FirstRecord => self.next(),
+            Beginning::FirstCommand => match pass_over(&mut self.rows, None)? {
+                Some(first) => self.begin(first),
+                None => Ok(Turn::End),
+            },
+        }
+    }
+
     /// Takes up where the next part of the capture begins, after a record that was read last broke a rule. What it comes to there
     /// is as for `next`, and so are the errors.
     pub(crate) fn take_up(
@@ -93,7 +108,7 @@ impl<'a, R: Read + Drop> Judging<'a, R> {
         if begins_next_part(broken.reason, broken.record) {
             return self.begin(broken.record);
         }
-        match pass_over(&mut self.rows, broken.record)? {
+        match pass_over(&mut self.rows, Some(broken.record))? {
             Some(first) => self.begin(first),
             None => Ok(Turn::End),
         }

@@ -6,12 +6,13 @@ ghost use Rattle.block9.specs.Line.{last_time};
 ghost use Rattle.block9.specs.Reason.{IsReason};
 ghost use Rattle.block9.specs.declared.exchange.Exchange.{Exchange};
 ghost use Rattle.capture9.specs.Rows.{Rows};
+ghost use Rattle.judge9.specs.Beginning.{Rest, judged_rows, passed_before};
 ghost use Rattle.judge9.specs.Judging.{Answer, IsAnswer};
 ghost use Rattle.judge9.specs.Judging.Answer.{judged};
 ghost use Rattle.judge9.specs.Report.{IsText, Told};
 ghost use Rattle.text9.specs.Writing.{AppendsPart};
 ghost use Rattle.judge9.specs.InTime.{AreSameParts, ComeInTime, IsSamePart, late_at};
-ghost use Rattle.judge9.specs.Parts.{AreParts, AreTotals, BrokenPart, Event, IsPart, Part, Rest, events_of, in_parts, late_replies, number_of};
+ghost use Rattle.judge9.specs.Parts.{AreParts, AreTotals, BrokenPart, Event, IsPart, Part, events_of, in_parts, late_replies, number_of};
 ghost use Rattle.judge9.specs.Parts.Event.{late_reply};
 ghost use Rattle.judge9.specs.Verdict.{AreCounts, Breaks, IsFirstBreak, IsOk, Terms, counting, line_rules};
 ghost use Rattle.std.specs.List.{All};
@@ -24,7 +25,7 @@ use block9::{LineRules, Reason};
 use capture9::LineByte;
 use deck9::{Hands, Profile};
 use tc25::Rate;
-use verdict9::{JudgeError, Totals, Verdict, View};
+use verdict9::{Beginning, JudgeError, Totals, Verdict, View};
 
 /// A list of records has at most one cut into exchanges and a tail.
 pub fn one_cut()
@@ -63,9 +64,10 @@ pub fn one_answer()
 
 /// Whatever the result, what was written is a first part of the whole text of the report.
 pub fn first_part_of_the_text()
-    ensures { (view : View) (profile : Profile) (rows : Rows) (result : Result Verdict JudgeError) (old new : Option (List ℕ))
-        (answer : Answer) (whole : List ℕ) → Told view profile (Some rows) result old new
-        → IsAnswer profile rows answer → IsText view profile rows answer whole → AppendsPart old new whole }
+    ensures { (view : View) (beginning : Beginning) (profile : Profile) (rows : Rows) (result : Result Verdict JudgeError) (old new : Option (List ℕ))
+        (answer : Answer) (whole : List ℕ) → Told view beginning profile (Some rows) result old new
+        → IsAnswer profile (judged_rows beginning rows) answer
+        → IsText view profile (passed_before beginning rows) (judged_rows beginning rows) answer whole → AppendsPart old new whole }
 {}
 
 /// Who may touch the deck explains no less: a yes without hands is the same yes with them, and where both are a no, that

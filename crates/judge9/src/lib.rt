@@ -26,5 +26,5 @@ pub use deck9::{is_run, is_run_of};
 pub use parts_judging::judge_parts_for;
 pub use run_judging::judge_with_run_for;
 pub use verdict_judging::judge_for;
-pub use verdict9::{JudgeError, RunVerdict, Telling, Totals, Verdict, View, WhyVerdict};
+pub use verdict9::{Beginning, JudgeError, RunVerdict, Telling, Totals, Verdict, View, WhyVerdict};
 pub use why_judging::judge_with_contradiction_for;

@@ -28,7 +28,7 @@ use std::alloc::{AllocError, Global};
 use std::io::{Read, Write};
 use text9::{put_exchange_line_for, write_all};
 use track9::Tracker;
-use verdict9::{JudgeError, Telling, Verdict, View, put_verdict_line};
+use verdict9::{Beginning, JudgeError, Telling, Verdict, View, put_verdict_line};
 
 /// What is counted of the exchanges and the late replies of a part, and what is kept of them.
 #[derive(Drop)]
@@ -68,6 +68,14 @@ impl PartLog {
         }
     }
 
+    /// How many records the part has: those of its exchanges, and those of the tail, so many.
+    pub(crate) fn records_with(&self, tail: usize) -> u32
+        requires { self.now.records + tail ≤ greatest_limit }
+        ensures { result ≡ self.now.records + tail }
+    {
+        self.records as u32 + tail as u32
+    }
+
     /// Counts the exchange that the judging came to last.
     #[inline(always)] // it is done with every exchange
     fn count(&mut self, exchange: &Exchange)
@@ -97,9 +105,10 @@ impl PartLog {
     }
 }
 
-/// Judges the first part of a capture, of which nothing was judged yet, as [`judge_part`] does.
+/// Judges the first part of a capture, of which nothing was judged yet and whose judging begins so, as [`judge_part`] does.
 pub(crate) fn judge_first_part<R: Read + Drop, W: Write>(
     judging: &mut Judging<R>,
+    beginning: Beginning,
     log: &mut PartLog,
     line: &mut Vec<u8>,
     writer: &mut W,
@@ -107,9 +116,9 @@ pub(crate) fn judge_first_part<R: Read + Drop, W: Write>(
 ) -> Result<Option<Break>, JudgeError>
     requires fresh { IsFresh (counting profile.now) judging.old }
     requires begun { IsLogOf log.old.telling [] 0 None log.old }
-    ensures { IsJudgedFirst log.old.telling profile.now judging.old (W.contents writer.old) result judging.new log.new (W.contents writer.new) }
+    ensures { IsJudgedFirst beginning log.old.telling profile.now judging.old (W.contents writer.old) result judging.new log.new (W.contents writer.new) }
 {
-    let first = judging.next()?;
+    let first = judging.first(beginning)?;
     judge_part(judging, first, log, line, writer, profile)
 }
 

@@ -1,7 +1,7 @@
-//! Where the next part of a capture begins after a break.
+//! Where the judging of a capture begins, and where its next part does after a break.
 ghost use Rattle.std.specs.Prelude.{◌≡◌};
-ghost use Rattle.judge9.specs.Parts.{begins_next_part, may_begin, takes_up_at};
-ghost use Rattle.judge9.specs.Working.Parts.{PassesOver};
+ghost use Rattle.judge9.specs.Beginning.{begins_next_part, may_begin, takes_up_at};
+ghost use Rattle.judge9.specs.Working.Beginnings.{PassesOver};
 
 use block9::{BYTE_GAP_US, Reason};
 use capture9::{LineByte, Records, Wire};
@@ -9,10 +9,10 @@ use std::io::Read;
 use verdict9::JudgeError;
 
 /// Passes over the records after `last` that can't begin a command, up to the first that may, and gives that, or none where there
-/// is none. Errors are those of the rows.
+/// is none. With no `last` the first record of the capture comes next. Errors are those of the rows.
 pub(crate) fn pass_over<R: Read + Drop>(
     rows: &mut Records<R>,
-    last: LineByte,
+    last: Option<LineByte>,
 ) -> Result<Option<LineByte>, JudgeError>
     ensures { PassesOver rows.old last result rows.new }
 {
@@ -24,15 +24,19 @@ pub(crate) fn pass_over<R: Read + Drop>(
         if may_begin(last, next) {
             return Ok(Some(next));
         }
-        last = next;
+        last = Some(next);
     }
 }
 
 /// Whether a record that comes after `last` may be the first of a command: it comes on the controller's wire, and after a record
-/// of the deck or after the byte gap. That is a choice of these rules.
-fn may_begin(last: LineByte, next: LineByte) -> bool
+/// of the deck or after the byte gap. Of the first record of a capture nobody knows what came before it. That is a choice of these
+/// rules.
+fn may_begin(last: Option<LineByte>, next: LineByte) -> bool
     ensures { result ≡ may_begin last next }
 {
+    let Some(last) = last else {
+        return false;
+    };
     match (next.wire, last.wire) {
         (Wire::Deck, _) => false,
         (Wire::Controller, Wire::Deck) => true,

@@ -23,7 +23,9 @@ use report9::put_why_for;
 use std::alloc::{AllocError, Global};
 use std::io::{Read, Write};
 use text9::write_all;
-use verdict9::{JudgeError, Telling, Totals, Verdict, put_totals_line, put_verdict_line};
+use verdict9::{
+    Beginning, JudgeError, Telling, Totals, Verdict, put_totals_line, put_verdict_line,
+};
 
 /// Judges the capture that the reader gives, part by part, and writes what is asked for.
 ///
@@ -52,9 +54,10 @@ pub fn judge_parts_for<R: Read + Drop, W: Write>(
     reader: R,
     writer: &mut W,
     telling: Telling,
+    beginning: Beginning,
     profile: &Profile,
 ) -> Result<Totals, JudgeError>
-    ensures told { ToldInParts telling profile.now (option_map (rows_within greatest_limit) (R.remaining reader)) result
+    ensures told { ToldInParts beginning telling profile.now (option_map (rows_within greatest_limit) (R.remaining reader)) result
         (W.contents writer.old) (W.contents writer.new) }
     ensures kind { (e : CaptureError) → result ≡ Err (JudgeError.Capture e)
         → e.kind ≢ CaptureKind.OutOfMemory }
@@ -63,7 +66,15 @@ pub fn judge_parts_for<R: Read + Drop, W: Write>(
 {
     let mut judging = Judging::new(alloc, reader, ReplyLimit::LeftAside, profile)?;
     let mut line = Vec::new(alloc);
-    let totals = judge_rows(alloc, &mut judging, &mut line, writer, telling, profile);
+    let totals = judge_rows(
+        alloc,
+        &mut judging,
+        &mut line,
+        writer,
+        telling,
+        beginning,
+        profile,
+    );
     drop(judging);
     totals
 }
@@ -75,15 +86,16 @@ fn judge_rows<'a, R: Read + Drop, W: Write>(
     line: &mut Vec<u8>,
     writer: &mut W,
     telling: Telling,
+    beginning: Beginning,
     profile: &'a Profile,
 ) -> Result<Totals, JudgeError>
     requires { IsFresh (in_parts profile.now) judging.old }
-    ensures { JudgesParts (IsTextOf telling profile.now) telling profile.now judging.old.rows.rows result (W.contents writer.old) (W.contents writer.new) }
+    ensures { JudgesParts (IsTextOf telling profile.now) beginning telling profile.now judging.old.rows.rows result (W.contents writer.old) (W.contents writer.new) }
 {
     let mut breaks = 0u64;
     let mut exchanges = 0u32;
     let mut in_exchanges = 0u64;
-    let mut turn = judging.next()?;
+    let mut turn = judging.first(beginning)?;
     'parts: loop {
         let mut log = PartLog::new(alloc, telling);
         let end = judge_part(judging, turn, &mut log, line, writer, profile)?;

@@ -15,7 +15,7 @@ use deck9::Profile;
 use run9::{Pace, states_of_run};
 use std::alloc::Global;
 use std::io::{self, Read};
-use verdict9::{JudgeError, RunVerdict, Telling};
+use verdict9::{Beginning, JudgeError, RunVerdict, Telling};
 
 /// Judges the capture that the reader gives, as [`judge_for`](crate::judge_for) does, and gives a yes with a run of the
 /// deck: the exchanges, and a state of the deck after each of them, such that some first state, drifts and steps of
@@ -39,20 +39,21 @@ use verdict9::{JudgeError, RunVerdict, Telling};
 pub fn judge_with_run_for<R: Read + Drop>(
     alloc: Global,
     reader: R,
+    beginning: Beginning,
     profile: &Profile,
 ) -> Result<RunVerdict, JudgeError>
     ensures answer { IfSome (R.remaining reader)
-        (λ text. IfSome (answer_of (judged_of result)) (IsTheAnswer profile.now (rows_of text))) }
-    ensures run { IsJudgedRun profile.now (option_map rows_of (R.remaining reader)) result }
+        (λ text. IfSome (answer_of (judged_of result)) (IsTheAnswer beginning profile.now (rows_of text))) }
+    ensures run { IsJudgedRun beginning profile.now (option_map rows_of (R.remaining reader)) result }
     ensures stopped { IfSome (R.remaining reader)
-        (λ text. IfErr result (StoppedBefore profile.now (rows_of text))) }
+        (λ text. IfErr result (StoppedBefore beginning profile.now (rows_of text))) }
     ensures kind { (e : CaptureError) → result ≡ Err (JudgeError.Capture e)
         → e.kind ≢ CaptureKind.OutOfMemory }
     ensures write { result ≢ Err JudgeError.Write }
     ensures can_be { CanBeResult (judged_of result) }
 {
     let mut judging = Judging::new(alloc, reader, ReplyLimit::Counts, profile)?;
-    let verdict = judge_rows(alloc, &mut judging, profile);
+    let verdict = judge_rows(alloc, &mut judging, beginning, profile);
     drop(judging);
     verdict
 }
@@ -62,14 +63,22 @@ pub fn judge_with_run_for<R: Read + Drop>(
 fn judge_rows<R: Read + Drop>(
     alloc: Global,
     judging: &mut Judging<R>,
+    beginning: Beginning,
     profile: &Profile,
 ) -> Result<RunVerdict, JudgeError>
     requires { IsFresh (counting profile.now) judging.old }
-    ensures { JudgesRun profile.now judging.old.rows.rows result }
+    ensures { JudgesRun beginning profile.now judging.old.rows.rows result }
 {
     let mut log = PartLog::new(alloc, Telling::Why);
     let mut line = Vec::new(alloc);
-    let end = judge_first_part(judging, &mut log, &mut line, &mut io::sink(), profile)?;
+    let end = judge_first_part(
+        judging,
+        beginning,
+        &mut log,
+        &mut line,
+        &mut io::sink(),
+        profile,
+    )?;
     match end {
         Some(broken) => Ok(RunVerdict::No {
             at: judging.rows.given(),
@@ -79,9 +88,12 @@ fn judge_rows<R: Read + Drop>(
             let pace = Pace::of(log.kept.len(), log.spans);
             let tracker = &judging.follower.tracker;
             let states = states_of_run(alloc, profile, &log.kept, tracker, pace)?;
+            let tail = judging.follower.pairer.tail_len();
+            let records = log.records_with(tail);
             Ok(RunVerdict::Yes {
-                records: judging.rows.given(),
-                tail: judging.follower.pairer.tail_len() as u32,
+                past: judging.rows.given() - records,
+                records,
+                tail: tail as u32,
                 exchanges: log.kept,
                 states,
             })

@@ -1,5 +1,6 @@
 //! Judges a capture as it is read, up to its first break, and tells the line of each exchange.
-ghost use Rattle.std.specs.Prelude.{◌≡◌, ◌≢◌, [], IfSome, IfErr, option_map, None};
+ghost use Rattle.std.specs.Prelude.{◌≡◌, ◌≢◌, ◌≤◌, ◌+◌, [], length, IfSome, IfErr, option_map, None};
+ghost use Rattle.capture9.specs.Fields.{greatest_limit};
 ghost use Rattle.capture9.specs.Rows.{rows_of};
 ghost use Rattle.judge9.specs.Judging.{CanBeResult, IsTheAnswer, StoppedBefore, answer_of};
 ghost use Rattle.verdict9.specs.Lines.{line_of};
@@ -19,12 +20,14 @@ use deck9::Profile;
 use std::alloc::Global;
 use std::io::{Read, Write};
 use text9::write_all;
-use verdict9::{JudgeError, Telling, Verdict, View, put_verdict_line};
+use verdict9::{Beginning, JudgeError, Telling, Verdict, View, put_verdict_line};
 
 /// Judges the capture that the reader gives, and writes the report that the view asks for.
 ///
 /// It reads row by row, up to the end, the first bad row or the first record that breaks a rule, and keeps no
-/// list of records. With `View::Explain` each exchange has a line, written in one piece once the exchange is complete; the
+/// list of records. The judging begins with the first record, or with the first that may begin a command: one on the controller's
+/// wire that comes after a record of the deck or after the byte gap, and not the first of the capture. What comes before that is
+/// passed over, and the answer is that of the capture without it, with the numbers that the records have in the whole capture. With `View::Explain` each exchange has a line, written in one piece once the exchange is complete; the
 /// line of the verdict is written last. The writer is not flushed.
 ///
 /// The profile says what the deck is taken for: its rate, whether somebody may have touched its panel, and what it does of its own.
@@ -70,14 +73,15 @@ pub fn judge_for<R: Read + Drop, W: Write>(
     reader: R,
     writer: &mut W,
     view: View,
+    beginning: Beginning,
     profile: &Profile,
 ) -> Result<Verdict, JudgeError>
     ensures answer { IfSome (R.remaining reader)
-        (λ text. IfSome (answer_of result) (IsTheAnswer profile.now (rows_of text))) }
-    ensures told { Told view profile.now (option_map rows_of (R.remaining reader)) result
+        (λ text. IfSome (answer_of result) (IsTheAnswer beginning profile.now (rows_of text))) }
+    ensures told { Told view beginning profile.now (option_map rows_of (R.remaining reader)) result
         (W.contents writer.old) (W.contents writer.new) }
     ensures stopped { IfSome (R.remaining reader)
-        (λ text. IfErr result (StoppedBefore profile.now (rows_of text))) }
+        (λ text. IfErr result (StoppedBefore beginning profile.now (rows_of text))) }
     ensures kind { (e : CaptureError) → result ≡ Err (JudgeError.Capture e)
         → e.kind ≢ CaptureKind.OutOfMemory }
     ensures can_be { CanBeResult result }
@@ -85,7 +89,14 @@ pub fn judge_for<R: Read + Drop, W: Write>(
     let mut judging = Judging::new(alloc, reader, ReplyLimit::Counts, profile)?;
     let mut line = Vec::new(alloc);
     let mut log = PartLog::new(alloc, Telling::Shown(view));
-    let verdict = judge_rows(&mut judging, &mut log, &mut line, writer, profile);
+    let verdict = judge_rows(
+        &mut judging,
+        beginning,
+        &mut log,
+        &mut line,
+        writer,
+        profile,
+    );
     drop(log);
     drop(judging);
     verdict
@@ -94,6 +105,7 @@ pub fn judge_for<R: Read + Drop, W: Write>(
 /// Judges all the rows that are to come and tells of them. `line` is room for a line, whose content is not kept.
 fn judge_rows<R: Read + Drop, W: Write>(
     judging: &mut Judging<R>,
+    beginning: Beginning,
     log: &mut PartLog,
     line: &mut Vec<u8>,
     writer: &mut W,
@@ -101,27 +113,27 @@ fn judge_rows<R: Read + Drop, W: Write>(
 ) -> Result<Verdict, JudgeError>
     requires fresh { IsFresh (counting profile.now) judging.old }
     requires begun { IsLogOf log.old.telling [] 0 None log.old }
-    ensures { Judges (view_of log.old.telling) profile.now judging.old.rows.rows result (W.contents writer.old) (W.contents writer.new) }
+    ensures { Judges (view_of log.old.telling) beginning profile.now judging.old.rows.rows result (W.contents writer.old) (W.contents writer.new) }
 {
-    let end = judge_first_part(judging, log, line, writer, profile)?;
-    let verdict = verdict_at(judging, log.exchanges, end);
+    let end = judge_first_part(judging, beginning, log, line, writer, profile)?;
+    let verdict = verdict_at(judging, log, end);
     tell(line, writer, verdict)
 }
 
-/// The verdict where a part ends so, after this many exchanges, of which all records came before it are the capture's.
-pub(crate) fn verdict_at<R: Read + Drop>(
-    judging: &Judging<R>,
-    exchanges: u32,
-    end: Option<Break>,
-) -> Verdict
-    ensures { result ≡ verdict_at judging.now exchanges end }
+/// The verdict where a part ends so of which this was counted.
+fn verdict_at<R: Read + Drop>(judging: &Judging<R>, log: &PartLog, end: Option<Break>) -> Verdict
+    requires { end ≡ None → log.now.records + length judging.now.follower.pairer.tail ≤ greatest_limit }
+    ensures { result ≡ verdict_at judging.now log.now.exchanges log.now.records end }
 {
     match end {
-        None => Verdict::Yes {
-            records: judging.rows.given(),
-            exchanges,
-            tail: judging.follower.pairer.tail_len() as u32,
-        },
+        None => {
+            let tail = judging.follower.pairer.tail_len();
+            Verdict::Yes {
+                records: log.records_with(tail),
+                exchanges: log.exchanges,
+                tail: tail as u32,
+            }
+        }
         Some(broken) => Verdict::No {
             at: judging.rows.given(),
             reason: broken.reason,

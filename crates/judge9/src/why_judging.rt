@@ -15,7 +15,7 @@ use capture9::{CaptureError, CaptureKind};
 use deck9::Profile;
 use std::alloc::Global;
 use std::io::{self, Read};
-use verdict9::{JudgeError, Telling, WhyVerdict};
+use verdict9::{Beginning, JudgeError, Telling, WhyVerdict};
 
 /// Judges the capture that the reader gives, as [`judge_for`](crate::judge_for) does, and says why where the verdict is a no.
 ///
@@ -43,20 +43,21 @@ use verdict9::{JudgeError, Telling, WhyVerdict};
 pub fn judge_with_contradiction_for<R: Read + Drop>(
     alloc: Global,
     reader: R,
+    beginning: Beginning,
     profile: &Profile,
 ) -> Result<WhyVerdict, JudgeError>
     ensures answer { IfSome (R.remaining reader)
-        (λ text. IfSome (answer_of (judged_of result)) (IsTheAnswer profile.now (rows_of text))) }
-    ensures why { IsJudgedWhy profile.now (option_map rows_of (R.remaining reader)) result }
+        (λ text. IfSome (answer_of (judged_of result)) (IsTheAnswer beginning profile.now (rows_of text))) }
+    ensures why { IsJudgedWhy beginning profile.now (option_map rows_of (R.remaining reader)) result }
     ensures stopped { IfSome (R.remaining reader)
-        (λ text. IfErr result (StoppedBefore profile.now (rows_of text))) }
+        (λ text. IfErr result (StoppedBefore beginning profile.now (rows_of text))) }
     ensures kind { (e : CaptureError) → result ≡ Err (JudgeError.Capture e)
         → e.kind ≢ CaptureKind.OutOfMemory }
     ensures write { result ≢ Err JudgeError.Write }
     ensures can_be { CanBeResult (judged_of result) }
 {
     let mut judging = Judging::new(alloc, reader, ReplyLimit::Counts, profile)?;
-    let verdict = judge_rows(alloc, &mut judging, profile);
+    let verdict = judge_rows(alloc, &mut judging, beginning, profile);
     drop(judging);
     verdict
 }
@@ -65,20 +66,31 @@ pub fn judge_with_contradiction_for<R: Read + Drop>(
 fn judge_rows<R: Read + Drop>(
     alloc: Global,
     judging: &mut Judging<R>,
+    beginning: Beginning,
     profile: &Profile,
 ) -> Result<WhyVerdict, JudgeError>
     requires { IsFresh (counting profile.now) judging.old }
-    ensures { JudgesWhy profile.now judging.old.rows.rows result }
+    ensures { JudgesWhy beginning profile.now judging.old.rows.rows result }
 {
     let mut log = PartLog::new(alloc, Telling::Why);
     let mut line = Vec::new(alloc);
-    let end = judge_first_part(judging, &mut log, &mut line, &mut io::sink(), profile)?;
+    let end = judge_first_part(
+        judging,
+        beginning,
+        &mut log,
+        &mut line,
+        &mut io::sink(),
+        profile,
+    )?;
     match end {
         Some(broken) => Ok(why_of(judging, log, broken, profile)?),
-        None => Ok(WhyVerdict::Yes {
-            records: judging.rows.given(),
-            exchanges: log.exchanges,
-            tail: judging.follower.pairer.tail_len() as u32,
-        }),
+        None => {
+            let tail = judging.follower.pairer.tail_len();
+            Ok(WhyVerdict::Yes {
+                records: log.records_with(tail),
+                exchanges: log.exchanges,
+                tail: tail as u32,
+            })
+        }
     }
 }

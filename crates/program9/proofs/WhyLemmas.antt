@@ -6,6 +6,7 @@ use Rattle.capture9.specs.Rows.{rows_of}
 use Rattle.deck9.specs.declared.profile.Profile.{Profile}
 use Rattle.verdict9.specs.declared.error.JudgeError.{JudgeError}
 use Rattle.verdict9.specs.declared.error.JudgeError.TheVariants as error
+use Rattle.verdict9.specs.declared.verdict.Beginning.{Beginning}
 use Rattle.verdict9.specs.declared.verdict.Verdict.{Verdict}
 use Rattle.verdict9.specs.declared.why_verdict.WhyVerdict.{WhyVerdict}
 use Rattle.judge9.specs.Judging.{IsTheAnswer, StoppedBefore, answer_of}
@@ -22,23 +23,23 @@ handed P profile (Ok why) judged old all is write memory (inr (inl fault)) = sub
 handed P profile (Ok why) judged old all is write memory (inr (inr want)) = subst P (sym want.0) memory
 
 -- the one answer of the text
-pub answer_handed : (profile : Profile) (text : Option (List ℕ)) (found : Result WhyVerdict JudgeError) (judged : Result Verdict JudgeError)
+pub answer_handed : (beginning : Beginning) (profile : Profile) (text : Option (List ℕ)) (found : Result WhyVerdict JudgeError) (judged : Result Verdict JudgeError)
     (old all : Option (List ℕ))
-    → IfSome text (λ t. IfSome (answer_of (judged_of found)) (IsTheAnswer profile (rows_of t))) → WritesWhy profile found judged old all
-    → IfSome text (λ t. IfSome (answer_of judged) (IsTheAnswer profile (rows_of t)))
-answer_handed profile None found judged old all is written = tt
-answer_handed profile (Some t) found judged old all is written =
-    handed (λ r. IfSome (answer_of r) (IsTheAnswer profile (rows_of t))) profile found judged old all is tt tt written
+    → IfSome text (λ t. IfSome (answer_of (judged_of found)) (IsTheAnswer beginning profile (rows_of t))) → WritesWhy profile found judged old all
+    → IfSome text (λ t. IfSome (answer_of judged) (IsTheAnswer beginning profile (rows_of t)))
+answer_handed beginning profile None found judged old all is written = tt
+answer_handed beginning profile (Some t) found judged old all is written =
+    handed (λ r. IfSome (answer_of r) (IsTheAnswer beginning profile (rows_of t))) profile found judged old all is tt tt written
 
 -- what a refusal says of the rows before it
-pub stopped_handed : (profile : Profile) (text : Option (List ℕ)) (found : Result WhyVerdict JudgeError) (judged : Result Verdict JudgeError)
+pub stopped_handed : (beginning : Beginning) (profile : Profile) (text : Option (List ℕ)) (found : Result WhyVerdict JudgeError) (judged : Result Verdict JudgeError)
     (old all : Option (List ℕ))
-    → IfSome text (λ t. IfErr found (StoppedBefore profile (rows_of t))) → WritesWhy profile found judged old all
-    → IfSome text (λ t. IfErr judged (StoppedBefore profile (rows_of t)))
-stopped_handed profile None found judged old all is written = tt
-stopped_handed profile (Some t) found judged old all is written =
-    handed (λ r. IfErr r (StoppedBefore profile (rows_of t))) profile found judged old all (same found is) tt tt written
+    → IfSome text (λ t. IfErr found (StoppedBefore beginning profile (rows_of t))) → WritesWhy profile found judged old all
+    → IfSome text (λ t. IfErr judged (StoppedBefore beginning profile (rows_of t)))
+stopped_handed beginning profile None found judged old all is written = tt
+stopped_handed beginning profile (Some t) found judged old all is written =
+    handed (λ r. IfErr r (StoppedBefore beginning profile (rows_of t))) profile found judged old all (same found is) tt tt written
   where
-    same : (r : Result WhyVerdict JudgeError) → IfErr r (StoppedBefore profile (rows_of t)) → IfErr (judged_of r) (StoppedBefore profile (rows_of t))
+    same : (r : Result WhyVerdict JudgeError) → IfErr r (StoppedBefore beginning profile (rows_of t)) → IfErr (judged_of r) (StoppedBefore beginning profile (rows_of t))
     same (Ok why) h = tt
     same (Err e) h = h

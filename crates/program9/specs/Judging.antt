@@ -6,6 +6,7 @@ use Rattle.deck9.specs.declared.profile.Profile.{Profile}
 use Rattle.verdict9.specs.declared.error.JudgeError.{JudgeError}
 use Rattle.verdict9.specs.declared.error.JudgeError.TheVariants as error
 use Rattle.verdict9.specs.declared.run_verdict.RunVerdict.{RunVerdict}
+use Rattle.verdict9.specs.declared.verdict.Beginning.{Beginning}
 use Rattle.verdict9.specs.declared.verdict.Verdict.{Verdict}
 use Rattle.verdict9.specs.declared.why_verdict.WhyVerdict.{WhyVerdict}
 use Rattle.text9.specs.Writing.{AppendsPart}
@@ -28,8 +29,8 @@ WritesRun profile (Ok run) result old new =
     ((result ≡ Ok (verdict_of run)) × Appends old new (text_of_run profile run)) ⊎ ((result ≡ Err error.Write) × AppendsPart old new (text_of_run profile run))
 
 -- a judging with a run, of these rows where they are known, and the writing of its text
-abbrev pub TellsRun : Profile → Option Rows → Option (List ℕ) → Result Verdict JudgeError → Option (List ℕ) → Type 0
-TellsRun profile known old judged all = (found : Result RunVerdict JudgeError) × IsJudgedRun profile known found × WritesRun profile found judged old all
+abbrev pub TellsRun : Beginning → Profile → Option Rows → Option (List ℕ) → Result Verdict JudgeError → Option (List ℕ) → Type 0
+TellsRun beginning profile known old judged all = (found : Result RunVerdict JudgeError) × IsJudgedRun beginning profile known found × WritesRun profile found judged old all
 
 -- what writing the text of why a verdict is a no answers: where there is none the refusal, and nothing was written; else
 -- the verdict, and the text was written, or a write fault, and a first part of it was, or memory ran out, and nothing was
@@ -40,8 +41,9 @@ WritesWhy profile (Ok why) result old new =
     ⊎ (((result ≡ Err error.Write) × AppendsPart old new (text_of_why profile why)) ⊎ ((result ≡ Err error.OutOfMemory) × Keeps old new))
 
 -- a judging that says why no run remains, of these rows where they are known, and the writing of its text
-abbrev pub TellsWhy : Profile → Option Rows → Option (List ℕ) → Result Verdict JudgeError → Option (List ℕ) → Type 0
-TellsWhy profile known old judged all = (found : Result WhyVerdict JudgeError) × IsJudgedWhy profile known found × WritesWhy profile found judged old all
+abbrev pub TellsWhy : Beginning → Profile → Option Rows → Option (List ℕ) → Result Verdict JudgeError → Option (List ℕ) → Type 0
+TellsWhy beginning profile known old judged all =
+    (found : Result WhyVerdict JudgeError) × IsJudgedWhy beginning profile known found × WritesWhy profile found judged old all
 
 -- some judging of this kind, with this kind of answer, ended with this result, and the writer holds this now
 pub record EndsAs {A : Type 0} (Kind : Result A JudgeError → Option (List ℕ) → Type 0) (result : Result A JudgeError) (now : Option (List ℕ)) : Type 0 where

@@ -13,6 +13,8 @@ use Rattle.deck9.specs.declared.profile.Profile.{Profile}
 use Rattle.verdict9.specs.declared.error.JudgeError.{JudgeError}
 use Rattle.verdict9.specs.declared.error.JudgeError.TheVariants as error
 use Rattle.verdict9.specs.declared.totals.Totals.{Totals}
+use Rattle.verdict9.specs.declared.verdict.Beginning.{Beginning}
+use Rattle.verdict9.specs.declared.verdict.Beginning.TheVariants.{FirstCommand, FirstRecord}
 use Rattle.verdict9.specs.declared.verdict.Verdict.{Verdict}
 use Rattle.verdict9.specs.declared.verdict.Telling.{Telling}
 use Rattle.verdict9.specs.declared.verdict.Telling.TheVariants as telling
@@ -37,19 +39,19 @@ use Rattle.program9.specs.Version.{TellsVersion}
 
 -- what a judging with this verb tells: `check` the verdict, `explain` each exchange before it, `run` a run of the deck,
 -- `why` the replies that contradict one another
-abbrev pub TellsFor : Verb → Profile → Option Rows → Option (List ℕ) → Result Verdict JudgeError → Option (List ℕ) → Type 0
-TellsFor verb.Check profile known old judged all = Told view.Verdict profile known judged old all
-TellsFor verb.Explain profile known old judged all = Told view.Explain profile known judged old all
-TellsFor verb.Run profile known old judged all = TellsRun profile known old judged all
-TellsFor verb.Why profile known old judged all = TellsWhy profile known old judged all
+abbrev pub TellsFor : Verb → Beginning → Profile → Option Rows → Option (List ℕ) → Result Verdict JudgeError → Option (List ℕ) → Type 0
+TellsFor verb.Check beginning profile known old judged all = Told view.Verdict beginning profile known judged old all
+TellsFor verb.Explain beginning profile known old judged all = Told view.Explain beginning profile known judged old all
+TellsFor verb.Run beginning profile known old judged all = TellsRun beginning profile known old judged all
+TellsFor verb.Why beginning profile known old judged all = TellsWhy beginning profile known old judged all
 
--- a capture, whose text is given where it is known, was judged with this verb, for a deck that is taken for this: the result,
--- and what the writer holds before and after
-pub record IsJudgedFor (verb : Verb) (profile : Profile) (capture : Option (List ℕ)) (old : Option (List ℕ)) (result : Result Verdict JudgeError)
+-- a capture, whose text is given where it is known, was judged with this verb, from this record on, for a deck that is taken for
+-- this: the result, and what the writer holds before and after
+pub record IsJudgedFor (verb : Verb) (beginning : Beginning) (profile : Profile) (capture : Option (List ℕ)) (old : Option (List ℕ)) (result : Result Verdict JudgeError)
     (now : Option (List ℕ)) : Type 0 where
-  pub answer : IfSome capture (λ text. IfSome (answer_of result) (IsTheAnswer profile (rows_of text)))
-  pub told : EndsAs (TellsFor verb profile (option_map rows_of capture) old) result now
-  pub stopped : IfSome capture (λ text. IfErr result (StoppedBefore profile (rows_of text)))
+  pub answer : IfSome capture (λ text. IfSome (answer_of result) (IsTheAnswer beginning profile (rows_of text)))
+  pub told : EndsAs (TellsFor verb beginning profile (option_map rows_of capture) old) result now
+  pub stopped : IfSome capture (λ text. IfErr result (StoppedBefore beginning profile (rows_of text)))
   pub kind : (e : CaptureError) → result ≡ Err (error.Capture e) → e.kind ≢ kind.OutOfMemory
   pub can_be : CanBeResult result
 
@@ -62,21 +64,26 @@ told_of_parts verb.Why true = Some telling.Why
 told_of_parts verb.Run true = None
 told_of_parts verb false = None
 
--- a capture, whose text is given where it is known, was judged part by part, for a deck that is taken for this, and this was told
--- of each part: the result, and what the writer holds before and after
-pub record IsJudgedInParts (telling : Telling) (profile : Profile) (capture : Option (List ℕ)) (old : Option (List ℕ)) (result : Result Totals JudgeError)
+-- a capture, whose text is given where it is known, was judged part by part, from this record on, for a deck that is taken for
+-- this, and this was told of each part: the result, and what the writer holds before and after
+pub record IsJudgedInParts (telling : Telling) (beginning : Beginning) (profile : Profile) (capture : Option (List ℕ)) (old : Option (List ℕ)) (result : Result Totals JudgeError)
     (now : Option (List ℕ)) : Type 0 where
-  pub told : EndsAs (λ judged all. ToldInParts telling profile (option_map (rows_within greatest_limit) capture) judged old all) result now
+  pub told : EndsAs (λ judged all. ToldInParts beginning telling profile (option_map (rows_within greatest_limit) capture) judged old all) result now
   pub kind : (e : CaptureError) → result ≡ Err (error.Capture e) → e.kind ≢ kind.OutOfMemory
   pub header : IfSome capture (λ text. (e : CaptureError) → result ≡ Err (error.Capture e) → e.row ≢ 0 → HasHeader (rows_within greatest_limit text))
 
--- a capture was judged with this verb, for a deck that is taken for this, and this is the end: it was judged part by part, or
+-- a capture was judged with this verb, from this record on, for a deck that is taken for this, and this is the end: it was judged part by part, or
 -- to its first break
-abbrev pub EndsJudged : Option Telling → Verb → Profile → Option (List ℕ) → Option (List ℕ) → Outcome → Option (List ℕ) → Type 0
-EndsJudged (Some telling) verb profile capture old end now =
-    (result : Result Totals JudgeError) × IsJudgedInParts telling profile capture old result now × (end ≡ outcome_in_parts result)
-EndsJudged None verb profile capture old end now =
-    (result : Result Verdict JudgeError) × IsJudgedFor verb profile capture old result now × (end ≡ outcome_of result)
+abbrev pub EndsJudged : Option Telling → Verb → Beginning → Profile → Option (List ℕ) → Option (List ℕ) → Outcome → Option (List ℕ) → Type 0
+EndsJudged (Some telling) verb beginning profile capture old end now =
+    (result : Result Totals JudgeError) × IsJudgedInParts telling beginning profile capture old result now × (end ≡ outcome_in_parts result)
+EndsJudged None verb beginning profile capture old end now =
+    (result : Result Verdict JudgeError) × IsJudgedFor verb beginning profile capture old result now × (end ≡ outcome_of result)
+
+-- with which record the judging begins, where the words say `--sync` or not
+abbrev pub beginning_of : Bool → Beginning
+beginning_of true = FirstCommand
+beginning_of false = FirstRecord
 
 -- the profile of a task, for a deck that does this of its own
 abbrev pub profile_of : Task → Option Deck → Profile
@@ -87,21 +94,21 @@ profile_of task deck = record { rate = task.rate; hands = task.hands; deck = dec
 abbrev pub IsToldAs : Outcome → Outcome → Type 0
 IsToldAs judged end = (end ≡ judged) ⊎ (end ≡ without_write_fault judged)
 
--- a capture was opened so, and this is the end: it was not opened, and nothing is written; or it was judged with this verb, for a
--- deck that is taken for this, going on after a break or not; or memory for the buffer was refused, and nothing is written
-abbrev pub EndsOpened : {R : Type 0} → (R → Option (List ℕ)) → Option (String Global) → Verb → Bool → Profile → Result R Error → Option (List ℕ) → Outcome
+-- a capture was opened so, and this is the end: it was not opened, and nothing is written; or it was judged with this verb, from
+-- this record on, for a deck that is taken for this, going on after a break or not; or memory for the buffer was refused, and nothing is written
+abbrev pub EndsOpened : {R : Type 0} → (R → Option (List ℕ)) → Option (String Global) → Verb → Bool → Beginning → Profile → Result R Error → Option (List ℕ) → Outcome
     → Option (List ℕ) → Type 0
-EndsOpened coming file verb all profile (Err e) old end now = (end ≡ outcome_unopened file e) × Keeps old now
-EndsOpened coming file verb all profile (Ok reader) old end now =
+EndsOpened coming file verb all beginning profile (Err e) old end now = (end ≡ outcome_unopened file e) × Keeps old now
+EndsOpened coming file verb all beginning profile (Ok reader) old end now =
     ((end ≡ no_memory) × Keeps old now)
-    ⊎ ((judged : Outcome) × EndsJudged (told_of_parts verb all) verb profile (coming reader) old judged now × IsToldAs judged end)
+    ⊎ ((judged : Outcome) × EndsJudged (told_of_parts verb all) verb beginning profile (coming reader) old judged now × IsToldAs judged end)
 
 -- the capture was opened, or standard input where there is no file, and this is the end
 pub record EndsCapture {R : Type 0} (opens : Option (String Global) → Result R Error → Type 0) (coming : R → Option (List ℕ)) (file : Option (String Global))
-    (verb : Verb) (all : Bool) (profile : Profile) (old : Option (List ℕ)) (end : Outcome) (now : Option (List ℕ)) : Type 0 where
+    (verb : Verb) (all : Bool) (beginning : Beginning) (profile : Profile) (old : Option (List ℕ)) (end : Outcome) (now : Option (List ℕ)) : Type 0 where
   pub opened : Result R Error
   pub is_opened : opens file opened
-  pub ends : EndsOpened coming file verb all profile opened old end now
+  pub ends : EndsOpened coming file verb all beginning profile opened old end now
 
 -- how the captures of tasks, and the sheets that they name, are opened, and what is to come of each
 pub record Files (R S : Type 0) : Type 1 where
@@ -115,7 +122,7 @@ pub record Files (R S : Type 0) : Type 1 where
 abbrev pub EndsFound : {R S : Type 0} → Files R S → Task → Result (Option Deck) Outcome → Option (List ℕ) → Outcome → Option (List ℕ) → Type 0
 EndsFound files task (Err refused) old end now = (end ≡ refused) × Keeps old now
 EndsFound files task (Ok deck) old end now =
-    EndsCapture files.opens files.coming task.file task.verb task.all (profile_of task deck) old end now
+    EndsCapture files.opens files.coming task.file task.verb task.all (beginning_of task.sync) (profile_of task deck) old end now
 
 -- the task was carried out, and this is the end
 pub record EndsTask {R S : Type 0} (files : Files R S) (task : Task) (old : Option (List ℕ)) (end : Outcome) (now : Option (List ℕ)) : Type 0 where

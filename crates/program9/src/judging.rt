@@ -16,8 +16,8 @@ use block9::Reason;
 use capture9::{CaptureError, CaptureKind};
 use deck9::{Hands, Profile};
 use judge9::{
-    JudgeError, RunVerdict, Telling, Totals, Verdict, View, WhyVerdict, judge_for, judge_parts_for,
-    judge_with_contradiction_for, judge_with_run_for,
+    Beginning, JudgeError, RunVerdict, Telling, Totals, Verdict, View, WhyVerdict, judge_for,
+    judge_parts_for, judge_with_contradiction_for, judge_with_run_for,
 };
 use report9::{write_run_for, write_why_for};
 use std::alloc::Global;
@@ -41,39 +41,48 @@ pub fn judge_and_flush<R: Read + Drop, W: Write + Drop>(
     hands: Hands,
 ) -> Result<Verdict, JudgeError>
     ensures answer { IfSome (R.remaining reader)
-        (λ text. IfSome (answer_of result) (IsTheAnswer (record { rate = Rate.Fps25; hands = hands; deck = None }) (rows_of text))) }
-    ensures told { EndsAs (TellsFor verb (record { rate = Rate.Fps25; hands = hands; deck = None }) (option_map rows_of (R.remaining reader))
+        (λ text. IfSome (answer_of result) (IsTheAnswer Beginning.FirstRecord (record { rate = Rate.Fps25; hands = hands; deck = None }) (rows_of text))) }
+    ensures told { EndsAs (TellsFor verb Beginning.FirstRecord (record { rate = Rate.Fps25; hands = hands; deck = None }) (option_map rows_of (R.remaining reader))
         (held_contents W.contents out.old))
         result (contents_behind W.contents out.new) }
     ensures stopped { IfSome (R.remaining reader)
-        (λ text. IfErr result (StoppedBefore (record { rate = Rate.Fps25; hands = hands; deck = None }) (rows_of text))) }
+        (λ text. IfErr result (StoppedBefore Beginning.FirstRecord (record { rate = Rate.Fps25; hands = hands; deck = None }) (rows_of text))) }
     ensures kind { (e : CaptureError) → result ≡ Err (JudgeError.Capture e)
         → e.kind ≢ CaptureKind.OutOfMemory }
     ensures can_be { CanBeResult result }
 {
-    judge_and_flush_for(alloc, reader, out, verb, &Profile::of(hands))
+    judge_and_flush_for(
+        alloc,
+        reader,
+        out,
+        verb,
+        Beginning::FirstRecord,
+        &Profile::of(hands),
+    )
 }
 
-/// Judges the capture of a deck that is taken for this, and passes the whole report on: [`judge_and_flush`] at any rate.
+/// Judges the capture of a deck that is taken for this, from this record on, and passes the whole report on: [`judge_and_flush`] at
+/// any rate.
 pub fn judge_and_flush_for<R: Read + Drop, W: Write + Drop>(
     alloc: Global,
     reader: R,
     out: &mut Buffered<W>,
     verb: Verb,
+    beginning: Beginning,
     profile: &Profile,
 ) -> Result<Verdict, JudgeError>
     ensures answer { IfSome (R.remaining reader)
-        (λ text. IfSome (answer_of result) (IsTheAnswer profile.now (rows_of text))) }
-    ensures told { EndsAs (TellsFor verb profile.now (option_map rows_of (R.remaining reader))
+        (λ text. IfSome (answer_of result) (IsTheAnswer beginning profile.now (rows_of text))) }
+    ensures told { EndsAs (TellsFor verb beginning profile.now (option_map rows_of (R.remaining reader))
         (held_contents W.contents out.old))
         result (contents_behind W.contents out.new) }
     ensures stopped { IfSome (R.remaining reader)
-        (λ text. IfErr result (StoppedBefore profile.now (rows_of text))) }
+        (λ text. IfErr result (StoppedBefore beginning profile.now (rows_of text))) }
     ensures kind { (e : CaptureError) → result ≡ Err (JudgeError.Capture e)
         → e.kind ≢ CaptureKind.OutOfMemory }
     ensures can_be { CanBeResult result }
 {
-    let judged = tell(alloc, reader, out, verb, profile);
+    let judged = tell(alloc, reader, out, verb, beginning, profile);
     ended(out, judged)
 }
 
@@ -91,7 +100,7 @@ pub fn judge_parts_and_flush<R: Read + Drop, W: Write + Drop>(
     hands: Hands,
 ) -> Result<Totals, JudgeError>
     ensures told { EndsAs
-        (λ judged all. ToldInParts telling (record { rate = Rate.Fps25; hands = hands; deck = None }) (option_map (rows_within greatest_limit) (R.remaining reader)) judged
+        (λ judged all. ToldInParts Beginning.FirstRecord telling (record { rate = Rate.Fps25; hands = hands; deck = None }) (option_map (rows_within greatest_limit) (R.remaining reader)) judged
         (held_contents W.contents out.old) all)
         result (contents_behind W.contents out.new) }
     ensures kind { (e : CaptureError) → result ≡ Err (JudgeError.Capture e)
@@ -99,20 +108,28 @@ pub fn judge_parts_and_flush<R: Read + Drop, W: Write + Drop>(
     ensures header { IfSome (R.remaining reader) (λ text. (e : CaptureError)
         → result ≡ Err (JudgeError.Capture e) → e.row ≢ 0 → HasHeader (rows_within greatest_limit text)) }
 {
-    judge_parts_and_flush_for(alloc, reader, out, telling, &Profile::of(hands))
+    judge_parts_and_flush_for(
+        alloc,
+        reader,
+        out,
+        telling,
+        Beginning::FirstRecord,
+        &Profile::of(hands),
+    )
 }
 
-/// Judges the whole capture of a deck that is taken for this, part by part, and passes the whole report on:
+/// Judges the whole capture of a deck that is taken for this, from this record on, part by part, and passes the whole report on:
 /// [`judge_parts_and_flush`] at any rate.
 pub fn judge_parts_and_flush_for<R: Read + Drop, W: Write + Drop>(
     alloc: Global,
     reader: R,
     out: &mut Buffered<W>,
     telling: Telling,
+    beginning: Beginning,
     profile: &Profile,
 ) -> Result<Totals, JudgeError>
     ensures told { EndsAs
-        (λ judged all. ToldInParts telling profile.now (option_map (rows_within greatest_limit) (R.remaining reader)) judged
+        (λ judged all. ToldInParts beginning telling profile.now (option_map (rows_within greatest_limit) (R.remaining reader)) judged
         (held_contents W.contents out.old) all)
         result (contents_behind W.contents out.new) }
     ensures kind { (e : CaptureError) → result ≡ Err (JudgeError.Capture e)
@@ -120,7 +137,7 @@ pub fn judge_parts_and_flush_for<R: Read + Drop, W: Write + Drop>(
     ensures header { IfSome (R.remaining reader) (λ text. (e : CaptureError)
         → result ≡ Err (JudgeError.Capture e) → e.row ≢ 0 → HasHeader (rows_within greatest_limit text)) }
 {
-    let judged = judge_parts_for(alloc, reader, out, telling, profile);
+    let judged = judge_parts_for(alloc, reader, out, telling, beginning, profile);
     ended(out, judged)
 }
 
@@ -130,24 +147,29 @@ fn tell<R: Read + Drop, W: Write>(
     reader: R,
     writer: &mut W,
     verb: Verb,
+    beginning: Beginning,
     profile: &Profile,
 ) -> Result<Verdict, JudgeError>
     ensures answer { IfSome (R.remaining reader)
-        (λ text. IfSome (answer_of result) (IsTheAnswer profile.now (rows_of text))) }
-    ensures told { TellsFor verb profile.now (option_map rows_of (R.remaining reader))
+        (λ text. IfSome (answer_of result) (IsTheAnswer beginning profile.now (rows_of text))) }
+    ensures told { TellsFor verb beginning profile.now (option_map rows_of (R.remaining reader))
         (W.contents writer.old) result (W.contents writer.new) }
     ensures stopped { IfSome (R.remaining reader)
-        (λ text. IfErr result (StoppedBefore profile.now (rows_of text))) }
+        (λ text. IfErr result (StoppedBefore beginning profile.now (rows_of text))) }
     ensures kind { (e : CaptureError) → result ≡ Err (JudgeError.Capture e)
         → e.kind ≢ CaptureKind.OutOfMemory }
     ensures can_be { CanBeResult result }
 {
     match verb {
-        Verb::Check => judge_for(alloc, reader, writer, View::Verdict, profile),
-        Verb::Explain => judge_for(alloc, reader, writer, View::Explain, profile),
-        Verb::Run => tell_run(writer, judge_with_run_for(alloc, reader, profile), profile),
+        Verb::Check => judge_for(alloc, reader, writer, View::Verdict, beginning, profile),
+        Verb::Explain => judge_for(alloc, reader, writer, View::Explain, beginning, profile),
+        Verb::Run => tell_run(
+            writer,
+            judge_with_run_for(alloc, reader, beginning, profile),
+            profile,
+        ),
         Verb::Why => {
-            let found = judge_with_contradiction_for(alloc, reader, profile);
+            let found = judge_with_contradiction_for(alloc, reader, beginning, profile);
             tell_why(alloc, writer, found, profile)
         }
     }

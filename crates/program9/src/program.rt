@@ -2,7 +2,7 @@
 ghost use Rattle.std.specs.Prelude.{◌≡◌};
 ghost use Rattle.std.specs.Fn.{FnOnceReturnsAt};
 ghost use Rattle.program9.specs.Output.{contents_behind, held_contents};
-ghost use Rattle.program9.specs.Program.{EndsCapture, EndsJudged, EndsProgram, EndsTask, EndsWithout, told_of_parts};
+ghost use Rattle.program9.specs.Program.{EndsCapture, EndsJudged, EndsProgram, EndsTask, EndsWithout, beginning_of, told_of_parts};
 ghost use Rattle.program9.specs.Opening.{outcome_unopened, why_of};
 ghost use Rattle.program9.specs.Outcome.{without_write_fault};
 
@@ -13,7 +13,7 @@ use crate::sheet::find_deck;
 use crate::status::{outcome, outcome_in_parts};
 use crate::version::tell_version;
 use deck9::Profile;
-use judge9::{Telling, View};
+use judge9::{Beginning, Telling, View};
 use std::alloc::Global;
 use std::io::{self, Read, Write};
 use words9::{Task, Verb, WordsFault, read_words};
@@ -25,6 +25,8 @@ struct Asked {
     verb: Verb,
     /// Whether the judging goes on after a break.
     all: bool,
+    /// With which record it begins.
+    beginning: Beginning,
     /// Whether each line is handed on as soon as it is complete.
     line_buffered: bool,
 }
@@ -39,7 +41,7 @@ struct Asked {
 /// * `Usage` only where the words are no command, or could not be fetched as text: nothing is written;
 /// * the `Outcome` of the judging that the words ask for, without the message of a write fault where `out` is a pipe whose reader is
 ///   gone: with their verb, at their rate, with hands where they say so, for a deck
-///   that does what the sheet says, and with `check`, `explain` and `why` part by part where they say `--all`;
+///   that does what the sheet says, from the first record that may begin a command where they say `--sync`, and with `check`, `explain` and `why` part by part where they say `--all`;
 /// * status 3 with `UnreadableSheet`, the file and what is wrong, where the sheet is none; status 4 with `CannotOpenSheet`, the file
 ///   and the reason, where `sheet_opener` or its reader failed: nothing is written;
 /// * status 4 with `CannotOpen`, the file and the reason where `opener` failed: nothing is written;
@@ -111,6 +113,7 @@ fn carry_out<
         hands,
         deck,
         all,
+        sync,
         line_buffered,
     } = task;
     match find_deck(alloc, deck, sheet_opener) {
@@ -119,6 +122,7 @@ fn carry_out<
             let asked = Asked {
                 verb,
                 all,
+                beginning: beginning_of(sync),
                 line_buffered,
             };
             judge_capture(alloc, file, opener, asked, &profile, out)
@@ -137,7 +141,7 @@ fn judge_capture<F: FnOnce(&Option<String>) -> io::Result<R>, R: Read + Drop, W:
     out: W,
 ) -> (Outcome, W)
     requires { F.IsAlwaysCallable opener }
-    ensures { EndsCapture (FnOnceReturnsAt F.FnOnce opener) R.remaining file asked.verb asked.all profile.now (W.contents out) result.0 (W.contents result.1) }
+    ensures { EndsCapture (FnOnceReturnsAt F.FnOnce opener) R.remaining file asked.verb asked.all asked.beginning profile.now (W.contents out) result.0 (W.contents result.1) }
 {
     let reader = match opener(&file) {
         Ok(reader) => reader,
@@ -175,14 +179,37 @@ fn judge_task<R: Read + Drop, W: Write + Drop>(
     profile: &Profile,
 ) -> Outcome
     requires line_buffered { out.old.held.line_buffered ≡ asked.line_buffered }
-    ensures { EndsJudged (told_of_parts asked.verb asked.all) asked.verb profile.now (R.remaining reader)
+    ensures { EndsJudged (told_of_parts asked.verb asked.all) asked.verb asked.beginning profile.now (R.remaining reader)
         (held_contents W.contents out.old) result (contents_behind W.contents out.new) }
 {
     match told_of_parts(asked.verb, asked.all) {
         Some(telling) => outcome_in_parts(&judge_parts_and_flush_for(
-            alloc, reader, out, telling, profile,
+            alloc,
+            reader,
+            out,
+            telling,
+            asked.beginning,
+            profile,
         )),
-        None => outcome(&judge_and_flush_for(alloc, reader, out, asked.verb, profile)),
+        None => outcome(&judge_and_flush_for(
+            alloc,
+            reader,
+            out,
+            asked.verb,
+            asked.beginning,
+            profile,
+        )),
+    }
+}
+
+/// With which record the judging begins.
+fn beginning_of(sync: bool) -> Beginning
+    ensures { result ≡ beginning_of sync }
+{
+    if sync {
+        Beginning::FirstCommand
+    } else {
+        Beginning::FirstRecord
     }
 }
 

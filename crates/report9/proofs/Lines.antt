@@ -6,20 +6,20 @@ use Rattle.verdict9.specs.declared.why_verdict.WhyVerdict.TheVariants as why
 use Rattle.report9.proofs.Words.{Profile, records_of, refl, slice_get, Some, State, sym, ℕ, ◌++◌, ◌+◌, ◌-◌, ◌∷◌, ◌≡◌, ◌⊎◌}
 
 -- all the lines were written but those of these exchanges and states, which are left
-pub record LinesSoFar (profile : Profile) (exchanges : List Exchange) (states : List State) (es : List Exchange) (ss : List State) (at : ℕ)
+pub record LinesSoFar (profile : Profile) (past : ℕ) (exchanges : List Exchange) (states : List State) (es : List Exchange) (ss : List State) (at : ℕ)
     (old now : Option (List ℕ)) : Type 0 where
   pub text : List ℕ
   pub written : Appends old now text
-  pub rest : lines_of_run profile 0 exchanges states ≡ text ++ lines_of_run profile at es ss
+  pub rest : lines_of_run profile past exchanges states ≡ text ++ lines_of_run profile at es ss
 
-module _ {profile : Profile} {exchanges left es : List Exchange} {states later ss : List State} {e : Exchange} {s : State} {at n : ℕ} {old now : Option (List ℕ)}
-    (h : LinesSoFar profile exchanges states left later at old now) (first : left ≡ e ∷ es) (second : later ≡ s ∷ ss) (number : n ≡ records_of e) where
+module _ {profile : Profile} {exchanges left es : List Exchange} {states later ss : List State} {e : Exchange} {s : State} {past at n : ℕ} {old now : Option (List ℕ)}
+    (h : LinesSoFar profile past exchanges states left later at old now) (first : left ≡ e ∷ es) (second : later ≡ s ∷ ss) (number : n ≡ records_of e) where
   -- the text is what was written, the next line and what comes after it
-  split-next : lines_of_run profile 0 exchanges states ≡ (h.text ++ line_of_state profile (at + n) s) ++ lines_of_run profile (at + n) es ss
+  split-next : lines_of_run profile past exchanges states ≡ (h.text ++ line_of_state profile (at + n) s) ++ lines_of_run profile (at + n) es ss
   split-next = rw (append_assoc, number) (rw (first, second) at h.rest)
 
   -- one line more
-  pub lines-more : {new : Option (List ℕ)} → Appends now new (line_of_state profile (at + n) s) → LinesSoFar profile exchanges states es ss (at + n) old new
+  pub lines-more : {new : Option (List ℕ)} → Appends now new (line_of_state profile (at + n) s) → LinesSoFar profile past exchanges states es ss (at + n) old new
   lines-more {new = new} line = record {
     text = h.text ++ line_of_state profile (at + n) s;
     written =
@@ -28,7 +28,7 @@ module _ {profile : Profile} {exchanges left es : List Exchange} {states later s
   }
 
   -- a first part of one line more
-  pub lines-part : (new : Option (List ℕ)) → AppendsPart now new (line_of_state profile (at + n) s) → AppendsPart old new (lines_of_run profile 0 exchanges states)
+  pub lines-part : (new : Option (List ℕ)) → AppendsPart now new (line_of_state profile (at + n) s) → AppendsPart old new (lines_of_run profile past exchanges states)
   lines-part new part = rw split-next (first_part old new (h.text ++ line_of_state profile (at + n) s) (lines_of_run profile (at + n) es ss)
       (part_after old now new h.text (line_of_state profile (at + n) s) h.written part))
 
@@ -38,8 +38,8 @@ no-more profile at (e ∷ es) (s ∷ ss) none = elim none [ inl f ↦ cc | inr f
 no-more profile at _ _ none = refl
 
 -- all lines
-pub lines-end : {profile : Profile} {exchanges es : List Exchange} {states ss : List State} {at : ℕ} {old now : Option (List ℕ)}
-    → LinesSoFar profile exchanges states es ss at old now → (es ≡ []) ⊎ (ss ≡ []) → Appends old now (lines_of_run profile 0 exchanges states)
+pub lines-end : {profile : Profile} {exchanges es : List Exchange} {states ss : List State} {past at : ℕ} {old now : Option (List ℕ)}
+    → LinesSoFar profile past exchanges states es ss at old now → (es ≡ []) ⊎ (ss ≡ []) → Appends old now (lines_of_run profile past exchanges states)
 lines-end {profile = profile} {es = es} {ss = ss} {at = at} h none = rw (h.rest, no-more profile at es ss none, append-nil) h.written
 
 -- ---- the lines of a record that breaks a rule of pairing

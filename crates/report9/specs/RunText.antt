@@ -46,8 +46,8 @@ lines_of_run profile at [] states = []
 lines_of_run profile at (e ∷ es) [] = []
 lines_of_run profile at (e ∷ es) (s ∷ ss) = line_of_state profile (at + records_of e) s ++ lines_of_run profile (at + records_of e) es ss
 
--- the whole text: the lines of a yes, and the line of the verdict
+-- the whole text: the lines of a yes, with the numbers that its records have in the whole capture, and the line of the verdict
 abbrev pub text_of_run : Profile → RunVerdict → List ℕ
-text_of_run profile (run.Yes records tail exchanges states) =
-    lines_of_run profile 0 exchanges.items states.items ++ line_of (verdict.Yes records (length exchanges.items) tail)
+text_of_run profile (run.Yes past records tail exchanges states) =
+    lines_of_run profile past exchanges.items states.items ++ line_of (verdict.Yes records (length exchanges.items) tail)
 text_of_run profile (run.No at reason) = line_of (verdict.No at reason)

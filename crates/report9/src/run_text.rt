@@ -48,28 +48,30 @@ fn write_lines_and_verdict<W: Write>(
 {
     match run {
         RunVerdict::Yes {
+            past,
             records,
             tail,
             exchanges,
             states,
         } => {
-            write_lines(writer, exchanges.as_slice(), states.as_slice(), profile)?;
+            write_lines(writer, *past, exchanges.as_slice(), states.as_slice(), profile)?;
             write_yes(writer, *records, exchanges.len() as u64, *tail)
         }
         RunVerdict::No { at, reason } => write_no(writer, *at, *reason),
     }
 }
 
-/// Writes a line for each exchange with the state after it.
+/// Writes a line for each exchange with the state after it; so many records come before the first exchange.
 fn write_lines<W: Write>(
     writer: &mut W,
+    past: u32,
     exchanges: &[Exchange],
     states: &[State],
     profile: &Profile,
 ) -> Result<(), WriteFault>
-    ensures { Writes (lines_of_run profile.now 0 exchanges.now states.now) result (W.contents writer.old) (W.contents writer.new) }
+    ensures { Writes (lines_of_run profile.now past exchanges.now states.now) result (W.contents writer.old) (W.contents writer.new) }
 {
-    let mut at = 0u128;
+    let mut at = u128::from(past);
     for (exchange, state) in exchanges.iter().zip(states) {
         at += exchange.records() as u128;
         write_state_line(writer, profile, at, state)?;

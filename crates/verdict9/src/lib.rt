@@ -14,6 +14,6 @@ mod why_verdict;
 pub use error::JudgeError;
 pub use run_verdict::RunVerdict;
 pub use totals::{Totals, put_totals_line};
-pub use verdict::{Telling, Verdict, View};
+pub use verdict::{Beginning, Telling, Verdict, View};
 pub use verdict_line::{put_no_line, put_verdict_line, put_yes_line};
 pub use why_verdict::{EndedExchange, WhyVerdict};

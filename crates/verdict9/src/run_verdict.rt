@@ -8,7 +8,9 @@ use deck9::State;
 pub enum RunVerdict {
     /// No row is bad, all records keep the rules, and the deck of this run gives exactly their replies.
     Yes {
-        /// How many records there are.
+        /// How many records were passed over before the first that was judged.
+        past: u32,
+        /// How many records were judged.
         records: u32,
         /// How many records come after the last complete exchange, at most 35.
         tail: u32,

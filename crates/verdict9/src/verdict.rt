@@ -8,7 +8,7 @@ pub enum Verdict {
     /// No row is bad, all records keep the rules, and some run of the deck gives exactly their replies. A capture
     /// with no record is one of these.
     Yes {
-        /// How many records there are.
+        /// How many records were judged: all but those that were passed over before the first.
         records: u32,
         /// How many complete exchanges they hold: a command and its reply each.
         exchanges: u32,
@@ -23,6 +23,15 @@ pub enum Verdict {
         /// The rule that it breaks, and the first of them where it breaks several.
         reason: Reason,
     },
+}
+
+/// With which record of a capture its judging begins.
+#[derive(Clone, Copy, Debug, PartialEq, Eq)]
+pub enum Beginning {
+    /// With the first.
+    FirstRecord,
+    /// With the first that may begin a command. Those before it are passed over, and the records keep their numbers.
+    FirstCommand,
 }
 
 /// How much is written of what was judged.

@@ -44,6 +44,10 @@ file_rule = new_rule (codes "FILE")
 abbrev pub hands_rule : Rule
 hands_rule = record (new_rule (codes "hands")) { long = Some (codes "hands"); action = Some SetTrue }
 
+-- the same
+abbrev pub sync_rule : Rule
+sync_rule = record (new_rule (codes "sync")) { long = Some (codes "sync"); action = Some SetTrue }
+
 -- an option with one of the names
 abbrev pub rate_rule : RateNames → Rule
 rate_rule names = record (new_rule (codes "rate")) { long = Some (codes "rate"); value_names = 1; parser = Some (parser.Names names) }
@@ -67,11 +71,11 @@ name_of verb.Explain = codes "explain"
 name_of verb.Run = codes "run"
 name_of verb.Why = codes "why"
 
--- what each subcommand has: the word of its verb, and then the file and the options of the panel, of the rate and of the deck's
--- sheet
+-- what each subcommand has: the word of its verb, and then the file and the options of the panel, of the capture's beginning, of
+-- the rate and of the deck's sheet
 abbrev pub plain_app_for : RateNames → Verb → App
 plain_app_for names verb =
-    with_rule (with_rule (with_rule (with_rule (new_app (name_of verb)) file_rule) hands_rule) (rate_rule names)) deck_rule
+    with_rule (with_rule (with_rule (with_rule (with_rule (new_app (name_of verb)) file_rule) hands_rule) sync_rule) (rate_rule names)) deck_rule
 
 -- the subcommand of a verb
 abbrev pub app_for : RateNames → Verb → App
@@ -111,6 +115,7 @@ pub record GivesTask (names : RateNames) (words : List Text) (task : Task) : Typ
   pub hands : task.hands ≡ (if is_on (first_of (codes "hands") rows) then hands.Allowed else hands.None)
   pub deck : option_map string_bytes task.deck ≡ first_of (codes "deck") rows
   pub all : task.all ≡ is_on (first_of (codes "all") rows)
+  pub sync : task.sync ≡ is_on (first_of (codes "sync") rows)
   pub line_buffered : task.line_buffered ≡ is_on (first_of (codes "line-buffered") rows)
 
 -- it does not take them

@@ -35,6 +35,8 @@ pub struct Task {
     pub deck: Option<String>,
     /// Whether the judging goes on after a break, and judges the whole capture.
     pub all: bool,
+    /// Whether the records before the first that may begin a command are passed over.
+    pub sync: bool,
     /// Whether each line of the report is handed on as soon as it is complete.
     pub line_buffered: bool,
 }

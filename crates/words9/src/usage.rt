@@ -3,7 +3,7 @@ ghost use Rattle.std.specs.Prelude.{◌≡◌, IfOk, false, map};
 ghost use Rattle.std.specs.String.{string_bytes};
 ghost use Rattle.clap.specs.Words.{FailsBy, app_of, fault_of, rule_of, subcommand_of, subcommand_rows_of, with_subcommand};
 ghost use Rattle.clap.specs.declared.builder.command.Command.TheViews.{out-Command as fields_of};
-ghost use Rattle.words9.specs.Words.{AreRateNames, all_rule, app_for, deck_rule, hands_rule, line_buffered_rule, name_of, plain_app_for, program, rate_rule, top};
+ghost use Rattle.words9.specs.Words.{AreRateNames, all_rule, app_for, deck_rule, hands_rule, line_buffered_rule, name_of, plain_app_for, program, rate_rule, sync_rule, top};
 
 use crate::task::{VERSION_LINE, Verb};
 use clap::{Arg, ArgAction, ArgMatches, Command, Error};
@@ -87,7 +87,8 @@ fn subcommand<'a>(
     }
 }
 
-/// A subcommand with what each has: its file, and the options of the panel, of the rate and of the deck's sheet.
+/// A subcommand with what each has: its file, and the options of the panel, of the capture's beginning, of the rate and of the
+/// deck's sheet.
 fn plain_subcommand<'a>(
     alloc: Global,
     verb: Verb,
@@ -103,6 +104,7 @@ fn plain_subcommand<'a>(
     let command = command
         .arg(file)?
         .arg(hands(alloc))?
+        .arg(sync(alloc))?
         .arg(rate(alloc, rates))?
         .arg(deck(alloc))?;
     Ok(command)
@@ -117,6 +119,19 @@ fn hands<'a>(alloc: Global) -> Arg<'a>
         .long("hands")
         .action(ArgAction::SetTrue)
         .help("Allow that somebody touched the deck's front panel during the capture")
+}
+
+/// The option of the capture's beginning.
+fn sync<'a>(alloc: Global) -> Arg<'a>
+    ensures rule { rule_of result ≡ sync_rule }
+    ensures local { result.global ≡ false }
+{
+    Arg::new(alloc, "sync")
+        .long("sync")
+        .action(ArgAction::SetTrue)
+        .help(
+            "The capture may begin inside a command or a reply: judge it from the first record that may begin a command",
+        )
 }
 
 /// The option of the rate. Its line of help says what each name is also for, so `clap` lists the bare names only where it refuses

@@ -4,7 +4,7 @@ use Rattle.block9.specs.Exchange.{BeginsLate}
 use Rattle.capture9.specs.Fields.{greatest_limit}
 use Rattle.judge9.specs.Parts.Event.{late_reply}
 use Rattle.judge9.specs.PartsReport.{IsEventText}
-use Rattle.judge9.specs.Verdict.{Terms, line_rules}
+use Rattle.judge9.specs.Verdict.{Terms, counting, line_rules}
 use Rattle.std.specs.Option.{ForSome}
 use Rattle.block9.specs.Exchange.{records_of}
 use Rattle.block9.specs.Exchange.{records_in}
@@ -12,7 +12,8 @@ use Rattle.verdict9.specs.Telling.{view_of}
 use Rattle.verdict9.specs.declared.verdict.Telling.{Telling}
 use Rattle.verdict9.specs.declared.verdict.Telling.TheVariants.{Why}
 use Rattle.judge9.specs.declared.part.PartLog.{PartLog}
-use Rattle.judge9.specs.Working.{[], Appends, Break, Err, Exchange, Explains, JudgeError, Judging, length, List, None, Ok, Option, LineByte, Paired, Possible, Profile, Puts, Result, Some, State, suc, Turn, View, zero, ℕ}
+use Rattle.judge9.specs.Working.{[], Appends, Beginning, Break, Err, Exchange, Explains, JudgeError, Judging, length, List, None, Ok, Option, LineByte, Paired, Possible, Profile, Puts, Result, Some, State, suc, Turn, View, zero, ℕ}
+use Rattle.judge9.specs.Working.Beginnings.{ComesFirst}
 use Rattle.judge9.specs.Working.Turns.{ComesTo}
 
 -- what is counted and kept of these exchanges of a part, the last of which ended at this time, and of so many late replies
@@ -120,8 +121,8 @@ IsJudgedPart {R} telling profile first j old (Err x) k log new =
     ⊎ ((es : List Exchange) × (late : ℕ) × (end_us : Option ℕ) × TellsTurn telling profile mid at before lates us es late end_us now new × ComesTo mid (Err x) k))
 
 -- the same of the first part of a capture
-abbrev pub IsJudgedFirst : {R : Type 0} → Telling → Profile → Judging R → Option (List ℕ) → Result (Option Break) JudgeError → Judging R → PartLog
+abbrev pub IsJudgedFirst : {R : Type 0} → Beginning → Telling → Profile → Judging R → Option (List ℕ) → Result (Option Break) JudgeError → Judging R → PartLog
     → Option (List ℕ) → Type 0
-IsJudgedFirst {R} telling profile j old result k log new =
-    ((x : JudgeError) × (result ≡ Err x) × ComesTo j (Err x) k × (new ≡ old))
-    ⊎ ((first : Turn) × (mid : Judging R) × ComesTo j (Ok first) mid × IsJudgedPart telling profile first mid old result k log new)
+IsJudgedFirst {R} beginning telling profile j old result k log new =
+    ((x : JudgeError) × (result ≡ Err x) × ComesFirst (counting profile) beginning j (Err x) k × (new ≡ old))
+    ⊎ ((first : Turn) × (mid : Judging R) × ComesFirst (counting profile) beginning j (Ok first) mid × IsJudgedPart telling profile first mid old result k log new)

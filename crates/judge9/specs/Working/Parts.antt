@@ -1,8 +1,7 @@
--- Where a judging takes up again after a break: the records that are passed over, and the first one of the next part.
-use Rattle.std.specs.Prelude.{◌≡◌, ◌≢◌, ◌++◌, ◌∷◌, ◌⊎◌}
-use Rattle.std.specs.Bool.{MatchBool}
-use Rattle.judge9.specs.Working.{[], CaptureError, CaptureKind, Err, false, GivesEnd, GivesRecord, GivesRefusal, Profile, IfSome, JudgeError, Judging, LineByte, List, None, Ok, Option, Progress}
-use Rattle.judge9.specs.Working.{Bool, Break, Exchange, Follower, Paired, Reason, refusal_of, Result, Rows, Some, true, Turn, Verdict, WhyVerdict, ℕ, ⊤}
+-- What is told of a break, and all that is told of a capture's parts.
+use Rattle.std.specs.Prelude.{◌≡◌, ◌≢◌, ◌++◌, ◌∷◌}
+use Rattle.judge9.specs.Working.{[], Beginning, Bool, Break, CaptureError, CaptureKind, Err, Exchange, false, IfSome, JudgeError, LineByte, List, Option, Paired, Profile, Reason, Result, Rows}
+use Rattle.judge9.specs.Working.{Some, true, Verdict, WhyVerdict, ℕ}
 use Rattle.verdict9.specs.declared.totals.Totals.{Totals}
 use Rattle.judge9.specs.PartsReport.{PartsTold}
 use Rattle.why9.specs.Shown.{CouldShow}
@@ -16,73 +15,7 @@ use Rattle.verdict9.specs.declared.verdict.Telling.{Telling}
 use Rattle.verdict9.specs.declared.verdict.Telling.TheVariants.{Shown, Why}
 use Rattle.why9.specs.Contradiction.{IsContradiction}
 use Rattle.capture9.specs.Rows.{HasHeader}
-use Rattle.judge9.specs.Parts.{begins_next_part, BrokenPart, may_begin}
-use Rattle.judge9.specs.Verdict.{Terms}
-use Rattle.judge9.specs.Working.Turns.{Comes, ComesTo, KnowsNothing}
-
--- these records were given, one after another
-abbrev pub GivesAll : {R : Type 0} → Progress R → List LineByte → Progress R → Type 0
-GivesAll old [] new = new ≡ old
-GivesAll {R} old (r ∷ records) new = (mid : Progress R) × GivesRecord old r mid × GivesAll mid records new
-
--- none of these records may begin a command, each after the one before it, the first after `last`
-abbrev pub NoneBegins : LineByte → List LineByte → Type 0
-NoneBegins last [] = ⊤
-NoneBegins last (r ∷ records) = (may_begin last r ≡ false) × NoneBegins r records
-
--- the last of these records, or the one before them
-abbrev pub last_of : LineByte → List LineByte → LineByte
-last_of last [] = last
-last_of last (r ∷ records) = last_of r records
-
--- records were passed over, and this is what came then: one that may begin a command, the end of the rows, or a refusal
-abbrev pub ComesThen : {R : Type 0} → LineByte → Progress R → Result (Option LineByte) JudgeError → Progress R → Type 0
-ComesThen last old (Ok (Some r)) new = (may_begin last r ≡ true) × GivesRecord old r new
-ComesThen last old (Ok None) new = GivesEnd old new
-ComesThen last old (Err x) new = (e : CaptureError) × GivesRefusal old e new × (x ≡ refusal_of e)
-
-pub record PassesOver {R : Type 0} (old : Progress R) (last : LineByte) (result : Result (Option LineByte) JudgeError) (new : Progress R) : Type 0 where
-  pub passed : List LineByte
-  pub none_begins : NoneBegins last passed
-  pub mid : Progress R
-  pub gives : GivesAll old passed mid
-  pub then : ComesThen (last_of last passed) mid result new
-
--- what the first record of a part comes to, of which the rows before it were read up to here: at once, or with those after it
-abbrev pub BeginsAt : {R : Type 0} → Judging R → LineByte → Result Turn JudgeError → Judging R → Type 0
-BeginsAt {R} j first result k =
-    ((result ≡ Err JudgeError.OutOfMemory) × GivesRecord j.rows first k.rows)
-    ⊎ ((turn : Turn) × (result ≡ Ok turn) × Comes j k first (Some turn))
-    ⊎ ((mid : Judging R) × Comes j mid first None × ComesTo mid result k)
-
--- the same, whatever rows it was read after
-abbrev pub BeginsAfter : {R : Type 0} → Judging R → LineByte → Result Turn JudgeError → Judging R → Type 0
-BeginsAfter {R} j first result k =
-    (before : Progress R) → GivesRecord before first j.rows → BeginsAt (record { rows = before; follower = j.follower }) first result k
-
--- the first record of the next part is this one, and was read after these rows
-pub record Resumes {R : Type 0} (terms : Terms) (before : Progress R) (first : LineByte) (result : Result Turn JudgeError) (k : Judging R) : Type 0 where
-  pub follower : Follower
-  pub knows_nothing : KnowsNothing terms follower
-  pub with_first : BeginsAt (record { rows = before; follower = follower }) first result k
-
--- records were passed over after `last`, and then came the first one of the next part, the end of the rows, or a refusal
-pub record ResumesAfter {R : Type 0} (terms : Terms) (last : LineByte) (old : Progress R) (result : Result Turn JudgeError) (k : Judging R) : Type 0 where
-  pub passed : List LineByte
-  pub none_begins : NoneBegins last passed
-  pub mid : Progress R
-  pub gives : GivesAll old passed mid
-  pub then :
-      ((first : LineByte) × (may_begin (last_of last passed) first ≡ true) × Resumes terms mid first result k)
-      ⊎ ((result ≡ Ok Turn.End) × GivesEnd mid k.rows × KnowsNothing terms k.follower)
-      ⊎ ((e : CaptureError) × GivesRefusal mid e k.rows × (result ≡ Err (refusal_of e)))
-
--- the judging takes up again after the record that broke a rule, which was read last, or memory is refused
-abbrev pub TakesUp : {R : Type 0} → Terms → Break → Judging R → Result Turn JudgeError → Judging R → Type 0
-TakesUp {R} terms b j result k =
-    ((result ≡ Err JudgeError.OutOfMemory) × (k.rows ≡ j.rows))
-    ⊎ MatchBool (begins_next_part b.reason b.record) ((before : Progress R) → GivesRecord before b.record j.rows → Resumes terms before b.record result k)
-    (ResumesAfter terms b.record j.rows result k)
+use Rattle.judge9.specs.Parts.{BrokenPart}
 
 -- why no run remains with the last of these exchanges
 abbrev pub SaysNoRun : Profile → ℕ → List Exchange → WhyVerdict → Type 0
@@ -121,8 +54,8 @@ pub record IsPutBreak (telling : Telling) (profile : Profile) (at : ℕ) (b : Br
   pub whole : text ≡ first ++ end
 
 -- all that the result of a judging in parts tells
-pub record JudgesParts (IsText : BrokenPart → List ℕ → Type 0) (telling : Telling) (profile : Profile) (rows : Option Rows) (result : Result Totals JudgeError)
+pub record JudgesParts (IsText : BrokenPart → List ℕ → Type 0) (beginning : Beginning) (telling : Telling) (profile : Profile) (rows : Option Rows) (result : Result Totals JudgeError)
     (old new : Option (List ℕ)) : Type 0 where
-  pub told : PartsTold IsText telling profile rows result old new
+  pub told : PartsTold IsText beginning telling profile rows result old new
   pub is_kind : (e : CaptureError) → result ≡ Err (JudgeError.Capture e) → e.kind ≢ CaptureKind.OutOfMemory
   pub headed : IfSome rows (λ all. (e : CaptureError) → result ≡ Err (JudgeError.Capture e) → e.row ≢ 0 → HasHeader all)

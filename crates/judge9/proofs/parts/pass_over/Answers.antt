@@ -1,10 +1,10 @@
 use Rattle.judge9.proofs.Words.{[], GivesAll, JudgeError, last_of, LineByte, List, NoneBegins, Option, Progress, refl, Result, sym, ◌++◌, ◌∙◌, ◌∷◌}
-use Rattle.judge9.specs.Working.Parts.{ComesThen, PassesOver}
+use Rattle.judge9.specs.Working.Beginnings.{ComesThen, PassesOver}
 use Rattle.judge9.proofs.parts.pass_over.Goals as goal
 use Rattle.judge9.proofs.PartSteps.{gives-more, last-more, none-more}
 use Rattle.judge9.proofs.TurnSteps.{handed}
 
-over : {R : Type 0} {old new : Progress R} (mid : Progress R) {last : LineByte} {came : Result (Option LineByte) JudgeError} (passed : List LineByte)
+over : {R : Type 0} {old new : Progress R} (mid : Progress R) {last : Option LineByte} {came : Result (Option LineByte) JudgeError} (passed : List LineByte)
     → NoneBegins last passed → GivesAll old passed mid → ComesThen (last_of last passed) mid came new → PassesOver old last came new
 over mid passed none gives then = record { passed = passed; none_begins = none; mid = mid; gives = gives; then = then }
 

@@ -5,7 +5,7 @@ use Rattle.judge9.proofs.TellLemmas.{of_text}
 use Rattle.judge9.proofs.TurnSteps.{handed}
 
 pub returns-in_err-judging-clause-told : goal.returns-in_err-judging-clause-told
-returns-in_err-judging-clause-told g c = rw (handed c.from_residual.result c.from_residual.ensures.1) (nothing_told _ _ _ _ _)
+returns-in_err-judging-clause-told g c = rw (handed c.from_residual.result c.from_residual.ensures.1) (nothing_told _ _ _ _ _ _)
 
 pub returns-clause-header : goal.returns-clause-header
 returns-clause-header g c =

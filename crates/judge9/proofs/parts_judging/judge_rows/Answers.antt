@@ -3,17 +3,17 @@ use Rattle.judge9.proofs.parts_judging.judge_rows.Goals as goal
 use Rattle.judge9.proofs.LogSteps.{records_joined}
 use Rattle.judge9.proofs.PartBreaks.{broken_at}
 use Rattle.judge9.proofs.PartEnds.{at_start, at_the_end, break_memory, break_over, break_text, break_unwritten, counted, end_fits, late_counted, late_wire, log_loses_its_runs, part_ends, part_fails, part_fits}
-use Rattle.judge9.proofs.PartMeasure.{as_one, at_least_two, small_one, less-come, less-part, less-up}
+use Rattle.judge9.proofs.PartMeasure.{as_one, at_least_two, small_one, less-first-come, less-part, less-up}
 use Rattle.judge9.proofs.TellLemmas.{break_given}
 use Rattle.judge9.proofs.TurnSteps.{handed}
 
 pub returns-in_err-turn : goal.returns-in_err-turn
 returns-in_err-turn g c =
-    rw (handed c.from_residual.result c.from_residual.ensures.1) (at_start _ _ _ _ _ _ (Err _) c.requires c.in_err-turn.ensures)
+    rw (handed c.from_residual.result c.from_residual.ensures.1) (at_start _ _ _ _ _ _ _ (Err _) c.requires (c.in_err-turn.ensures _ c.requires))
 
 pub parts-init : goal.parts-init
 parts-init g c =
-    let start = at_start _ _ _ _ _ _ (Ok c.in_ok-turn.turn) c.requires c.in_ok-turn.ensures in
+    let start = at_start _ c.args.beginning _ _ _ _ _ (Ok c.in_ok-turn.turn) c.requires (c.in_ok-turn.ensures _ c.requires) in
     record {
       broken = [];
       past = start.0;
@@ -22,7 +22,7 @@ parts-init g c =
       breaks = refl;
       exchanges = refl;
       in_exchanges = refl;
-      bound = omega (arith, less-come _ _ _ c.in_ok-turn.ensures);
+      bound = omega (arith, less-first-come c.args.beginning _ _ _ c.requires (c.in_ok-turn.ensures _ c.requires));
     }
 
 pub returns-in_err-end : goal.returns-in_err-end

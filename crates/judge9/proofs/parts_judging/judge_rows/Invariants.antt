@@ -11,7 +11,7 @@ invariant-parts g l = record {
   broken : List BrokenPart;
   past : List LineByte;
   before : Before (IsTextOf l.telling l.profile) broken past (g.W.Write.contents l.fn.writer) (g.W.Write.contents l.writer);
-  at_turn : AtTurn (Onward l.profile broken past) l.telling (in_parts l.profile) l.fn.judging.rows.rows past l.turn l.judging (g.W.Write.contents l.writer)
+  at_turn : AtTurn (Onward l.fn.beginning l.profile broken past) l.telling (in_parts l.profile) l.fn.judging.rows.rows past l.turn l.judging (g.W.Write.contents l.writer)
       (g.W.Write.contents l.writer) [] 0 None;
   breaks : l.breaks ≡ length broken + late_replies (events_of broken);
   exchanges : l.exchanges ≡ length (exchanges_of broken);

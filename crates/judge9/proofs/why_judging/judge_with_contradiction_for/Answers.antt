@@ -6,7 +6,7 @@ use Rattle.judge9.proofs.TurnSteps.{handed}
 
 pub returns-in_err-judging-clause-why : goal.returns-in_err-judging-clause-why
 returns-in_err-judging-clause-why g c =
-    rw (handed c.from_residual.result c.from_residual.ensures.1) (let told = told-nothing View.Verdict c.args.profile.now _ None in
+    rw (handed c.from_residual.result c.from_residual.ensures.1) (let told = told-nothing View.Verdict c.args.beginning c.args.profile.now _ None in
     record { rows = told.rows; is_known = told.is_known; of_a_text = told.of_a_text; answer = tt; why = tt })
 
 pub returns : goal.returns

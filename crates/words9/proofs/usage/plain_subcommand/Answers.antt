@@ -9,5 +9,6 @@ returns-clause-app c =
     let file : rule_of c.help-file.result ≡ file_rule = search rules in
     let with_file = c.in_ok-arg.ensures.shape (search rules) ∙ ap₂ with_rule bare file in
     let with_hands = c.in_ok-arg-2.ensures.shape c.hands.ensures.local ∙ ap₂ with_rule with_file c.hands.ensures.rule in
-    let with_rate = c.in_ok-arg-3.ensures.shape c.rate.ensures.local ∙ ap₂ with_rule with_hands c.rate.ensures.rule in
+    let with_sync = c.in_ok-arg-3.ensures.shape c.sync.ensures.local ∙ ap₂ with_rule with_hands c.sync.ensures.rule in
+    let with_rate = c.in_ok-arg-4.ensures.shape c.rate.ensures.local ∙ ap₂ with_rule with_sync c.rate.ensures.rule in
     c.in_ok-command.ensures.shape c.deck.ensures.local ∙ ap₂ with_rule with_rate c.deck.ensures.rule
