@@ -445,8 +445,7 @@ for awk in mawk 'gawk --posix' 'busybox awk'; do
     closed_early
 done
 
-# The commands of docs/CAPTURE.md that are to be copied: those on the stored exports, and the one that takes off
-# what comes before the first whole exchange.
+# The commands of docs/CAPTURE.md that are to be copied, on the stored exports.
 commands=0
 while read -r command; do
     export=${command##*examples/exports/}
@@ -456,11 +455,6 @@ while read -r command; do
     commands=$((commands + 1))
 done < <(sed -n 's/^    \(awk .*examples\/exports.*\)/\1/p' docs/CAPTURE.md)
 judge "the page's commands: $commands" [ "$commands" = 7 ]
-printf 'time_us,wire,byte\n1,C,21\n2,D,10\n3,D,01\n4,D,11\n5,C,20\n6,C,01\n7,D,10\n8,C,20\n' > "$work/capture.csv"
-printf 'time_us,wire,byte\n5,C,20\n6,C,01\n7,D,10\n8,C,20\n' > "$work/want"
-(cd "$work" && sh -c "$(sed -n 's/^    \(awk -F, .*\)/\1/p' "$OLDPWD/docs/CAPTURE.md")")
-judge "the page's command for the beginning" cmp "$work/begun.csv" "$work/want"
-
 # The page's commands that log two serial ports and convert the log, as they stand, with two terminals in their place: each
 # wire's bytes are sent once its port is set as the page sets it.
 sed -n '/^    for port in /,/^$/{s/^    //p;/^$/q}' docs/CAPTURE.md > "$work/log.sh"

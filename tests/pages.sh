@@ -44,7 +44,6 @@ coarse;docs/CAPTURE.md;log.awk: timestamps are coarser
 live.sh;docs/CAPTURE.md;for port in /dev/ttyUSB0 /dev/ttyUSB1
 convert.sh;docs/CAPTURE.md;awk -v rate=2000000 -v from=0.02 -f convert/sigrok.awk < examples/exports/sigrok-damaged.txt
 refuse;docs/CAPTURE.md;sigrok.awk: line 10:
-convert.sh;docs/CAPTURE.md;awk -F,
 split;docs/CAPTURE.md;awk -v to=part -f convert/split.awk
 judge_it;docs/CAPTURE.md;./ninecheck check capture.csv
 text;docs/DECKS.md;# an edit deck

@@ -24,6 +24,11 @@ text() {
     printf "time_us,wire,byte\n$1" > "$work/capture.csv"
 }
 
+# told NUMBER DELAY: PLAY, acknowledged so long after it, where nothing is known of the deck: it may be in local, and have ignored it.
+told() {
+    echo "record $1: PLAY -> ACK, delay $2, goal unknown, shown unknown, in unknown, out unknown, local unknown, ain unknown, aout unknown"
+}
+
 # STATUS SENSE of all that is judged: a deck in remote shows REC, and STOP, and its registers are clear.
 shows_rec='C 61 20 04 85 D 74 20 00 02 00 00 96'
 shows_stop='C 61 20 04 85 D 74 20 00 20 00 00 B4'
@@ -144,11 +149,10 @@ begins_at() {
     local words
     name=$1
     for words in check why; do
-        synced $words 0 'yes: records 6, exchanges 1, open 0'
+        synced "$words" 0 'yes: records 6, exchanges 1, open 0'
         synced "$words --all" 0 "breaks 0: records $((6 + $2)), exchanges 1, passed over $2, open 0"
     done
-    synced explain 0 "record $((6 + $2)): PLAY -> ACK, delay 400, goal unknown, shown unknown, in unknown, out unknown, local unknown, \
-ain unknown, aout unknown
+    synced explain 0 "$(told $((6 + $2)) 400)
 yes: records 6, exchanges 1, open 0"
     run run --sync "$work/capture.csv"
     judge "$name: run, the lines" has_lines 2
@@ -191,6 +195,7 @@ capture_of "D 11 +100000 $play"
 begins_at 'the last record of a reply, and a rest' 1
 capture_of "C 21 $at_limit D 10 01 11 $play"
 begins_at 'a rest at the limit before a reply' 4
+
 # refused NAME ROW WORD: the row is refused, and nothing is written.
 refused() {
     local words
@@ -215,11 +220,6 @@ printf 'time,wire,byte\n400,D,11\n800,C,20\n' > "$work/capture.csv"
 refused 'a wrong header' 0 header
 : > "$work/capture.csv"
 refused 'an empty text' 0 header
-
-# told NUMBER DELAY: PLAY, acknowledged so long after it, where nothing is known of the deck: it may be in local, and have ignored it.
-told() {
-    echo "record $1: PLAY -> ACK, delay $2, goal unknown, shown unknown, in unknown, out unknown, local unknown, ain unknown, aout unknown"
-}
 
 # The same after the first command: what was told before the row stands.
 name='a bad row after an exchange'

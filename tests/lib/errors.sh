@@ -14,7 +14,7 @@ both_lines() {
         *': byte') echo 'expected two hexadecimal digits' ;;
         *': backwards') echo 'expected a time no earlier than that of the row before' ;;
         *': too many rows')
-            echo 'expected at most 4000000 rows; convert/split.awk cuts a longer capture, see docs/CAPTURE.md' ;;
+            echo 'expected at most 4000000 rows; --all judges a longer capture' ;;
         'read fault at row '*) echo 'expected a capture that can be read to its end, not a directory' ;;
         'write fault')
             echo 'standard output is full or closed; it has only the first part of the report' ;;

@@ -1,9 +1,9 @@
 -- The first part of a capture, where its judging ends with it.
 use Rattle.judge9.proofs.Words.{append-nil, Beginning, BeginsAt, CaptureError, ComesFirst, Follower, GivesEnd, GivesRefusal, greatest_limit, judged_from, judged_rows, KnowsNothing, last_of, length-append, may_begin}
-use Rattle.judge9.proofs.Words.{NoneBegins, passed_before, records_in, refusal_of, Rest, Resumes, true, ◌≤◌, ◌⊎◌}
-use Rattle.judge9.proofs.Words.{TellsNot, Terms, line_rules, counting, [], ap, append_assoc, arith, Break, BreaksAtLast, ComesTo, Cut, Err, Exchange, Appends-nil, inl, inr, IsFresh, IsJudgedFirst, IsLogOf, IsRun, IsSame, JudgesWhy, SaysWhy, WhyVerdict, ◌+◌}
+use Rattle.judge9.proofs.Words.{passed_before, records_in, refusal_of, Rest, Resumes, true, ◌≤◌, ◌⊎◌}
+use Rattle.judge9.proofs.Words.{TellsNot, Terms, line_rules, counting, [], ap, arith, Break, BreaksAtLast, Cut, Err, Exchange, Appends-nil, inl, inr, IsFresh, IsJudgedFirst, IsLogOf, IsRun, IsSame, JudgesWhy, SaysWhy, WhyVerdict, ◌+◌}
 use Rattle.judge9.proofs.Words.{JudgeError, Judges, JudgesRun, Judging, KeepsEnds, length, line_of, LineByte, List, None, Ok, Option, PartLog, Possible, Profile, Puts, Reason, refl, Result, Rows, RunVerdict, some_end, Some, subst, sym}
-use Rattle.judge9.proofs.Words.{Spoils, State, Turn, turn_of, Verdict, verdict_at, View, ℕ, ⊤, ◌++◌, ◌∙◌, ◌∷◌, ◌≡◌, ◌≢◌}
+use Rattle.judge9.proofs.Words.{Spoils, State, Turn, turn_of, Verdict, verdict_at, View, ℕ, ◌++◌, ◌∙◌, ◌∷◌, ◌≡◌, ◌≢◌}
 use Rattle.std.specs.Global.{Global}
 use Rattle.std.specs.Prelude.{Vec}
 use Rattle.verdict9.specs.Telling.{view_of}
@@ -41,7 +41,7 @@ ahead_of {beginning = beginning} {past = past} h more = subst (λ r. IsFrom begi
 -- ---- the first turn
 
 -- it came, or the judging stopped before it
-abbrev FirstCame : {R : Type 0} → Beginning → Telling → Profile → Option Rows → Option (List ℕ) → Result Turn JudgeError → Judging R → Type 0
+abbrev pub FirstCame : {R : Type 0} → Beginning → Telling → Profile → Option Rows → Option (List ℕ) → Result Turn JudgeError → Judging R → Type 0
 FirstCame beginning telling profile rows now (Ok turn) k = (past : List LineByte) × AtFirst beginning telling profile rows past turn k now now [] 0 None
 FirstCame beginning telling profile rows now (Err x) k = Judges (view_of telling) beginning profile rows (Err x) now now
 
@@ -61,7 +61,7 @@ stopped_after {R = R} {telling = telling} {profile = profile} {now = now} {j = j
         so_far-begin fresh.knows_nothing read.is_reading read.read read.are_given in
         judges-refusal f (none_judged h.passed h.none_begins) refusal is
 
-first_came : {R : Type 0} (beginning : Beginning) (telling : Telling) (profile : Profile) (now : Option (List ℕ)) (j k : Judging R) (r : Result Turn JudgeError)
+pub first_came : {R : Type 0} (beginning : Beginning) (telling : Telling) (profile : Profile) (now : Option (List ℕ)) (j k : Judging R) (r : Result Turn JudgeError)
     → IsFresh (counting profile) j → ComesFirst (counting profile) beginning j r k → FirstCame beginning telling profile j.rows.rows now r k
 first_came Beginning.FirstRecord telling profile now j k (Ok turn) fresh come =
     ([], arrive (IsFrom Beginning.FirstRecord []) None (so_far-start fresh) (λ more. record { same = refl }) (λ nil. refl) come)

@@ -13,6 +13,7 @@ pub mod MovedParts
 pub mod MovedRecords
 pub mod MovedSteps
 pub mod MovedTails
+pub mod Numbering
 pub mod PartBreaks
 pub mod PartEnds
 pub mod PartLaws

@@ -1,7 +1,7 @@
 -- A capture in which each late reply, and all after it, comes as much earlier as it is late: its parts, and its totals.
 use Rattle.judge9.proofs.Words.{[], ap, append-nil, AreParts, AreTotals, arith, BeginsLate, begins_next_part, Bool, BrokenPart, cases_lt, cut_once, events_in, events_of, exchanges_of}
 use Rattle.judge9.proofs.Words.{false, from_command, if◌then◌else◌, in_parts, inl, inr, IsPart, length, line_rules, LineByte, List, may_begin}
-use Rattle.judge9.proofs.Words.{number_of, Option, Part, Profile, Reason, refl, Rest, rest_after, Some, subst, sym, takes_up_at, TellsLate, true, ℕ, ◌++◌, ◌+◌, ◌-◌, ◌<◌, ◌∙◌, ◌∷◌, ◌≡◌, ◌≢◌, ◌≤◌, ◌⊎◌}
+use Rattle.judge9.proofs.Words.{number_of, Part, Profile, Reason, refl, Rest, rest_after, Some, subst, sym, takes_up_at, TellsLate, true, ℕ, ◌++◌, ◌+◌, ◌-◌, ◌<◌, ◌∙◌, ◌∷◌, ◌≡◌, ◌≢◌, ◌≤◌, ◌⊎◌}
 use Rattle.std.proofs.lemmas.List.Sorted.{IsNonDecreasingBy-drop}
 use Rattle.std.specs.List.Sorted.{IsNonDecreasingBy}
 use Rattle.std.specs.Prelude.{nat_lt, not, ◌&&◌, ◌||◌, ◌==◌}

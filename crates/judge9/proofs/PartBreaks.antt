@@ -1,9 +1,9 @@
 -- What comes before a part, and after a break: where the next part begins, and how far there is to go.
-use Rattle.judge9.proofs.Words.{Beginning, greatest_limit, judged_from, events_of, events_in, TellsLate, line_rules, in_parts, [], ap, append-nil, append_assoc, Appends, AppendsPart, AreParts, AreTextsOf, arith, begins_next_part, BeginsAt, Bool, Break, Breaks, BrokenPart}
-use Rattle.judge9.proofs.Words.{CaptureError, Comes, ComesTo, Err, Exchange, exchanges_of, false, Follower, GivesAll, GivesEnd, GivesRecord, GivesRefusal, KnowsNothing, Profile, inl, inr, JudgeError}
+use Rattle.judge9.proofs.Words.{Beginning, greatest_limit, judged_from, events_of, events_in, TellsLate, line_rules, in_parts, [], ap, append-nil, append_assoc, Appends, AppendsPart, AreParts, AreTextsOf, arith, begins_next_part, Bool, Break, Breaks, BrokenPart}
+use Rattle.judge9.proofs.Words.{Err, Exchange, exchanges_of, false, GivesAll, GivesRecord, Profile, inl, inr, JudgeError}
 use Rattle.judge9.proofs.Words.{JudgesParts, Judging, last_of, length, length-append, length_push, LineByte, List, may_begin, NoneBegins, None, Ok}
-use Rattle.judge9.proofs.Words.{Option, Progress, records_in, refl, refusal_of, Rest, rest_after, Result, Resumes, ResumesAfter, Rows, Some, subst, sym}
-use Rattle.judge9.proofs.Words.{Appends-trans, TakesUp, true, Turn, Turned, ℕ, ◌++◌, ◌+◌, ◌∙◌, ◌∷◌, ◌≡◌, ◌≤◌, ◌⊎◌}
+use Rattle.judge9.proofs.Words.{Option, Progress, records_in, refl, Rest, rest_after, Result, Resumes, ResumesAfter, Rows, Some, subst, sym}
+use Rattle.judge9.proofs.Words.{Appends-trans, TakesUp, true, Turn, Turned, ℕ, ◌++◌, ◌+◌, ◌∙◌, ◌∷◌, ◌≡◌, ◌≤◌}
 use Rattle.verdict9.specs.declared.verdict.Telling.TheVariants.{the_data as Telling}
 use Rattle.std.specs.Bool.{MatchBool}
 use Rattle.judge9.proofs.EventSteps.{texts_push}
@@ -13,7 +13,7 @@ use Rattle.judge9.proofs.PartLemmas.{Onward, parts-memory, parts-refusal, parts-
 use Rattle.judge9.proofs.PartSteps.{AreRead, passed_all, passed_to, read_all, read_one}
 use Rattle.judge9.proofs.PartTurns.{AtTurn, HoldsOn}
 use Rattle.judge9.proofs.Resuming.{Began, began, Came, Resumed, resumes}
-use Rattle.judge9.proofs.SoFar.{Keeps, keeps-none, Seen, seen, seen_now, seen_on, so_far-begin, so_far-open, so_far-open_items, SoFar}
+use Rattle.judge9.proofs.SoFar.{Keeps, keeps-none, Seen, seen, seen_now, seen_on, SoFar}
 use Rattle.judge9.proofs.TellLemmas.{cut_counts}
 
 -- ---- before a part

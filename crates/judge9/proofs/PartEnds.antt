@@ -1,5 +1,5 @@
 -- What each turn of a judging of all parts leads to.
-use Rattle.judge9.proofs.Words.{Beginning, ComesFirst, greatest_limit, last_of, may_begin, NoneBegins, Terms, true, append_assoc, BeginsLate, Event, events_in, events_of, IsEndText, IsEventText, IsLateBefore, IsPutBreak, late_replies, LineRules, TellsLate, TellsLateAt, TellsNot, Spoils, false, if◌then◌else◌, Bool, AreTextsOf, line_rules, in_parts, BreaksAtLast, append-nil, [], ap, Appends, Appends-nil, Appends-trans, arith, Break, BrokenPart, ComesTo, Err, Exchange, exchanges_of, inl, inr, IsBreakText, IsFresh, IsJudgedPart}
+use Rattle.judge9.proofs.Words.{Beginning, ComesFirst, greatest_limit, last_of, may_begin, NoneBegins, Terms, true, append_assoc, BeginsLate, Event, events_in, events_of, IsEndText, IsEventText, IsLateBefore, IsPutBreak, late_replies, LineRules, TellsLate, TellsLateAt, TellsNot, Spoils, false, if◌then◌else◌, Bool, AreTextsOf, line_rules, in_parts, BreaksAtLast, append-nil, [], ap, Appends, Appends-nil, Appends-trans, arith, Break, BrokenPart, Err, Exchange, exchanges_of, inl, inr, IsBreakText, IsFresh, IsJudgedPart}
 use Rattle.judge9.proofs.Words.{IfOk, IsLogOf, IsToTheEnd, IsTextOf, JudgeError, JudgesParts, Judging, length, length-append, line_of, LineByte, List, None, no_rows-can_be, number_of, Ok, Option, part_after, PartLog}
 use Rattle.judge9.proofs.Words.{AppendsPart, PartsTold, Profile, Puts, Reason, records_in, refl, Result, Rows, Some, subst, sym, TakesUp, TellsAt, text_of_why, Turn, turn_of, Verdict}
 use Rattle.judge9.proofs.Words.{Follower, WrittenInParts, ℕ, ◌++◌, ◌+◌, ◌∙◌, ◌∷◌, ◌≡◌, ◌≤◌}

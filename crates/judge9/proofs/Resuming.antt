@@ -1,6 +1,6 @@
 -- How a judging comes to the first turn of a part: records are passed over, and then comes the first one that is judged, the end of
 -- the rows, or a refusal.
-use Rattle.judge9.proofs.Words.{[], append-nil, ap, BeginsAt, CaptureError, Comes, ComesTo, Err, Exchange, Follower, GivesEnd, GivesRecord, GivesRefusal, inl, inr, JudgeError, Judging, KnowsNothing}
+use Rattle.judge9.proofs.Words.{[], ap, BeginsAt, CaptureError, Comes, ComesTo, Err, Follower, GivesEnd, GivesRecord, GivesRefusal, inl, inr, JudgeError, Judging, KnowsNothing}
 use Rattle.judge9.proofs.Words.{last_of, LineByte, List, may_begin, None, NoneBegins, Ok, Option, Progress, refl, refusal_of, Result, Resumes, ResumesAfter, Rows, rows_allowed, Some, subst, sym, Terms}
 use Rattle.judge9.proofs.Words.{true, Turn, Turned, ℕ, ◌++◌, ◌∙◌, ◌∷◌, ◌≡◌, ◌⊎◌}
 use Rattle.verdict9.specs.declared.verdict.Telling.TheVariants.{the_data as Telling}

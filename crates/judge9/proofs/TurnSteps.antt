@@ -1,9 +1,8 @@
 -- What the rows do whose records come to nothing yet, and what a turn of a judging tells.
 use Rattle.std.specs.declared.alloc.AllocError.{AllocError}
-use Rattle.judge9.proofs.Words.{Beginning, BeginsAt, CaptureError, ComesFirst, GivesEnd, GivesRefusal, inl, KnowsNothing, last_of, may_begin, refusal_of, Resumes, true, ◌⊎◌}
 use Rattle.judge9.proofs.Words.{greatest_limit, IsAtLate, Terms, [], AreOpen, arith, Comes, ComesTo, Err, Exchange, Follower, ForSome, IsAtExchange, IsEnd, IsErrAnd, IsObserved, IsOpen}
 use Rattle.judge9.proofs.Words.{ap, JudgeError, Judging, LineByte, List, None, Ok, Option, Outcome, Paired, refl, Result, Rows, Some, Step, step_of, subst, suc, sym, Takes, Took}
-use Rattle.judge9.proofs.Words.{Turn, Turned, zero, inr, Bool, if◌then◌else◌, takes_up_at, ℕ, ◌*◌, ◌++◌, ◌+◌, ◌-◌, ◌<◌, ◌∙◌, ◌∷◌, ◌≡◌, ◌≢◌, ◌≤◌}
+use Rattle.judge9.proofs.Words.{Turn, Turned, zero, inr, Bool, if◌then◌else◌, takes_up_at, ℕ, ◌*◌, ◌++◌, ◌+◌, ◌-◌, ◌<◌, ◌∙◌, ◌∷◌, ◌≡◌, ◌≤◌}
 use Rattle.verdict9.specs.declared.verdict.Telling.TheVariants.{the_data as Telling}
 use Rattle.judge9.proofs.SoFar.{later, so_far-open, so_far-open_items, SoFar}
 
@@ -169,23 +168,3 @@ took-observed f g (Err x) takes same o = tt
 pub turned_by : {R : Type 0} (j k : Judging R) (r : LineByte) (turn : Turn) → Comes j k r (Some turn) → Turned j (Ok turn) k
 turned_by j k r Turn.End c = absurd c.took
 turned_by j k r turn c = (r, c)
-
--- the row at which the first turn came
-begun_at : {R : Type 0} (j k : Judging R) (first : LineByte) (turn : Turn) → BeginsAt j first (Ok turn) k → (front : Judging R) × Turned front (Ok turn) k
-begun_at j k first turn (inl (is, gives)) = absurd (cc is)
-begun_at j k first turn (inr (inl (other, is, comes))) = let same : turn ≡ other = cc in (j, rw same (turned_by j k first other comes))
-begun_at j k first turn (inr (inr (mid, comes, come))) = (come.front, come.turned)
-
-pub first_turned : {R : Type 0} (terms : Terms) (beginning : Beginning) (j k : Judging R) (turn : Turn) → ComesFirst terms beginning j (Ok turn) k
-    → (front : Judging R) × Turned front (Ok turn) k
-first_turned terms Beginning.FirstRecord j k turn come = (come.front, come.turned)
-first_turned {R = R} terms Beginning.FirstCommand j k turn come = by come.then
-  where
-    by : ((first : LineByte) × (may_begin (last_of None come.passed) first ≡ true) × Resumes terms come.mid first (Ok turn) k)
-        ⊎ ((let r : Result Turn JudgeError = Ok turn in r) ≡ Ok Turn.End) × GivesEnd come.mid k.rows × KnowsNothing terms k.follower
-        ⊎ ((e : CaptureError) × GivesRefusal come.mid e k.rows × ((let r : Result Turn JudgeError = Ok turn in r) ≡ Err (refusal_of e)))
-        → (front : Judging R) × Turned front (Ok turn) k
-    by (inl (first, may, new)) = begun_at (record { rows = come.mid; follower = new.follower }) k first turn new.with_first
-    by (inr (inl (is, ends, knows))) =
-        let same : turn ≡ Turn.End = cc in (record { rows = come.mid; follower = k.follower }, rw same (record { ends = ends; same_follower = refl }))
-    by (inr (inr (e, refusal, is))) = absurd (cc is)

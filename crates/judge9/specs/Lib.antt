@@ -2,6 +2,7 @@ pub mod Verdict
 pub mod Judging
 pub mod Beginning
 pub mod InTime
+pub mod Moved
 pub mod Parts
 pub mod PartsReport
 pub mod Report

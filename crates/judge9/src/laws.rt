@@ -1,12 +1,13 @@
 //! The laws of the definitions that contracts cite, each the contract of a function that does nothing: what
 //! carries a verdict from a record to the next.
-ghost use Rattle.std.specs.Prelude.{◌≡◌, ◌≤◌, ◌+◌, ◌↔◌, ℕ, if◌then◌else◌, List, [], ◌∷◌, ◌++◌, drop, length, Option, Some, Result};
+ghost use Rattle.std.specs.Prelude.{◌≡◌, ◌≤◌, ◌+◌, ◌↔◌, map, ℕ, if◌then◌else◌, List, [], ◌∷◌, ◌++◌, drop, length, Option, Some, Result};
 ghost use Rattle.block9.specs.Exchange.{Cut, IsKept};
 ghost use Rattle.block9.specs.Line.{last_time};
 ghost use Rattle.block9.specs.Reason.{IsReason};
 ghost use Rattle.block9.specs.declared.exchange.Exchange.{Exchange};
 ghost use Rattle.capture9.specs.Rows.{Rows};
-ghost use Rattle.judge9.specs.Beginning.{Rest, judged_rows, passed_before};
+ghost use Rattle.judge9.specs.Beginning.{Rest, judged_from, judged_rows, passed_before};
+ghost use Rattle.judge9.specs.Moved.{moved_break, moved_part, moved_rest, moved_totals};
 ghost use Rattle.judge9.specs.Judging.{Answer, IsAnswer};
 ghost use Rattle.judge9.specs.Judging.Answer.{judged};
 ghost use Rattle.judge9.specs.Report.{IsText, Told};
@@ -94,6 +95,18 @@ pub fn parts_without_a_break()
         → AreParts profile (record { past = 0; records = items }) [] left → IsPart profile last → last.records ≡ left.records
         → AreTotals (length items) [] last totals → totals.breaks ≡ 0
         → AreCounts (counting profile) items totals.records totals.exchanges totals.tail × (totals.passed_over ≡ 0) }
+{}
+
+/// Wherever its judging begins, a capture has the parts of the capture cut there. Only the numbers of their records differ, and the
+/// records before them count among those that are passed over.
+pub fn the_parts_of_the_capture_cut_there()
+    ensures { (beginning : Beginning) (profile : Profile) (items : List LineByte) (broken : List BrokenPart) (left : Rest) (last : Part) (totals : Totals)
+        → AreParts profile (record { past = 0; records = (judged_from beginning items).records }) broken left → IsPart profile last
+        → AreTotals (length (judged_from beginning items).records) broken last totals
+        → AreParts profile (judged_from beginning items) (map (moved_break (judged_from beginning items).past) broken) (moved_rest (judged_from beginning items).past left)
+        × IsPart profile (moved_part (judged_from beginning items).past last)
+        × AreTotals (length items) (map (moved_break (judged_from beginning items).past) broken) (moved_part (judged_from beginning items).past last)
+        (moved_totals (judged_from beginning items).past totals) }
 {}
 
 /// A capture has one list of parts, of which the last keeps the rules and has all that is left, and one set of totals.

@@ -1,4 +1,5 @@
 //! Captures and what is answered to them, with values from the protocol's rules, by hand.
+mod begun;
 mod changed;
 mod drawn;
 mod fewest_hands;

@@ -54,7 +54,13 @@ fn write_lines_and_verdict<W: Write>(
             exchanges,
             states,
         } => {
-            write_lines(writer, *past, exchanges.as_slice(), states.as_slice(), profile)?;
+            write_lines(
+                writer,
+                *past,
+                exchanges.as_slice(),
+                states.as_slice(),
+                profile,
+            )?;
             write_yes(writer, *records, exchanges.len() as u64, *tail)
         }
         RunVerdict::No { at, reason } => write_no(writer, *at, *reason),

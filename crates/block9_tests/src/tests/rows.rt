@@ -3,7 +3,9 @@
 mod readers;
 
 use crate::tests::same;
-use capture9::{CaptureError, CaptureKind, GREATEST_LIMIT, LineByte, MOST_ROWS, Records, Wire, read_capture};
+use capture9::{
+    CaptureError, CaptureKind, GREATEST_LIMIT, LineByte, MOST_ROWS, Records, Wire, read_capture,
+};
 use readers::{Cut, Repeated};
 use std::alloc::Global;
 use std::io::Read;

@@ -19,6 +19,10 @@ const PLAYED: &str =
 const PLAYED_WITH_PANEL: &str =
     "record 6: goal PLAY, shown STOP, in clear, out 10:00:00:00, local no, ain clear, aout clear, panel off\nyes: records 6, exchanges 1, open 0\n";
 
+/// The run behind 4,294,967,200 records that were passed over.
+const PLAYED_LATER: &str =
+    "record 4294967206: goal PLAY, shown STOP, in clear, out 10:00:00:00, local no, ain clear, aout clear\nyes: records 6, exchanges 1, open 0\n";
+
 /// A state whose words are the longest of each field.
 const LONGEST: &str =
     "record 6: goal SHUTTLE, shown SHUTTLE, in 23:59:59:24, out 23:59:59:24, local yes, ain 23:59:59:24, aout 23:59:59:24, panel off\nyes: records 6, exchanges 1, open 0\n";
@@ -75,6 +79,7 @@ fn run_to(rt: &impl Abort, alloc: Global, state: State) -> Result<RunVerdict, Fa
     let mut states = Vec::new(alloc);
     states.push(state)?;
     Ok(RunVerdict::Yes {
+        past: 0,
         records: 6,
         tail: 0,
         exchanges,
@@ -109,6 +114,16 @@ fn a_yes(rt: HostRuntime) -> Result<(), Fail> {
     let run = run_to(&rt, rt.alloc(), playing(&rt))?;
     tell_text(&rt, rt.alloc(), &run, Hands::None, PLAYED);
     tell_text(&rt, rt.alloc(), &run, Hands::Allowed, PLAYED_WITH_PANEL);
+    Ok(())
+}
+
+#[test]
+fn a_yes_behind_records_that_were_passed_over(rt: HostRuntime) -> Result<(), Fail> {
+    let mut run = run_to(&rt, rt.alloc(), playing(&rt))?;
+    if let RunVerdict::Yes { past, .. } = &mut run {
+        *past = 4_294_967_200;
+    }
+    tell_text(&rt, rt.alloc(), &run, Hands::None, PLAYED_LATER);
     Ok(())
 }
 
