@@ -36,7 +36,8 @@ moved_by past (judged (verdict.Yes records exchanges tail)) = judged (verdict.Ye
 moved_by past (judged (verdict.No at reason)) = judged (verdict.No (past + at) reason)
 moved_by past (unreadable e) = unreadable e
 
--- the answer is right for a text with these rows where its judging begins so: it is that of the rows that are judged, moved
+-- the answer is right for a text with these rows that is judged from this beginning on: it is that of the rows that are judged,
+-- with the numbers that they have in the whole capture
 abbrev pub IsAnswerFrom : Beginning → Profile → Rows → Answer → Type 0
 IsAnswerFrom beginning profile rows answer =
     (own : Answer) × IsAnswer profile (judged_rows beginning rows) own × (answer ≡ moved_by (passed_before beginning rows) own)

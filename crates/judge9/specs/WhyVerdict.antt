@@ -50,7 +50,8 @@ HasItsWhy terms rows (why.Break at reason tail o before r) =
 HasItsWhy terms rows (why.Contradiction at exchanges places known shown) =
     Cut (line_rules terms) (take at rows.records) exchanges.items [] × IsContradiction terms.profile exchanges.items places.items × CouldShow terms.profile exchanges.items known shown
 
--- the same where the judging begins so: it is that of the rows that are judged, moved
+-- the same for a text that is judged from this beginning on: it is that of the rows that are judged, with the numbers that they
+-- have in the whole capture
 abbrev pub HasItsWhyFrom : Beginning → Profile → Rows → WhyVerdict → Type 0
 HasItsWhyFrom beginning profile rows why =
     (own : WhyVerdict) × HasItsWhy (counting profile) (judged_rows beginning rows) own × (why ≡ moved (passed_before beginning rows) own)

@@ -77,7 +77,7 @@ impl<'a, R: Read + Drop> Judging<'a, R> {
         }
     }
 
-    /// Comes to the first turn of a capture of which nothing was judged yet, whose judging begins so. Errors are those of `next`.
+    /// Comes to the first turn of a capture of which nothing was judged yet, from this beginning on. Errors are those of `next`.
     #[inline(always)] // else the turn would be handed on through memory
     pub(crate) fn first(&mut self, beginning: Beginning) -> Result<Turn, JudgeError>
         requires { (terms : Terms) × IsFresh terms self.old }

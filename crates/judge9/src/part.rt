@@ -105,7 +105,7 @@ impl PartLog {
     }
 }
 
-/// Judges the first part of a capture, of which nothing was judged yet and whose judging begins so, as [`judge_part`] does.
+/// Judges the first part of a capture, of which nothing was judged yet, from this beginning on, as [`judge_part`] does.
 pub(crate) fn judge_first_part<R: Read + Drop, W: Write>(
     judging: &mut Judging<R>,
     beginning: Beginning,

@@ -34,12 +34,13 @@ use verdict9::{
 /// first record that breaks another rule, and the next part begins with the first record that may begin a command: with the one
 /// that breaks, where it comes on the controller's wire and a reply is missing or unfinished, or the block before
 /// it did not end; else after it, with the first on the controller's wire that comes after a record of the deck's wire or after
-/// the byte gap. Where there is none, the rest is passed over. That is a choice of these rules.
+/// the byte gap. Where there is none, the rest is passed over. That is a choice of these rules. With `Beginning::FirstCommand` the
+/// first part begins as `judge_for` does then. A capture may have 4,294,967,294 rows.
 ///
 /// For each part it writes what `judge` writes for a capture that breaks there, or what `report9`'s `write_why` writes of it, with
 /// the numbers that the records have in the whole capture, and where a late reply begins what these write of that break; for a part
-/// that does not break what stands before a break, where it is asked for; and the line of the totals last. It keeps no list of records or parts, and the exchanges of a part only to
-/// say why it breaks. The writer is not flushed.
+/// that does not break what stands before a break, where it is asked for; and the line of the totals last. It keeps no list of
+/// records or parts, and the exchanges of a part only to say why it breaks. The writer is not flushed.
 ///
 /// `Ok(totals)` comes exactly where no row of the text is bad: no break ends the reading. Errors come as with `judge`, and the
 /// line of the totals is then missing:

@@ -18,10 +18,10 @@ use std::io::{self, Read};
 use verdict9::{Beginning, JudgeError, RunVerdict, Telling};
 
 /// Judges the capture that the reader gives, as [`judge_for`](crate::judge_for) does, and gives a yes with a run of the
-/// deck: the exchanges, and a state of the deck after each of them, such that some first state, drifts and steps of
-/// the deck lead through all of them and give exactly the replies. With hands it is one with the fewest moves of a hand,
-/// at each of which the hand keeps what it can, which is tested and not proved; beyond that, which of several runs it is,
-/// is not said.
+/// deck: how many records were passed over, the exchanges, and a state of the deck after each of them, such that some first
+/// state, drifts and steps of the deck lead through all of them and give exactly the replies. With hands it is one with the
+/// fewest moves of a hand, at each of which the hand keeps what it can, which is tested and not proved; beyond that, which of
+/// several runs it is, is not said.
 ///
 /// It writes nothing, and keeps all exchanges, their states, and what was possible before some of the exchanges: before so
 /// few of them that this takes about as much memory as the exchanges, which is measured and not proved. To find the run

@@ -25,10 +25,13 @@ use verdict9::{Beginning, JudgeError, Telling, Verdict, View, put_verdict_line};
 /// Judges the capture that the reader gives, and writes the report that the view asks for.
 ///
 /// It reads row by row, up to the end, the first bad row or the first record that breaks a rule, and keeps no
-/// list of records. The judging begins with the first record, or with the first that may begin a command: one on the controller's
-/// wire that comes after a record of the deck or after the byte gap, and not the first of the capture. What comes before that is
-/// passed over, and the answer is that of the capture without it, with the numbers that the records have in the whole capture. With `View::Explain` each exchange has a line, written in one piece once the exchange is complete; the
+/// list of records. With `View::Explain` each exchange has a line, written in one piece once the exchange is complete; the
 /// line of the verdict is written last. The writer is not flushed.
+///
+/// With `Beginning::FirstCommand` it judges from the first record on that may begin a command: one on the controller's wire that
+/// comes after a record of the deck or after the byte gap. The first of the capture never may. The records before it are passed
+/// over, and the answer is that of the capture without them: below, "records" are those that are judged, and only their numbers
+/// are those of the whole capture. That is a choice of these rules.
 ///
 /// The profile says what the deck is taken for: its rate, whether somebody may have touched its panel, and what it does of its own.
 ///
@@ -120,7 +123,7 @@ fn judge_rows<R: Read + Drop, W: Write>(
     tell(line, writer, verdict)
 }
 
-/// The verdict where a part ends so of which this was counted.
+/// The verdict on a part of which this was counted, and which ends with this break, or with the rows.
 fn verdict_at<R: Read + Drop>(judging: &Judging<R>, log: &PartLog, end: Option<Break>) -> Verdict
     requires { end ≡ None → log.now.records + length judging.now.follower.pairer.tail ≤ greatest_limit }
     ensures { result ≡ verdict_at judging.now log.now.exchanges log.now.records end }

@@ -72,7 +72,7 @@ TakesUp {R} terms b j result k =
     ⊎ MatchBool (begins_next_part b.reason b.record) ((before : Progress R) → GivesRecord before b.record j.rows → Resumes terms before b.record result k)
     (ResumesAfter terms (Some b.record) j.rows result k)
 
--- what comes first where a judging of which nothing was judged yet begins so
+-- what a judging comes to first, from this beginning on, where nothing was judged yet
 abbrev pub ComesFirst : {R : Type 0} → Terms → Beginning → Judging R → Result Turn JudgeError → Judging R → Type 0
 ComesFirst terms Beginning.FirstRecord j result k = ComesTo j result k
 ComesFirst terms Beginning.FirstCommand j result k = ResumesAfter terms None j.rows result k
