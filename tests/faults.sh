@@ -117,6 +117,11 @@ for verb in check explain run why; do
     done
 done
 
+# The same where records are passed over at the beginning, and where all are.
+for file in examples/play.csv "$work/long.csv"; do
+    try_all 'check --sync' "$file"
+done
+
 # The same of why a verdict is a no, where a rule of timing is broken and where no run remains.
 answer=1
 for file in examples/late-reply.csv examples/disputed-in-point.csv; do

@@ -113,6 +113,8 @@ try_words 3 check examples/bad-byte.csv
 try_words 1 check --deck decks/edit-session.toml examples/lost-in-point.csv
 try_words 3 check --deck examples/play.csv examples/play.csv
 try_words 4 check absent.csv
+try_words 0 check --sync examples/fast-forward.csv
+try_words 0 explain --sync examples/play.csv
 try_words 2 frob
 try_words 0 --version
 try_words 0 explain examples/fast-forward.csv
