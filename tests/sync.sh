@@ -430,6 +430,52 @@ done
 records "D 11 $play" 40000 > "$work/long.csv"
 judge_closed_pipe explain --all --sync "$work/long.csv"
 
+# moved BY: what a view tells of a report, with the numbers of its records moved by so many. The last line counts, and stays.
+moved() {
+    awk -v by="$1" '/^(yes|breaks)[ :]/ { print "the last line"; next }
+    {
+        text = ""
+        while (match($0, /[Rr]ecords? [0-9]+( to [0-9]+)?/)) {
+            parts = split(substr($0, RSTART, RLENGTH), word, " ")
+            text = text substr($0, 1, RSTART - 1) word[1] " " word[2] + by (parts > 2 ? " to " word[4] + by : "")
+            $0 = substr($0, RSTART + RLENGTH)
+        }
+        print text $0
+    }'
+}
+
+# Views that read the capture take such a report with -v sync=1: what they tell is what they tell of the rest. A motion's number stands in a column.
+for file in examples/*.csv; do
+    for cut in 1 4 7; do
+        awk -v cut="$cut" 'NR == 1 || NR > cut + 1' "$file" > "$work/capture.csv"
+        "$program" check --sync --all "$work/capture.csv" > "$work/out" 2> "$work/err" || [ ! -s "$work/err" ] || continue
+        for words in explain 'explain --all'; do
+            by=$(awk -F, 'NR > 1 { if (NR > 2 && $2 == "C" && (wire == "D" || $1 - time > 10287)) exit; wire = $2; time = $1; by++ }
+                END { print by + 0 }' "$work/capture.csv")
+            awk -v by="$by" 'NR == 1 || NR > by + 1' "$work/capture.csv" > "$work/rest.csv"
+            # shellcheck disable=SC2086
+            "$program" $words --sync "$work/capture.csv" > "$work/report"
+            # shellcheck disable=SC2086
+            "$program" $words "$work/rest.csv" > "$work/of_rest"
+            for view in digest delays motion; do
+                name="$view of $words, $(basename "$file") without its first $cut records"
+                awk -v sync=1 -v capture="$work/capture.csv" -f view/$view.awk < "$work/report" 2>&1 | moved 0 > "$work/out"
+                awk -v capture="$work/rest.csv" -f view/$view.awk < "$work/of_rest" 2>&1 | moved "$by" > "$work/want"
+                if [ "$view" = motion ]; then
+                    sed -i -E 's/^( .*[^ ]) +[0-9]+(  [A-Z])/\1\2/' "$work/out" "$work/want"
+                fi
+                judge "$name" cmp "$work/out" "$work/want"
+            done
+        done
+    done
+done
+awk 'NR == 1 || NR > 5' examples/in-point.csv > "$work/capture.csv"
+"$program" explain --sync "$work/capture.csv" > "$work/report"
+for view in digest delays motion; do
+    awk -v sync=1 -v capture=examples/in-point.csv -f view/$view.awk < "$work/report" > "$work/out" 2> "$work/err"
+    judge "$view with another capture" [ -s "$work/err" ]
+done
+
 # Drawn captures. What lib/sync.py finds wrong stands before its last line.
 python3 -B tests/lib/sync.py "$program" > "$work/drawn" 2>&1
 sed '$d' "$work/drawn"

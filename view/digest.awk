@@ -10,7 +10,7 @@
 #     known, of 922 exchanges: shown 0.0 %, in 49.8 %, out 0.0 %, local 100.0 %, ain 0.0 %, aout 0.0 %
 #
 # The time is that of the reply's last record, on the capture's clock; without -v capture=FILE the number of the record
-# stands alone. Questions are STATUS SENSE, CURRENT TIME SENSE, the four DATA SENSE and DEVICE TYPE; a question that was
+# stands alone. Of a report with --sync give -v sync=1 beside the capture. Questions are STATUS SENSE, CURRENT TIME SENSE, the four DATA SENSE and DEVICE TYPE; a question that was
 # refused is counted with its reply.
 #
 # A line tells each field with another value than the one that it was last known to have, and each that was known until
@@ -200,11 +200,18 @@ function read_explanation() {
     if (kind == "no" && reason != "L1") time_of(record, "CD")
     else if (kind == "no" && !reads_bytes) late = late_delay()
     if (kind == "yes" || kind == "breaks") {
-        while (rows <= records + 0 && next_row()) continue
-        if (rows != records + 0) {
-            refuse("the capture has not " records " records, as the " (kind == "yes" ? "verdict has: " : "totals have: ") capture)
-        }
+        check_end(kind == "yes" ? "verdict has: " : "totals have: ")
     }
+}
+
+# The capture ends where the report does. With -v sync=1 a yes may count no records before the first one that was judged: then the
+# last exchange tells where the capture ends, and without one it has as many records as the yes counts, or more.
+function check_end(who,    whole, is_least) {
+    whole = records + 0
+    if (sync && kind == "yes" && lines > 0) whole = last_record + open
+    is_least = sync && kind == "yes" && lines + 0 == 0
+    while ((rows <= whole || is_least) && next_row()) continue
+    if (rows < whole || (rows > whole && !is_least)) refuse("the capture has not " records " records, as the " who capture)
 }
 
 # The delay of the late reply that begins with the record.

@@ -18,7 +18,7 @@
 # the time runs back both are below 0.
 #
 # The times are those of 25 frames a second. Of a report with --rate the same rate is given here: -v rate=24, -v rate=30 or
-# -v rate=29.97df.
+# -v rate=29.97df. Of one with --sync give -v sync=1.
 #
 # "Worth looking at" is a mode that no status shows, and what holds from one status to another, with the same mode in all
 # between and no command that asks for another mode or way: a time that stands still for a second or more where PLAY or REC is
@@ -132,11 +132,18 @@ function forget_bytes() {
 }
 
 # Reads on up to this record of the deck's wire. `asked_at` is the time of the command's last byte. Where a late reply is the
-# verdict, the exchanges before it may have no lines: `check` writes none.
-function read_to(last,    digits) {
+# verdict, the exchanges before it may have no lines: `check` writes none. With -v sync=1 records may be passed over before the first
+# exchange, which then begins with the first record that may begin a command.
+function read_to(last,    digits, before, wire_before) {
     for (; next_record <= last; next_record++) {
-        now = time_of(next_record, next_record == last ? "D" : asked_bytes == 0 ? "C" : "CD") + 0
+        wire_before = rows > 0 ? wire_of_row() : ""
+        before = now
+        now = time_of(next_record, next_record == last ? "D" : asked_bytes == 0 && !passes_over() ? "C" : "CD") + 0
         digits = toupper(substr(row, length(row) - 1))
+        if (passes_over() && wire_before != "" && wire_of_row() == "C" && (wire_before == "D" || now - before > 10287)) {
+            forget_bytes()
+            is_synced = 1
+        }
         if (wire_of_row() == "D") {
             answered[++answered_bytes] = digits
             continue
@@ -146,6 +153,11 @@ function read_to(last,    digits) {
         asked[++asked_bytes] = digits
         asked_at = now
     }
+}
+
+# Whether the first record that may begin a command is still to come, where records are passed over before it.
+function passes_over() {
+    return sync && !is_synced && lines < 2
 }
 
 # The record at which the exchange begins: the one after the exchange before, or after a break the first of the part, which is the
@@ -480,11 +492,18 @@ function read_explanation() {
     if (kind == "no" && reason != "L1") time_of(record, "CD")
     else if (kind == "no" && !reads_bytes) late = late_delay()
     if (kind == "yes" || kind == "breaks") {
-        while (rows <= records + 0 && next_row()) continue
-        if (rows != records + 0) {
-            refuse("the capture has not " records " records, as the " (kind == "yes" ? "verdict has: " : "totals have: ") capture)
-        }
+        check_end(kind == "yes" ? "verdict has: " : "totals have: ")
     }
+}
+
+# The capture ends where the report does. With -v sync=1 a yes may count no records before the first one that was judged: then the
+# last exchange tells where the capture ends, and without one it has as many records as the yes counts, or more.
+function check_end(who,    whole, is_least) {
+    whole = records + 0
+    if (sync && kind == "yes" && lines > 0) whole = last_record + open
+    is_least = sync && kind == "yes" && lines + 0 == 0
+    while ((rows <= whole || is_least) && next_row()) continue
+    if (rows < whole || (rows > whole && !is_least)) refuse("the capture has not " records " records, as the " who capture)
 }
 
 # The delay of the late reply that begins with the record.
