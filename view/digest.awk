@@ -10,8 +10,8 @@
 #     known, of 922 exchanges: shown 0.0 %, in 49.8 %, out 0.0 %, local 100.0 %, ain 0.0 %, aout 0.0 %
 #
 # The time is that of the reply's last record, on the capture's clock; without -v capture=FILE the number of the record
-# stands alone. Of a report with --sync give -v sync=1 beside the capture. Questions are STATUS SENSE, CURRENT TIME SENSE, the four DATA SENSE and DEVICE TYPE; a question that was
-# refused is counted with its reply.
+# stands alone. Of a report with --sync give -v sync=1 beside the capture. Questions are STATUS SENSE, CURRENT TIME SENSE, the
+# four DATA SENSE and DEVICE TYPE; a question that was refused is counted with its reply.
 #
 # A line tells each field with another value than the one that it was last known to have, and each that was known until
 # this exchange and now is not. A question gets no line for a field that is known again as it was, and none for goal or
