@@ -13,6 +13,7 @@ use judge9::{
 };
 use std::alloc::{AllocError, Global};
 use std::io::Read;
+use std::process::Abort;
 
 /// What is answered to a capture, judged from the first record that may begin a command, where nothing is explained.
 fn begun<R: Read + Drop>(alloc: Global, reader: R) -> Result<Verdict, JudgeError> {
@@ -142,29 +143,40 @@ fn a_refusal_among_records_that_are_passed_over(rt: HostRuntime) -> Result<(), A
     Ok(())
 }
 
+/// What a yes with a run counts: the records that were passed over, those that were judged, those that are open, and the exchanges.
+fn counts_of(run: &RunVerdict) -> Option<(u32, u32, u32, usize)> {
+    match run {
+        RunVerdict::Yes {
+            past,
+            records,
+            tail,
+            exchanges,
+            ..
+        } => Some((*past, *records, *tail, exchanges.len())),
+        RunVerdict::No { .. } => None,
+    }
+}
+
+/// Compares what a yes with a run counts, judged from this record on.
+fn tell_counts(
+    rt: &impl Abort,
+    alloc: Global,
+    text: &str,
+    beginning: Beginning,
+    counts: Option<(u32, u32, u32, usize)>,
+) {
+    let profile = Profile::of(Hands::None);
+    let run = judge_with_run_for(alloc, text.as_bytes(), beginning, &profile);
+    let run = run.expect(rt, "a verdict");
+    same(rt, counts_of(&run), counts, beginning);
+}
+
 #[test]
 fn a_run_tells_how_many_were_passed_over(rt: HostRuntime) -> Result<(), AllocError> {
     let mut tap = Tap::new(rt.alloc())?;
     tap.put("D 01 11 C 20 01 21 D 10 01 11 C 20")?;
-    let profile = Profile::of(Hands::None);
-    let text = tap.text.as_bytes();
-    for (beginning, counts) in [
-        (Beginning::FirstCommand, Some((2, 7, 1, 1))),
-        (Beginning::FirstRecord, None),
-    ] {
-        let found = match judge_with_run_for(rt.alloc(), text, beginning, &profile) {
-            Ok(
-                RunVerdict::Yes {
-                    past,
-                    records,
-                    tail,
-                    exchanges,
-                    ..
-                },
-            ) => Some((past, records, tail, exchanges.len())),
-            _ => None,
-        };
-        same(&rt, found, counts, beginning);
-    }
+    let counts = Some((2, 7, 1, 1));
+    tell_counts(&rt, rt.alloc(), &tap.text, Beginning::FirstCommand, counts);
+    tell_counts(&rt, rt.alloc(), &tap.text, Beginning::FirstRecord, None);
     Ok(())
 }
