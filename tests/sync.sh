@@ -444,7 +444,8 @@ moved() {
     }'
 }
 
-# Views that read the capture take such a report with -v sync=1: what they tell is what they tell of the rest. A motion's number stands in a column.
+# Views that read the capture take such a report with -v sync=1: what they tell is what they tell of the rest. A motion's number
+# stands in a column.
 for file in examples/*.csv; do
     for cut in 1 4 7; do
         awk -v cut="$cut" 'NR == 1 || NR > cut + 1' "$file" > "$work/capture.csv"
@@ -475,6 +476,30 @@ for view in digest delays motion; do
     awk -v sync=1 -v capture=examples/in-point.csv -f view/$view.awk < "$work/report" > "$work/out" 2> "$work/err"
     judge "$view with another capture" [ -s "$work/err" ]
 done
+
+# A picture with -v sync=1 is that of the rest: of PLAY, that is answered too soon, and not of blocks with bytes of two commands.
+cat > "$work/capture.csv" <<'END'
+time_us,wire,byte
+1000,C,00
+1400,C,00
+1800,C,10
+2200,C,68
+4000,D,10
+4400,D,01
+4800,D,11
+20000,C,20
+20400,C,01
+22000,D,10
+22400,D,01
+22800,D,11
+END
+awk 'NR == 1 || NR > 8' "$work/capture.csv" > "$work/rest.csv"
+"$program" check --sync "$work/capture.csv" > "$work/report"
+"$program" check "$work/rest.csv" > "$work/of_rest"
+awk -v sync=1 -v capture="$work/capture.csv" -f view/picture.awk < "$work/report" 2>&1 | moved 0 > "$work/out"
+awk -v capture="$work/rest.csv" -f view/picture.awk < "$work/of_rest" 2>&1 | moved 7 > "$work/want"
+judge 'a picture of what was judged' cmp "$work/out" "$work/want"
+judge 'a picture with the command' grep -q '>PLAY<' "$work/out"
 
 # Drawn captures. What lib/sync.py finds wrong stands before its last line.
 python3 -B tests/lib/sync.py "$program" > "$work/drawn" 2>&1

@@ -13,7 +13,7 @@
 # Of `explain --all` the replies of all parts are counted, and the late ones stand below the limit: a hundred of them, and the
 # number of the others. The exchange of a late reply has its delay, so it is counted in the table with the others, and only a late
 # reply that has no exchange, since it is not whole or breaks another rule, is taken from the capture. The totals are the last line.
-# Of a report with --sync give -v sync=1 beside the capture.
+# For a report made with --sync, give -v sync=1 as well as the capture.
 
 BEGIN {
     view = "delays.awk"
@@ -169,14 +169,14 @@ function read_explanation() {
     }
 }
 
-# The capture ends where the report does. With -v sync=1 a yes may count no records before the first one that was judged: then the
-# last exchange tells where the capture ends, and without one it has as many records as the yes counts, or more.
+# The capture ends where the report does. With -v sync=1 a yes leaves out the records that were passed over, so the last exchange
+# tells where the capture ends; without an exchange the capture has at least as many records as the yes counts.
 function check_end(who,    whole, is_least) {
     whole = records + 0
     if (sync && kind == "yes" && lines > 0) whole = last_record + open
     is_least = sync && kind == "yes" && lines + 0 == 0
     while ((rows <= whole || is_least) && next_row()) continue
-    if (rows < whole || (rows > whole && !is_least)) refuse("the capture has not " records " records, as the " who capture)
+    if (rows < whole || (rows > whole && !is_least)) refuse("the capture has not " whole " records, as the " who capture)
 }
 
 # The delay of the late reply that begins with the record.

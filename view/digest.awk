@@ -10,8 +10,8 @@
 #     known, of 922 exchanges: shown 0.0 %, in 49.8 %, out 0.0 %, local 100.0 %, ain 0.0 %, aout 0.0 %
 #
 # The time is that of the reply's last record, on the capture's clock; without -v capture=FILE the number of the record
-# stands alone. Of a report with --sync give -v sync=1 beside the capture. Questions are STATUS SENSE, CURRENT TIME SENSE, the
-# four DATA SENSE and DEVICE TYPE; a question that was refused is counted with its reply.
+# stands alone. For a report made with --sync, give -v sync=1 as well as the capture. Questions are STATUS SENSE, CURRENT TIME
+# SENSE, the four DATA SENSE and DEVICE TYPE; a question that was refused is counted with its reply.
 #
 # A line tells each field with another value than the one that it was last known to have, and each that was known until
 # this exchange and now is not. A question gets no line for a field that is known again as it was, and none for goal or
@@ -204,14 +204,14 @@ function read_explanation() {
     }
 }
 
-# The capture ends where the report does. With -v sync=1 a yes may count no records before the first one that was judged: then the
-# last exchange tells where the capture ends, and without one it has as many records as the yes counts, or more.
+# The capture ends where the report does. With -v sync=1 a yes leaves out the records that were passed over, so the last exchange
+# tells where the capture ends; without an exchange the capture has at least as many records as the yes counts.
 function check_end(who,    whole, is_least) {
     whole = records + 0
     if (sync && kind == "yes" && lines > 0) whole = last_record + open
     is_least = sync && kind == "yes" && lines + 0 == 0
     while ((rows <= whole || is_least) && next_row()) continue
-    if (rows < whole || (rows > whole && !is_least)) refuse("the capture has not " records " records, as the " who capture)
+    if (rows < whole || (rows > whole && !is_least)) refuse("the capture has not " whole " records, as the " who capture)
 }
 
 # The delay of the late reply that begins with the record.

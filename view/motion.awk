@@ -18,7 +18,7 @@
 # the time runs back both are below 0.
 #
 # The times are those of 25 frames a second. Of a report with --rate the same rate is given here: -v rate=24, -v rate=30 or
-# -v rate=29.97df. Of one with --sync give -v sync=1.
+# -v rate=29.97df. For one made with --sync, give -v sync=1.
 #
 # "Worth looking at" is a mode that no status shows, and what holds from one status to another, with the same mode in all
 # between and no command that asks for another mode or way: a time that stands still for a second or more where PLAY or REC is
@@ -132,8 +132,8 @@ function forget_bytes() {
 }
 
 # Reads on up to this record of the deck's wire. `asked_at` is the time of the command's last byte. Where a late reply is the
-# verdict, the exchanges before it may have no lines: `check` writes none. With -v sync=1 records may be passed over before the first
-# exchange, which then begins with the first record that may begin a command.
+# verdict, the exchanges before it may have no lines: `check` writes none. With -v sync=1 records may be passed over before the
+# first exchange, which then begins with the first record that may begin a command.
 function read_to(last,    digits, before, wire_before) {
     for (; next_record <= last; next_record++) {
         wire_before = rows > 0 ? wire_of_row() : ""
@@ -496,14 +496,14 @@ function read_explanation() {
     }
 }
 
-# The capture ends where the report does. With -v sync=1 a yes may count no records before the first one that was judged: then the
-# last exchange tells where the capture ends, and without one it has as many records as the yes counts, or more.
+# The capture ends where the report does. With -v sync=1 a yes leaves out the records that were passed over, so the last exchange
+# tells where the capture ends; without an exchange the capture has at least as many records as the yes counts.
 function check_end(who,    whole, is_least) {
     whole = records + 0
     if (sync && kind == "yes" && lines > 0) whole = last_record + open
     is_least = sync && kind == "yes" && lines + 0 == 0
     while ((rows <= whole || is_least) && next_row()) continue
-    if (rows < whole || (rows > whole && !is_least)) refuse("the capture has not " records " records, as the " who capture)
+    if (rows < whole || (rows > whole && !is_least)) refuse("the capture has not " whole " records, as the " who capture)
 }
 
 # The delay of the late reply that begins with the record.

@@ -8,6 +8,8 @@
 # time that passed stands over the limit, in the same measure. A longer silence is cut, with its length beside the cut.
 # -v width=N says how wide the picture may be, in pixels (1200); it is wider where what breaks the rule would not fit.
 #
+# For a report made with --sync, give -v sync=1 as well as the capture.
+#
 # Of a report of --all one break is drawn: the first, or with -v at=RECORD the one at this record. What stands before the part that
 # it breaks is not drawn. A late reply (L1) ends no part there: it is drawn whole, and what was judged after it is not pale.
 #
@@ -99,9 +101,10 @@ function draw_break() {
 function read_capture(number,    k) {
     rows = -1
     if (!next_row() || row !~ /time_us"?,"?wire"?,"?byte"?\r?$/) refuse("no header of a capture: " capture)
-    part_begins = broke_at == "" ? 1 : 0
+    part_begins = broke_at == "" && !sync ? 1 : 0
     while (rows < number + behind && next_row()) take_record()
     if (rows < number) refuse("the capture ends before record " number ": " capture)
+    if (part_begins == 0 && broke_at == "") refuse("no command can begin before record " number ": " capture)
     if (part_begins == 0) refuse("no command can begin between the breaks at records " broke_at " and " number ": " capture)
     oldest = number > part_begins + keep ? number - keep : part_begins
     newest = readable
@@ -146,7 +149,7 @@ function take_record(    part, number) {
 
 # Whether a record may begin a command after the break before: the first that may is the first of the part.
 function begins_part(number) {
-    if (wire[number] != "C" || number < broke_at) return 0
+    if (wire[number] != "C" || number < broke_at || number == 1) return 0
     if (number == broke_at) return broke_by ~ /^(L2|P3|P4|B3)$/
     return wire[number - 1] == "D" || stamp[number] - stamp[number - 1] > limit_of["B3"]
 }

@@ -1,8 +1,8 @@
 #!/usr/bin/env bash
-# What a record costs in a long capture: `check --all` of 30,000,000 records of PLAY and its acknowledgement, or of as many as the first
-# word says, beside `check` and `check --all` of the first 4,000,000 of them. All are read from a pipe, in turn, five times or as often
-# as the second word says. Tells the best processor time of a record, the greatest resident memory, and the ratios of both to `check`.
-# Not part of the gate. The program is the one that `make` or the gate built.
+# What a record costs in a long capture: `check --all` of 30,000,000 records of PLAY and its acknowledgement, or of as many as the
+# first word says, beside `check` and `check --all` of the first 4,000,000 of them. All are read from a pipe, in turn, five times or
+# as often as the second word says. Tells the best processor time of a record, the greatest resident memory, and the ratios of both
+# to `check`. Not part of the gate. The program is the one that `make` or the gate built.
 set -u
 records=${1:-30000000}
 turns=${2:-5}
