@@ -4,7 +4,7 @@ use Rattle.capture9.proofs.Words.{length_push, LineByte, List, nil_from_length, 
 use Rattle.capture9.proofs.Words.{◌≡◌}
 use Rattle.capture9.proofs.LawLemmas.{can-follow}
 
--- these are the records that were given, of a text that may have so many rows
+-- these are the records that were given, of a text that may have at most `limit` rows
 pub record AreGiven {R : Type 0} (limit : ℕ) (items : List LineByte) (progress : Progress R) : Type 0 where
   pub same_limit : progress.most_rows ≡ limit
   pub can_be : CanBeRows limit (record { records = items; fault = None })

@@ -18,7 +18,7 @@ is_of_text kind.Read = false
 is_of_text kind.OutOfMemory = false
 
 -- of the faults that a text itself has the header's is at row 0, that of a row too many at the first row too many, and no
--- other at either, where a text may have so many rows
+-- other at either, where a text may have at most `limit` rows
 pub record IsAtItsRow (limit : ℕ) (e : CaptureError) : Type 0 where
   pub header : (e.kind ≡ kind.Header) ↔ (e.row ≡ 0)
   pub too_many : (e.kind ≡ kind.TooMany) ↔ (e.row ≡ limit + 1)

@@ -13,7 +13,7 @@ AreThree P (time ∷ wire ∷ byte ∷ []) = P time wire byte
 AreThree P fields = ⊥
 
 -- the row with this number and these fields, after a row of this time (0 before the first), breaks the rule whose
--- breach is told as this kind, where a text may have so many rows
+-- breach is told as this kind, where a text may have at most `limit` rows
 abbrev pub RowBreaks : ℕ → CaptureKind → ℕ → ℕ → List (List ℕ) → Type 0
 RowBreaks limit kind.TooMany number before fields = limit < number
 RowBreaks limit kind.Fields number before fields = length fields ≢ 3

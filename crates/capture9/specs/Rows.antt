@@ -43,7 +43,7 @@ fields_record before (time ∷ wire ∷ byte ∷ []) = record_of before (time_in
 fields_record before _ = Err kind.Fields
 
 -- the record of the row with this number and these fields, after a row of this time (0 at first), or the
--- first rule that the row breaks; a text may have so many rows
+-- first rule that the row breaks; a text may have at most `limit` rows
 abbrev pub row_of : ℕ → ℕ → ℕ → List (List ℕ) → Result LineByte CaptureKind
 row_of limit number before fields = if nat_lt limit number then Err kind.TooMany else fields_record before fields
 
@@ -63,7 +63,7 @@ abbrev pub headed_rows : ℕ → List (List (List ℕ)) → Rows
 headed_rows limit [] = bad_row kind.Header 0
 headed_rows limit (fields ∷ rest) = if is_header fields then rows_from limit 1 0 rest else bad_row kind.Header 0
 
--- what a text holds that may have so many rows, by its bytes; a byte order mark before the header is no part of it
+-- what a text holds that may have at most `limit` rows, by its bytes; a byte order mark before the header is no part of it
 abbrev pub rows_within : ℕ → List ℕ → Rows
 rows_within limit text = headed_rows limit (records default_config (strip_bom text))
 

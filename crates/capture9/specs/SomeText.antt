@@ -1,4 +1,4 @@
--- Which rows are those of some text that may have so many of them.
+-- Which rows are those of some text that may have at most `limit` of them.
 use Rattle.std.specs.Prelude.{◌≡◌, ℕ, ◌+◌, ◌^◌, ◌<◌, ◌≤◌, List, [], length, All, IfSome}
 use Rattle.std.specs.List.Sorted.{IsNonDecreasingBy}
 use Rattle.capture9.specs.declared.error.CaptureKind.{CaptureKind}

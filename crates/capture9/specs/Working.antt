@@ -37,7 +37,8 @@ is_past_header stage.InRows = true
 is_past_header stage.Ended = true
 is_past_header (stage.Refused e) = nat_lt 0 e.row
 
--- the rows that are still to come, by how many there may be, the number of rows given, the time of the last one, and the CSV records left
+-- the rows that are still to come, by how many there may be, the number of rows given, the time of the last one, and the CSV
+-- records left
 abbrev pub rows_to_come : ℕ → Stage → ℕ → ℕ → Option (List (List (List ℕ))) → Option Rows
 rows_to_come limit stage.BeforeHeader given last_time unread = option_map (headed_rows limit) unread
 rows_to_come limit stage.InRows given last_time unread = option_map (rows_from limit (given + 1) last_time) unread

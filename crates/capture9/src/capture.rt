@@ -22,7 +22,7 @@ pub struct Capture {
     pub fault: Option<CaptureError>,
 }
 
-/// Reads the records of a text, up to its end or its first fault.
+/// Reads the records of a text, up to its end or its first fault. The text may have `MOST_ROWS` data rows.
 ///
 /// A fault is what `Records::next` refuses with, at its row. Where this list can grow no further it is
 /// `OutOfMemory`, at the row of the record that found no room.

@@ -57,7 +57,7 @@ pub(crate) fn is_header(row: &ByteRecord) -> bool
 }
 
 /// The record of the data row with this number, after a row of the time `before`, or None where the row
-/// breaks a rule. There may be `most_rows` of them.
+/// breaks a rule. There may be `most_rows` rows.
 #[inline(always)] // else each record is handed on through memory
 pub(crate) fn read_row(
     number: u32,

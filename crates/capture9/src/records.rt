@@ -84,7 +84,8 @@ impl<R: Read + Drop> Model for Records<R> {
 }
 
 impl<R: Read + Drop> Records<R> {
-    /// The records of the text that a reader gives, of which there may be `most_rows`. It reads nothing yet, and takes no memory.
+    /// The records of the text that a reader gives, of which there may be `most_rows`, at most `GREATEST_LIMIT`.
+    /// It reads nothing yet, and takes no memory.
     pub fn new(alloc: Global, reader: R, most_rows: u32) -> Records<R>
         requires { most_rows ≤ greatest_limit }
         ensures { result ≡ record {
@@ -120,7 +121,7 @@ impl<R: Read + Drop> Records<R> {
     ///
     /// After the end it gives None each time, and after a refusal the same refusal each time, and reads
     /// no more. A call asks `csv` for one record, and the first call for the header too. So `csv` is asked
-    /// for two more than there may be at most: the header, the rows, and one row too many.
+    /// for at most two records more than there may be rows: the header, and one row too many.
     #[inline(always)] // each loop over records calls it, and else it would be inlined in none
     pub fn next(&mut self) -> Result<Option<LineByte>, CaptureError>
         ensures given { IfOk result (λ o. IfSome o (λ r. GivesRecord self.old r self.new)) }

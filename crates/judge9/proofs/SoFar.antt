@@ -65,8 +65,8 @@ pub record SoFar {R : Type 0} (telling : Telling) (terms : Terms) (rows : Option
 
 -- ---- the rows that a judging speaks of
 
--- after these records: the rows of the text where they are known, and else the records alone with this fault or none; a text may have
--- so many rows
+-- after these records: the rows of the text where they are known, and else the records alone with this fault or none; a text may
+-- have at most `limit` rows
 pub record Seen (limit : ℕ) (rows left : Option Rows) (items : List LineByte) (fault : Option CaptureError) : Type 0 where
   pub all : Rows
   pub is_known : IfSome rows (λ a. all ≡ a)

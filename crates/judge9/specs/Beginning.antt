@@ -9,7 +9,7 @@ use Rattle.verdict9.specs.declared.verdict.Beginning.{Beginning}
 use Rattle.verdict9.specs.declared.verdict.Beginning.TheVariants.{FirstCommand, FirstRecord}
 
 -- a record that comes after `last` may be the first of a command: it comes on the controller's wire, and after a record of the
--- deck or after the byte gap. Of the first record of a capture nobody knows what came before it
+-- deck or after the byte gap. The first record of a capture never may: nobody knows what came before it
 abbrev pub may_begin : Option LineByte → LineByte → Bool
 may_begin None next = false
 may_begin (Some last) next = is_commands_wire next.wire && (not (is_commands_wire last.wire) || nat_lt (last.time_us + byte_gap) next.time_us)
@@ -19,7 +19,7 @@ pub record Rest : Type 0 where
   pub past : ℕ
   pub records : List LineByte
 
--- what is left of these records from the first on that may begin a command, and nothing where none may; so many records come
+-- what is left of these records from the first one that may begin a command, and nothing where none may; so many records come
 -- before them, the last of which is `last`, if there is one
 abbrev pub from_command : ℕ → Option LineByte → List LineByte → Rest
 from_command past last [] = record { past = past; records = [] }

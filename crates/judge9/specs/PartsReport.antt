@@ -69,8 +69,8 @@ abbrev pub IsTextOf : Telling → Profile → BrokenPart → List ℕ → Type 0
 IsTextOf telling profile b text =
     (lines : List ℕ) × (end : List ℕ) × AreTextsOf (IsEventText telling (in_parts profile)) (events_in b) lines × IsEndText telling profile b end × (text ≡ lines ++ end)
 
--- what came of these rows is told of the first of their records, `items`: those that are judged have these parts that break, and what is left
--- of them begins with the last part, which keeps the rules; `text` is that of the parts that break, and what is told of the last
+-- `items` are a first part of the records of these rows: those of them that are judged have these parts that break, and what is
+-- left begins with the last part, which keeps the rules; `text` is that of the parts that break, and what is told of the last
 pub record InParts (IsText : BrokenPart → List ℕ → Type 0) (beginning : Beginning) (telling : Telling) (profile : Profile) (rows : Rows) (items : List LineByte) (broken : List BrokenPart)
     (left : Rest) (last : Part)
     (text : List ℕ) : Type 0 where
@@ -114,7 +114,7 @@ WrittenInParts rows items broken left last text (Err error.Write) old new =
 WrittenInParts rows items broken left last text (Err error.OutOfMemory) old new = Appends old new text
 
 -- the rows that a judging of all parts speaks of, their parts, and what was written. The rows are those of the text, where the
--- reader tells its bytes; else they are what it gave, and are those of some text. A text may have as many rows as can be numbered
+-- reader tells its bytes; else they are what it gave, and are those of some text. A text may have `greatest_limit` rows
 pub record PartsTold (IsText : BrokenPart → List ℕ → Type 0) (beginning : Beginning) (telling : Telling) (profile : Profile) (known : Option Rows) (result : Result Totals JudgeError)
     (old new : Option (List ℕ)) : Type 0 where
   pub rows : Rows

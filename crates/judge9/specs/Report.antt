@@ -64,15 +64,15 @@ pub record IsText (which : View) (profile : Profile) (past : ℕ) (rows : Rows) 
   pub explained : IsExplained which profile past exchanges text
   pub is_whole : whole ≡ text ++ last_line (moved_by past answer)
 
--- a verdict for which these records are all of them, or those before the break; those that are judged keep the rules
+-- a verdict where a yes counts those of these records that are judged, and a no is at the record after them
 abbrev pub IsVerdictAfter : Beginning → List LineByte → Verdict → Type 0
 IsVerdictAfter beginning items (Yes records exchanges tail) = records ≡ length (judged_from beginning items).records
 IsVerdictAfter beginning items (No at reason) = at ≡ length items + 1
 
--- what was written, by the result, where of these records those that are judged were found to keep the rules and `text` is what
--- the view shows of their exchanges: with a verdict the text and the verdict's line; at a refusal of the capture the text, and these
--- records are all those before its row; where the writer failed a first part of the text, or of the text and the right
--- verdict's line; where memory ran out the text
+-- what was written, by the result, where of these records those that are judged keep the rules and `text` is what the view shows
+-- of their exchanges: with a verdict the text and the verdict's line; at a refusal of the capture the text, and these records are
+-- all those before its row; where the writer failed a first part of the text, or of the text and the right verdict's line; where
+-- memory ran out the text
 abbrev pub Written : Beginning → Profile → Rows → List LineByte → List ℕ → Result Verdict JudgeError → Option (List ℕ) → Option (List ℕ) → Type 0
 Written beginning profile rows items text (Ok v) old new = IsVerdictAfter beginning items v × Appends old new (text ++ line_of v)
 Written beginning profile rows items text (Err (error.Capture e)) old new = IsAfter most_rows items e × Appends old new text
@@ -80,9 +80,9 @@ Written beginning profile rows items text (Err error.Write) old new =
     AppendsPart old new text ⊎ ((v : Verdict) × IsAnswerFrom beginning profile rows (judged v) × IsVerdictAfter beginning items v × AppendsPart old new (text ++ line_of v))
 Written beginning profile rows items text (Err error.OutOfMemory) old new = Appends old new text
 
--- the rows that a judging speaks of, its answer for them, the first of their records, of which it found those that are judged to
--- keep the rules, and what it wrote. The rows are those of the text, where the reader tells its bytes; else they are what it gave, and
--- are those of some text
+-- the rows that a judging speaks of, its answer for them, a first part of their records, of which those that are judged keep the
+-- rules, and what it wrote. The rows are those of the text, where the reader tells its bytes; else they are what it gave, and are
+-- those of some text
 pub record Told (which : View) (beginning : Beginning) (profile : Profile) (known : Option Rows) (result : Result Verdict JudgeError) (old new : Option (List ℕ)) : Type 0 where
   pub rows : Rows
   pub is_known : IfSome known (λ all. rows ≡ all)

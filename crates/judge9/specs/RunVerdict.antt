@@ -29,8 +29,8 @@ abbrev pub judged_of : Result RunVerdict JudgeError → Result Verdict JudgeErro
 judged_of (Ok v) = Ok (verdict_of v)
 judged_of (Err e) = Err e
 
--- on a yes so many records were passed over, the exchanges are those that the records are cut into that were judged, and the
--- states are those after each of them in some run of the deck
+-- on a yes so many records were passed over, the exchanges are those that the judged records are cut into, and the states are
+-- those after each of them in some run of the deck
 abbrev pub HasItsRun : Beginning → Profile → Rows → RunVerdict → Type 0
 HasItsRun beginning profile rows (run.Yes past records tail exchanges states) =
     (past ≡ passed_before beginning rows) × ((left : List LineByte) × Cut (line_rules (counting profile)) (judged_rows beginning rows).records exchanges.items left)

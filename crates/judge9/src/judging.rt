@@ -26,7 +26,8 @@ pub(crate) struct Judging<'a, R: Read + Drop> {
     pub(crate) follower: Follower<'a>,
 }
 
-/// How many rows a capture may have: with the reply limit left aside all of it is judged, in parts, however long it is.
+/// How many rows a capture may have: with the reply limit left aside all of it is judged, in parts, and it may have
+/// `GREATEST_LIMIT`.
 fn rows_allowed(reply_limit: ReplyLimit) -> u32
     ensures { result ≡ rows_allowed reply_limit }
 {

@@ -89,7 +89,7 @@ pub fn a_sheet_that_forgets_less_judges_no_easier()
         → IsAnswer (record p { deck = less }) rows (judged (Verdict.No at reason)) → IsAnswer (record p { deck = more }) rows (judged (Verdict.No other another)) → at ≤ other }
 {}
 
-/// Where nothing breaks, the totals are the counts of a yes, and no record is passed over.
+/// Where judging begins at record 1 and nothing breaks, the totals are the counts of a yes, and no record is passed over.
 pub fn parts_without_a_break()
     ensures { (profile : Profile) (items : List LineByte) (left : Rest) (last : Part) (totals : Totals)
         → AreParts profile (record { past = 0; records = items }) [] left → IsPart profile last → last.records ≡ left.records
@@ -97,9 +97,9 @@ pub fn parts_without_a_break()
         → AreCounts (counting profile) items totals.records totals.exchanges totals.tail × (totals.passed_over ≡ 0) }
 {}
 
-/// Wherever its judging begins, a capture has the parts of the capture cut there. Only the numbers of their records differ, and the
-/// records before them count among those that are passed over.
-pub fn the_parts_of_the_capture_cut_there()
+/// Wherever its judging begins, a capture has the parts of the capture that begins there. Only the numbers of their records differ,
+/// and the records before them count as passed over.
+pub fn the_parts_of_the_capture_that_begins_there()
     ensures { (beginning : Beginning) (profile : Profile) (items : List LineByte) (broken : List BrokenPart) (left : Rest) (last : Part) (totals : Totals)
         → AreParts profile (record { past = 0; records = (judged_from beginning items).records }) broken left → IsPart profile last
         → AreTotals (length (judged_from beginning items).records) broken last totals
@@ -119,8 +119,8 @@ pub fn one_list_of_parts()
         → AreTotals records broken last totals → AreTotals records broken last others → totals ≡ others }
 {}
 
-/// The first break is the no of the whole capture, as it is judged without going on: a late reply before which none is late, or the
-/// record that ends the first part, where no reply of it is late before.
+/// Where judging begins at record 1, the first break is the no of the whole capture, as it is judged without going on: a late reply
+/// before which none is late, or the record that ends the first part, where no reply of it is late before.
 pub fn the_first_break_is_the_verdict()
     ensures late { (profile : Profile) (items after : List LineByte) (part : Part) (front more : List Event) (at : ℕ) (asked : List LineByte) (r : LineByte)
         → items ≡ part.records ++ after → part.past ≡ 0 → IsPart profile part → part.events ≡ front ++ late_reply at asked r ∷ more → late_replies front ≡ 0

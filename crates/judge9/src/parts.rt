@@ -29,8 +29,8 @@ pub(crate) fn pass_over<R: Read + Drop>(
 }
 
 /// Whether a record that comes after `last` may be the first of a command: it comes on the controller's wire, and after a record
-/// of the deck or after the byte gap. Of the first record of a capture nobody knows what came before it. That is a choice of these
-/// rules.
+/// of the deck or after the byte gap. The first record of a capture never may: nobody knows what came before it. That is a choice
+/// of these rules.
 fn may_begin(last: Option<LineByte>, next: LineByte) -> bool
     ensures { result ≡ may_begin last next }
 {

@@ -35,7 +35,7 @@ use verdict9::{
 /// that breaks, where it comes on the controller's wire and a reply is missing or unfinished, or the block before
 /// it did not end; else after it, with the first on the controller's wire that comes after a record of the deck's wire or after
 /// the byte gap. Where there is none, the rest is passed over. That is a choice of these rules. With `Beginning::FirstCommand` the
-/// first part begins as `judge_for` does then. A capture may have 4,294,967,294 rows.
+/// first part begins as `judge_for` does then; the records before it count as passed over. A capture may have 4,294,967,294 rows.
 ///
 /// For each part it writes what `judge` writes for a capture that breaks there, or what `report9`'s `write_why` writes of it, with
 /// the numbers that the records have in the whole capture, and where a late reply begins what these write of that break; for a part

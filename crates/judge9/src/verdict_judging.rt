@@ -28,10 +28,9 @@ use verdict9::{Beginning, JudgeError, Telling, Verdict, View, put_verdict_line};
 /// list of records. With `View::Explain` each exchange has a line, written in one piece once the exchange is complete; the
 /// line of the verdict is written last. The writer is not flushed.
 ///
-/// With `Beginning::FirstCommand` it judges from the first record on that may begin a command: one on the controller's wire that
-/// comes after a record of the deck or after the byte gap. The first of the capture never may. The records before it are passed
-/// over, and the answer is that of the capture without them: below, "records" are those that are judged, and only their numbers
-/// are those of the whole capture. That is a choice of these rules.
+/// With `Beginning::FirstCommand` judging begins at the first record that may begin a command: one on the controller's wire that
+/// comes after a record of the deck or after the byte gap; record 1 never is one. The records before it are passed over. Below,
+/// "records" are those that are judged; n is the record's number in the whole capture. That is a choice of these rules.
 ///
 /// The profile says what the deck is taken for: its rate, whether somebody may have touched its panel, and what it does of its own.
 ///
@@ -40,7 +39,7 @@ use verdict9::{Beginning, JudgeError, Telling, Verdict, View, put_verdict_line};
 /// * `Ok(Yes)` exactly where no row of the text is bad, all its records keep the rules of blocks, pairing and timing,
 ///   and some run of the deck gives exactly the replies of its exchanges. It counts the records, the complete exchanges
 ///   that they are cut into, and the open records after the last of these.
-/// * `Ok(No)` at record n with reason r exactly where the first n - 1 records do so, the first n do not, and r is the
+/// * `Ok(No)` at record n with reason r exactly where the records before it do so, and with it do not, and r is the
 ///   first rule, in the order in which they count, that record n breaks. Rows after it have no part in this, not even
 ///   bad ones.
 /// * `Err(Capture(e))` with a fault of the text exactly where e is the fault of its first bad row, or of the

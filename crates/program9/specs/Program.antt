@@ -45,8 +45,8 @@ TellsFor verb.Explain beginning profile known old judged all = Told view.Explain
 TellsFor verb.Run beginning profile known old judged all = TellsRun beginning profile known old judged all
 TellsFor verb.Why beginning profile known old judged all = TellsWhy beginning profile known old judged all
 
--- a capture, whose text is given where it is known, was judged with this verb, from this record on, for a deck that is taken for
--- this: the result, and what the writer holds before and after
+-- a capture, whose text is given where it is known, was judged with this verb, from this beginning on, for a deck that is taken
+-- for this: the result, and what the writer holds before and after
 pub record IsJudgedFor (verb : Verb) (beginning : Beginning) (profile : Profile) (capture : Option (List ℕ)) (old : Option (List ℕ)) (result : Result Verdict JudgeError)
     (now : Option (List ℕ)) : Type 0 where
   pub answer : IfSome capture (λ text. IfSome (answer_of result) (IsTheAnswer beginning profile (rows_of text)))
@@ -64,7 +64,7 @@ told_of_parts verb.Why true = Some telling.Why
 told_of_parts verb.Run true = None
 told_of_parts verb false = None
 
--- a capture, whose text is given where it is known, was judged part by part, from this record on, for a deck that is taken for
+-- a capture, whose text is given where it is known, was judged part by part, from this beginning on, for a deck that is taken for
 -- this, and this was told of each part: the result, and what the writer holds before and after
 pub record IsJudgedInParts (telling : Telling) (beginning : Beginning) (profile : Profile) (capture : Option (List ℕ)) (old : Option (List ℕ)) (result : Result Totals JudgeError)
     (now : Option (List ℕ)) : Type 0 where
@@ -72,8 +72,8 @@ pub record IsJudgedInParts (telling : Telling) (beginning : Beginning) (profile 
   pub kind : (e : CaptureError) → result ≡ Err (error.Capture e) → e.kind ≢ kind.OutOfMemory
   pub header : IfSome capture (λ text. (e : CaptureError) → result ≡ Err (error.Capture e) → e.row ≢ 0 → HasHeader (rows_within greatest_limit text))
 
--- a capture was judged with this verb, from this record on, for a deck that is taken for this, and this is the end: it was judged part by part, or
--- to its first break
+-- a capture was judged with this verb, from this beginning on, for a deck that is taken for this, and this is the end: it was
+-- judged part by part, or to its first break
 abbrev pub EndsJudged : Option Telling → Verb → Beginning → Profile → Option (List ℕ) → Option (List ℕ) → Outcome → Option (List ℕ) → Type 0
 EndsJudged (Some telling) verb beginning profile capture old end now =
     (result : Result Totals JudgeError) × IsJudgedInParts telling beginning profile capture old result now × (end ≡ outcome_in_parts result)
@@ -95,7 +95,8 @@ abbrev pub IsToldAs : Outcome → Outcome → Type 0
 IsToldAs judged end = (end ≡ judged) ⊎ (end ≡ without_write_fault judged)
 
 -- a capture was opened so, and this is the end: it was not opened, and nothing is written; or it was judged with this verb, from
--- this record on, for a deck that is taken for this, going on after a break or not; or memory for the buffer was refused, and nothing is written
+-- this beginning on, for a deck that is taken for this, going on after a break or not; or memory for the buffer was refused, and
+-- nothing is written
 abbrev pub EndsOpened : {R : Type 0} → (R → Option (List ℕ)) → Option (String Global) → Verb → Bool → Beginning → Profile → Result R Error → Option (List ℕ) → Outcome
     → Option (List ℕ) → Type 0
 EndsOpened coming file verb all beginning profile (Err e) old end now = (end ≡ outcome_unopened file e) × Keeps old now

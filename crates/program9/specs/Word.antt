@@ -20,7 +20,7 @@ word_of kind.TooMany = codes "too many rows"
 word_of kind.Read = codes "read fault"
 word_of kind.OutOfMemory = codes "out of memory"
 
--- what was expected where there is this fault at this row; the row after the last that there may be tells how many that are
+-- what was expected where there is this fault at this row; of a row too many, its number tells which limit held
 abbrev pub expected_of : CaptureKind → ℕ → List ℕ
 expected_of kind.Header row = codes "expected the header time_us,wire,byte; convert/ makes captures of exports, see docs/CAPTURE.md"
 expected_of kind.Fields row = codes "expected three fields: time_us,wire,byte"

@@ -61,8 +61,8 @@ pub fn judge_and_flush<R: Read + Drop, W: Write + Drop>(
     )
 }
 
-/// Judges the capture of a deck that is taken for this, from this record on, and passes the whole report on: [`judge_and_flush`] at
-/// any rate.
+/// Judges the capture of a deck that is taken for this, from this beginning on, and passes the whole report on: [`judge_and_flush`]
+/// at any rate.
 pub fn judge_and_flush_for<R: Read + Drop, W: Write + Drop>(
     alloc: Global,
     reader: R,
@@ -118,7 +118,7 @@ pub fn judge_parts_and_flush<R: Read + Drop, W: Write + Drop>(
     )
 }
 
-/// Judges the whole capture of a deck that is taken for this, from this record on, part by part, and passes the whole report on:
+/// Judges the whole capture of a deck that is taken for this, from this beginning on, part by part, and passes the whole report on:
 /// [`judge_parts_and_flush`] at any rate.
 pub fn judge_parts_and_flush_for<R: Read + Drop, W: Write + Drop>(
     alloc: Global,

@@ -40,8 +40,9 @@ struct Asked {
 ///
 /// * `Usage` only where the words are no command, or could not be fetched as text: nothing is written;
 /// * the `Outcome` of the judging that the words ask for, without the message of a write fault where `out` is a pipe whose reader is
-///   gone: with their verb, at their rate, with hands where they say so, for a deck
-///   that does what the sheet says, from the first record that may begin a command where they say `--sync`, and with `check`, `explain` and `why` part by part where they say `--all`;
+///   gone: with their verb, at their rate, with hands where they say so, for a deck that does what the sheet says, from the first
+///   record that may begin a command where they say `--sync`, and with `check`, `explain` and `why` part by part where they say
+///   `--all`;
 /// * status 3 with `UnreadableSheet`, the file and what is wrong, where the sheet is none; status 4 with `CannotOpenSheet`, the file
 ///   and the reason, where `sheet_opener` or its reader failed: nothing is written;
 /// * status 4 with `CannotOpen`, the file and the reason where `opener` failed: nothing is written;

@@ -16,8 +16,9 @@ use verdict9::{JudgeError, RunVerdict, put_no_line, put_yes_line};
 /// A line of a run. By count the longest has 166 bytes.
 type Line = ArrayVec<u8, 256>;
 
-/// Writes the text of a run: for a yes a line for each exchange, with the number of its last record and the state after
-/// it, and then the line of the verdict; for a no that line alone.
+/// Writes the text of a run: for a yes a line for each exchange, with the number of its last record in the whole capture
+/// (`past` records come before the first exchange) and the state after it, and then the line of the verdict; for a no that
+/// line alone.
 ///
 /// Takes no memory. The writer is not flushed. With `Hands::Allowed` each line tells whether the panel is on. Where
 /// there are more exchanges than states, or fewer, there are as many lines as there are of both.

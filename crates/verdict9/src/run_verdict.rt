@@ -6,7 +6,7 @@ use deck9::State;
 /// The verdict on the records of a capture, and where it is a yes a run of the deck that gives its replies.
 #[derive(Debug, Drop, PartialEq, Eq)]
 pub enum RunVerdict {
-    /// No row is bad, all records keep the rules, and the deck of this run gives exactly their replies.
+    /// No row is bad, all records that are judged keep the rules, and the deck of this run gives exactly their replies.
     Yes {
         /// How many records were passed over before the first that was judged.
         past: u32,

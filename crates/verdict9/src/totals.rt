@@ -8,7 +8,8 @@ use text9::{put_count, put_text};
 /// What was counted over all parts of a capture.
 #[derive(Clone, Copy, Debug, PartialEq, Eq)]
 pub struct Totals {
-    /// How many records break a rule. A record counts twice that breaks one in a part and another as the first of the next.
+    /// How many records break a rule. A record may count twice: it begins a late reply and breaks another
+    /// rule, or it ends a part and breaks the next one too.
     pub breaks: u64,
     /// How many records the capture has.
     pub records: u32,

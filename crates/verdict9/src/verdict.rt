@@ -5,8 +5,8 @@ use block9::Reason;
 /// The verdict on the records of a capture.
 #[derive(Clone, Copy, Debug, PartialEq, Eq)]
 pub enum Verdict {
-    /// No row is bad, all records keep the rules, and some run of the deck gives exactly their replies. A capture
-    /// with no record is one of these.
+    /// No row is bad, all records that are judged keep the rules, and some run of the deck gives exactly their replies. A
+    /// capture of which no record is judged is one of these.
     Yes {
         /// How many records were judged: all but those that were passed over before the first.
         records: u32,

@@ -18,9 +18,9 @@ pub struct EndedExchange {
 /// another.
 #[derive(Debug, Drop, PartialEq, Eq)]
 pub enum WhyVerdict {
-    /// No row is bad, all records keep the rules, and some run of the deck gives exactly their replies.
+    /// No row is bad, all records that are judged keep the rules, and some run of the deck gives exactly their replies.
     Yes {
-        /// How many records there are.
+        /// How many records were judged: all but those that were passed over before the first.
         records: u32,
         /// How many complete exchanges they hold.
         exchanges: u32,

@@ -16,9 +16,9 @@ use tc25::Rate;
 /// The task that these words give: those of the command line after the program's own name.
 ///
 /// The words are `check`, `explain`, `run` or `why`, and with it at most one file and, before or after the file, at most once
-/// `--hands`, at most once `--sync`, at most once `--rate` with `24`, `25`, `30` or `29.97df`, and, but for `run`, at most once
-/// `--all` and at most once `--line-buffered`; or they are `--version` or `-V`. What else they may look like is `clap`'s own
-/// definition.
+/// `--hands`, at most once `--sync`, at most once `--rate` with `24`, `25`, `30` or `29.97df`, at most once `--deck` with a sheet's
+/// file, and, but for `run`, at most once `--all` and at most once `--line-buffered`; or they are `--version` or `-V`. What else
+/// they may look like is `clap`'s own definition.
 ///
 /// * `Ok(task)` only where the definition takes the words. The task has the subcommand, the file and the options
 ///   that it gives for them, and 25 frames a second where they name no rate.

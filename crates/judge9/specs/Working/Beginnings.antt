@@ -48,13 +48,14 @@ abbrev pub BeginsAfter : {R : Type 0} → Judging R → LineByte → Result Turn
 BeginsAfter {R} j first result k =
     (before : Progress R) → GivesRecord before first j.rows → BeginsAt (record { rows = before; follower = j.follower }) first result k
 
--- the first record of the next part is this one, and was read after these rows
+-- the first record that is judged is this one, and was read after these rows
 pub record Resumes {R : Type 0} (terms : Terms) (before : Progress R) (first : LineByte) (result : Result Turn JudgeError) (k : Judging R) : Type 0 where
   pub follower : Follower
   pub knows_nothing : KnowsNothing terms follower
   pub with_first : BeginsAt (record { rows = before; follower = follower }) first result k
 
--- records were passed over after `last`, if there is one, and then came the first one of the next part, the end of the rows, or a refusal
+-- records were passed over after `last`, if there is one, and then came the first one that is judged, the end of the rows, or
+-- a refusal
 pub record ResumesAfter {R : Type 0} (terms : Terms) (last : Option LineByte) (old : Progress R) (result : Result Turn JudgeError) (k : Judging R) : Type 0 where
   pub passed : List LineByte
   pub none_begins : NoneBegins last passed

@@ -14,7 +14,7 @@ pub record KnowsNothing (terms : Terms) (f : Follower) : Type 0 where
   pub states : (s : State) → Possible f.tracker.states s ↔ IsFirst terms.profile s
   pub profile : f.tracker.profile ≡ terms.profile
 
--- how many rows a text may have: with the reply limit left aside all of it is judged, in parts, however long it is
+-- how many rows a text may have: with the reply limit left aside all of it is judged, in parts, and it may have `greatest_limit`
 abbrev pub rows_allowed : ReplyLimit → ℕ
 rows_allowed Counts = most_rows
 rows_allowed LeftAside = greatest_limit

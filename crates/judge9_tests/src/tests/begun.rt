@@ -157,7 +157,7 @@ fn counts_of(run: &RunVerdict) -> Option<(u32, u32, u32, usize)> {
     }
 }
 
-/// Compares what a yes with a run counts, judged from this record on.
+/// Compares what a yes with a run counts, judged from this beginning on.
 fn tell_counts(
     rt: &impl Abort,
     alloc: Global,

@@ -2,7 +2,7 @@ use Rattle.judge9.proofs.Words.{AreTotals, arith, judged_from, subst, ◌+◌, �
 use Rattle.std.specs.Prelude.{map}
 use Rattle.judge9.specs.Moved.{moved_break, moved_part, moved_totals}
 use Rattle.judge9.proofs.Numbering.{judged_size, part_moved, parts_moved, totals_moved}
-use Rattle.judge9.proofs.laws.the_parts_of_the_capture_cut_there.Goals as goal
+use Rattle.judge9.proofs.laws.the_parts_of_the_capture_that_begins_there.Goals as goal
 
 pub returns : goal.returns
 returns c = λ beginning profile items broken left last totals parts part are.
