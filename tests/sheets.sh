@@ -210,6 +210,29 @@ sheet other '[forgets]' '"21 01" = "tape"' '"62 0C" = "nothing"' '"20 61" = "not
 { cat "$work/ee.toml"; yes '# a comment of thirty-two letters' | head -c 10485760; echo; } > "$work/long.toml"
 for name in inline other long; do ends "check --deck $work/$name.toml" 1 "$no"; done
 ends "check --deck decks/edit-session.toml" 1 "$no"
+
+# A deck that plays shows REC from EDIT ON on, and PLAY again from EDIT OFF on: with the shipped sheet it may.
+plays='C 61 20 03 84 D 73 20 00 01 00 94'
+edit_on="C 20 65 85 $ack"
+edit_off="C 20 64 84 $ack"
+sheet untouched '[forgets]' '"20 64" = "nothing"' '"20 65" = "nothing"'
+capture_of "$play $plays $edit_on $shows_rec $edit_off $plays"
+ends "check --deck $work/untouched.toml" 1 'no at record 32: M1 no run remains'
+ends 'check --deck decks/edit-session.toml' 0 'yes: records 48, exchanges 6, open 0'
+
+# A deck that clears IN at the end of an edit may do so with "tape" at AUTO EDIT, but not once a status has shown that IN is set. IN
+# DATA SENSE alone does not show that.
+sheet clears '[forgets]' '"20 42" = "tape"'
+has_in='C 61 20 31 B2 D 71 20 01 92'
+has_no_in='C 61 20 31 B2 D 71 20 00 91'
+capture_of "$remote $preset $auto_edit $lost"
+ends "check --deck $work/clears.toml" 0 'yes: records 34, exchanges 4, open 0'
+capture_of "$remote $preset $auto_edit $at_10 $lost"
+ends "check --deck $work/clears.toml" 0 'yes: records 44, exchanges 5, open 0'
+capture_of "$remote $preset $auto_edit $has_in $has_no_in"
+ends "check --deck $work/clears.toml" 1 'no at record 40: M1 no run remains'
+capture_of "$lost_point"
+
 judge 'the sheet may come as a stream' eval 'run check --deck /dev/stdin "$work/capture.csv" < "$work/ee.toml"; [ "$status" = 1 ]'
 
 # ---- Sheets that are not there.
