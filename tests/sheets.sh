@@ -211,7 +211,7 @@ sheet other '[forgets]' '"21 01" = "tape"' '"62 0C" = "nothing"' '"20 61" = "not
 for name in inline other long; do ends "check --deck $work/$name.toml" 1 "$no"; done
 ends "check --deck decks/edit-session.toml" 1 "$no"
 
-# A deck that plays shows REC from EDIT ON on, and PLAY again from EDIT OFF on: with the shipped sheet it may.
+# After EDIT ON a deck that plays shows REC, and after EDIT OFF it shows PLAY again: with the shipped sheet it may.
 plays='C 61 20 03 84 D 73 20 00 01 00 94'
 edit_on="C 20 65 85 $ack"
 edit_off="C 20 64 84 $ack"

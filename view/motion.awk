@@ -18,7 +18,7 @@
 # the time runs back both are below 0.
 #
 # The times are those of 25 frames a second. Of a report with --rate the same rate is given here: -v rate=24, -v rate=30 or
-# -v rate=29.97df. For one made with --sync, give -v sync=1.
+# -v rate=29.97df. For a report made with --sync, give -v sync=1.
 #
 # "Worth looking at" is a mode that no status shows, and what holds from one status to another, with the same mode in all
 # between and no command that asks for another mode or way: a time that stands still for a second or more where PLAY or REC is
@@ -140,7 +140,7 @@ function read_to(last,    digits, before, wire_before) {
         before = now
         now = time_of(next_record, next_record == last ? "D" : asked_bytes == 0 && !passes_over() ? "C" : "CD") + 0
         digits = toupper(substr(row, length(row) - 1))
-        if (passes_over() && wire_before != "" && wire_of_row() == "C" && (wire_before == "D" || now - before > 10287)) {
+        if (passes_over() && may_begin(wire_before, now - before)) {
             forget_bytes()
             is_synced = 1
         }
@@ -162,21 +162,27 @@ function passes_over() {
 
 # The record at which the exchange begins: the one after the exchange before, or after a break the first of the part, which is the
 # first record that may begin a command.
-function first_record(    number, wire, stamp, wire_before, stamp_before, may_begin) {
+function first_record(    number, wire, stamp, wire_before, stamp_before, begins) {
     if (broke_at == "") return rows + 1
     number = broke_at + 0
     broke_at = ""
     stamp = time_of(number, "CD")
     wire = wire_of_row()
-    may_begin = wire == "C" && broke_by ~ /^(L2|P3|P4|B3)$/
-    while (!may_begin) {
+    begins = wire == "C" && broke_by ~ /^(L2|P3|P4|B3)$/
+    while (!begins) {
         wire_before = wire
         stamp_before = stamp
         stamp = time_of(++number, "CD")
         wire = wire_of_row()
-        may_begin = wire == "C" && (wire_before == "D" || stamp - stamp_before > 10287)
+        begins = may_begin(wire_before, stamp - stamp_before)
     }
     return number
+}
+
+# Whether the row that was read last may begin a command: it comes on the controller's wire, and after a row of the deck or after
+# the byte gap. The first row of a capture never may.
+function may_begin(wire_before, gap) {
+    return wire_of_row() == "C" && (wire_before == "D" || wire_before == "C" && gap > 10287)
 }
 
 function wire_of_row() {
