@@ -4,6 +4,8 @@
 #
 #     {"line":"exchange","record":18,"command":"IN DATA PRESET","reply":"ACK","delay_us":400,"goal":"unknown",
 #      "shown":"unknown","in":"10:00:00:00","out":"unknown","local":"no","ain":"unknown","aout":"unknown"}
+#     {"line":"exchange","record":10,"command":"STATUS SENSE","reply":"73 20","delay_us":400, .. ,"first_record":1,"time_us":400,
+#      "command_bytes":"61 20 03 84","reply_bytes":"73 20 00 01 00 94","says":{"local":"no","modes":["PLAY"]}}
 #     {"line":"state","record":18,"goal":"STOP","shown":"STOP","in":"10:00:00:00","out":"clear","local":"no",
 #      "ain":"clear","aout":"clear"}
 #     {"line":"contradicting_exchange","first_record":9,"record":18,"time_us":3600,"command":"IN DATA PRESET",
@@ -27,7 +29,8 @@
 # "10:00:00:00", "yes", "no", "on" or "off". So what is not known is the word "unknown". No value is ever null, since
 # that is what many readers give for a name that is not there: `panel` is there only where the line has it, with
 # --hands. Records, counts and times in microseconds are numbers. A NAK is "reply":"NAK","nak":"14",
-# "bits":["checksum","parity"], its byte in hexadecimal and the names of its bits; only a NAK has these two. Of the lines
+# "bits":["checksum","parity"], its byte in hexadecimal and the names of its bits; only a NAK has these two. An exchange of
+# `explain --bytes` has more members, from `first_record` on: those that the line has. Of the lines
 # of `why` an object has what its line has: `command` that of a command that is listed, `command_time` and `reply_time` a
 # time that stands there. What a reply says of the deck is the object `says`. Modes are a list, `modes`: all ten where the
 # line has "any", and none where it has "none".
@@ -51,7 +54,7 @@ late_record != "" {
 
 kind == "exchange" {
     put("{\"line\":\"exchange\",\"record\":" record ",\"command\":" string(command) "," reply_members() \
-        ",\"delay_us\":" delay field_members(1) "}")
+        ",\"delay_us\":" delay field_members(1) bytes_members() "}")
 }
 
 kind == "state" { put("{\"line\":\"state\",\"record\":" record field_members(1) "}") }
@@ -108,6 +111,12 @@ function given_members(names,    members, name, count, k) {
         members = members ",\"" name[k] "\":" (name[k] ~ /(record|_us|_length)$/ ? given[name[k]] : string(given[name[k]]))
     }
     return members
+}
+
+# What a line of `explain --bytes` has more.
+function bytes_members() {
+    if (!with_bytes) return ""
+    return given_members("first_record time_us command_time command_bytes reply_time reply_bytes") ",\"says\":{" said_members() "}"
 }
 
 function said_members(    members, k) {
@@ -192,6 +201,7 @@ function name_forms(    number, stamp_form, mode_form, k) {
     arrow = "-> "
     says = ", says "
     records_form = "^records " number " to " number " at " stamp_form ": "
+    with_bytes_form = records_form ".+ -> .+, delay " stamp_form ", goal "
     could_show_form = "^could show: "
     breaking_form = "^record " number " at " stamp_form ": [CD] [0-9A-F][0-9A-F]" \
         "(, " stamp_form " after the record before)?(, limit " number ")?(, sum [0-9A-F][0-9A-F])?$"
@@ -223,6 +233,7 @@ function read_line(    before) {
     if (before == "breaks") refuse("a line after the totals: " $0)
     if ($0 ~ breaking_form) read_breaking()
     else if (/^record /) read_record()
+    else if ($0 ~ with_bytes_form) read_exchange_with_bytes()
     else if ($0 ~ records_form) read_records()
     else if ($0 ~ could_show_form) read_could_show()
     else if (/^yes: /) read_yes()
@@ -255,6 +266,7 @@ function is_alone(before) {
 }
 
 function read_record(    part, parts, at, before, k) {
+    with_bytes = 0
     parts = split($0, part, ", ")
     at = index(part[1], ": ")
     record = record_after(substr(part[1], 8, at - 8))
@@ -271,6 +283,52 @@ function read_record(    part, parts, at, before, k) {
     for (k = 1; k <= told; k++) read_field(field[k], part[before + k])
     late_at = 0
     lines++
+}
+
+# Takes apart the line of an exchange that `explain --bytes` writes: what `why` says of it, and then what any explanation says behind
+# the reply. `given` has the former too, and `with_bytes` is set.
+function read_exchange_with_bytes(    whole, part, parts, at, before, k) {
+    whole = $0
+    match(whole, /, delay (0|[1-9][0-9]*), goal /)
+    at = RSTART
+    parts = split(substr(whole, at + 2), part, ", ")
+    # Its command may have come before the record that broke a rule, so only its last record is compared with that.
+    before = last_record
+    last_record = 0
+    $0 = substr(whole, 1, at - 1)
+    read_records()
+    $0 = whole
+    last_record = before
+    if (kind != "contradicting_exchange") refuse_line()
+    kind = "exchange"
+    with_bytes = 1
+    exchanges_told--
+    record = record_after(given["record"])
+    command = "command" in given ? given["command"] : substr(given["command_bytes"], 1, 5)
+    reply = reply_called(given["reply_bytes"])
+    delay = substr(part[1], 7)
+    told = parts - 1
+    if (told < fields - 1 || told > fields) refuse_line()
+    for (k = 1; k <= told; k++) read_field(field[k], part[1 + k])
+    late_at = 0
+    lines++
+}
+
+# What an explanation calls a reply with these bytes.
+function reply_called(bytes,    digits, high, low, names) {
+    if (bytes ~ /^10 01/) return "ACK"
+    if (bytes !~ /^11 12/) return substr(bytes, 1, 5)
+    digits = "0123456789ABCDEF"
+    high = index(digits, substr(bytes, 7, 1)) - 1
+    low = index(digits, substr(bytes, 8, 1)) - 1
+    names = bit_name(low, 1, "undefined") bit_name(low, 4, "checksum") bit_name(high, 1, "parity") bit_name(high, 2, "overrun") \
+        bit_name(high, 4, "framing") bit_name(high, 8, "timeout")
+    sub(/^[+]/, " ", names)
+    return "NAK " substr(bytes, 7, 2) names
+}
+
+function bit_name(digit, bit, name) {
+    return int(digit / bit) % 2 == 1 ? "+" name : ""
 }
 
 # The number of a record, which comes after that of the line before.

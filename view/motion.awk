@@ -588,6 +588,7 @@ function name_forms(    number, stamp_form, mode_form, k) {
     arrow = "-> "
     says = ", says "
     records_form = "^records " number " to " number " at " stamp_form ": "
+    with_bytes_form = records_form ".+ -> .+, delay " stamp_form ", goal "
     could_show_form = "^could show: "
     breaking_form = "^record " number " at " stamp_form ": [CD] [0-9A-F][0-9A-F]" \
         "(, " stamp_form " after the record before)?(, limit " number ")?(, sum [0-9A-F][0-9A-F])?$"
@@ -619,6 +620,7 @@ function read_line(    before) {
     if (before == "breaks") refuse("a line after the totals: " $0)
     if ($0 ~ breaking_form) read_breaking()
     else if (/^record /) read_record()
+    else if ($0 ~ with_bytes_form) read_exchange_with_bytes()
     else if ($0 ~ records_form) read_records()
     else if ($0 ~ could_show_form) read_could_show()
     else if (/^yes: /) read_yes()
@@ -651,6 +653,7 @@ function is_alone(before) {
 }
 
 function read_record(    part, parts, at, before, k) {
+    with_bytes = 0
     parts = split($0, part, ", ")
     at = index(part[1], ": ")
     record = record_after(substr(part[1], 8, at - 8))
@@ -667,6 +670,52 @@ function read_record(    part, parts, at, before, k) {
     for (k = 1; k <= told; k++) read_field(field[k], part[before + k])
     late_at = 0
     lines++
+}
+
+# Takes apart the line of an exchange that `explain --bytes` writes: what `why` says of it, and then what any explanation says behind
+# the reply. `given` has the former too, and `with_bytes` is set.
+function read_exchange_with_bytes(    whole, part, parts, at, before, k) {
+    whole = $0
+    match(whole, /, delay (0|[1-9][0-9]*), goal /)
+    at = RSTART
+    parts = split(substr(whole, at + 2), part, ", ")
+    # Its command may have come before the record that broke a rule, so only its last record is compared with that.
+    before = last_record
+    last_record = 0
+    $0 = substr(whole, 1, at - 1)
+    read_records()
+    $0 = whole
+    last_record = before
+    if (kind != "contradicting_exchange") refuse_line()
+    kind = "exchange"
+    with_bytes = 1
+    exchanges_told--
+    record = record_after(given["record"])
+    command = "command" in given ? given["command"] : substr(given["command_bytes"], 1, 5)
+    reply = reply_called(given["reply_bytes"])
+    delay = substr(part[1], 7)
+    told = parts - 1
+    if (told < fields - 1 || told > fields) refuse_line()
+    for (k = 1; k <= told; k++) read_field(field[k], part[1 + k])
+    late_at = 0
+    lines++
+}
+
+# What an explanation calls a reply with these bytes.
+function reply_called(bytes,    digits, high, low, names) {
+    if (bytes ~ /^10 01/) return "ACK"
+    if (bytes !~ /^11 12/) return substr(bytes, 1, 5)
+    digits = "0123456789ABCDEF"
+    high = index(digits, substr(bytes, 7, 1)) - 1
+    low = index(digits, substr(bytes, 8, 1)) - 1
+    names = bit_name(low, 1, "undefined") bit_name(low, 4, "checksum") bit_name(high, 1, "parity") bit_name(high, 2, "overrun") \
+        bit_name(high, 4, "framing") bit_name(high, 8, "timeout")
+    sub(/^[+]/, " ", names)
+    return "NAK " substr(bytes, 7, 2) names
+}
+
+function bit_name(digit, bit, name) {
+    return int(digit / bit) % 2 == 1 ? "+" name : ""
 }
 
 # The number of a record, which comes after that of the line before.
