@@ -1,11 +1,12 @@
 -- How lists are cut: a cut is the only one, a prefix of what is kept is kept, and the tail alone decides what a record does.
-use Rattle.block9.proofs.Words.{[], after_command, ap, append-nil, append_assoc, arith, Block, block_len, Command, command_of, Controller, Cut, Deck, Exchange, false≢true, fits}
+use Rattle.block9.proofs.Words.{[], after_command, ap, append-nil, append_assoc, arith, Block, block_len, Command, command_of, Controller, Cut, Deck, Exchange, false≢true, head_of, takes}
 use Rattle.block9.proofs.Words.{Idle, in_command, in_reply, is_reply_time_valid, IsBegun, IsCommand, IsExchange, IsInTime, IsKept, IsTail, length, length-append, length_push}
 use Rattle.block9.proofs.Words.{LineByte, List, None, nothing, pairing, place_of, refl, subst, sym, ◌++◌, ◌<◌, ◌∙◌, ◌∷◌, ◌≡◌}
 use Rattle.block9.proofs.LineLemmas.{block_len-append, first_time-push_any, whole_len, whole_long, whole_parts}
 use Rattle.block9.proofs.BlockSteps.{begun_push, whole_less}
 use Rattle.block9.proofs.TailLemmas.{after_command_quiet, idle_quiet, in_command_quiet, in_reply_of, in_reply_quiet, InReplyOf, place_in_command, place_of_command}
 use Rattle.block9.specs.declared.line_rules.LineRules.{LineRules}
+use Rattle.block9.specs.Replies.{Named, TakesNoMore}
 
 module _ (rules : LineRules) where
   -- a last record is the last one of the second of two parts
@@ -41,7 +42,7 @@ module _ (rules : LineRules) where
           let parts = (begun_push Deck (a ∷ rest) r (omega arith)).0 hd in
           let place = in_reply_of rules command (a ∷ rest) t b c e hc (omega arith) in (
             in_reply command (a ∷ rest) b c e hc parts.0 (record { later = soon.later; soon = soon.soon }),
-            (in_reply_quiet rules command (a ∷ rest) t c r place (rw place.last parts.1.1)).1 (parts.1, λ e. absurd (false≢true (sym parts.2 ∙ e))),
+            (in_reply_quiet rules command (a ∷ rest) t b c r place (rw place.last parts.1.1)).1 (parts.1, λ e. absurd (false≢true (sym parts.2 ∙ e))),
           )
 
   -- an exchange without its last record is a tail, and the record broke no rule
@@ -55,11 +56,11 @@ module _ (rules : LineRules) where
       let in_time = rw apart.1 at h.in_time in (
         in_reply h.asked apart.0 e.block e.command apart.2 h.command parts.begun
             (record { later = rw first at in_time.later; soon = λ counts. rw first at (in_time.soon counts) }),
-        (in_reply_quiet rules h.asked apart.0 t e.command r place (rw place.last parts.goes_on.1)).1 (
+        (in_reply_quiet rules h.asked apart.0 t e.block e.command r place (rw place.last parts.goes_on.1)).1 (
           parts.goes_on,
           λ ends. (
             parts.sum_right,
-            ap (fits e.command) (sym parts.block) ∙ h.kind,
+            ap (takes rules.replies (head_of e.block) e.command) (sym parts.block) ∙ h.kind,
             ap (is_reply_time_valid rules.rate e.command) (sym parts.block)
                 ∙ h.valid_time,
           ),
@@ -70,7 +71,7 @@ module _ (rules : LineRules) where
   pub tail_no_exchange : (t front rest : List LineByte) (e : Exchange) → IsTail rules t → IsExchange rules front e → t ≡ front ++ rest → ⊥
   tail_no_exchange t front rest e tail h split = by tail
     where
-      parts : InReplyOf rules h.asked (h.answered ++ rest) t e.command
+      parts : InReplyOf rules h.asked (h.answered ++ rest) t e.block e.command
       parts = in_reply_of rules h.asked (h.answered ++ rest) t e.block e.command (split ∙ ap (λ l. l ++ rest) h.split ∙ append_assoc h.asked h.answered rest) h.command
           (let n = whole_long Deck h.answered e.reply h.reply in omega (arith, length-append h.answered rest))
 
@@ -153,3 +154,36 @@ module _ (rules : LineRules) where
 
   pub tail_by_kept : (p : List LineByte) (es : List Exchange) (t q : List LineByte) → Cut rules p es t → IsKept rules (p ++ q) → IsKept rules (t ++ q)
   tail_by_kept p es t q h k = let rest = cut_parted p es k.exchanges t q k.tail h k.cut in record { exchanges = rest.0; tail = k.tail; cut = rest.2 }
+
+-- where commands take more replies, records are cut alike
+module _ (rules : LineRules) (more : Named) (takes_more : TakesNoMore rules.rate rules.replies more) where
+  abbrev taking : LineRules
+  taking = record rules { replies = more }
+
+  command_more : (records : List LineByte) (b : Block) (c : Command) → IsCommand rules records b c → IsCommand taking records b c
+  command_more records b c h = record { whole = h.whole; meaning = h.meaning }
+
+  tail_more : (t : List LineByte) → IsTail rules t → IsTail taking t
+  tail_more t (nothing e) = nothing e
+  tail_more t (in_command h) = in_command h
+  tail_more t (after_command b c h) = after_command b c (command_more t b c h)
+  tail_more t (in_reply command reply b c e hc hd soon) =
+      in_reply command reply b c e (command_more command b c hc) hd (record { later = soon.later; soon = soon.soon })
+
+  exchange_more : (records : List LineByte) (e : Exchange) → IsExchange rules records e → IsExchange taking records e
+  exchange_more records e h = record {
+    asked = h.asked;
+    answered = h.answered;
+    split = h.split;
+    command = command_more h.asked e.block e.command h.command;
+    reply = h.reply;
+    in_time = record { later = h.in_time.later; soon = h.in_time.soon };
+    time = h.time;
+    delay = h.delay;
+    kind = takes_more e.block e.command e.reply h.command.meaning h.kind;
+    valid_time = h.valid_time;
+  }
+
+  pub cut_taking_more : (records : List LineByte) (es : List Exchange) (t : List LineByte) → Cut rules records es t → Cut taking records es t
+  cut_taking_more records [] t cut = (cut.0, tail_more t cut.1)
+  cut_taking_more records (e ∷ es) t (front, rest, split, is, cut) = (front, rest, split, exchange_more front e is, cut_taking_more rest es t cut)

@@ -1,5 +1,5 @@
 -- What a pairer answers, and what is inside it, after one more record.
-use Rattle.block9.proofs.Words.{append_assoc, asked_on, asks, completed, completed_by, completes, IsOf, leaves_open}
+use Rattle.block9.proofs.Words.{IsAnswered, append_assoc, asked_on, asks, completed, completed_by, completes, IsOf, leaves_open}
 use Rattle.block9.proofs.Words.{answers_late, BeginsLate, Idle, InCommand, is_late, IsTail, Place}
 use Rattle.block9.proofs.Words.{AfterCommand, Bool, InReply, IsOpenAfter, Open, place_at, place_on}
 use Rattle.block9.specs.Line.{reply_limit}
@@ -20,17 +20,6 @@ use Rattle.block9.specs.declared.line_rules.LineRules.{LineRules}
 
 module _ (rules : LineRules) where
   -- ---- what the last record of a block does
-
-  -- with a right sum, the table says at the end of a reply what it says of a reply to the command that is kept
-  pub reply_says : (t : List LineByte) (c : Command) (r : LineByte) (m : Option Reason) → IsTailWith rules t (Some c) → IsTurn rules t r true
-      → r.byte ≡ sum (bytes_of (open_at (place_of t) t)) % 256
-      → reply_fault rules (Some c) (block_of (bytes_of (open_at (place_of t) t))) ≡ m → pairing rules t r ≡ m
-  reply_says t c r m held turn right meant =
-      let now = reply_now rules t c held (sym turn.1) in
-      let parts = answered rules t now.0 c now.1 in
-      let place = parts.place in
-      let read = parts.meant in
-      grind (arith, nat_tests)
 
   pub ends_command : (t : List LineByte) (r : LineByte) (c : Command) → IsTailWith rules t None → last_time t ≤ r.time_us → IsTurn rules t r true
       → r.byte ≡ sum (bytes_of (open_at (place_of t) t)) % 256
@@ -62,17 +51,36 @@ module _ (rules : LineRules) where
         },
       )
 
+  -- the reply whose last record is to come, and that its command has the block that is kept
+  reply_under_way : (t : List LineByte) (b : OpenBlock) (e : Exchange) → IsInside rules t b e → b.wire ≡ Deck → ends_block (open_at (place_of t) t) ≡ true
+      → (reply : List LineByte) × (is : IsAnswered rules t e.command reply) × (is.block ≡ e.block)
+  reply_under_way t b e h wire ends =
+      let now = reply_now rules t e.command (command_held t b e h wire) ends in
+      let asked = h.asked wire in (
+        now.0,
+        now.1,
+        (whole_parts Controller now.1.command asked.0.records now.0 asked.0.reply now.1.block asked.0.block now.1.is_command.whole asked.0.command.whole
+            (sym now.1.split ∙ asked.0.split)).2 ∙ asked.1,
+      )
+
+  -- with a right sum, the table says at the end of a reply what it says of a reply to the command that is kept
+  pub reply_says : (t : List LineByte) (b : OpenBlock) (e : Exchange) (r : LineByte) (m : Option Reason) → IsInside rules t b e → b.wire ≡ Deck → IsTurn rules t r true
+      → r.byte ≡ sum (bytes_of (open_at (place_of t) t)) % 256
+      → reply_fault rules e.block (Some e.command) (block_of (bytes_of (open_at (place_of t) t))) ≡ m → pairing rules t r ≡ m
+  reply_says t b e r m h wire turn right meant =
+      let now = reply_under_way t b e h wire (sym turn.1) in
+      let parts = answered rules t now.0 e.command now.1 in
+      let place = parts.place in
+      let block = parts.block ∙ now.2 in
+      let read : command_of rules.rate e.block ≡ Some e.command = ap (command_of rules.rate) (sym now.2) ∙ parts.meant in
+      grind (arith, nat_tests)
+
   pub ends_exchange : (t : List LineByte) (b : OpenBlock) (r : LineByte) (old new : Exchange) → IsInside rules t b old → b.wire ≡ Deck → last_time t ≤ r.time_us
       → IsTurn rules t r true → r.byte ≡ sum (bytes_of (open_at (place_of t) t)) % 256 → Closes t old new
-      → reply_fault rules (Some old.command) (block_of (bytes_of (open_at (place_of t) t))) ≡ None → IsExchange rules (t ++ r ∷ []) new
+      → reply_fault rules old.block (Some old.command) (block_of (bytes_of (open_at (place_of t) t))) ≡ None → IsExchange rules (t ++ r ∷ []) new
   ends_exchange t b r old new h wire later turn right read none =
-      let held = command_held t b old h wire in
-      let now = reply_now rules t old.command held (sym turn.1) in
-      let asked = h.asked wire in
-      let same : now.1.block ≡ old.block =
-      (whole_parts Controller now.1.command asked.0.records now.0 asked.0.reply now.1.block asked.0.block now.1.is_command.whole asked.0.command.whole
-      (sym now.1.split ∙ asked.0.split)).2 ∙ asked.1 in
-      rw (read, ← same) (closes rules t now.0 old.command r now.1 later (reply_says t old.command r None held turn right none) (sym turn.1))
+      let now = reply_under_way t b old h wire (sym turn.1) in
+      rw (read, ← now.2) (closes rules t now.0 old.command r now.1 later (reply_says t b old r None h wire turn right none) (sym turn.1))
 
   -- ---- what is kept afterwards
 

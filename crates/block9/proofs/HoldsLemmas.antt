@@ -42,17 +42,17 @@ module _ (rules : LineRules) where
   -- inside a reply
   in_reply_holds : (t reply : List LineByte) (r : LineByte) (x : Reason) (c : Command) (is : IsAnswered rules t c reply) → last_time t ≡ last_time reply
       → last_time t ≤ r.time_us
-      → drop (block_len t) t ≡ reply → command_of rules.rate (block_of (bytes_of (take (block_len t - 1) t))) ≡ Some c → fault_at rules InReply t r ≡ Some x → Holds rules x t r
-  in_reply_holds t reply r CommandInsideReply c is last later current meant h = ((c, reply, is), grind (arith, nat_tests))
-  in_reply_holds t reply r ByteGap c is last later current meant h = ((reply, inr (c, is)), grind (arith, nat_tests))
-  in_reply_holds t reply r WrongSum c is last later current meant h = (reply, inr (c, is), grind (arith, nat_tests), λ e. grind (arith, nat_tests))
-  in_reply_holds t reply r WrongReply c is last later current meant h =
+      → drop (block_len t) t ≡ reply → block_of (bytes_of (take (block_len t - 1) t)) ≡ is.block → command_of rules.rate is.block ≡ Some c → fault_at rules InReply t r ≡ Some x → Holds rules x t r
+  in_reply_holds t reply r CommandInsideReply c is last later current block meant h = ((c, reply, is), grind (arith, nat_tests))
+  in_reply_holds t reply r ByteGap c is last later current block meant h = ((reply, inr (c, is)), grind (arith, nat_tests))
+  in_reply_holds t reply r WrongSum c is last later current block meant h = (reply, inr (c, is), grind (arith, nat_tests), λ e. grind (arith, nat_tests))
+  in_reply_holds t reply r WrongReply c is last later current block meant h =
       let end : (ends_block reply ≡ true) × (r.byte ≡ sum (bytes_of reply) % 256) × GoesOn Deck reply r = grind (arith, nat_tests) in
-      (c, _, (reply, is, whole_now Deck reply r is.begun end.2 end.0 end.1), grind (arith, nat_tests))
-  in_reply_holds t reply r InvalidReplyTime c is last later current meant h =
+      (is.block, c, _, (reply, is, refl, whole_now Deck reply r is.begun end.2 end.0 end.1), grind (arith, nat_tests))
+  in_reply_holds t reply r InvalidReplyTime c is last later current block meant h =
       let end : (ends_block reply ≡ true) × (r.byte ≡ sum (bytes_of reply) % 256) × GoesOn Deck reply r = grind (arith, nat_tests) in
-      (c, _, (reply, is, whole_now Deck reply r is.begun end.2 end.0 end.1), grind (arith, nat_tests))
-  in_reply_holds t reply r x c is last later current meant h = absurd (grind (arith, nat_tests))
+      (is.block, c, _, (reply, is, refl, whole_now Deck reply r is.begun end.2 end.0 end.1), grind (arith, nat_tests))
+  in_reply_holds t reply r x c is last later current block meant h = absurd (grind (arith, nat_tests))
 
   -- the table's answer holds
   pub table_holds : (t : List LineByte) (r : LineByte) (x : Reason) → IsTail rules t → last_time t ≤ r.time_us → pairing rules t r ≡ Some x → Holds rules x t r
@@ -62,4 +62,4 @@ module _ (rules : LineRules) where
   table_holds t r x (in_reply command reply b c e hc hd soon) later h =
       let is : IsAnswered rules t c reply = record { command = command; block = b; split = e; is_command = hc; begun = hd; in_time = soon } in
       let parts = answered rules t reply c is in
-      in_reply_holds t reply r x c is parts.last later parts.current parts.meant (rw parts.place at h)
+      in_reply_holds t reply r x c is parts.last later parts.current parts.block parts.meant (rw parts.place at h)

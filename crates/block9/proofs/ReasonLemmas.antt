@@ -21,12 +21,12 @@ module _ (rules : LineRules) where
   rank_at (Some x) = rank x
 
   -- a record that ends a reply, after the wire, the time and the group
-  reply_told : (t : List LineByte) (r : LineByte) (c : Command) (answer : Block) → EndsReply rules t r c answer
-      → pairing rules t r ≡ option_or (early_fault rules.reply_limit InReply t r) (reply_fault rules (Some c) answer)
-  reply_told t r c answer h =
+  reply_told : (t : List LineByte) (r : LineByte) (b : Block) (c : Command) (answer : Block) → EndsReply rules t r b c answer
+      → pairing rules t r ≡ option_or (early_fault rules.reply_limit InReply t r) (reply_fault rules b (Some c) answer)
+  reply_told t r b c answer h =
       let parts = answered rules t h.0 c h.1 in
-      let last = whole_less Deck h.0 r answer h.2 in
-      rw parts.place (grind (arith, nat_tests))
+      let last = whole_less Deck h.0 r answer h.3 in
+      rw (parts.place, parts.current, parts.block, parts.meant, h.2) (grind (arith, nat_tests))
 
   found : (y : Reason) (t : List LineByte) (r : LineByte) → Holds rules y t r → rank_at (pairing rules t r) ≤ rank y
   found ReplyWithoutCommand t r h = rw h.0 (grind (arith, nat_tests))
@@ -54,8 +54,8 @@ module _ (rules : LineRules) where
       let none : command_of rules.rate (block_of (bytes_of t)) ≡ None = ap (command_of rules.rate) (sym last.block) ∙ meant in
       let ends = last.ends in
       rw (place_in_command rules Controller t last.begun) (grind (arith, nat_tests))
-  found WrongReply t r (c, answer, ends, wrong) = rw (reply_told t r c answer ends) (grind (arith, nat_tests))
-  found InvalidReplyTime t r (c, answer, ends, wrong) = rw (reply_told t r c answer ends) (grind (arith, nat_tests))
+  found WrongReply t r (b, c, answer, ends, wrong) = rw (reply_told t r b c answer ends) (grind (arith, nat_tests))
+  found InvalidReplyTime t r (b, c, answer, ends, wrong) = rw (reply_told t r b c answer ends) (grind (arith, nat_tests))
   found NoRun t r h = absurd h
 
   -- ---- the table and the reason

@@ -74,7 +74,7 @@ module _ (rules : LineRules) where
       still_answered (t ++ r ∷ []) (r ∷ []) c (record { command = t; block = b; split = refl; is_command = h; begun = next.0; in_time = next.1 })
   waits t (Some c) r (inr (reply, is)) later quiet ends =
       let parts = answered rules t reply c is in
-      let goes_on = ((in_reply_quiet rules is.command reply t c r parts later).0 quiet).0 in
+      let goes_on = ((in_reply_quiet rules is.command reply t is.block c r parts later).0 quiet).0 in
       let first = first_time-push_any reply r is.begun.begun in
       still_answered (t ++ r ∷ []) (reply ++ r ∷ []) c (record {
         command = is.command;
@@ -101,7 +101,7 @@ module _ (rules : LineRules) where
   closes t reply c r is later quiet ends =
       let parts = answered rules t reply c is in
       let now : ends_block reply ≡ true = rw (parts.place, parts.current) at ends in
-      let next = (in_reply_quiet rules is.command reply t c r parts later).0 quiet in
+      let next = (in_reply_quiet rules is.command reply t is.block c r parts later).0 quiet in
       let right = next.1 now in
       let first = first_time-push_any reply r is.begun.begun in
       let place = parts.place in

@@ -1,5 +1,5 @@
 -- What the table says at each kind of tail: where it says that a record breaks no rule.
-use Rattle.block9.proofs.Words.{[], AfterCommand, ap, arith, Block, block_len, block_of, bytes_of, Command, command_of, Controller, Deck, drop, drop_at, ends_block, fits, get_or}
+use Rattle.block9.proofs.Words.{[], AfterCommand, ap, arith, Block, block_len, block_of, bytes_of, Command, command_of, Controller, Deck, drop, drop_at, ends_block, get_or, head_of, takes}
 use Rattle.block9.proofs.Words.{Counts, fault_at, LeftAside, ReplyLimit}
 use Rattle.block9.proofs.Words.{InCommand, InReply, is_reply_time_valid, IsAnswered, IsBegun, IsCommand, IsInTime, IsWhole, last_time, length, length-append, LineByte, List}
 use Rattle.block9.proofs.Words.{nat_tests, None, pairing, place_of, refl, Some, subst, sum, sym, take, take-append-le, take_all, take_at, take_more, true, Wire, ◌%◌, ◌++◌, ◌+◌}
@@ -48,11 +48,12 @@ module _ (rules : LineRules) where
   last_time-append (a ∷ b ∷ xs) ys h = last_time-append (b ∷ xs) ys h
 
   -- the parts of a tail inside a reply, and the command that the rule on meaning reads off it
-  pub record InReplyOf (command reply tail : List LineByte) (c : Command) : Type 0 where
+  pub record InReplyOf (command reply tail : List LineByte) (b : Block) (c : Command) : Type 0 where
     pub place : place_of tail ≡ InReply
     pub current : drop (block_len tail) tail ≡ reply
     pub first : take (block_len tail) tail ≡ command
-    pub meant : command_of rules.rate (block_of (bytes_of (take (block_len tail - 1) tail))) ≡ Some c
+    pub block : block_of (bytes_of (take (block_len tail - 1) tail)) ≡ b
+    pub meant : command_of rules.rate b ≡ Some c
     pub last : last_time tail ≡ last_time reply
 
   -- the block of the command with which a tail begins
@@ -71,7 +72,7 @@ module _ (rules : LineRules) where
       ap (λ l. block_of (bytes_of l)) front ∙ sym body
 
   pub in_reply_of : (command reply tail : List LineByte) (b : Block) (c : Command) → tail ≡ command ++ reply → IsCommand rules command b c → 0 < length reply
-      → InReplyOf command reply tail c
+      → InReplyOf command reply tail b c
   in_reply_of command reply tail b c split h some =
       let len = whole_len Controller command b h.whole in
       let long = whole_long Controller command b h.whole in
@@ -81,16 +82,17 @@ module _ (rules : LineRules) where
         place = grind (arith, nat_tests);
         current = ap (λ n. drop n (command ++ reply)) whole ∙ drop_at command reply (length command) refl;
         first = ap (λ n. take n (command ++ reply)) whole ∙ take_at command reply (length command) refl;
-        meant = ap (command_of rules.rate) (asked_block command reply b h.whole) ∙ h.meaning;
+        block = asked_block command reply b h.whole;
+        meant = h.meaning;
         last = last_time-append command reply some;
       })
 
-  pub answered : (t reply : List LineByte) (c : Command) (is : IsAnswered rules t c reply) → InReplyOf is.command reply t c
+  pub answered : (t reply : List LineByte) (c : Command) (is : IsAnswered rules t c reply) → InReplyOf is.command reply t is.block c
   answered t reply c is = in_reply_of is.command reply t is.block c is.split is.is_command is.begun.begun
 
-  pub in_reply_quiet : (command reply t : List LineByte) (c : Command) (r : LineByte) → InReplyOf command reply t c → last_time t ≤ r.time_us
+  pub in_reply_quiet : (command reply t : List LineByte) (b : Block) (c : Command) (r : LineByte) → InReplyOf command reply t b c → last_time t ≤ r.time_us
       → pairing rules t r ≡ None
-      ↔ (GoesOn Deck reply r × (ends_block reply ≡ true → (r.byte ≡ sum (bytes_of reply) % 256) × (fits c (block_of (bytes_of reply)) ≡ true)
+      ↔ (GoesOn Deck reply r × (ends_block reply ≡ true → (r.byte ≡ sum (bytes_of reply) % 256) × (takes rules.replies (head_of b) c (block_of (bytes_of reply)) ≡ true)
       × (is_reply_time_valid rules.rate c (block_of (bytes_of reply)) ≡ true)))
-  in_reply_quiet command reply t c r parts later = rw parts.place
+  in_reply_quiet command reply t b c r parts later = rw (parts.place, parts.current, parts.block, parts.meant)
       (λ quiet. (grind (arith, nat_tests), λ ends. grind (arith, nat_tests)), λ k. grind (arith, nat_tests))

@@ -1,6 +1,8 @@
 -- The names from elsewhere that the proofs of this crate cite, passed on from one place. Declares nothing.
 pub use Rattle.block9.specs.Block.{body_of, spelling, Spells}
-pub use Rattle.block9.specs.Command.{command_of, fits, is_reply_time_valid}
+pub use Rattle.block9.specs.Block.{head_of}
+pub use Rattle.block9.specs.Command.{command_of, is_reply_time_valid}
+pub use Rattle.block9.specs.Replies.{takes}
 pub use Rattle.block9.specs.Exchange.{BeginsLate, completed_by, Cut, Does, IsCommand, IsExchange, IsInTime, IsKept, IsTail, Outcome, records_in, tail_after, TellsLate}
 pub use Rattle.block9.specs.Exchange.Outcome.{answers_late, asks, completes, leaves_open}
 pub use Rattle.block9.specs.Exchange.IsTail.{after_command, in_command, in_reply, nothing}

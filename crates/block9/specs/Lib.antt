@@ -4,5 +4,6 @@ pub mod Nak
 pub mod Line
 pub mod Exchange
 pub mod Reason
+pub mod Replies
 pub mod Pairer
 pub mod Working

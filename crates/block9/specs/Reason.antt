@@ -10,9 +10,11 @@ use Rattle.block9.specs.declared.command.Command.{Command}
 use Rattle.block9.specs.declared.line_rules.ReplyLimit.TheVariants.{Counts}
 use Rattle.block9.specs.declared.reason.Reason.{Reason}
 use Rattle.block9.specs.declared.reason.Reason.TheVariants.{WrongGroup, WrongSum, ByteGap, ReplyWithoutCommand, ReplyInsideCommand, CommandBeforeReply, CommandInsideReply, WrongReply, InvalidCommandTime, InvalidReplyTime, LateReply, NoReply, NoRun}
-use Rattle.block9.specs.Command.{command_of, fits, is_reply_time_valid}
+use Rattle.block9.specs.Block.{head_of}
+use Rattle.block9.specs.Command.{command_of, is_reply_time_valid}
 use Rattle.block9.specs.Line.{IsBegun, IsWhole, allows, block_len, byte_gap, bytes_of, group_in, last_time, reply_limit}
 use Rattle.block9.specs.Exchange.{BeginsLate, IsCommand, IsInTime}
+use Rattle.block9.specs.Replies.{takes}
 
 -- ---- what a tail is, besides nothing and a begun command
 
@@ -33,9 +35,10 @@ pub record IsAnswered (rules : LineRules) (tail : List LineByte) (c : Command) (
 abbrev pub IsOpen : LineRules → List LineByte → List LineByte → Type 0
 IsOpen rules tail records = ((tail ≡ records) × IsBegun Controller records) ⊎ ((c : Command) × IsAnswered rules tail c records)
 
--- the record ends this reply to this command
-abbrev pub EndsReply : LineRules → List LineByte → LineByte → Command → Block → Type 0
-EndsReply rules tail r c reply = (records : List LineByte) × IsAnswered rules tail c records × IsWhole Deck (records ++ r ∷ []) reply
+-- the record ends this reply to this command, which has this block
+abbrev pub EndsReply : LineRules → List LineByte → LineByte → Block → Command → Block → Type 0
+EndsReply rules tail r block c reply =
+    (records : List LineByte) × (answered : IsAnswered rules tail c records) × (answered.block ≡ block) × IsWhole Deck (records ++ r ∷ []) reply
 
 -- ---- the reasons
 
@@ -59,9 +62,10 @@ Holds rules WrongSum tail r =
     (records : List LineByte) × IsOpen rules tail records × (length records + 1 ≡ block_len records) × (r.byte ≢ sum (bytes_of records) % 256)
 -- a command that ends has no meaning, since its time is not valid
 Holds rules InvalidCommandTime tail r = (b : Block) × IsWhole Controller (tail ++ r ∷ []) b × (command_of rules.rate b ≡ None)
--- a reply that ends is of no kind that its command may have, or has a time that should be valid and is not
-Holds rules WrongReply tail r = (c : Command) × (reply : Block) × EndsReply rules tail r c reply × (fits c reply ≡ false)
-Holds rules InvalidReplyTime tail r = (c : Command) × (reply : Block) × EndsReply rules tail r c reply × (is_reply_time_valid rules.rate c reply ≡ false)
+-- a reply that ends is one that its command does not take, or has a time that should be valid and is not
+Holds rules WrongReply tail r =
+    (b : Block) × (c : Command) × (reply : Block) × EndsReply rules tail r b c reply × (takes rules.replies (head_of b) c reply ≡ false)
+Holds rules InvalidReplyTime tail r = (b : Block) × (c : Command) × (reply : Block) × EndsReply rules tail r b c reply × (is_reply_time_valid rules.rate c reply ≡ false)
 -- this needs a deck to be followed, so it never holds here
 Holds rules NoRun tail r = ⊥
 

@@ -33,23 +33,23 @@ impl Command {
     }
 }
 
-impl Pairer {
+impl<'a> Pairer<'a> {
     ghost use Rattle.std.specs.Prelude.{◌≡◌, None, []};
 
     /// [`Pairer::at`] at 25 frames a second.
-    pub fn new() -> Pairer
-        ensures { result ≡ record { rules = record { rate = Rate.Fps25; reply_limit = ReplyLimit.Counts }; tail = []; last_time = None; reason = None; exchange = None } }
+    pub fn new() -> Pairer<'a>
+        ensures { result ≡ record { rules = record { rate = Rate.Fps25; reply_limit = ReplyLimit.Counts; replies = None }; tail = []; last_time = None; reason = None; exchange = None } }
     {
         Pairer::at(Rate::Fps25)
     }
 }
 
-impl Default for Pairer {
+impl<'a> Default for Pairer<'a> {
     ghost use Rattle.std.specs.Prelude.{◌≡◌, None, []};
 
     /// [`Pairer::new`].
-    fn default() -> Pairer
-        ensures { result ≡ record { rules = record { rate = Rate.Fps25; reply_limit = ReplyLimit.Counts }; tail = []; last_time = None; reason = None; exchange = None } }
+    fn default() -> Pairer<'a>
+        ensures { result ≡ record { rules = record { rate = Rate.Fps25; reply_limit = ReplyLimit.Counts; replies = None }; tail = []; last_time = None; reason = None; exchange = None } }
     {
         Pairer::new()
     }

@@ -159,6 +159,7 @@ impl Command {
     ghost use Rattle.std.specs.Prelude.{◌≡◌, option_map};
     ghost use Rattle.block9.specs.Command.{command_of, fits, is_listed_head, name_of, time_in};
     ghost use Rattle.block9.specs.Block.{head_of};
+    ghost use Rattle.block9.specs.Replies.{is_own};
     ghost use Rattle.block9.specs.Working.Row.{with_data};
 
     /// The command that a block of the controller is, by its first two bytes, and of CURRENT TIME SENSE by
@@ -294,6 +295,18 @@ impl Command {
             | Command::AudioInDataPreset { time }
             | Command::AudioOutDataPreset { time } => Some(*time),
             _ => None,
+        }
+    }
+
+    /// Whether a reply is one of the command's own: a NAK, and where the command is listed what the tables say.
+    #[tactic(auto, unfolding(crate::specs::Command::fits))]
+    #[inline(always)] // it is asked of every exchange
+    pub fn is_own(&self, reply: &Block) -> bool
+        ensures { result ≡ is_own self.now reply.now }
+    {
+        match self {
+            Command::Unlisted { .. } => reply.is_nak(),
+            _ => self.fits(reply),
         }
     }
 

@@ -1,11 +1,16 @@
 //! The laws of the definitions that contracts cite, each the contract of a function that does nothing, and what
 //! the public constants are.
-ghost use Rattle.std.specs.Prelude.{◌≡◌, ◌+◌, ◌-◌, ◌*◌, ◌<◌, ◌≤◌, List, [], ◌∷◌, ◌++◌, Contains, codes};
-ghost use Rattle.block9.specs.Exchange.{IsKept, IsTail};
+ghost use Rattle.std.specs.Prelude.{◌≡◌, ◌+◌, ◌-◌, ◌*◌, ◌<◌, ◌≤◌, ℕ, None, List, [], ◌∷◌, ◌++◌, Contains, codes};
+ghost use Rattle.block9.specs.Command.{fits};
+ghost use Rattle.block9.specs.Exchange.{Cut, IsKept, IsTail};
 ghost use Rattle.block9.specs.Line.{byte_gap, byte_time, last_time, reply_limit};
 ghost use Rattle.block9.specs.Nak.{nak_bits};
 ghost use Rattle.block9.specs.Reason.{IsReason};
+ghost use Rattle.block9.specs.Replies.{Named, TakesNoMore, takes};
 
+use crate::block::Block;
+use crate::command::Command;
+use crate::exchange::Exchange;
 use crate::line_rules::LineRules;
 use crate::nak::NakBits;
 use crate::reason::Reason;
@@ -19,6 +24,14 @@ pub fn some_reason_applies()
         → ¬ IsKept rules (tail ++ next ∷ []) → (reason : Reason) × IsReason rules tail next reason }
     ensures broken { (rules : LineRules) (tail : List LineByte) (next : LineByte) (reason : Reason) → IsTail rules tail
         → IsReason rules tail next reason → ¬ IsKept rules (tail ++ next ∷ []) }
+{}
+
+/// Where no replies are named a command takes exactly those that fit it. Where each command takes no fewer than before, records that
+/// kept the rules still keep them, and are cut alike.
+pub fn named_replies()
+    ensures none { (head : ℕ) (command : Command) (reply : Block) → takes None head command reply ≡ fits command reply }
+    ensures more { (rules : LineRules) (more : Named) (records : List LineByte) (exchanges : List Exchange) (tail : List LineByte)
+        → TakesNoMore rules.rate rules.replies more → Cut rules records exchanges tail → Cut (record rules { replies = more }) records exchanges tail }
 {}
 
 /// At most one reason is the reason.

@@ -18,6 +18,7 @@ mod open_block;
 mod pairer;
 mod place;
 mod reason;
+mod replies;
 mod reply;
 mod rules;
 mod tail;
@@ -31,6 +32,7 @@ pub use nak::NakBits;
 pub use open::Open;
 pub use pairer::{Pairer, Step};
 pub use reason::Reason;
+pub use replies::{NamedReplies, ReplyForm};
 pub use reply::reply_time_valid_at;
 
 /// The time that a byte takes on the line, in microseconds: eleven bits at 38,400 a second, rounded up.

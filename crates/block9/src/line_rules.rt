@@ -1,5 +1,6 @@
 //! What the records of a line are judged by.
 
+use crate::replies::NamedReplies;
 use tc25::Rate;
 
 /// Whether a reply that begins after the reply limit, [`crate::REPLY_LIMIT_US`], breaks a rule.
@@ -12,10 +13,12 @@ pub enum ReplyLimit {
 }
 
 /// What the records of a line are judged by.
-#[derive(Clone, Copy, Debug, PartialEq, Eq)]
-pub struct LineRules {
+#[derive(Drop)]
+pub struct LineRules<'a> {
     /// The rate at which times are read.
     pub rate: Rate,
     /// Whether the reply limit counts.
     pub reply_limit: ReplyLimit,
+    /// The replies that commands take beside those of the tables.
+    pub replies: NamedReplies<'a>,
 }

@@ -19,6 +19,7 @@ use crate::open::Open;
 use crate::open_block::OpenBlock;
 use crate::place::Place;
 use crate::reason::Reason;
+use crate::replies::NamedReplies;
 use crate::rules::{Turned, meaning, reply_fault, sum_fault, turn};
 use crate::tail::Tail;
 use capture9::{LineByte, Wire};
@@ -31,9 +32,9 @@ use tc25::Rate;
 /// and 17 of its reply. Right after a record that completes an exchange it keeps that exchange. Once a record broke a rule it
 /// keeps the reason, and the tail before that record. No call takes memory.
 #[derive(Drop)]
-pub struct Pairer {
+pub struct Pairer<'a> {
     /// What its records are judged by.
-    rules: LineRules,
+    rules: LineRules<'a>,
     tail: Tail,
     /// The block that is open at the tail's end.
     block: OpenBlock,
@@ -44,12 +45,16 @@ pub struct Pairer {
     reason: Option<Reason>,
 }
 
-impl Model for Pairer {
+impl<'a> Model for Pairer<'a> {
     ghost use Rattle.std.specs.Prelude.{◌≡◌, None};
     ghost use Rattle.block9.specs.Pairer.{Paired};
     ghost use Rattle.block9.specs.Working.Inside.{IsInside, completed, last_fed};
+    ghost use Rattle.std.specs.Coded.{codes};
+    ghost use Rattle.block9.specs.Working.Codes.{table_code};
 
     ghost Value = { Paired };
+
+    ghost coded = { Prim.hlevel (codes, table_code) };
 
     ghost view = { λ p. record {
       rules = p.rules;
@@ -75,15 +80,15 @@ pub enum Step {
     Exchange,
 }
 
-impl Pairer {
+impl<'a> Pairer<'a> {
     ghost use Rattle.std.specs.Prelude.{◌≡◌, ◌≤◌, ◌↔◌, length, option_map, None, Some, [], IfOk, IfErr};
     ghost use Rattle.std.specs.Option.{ForSome};
     ghost use Rattle.block9.specs.Exchange.{Outcome, TellsLate, step_of};
     ghost use Rattle.block9.specs.Pairer.{BeginsWith, IsOpenAfter, Takes, Refuses};
 
     /// A pairer that was fed nothing, and judges records by these rules: it has no tail, no last time, no reason and no exchange.
-    pub fn by(rules: LineRules) -> Pairer
-        ensures { result ≡ record { rules = rules; tail = []; last_time = None; reason = None; exchange = None } }
+    pub fn by(rules: LineRules<'a>) -> Pairer<'a>
+        ensures { result ≡ record { rules = rules.entry; tail = []; last_time = None; reason = None; exchange = None } }
     {
         Pairer {
             rules,
@@ -95,13 +100,14 @@ impl Pairer {
         }
     }
 
-    /// [`Pairer::by`] where times are read at this rate, and the reply limit counts.
-    pub fn at(rate: Rate) -> Pairer
-        ensures { result ≡ record { rules = record { rate = rate; reply_limit = ReplyLimit.Counts }; tail = []; last_time = None; reason = None; exchange = None } }
+    /// [`Pairer::by`] where times are read at this rate, the reply limit counts, and no replies are named.
+    pub fn at(rate: Rate) -> Pairer<'a>
+        ensures { result ≡ record { rules = record { rate = rate; reply_limit = ReplyLimit.Counts; replies = None }; tail = []; last_time = None; reason = None; exchange = None } }
     {
         Pairer::by(LineRules {
             rate,
             reply_limit: ReplyLimit::Counts,
+            replies: NamedReplies::none(),
         })
     }
 
@@ -145,7 +151,7 @@ impl Pairer {
         }
         self.passed_us = Some(line_byte.time_us);
         end(
-            self.rules,
+            &self.rules,
             &mut self.tail,
             &mut self.block,
             &mut self.exchange,
@@ -294,19 +300,19 @@ fn reply_in<'a>(tail: &'a [LineByte]) -> &'a [LineByte]
 /// and what is open stays.
 #[inline(always)]
 fn end_command(
-    rules: LineRules,
+    rules: &LineRules,
     tail: &mut Tail,
     block: &mut OpenBlock,
     exchange: &mut Exchange,
     line_byte: LineByte,
 ) -> Result<(), Reason>
-    requires held { IsInside rules tail.old block.old exchange.old }
+    requires held { IsInside rules.now tail.old block.old exchange.old }
     requires wire { block.old.wire ≡ Wire.Controller }
     requires later { last_time tail.old ≤ line_byte.time_us }
-    requires ends { IsTurn rules tail.old line_byte true }
+    requires ends { IsTurn rules.now tail.old line_byte true }
     requires right_sum { line_byte.byte ≡ sum (bytes_of (open_at (place_of tail.old) tail.old)) % 256 }
-    ensures ok { OnOk result (Does rules tail.old line_byte asks × (tail.new ≡ tail.old ++ line_byte ∷ []) × IsInside rules tail.new block.new exchange.new) }
-    ensures err { IfErr result (λ reason. pairing rules tail.old line_byte ≡ Some reason) }
+    ensures ok { OnOk result (Does rules.now tail.old line_byte asks × (tail.new ≡ tail.old ++ line_byte ∷ []) × IsInside rules.now tail.new block.new exchange.new) }
+    ensures err { IfErr result (λ reason. pairing rules.now tail.old line_byte ≡ Some reason) }
     ensures same { OnErr result ((tail.new ≡ tail.old) × (block.new ≡ block.old)) }
 {
     exchange.block.fill_from(tail.as_slice());
@@ -320,23 +326,23 @@ fn end_command(
 /// reply breaks, and what is open stays.
 #[inline(always)]
 fn end_reply(
-    rules: LineRules,
+    rules: &LineRules,
     tail: &mut Tail,
     block: &mut OpenBlock,
     exchange: &mut Exchange,
 ) -> Result<(), Reason>
-    requires held { IsInside rules tail.old block.old exchange.old }
+    requires held { IsInside rules.now tail.old block.old exchange.old }
     requires wire { block.old.wire ≡ Wire.Deck }
     requires ends { ends_block (open_at (place_of tail.old) tail.old) ≡ true }
-    ensures ok { OnOk result ((reply_fault rules (Some exchange.old.command) (block_of (bytes_of (open_at (place_of tail.old) tail.old))) ≡ None)
+    ensures ok { OnOk result ((reply_fault rules.now exchange.old.block (Some exchange.old.command) (block_of (bytes_of (open_at (place_of tail.old) tail.old))) ≡ None)
         × Closes tail.old exchange.old exchange.new × (tail.new ≡ []) × (block.new ≡ to_come Wire.Controller)) }
-    ensures err { IfErr result (λ reason. reply_fault rules (Some exchange.old.command) (block_of (bytes_of (open_at (place_of tail.old) tail.old))) ≡ Some reason) }
-    ensures same { OnErr result ((tail.new ≡ tail.old) × (block.new ≡ block.old) × IsInside rules tail.new block.new exchange.new) }
+    ensures err { IfErr result (λ reason. reply_fault rules.now exchange.old.block (Some exchange.old.command) (block_of (bytes_of (open_at (place_of tail.old) tail.old))) ≡ Some reason) }
+    ensures same { OnErr result ((tail.new ≡ tail.old) × (block.new ≡ block.old) × IsInside rules.now tail.new block.new exchange.new) }
 {
     let records = tail.as_slice();
     let begin = block_len(records);
     exchange.reply.fill_from(reply_in(records));
-    if let Some(reason) = reply_fault(rules, &exchange.command, &exchange.reply) {
+    if let Some(reason) = reply_fault(rules, &exchange.block, &exchange.command, &exchange.reply) {
         return Err(reason);
     }
     exchange.time_us = records[0].time_us;
@@ -350,19 +356,19 @@ fn end_reply(
 /// breaks a rule leaves what is open as it is.
 #[inline(always)] // else the answer is handed on through memory
 fn end(
-    rules: LineRules,
+    rules: &LineRules,
     tail: &mut Tail,
     block: &mut OpenBlock,
     exchange: &mut Exchange,
     kept: &mut Option<Reason>,
     line_byte: LineByte,
 ) -> Result<Step, Reason>
-    requires held { IsInside rules tail.old block.old exchange.old }
+    requires held { IsInside rules.now tail.old block.old exchange.old }
     requires later { last_time tail.old ≤ line_byte.time_us }
-    requires ends { IsTurn rules tail.old line_byte true }
-    ensures ok { IfOk result (λ step. (outcome : Outcome) × (step ≡ step_of outcome) × Does rules tail.old line_byte outcome × IsOf exchange.new outcome × (tail.new ≡ tail_after tail.old line_byte outcome) × (kept.new ≡ kept.old)) }
-    ensures err { IfErr result (λ reason. (pairing rules tail.old line_byte ≡ Some reason) × (kept.new ≡ Some reason) × (tail.new ≡ tail.old)) }
-    ensures holds { IsInside rules tail.new block.new exchange.new }
+    requires ends { IsTurn rules.now tail.old line_byte true }
+    ensures ok { IfOk result (λ step. (outcome : Outcome) × (step ≡ step_of outcome) × Does rules.now tail.old line_byte outcome × IsOf exchange.new outcome × (tail.new ≡ tail_after tail.old line_byte outcome) × (kept.new ≡ kept.old)) }
+    ensures err { IfErr result (λ reason. (pairing rules.now tail.old line_byte ≡ Some reason) × (kept.new ≡ Some reason) × (tail.new ≡ tail.old)) }
+    ensures holds { IsInside rules.now tail.new block.new exchange.new }
 {
     if let Some(reason) = sum_fault(*block, line_byte.byte) {
         return refuse(kept, reason);

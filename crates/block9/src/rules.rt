@@ -146,12 +146,17 @@ pub(crate) fn meaning(rate: Rate, block: &Block) -> Result<Command, Reason>
     Command::of_at(rate, block).ok_or(Reason::InvalidCommandTime)
 }
 
-/// A complete reply of a kind that its command may not have, or with a time that is not valid.
+/// A complete reply that its command, of this block, does not take, or with a time that is not valid.
 #[inline(always)]
-pub(crate) fn reply_fault(rules: LineRules, command: &Command, reply: &Block) -> Option<Reason>
-    ensures { result ≡ reply_fault rules (Some command.now) reply.now }
+pub(crate) fn reply_fault(
+    rules: &LineRules,
+    block: &Block,
+    command: &Command,
+    reply: &Block,
+) -> Option<Reason>
+    ensures { result ≡ reply_fault rules.now block.now (Some command.now) reply.now }
 {
-    if !command.fits(reply) {
+    if !rules.replies.takes(block, command, reply) {
         return Some(Reason::WrongReply);
     }
     if !reply_time_valid_at(rules.rate, command, reply) {

@@ -3,6 +3,7 @@ mod block;
 mod command;
 mod nak;
 mod pairer;
+mod replies;
 mod rows;
 mod set_rates;
 mod shared_sets;

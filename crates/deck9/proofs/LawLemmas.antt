@@ -1,8 +1,8 @@
 -- What the definitions of drifts, steps and runs come to.
 use Rattle.deck9.proofs.Words.{[], Agrees, ap, arith, Block, Bool, Command, Does, done, Drift, Effect, effect_of, Entry, Exchange, Exchanges, false, Hands, HasRun, ignored, inl}
-use Rattle.deck9.proofs.Words.{inr, IsEntry, IsRunFrom, IsState, List, may_ignore, Moves, nat_tests, refused, Register, Sense, sense_of, State, DeckStep}
+use Rattle.deck9.proofs.Words.{inr, IsEntry, IsRunFrom, IsState, List, may_ignore, Moves, nat_tests, refused, Register, Sense, shown_by, State, DeckStep}
 use Rattle.std.specs.Prelude.{None, true, ◌≢◌}
-use Rattle.deck9.proofs.Words.{name_of}
+use Rattle.deck9.proofs.Words.{forgetting, forgotten_with, Goes, name_of}
 use Rattle.deck9.proofs.Words.{subst, sym, with_entry, ◌++◌, ◌∷◌, ◌≡◌}
 use Rattle.deck9.proofs.Words.{Deck, Option, Profile, Rate}
 use Rattle.deck9.proofs.DriftLemmas.{drift_from_pairs, pairs_from_drift}
@@ -44,10 +44,10 @@ module _ (rate : Rate) (deck : Option Deck) where
       → (off : Bool) × DeckStep (by_hand Hands.Allowed) c reply (with_panel on s) (with_panel off t)
   step_beside c reply on s t (refused nak same) = (on, refused nak (ap (with_panel on) same))
   step_beside c reply on s t (ignored other shown may local same) =
-      (on, ignored other (agrees_beside (sense_of c) on s reply shown) may local (ap (with_panel on) same))
+      (on, ignored other (agrees_beside (shown_by c reply) on s reply shown) may local (ap (with_panel on) same))
   step_beside c reply on s t (done other shown does) =
       let w = does_beside (effect_of deck c) on s t does in
-      (w.0, done other (agrees_beside (sense_of c) on s reply shown) w.1)
+      (w.0, done other (agrees_beside (shown_by c reply) on s reply shown) w.1)
 
   exchange_beside : (c : Command) (reply : Block) (on : Bool) (s t : State) → Exchanges (by_hand Hands.None) c reply s t
       → (off : Bool) × Exchanges (by_hand Hands.Allowed) c reply (with_panel on s) (with_panel off t)
@@ -59,11 +59,17 @@ module _ (rate : Rate) (deck : Option Deck) where
         | inr w ↦ absurd (let never = w.0 in cc)
       ]
 
+  goes_beside : (e : Exchange) (on : Bool) (s t : State) → Goes (by_hand Hands.None) e s t → (off : Bool) × Goes (by_hand Hands.Allowed) e (with_panel on s) (with_panel off t)
+  goes_beside e on s t (u, exchanges, forgets) =
+      let first = exchange_beside e.command e.reply on s u exchanges in
+      let more = does_beside (forgetting (forgotten_with deck e)) first.0 u t forgets in
+      (more.0, (with_panel first.0 u, first.1, more.1))
+
   run_beside : (es : List Exchange) (on : Bool) (s : State) (ts : List State) → IsRunFrom (by_hand Hands.None) s es ts
       → (us : List State) × IsRunFrom (by_hand Hands.Allowed) (with_panel on s) es us
   run_beside [] on s [] r = ([], tt)
   run_beside (e ∷ es) on s (t ∷ ts) r =
-      let first = exchange_beside e.command e.reply on s t r.0 in
+      let first = goes_beside e on s t r.0 in
       let rest = run_beside es first.0 t ts r.1 in
       (with_panel first.0 t ∷ rest.0, (first.1, rest.1))
   run_beside es on s ts r = absurd r

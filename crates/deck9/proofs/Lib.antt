@@ -1,5 +1,6 @@
 pub mod ContradictLemmas
 pub mod DriftLemmas
+pub mod EffectLemmas
 pub mod LawLemmas
 pub mod LessLemmas
 pub mod ModeLemmas
@@ -8,5 +9,6 @@ pub mod ReplyLemmas
 pub mod RestLemmas
 pub mod RunLemmas
 pub mod RunSearch
+pub mod ShowsLemmas
 pub mod StatusLemmas
 pub mod Words

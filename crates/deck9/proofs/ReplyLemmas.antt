@@ -6,6 +6,7 @@ use Rattle.deck9.proofs.Words.{[], All, All-cons, All-nil, arith, At, Becomes, B
 use Rattle.deck9.proofs.Words.{fits, Hands, is_nak, is_reply_time_valid, IsEntry, IsRightReply, IsState, length, List, nat_tests, None, Recall, refl}
 use Rattle.deck9.proofs.Words.{RegAudioIn, RegAudioOut, RegIn, RegOut, Reset, SetAt, SetSomewhere, Shows, ShowsStatus, slice_get_past, State, status_of, DeckStep, Tells, true}
 use Rattle.deck9.proofs.Words.{with_entry, ℕ, ◌-◌, ◌/◌, ◌<◌, ◌∷◌, ◌≡◌, ◌≤◌}
+use Rattle.deck9.proofs.ShowsLemmas.{shows_asked}
 
 -- ---- what a command does
 
@@ -102,7 +103,7 @@ right_reply rate s Command.AudioInDataSense valid = made rate s _ (block 7 0x12 
 right_reply rate s Command.AudioOutDataSense valid = made rate s _ (block 7 0x13 (bytes_of rate (told s.aouts))) (omega arith) (omega arith) (omega arith)
     (told_bytes rate s.aouts (valid RegAudioOut)) refl refl refl (tells rate s.aouts (valid RegAudioOut))
 right_reply rate s (Command.StatusSense asked) valid = made rate s _ (block 7 0x20 []) (omega arith) (omega arith) (omega arith) no_bytes (grind (arith, nat_tests)) refl
-    refl (no_status s asked)
+    refl (shows_asked rate s (Command.StatusSense asked) (block 7 0x20 []) (no_status s asked))
 right_reply rate s c valid = made rate s c (block 1 0x01 []) (omega arith) (omega arith) (omega arith) no_bytes refl refl refl tt
 
 -- what is forgotten changes no register in a way of its own

@@ -1,29 +1,22 @@
 -- What is left of a run without its first exchanges is a run.
-use Rattle.deck9.proofs.Words.{[], arith, Becomes, Change, Does, Effect, effect_of, Entry, entry_of, Exchange, HasRun, IsEntry, IsFirst}
-use Rattle.deck9.proofs.Words.{IsRunFrom, IsState, List, nat_tests, Register, State, DeckStep, subst, sym, with_entry, ◌++◌, ◌∷◌}
+use Rattle.deck9.proofs.Words.{[], arith, Does, Effect, effect_of, Entry, entry_of, Exchange, HasRun, IsEntry, IsFirst}
+use Rattle.deck9.proofs.Words.{IsRunFrom, IsState, List, nat_tests, State, DeckStep, ◌++◌, ◌∷◌}
 use Rattle.deck9.proofs.Words.{before_shift, Bool, MayBeOn, moved_entry, Next, next_frame, Prev, prev_frame, Profile, Rate}
-use Rattle.deck9.proofs.RunSearch.{first_drifts, put_panel, read_panel}
+use Rattle.deck9.proofs.Words.{Steps, forgetting, Forgotten, forgotten_with, Goes}
+use Rattle.deck9.proofs.EffectLemmas.{does_valid, put_panel, put_valid}
+use Rattle.deck9.proofs.RunSearch.{before_all, first_drifts}
 
 -- ---- steps lead from states to states
-
-becomes_valid : (rate : Rate) (c : Change) (old new : Entry) → IsEntry rate old → Becomes rate c old new → IsEntry rate new
-becomes_valid rate c old new valid becomes = grind (arith, nat_tests)
-
-put_valid : (rate : Rate) (r q : Register) (e : Entry) (s : State) → IsEntry rate e → IsState rate s → IsEntry rate (entry_of q (with_entry r e s))
-put_valid rate r q e s is_entry valid = let other = valid q in grind arith
-
-does_valid : (profile : Profile) (f : Effect) (s t : State) → IsState profile.rate s → Does profile f s t → IsState profile.rate t
-does_valid profile (Effect.Change r c) s t valid (e, becomes, put) =
-    subst (IsState profile.rate) (sym put)
-    (λ q. put_valid profile.rate r q e s (becomes_valid profile.rate c (entry_of r s) e (valid r) becomes) valid)
-does_valid profile f s t valid does = λ r. let before = valid r in grind arith
 
 pub step_valid : (profile : Profile) (e : Exchange) (s t : State) → IsState profile.rate s → DeckStep profile e.command e.reply s t → IsState profile.rate t
 step_valid profile e s t valid step = let does = does_valid profile (effect_of profile.deck e.command) s t valid in grind arith
 
+pub steps_valid : (profile : Profile) (e : Exchange) (s t : State) → IsState profile.rate s → Steps profile e s t → IsState profile.rate t
+steps_valid profile e s t valid (u, step, forgets) = does_valid profile (forgetting (forgotten_with profile.deck e)) u t (step_valid profile e s u valid step) forgets
+
 -- the states that stand for all before a step
-pub same_valid : (rate : Rate) (t : State) (on : Bool) → IsState rate t → IsState rate (record t { panel = on })
-same_valid rate t on valid = λ r. rw (read_panel r t on) (valid r)
+pub same_valid : (rate : Rate) (g : Forgotten) (t : State) (on : Bool) → IsState rate t → IsState rate (before_all g on t)
+same_valid rate g t on valid = λ r. let before = valid r in grind arith
 
 moved_valid : (rate : Rate) (x : Entry) → IsEntry rate x → IsEntry rate (moved_entry (next_frame rate) x) × IsEntry rate (moved_entry (prev_frame rate) x)
 moved_valid rate x valid = (grind (arith, nat_tests), grind (arith, nat_tests))
@@ -41,13 +34,18 @@ pub first_does : (profile : Profile) (f : Effect) (s t : State) → IsFirst prof
 first_does profile f s t first does = (does_valid profile f s t first.0 does, does_panel profile f s t first.1 does)
 
 -- no step leads out of the first states
-first_steps : (profile : Profile) (e : Exchange) (s t : State) → IsFirst profile s → DeckStep profile e.command e.reply s t → IsFirst profile t
+pub first_steps : (profile : Profile) (e : Exchange) (s t : State) → IsFirst profile s → DeckStep profile e.command e.reply s t → IsFirst profile t
 first_steps profile e s t first step = let does = first_does profile (effect_of profile.deck e.command) s t first in grind arith
+
+-- nor does an exchange
+pub first_goes : (profile : Profile) (e : Exchange) (s t : State) → IsFirst profile s → Goes profile e s t → IsFirst profile t
+first_goes profile e s t first (u, (d, drift, step), forgets) =
+    first_does profile (forgetting (forgotten_with profile.deck e)) u t (first_steps profile e d u (first_drifts profile s d first drift) step) forgets
 
 -- ---- runs
 
 pub rest_runs : (profile : Profile) (es fs : List Exchange) (s : State) (ts : List State) → IsFirst profile s → IsRunFrom profile s (es ++ fs) ts → HasRun profile fs
 rest_runs profile [] fs s ts first run = record { first = s; is_first = first; after = ts; is_run = run }
 rest_runs profile (e ∷ es) fs s [] first run = absurd run
-rest_runs profile (e ∷ es) fs s (t ∷ ts) first ((d, drift, step), run) =
-    rest_runs profile es fs t ts (first_steps profile e d t (first_drifts profile s d first drift) step) run
+rest_runs profile (e ∷ es) fs s (t ∷ ts) first (goes, run) =
+    rest_runs profile es fs t ts (first_goes profile e s t first goes) run

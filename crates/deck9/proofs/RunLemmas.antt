@@ -1,10 +1,10 @@
 -- Runs with one exchange more.
 use Rattle.deck9.proofs.Words.{Profile}
-use Rattle.deck9.proofs.Words.{[], AreReached, arith, Ends, Exchange, Exchanges, HasRun, IsFirst, IsRunFrom, last_state, List, refl, State, ◌++◌, ◌↔◌, ◌∷◌, ◌≡◌}
+use Rattle.deck9.proofs.Words.{[], AreReached, arith, Ends, Exchange, Goes, HasRun, IsFirst, IsRunFrom, last_state, List, refl, State, ◌++◌, ◌↔◌, ◌∷◌, ◌≡◌}
 
 -- a run with its last exchange taken away: the states before it, their run, and the step to the last state
 split : (profile : Profile) (es : List Exchange) (e : Exchange) (s : State) (ts : List State) → IsRunFrom profile s (es ++ e ∷ []) ts
-    → (before : List State) × IsRunFrom profile s es before × Exchanges profile e.command e.reply (last_state s before) (last_state s ts)
+    → (before : List State) × IsRunFrom profile s es before × Goes profile e (last_state s before) (last_state s ts)
 split profile [] e s (t ∷ []) r = ([], tt, r.0)
 split profile (f ∷ fs) e s (t ∷ ts) r = let w = split profile fs e t ts r.1 in (t ∷ w.0, (r.0, w.1), w.2)
 split profile es e s ts r = grind arith
@@ -23,7 +23,7 @@ last_joined s (t ∷ ts) us = last_joined t ts us
 pub ends_none : (profile : Profile) (s : State) → Ends profile [] s ↔ IsFirst profile s
 ends_none profile s = (λ w. grind arith, λ first. record { first = s; is_first = first; after = []; is_run = tt; is_last = refl })
 
-pub ends_more : (profile : Profile) (es : List Exchange) (e : Exchange) → AreReached (Ends profile es) (Exchanges profile e.command e.reply) (Ends profile (es ++ e ∷ []))
+pub ends_more : (profile : Profile) (es : List Exchange) (e : Exchange) → AreReached (Ends profile es) (Goes profile e) (Ends profile (es ++ e ∷ []))
 ends_more profile es e = (
   λ t w.
       let a = split profile es e w.first w.after w.is_run in

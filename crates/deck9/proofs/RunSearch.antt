@@ -1,10 +1,13 @@
 -- The search for a run: a few states before a step stand for all that there may be.
-use Rattle.deck9.proofs.Words.{[], Agrees, ap, arith, before_shift, Begins, Bool, Clear, Command, Does, done, Drift, DriftsAndSteps, Effect, effect_of, Entry, entry_of, Exchange}
-use Rattle.deck9.proofs.Words.{Exchanges, false, Hands, HasRun, ignored, inl, inr, IsEntry, IsFirst, IsRun, IsRunFrom, IsState, length, List, MayBeOn, moved_entry, nat_tests, Next}
+use Rattle.deck9.proofs.Words.{[], ap, arith, before_shift, Begins, Bool, Clear, Command, Does, done, Drift, DriftsAndSteps, Effect, effect_of, Entry, entry_of, Exchange}
+use Rattle.deck9.proofs.Words.{false, Hands, HasRun, ignored, inl, inr, IsEntry, IsFirst, IsRun, IsRunFrom, IsState, length, List, MayBeOn, moved_entry, nat_tests, Next}
 use Rattle.deck9.proofs.Words.{next_frame, Prev, prev_frame, refl, refused, Register, Sense, sense_of, State, Steps, StepsFromSome, Stop, subst, suc, sym, true, with_entry, ◌↔◌}
 use Rattle.deck9.proofs.Words.{◌∙◌, ◌∷◌, ◌≡◌, ◌⊎◌}
 use Rattle.deck9.proofs.Words.{Deck, Option, Profile, Rate}
+use Rattle.deck9.proofs.Words.{before_forgetting, between, is_nak, Forgets, Forgotten, forgotten_with, Goes, may_ignore, Nothing, Shows, with_forgotten}
 use Rattle.deck9.proofs.DriftLemmas.{drift_from_pairs, pairs_from_drift, same_entries}
+use Rattle.deck9.proofs.ShowsLemmas.{shows_nothing}
+use Rattle.deck9.proofs.EffectLemmas.{does_between, forgets_between, put_panel}
 
 -- ---- runs of no exchange
 
@@ -27,9 +30,6 @@ run_start profile = record { first = stopped; is_first = (is_state profile.rate,
 
 pub read_panel : (r : Register) (t : State) (on : Bool) → entry_of r (record t { panel = on }) ≡ entry_of r t
 read_panel r t on = grind arith
-
-pub put_panel : (r : Register) (e : Entry) (s : State) → (with_entry r e s).panel ≡ s.panel
-put_panel r e s = grind arith
 
 -- a state in which a register was put is one in which it can be put again
 put_again : (r : Register) (e : Entry) (on : Bool) (d t : State) → d.panel ≡ on → t ≡ with_entry r e d → t ≡ with_entry r e (record t { panel = on })
@@ -56,41 +56,98 @@ does_from profile (Effect.Change r Prev) on d t valid p (e, b, put) = inr (shift
 does_from profile (Effect.Change r c) on d t valid p (e, b, put) = inl (e, b, put_again r e on d t p put)
 does_from profile f on d t valid p does = inl (grind arith)
 
--- a command that asks for something of the state has no effect
-sensed : (deck : Option Deck) (c : Command) → (effect_of deck c ≡ Effect.Nothing) ⊎ (sense_of c ≡ Sense.Nothing)
-sensed deck c = grind arith
+-- a command that asks for something of the state has no effect, and nothing is forgotten beside it
+sensed : (deck : Option Deck) (e : Exchange) → ((effect_of deck e.command ≡ Effect.Nothing) × (forgotten_with deck e ≡ Nothing)) ⊎ (sense_of e.command ≡ Sense.Nothing)
+sensed deck e = grind arith
 
--- a step that leaves the state as it was
-stays_from : (profile : Profile) (e : Exchange) (on : Bool) (d t : State) → d.panel ≡ on → Steps profile e d t → t ≡ d → Steps profile e (record t { panel = on }) t
-stays_from profile e on d t p step same = subst (λ v. Steps profile e v t) (grind arith) step
+ignored_asks_nothing : (c : Command) → may_ignore c ≡ true → sense_of c ≡ Sense.Nothing
+ignored_asks_nothing c may = grind arith
 
-steps_from : (profile : Profile) (e : Exchange) (on : Bool) (d t : State) → IsState profile.rate d → d.panel ≡ on → Steps profile e d t
-    → Steps profile e (record t { panel = on }) t ⊎ Steps profile e (before_shift profile.rate (effect_of profile.deck e.command) (record t { panel = on })) t
-steps_from profile e on d t valid p (refused nak same) = inl (stays_from profile e on d t p (refused nak same) same)
-steps_from profile e on d t valid p (ignored nak shown may local same) = inl (stays_from profile e on d t p (ignored nak shown may local same) same)
-steps_from profile e on d t valid p (done nak shown does) =
-    elim (sensed profile.deck e.command) [
-      | inl none ↦ inl (stays_from profile e on d t p (done nak shown does) (subst (λ f. Does profile f d t) none does))
-      | inr silent ↦
-          let agrees : (v : State) → Agrees profile.rate (sense_of e.command) v e.reply = λ v. subst (λ s. Agrees profile.rate s v e.reply) (sym silent) tt in
-          elim (does_from profile (effect_of profile.deck e.command) on d t valid p does) [
-            | inl same ↦ inl (done nak (agrees (record t { panel = on })) same)
-            | inr back ↦ inr (done nak (agrees (before_shift profile.rate (effect_of profile.deck e.command) (record t { panel = on }))) back)
-          ]
-    ]
+-- the state that stands for those before what is forgotten, and the one before a shift to it
+abbrev pub before_all : Forgotten → Bool → State → State
+before_all g on t = record (before_forgetting g t) { panel = on }
+
+module _ (profile : Profile) (g : Forgotten) (on : Bool) (u t : State) (forgets : Forgets profile g u t) where
+  alike_before : record u { panel = on } ≡ with_forgotten g (record u { panel = on }) (before_all g on t)
+  alike_before = grind arith
+
+  alike_back : (f : Effect) → before_shift profile.rate f (record u { panel = on })
+      ≡ with_forgotten g (before_shift profile.rate f (record u { panel = on })) (before_shift profile.rate f (before_all g on t))
+  alike_back f = let alike = alike_before in grind arith
+
+  forgets_again : u.panel ≡ on → Forgets profile g (before_all g on t) t
+  forgets_again p = grind arith
+
+  local_before : u.local ≡ true → (before_all g on t).local ≡ true
+  local_before local = grind arith
+
+  same_before : u.panel ≡ on → g ≡ Nothing → u ≡ before_all g on t
+  same_before p none = grind arith
 
 shift_panel : (rate : Rate) (f : Effect) (s : State) → (before_shift rate f s).panel ≡ s.panel
 shift_panel rate f s = grind (arith, put_panel)
 
-pub two_states : (profile : Profile) (e : Exchange) (on : Bool) (t : State) (f : Effect) (same back : State) → f ≡ effect_of profile.deck e.command → same ≡ record t { panel = on }
+silent : (profile : Profile) (e : Exchange) (v : State) → sense_of e.command ≡ Sense.Nothing → Shows profile.rate v e.command e.reply
+silent profile e v asks = shows_nothing profile.rate v e.command e.reply asks
+
+-- a step from one of the states that stand for all
+abbrev FromTwo : Profile → Exchange → Bool → State → Type 0
+FromTwo profile e on t = let same = before_all (forgotten_with profile.deck e) on t in
+    Steps profile e same t ⊎ Steps profile e (before_shift profile.rate (effect_of profile.deck e.command) same) t
+
+done_from : (profile : Profile) (e : Exchange) (on : Bool) (d u t : State) → IsState profile.rate d → d.panel ≡ on → is_nak e.reply ≡ false → sense_of e.command ≡ Sense.Nothing
+    → Does profile (effect_of profile.deck e.command) d u → Forgets profile (forgotten_with profile.deck e) u t → FromTwo profile e on t
+done_from profile e on d u t valid p nak asks does forgets =
+    let f = effect_of profile.deck e.command in
+    let g = forgotten_with profile.deck e in
+    let same = before_all g on t in
+    let back = before_shift profile.rate f same in
+    let near = record u { panel = on } in
+    elim (does_from profile f on d u valid p does) [
+      | inl does ↦ inl (
+        between profile f g same t,
+        done nak (silent profile e same asks)
+            (does_between profile f g near same u t (alike_before profile g on u t forgets) refl does forgets),
+        forgets_between profile f g near same u t refl does forgets,
+      )
+      | inr does ↦ inr (
+        between profile f g back t,
+        done nak (silent profile e back asks)
+            (does_between profile f g (before_shift profile.rate f near) back u t (alike_back profile g on u t forgets f) (back_panel f near same refl) does forgets),
+        forgets_between profile f g (before_shift profile.rate f near) back u t (back_panel f near same refl) does forgets,
+      )
+    ]
+  where
+    back_panel : (f : Effect) (near same : State) → near.panel ≡ same.panel → (before_shift profile.rate f near).panel ≡ (before_shift profile.rate f same).panel
+    back_panel f near same p = shift_panel profile.rate f near ∙ p ∙ sym (shift_panel profile.rate f same)
+
+steps_from : (profile : Profile) (e : Exchange) (on : Bool) (d t : State) → IsState profile.rate d → d.panel ≡ on → Steps profile e d t → FromTwo profile e on t
+steps_from profile e on d t valid p (u, refused nak same, forgets) =
+    let from = subst (λ v. Forgets profile (forgotten_with profile.deck e) v t) same forgets in
+    inl (before_all (forgotten_with profile.deck e) on t, refused nak refl, forgets_again profile (forgotten_with profile.deck e) on d t from p)
+steps_from profile e on d t valid p (u, ignored nak shown may local same, forgets) =
+    let g = forgotten_with profile.deck e in
+    let from = subst (λ v. Forgets profile g v t) same forgets in
+    inl (before_all g on t, ignored nak (silent profile e (before_all g on t) (ignored_asks_nothing e.command may)) may (local_before profile g on d t from local) refl, forgets_again profile g on d t from p)
+steps_from profile e on d t valid p (u, done nak shown does, forgets) =
+    elim (sensed profile.deck e) [
+      | inl (none, kept) ↦
+          let g = forgotten_with profile.deck e in
+          let same = subst (λ f. Does profile f d u) none does in
+          let from = subst (λ v. Forgets profile g v t) same forgets in
+          inl (subst (λ v. Steps profile e v t) (same_before profile g on d t from p kept) (u, done nak shown does, forgets))
+      | inr asks ↦ done_from profile e on d u t valid p nak asks does forgets
+    ]
+
+pub two_states : (profile : Profile) (e : Exchange) (on : Bool) (t : State) (f : Effect) (same back : State) → f ≡ effect_of profile.deck e.command → same ≡ before_all (forgotten_with profile.deck e) on t
     → back ≡ before_shift profile.rate f same → IsState profile.rate same → IsState profile.rate back
     → (Steps profile e same t ⊎ Steps profile e back t) ↔ StepsFromSome profile e on t
 two_states profile e on t f same back is_effect is_same is_back valid valid_back =
-    let shifted : back ≡ before_shift profile.rate (effect_of profile.deck e.command) (record t { panel = on }) =
+    let shifted : back ≡ before_shift profile.rate (effect_of profile.deck e.command) (before_all (forgotten_with profile.deck e) on t) =
     is_back ∙ ap (λ (g : Effect). before_shift profile.rate g same) is_effect ∙ ap (before_shift profile.rate (effect_of profile.deck e.command)) is_same in (
       λ w. elim w [
         | inl step ↦ (same, valid, ap (λ (v : State). v.panel) is_same, step)
-        | inr step ↦ (back, valid_back, ap (λ (v : State). v.panel) shifted ∙ shift_panel profile.rate (effect_of profile.deck e.command) (record t { panel = on }), step)
+        | inr step ↦ (back, valid_back, ap (λ (v : State). v.panel) shifted ∙ shift_panel profile.rate (effect_of profile.deck e.command) (before_all (forgotten_with profile.deck e) on t), step)
       ],
       λ w. elim (steps_from profile e on w.0 t w.1 w.2 w.3) [
         | inl step ↦ inl (subst (λ v. Steps profile e v t) (sym is_same) step)
@@ -104,8 +161,15 @@ two_states profile e on t f same back is_effect is_same is_back valid valid_back
 pub first_drifts : (profile : Profile) (s d : State) → IsFirst profile s → Drift profile s d → IsFirst profile d
 first_drifts profile s d first drift = let pairs = pairs_from_drift profile s d drift in let entries = same_entries profile.rate s d in grind arith
 
+-- an exchange is a drift, and then the step with what is forgotten besides
+pub steps_of : (profile : Profile) (e : Exchange) (s t : State) → Goes profile e s t → (d : State) × Drift profile s d × Steps profile e d t
+steps_of profile e s t (u, (d, drift, step), forgets) = (d, drift, (u, step, forgets))
+
 begins_at : (profile : Profile) (e : Exchange) (t : State) → Begins profile e t ↔ ((d : State) × IsFirst profile d × Steps profile e d t)
-begins_at profile e t = (λ w. let at = w.2 in (at.0, first_drifts profile w.0 at.0 w.1 at.1, at.2), λ w. (w.0, w.1, (w.0, ([], refl), w.2)))
+begins_at profile e t = (
+  λ w. let at = steps_of profile e w.0 t w.2 in (at.0, first_drifts profile w.0 at.0 w.1 at.1, at.2),
+  λ w. (w.0, w.1, (w.2.0, (w.0, ([], refl), w.2.1), w.2.2)),
+)
 
 pub begins_alone : (profile : Profile) (e : Exchange) (t : State) → profile.hands ≡ Hands.None → StepsFromSome profile e false t ↔ Begins profile e t
 begins_alone profile e t none =
@@ -133,13 +197,13 @@ begins_touched profile e t allowed = (
     from d true p valid step = inr (d, valid, p, step)
 
 pub goes_by : (profile : Profile) (e : Exchange) (s t : State) → (DriftsAndSteps profile e s t ⊎ ((profile.hands ≡ Hands.Allowed) × (s.panel ≡ true) × StepsFromSome profile e true t))
-    ↔ Exchanges profile e.command e.reply s t
+    ↔ Goes profile e s t
 goes_by profile e s t = (
   λ w. elim w [
-    | inl (d, keeps, pair, step) ↦ (d, drift_from_pairs profile s d (inl (keeps, pair)), step)
-    | inr (allowed, on, (d, valid, still, step)) ↦ (d, drift_from_pairs profile s d (inr (allowed, on, still, valid)), step)
+    | inl (d, keeps, pair, (u, step, forgets)) ↦ (u, (d, drift_from_pairs profile s d (inl (keeps, pair)), step), forgets)
+    | inr (allowed, on, (d, valid, still, (u, step, forgets))) ↦ (u, (d, drift_from_pairs profile s d (inr (allowed, on, still, valid)), step), forgets)
   ],
-  λ w. elim (pairs_from_drift profile s w.0 w.1) [ inl p ↦ inl (w.0, p.0, p.1, w.2) | inr p ↦ inr (p.0, p.1, (w.0, p.3, p.2, w.2)) ],
+  λ w. let at = steps_of profile e s t w in elim (pairs_from_drift profile s at.0 at.1) [ inl p ↦ inl (at.0, p.0, p.1, at.2) | inr p ↦ inr (p.0, p.1, (at.0, p.3, p.2, at.2)) ],
 )
 
 -- ---- runs

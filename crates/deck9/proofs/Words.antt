@@ -1,23 +1,24 @@
 -- The names from elsewhere that the proofs of this crate cite, passed on from one place. Declares nothing.
 pub use Rattle.block9.specs.Command.{is_nak}
+pub use Rattle.block9.specs.Replies.{is_own}
 unfoldable pub use Rattle.block9.specs.Command.{fits, is_reply_time_valid, name_of}
 pub use Rattle.block9.specs.declared.block.Block.{Block}
 pub use Rattle.block9.specs.declared.command.Command.{Command}
 pub use Rattle.block9.specs.declared.exchange.Exchange.{Exchange}
-pub use Rattle.deck9.specs.Contradict.{behind_first, CanPass, HasBelieving, IsBelievingFrom, MayDo}
+pub use Rattle.deck9.specs.Contradict.{behind_first, CanPass, forgotten_if, HasBelieving, IsBelievingFrom, MayDo, MayGo}
 pub use Rattle.deck9.specs.Drift.{arrives, ComesToShow, Drift, DriftsTo, halts, handled, Move, Moves, PairReaches, passes}
-pub use Rattle.deck9.specs.Effect.{Becomes, Does, effect_of, forgetting, KeepsPanel, listed_effect, moved_entry, switched}
-pub use Rattle.deck9.specs.Laws.{AreAnswered, IsRightReply, MayReply, SetsInDay, ShowJust}
+pub use Rattle.deck9.specs.Effect.{Becomes, Does, effect_of, forgetting, KeepsPanel, listed_effect, moved_entry, switched, with_forgotten}
+pub use Rattle.deck9.specs.Laws.{AreAnswered, ForgetsNoMore, ForgetsNothingBeside, IsRightReply, MayReply, SetsInDay, ShowJust}
 pub use Rattle.deck9.specs.Local.{is_of_goal_or_register, may_ignore}
 pub use Rattle.deck9.specs.Mode.{every_mode, index_of, is_mode, is_one_of, on_the_way}
 pub use Rattle.deck9.specs.ModeCalls.{is_some}
 pub use Rattle.deck9.specs.ModeSet.{bit_of, either, has, modes, of_modes}
 pub use Rattle.deck9.specs.Run.{Ends, HasRun, IsRun, IsRunFrom, last_state}
-pub use Rattle.deck9.specs.Shows.{Agrees, sense_of, Shows, ShowsStatus, Tells}
+pub use Rattle.deck9.specs.Shows.{Agrees, sense_of, Shows, shown_by, ShowsStatus, Tells}
 pub use Rattle.deck9.specs.State.{entry_of, IsEntry, IsFirst, IsState, MayBeOn, with_entry}
 pub use Rattle.deck9.specs.Status.{datum, may_show, status_of}
-pub use Rattle.deck9.specs.Step.{AreReached, done, Exchanges, ignored, refused, DeckStep}
-pub use Rattle.deck9.specs.Working.{before_shift, Begins, DriftsAndSteps, PassesOne, PassesTo, Steps, StepsFromSome}
+pub use Rattle.deck9.specs.Step.{AreReached, DeckStep, done, Exchanges, Forgets, forgotten_with, Goes, ignored, refused}
+pub use Rattle.deck9.specs.Working.{before_forgetting, before_shift, Begins, between, cleared, DriftsAndSteps, PassesOne, PassesTo, some_change, some_outcome, Steps, StepsFromSome}
 pub use Rattle.deck9.specs.declared.effect.Change.{Change}
 pub use Rattle.deck9.specs.declared.effect.Change.TheVariants.{Next, Prev, Recall, Reset, SetAt, SetSomewhere}
 pub use Rattle.deck9.specs.declared.effect.Effect.{Effect}
@@ -34,7 +35,7 @@ pub use Rattle.deck9.specs.declared.state.State.{State}
 pub use Rattle.std.proofs.Common.{[], ap, arith, bit_and, bit_or, Bool, drop, false, if◌then◌else◌, inl, inr, length, List, mod-lt, None, not, Option, refl, rules, Some, subst, suc, sym}
 pub use Rattle.std.proofs.Common.{true, ℕ, ◌&&◌, ◌*◌, ◌++◌, ◌+◌, ◌-◌, ◌/◌, ◌<◌, ◌==◌, ◌^◌, ◌||◌, ◌↔◌, ◌∙◌, ◌∷◌, ◌≡◌, ◌≢◌, ◌≤◌, ◌⊎◌}
 pub use Rattle.std.proofs.Math.Bool.{and-true, or-true}
-pub use Rattle.std.proofs.lemmas.Bool.{and_from, and_parts, both_ways, cases_Bool, cases_eq, eq-eqb, eqb-true, false_from_ne_true, false≢true, or_cases, true_from_ne_false}
+pub use Rattle.std.proofs.lemmas.Bool.{and_from, and_parts, both_ways, cases_Bool, cases_eq, cond_both, eq-eqb, eqb-true, false_from_ne_true, false≢true, or_cases, true_from_ne_false}
 pub use Rattle.std.proofs.lemmas.Bool.Decides.{nat_tests}
 pub use Rattle.std.proofs.lemmas.Grind.{common_steps}
 pub use Rattle.std.proofs.lemmas.List.Elements.{All-cons, All-head, All-nil, All-tail}
@@ -49,8 +50,10 @@ pub use Rattle.std.specs.Slice.Iter.{iter_rest}
 pub use Rattle.tc25.proofs.DayLemmas.{bytes_read, given_reads, read_given}
 pub use Rattle.tc25.specs.Day.{bcd, bytes_of, day, frames_of, hours_of, label_of, minutes_of, next_frame, prev_frame, seconds_of}
 unfoldable pub use Rattle.tc25.specs.Day.{time_of}
-pub use Rattle.deck9.specs.Deck.{forgotten_at, way_of}
+pub use Rattle.block9.specs.Block.{head_of}
+pub use Rattle.deck9.specs.Deck.{forgotten_at, forgotten_beside, way_of}
 pub use Rattle.deck9.specs.declared.deck.Deck.{Deck}
 pub use Rattle.deck9.specs.declared.deck.Forgotten.{Forgotten}
+pub use Rattle.deck9.specs.declared.deck.Forgotten.TheVariants.{Everything, Motion, Nothing, Registers, Tape}
 pub use Rattle.deck9.specs.declared.profile.Profile.{Profile}
 pub use Rattle.tc25.specs.declared.rate.Rate.{Rate}

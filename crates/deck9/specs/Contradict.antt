@@ -1,13 +1,17 @@
 -- Which replies contradict one another: no deck can have given them together, whatever it answered to everything else.
-use Rattle.std.specs.Prelude.{ℕ, ◌≡◌, ◌+◌, ◌⊎◌, Bool, true, false, ⊤, List, [], ◌∷◌}
+use Rattle.std.specs.Prelude.{ℕ, ◌≡◌, ◌+◌, ◌⊎◌, Bool, true, false, ⊤, List, [], ◌∷◌, Option}
 use Rattle.block9.specs.declared.command.Command.{Command}
 use Rattle.block9.specs.declared.exchange.Exchange.{Exchange}
+use Rattle.block9.specs.Block.{head_of}
+use Rattle.deck9.specs.declared.deck.Deck.{Deck}
+use Rattle.deck9.specs.declared.deck.Forgotten.{Forgotten}
 use Rattle.deck9.specs.declared.profile.Profile.{Profile}
 use Rattle.deck9.specs.declared.state.State.{State}
+use Rattle.deck9.specs.Deck.{forgotten_beside}
 use Rattle.deck9.specs.Drift.{Drift}
 use Rattle.deck9.specs.Effect.{Does, effect_of}
 use Rattle.deck9.specs.State.{IsFirst}
-use Rattle.deck9.specs.Step.{DeckStep}
+use Rattle.deck9.specs.Step.{DeckStep, Forgets, forgotten_with}
 
 -- what a command may do to a state where its reply is not known: nothing, or its effect
 abbrev pub CanPass : Profile → Command → State → State → Type 0
@@ -22,6 +26,15 @@ abbrev pub MayDo : Profile → Bool → Exchange → State → State → Type 0
 MayDo p true e s t = DeckStep p e.command e.reply s t
 MayDo p false e s t = CanPass p e.command s t
 
+-- what is forgotten besides: after a NAK that is believed nothing, and else what the sheet names
+abbrev pub forgotten_if : Bool → Option Deck → Exchange → Forgotten
+forgotten_if true deck e = forgotten_with deck e
+forgotten_if false deck e = forgotten_beside deck e.command (head_of e.block)
+
+-- what an exchange may do, the drift before it and what is forgotten besides with it
+abbrev pub MayGo : Profile → Bool → Exchange → State → State → Type 0
+MayGo p b e s t = (d u : State) × Drift p s d × MayDo p b e d u × Forgets p (forgotten_if b p.deck e) u t
+
 -- the same places, counted in the list without its first exchange
 abbrev pub behind_first : (ℕ → Bool) → ℕ → Bool
 behind_first is_believed k = is_believed (k + 1)
@@ -29,8 +42,7 @@ behind_first is_believed k = is_believed (k + 1)
 -- from s, these are the states after each of the exchanges in a run that believes the replies at these places
 abbrev pub IsBelievingFrom : Profile → (ℕ → Bool) → State → List Exchange → List State → Type 0
 IsBelievingFrom p is_believed s [] [] = ⊤
-IsBelievingFrom p is_believed s (e ∷ es) (t ∷ ts) =
-    (d : State) × Drift p s d × MayDo p (is_believed 0) e d t × IsBelievingFrom p (behind_first is_believed) t es ts
+IsBelievingFrom p is_believed s (e ∷ es) (t ∷ ts) = MayGo p (is_believed 0) e s t × IsBelievingFrom p (behind_first is_believed) t es ts
 IsBelievingFrom p is_believed s _ _ = ⊥
 
 -- there is a run of these exchanges that believes the replies at these places, counted from 0

@@ -131,3 +131,11 @@ Does p effect.ForgetMotion s t = t ≡ record s { goal = t.goal; shown = t.shown
 Does p effect.ForgetTape s t = IsState p.rate t × (t.local ≡ s.local) × (t.panel ≡ s.panel)
 Does p effect.ForgetRegisters s t = IsState p.rate t × (t.goal ≡ s.goal) × (t.shown ≡ s.shown) × (t.local ≡ s.local) × (t.panel ≡ s.panel)
 Does p effect.ForgetAll s t = IsState p.rate t × KeepsPanel p.hands s t
+
+-- the state t, with what is forgotten as it is in o
+abbrev pub with_forgotten : Forgotten → State → State → State
+with_forgotten forgotten.Nothing o t = t
+with_forgotten forgotten.Motion o t = record t { goal = o.goal; shown = o.shown }
+with_forgotten forgotten.Registers o t = record t { ins = o.ins; outs = o.outs; ains = o.ains; aouts = o.aouts }
+with_forgotten forgotten.Tape o t = record t { goal = o.goal; shown = o.shown; ins = o.ins; outs = o.outs; ains = o.ains; aouts = o.aouts }
+with_forgotten forgotten.Everything o t = o

@@ -11,16 +11,18 @@ use Rattle.block9.specs.Command.{fits, is_reply_time_valid}
 use Rattle.deck9.specs.declared.effect.Effect.TheVariants as effect
 use Rattle.deck9.specs.declared.effect.Change.TheVariants.{SetAt}
 use Rattle.deck9.specs.declared.deck.Deck.{Deck}
+use Rattle.deck9.specs.declared.deck.Forgotten.TheVariants.{Nothing}
 use Rattle.deck9.specs.declared.mode.Mode.{Mode}
 use Rattle.deck9.specs.declared.profile.Profile.{Profile}
 use Rattle.deck9.specs.declared.state.Register.{Register}
 use Rattle.deck9.specs.declared.state.State.{State}
 use Rattle.deck9.specs.Contradict.{behind_first}
-use Rattle.deck9.specs.Deck.{way_of}
+use Rattle.deck9.specs.Deck.{forgotten_beside, way_of}
 use Rattle.deck9.specs.Effect.{Does, effect_of, listed_effect}
 use Rattle.deck9.specs.ModeSet.{has}
 use Rattle.deck9.specs.State.{IsState}
 use Rattle.deck9.specs.Status.{may_show}
+use Rattle.deck9.specs.Step.{Forgets}
 
 -- where the command sets a register at a time, that is a time of the day
 abbrev pub SetsInDay : Rate → Command → Type 0
@@ -54,10 +56,16 @@ pub record ShowJust (is_shown : Mode → Bool) : Type 0 where
   pub is_byte2 : datum2 < 256
   pub just : (m : Mode) → may_show (Some datum1) (Some datum2) m ≡ is_shown m
 
--- each command does no more to a deck of the first kind than to one of the second
-abbrev pub ForgetsNoMore : Profile → Option Deck → Option Deck → Type 0
-ForgetsNoMore p less more = (c : Command) (s t : State) → IsState p.rate s
-    → Does (record p { deck = less }) (effect_of less c) s t → Does (record p { deck = more }) (effect_of more c) s t
+-- each command does no more to a deck of the first kind than to one of the second, and no more is forgotten beside it
+pub record ForgetsNoMore (p : Profile) (less more : Option Deck) : Type 0 where
+  pub effects : (c : Command) (s t : State) → IsState p.rate s
+      → Does (record p { deck = less }) (effect_of less c) s t → Does (record p { deck = more }) (effect_of more c) s t
+  pub beside : (c : Command) (head : ℕ) (s t : State) → IsState p.rate s
+      → Forgets (record p { deck = less }) (forgotten_beside less c head) s t → Forgets (record p { deck = more }) (forgotten_beside more c head) s t
+
+-- nothing is named beside any command's effect
+abbrev pub ForgetsNothingBeside : Option Deck → Type 0
+ForgetsNothingBeside deck = (c : Command) (head : ℕ) → forgotten_beside deck c head ≡ Nothing
 
 -- the modes on the way to each goal of a deck of the first kind are on the way to it of one of the second
 abbrev pub PassesNoMore : Option Deck → Option Deck → Type 0

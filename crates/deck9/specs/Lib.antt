@@ -8,6 +8,7 @@ pub mod Local
 pub mod Mode
 pub mod ModeCalls
 pub mod ModeSet
+pub mod Names
 pub mod Run
 pub mod Shows
 pub mod State

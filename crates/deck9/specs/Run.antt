@@ -4,12 +4,12 @@ use Rattle.block9.specs.declared.exchange.Exchange.{Exchange}
 use Rattle.deck9.specs.declared.profile.Profile.{Profile}
 use Rattle.deck9.specs.declared.state.State.{State}
 use Rattle.deck9.specs.State.{IsFirst}
-use Rattle.deck9.specs.Step.{Exchanges}
+use Rattle.deck9.specs.Step.{Goes}
 
 -- from s, these are the states after each of the exchanges
 abbrev pub IsRunFrom : Profile → State → List Exchange → List State → Type 0
 IsRunFrom p s [] [] = ⊤
-IsRunFrom p s (e ∷ es) (t ∷ ts) = Exchanges p e.command e.reply s t × IsRunFrom p t es ts
+IsRunFrom p s (e ∷ es) (t ∷ ts) = Goes p e s t × IsRunFrom p t es ts
 IsRunFrom p s _ _ = ⊥
 
 -- from some first state, these are the states after each of the exchanges: as many as there are exchanges

@@ -1,10 +1,11 @@
 -- What a reply shows of the deck's state.
-use Rattle.std.specs.Prelude.{◌≡◌, true, List, ℕ, ⊤}
+use Rattle.std.specs.Prelude.{◌≡◌, if◌then◌else◌, true, List, ℕ, ⊤}
 use Rattle.std.specs.Option.{IfSome}
 use Rattle.tc25.specs.Day.{ReadsAs}
 use Rattle.block9.specs.declared.block.Block.{Block}
 use Rattle.block9.specs.declared.command.Command.{Command}
 use Rattle.block9.specs.declared.command.Command.TheVariants as command
+use Rattle.block9.specs.Replies.{is_own}
 use Rattle.deck9.specs.declared.sense.Sense.{Sense}
 use Rattle.deck9.specs.declared.sense.Sense.TheVariants as sense
 use Rattle.deck9.specs.declared.state.Entry.{Entry}
@@ -107,6 +108,11 @@ Agrees rate (sense.Register r) s reply = Tells rate (entry_of r s) reply.bytes.i
 Agrees rate (sense.Status asked) s reply = ShowsStatus s (status_of asked reply)
 Agrees rate sense.Nothing s reply = ⊤
 
+-- what a reply shows: what the command asks for, where the reply is one of the command's own; and nothing where only a sheet lets the
+-- command take it
+abbrev pub shown_by : Command → Block → Sense
+shown_by command reply = if is_own command reply then sense_of command else sense.Nothing
+
 -- a reply to a command agrees with the state
 abbrev pub Shows : Rate → State → Command → Block → Type 0
-Shows rate s command reply = Agrees rate (sense_of command) s reply
+Shows rate s command reply = Agrees rate (shown_by command reply) s reply

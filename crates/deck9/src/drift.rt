@@ -1,9 +1,10 @@
-//! What a drift, and then a step, do to one state.
+//! What a drift, and then a step and what is forgotten besides, do to one state.
 ghost use Rattle.std.specs.Prelude.{◌≡◌, ◌↔◌, IsTrue};
 ghost use Rattle.deck9.specs.Working.{DriftsAndSteps, PassesOne, Steps, StepsFromSome, before_shift};
 ghost use Rattle.deck9.specs.State.{IsState};
 
 use crate::effect::{Change, Effect};
+use crate::forgets::before_forgetting;
 use crate::mode::Mode;
 use crate::profile::Profile;
 use crate::state::State;
@@ -67,7 +68,7 @@ fn passes_and_steps(profile: &Profile, exchange: &Exchange, before: &State, afte
 
 /// Whether the step of an exchange can take the deck to a state from some state with the panel on or off, as given.
 ///
-/// Where it can, it can do so from the state itself, or from the one before a shift.
+/// Where it can, it can do so from the state itself, or from the one before a shift; in LOCAL, where that is forgotten.
 pub(crate) fn steps_from_some(
     profile: &Profile,
     exchange: &Exchange,
@@ -85,7 +86,8 @@ fn steps_from_two(profile: &Profile, exchange: &Exchange, panel: bool, after: &S
     requires { IsState profile.now.rate after.now }
     ensures { IsTrue result ↔ StepsFromSome profile.now exchange.now panel after.now }
 {
-    let same = after.with_panel(panel);
+    let forgotten = profile.forgotten_with(exchange);
+    let same = before_forgetting(forgotten, after).with_panel(panel);
     let back = before_shift(profile.rate, &profile.effect(&exchange.command), &same);
     let steps_from_same = steps(profile, exchange, &same, after);
     steps_from_same || steps(profile, exchange, &back, after)

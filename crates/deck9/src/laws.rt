@@ -9,13 +9,13 @@ ghost use Rattle.block9.specs.declared.exchange.Exchange.{Exchange};
 ghost use Rattle.deck9.specs.Contradict.{CanPass, HasBelieving};
 ghost use Rattle.deck9.specs.declared.deck.Deck.{Deck as ADeck};
 ghost use Rattle.deck9.specs.Drift.{Drift, DriftsTo};
-ghost use Rattle.deck9.specs.Laws.{AreAnswered, ForgetsNoMore, IsRightReply, PassesNoMore, SetsInDay, ShowJust};
+ghost use Rattle.deck9.specs.Laws.{AreAnswered, ForgetsNoMore, ForgetsNothingBeside, IsRightReply, PassesNoMore, SetsInDay, ShowJust};
 ghost use Rattle.deck9.specs.Local.{may_ignore};
 ghost use Rattle.deck9.specs.Mode.{index_of, is_mode};
 ghost use Rattle.deck9.specs.Run.{Ends, HasRun};
 ghost use Rattle.deck9.specs.State.{IsFirst, IsState};
 ghost use Rattle.deck9.specs.Status.{may_show};
-ghost use Rattle.deck9.specs.Step.{AreReached, Exchanges, DeckStep};
+ghost use Rattle.deck9.specs.Step.{AreReached, DeckStep, Goes};
 
 use crate::mode::Mode;
 use crate::profile::Profile;
@@ -56,8 +56,8 @@ pub fn hands_explain_no_less()
     ensures { (rate : Rate) (deck : Option ADeck) (es : List Exchange) → HasRun (record { rate = rate; hands = Hands.None; deck = deck }) es → HasRun (record { rate = rate; hands = Hands.Allowed; deck = deck }) es }
 {}
 
-/// A deck at which each command does no more than at another, and that has no more modes on the way to each goal, has a run only
-/// where the other has one.
+/// A deck at which each command does no more than at another, beside which no more is forgotten, and that has no more modes on the
+/// way to each goal, has a run only where the other has one.
 pub fn a_sheet_that_forgets_less()
     ensures { (p : Profile) (less more : Option ADeck) (es : List Exchange) → ForgetsNoMore p less more → PassesNoMore less more
         → HasRun (record p { deck = less }) es → HasRun (record p { deck = more }) es }
@@ -68,7 +68,7 @@ pub fn a_sheet_that_forgets_less()
 pub fn states_after_one_more()
     ensures none { (p : Profile) (s : State) → Ends p [] s ↔ IsFirst p s }
     ensures more { (p : Profile) (es : List Exchange) (e : Exchange)
-        → AreReached (Ends p es) (Exchanges p e.command e.reply) (Ends p (es ++ e ∷ [])) }
+        → AreReached (Ends p es) (Goes p e) (Ends p (es ++ e ∷ [])) }
 {}
 
 /// There is a state in which runs end exactly where there is a run.
@@ -94,10 +94,14 @@ pub fn some_reply_passes()
         → CanPass p command s t ↔ ((reply : Block) × IsRightReply p.rate command reply × DeckStep p command reply s t) }
 {}
 
-/// Replies contradict one another exactly where no deck can have given them, whatever it answered to everything else.
+/// Replies that contradict one another no deck can have given, whatever it answered to everything else. Replies that do not some
+/// deck can have given with some other answers, unless something is forgotten beside a command's effect: a deck in REMOTE whose
+/// reply is not believed may have left a command undone and forgotten, and no reply shows that.
 pub fn whatever_else_was_answered()
-    ensures { (p : Profile) (is_believed : ℕ → Bool) (es : List Exchange)
-        → HasBelieving p is_believed es ↔ ((fs : List Exchange) × AreAnswered p.rate is_believed es fs × HasRun p fs) }
+    ensures contradict { (p : Profile) (is_believed : ℕ → Bool) (es fs : List Exchange)
+        → AreAnswered p.rate is_believed es fs → HasRun p fs → HasBelieving p is_believed es }
+    ensures answered { (p : Profile) (is_believed : ℕ → Bool) (es : List Exchange) → ForgetsNothingBeside p.deck
+        → HasBelieving p is_believed es → (fs : List Exchange) × AreAnswered p.rate is_believed es fs × HasRun p fs }
 {}
 
 /// A run that believes all replies is an ordinary run.

@@ -2,7 +2,7 @@
 ghost use Rattle.std.specs.Prelude.{◌↔◌, IsTrue};
 ghost use Rattle.deck9.specs.Run.{IsRun, IsRunFrom};
 ghost use Rattle.deck9.specs.Working.{Begins};
-ghost use Rattle.deck9.specs.Step.{Exchanges};
+ghost use Rattle.deck9.specs.Step.{Goes};
 
 use crate::drift::{drifts_and_steps, steps_from_some};
 use crate::profile::Profile;
@@ -56,7 +56,7 @@ fn begins(profile: &Profile, exchange: &Exchange, after: &State) -> bool
 
 /// Whether an exchange, with the drift before it, can take the deck from a state to another.
 fn goes(profile: &Profile, exchange: &Exchange, before: &State, after: &State) -> bool
-    ensures { IsTrue result ↔ Exchanges profile.now exchange.now.command exchange.now.reply before.now after.now }
+    ensures { IsTrue result ↔ Goes profile.now exchange.now before.now after.now }
 {
     if drifts_and_steps(profile, exchange, before, after) {
         return true;

@@ -1,6 +1,6 @@
 //! What commands ask for of the deck's state.
 use crate::state::Register;
-use block9::Command;
+use block9::{Block, Command};
 
 /// What a command asks for of the deck's state.
 #[derive(Clone, Copy, Debug, PartialEq, Eq)]
@@ -15,7 +15,20 @@ pub enum Sense {
 
 impl Sense {
     ghost use Rattle.std.specs.Prelude.{◌≡◌};
-    ghost use Rattle.deck9.specs.Shows.{sense_of};
+    ghost use Rattle.deck9.specs.Shows.{sense_of, shown_by};
+
+    /// What a reply shows of the state: what its command asks for, where the reply is one of the command's own; and nothing where
+    /// only a sheet lets the command take it.
+    #[inline(always)] // it is asked of every exchange
+    pub fn shown_by(command: &Command, reply: &Block) -> Sense
+        ensures { result ≡ shown_by command.now reply.now }
+    {
+        match Sense::of(command) {
+            Sense::Nothing => Sense::Nothing,
+            sense if command.is_own(reply) => sense,
+            _ => Sense::Nothing,
+        }
+    }
 
     /// What a command asks for.
     #[inline(always)] // it is asked of every exchange

@@ -15,7 +15,7 @@ impl State {
     pub fn shows(&self, rate: Rate, command: &Command, reply: &Block) -> bool
         ensures { IsTrue result ↔ Shows rate self.now command.now reply.now }
     {
-        match Sense::of(command) {
+        match Sense::shown_by(command, reply) {
             Sense::Register(register) => tells(rate, self.entry(register), reply),
             Sense::Status(asked) => shows_status(self, &Status::of(asked, reply)),
             Sense::Nothing => true,

@@ -1,9 +1,12 @@
-//! What a step does to one state.
+//! What a step, and what is forgotten after it, do to one state.
 ghost use Rattle.std.specs.Prelude.{◌≡◌, ◌↔◌, IsTrue};
 ghost use Rattle.deck9.specs.Working.{Steps};
 ghost use Rattle.deck9.specs.Effect.{Becomes, Does, KeepsPanel};
+ghost use Rattle.deck9.specs.Step.{DeckStep, Forgets, forgotten_with};
 
+use crate::deck::Forgotten;
 use crate::effect::{Change, Effect};
+use crate::forgets::between;
 use crate::local::may_ignore;
 use crate::mode::Mode;
 use crate::profile::Profile;
@@ -11,9 +14,47 @@ use crate::state::{Entry, Hands, Register, State};
 use block9::Exchange;
 use tc25::Rate;
 
-/// Whether the step of an exchange can take the deck from a state, without a drift, to another.
+/// Whether the step of an exchange, and what is forgotten besides, can take the deck from a state, without a drift, to another.
+///
+/// What is forgotten comes after the step. Where there is a state between them, the one before the step is one, or the one that
+/// `between` makes.
 pub(crate) fn steps(profile: &Profile, exchange: &Exchange, before: &State, after: &State) -> bool
     ensures { IsTrue result ↔ Steps profile.now exchange.now before.now after.now }
+{
+    let forgotten = profile.forgotten_with(exchange);
+    if forgotten == Forgotten::Nothing {
+        return steps_alone(profile, exchange, before, after);
+    }
+    let made = between(
+        profile,
+        &profile.effect(&exchange.command),
+        forgotten,
+        before,
+        after,
+    );
+    let by_made = steps_and_forgets(profile, exchange, before, &made, after);
+    by_made || steps_and_forgets(profile, exchange, before, before, after)
+}
+
+/// Whether the step of an exchange can take the deck from a state to another, and forgetting from that to a third.
+fn steps_and_forgets(
+    profile: &Profile,
+    exchange: &Exchange,
+    before: &State,
+    between: &State,
+    after: &State,
+) -> bool
+    ensures { IsTrue result ↔ (DeckStep profile.now exchange.now.command exchange.now.reply before.now between.now
+        × Forgets profile.now (forgotten_with profile.now.deck exchange.now) between.now after.now) }
+{
+    let forgetting = Effect::forgetting(profile.forgotten_with(exchange));
+    let steps = steps_alone(profile, exchange, before, between);
+    steps && does(profile, &forgetting, between, after)
+}
+
+/// Whether the step of an exchange alone can take the deck from a state to another.
+fn steps_alone(profile: &Profile, exchange: &Exchange, before: &State, after: &State) -> bool
+    ensures { IsTrue result ↔ DeckStep profile.now exchange.now.command exchange.now.reply before.now after.now }
 {
     if exchange.reply.is_nak() {
         return after.is(before);

@@ -47,7 +47,7 @@ module _ (profile : Profile) where
       → Cut (line_rules (in_parts profile)) records es t → AreEvents (line_rules (in_parts profile)) past [] [] records events → late_replies events ≡ 0
       → Cut (line_rules (counting profile)) records es t
   cut_counts_all past records es t events cut are none =
-      let m = arrive profile.rate Counts (λ n. 0) past [] [] [] [] [] [] 0 0 records [] records events (at_start profile.rate Counts 0 0) are (λ n low high. none_at events n none)
+      let m = arrive profile Counts (λ n. 0) past [] [] [] [] [] [] 0 0 records [] records events (at_start profile Counts 0 0) are (λ n low high. none_at events n none)
       (rw (append-nil records) (stays past 0 records)) in
       let whole = same_parts records m.others [] m.rest m.number (append-nil records ∙ m.split) in
       let found = rw (sym whole.0) at m.along.moved in

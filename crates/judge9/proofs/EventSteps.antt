@@ -135,6 +135,6 @@ events_once rules past es tail (r ∷ records) some others (o, more, done, are, 
 pub exchange_text : (telling : Telling) (terms : Terms) (es : List Exchange) (e : Exchange) (n : ℕ) (line : List ℕ) (t : Tracked)
     → KeepsEnds terms.profile (es ++ e ∷ []) t → IsLineOf (view_of telling) terms.profile n e (Possible t.states) line → IsEventText telling terms (exchange n es e) line
 exchange_text (Telling.Shown View.Verdict) terms es e n line t follows is = is
-exchange_text (Telling.Shown View.Explain) terms es e n line t follows is =
+exchange_text (Telling.Shown (View.Explain detail)) terms es e n line t follows is =
     (is.0, knowledge_same (Possible t.states) (Ends terms.profile (es ++ e ∷ [])) is.0 follows.states is.1, is.2)
 exchange_text Telling.Why terms es e n line t follows is = is

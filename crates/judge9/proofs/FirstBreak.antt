@@ -133,7 +133,7 @@ module _ (profile : Profile) where
       cut = cut_counts_all profile b.part.past p b.part.exchanges b.part.tail b.part.events part.cut part.are_events none
 
       -- the records at their own times
-      along : Along profile.rate Counts p b.part.exchanges b.part.tail p b.part.exchanges b.part.tail (last_time b.part.tail) (last_time b.part.tail)
+      along : Along profile Counts p b.part.exchanges b.part.tail p b.part.exchanges b.part.tail (last_time b.part.tail) (last_time b.part.tail)
       along = record { cut = part.cut; moved = cut; exchanges = blocks_same b.part.exchanges; tails = alike_same b.part.tail; times = λ some. (refl, refl) }
 
       by : (late : Bool) → TellsLate (line_rules (in_parts profile)) b.part.tail b.breaking late

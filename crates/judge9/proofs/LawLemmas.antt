@@ -1,5 +1,5 @@
 -- The laws on lists of records that keep the rules, on answers, on judging with hands, and on reasons.
-use Rattle.judge9.proofs.Words.{Beginning, IsAnswerFrom, judged_rows, moved_by, passed_before, Terms, LineRules, line_rules, counting, Deck, Hands, [], Answer, ap, append-nil, append_assoc, Applies, arith, Breaks, cases_lt, Cut, cut_once, cut_parted, drop, Exchange, exchange_kept, explained_of}
+use Rattle.judge9.proofs.Words.{Beginning, IsAnswerFrom, judged_rows, moved_by, passed_before, Terms, LineRules, line_rules, counting, [], Answer, ap, append-nil, append_assoc, Applies, arith, Breaks, cases_lt, Cut, cut_once, cut_parted, drop, Exchange, exchange_kept, explained_of}
 use Rattle.judge9.proofs.Words.{first_before_last, first_holds, first_once, Profile, HasRun, Holds, inl, inr, IsAnswer, IsExchange, IsFirst, IsFirstBreak, IsKept, IsOk, IsReason}
 use Rattle.judge9.proofs.Words.{IsTail, kept_by_tail, kept_less, last_is_first, last_time, last_time-append, length, length-append, length_push, LineByte, List, None, Option}
 use Rattle.judge9.proofs.Words.{order, pairing, quiet_kept, rank, rank_low, rank_once, Reason, refl, Rows, same_parts, Some, subst, sym, take, take-append-drop, take-append-le}
@@ -95,18 +95,20 @@ pub answer_once_from : (beginning : Beginning) (profile : Profile) (rows : Rows)
 answer_once_from beginning profile rows a b (own, is, moved) (other, be, same) =
     moved ∙ ap (moved_by (passed_before beginning rows)) (answer_once profile (judged_rows beginning rows) own other is be) ∙ sym same
 
--- ---- what one deck explains, another of its rules that has all its runs explains too, and no break comes earlier
+-- ---- what one deck explains, another explains too that has all its runs and takes all its replies, and no break comes earlier
 
--- a deck, and one of its rules that has all its runs
-module _ (p : Profile) (h : Hands) (d : Option Deck) (has : (es : List Exchange) → HasRun p es → HasRun (record p { hands = h; deck = d }) es) where
+-- a deck, and one that cuts records alike and has all its runs
+module _ (p q : Profile)
+    (cut : (records : List LineByte) (es : List Exchange) (t : List LineByte) → Cut (line_rules (counting p)) records es t → Cut (line_rules (counting q)) records es t)
+    (has : (es : List Exchange) → HasRun p es → HasRun q es) where
   pub yes_with_more : (rows : Rows) (records exchanges tail : ℕ) → IsAnswer p rows (Answer.judged (Verdict.Yes records exchanges tail))
-      → IsAnswer (record p { hands = h; deck = d }) rows (Answer.judged (Verdict.Yes records exchanges tail))
+      → IsAnswer q rows (Answer.judged (Verdict.Yes records exchanges tail))
   yes_with_more rows records exchanges tail (whole, c) = (
     whole,
     record {
       cut_exchanges = c.cut_exchanges;
       cut_tail = c.cut_tail;
-      cut = c.cut;
+      cut = cut rows.records c.cut_exchanges c.cut_tail c.cut;
       run = has c.cut_exchanges c.run;
       number = c.number;
       exchange_number = c.exchange_number;
@@ -115,10 +117,11 @@ module _ (p : Profile) (h : Hands) (d : Option Deck) (has : (es : List Exchange)
   )
 
   pub no_with_more : (rows : Rows) (at other : ℕ) (reason another : Reason) → IsAnswer p rows (Answer.judged (Verdict.No at reason))
-      → IsAnswer (record p { hands = h; deck = d }) rows (Answer.judged (Verdict.No other another)) → at ≤ other
+      → IsAnswer q rows (Answer.judged (Verdict.No other another)) → at ≤ other
   no_with_more rows at other reason another w v =
       let b = w.breaks in
-      let ok : IsOk (counting (record p { hands = h; deck = d })) w.before = record { exchanges = b.exchanges; tail = b.tail; cut = b.cut; run = has b.exchanges b.run } in
+      let ok : IsOk (counting q) w.before =
+      record { exchanges = b.exchanges; tail = b.tail; cut = cut w.before b.exchanges b.tail b.cut; run = has b.exchanges b.run } in
       omega (arith, no_longer v w.before (w.next ∷ w.after) ok w.split)
 
 -- ---- which reason a record gets: that of pairing where a rule of pairing is broken, and else that no run remains

@@ -1,7 +1,7 @@
 -- The lines of one exchange more.
 use Rattle.judge9.proofs.Words.{LineRules, records_in, [], ap, append-nil, append_assoc, append_known, Appends, Appends-trans, AreLines, arith, Cut, Ends, Exchange, KeepsEnds, Profile, IsExchange}
 use Rattle.judge9.proofs.Words.{IsExplained, IsKnowledge, IsLineOf, Knowledge, knowledge_same, length, length-append, length-map, line_of_exchange}
-use Rattle.judge9.proofs.Words.{LineByte, List, None, Option, Possible, records_of, refl, Some, subst, sym, Tracked, View, ℕ, ◌++◌, ◌+◌, ◌∙◌, ◌∷◌, ◌≡◌}
+use Rattle.judge9.proofs.Words.{Detail, LineByte, List, None, Option, Possible, records_of, refl, Some, subst, sym, Tracked, View, ℕ, ◌++◌, ◌+◌, ◌∙◌, ◌∷◌, ◌≡◌}
 
 -- ---- how many records exchanges have
 
@@ -22,24 +22,24 @@ cut_len rules p (e ∷ es) t h = omega (arith, ap length h.2, length-append h.0 
 
 -- ---- a line more
 
-lines_more : (profile : Profile) (before : List Exchange) (at : ℕ) (es : List Exchange) (e : Exchange) (k : Knowledge) (n : ℕ) (text : List ℕ)
-    → AreLines profile before at es text → IsKnowledge (Ends profile ((before ++ es) ++ e ∷ [])) k → n ≡ at + records_in (es ++ e ∷ [])
-    → AreLines profile before at (es ++ e ∷ []) (text ++ line_of_exchange profile n e k)
-lines_more profile before at [] e k n text lines knows number =
+lines_more : (detail : Detail) (profile : Profile) (before : List Exchange) (at : ℕ) (es : List Exchange) (e : Exchange) (k : Knowledge) (n : ℕ) (text : List ℕ)
+    → AreLines detail profile before at es text → IsKnowledge (Ends profile ((before ++ es) ++ e ∷ [])) k → n ≡ at + records_in (es ++ e ∷ [])
+    → AreLines detail profile before at (es ++ e ∷ []) (text ++ line_of_exchange detail profile n e k)
+lines_more detail profile before at [] e k n text lines knows number =
     let last : n ≡ at + records_of e = omega arith in
-    (k, [], rw append-nil at knows, refl, ap (λ t. t ++ line_of_exchange profile n e k) lines ∙ ap (λ m. line_of_exchange profile m e k) last ∙ sym (append-nil _))
-lines_more profile before at (f ∷ es) e k n text lines knows number =
+    (k, [], rw append-nil at knows, refl, ap (λ t. t ++ line_of_exchange detail profile n e k) lines ∙ ap (λ m. line_of_exchange detail profile m e k) last ∙ sym (append-nil _))
+lines_more detail profile before at (f ∷ es) e k n text lines knows number =
     let knows_on = subst (λ (l : List Exchange). IsKnowledge (Ends profile (l ++ e ∷ [])) k) (sym (append_assoc before (f ∷ []) es)) knows in
-    let rest = lines_more profile (before ++ f ∷ []) (at + records_of f) es e k n lines.1 lines.3 knows_on (omega arith) in
-    let line = line_of_exchange profile n e k in
+    let rest = lines_more detail profile (before ++ f ∷ []) (at + records_of f) es e k n lines.1 lines.3 knows_on (omega arith) in
+    let line = line_of_exchange detail profile n e k in
     (lines.0, lines.1 ++ line, lines.2, rest, ap (λ t. t ++ line) lines.4 ∙ append_assoc _ lines.1 line)
 
 pub explained_more : (which : View) (profile : Profile) (past : ℕ) (es : List Exchange) (e : Exchange) (n : ℕ) (text line : List ℕ) (t : Tracked)
     → KeepsEnds profile (es ++ e ∷ []) t → IsExplained which profile past es text → IsLineOf which profile n e (Possible t.states) line → n ≡ past + records_in (es ++ e ∷ [])
     → IsExplained which profile past (es ++ e ∷ []) (text ++ line)
 explained_more View.Verdict profile past es e n text line t follows is more number = ap (λ t. t ++ line) is ∙ more
-explained_more View.Explain profile past es e n text line t follows is more number =
-    rw more.2 (lines_more profile [] past es e more.0 n text is (knowledge_same (Possible t.states) (Ends profile (es ++ e ∷ [])) more.0 follows.states more.1) number)
+explained_more (View.Explain detail) profile past es e n text line t follows is more number =
+    rw more.2 (lines_more detail profile [] past es e more.0 n text is (knowledge_same (Possible t.states) (Ends profile (es ++ e ∷ [])) more.0 follows.states more.1) number)
 
 -- ---- what is written after other bytes
 

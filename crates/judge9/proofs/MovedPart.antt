@@ -9,7 +9,7 @@ use Rattle.block9.specs.declared.line_rules.ReplyLimit.{ReplyLimit}
 use Rattle.block9.specs.declared.line_rules.ReplyLimit.TheVariants.{LeftAside}
 use Rattle.capture9.specs.declared.line_byte.Wire.TheVariants.{Controller, Deck}
 use Rattle.deck9.specs.Run.{IsRunFrom}
-use Rattle.tc25.specs.declared.rate.Rate.{Rate}
+use Rattle.deck9.specs.declared.profile.Profile.{Profile}
 use Rattle.judge9.specs.InTime.{AreSameBlocks, AreSameButLate, ComeInTime, late_at}
 use Rattle.judge9.specs.Parts.Event.{exchange, late_reply}
 use Rattle.judge9.proofs.CutSteps.{cut-step}
@@ -44,7 +44,7 @@ blocks_count (e ∷ es) fs h =
 
 same_run : (profile : Profile) (s : State) (es fs : List Exchange) (ts : List State) → AreSameBlocks es fs → IsRunFrom profile s es ts → IsRunFrom profile s fs ts
 same_run profile s [] fs [] h run = rw h tt
-same_run profile s (e ∷ es) fs (t ∷ ts) h run = rw (h.2, sym h.3.command, sym h.3.reply) (run.0, same_run profile t es h.1 ts h.4 run.1)
+same_run profile s (e ∷ es) fs (t ∷ ts) h run = rw (h.2, sym h.3.command, sym h.3.block, sym h.3.reply) (run.0, same_run profile t es h.1 ts h.4 run.1)
 same_run profile s [] fs (t ∷ ts) h run = absurd run
 same_run profile s (e ∷ es) fs [] h run = absurd run
 
@@ -78,11 +78,11 @@ events_joined (exchange at es e ∷ a) b c d h k = (h.0, h.1, h.2 ++ d, ap (λ l
 
 -- ---- the records of a part
 
-module _ (rate : Rate) (to : ReplyLimit) where
+module _ (profile : Profile) (to : ReplyLimit) where
   -- how far the two are, and when their last records came
   pub record Along (p : List LineByte) (es : List Exchange) (t q : List LineByte) (fs : List Exchange) (u : List LineByte) (last before : ℕ) : Type 0 where
-    pub cut : Cut (by_limit rate LeftAside) p es t
-    pub moved : Cut (by_limit rate to) q fs u
+    pub cut : Cut (by_limit profile LeftAside) p es t
+    pub moved : Cut (by_limit profile to) q fs u
     pub exchanges : AreSameBlocks es fs
     pub tails : Alike t u
     pub times : 0 < length t → (last_time t ≡ last) × (last_time u ≡ before)
@@ -102,10 +102,10 @@ module _ (rate : Rate) (to : ReplyLimit) where
     pub byte : r.byte ≡ s.byte
     pub as_it_did : late ≡ 0 → s.time_us + last ≡ r.time_us + before
     pub at_limit : late ≢ 0 → s.time_us ≡ before + reply_limit
-    pub in_time : (BeginsLate (by_limit rate LeftAside) t r × (late ≢ 0)) ⊎ ((BeginsLate (by_limit rate LeftAside) t r → ⊥) × (late ≡ 0))
+    pub in_time : (BeginsLate (by_limit profile LeftAside) t r × (late ≢ 0)) ⊎ ((BeginsLate (by_limit profile LeftAside) t r → ⊥) × (late ≡ 0))
 
   pub near : (p : List LineByte) (es : List Exchange) (t q : List LineByte) (fs : List Exchange) (u : List LineByte) (last before late : ℕ) (r s : LineByte)
-      → Along p es t q fs u last before → Comes t r u s last before late → Near rate LeftAside t r u s
+      → Along p es t q fs u last before → Comes t r u s last before late → Near profile LeftAside t r u s
   near p es t q fs u last before late r s a c = record {
     tails = a.tails;
     wire = c.wire;
@@ -120,10 +120,10 @@ module _ (rate : Rate) (to : ReplyLimit) where
 
   -- a reply that begins with it comes in time
   pub prompt : (p : List LineByte) (es : List Exchange) (t q : List LineByte) (fs : List Exchange) (u : List LineByte) (last before late : ℕ) (r s : LineByte)
-      → Along p es t q fs u last before → Comes t r u s last before late → ((b : Block) × (c : Command) × IsCommand (by_limit rate to) u b c) → s.wire ≡ Deck
+      → Along p es t q fs u last before → Comes t r u s last before late → ((b : Block) × (c : Command) × IsCommand (by_limit profile to) u b c) → s.wire ≡ Deck
       → s.time_us ≤ last_time u + reply_limit
   prompt p es t q fs u last before late r s a c (b, k, is) deck =
-      let asked = command_moved rate to LeftAside u t b k (alike_back t u a.tails) is in
+      let asked = command_moved profile to LeftAside u t b k (alike_back t u a.tails) is in
       let some : 0 < length t = omega (arith, whole_long Controller t b asked.whole) in
       elim c.in_time [
         | inl h ↦ omega (arith, c.at_limit h.1, a.times some)
@@ -134,30 +134,30 @@ module _ (rate : Rate) (to : ReplyLimit) where
       ]
 
   pub never_late : (p : List LineByte) (es : List Exchange) (t q : List LineByte) (fs : List Exchange) (u : List LineByte) (last before late : ℕ) (r s : LineByte)
-      → Along p es t q fs u last before → Comes t r u s last before late → BeginsLate (by_limit rate to) u s → ⊥
+      → Along p es t q fs u last before → Comes t r u s last before late → BeginsLate (by_limit profile to) u s → ⊥
   never_late p es t q fs u last before late r s a c begins =
       let is_late = begins.late in omega (arith, is_late, prompt p es t q fs u last before late r s a c begins.asked begins.wire)
 
   pub soon : (p : List LineByte) (es : List Exchange) (t q : List LineByte) (fs : List Exchange) (u : List LineByte) (last before : ℕ) → Along p es t q fs u last before
-      → IsSoon (by_limit rate to) u
-  soon p es t q fs u last before a = tail_soon (by_limit rate to) u (cut_tail (by_limit rate to) q fs u a.moved)
+      → IsSoon (by_limit profile to) u
+  soon p es t q fs u last before a = tail_soon (by_limit profile to) u (cut_tail (by_limit profile to) q fs u a.moved)
 
   -- one record more
   pub step : (p : List LineByte) (es : List Exchange) (t q : List LineByte) (fs : List Exchange) (u : List LineByte) (last before late : ℕ) (r s : LineByte) (o : Outcome)
-      → Along p es t q fs u last before → Comes t r u s last before late → Does (by_limit rate LeftAside) t r o
-      → (x : Outcome) × SameOutcome o x × Does (by_limit rate to) u s x
+      → Along p es t q fs u last before → Comes t r u s last before late → Does (by_limit profile LeftAside) t r o
+      → (x : Outcome) × SameOutcome o x × Does (by_limit profile to) u s x
       × Along (p ++ r ∷ []) (exchanges_after es o) (tail_after t r o) (q ++ s ∷ []) (exchanges_after fs x) (tail_after u s x) r.time_us s.time_us
   step p es t q fs u last before late r s o a c done =
       let n = near p es t q fs u last before late r s a c in
-      let came = soon_more (by_limit rate to) u s (soon p es t q fs u last before a) (prompt p es t q fs u last before late r s a c) in
-      let m = does_moved rate LeftAside to t u r s o n came (never_late p es t q fs u last before late r s a c) done in
-      let tails = after o m.0 m.1 (near_grown rate LeftAside t u r s n) in (
+      let came = soon_more (by_limit profile to) u s (soon p es t q fs u last before a) (prompt p es t q fs u last before late r s a c) in
+      let m = does_moved profile LeftAside to t u r s o n came (never_late p es t q fs u last before late r s a c) done in
+      let tails = after o m.0 m.1 (near_grown profile LeftAside t u r s n) in (
         m.0,
         m.1,
         m.2,
         record {
-          cut = cut-step (by_limit rate LeftAside) p es t r o a.cut done;
-          moved = cut-step (by_limit rate to) q fs u s m.0 a.moved m.2;
+          cut = cut-step (by_limit profile LeftAside) p es t r o a.cut done;
+          moved = cut-step (by_limit profile to) q fs u s m.0 a.moved m.2;
           exchanges = exchanges_moved es fs o m.0 a.exchanges m.1;
           tails = tails.0;
           times = tails.1;
@@ -165,7 +165,7 @@ module _ (rate : Rate) (to : ReplyLimit) where
       )
     where
       last_of : (t : List LineByte) (r : LineByte) → last_time (t ++ r ∷ []) ≡ r.time_us
-      last_of t r = last_time-append (by_limit rate to) t (r ∷ []) (omega arith)
+      last_of t r = last_time-append (by_limit profile to) t (r ∷ []) (omega arith)
 
       grows : Alike (t ++ r ∷ []) (u ++ s ∷ []) → Alike (t ++ r ∷ []) (u ++ s ∷ []) × (0 < length (t ++ r ∷ []) → (last_time (t ++ r ∷ []) ≡ r.time_us) × (last_time (u ++ s ∷ []) ≡ s.time_us))
       grows both = (both, λ some. (last_of t r, last_of u s))
@@ -179,19 +179,19 @@ module _ (rate : Rate) (to : ReplyLimit) where
 
   -- what comes with a record that does this
   comes : (late : ℕ → ℕ) (past : ℕ) (es : List Exchange) (t : List LineByte) (r : LineByte) (u : List LineByte) (s : LineByte) (o : Outcome) (more : List Event) (last before : ℕ)
-      → Does (by_limit rate LeftAside) t r o → late (past + 1) ≡ late_at (events_by (past + 1) es t r o ++ more) (past + 1) → late_at more (past + 1) ≡ 0 → r.wire ≡ s.wire → r.byte ≡ s.byte
+      → Does (by_limit profile LeftAside) t r o → late (past + 1) ≡ late_at (events_by (past + 1) es t r o ++ more) (past + 1) → late_at more (past + 1) ≡ 0 → r.wire ≡ s.wire → r.byte ≡ s.byte
       → (late (past + 1) ≡ 0 → s.time_us + last ≡ r.time_us + before) → (late (past + 1) ≢ 0 → s.time_us ≡ before + reply_limit) → Comes t r u s last before (late (past + 1))
   comes late past es t r u s o more last before done is none wire byte as_it_did at_limit =
       let here : late (past + 1) ≡ how_late o = omega (arith, is, none, late_at_joined (events_by (past + 1) es t r o) more (past + 1), late_here (past + 1) es t r o) in
       record { wire = wire; byte = byte; as_it_did = as_it_did; at_limit = at_limit; in_time = by o done here }
     where
-      by : (o : Outcome) → Does (by_limit rate LeftAside) t r o → late (past + 1) ≡ how_late o
-          → (BeginsLate (by_limit rate LeftAside) t r × (late (past + 1) ≢ 0))
-          ⊎ ((BeginsLate (by_limit rate LeftAside) t r → ⊥) × (late (past + 1) ≡ 0))
+      by : (o : Outcome) → Does (by_limit profile LeftAside) t r o → late (past + 1) ≡ how_late o
+          → (BeginsLate (by_limit profile LeftAside) t r × (late (past + 1) ≢ 0))
+          ⊎ ((BeginsLate (by_limit profile LeftAside) t r → ⊥) × (late (past + 1) ≡ 0))
       by Outcome.answers_late done here = inl (done.1, λ none. omega (arith, here, none))
-      by Outcome.leaves_open done here = inr (not_late (by_limit rate LeftAside) t r Outcome.leaves_open done (λ e. cc), here)
-      by Outcome.asks done here = inr (not_late (by_limit rate LeftAside) t r Outcome.asks done (λ e. cc), here)
-      by (Outcome.completes e) done here = inr (not_late (by_limit rate LeftAside) t r (Outcome.completes e) done (λ e. cc), here)
+      by Outcome.leaves_open done here = inr (not_late (by_limit profile LeftAside) t r Outcome.leaves_open done (λ e. cc), here)
+      by Outcome.asks done here = inr (not_late (by_limit profile LeftAside) t r Outcome.asks done (λ e. cc), here)
+      by (Outcome.completes e) done here = inr (not_late (by_limit profile LeftAside) t r (Outcome.completes e) done (λ e. cc), here)
 
   -- at the end of the records of a part: those that they are in the second, and what comes after
   pub record Arrives (late : ℕ → ℕ) (past : ℕ) (p q : List LineByte) (fs : List Exchange) (u records after moved : List LineByte) (events : List Event) : Type 0 where
@@ -207,12 +207,12 @@ module _ (rate : Rate) (to : ReplyLimit) where
     pub before : ℕ
     pub along : Along (p ++ records) ends tail (q ++ others) ends_now tail_now last before
     pub told : List Event
-    pub are_told : AreEvents (by_limit rate to) past fs u others told
+    pub are_told : AreEvents (by_limit profile to) past fs u others told
     pub same : AreSameButLate events told
     pub behind : ComeInTime late (past + length records) last before after rest
 
   pub arrive : (late : ℕ → ℕ) (past : ℕ) (p : List LineByte) (es : List Exchange) (t q : List LineByte) (fs : List Exchange) (u : List LineByte) (last before : ℕ)
-      (records after moved : List LineByte) (events : List Event) → Along p es t q fs u last before → AreEvents (by_limit rate LeftAside) past es t records events
+      (records after moved : List LineByte) (events : List Event) → Along p es t q fs u last before → AreEvents (by_limit profile LeftAside) past es t records events
       → ((n : ℕ) → past < n → n ≤ past + length records → late n ≡ late_at events n) → ComeInTime late past last before (records ++ after) moved
       → Arrives late past p q fs u records after moved events
   arrive late past p es t q fs u last before [] after moved events a are is come = record {
@@ -233,7 +233,7 @@ module _ (rate : Rate) (to : ReplyLimit) where
     behind = subst (λ k. ComeInTime late k last before after moved) (omega arith) come;
   }
   arrive late past p es t q fs u last before (r ∷ records) after moved events a (o, more, done, are, told) is come =
-      let none = none_outside (by_limit rate LeftAside) (past + 1) (exchanges_after es o) (tail_after t r o) records more (past + 1) are (inl (omega arith)) in
+      let none = none_outside (by_limit profile LeftAside) (past + 1) (exchanges_after es o) (tail_after t r o) records more (past + 1) are (inl (omega arith)) in
       let at_first = is (past + 1) (omega arith) (omega arith) ∙ ap (λ l. late_at l (past + 1)) told in
       let first = comes late past es t r u come.0 o more last before done at_first none come.3 come.4 come.5 come.6 in
       let m = step p es t q fs u last before (late (past + 1)) r come.0 o a first done in

@@ -151,14 +151,14 @@ module _ (profile : Profile) where
     same : IsSamePart part other
     last : ℕ
     before : ℕ
-    along : Along profile.rate LeftAside part.records part.exchanges part.tail other.records other.exchanges other.tail last before
+    along : Along profile LeftAside part.records part.exchanges part.tail other.records other.exchanges other.tail last before
     behind : ComeInTime late (part.past + length part.records) last before after rest
 
   part_moved : (late : ℕ → ℕ) (last before : ℕ) (part : Part) (after moved : List LineByte) → IsPart profile part
       → ((n : ℕ) → part.past < n → n ≤ part.past + length part.records → late n ≡ late_at part.events n) → ComeInTime late part.past last before (part.records ++ after) moved
       → PartMoved late part after moved
   part_moved late last before part after moved is agrees come =
-      let m = arrive profile.rate LeftAside late part.past [] [] [] [] [] [] last before part.records after moved part.events (at_start profile.rate LeftAside last before) is.are_events agrees come in
+      let m = arrive profile LeftAside late part.past [] [] [] [] [] [] last before part.records after moved part.events (at_start profile LeftAside last before) is.are_events agrees come in
       let own = cut_once (line_rules (in_parts profile)) part.records m.ends part.exchanges m.tail part.tail m.along.cut is.cut in
       let along = rw (own.0, own.1) at m.along in
       record {
@@ -187,7 +187,7 @@ module _ (profile : Profile) where
   -- whether the record that breaks begins a late reply
   comes_at : (late : ℕ → ℕ) (b : BrokenPart) (u : List LineByte) (s : LineByte) (last before : ℕ) → TellsLate (line_rules (in_parts profile)) b.part.tail b.breaking b.late
       → late (number_of b) ≡ late_in_break b (number_of b) → b.breaking.wire ≡ s.wire → b.breaking.byte ≡ s.byte → (late (number_of b) ≡ 0 → s.time_us + last ≡ b.breaking.time_us + before)
-      → (late (number_of b) ≢ 0 → s.time_us ≡ before + reply_limit) → Comes profile.rate LeftAside b.part.tail b.breaking u s last before (late (number_of b))
+      → (late (number_of b) ≢ 0 → s.time_us ≡ before + reply_limit) → Comes profile LeftAside b.part.tail b.breaking u s last before (late (number_of b))
   comes_at late b u s last before tells is wire byte as_it_did at_limit = record { wire = wire; byte = byte; as_it_did = as_it_did; at_limit = at_limit; in_time = by b.late tells is }
     where
       by : (l : Bool) → TellsLate (line_rules (in_parts profile)) b.part.tail b.breaking l
@@ -251,7 +251,7 @@ module _ (profile : Profile) where
           rest_is moved m.other s m.behind.1 (sym place ∙ past ∙ m.same.past) (m.split ∙ ap (λ l. m.other.records ++ l) m.behind.2),
           m.is_part,
           break_moved profile LeftAside b.part.records b.part.exchanges b.part.tail m.other.records m.other.exchanges m.other.tail m.last m.before (late (number_of b)) b.breaking s b.reason m.along c breaks,
-          never_late profile.rate LeftAside b.part.records b.part.exchanges b.part.tail m.other.records m.other.exchanges m.other.tail m.last m.before (late (number_of b)) b.breaking s m.along c,
+          never_late profile LeftAside b.part.records b.part.exchanges b.part.tail m.other.records m.other.exchanges m.other.tail m.last m.before (late (number_of b)) b.breaking s m.along c,
           subst (λ k. AreParts profile (rest_after k b.reason s m.behind.1) on.others on.behind) at on.parts,
         );
         is_last = on.is_last;

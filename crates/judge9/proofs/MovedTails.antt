@@ -8,26 +8,27 @@ use Rattle.block9.specs.Line.{first_time, IsLinked, reply_limit}
 use Rattle.block9.specs.declared.line_rules.ReplyLimit.{ReplyLimit}
 use Rattle.block9.specs.declared.line_rules.ReplyLimit.TheVariants.{Counts, LeftAside}
 use Rattle.capture9.specs.declared.line_byte.Wire.TheVariants.{Controller, Deck}
-use Rattle.tc25.specs.declared.rate.Rate.{Rate}
+use Rattle.deck9.specs.declared.profile.Profile.{Profile}
 use Rattle.judge9.specs.InTime.{SameBlocks}
+use Rattle.judge9.specs.Verdict.{line_rules, terms_of}
 use Rattle.judge9.proofs.MovedRecords.{Alike, alike_len, begun_moved, halves, linked_moved, whole_moved}
 
--- what the records of a line are judged by at a rate
-abbrev pub by_limit : Rate → ReplyLimit → LineRules
-by_limit rate limit = record { rate = rate; reply_limit = limit }
+-- what the records of a line are judged by, for a deck of a profile
+abbrev pub by_limit : Profile → ReplyLimit → LineRules
+by_limit profile limit = line_rules (terms_of limit profile)
 
 -- where the reply limit counts, a reply that is begun came in time
 abbrev pub IsSoon : LineRules → List LineByte → Type 0
 IsSoon rules t = (command reply : List LineByte) (b : Block) (c : Command) → t ≡ command ++ reply → IsCommand rules command b c → IsLinked Deck reply
     → 0 < length reply → rules.reply_limit ≡ Counts → first_time reply ≤ last_time command + reply_limit
 
-pub aside_soon : (rate : Rate) (t : List LineByte) → IsSoon (by_limit rate LeftAside) t
-aside_soon rate t command reply b c split is linked some counts = absurd (cc counts)
+pub aside_soon : (profile : Profile) (t : List LineByte) → IsSoon (by_limit profile LeftAside) t
+aside_soon profile t command reply b c split is linked some counts = absurd (cc counts)
 
 -- ---- from one limit to another
 
-module _ (rate : Rate) (from to : ReplyLimit) where
-  pub command_moved : (a b : List LineByte) (k : Block) (c : Command) → Alike a b → IsCommand (by_limit rate from) a k c → IsCommand (by_limit rate to) b k c
+module _ (profile : Profile) (from to : ReplyLimit) where
+  pub command_moved : (a b : List LineByte) (k : Block) (c : Command) → Alike a b → IsCommand (by_limit profile from) a k c → IsCommand (by_limit profile to) b k c
   command_moved a b k c h is = record { whole = whole_moved Controller a b k h is.whole; meaning = is.meaning }
 
   -- a command, and what comes after it
@@ -37,11 +38,11 @@ module _ (rate : Rate) (from to : ReplyLimit) where
     pub split : u ≡ asked ++ answered
     pub commands : Alike command asked
     pub replies : Alike reply answered
-    pub is_command : IsCommand (by_limit rate to) asked k c
-    pub in_time : IsInTime (by_limit rate to) asked answered
+    pub is_command : IsCommand (by_limit profile to) asked k c
+    pub in_time : IsInTime (by_limit profile to) asked answered
 
-  pub answer_moved : (t command reply u : List LineByte) (k : Block) (c : Command) → t ≡ command ++ reply → Alike t u → IsSoon (by_limit rate to) u
-      → IsCommand (by_limit rate from) command k c → IsLinked Deck reply → 0 < length reply → IsInTime (by_limit rate from) command reply → Answer command reply u k c
+  pub answer_moved : (t command reply u : List LineByte) (k : Block) (c : Command) → t ≡ command ++ reply → Alike t u → IsSoon (by_limit profile to) u
+      → IsCommand (by_limit profile from) command k c → IsLinked Deck reply → 0 < length reply → IsInTime (by_limit profile from) command reply → Answer command reply u k c
   answer_moved t command reply u k c split h soon is linked some in_time =
       let m = halves command reply u (rw split at h) in
       let command_is = command_moved command m.front k c m.fronts is in
@@ -59,7 +60,7 @@ module _ (rate : Rate) (from to : ReplyLimit) where
         };
       }
 
-  pub tail_moved : (t u : List LineByte) → Alike t u → IsSoon (by_limit rate to) u → IsTail (by_limit rate from) t → IsTail (by_limit rate to) u
+  pub tail_moved : (t u : List LineByte) → Alike t u → IsSoon (by_limit profile to) u → IsTail (by_limit profile from) t → IsTail (by_limit profile to) u
   tail_moved t [] h soon (IsTail.nothing e) = IsTail.nothing refl
   tail_moved t (s ∷ u) h soon (IsTail.nothing e) = absurd (rw e at h)
   tail_moved t u h soon (IsTail.in_command is) = IsTail.in_command (begun_moved Controller t u h is)
@@ -68,8 +69,8 @@ module _ (rate : Rate) (from to : ReplyLimit) where
       let m = answer_moved t command reply u k c e h soon hc hd.linked hd.begun in_time in
       IsTail.in_reply m.asked m.answered k c m.split m.is_command (begun_moved Deck reply m.answered m.replies hd) m.in_time
 
-  pub exchange_moved : (t u : List LineByte) (e : Exchange) → Alike t u → IsSoon (by_limit rate to) u → IsExchange (by_limit rate from) t e
-      → (f : Exchange) × SameBlocks e f × IsExchange (by_limit rate to) u f
+  pub exchange_moved : (t u : List LineByte) (e : Exchange) → Alike t u → IsSoon (by_limit profile to) u → IsExchange (by_limit profile from) t e
+      → (f : Exchange) × SameBlocks e f × IsExchange (by_limit profile to) u f
   exchange_moved t u e h soon is =
       let long = whole_long Deck is.answered e.reply is.reply in
       let m = answer_moved t is.asked is.answered u e.block e.command is.split h soon is.command is.reply.linked (omega arith) is.in_time in

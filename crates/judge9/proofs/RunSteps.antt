@@ -1,5 +1,5 @@
 -- Runs of the deck, and the states that a tracker keeps, from one exchange to the next.
-use Rattle.judge9.proofs.Words.{[], AreReached, ends_more, ends_none, Exchange, Exchanges, Profile, HasRun, KeepsEnds, List, Possible, some_end, State, Tracked}
+use Rattle.judge9.proofs.Words.{[], AreReached, ends_more, ends_none, Exchange, Goes, Profile, HasRun, KeepsEnds, List, Possible, some_end, State, Tracked}
 use Rattle.judge9.proofs.Words.{◌++◌, ◌↔◌, ◌∙◌, ◌∷◌, ◌≡◌}
 use Rattle.deck9.specs.State.{IsFirst}
 
@@ -18,7 +18,7 @@ pub follows-start : (profile : Profile) (t : Tracked) → ((s : State) → Possi
 follows-start profile t states same = record { states = λ s. (λ p. (ends_none profile s).1 ((states s).0 p), λ e. (states s).1 ((ends_none profile s).0 e)); profile = same }
 
 pub follows-more : (profile : Profile) (es : List Exchange) (e : Exchange) (old new : Tracked) → KeepsEnds profile es old
-    → AreReached (Possible old.states) (Exchanges old.profile e.command e.reply) (Possible new.states) → new.profile ≡ old.profile → KeepsEnds profile (es ++ e ∷ []) new
+    → AreReached (Possible old.states) (Goes old.profile e) (Possible new.states) → new.profile ≡ old.profile → KeepsEnds profile (es ++ e ∷ []) new
 follows-more profile es e old new f reached kept =
     let same = rw f.profile at reached in record {
       states = λ t. (

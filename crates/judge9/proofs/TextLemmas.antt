@@ -3,7 +3,7 @@ use Rattle.judge9.proofs.Words.{line_rules, counting, LineRules, [], Answer, ans
 use Rattle.judge9.proofs.Words.{first_part, Profile, HasRun, IfSome, inl, inr, IsAnswer, IsExplained, IsOk, IsTail, IsText, IsTheAnswer, IsVerdictAfter, JudgeError}
 use Rattle.judge9.proofs.Words.{known_of_ends, last_line, length, length-append, line_of, line_of_exchange, LineByte, List, nil_from_length, Ok, Option, records_of, refl, Result}
 use Rattle.judge9.proofs.Words.{Rows, Some, subst, sym, take-length, Told, Verdict, View, Written, ℕ, ◌++◌, ◌+◌, ◌∙◌, ◌∷◌, ◌≡◌}
-use Rattle.judge9.proofs.Words.{Beginning, IsAnswerFrom, judged_from, judged_rows, moved_by, passed_before, Rest, ⊤, ◌≤◌, ◌⊎◌}
+use Rattle.judge9.proofs.Words.{Beginning, Detail, IsAnswerFrom, judged_from, judged_rows, moved_by, passed_before, Rest, ⊤, ◌≤◌, ◌⊎◌}
 use Rattle.judge9.proofs.PartSteps.{AreJudged, ArePassed, judged_more}
 use Rattle.judge9.proofs.RunSteps.{run_less}
 use Rattle.judge9.proofs.LawLemmas.{answer_ok, answer_once, cut_tail, first_of, no_longer, shorter, taken}
@@ -14,16 +14,16 @@ no_more rules t q es u tail cut none = (cut_once rules t es [] u t (rw (none, ap
 
 -- ---- the first lines
 
-lines_start : (profile : Profile) (before : List Exchange) (at : ℕ) (es more : List Exchange) (text whole : List ℕ) → HasRun profile (before ++ (es ++ more))
-    → AreLines profile before at es text → AreLines profile before at (es ++ more) whole → (rest : List ℕ) × (whole ≡ text ++ rest) × (more ≡ [] → rest ≡ [])
-lines_start profile before at [] more text whole run a b = (whole, ap (λ t. t ++ whole) (sym a), λ none. rw none at b)
-lines_start profile before at (e ∷ es) more text whole run a b =
+lines_start : (detail : Detail) (profile : Profile) (before : List Exchange) (at : ℕ) (es more : List Exchange) (text whole : List ℕ) → HasRun profile (before ++ (es ++ more))
+    → AreLines detail profile before at es text → AreLines detail profile before at (es ++ more) whole → (rest : List ℕ) × (whole ≡ text ++ rest) × (more ≡ [] → rest ≡ [])
+lines_start detail profile before at [] more text whole run a b = (whole, ap (λ t. t ++ whole) (sym a), λ none. rw none at b)
+lines_start detail profile before at (e ∷ es) more text whole run a b =
     let onward : HasRun profile ((before ++ e ∷ []) ++ (es ++ more)) = subst (HasRun profile) (sym (append_assoc before (e ∷ []) (es ++ more))) run in
     let same = known_of_ends profile (before ++ e ∷ []) b.0 a.0 (first_of (HasRun profile) (run_less profile) (es ++ more) (before ++ e ∷ []) onward) b.2 a.2 in
-    let next = lines_start profile (before ++ e ∷ []) (at + records_of e) es more a.1 b.1 onward a.3 b.3 in
-    let line = line_of_exchange profile (at + records_of e) e a.0 in (
+    let next = lines_start detail profile (before ++ e ∷ []) (at + records_of e) es more a.1 b.1 onward a.3 b.3 in
+    let line = line_of_exchange detail profile (at + records_of e) e a.0 in (
       next.0,
-      b.4 ∙ ap (λ k. line_of_exchange profile (at + records_of e) e k ++ b.1) same ∙ ap (λ t. line ++ t) next.1 ∙ sym (append_assoc line a.1 next.0)
+      b.4 ∙ ap (λ k. line_of_exchange detail profile (at + records_of e) e k ++ b.1) same ∙ ap (λ t. line ++ t) next.1 ∙ sym (append_assoc line a.1 next.0)
           ∙ ap (λ t. t ++ next.0) (sym a.4),
       next.2,
     )
@@ -31,7 +31,7 @@ lines_start profile before at (e ∷ es) more text whole run a b =
 explained_start : (which : View) (profile : Profile) (past : ℕ) (es more : List Exchange) (text whole : List ℕ) → HasRun profile (es ++ more)
     → IsExplained which profile past es text → IsExplained which profile past (es ++ more) whole → (rest : List ℕ) × (whole ≡ text ++ rest) × (more ≡ [] → rest ≡ [])
 explained_start View.Verdict profile past es more text whole run a b = ([], b ∙ sym a ∙ sym (append-nil text), λ _. refl)
-explained_start View.Explain profile past es more text whole run a b = lines_start profile [] past es more text whole run a b
+explained_start (View.Explain detail) profile past es more text whole run a b = lines_start detail profile [] past es more text whole run a b
 
 -- ---- the records that were judged are the first of those that the report explains
 
@@ -77,7 +77,7 @@ record AreExplained (which : View) (profile : Profile) (past : ℕ) (rows : Rows
 
 none_explained : (which : View) (profile : Profile) (past other : ℕ) (text : List ℕ) → IsExplained which profile past [] text → IsExplained which profile other [] text
 none_explained View.Verdict profile past other text is = is
-none_explained View.Explain profile past other text is = is
+none_explained (View.Explain detail) profile past other text is = is
 
 none_cut : (rules : LineRules) (records : List LineByte) (es : List Exchange) (t : List LineByte) → records ≡ [] → Cut rules records es t → es ≡ []
 none_cut rules records es t none cut = (cut_once rules [] es [] t [] (rw none at cut) (refl, IsTail.nothing refl)).0

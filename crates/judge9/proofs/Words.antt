@@ -44,7 +44,7 @@ pub use Rattle.judge9.specs.Report.{AreLines, explained_of, IsExplained, IsText,
 pub use Rattle.judge9.specs.Verdict.{Applies, AreCounts, Breaks, CanBeVerdict, counting, IsFirstBreak, IsOk, line_rules, Terms}
 pub use Rattle.why9.specs.Shown.{CouldShow}
 pub use Rattle.judge9.specs.Working.{[], All, Appends, AppendsPart, AreReached, Bool, BreaksAtLast, Break, CanBeResult, CaptureError, CaptureKind, Cut, Ends, Err, Exchange, Follower}
-pub use Rattle.judge9.specs.Working.{Exchanges, Explains, false, GivesEnd, GivesRecord, GivesRefusal, Profile, IfErr, IfOk, IfSome, IsBreakAfter, IsKnowledge, IsLineOf, IsSame}
+pub use Rattle.judge9.specs.Working.{Explains, Goes, false, GivesEnd, GivesRecord, GivesRefusal, Profile, IfErr, IfOk, IfSome, IsBreakAfter, IsKnowledge, IsLineOf, IsSame}
 pub use Rattle.judge9.specs.Working.{JudgeError, Judges, Judging, Knowledge, last_state, length, line_of_exchange, LineByte, List, None, Ok, Option, Possible, Puts, Reason}
 pub use Rattle.judge9.specs.Working.{Refuses, refusal_of, Result, reverse, Rows, slice_get, Some, Standing, State, Outcome, RunVerdict, StoppedBefore, suc, take, Takes, Told, Tracked, true}
 pub use Rattle.judge9.specs.Working.{HasItsRun, HasItsWhy, IsTrue, judged_of, Turn, Verdict, verdict_at, WhyVerdict, View, zero, ℕ, ⊤}
@@ -86,3 +86,4 @@ pub use Rattle.deck9.specs.declared.mode_set.ModeSet.{ModeSet}
 pub use Rattle.verdict9.specs.Error.{refusal_by}
 pub use Rattle.block9.specs.Exchange.{records_in, records_of}
 pub use Rattle.verdict9.specs.Lines.{line_of}
+pub use Rattle.text9.specs.declared.detail.Detail.{Detail}

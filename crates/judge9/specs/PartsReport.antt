@@ -52,8 +52,8 @@ SaysLate rules at asked r _ = ⊥
 abbrev pub IsEventText : Telling → Terms → Event → List ℕ → Type 0
 IsEventText (Shown view) terms (late_reply at asked r) text = text ≡ line_of (No at LateReply)
 IsEventText Why terms (late_reply at asked r) text = (why : WhyVerdict) × SaysLate (line_rules terms) at asked r why × (text ≡ text_of_why terms.profile why)
-IsEventText (Shown Explain) terms (exchange at before e) text =
-    (known : Knowledge) × IsKnowledge (Ends terms.profile (before ++ e ∷ [])) known × (text ≡ line_of_exchange terms.profile at e known)
+IsEventText (Shown (Explain detail)) terms (exchange at before e) text =
+    (known : Knowledge) × IsKnowledge (Ends terms.profile (before ++ e ∷ [])) known × (text ≡ line_of_exchange detail terms.profile at e known)
 IsEventText _ terms (exchange at before e) text = text ≡ []
 
 -- what is written at the break of a part: its line, or why the part breaks, as of a capture that ends with the record that breaks,

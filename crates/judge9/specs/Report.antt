@@ -22,6 +22,7 @@ use Rattle.verdict9.specs.declared.verdict.Verdict.{Verdict}
 use Rattle.verdict9.specs.declared.verdict.Verdict.TheVariants.{Yes, No}
 use Rattle.verdict9.specs.declared.verdict.View.{View}
 use Rattle.verdict9.specs.declared.verdict.View.TheVariants as view
+use Rattle.text9.specs.declared.detail.Detail.{Detail}
 use Rattle.text9.specs.Explanation.{line_of_exchange}
 use Rattle.text9.specs.Writing.{AppendsPart}
 use Rattle.verdict9.specs.declared.verdict.Beginning.{Beginning}
@@ -30,19 +31,19 @@ use Rattle.judge9.specs.Judging.{Answer, IsAnswerFrom, IsTheAnswer, answer_of, m
 use Rattle.judge9.specs.Judging.Answer.{judged, unreadable}
 use Rattle.judge9.specs.Verdict.{counting, line_rules}
 
--- the lines of exchanges: `before` are those that come before them, and end with the record of this number; each
+-- the lines of exchanges, each told so: `before` are those that come before them, and end with the record of this number; each
 -- line names the exchange's last record, and shows what is known of all states that the runs up to it end in
-abbrev pub AreLines : Profile → List Exchange → ℕ → List Exchange → List ℕ → Type 0
-AreLines profile before at [] text = text ≡ []
-AreLines profile before at (e ∷ es) text =
+abbrev pub AreLines : Detail → Profile → List Exchange → ℕ → List Exchange → List ℕ → Type 0
+AreLines detail profile before at [] text = text ≡ []
+AreLines detail profile before at (e ∷ es) text =
     (known : Knowledge) × (rest : List ℕ) × IsKnowledge (Ends profile (before ++ e ∷ [])) known
-    × AreLines profile (before ++ e ∷ []) (at + records_of e) es rest
-    × (text ≡ line_of_exchange profile (at + records_of e) e known ++ rest)
+    × AreLines detail profile (before ++ e ∷ []) (at + records_of e) es rest
+    × (text ≡ line_of_exchange detail profile (at + records_of e) e known ++ rest)
 
 -- what a view shows of exchanges, before the verdict; so many records of the capture come before them
 abbrev pub IsExplained : View → Profile → ℕ → List Exchange → List ℕ → Type 0
 IsExplained view.Verdict profile past exchanges text = text ≡ []
-IsExplained view.Explain profile past exchanges text = AreLines profile [] past exchanges text
+IsExplained (view.Explain detail) profile past exchanges text = AreLines detail profile [] past exchanges text
 
 -- the records whose exchanges a report explains: those before the break, and all where there is none
 abbrev pub explained_of : Rows → Answer → List LineByte

@@ -11,6 +11,7 @@ use Rattle.block9.specs.declared.reason.Reason.TheVariants.{NoRun}
 use Rattle.block9.specs.Exchange.{Cut, IsExchange}
 use Rattle.block9.specs.Reason.{Holds, IsFirst, order}
 use Rattle.deck9.specs.declared.profile.Profile.{Profile}
+use Rattle.deck9.specs.Deck.{replies_of}
 use Rattle.deck9.specs.Run.{HasRun}
 use Rattle.verdict9.specs.declared.verdict.Verdict.{Verdict}
 use Rattle.verdict9.specs.declared.verdict.Verdict.TheVariants.{Yes, No}
@@ -29,7 +30,7 @@ counting profile = terms_of Counts profile
 
 -- what its records are judged by on the line
 abbrev pub line_rules : Terms → LineRules
-line_rules terms = record { rate = terms.profile.rate; reply_limit = terms.reply_limit }
+line_rules terms = record { rate = terms.profile.rate; reply_limit = terms.reply_limit; replies = replies_of terms.profile.deck }
 
 -- the records keep the rules: those of blocks, pairing and timing, by which they can be cut into exchanges and a
 -- tail; and some run of the deck gives exactly the replies of these exchanges

@@ -18,7 +18,7 @@ pub use Rattle.capture9.specs.declared.line_byte.LineByte.{LineByte}
 pub use Rattle.capture9.specs.declared.records.Standing.TheVariants.{the_data as Standing}
 pub use Rattle.deck9.specs.Run.{Ends, IsRunFrom, last_state}
 pub use Rattle.deck9.specs.State.{IsFirst}
-pub use Rattle.deck9.specs.Step.{AreReached, Exchanges}
+pub use Rattle.deck9.specs.Step.{AreReached, Goes}
 pub use Rattle.deck9.specs.declared.profile.Profile.{Profile}
 pub use Rattle.deck9.specs.declared.state.State.{State}
 pub use Rattle.judge9.specs.Judging.{CanBeResult, StoppedBefore}
@@ -66,7 +66,7 @@ IsSame v (Err e) = ⊤
 -- what a view shows of one exchange after which the deck can be in these states
 abbrev pub IsLineOf : View → Profile → ℕ → Exchange → (State → Type 0) → List ℕ → Type 0
 IsLineOf View.Verdict profile at e states line = line ≡ []
-IsLineOf View.Explain profile at e states line = (known : Knowledge) × IsKnowledge states known × (line ≡ line_of_exchange profile at e known)
+IsLineOf (View.Explain detail) profile at e states line = (known : Knowledge) × IsKnowledge states known × (line ≡ line_of_exchange detail profile at e known)
 
 -- the result of writing what a view shows of one exchange
 pub record Explains (which : View) (profile : Profile) (at : ℕ) (e : Exchange) (states : State → Type 0) (result : Result Unit JudgeError)

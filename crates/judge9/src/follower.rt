@@ -8,7 +8,7 @@ ghost use Rattle.judge9.specs.Working.Turns.{IsObserved, KnowsNothing, Took};
 use crate::turn::{Break, Turn};
 use block9::{Exchange, LineRules, Pairer, Reason, ReplyLimit, Step};
 use capture9::LineByte;
-use deck9::Profile;
+use deck9::{Deck, Profile};
 use sets25::SpanSet;
 use std::alloc::{AllocError, Global};
 use std::mem::replace;
@@ -18,18 +18,19 @@ use track9::Tracker;
 #[derive(Drop)]
 pub(crate) struct Follower<'a> {
     /// The records that are open, and the exchange that the last one completed.
-    pub(crate) pairer: Pairer,
+    pub(crate) pairer: Pairer<'a>,
     /// The states that the deck could be in.
     pub(crate) tracker: Tracker<'a, SpanSet>,
 }
 
 /// What the records of a line are judged by.
-fn line_rules(reply_limit: ReplyLimit, profile: &Profile) -> LineRules
-    ensures { result ≡ line_rules (terms_of reply_limit profile.now) }
+fn line_rules<'a>(reply_limit: ReplyLimit, profile: &'a Profile) -> LineRules<'a>
+    ensures { result ≡ line_rules (terms_of reply_limit profile.entry.now) }
 {
     LineRules {
         rate: profile.rate,
         reply_limit,
+        replies: Deck::replies(profile.deck.as_ref()),
     }
 }
 
@@ -76,7 +77,7 @@ impl<'a> Follower<'a> {
         ensures observed { (e : AnExchange) → self.old.pairer.exchange ≡ Some e → IsObserved self.old.tracker e last result self.new.tracker }
     {
         let exchange = self.pairer.completed_exchange();
-        if self.tracker.observe(&exchange.command, &exchange.reply)? {
+        if self.tracker.take(exchange)? {
             return Ok(Some(Turn::Exchange));
         }
         let reason = Reason::NoRun;

@@ -25,6 +25,7 @@ pub use at_25::{judge, judge_parts, judge_with_contradiction, judge_with_run};
 pub use deck9::{is_run, is_run_of};
 pub use parts_judging::judge_parts_for;
 pub use run_judging::judge_with_run_for;
+pub use text9::Detail;
 pub use verdict_judging::judge_for;
 pub use verdict9::{Beginning, JudgeError, RunVerdict, Telling, Totals, Verdict, View, WhyVerdict};
 pub use why_judging::judge_with_contradiction_for;

@@ -26,7 +26,7 @@ use report9::put_why_for;
 use sets25::SpanSet;
 use std::alloc::{AllocError, Global};
 use std::io::{Read, Write};
-use text9::{put_exchange_line_for, write_all};
+use text9::{Detail, put_exchange_line_for, write_all};
 use track9::Tracker;
 use verdict9::{Beginning, JudgeError, Telling, Verdict, View, put_verdict_line};
 
@@ -178,7 +178,7 @@ fn tell<R: Read + Drop, W: Write>(
     log.count(judging.follower.exchange());
     match log.telling {
         Telling::Shown(View::Verdict) => Ok(()),
-        Telling::Shown(View::Explain) => write_line(line, writer, profile, judging),
+        Telling::Shown(View::Explain(detail)) => write_line(line, writer, detail, profile, judging),
         Telling::Why => Ok(log.keep(judging)?),
     }
 }
@@ -226,22 +226,23 @@ pub(crate) fn put_late<R: Read + Drop>(
     }
 }
 
-/// Writes the line of the exchange that the judging came to last.
+/// Writes the line of the exchange that the judging came to last, told so.
 fn write_line<R: Read + Drop, W: Write>(
     line: &mut Vec<u8>,
     writer: &mut W,
+    detail: Detail,
     profile: &Profile,
     judging: &Judging<R>,
 ) -> Result<(), JudgeError>
     requires { IsAtExchange judging.now }
     ensures { (e : AnExchange) → judging.now.follower.pairer.exchange ≡ Some e
-        → Explains AView.Explain profile.now judging.now.rows.given e (Possible judging.now.follower.tracker.states) result (W.contents writer.old) (W.contents writer.new) }
+        → Explains (AView.Explain detail) profile.now judging.now.rows.given e (Possible judging.now.follower.tracker.states) result (W.contents writer.old) (W.contents writer.new) }
 {
     let number = judging.rows.given();
     let exchange = judging.follower.exchange();
     let knowledge = judging.follower.tracker.knowledge();
     line.clear();
-    put_exchange_line_for(line, profile, number, exchange, &knowledge)?;
+    put_exchange_line_for(line, detail, profile, number, exchange, &knowledge)?;
     write_all(writer, line.as_slice())?;
     Ok(())
 }

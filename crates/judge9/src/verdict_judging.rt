@@ -25,7 +25,7 @@ use verdict9::{Beginning, JudgeError, Telling, Verdict, View, put_verdict_line};
 /// Judges the capture that the reader gives, and writes the report that the view asks for.
 ///
 /// It reads row by row, up to the end, the first bad row or the first record that breaks a rule, and keeps no
-/// list of records. With `View::Explain` each exchange has a line, written in one piece once the exchange is complete; the
+/// list of records. With `View::Explain(_)` each exchange has a line, written in one piece once the exchange is complete; the
 /// line of the verdict is written last. The writer is not flushed.
 ///
 /// With `Beginning::FirstCommand` judging begins at the first record that may begin a command: one on the controller's wire that

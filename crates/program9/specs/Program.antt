@@ -19,6 +19,8 @@ use Rattle.verdict9.specs.declared.verdict.Verdict.{Verdict}
 use Rattle.verdict9.specs.declared.verdict.Telling.{Telling}
 use Rattle.verdict9.specs.declared.verdict.Telling.TheVariants as telling
 use Rattle.verdict9.specs.declared.verdict.View.TheVariants as view
+use Rattle.text9.specs.declared.detail.Detail.{Detail}
+use Rattle.text9.specs.declared.detail.Detail.TheVariants.{Bytes, Names}
 use Rattle.judge9.specs.Judging.{CanBeResult, IsTheAnswer, StoppedBefore, answer_of}
 use Rattle.judge9.specs.PartsReport.{ToldInParts}
 use Rattle.judge9.specs.Report.{Told}
@@ -37,32 +39,32 @@ use Rattle.program9.specs.Outcome.{outcome_in_parts, outcome_of, without_write_f
 use Rattle.program9.specs.Sheet.{FindsDeck}
 use Rattle.program9.specs.Version.{TellsVersion}
 
--- what a judging with this verb tells: `check` the verdict, `explain` each exchange before it, `run` a run of the deck,
--- `why` the replies that contradict one another
-abbrev pub TellsFor : Verb → Beginning → Profile → Option Rows → Option (List ℕ) → Result Verdict JudgeError → Option (List ℕ) → Type 0
-TellsFor verb.Check beginning profile known old judged all = Told view.Verdict beginning profile known judged old all
-TellsFor verb.Explain beginning profile known old judged all = Told view.Explain beginning profile known judged old all
-TellsFor verb.Run beginning profile known old judged all = TellsRun beginning profile known old judged all
-TellsFor verb.Why beginning profile known old judged all = TellsWhy beginning profile known old judged all
+-- what a judging with this verb tells: `check` the verdict, `explain` each exchange before it, in this detail, `run` a run of the
+-- deck, `why` the replies that contradict one another
+abbrev pub TellsFor : Verb → Detail → Beginning → Profile → Option Rows → Option (List ℕ) → Result Verdict JudgeError → Option (List ℕ) → Type 0
+TellsFor verb.Check detail beginning profile known old judged all = Told view.Verdict beginning profile known judged old all
+TellsFor verb.Explain detail beginning profile known old judged all = Told (view.Explain detail) beginning profile known judged old all
+TellsFor verb.Run detail beginning profile known old judged all = TellsRun beginning profile known old judged all
+TellsFor verb.Why detail beginning profile known old judged all = TellsWhy beginning profile known old judged all
 
 -- a capture, whose text is given where it is known, was judged with this verb, from this beginning on, for a deck that is taken
 -- for this: the result, and what the writer holds before and after
-pub record IsJudgedFor (verb : Verb) (beginning : Beginning) (profile : Profile) (capture : Option (List ℕ)) (old : Option (List ℕ)) (result : Result Verdict JudgeError)
+pub record IsJudgedFor (verb : Verb) (detail : Detail) (beginning : Beginning) (profile : Profile) (capture : Option (List ℕ)) (old : Option (List ℕ)) (result : Result Verdict JudgeError)
     (now : Option (List ℕ)) : Type 0 where
   pub answer : IfSome capture (λ text. IfSome (answer_of result) (IsTheAnswer beginning profile (rows_of text)))
-  pub told : EndsAs (TellsFor verb beginning profile (option_map rows_of capture) old) result now
+  pub told : EndsAs (TellsFor verb detail beginning profile (option_map rows_of capture) old) result now
   pub stopped : IfSome capture (λ text. IfErr result (StoppedBefore beginning profile (rows_of text)))
   pub kind : (e : CaptureError) → result ≡ Err (error.Capture e) → e.kind ≢ kind.OutOfMemory
   pub can_be : CanBeResult result
 
 -- what is told of each part where the judging goes on after a break, and judges the whole capture: with these verbs, where the
 -- words say `--all`
-abbrev pub told_of_parts : Verb → Bool → Option Telling
-told_of_parts verb.Check true = Some (telling.Shown view.Verdict)
-told_of_parts verb.Explain true = Some (telling.Shown view.Explain)
-told_of_parts verb.Why true = Some telling.Why
-told_of_parts verb.Run true = None
-told_of_parts verb false = None
+abbrev pub told_of_parts : Verb → Detail → Bool → Option Telling
+told_of_parts verb.Check detail true = Some (telling.Shown view.Verdict)
+told_of_parts verb.Explain detail true = Some (telling.Shown (view.Explain detail))
+told_of_parts verb.Why detail true = Some telling.Why
+told_of_parts verb.Run detail true = None
+told_of_parts verb detail false = None
 
 -- a capture, whose text is given where it is known, was judged part by part, from this beginning on, for a deck that is taken for
 -- this, and this was told of each part: the result, and what the writer holds before and after
@@ -74,11 +76,16 @@ pub record IsJudgedInParts (telling : Telling) (beginning : Beginning) (profile 
 
 -- a capture was judged with this verb, from this beginning on, for a deck that is taken for this, and this is the end: it was
 -- judged part by part, or to its first break
-abbrev pub EndsJudged : Option Telling → Verb → Beginning → Profile → Option (List ℕ) → Option (List ℕ) → Outcome → Option (List ℕ) → Type 0
-EndsJudged (Some telling) verb beginning profile capture old end now =
+abbrev pub EndsJudged : Option Telling → Verb → Detail → Beginning → Profile → Option (List ℕ) → Option (List ℕ) → Outcome → Option (List ℕ) → Type 0
+EndsJudged (Some telling) verb detail beginning profile capture old end now =
     (result : Result Totals JudgeError) × IsJudgedInParts telling beginning profile capture old result now × (end ≡ outcome_in_parts result)
-EndsJudged None verb beginning profile capture old end now =
-    (result : Result Verdict JudgeError) × IsJudgedFor verb beginning profile capture old result now × (end ≡ outcome_of result)
+EndsJudged None verb detail beginning profile capture old end now =
+    (result : Result Verdict JudgeError) × IsJudgedFor verb detail beginning profile capture old result now × (end ≡ outcome_of result)
+
+-- how an explanation tells each exchange, where the words say `--bytes` or not
+abbrev pub detail_of : Bool → Detail
+detail_of true = Bytes
+detail_of false = Names
 
 -- with which record the judging begins, where the words say `--sync` or not
 abbrev pub beginning_of : Bool → Beginning
@@ -97,19 +104,19 @@ IsToldAs judged end = (end ≡ judged) ⊎ (end ≡ without_write_fault judged)
 -- a capture was opened so, and this is the end: it was not opened, and nothing is written; or it was judged with this verb, from
 -- this beginning on, for a deck that is taken for this, going on after a break or not; or memory for the buffer was refused, and
 -- nothing is written
-abbrev pub EndsOpened : {R : Type 0} → (R → Option (List ℕ)) → Option (String Global) → Verb → Bool → Beginning → Profile → Result R Error → Option (List ℕ) → Outcome
+abbrev pub EndsOpened : {R : Type 0} → (R → Option (List ℕ)) → Option (String Global) → Verb → Detail → Bool → Beginning → Profile → Result R Error → Option (List ℕ) → Outcome
     → Option (List ℕ) → Type 0
-EndsOpened coming file verb all beginning profile (Err e) old end now = (end ≡ outcome_unopened file e) × Keeps old now
-EndsOpened coming file verb all beginning profile (Ok reader) old end now =
+EndsOpened coming file verb detail all beginning profile (Err e) old end now = (end ≡ outcome_unopened file e) × Keeps old now
+EndsOpened coming file verb detail all beginning profile (Ok reader) old end now =
     ((end ≡ no_memory) × Keeps old now)
-    ⊎ ((judged : Outcome) × EndsJudged (told_of_parts verb all) verb beginning profile (coming reader) old judged now × IsToldAs judged end)
+    ⊎ ((judged : Outcome) × EndsJudged (told_of_parts verb detail all) verb detail beginning profile (coming reader) old judged now × IsToldAs judged end)
 
 -- the capture was opened, or standard input where there is no file, and this is the end
 pub record EndsCapture {R : Type 0} (opens : Option (String Global) → Result R Error → Type 0) (coming : R → Option (List ℕ)) (file : Option (String Global))
-    (verb : Verb) (all : Bool) (beginning : Beginning) (profile : Profile) (old : Option (List ℕ)) (end : Outcome) (now : Option (List ℕ)) : Type 0 where
+    (verb : Verb) (detail : Detail) (all : Bool) (beginning : Beginning) (profile : Profile) (old : Option (List ℕ)) (end : Outcome) (now : Option (List ℕ)) : Type 0 where
   pub opened : Result R Error
   pub is_opened : opens file opened
-  pub ends : EndsOpened coming file verb all beginning profile opened old end now
+  pub ends : EndsOpened coming file verb detail all beginning profile opened old end now
 
 -- how the captures of tasks, and the sheets that they name, are opened, and what is to come of each
 pub record Files (R S : Type 0) : Type 1 where
@@ -123,7 +130,7 @@ pub record Files (R S : Type 0) : Type 1 where
 abbrev pub EndsFound : {R S : Type 0} → Files R S → Task → Result (Option Deck) Outcome → Option (List ℕ) → Outcome → Option (List ℕ) → Type 0
 EndsFound files task (Err refused) old end now = (end ≡ refused) × Keeps old now
 EndsFound files task (Ok deck) old end now =
-    EndsCapture files.opens files.coming task.file task.verb task.all (beginning_of task.sync) (profile_of task deck) old end now
+    EndsCapture files.opens files.coming task.file task.verb (detail_of task.bytes) task.all (beginning_of task.sync) (profile_of task deck) old end now
 
 -- the task was carried out, and this is the end
 pub record EndsTask {R S : Type 0} (files : Files R S) (task : Task) (old : Option (List ℕ)) (end : Outcome) (now : Option (List ℕ)) : Type 0 where

@@ -16,8 +16,8 @@ use block9::Reason;
 use capture9::{CaptureError, CaptureKind};
 use deck9::{Hands, Profile};
 use judge9::{
-    Beginning, JudgeError, RunVerdict, Telling, Totals, Verdict, View, WhyVerdict, judge_for,
-    judge_parts_for, judge_with_contradiction_for, judge_with_run_for,
+    Beginning, Detail, JudgeError, RunVerdict, Telling, Totals, Verdict, View, WhyVerdict,
+    judge_for, judge_parts_for, judge_with_contradiction_for, judge_with_run_for,
 };
 use report9::{write_run_for, write_why_for};
 use std::alloc::Global;
@@ -25,7 +25,8 @@ use std::io::{Read, Write};
 use tc25::Rate;
 use words9::Verb;
 
-/// Judges the capture that the reader gives as the verb says, and passes the whole report on to the writer behind the buffer.
+/// Judges the capture that the reader gives as the verb says, and passes the whole report on to the writer behind the buffer. With
+/// `Verb::Explain` each exchange is told in this detail.
 ///
 /// The report is that of `judge`, the text of the run that `judge_with_run` answered, or the text of the verdict that
 /// `judge_with_contradiction` answered; of the last two there is none where there is no verdict. The result is the
@@ -38,11 +39,12 @@ pub fn judge_and_flush<R: Read + Drop, W: Write + Drop>(
     reader: R,
     out: &mut Buffered<W>,
     verb: Verb,
+    detail: Detail,
     hands: Hands,
 ) -> Result<Verdict, JudgeError>
     ensures answer { IfSome (R.remaining reader)
         (λ text. IfSome (answer_of result) (IsTheAnswer Beginning.FirstRecord (record { rate = Rate.Fps25; hands = hands; deck = None }) (rows_of text))) }
-    ensures told { EndsAs (TellsFor verb Beginning.FirstRecord (record { rate = Rate.Fps25; hands = hands; deck = None }) (option_map rows_of (R.remaining reader))
+    ensures told { EndsAs (TellsFor verb detail Beginning.FirstRecord (record { rate = Rate.Fps25; hands = hands; deck = None }) (option_map rows_of (R.remaining reader))
         (held_contents W.contents out.old))
         result (contents_behind W.contents out.new) }
     ensures stopped { IfSome (R.remaining reader)
@@ -56,6 +58,7 @@ pub fn judge_and_flush<R: Read + Drop, W: Write + Drop>(
         reader,
         out,
         verb,
+        detail,
         Beginning::FirstRecord,
         &Profile::of(hands),
     )
@@ -68,12 +71,13 @@ pub fn judge_and_flush_for<R: Read + Drop, W: Write + Drop>(
     reader: R,
     out: &mut Buffered<W>,
     verb: Verb,
+    detail: Detail,
     beginning: Beginning,
     profile: &Profile,
 ) -> Result<Verdict, JudgeError>
     ensures answer { IfSome (R.remaining reader)
         (λ text. IfSome (answer_of result) (IsTheAnswer beginning profile.now (rows_of text))) }
-    ensures told { EndsAs (TellsFor verb beginning profile.now (option_map rows_of (R.remaining reader))
+    ensures told { EndsAs (TellsFor verb detail beginning profile.now (option_map rows_of (R.remaining reader))
         (held_contents W.contents out.old))
         result (contents_behind W.contents out.new) }
     ensures stopped { IfSome (R.remaining reader)
@@ -82,7 +86,7 @@ pub fn judge_and_flush_for<R: Read + Drop, W: Write + Drop>(
         → e.kind ≢ CaptureKind.OutOfMemory }
     ensures can_be { CanBeResult result }
 {
-    let judged = tell(alloc, reader, out, verb, beginning, profile);
+    let judged = tell(alloc, reader, out, verb, detail, beginning, profile);
     ended(out, judged)
 }
 
@@ -141,18 +145,19 @@ pub fn judge_parts_and_flush_for<R: Read + Drop, W: Write + Drop>(
     ended(out, judged)
 }
 
-/// Judges the capture as the verb says, and writes the report.
+/// Judges the capture as the verb says, each exchange of an explanation in this detail, and writes the report.
 fn tell<R: Read + Drop, W: Write>(
     alloc: Global,
     reader: R,
     writer: &mut W,
     verb: Verb,
+    detail: Detail,
     beginning: Beginning,
     profile: &Profile,
 ) -> Result<Verdict, JudgeError>
     ensures answer { IfSome (R.remaining reader)
         (λ text. IfSome (answer_of result) (IsTheAnswer beginning profile.now (rows_of text))) }
-    ensures told { TellsFor verb beginning profile.now (option_map rows_of (R.remaining reader))
+    ensures told { TellsFor verb detail beginning profile.now (option_map rows_of (R.remaining reader))
         (W.contents writer.old) result (W.contents writer.new) }
     ensures stopped { IfSome (R.remaining reader)
         (λ text. IfErr result (StoppedBefore beginning profile.now (rows_of text))) }
@@ -162,7 +167,10 @@ fn tell<R: Read + Drop, W: Write>(
 {
     match verb {
         Verb::Check => judge_for(alloc, reader, writer, View::Verdict, beginning, profile),
-        Verb::Explain => judge_for(alloc, reader, writer, View::Explain, beginning, profile),
+        Verb::Explain => {
+            let view = View::Explain(detail);
+            judge_for(alloc, reader, writer, view, beginning, profile)
+        }
         Verb::Run => tell_run(
             writer,
             judge_with_run_for(alloc, reader, beginning, profile),

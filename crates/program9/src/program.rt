@@ -2,7 +2,7 @@
 ghost use Rattle.std.specs.Prelude.{◌≡◌};
 ghost use Rattle.std.specs.Fn.{FnOnceReturnsAt};
 ghost use Rattle.program9.specs.Output.{contents_behind, held_contents};
-ghost use Rattle.program9.specs.Program.{EndsCapture, EndsJudged, EndsProgram, EndsTask, EndsWithout, beginning_of, told_of_parts};
+ghost use Rattle.program9.specs.Program.{EndsCapture, EndsJudged, EndsProgram, EndsTask, EndsWithout, beginning_of, detail_of, told_of_parts};
 ghost use Rattle.program9.specs.Opening.{outcome_unopened, why_of};
 ghost use Rattle.program9.specs.Outcome.{without_write_fault};
 
@@ -13,7 +13,7 @@ use crate::sheet::find_deck;
 use crate::status::{outcome, outcome_in_parts};
 use crate::version::tell_version;
 use deck9::Profile;
-use judge9::{Beginning, Telling, View};
+use judge9::{Beginning, Detail, Telling, View};
 use std::alloc::Global;
 use std::io::{self, Read, Write};
 use words9::{Task, Verb, WordsFault, read_words};
@@ -23,6 +23,8 @@ use words9::{Task, Verb, WordsFault, read_words};
 struct Asked {
     /// What is judged and written.
     verb: Verb,
+    /// How an explanation tells each exchange.
+    detail: Detail,
     /// Whether the judging goes on after a break.
     all: bool,
     /// With which record it begins.
@@ -41,8 +43,8 @@ struct Asked {
 /// * `Usage` only where the words are no command, or could not be fetched as text: nothing is written;
 /// * the `Outcome` of the judging that the words ask for, without the message of a write fault where `out` is a pipe whose reader is
 ///   gone: with their verb, at their rate, with hands where they say so, for a deck that does what the sheet says, from the first
-///   record that may begin a command where they say `--sync`, and with `check`, `explain` and `why` part by part where they say
-///   `--all`;
+///   record that may begin a command where they say `--sync`, with `explain` each exchange with its bytes where they say `--bytes`,
+///   and with `check`, `explain` and `why` part by part where they say `--all`;
 /// * status 3 with `UnreadableSheet`, the file and what is wrong, where the sheet is none; status 4 with `CannotOpenSheet`, the file
 ///   and the reason, where `sheet_opener` or its reader failed: nothing is written;
 /// * status 4 with `CannotOpen`, the file and the reason where `opener` failed: nothing is written;
@@ -115,6 +117,7 @@ fn carry_out<
         deck,
         all,
         sync,
+        bytes,
         line_buffered,
     } = task;
     match find_deck(alloc, deck, sheet_opener) {
@@ -122,6 +125,7 @@ fn carry_out<
             let profile = Profile { rate, hands, deck };
             let asked = Asked {
                 verb,
+                detail: detail_of(bytes),
                 all,
                 beginning: beginning_of(sync),
                 line_buffered,
@@ -142,7 +146,7 @@ fn judge_capture<F: FnOnce(&Option<String>) -> io::Result<R>, R: Read + Drop, W:
     out: W,
 ) -> (Outcome, W)
     requires { F.IsAlwaysCallable opener }
-    ensures { EndsCapture (FnOnceReturnsAt F.FnOnce opener) R.remaining file asked.verb asked.all asked.beginning profile.now (W.contents out) result.0 (W.contents result.1) }
+    ensures { EndsCapture (FnOnceReturnsAt F.FnOnce opener) R.remaining file asked.verb asked.detail asked.all asked.beginning profile.now (W.contents out) result.0 (W.contents result.1) }
 {
     let reader = match opener(&file) {
         Ok(reader) => reader,
@@ -180,10 +184,10 @@ fn judge_task<R: Read + Drop, W: Write + Drop>(
     profile: &Profile,
 ) -> Outcome
     requires line_buffered { out.old.held.line_buffered ≡ asked.line_buffered }
-    ensures { EndsJudged (told_of_parts asked.verb asked.all) asked.verb asked.beginning profile.now (R.remaining reader)
+    ensures { EndsJudged (told_of_parts asked.verb asked.detail asked.all) asked.verb asked.detail asked.beginning profile.now (R.remaining reader)
         (held_contents W.contents out.old) result (contents_behind W.contents out.new) }
 {
-    match told_of_parts(asked.verb, asked.all) {
+    match told_of_parts(asked.verb, asked.detail, asked.all) {
         Some(telling) => outcome_in_parts(&judge_parts_and_flush_for(
             alloc,
             reader,
@@ -197,10 +201,18 @@ fn judge_task<R: Read + Drop, W: Write + Drop>(
             reader,
             out,
             asked.verb,
+            asked.detail,
             asked.beginning,
             profile,
         )),
     }
+}
+
+/// How an explanation tells each exchange.
+fn detail_of(bytes: bool) -> Detail
+    ensures { result ≡ detail_of bytes }
+{
+    if bytes { Detail::Bytes } else { Detail::Names }
 }
 
 /// With which record the judging begins.
@@ -215,12 +227,12 @@ fn beginning_of(sync: bool) -> Beginning
 }
 
 /// What is told of each part where the judging goes on after a break. Where it ends at the first, there is nothing.
-fn told_of_parts(verb: Verb, all: bool) -> Option<Telling>
-    ensures { result ≡ told_of_parts verb all }
+fn told_of_parts(verb: Verb, detail: Detail, all: bool) -> Option<Telling>
+    ensures { result ≡ told_of_parts verb detail all }
 {
     match verb {
         Verb::Check if all => Some(Telling::Shown(View::Verdict)),
-        Verb::Explain if all => Some(Telling::Shown(View::Explain)),
+        Verb::Explain if all => Some(Telling::Shown(View::Explain(detail))),
         Verb::Why if all => Some(Telling::Why),
         Verb::Check | Verb::Explain | Verb::Run | Verb::Why => None,
     }

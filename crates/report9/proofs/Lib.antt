@@ -1,3 +1,2 @@
 mod Lines
-mod WordRow
 pub mod Words

@@ -1,7 +1,7 @@
 -- The lines of a run, and those of a record that breaks a rule of pairing, one after another.
 use Rattle.report9.proofs.Words.{[], ap, append-nil, append_assoc, Appends, Appends-trans, AppendsPart, end_before, EndedExchange, Exchange, first_part}
 use Rattle.report9.proofs.Words.{inl, inr, last_time-last, length, line_of_open, line_of_state, LineByte, lines_of_run, List, Option, part_after}
-use Rattle.report9.proofs.Words.{Global, lines_of_break, Open, Rate, Reason, Vec, WhyVerdict, ◌≢◌}
+use Rattle.report9.proofs.Words.{Global, lines_of_break, Open, Reason, Vec, WhyVerdict, ◌≢◌}
 use Rattle.verdict9.specs.declared.why_verdict.WhyVerdict.TheVariants as why
 use Rattle.report9.proofs.Words.{Profile, records_of, refl, slice_get, Some, State, sym, ℕ, ◌++◌, ◌+◌, ◌-◌, ◌∷◌, ◌≡◌, ◌⊎◌}
 
@@ -52,13 +52,13 @@ no_line before words progress [] l none = sym (append-nil l)
 no_line before words progress (r ∷ records) l none = cc
 
 -- for another verdict than a break no line is put
-pub no_break : (rate : Rate) (v : WhyVerdict) (l : List ℕ)
+pub no_break : (p : Profile) (v : WhyVerdict) (l : List ℕ)
     → ((at : ℕ) (reason : Reason) (tail : Vec LineByte Global) (o : Open) (before : Option EndedExchange) (r : LineByte) → v ≢ why.Break at reason tail o before r)
-    → l ≡ l ++ lines_of_break rate v
+    → l ≡ l ++ lines_of_break p v
 unfolding lines_of_break
-no_break rate (why.Yes records exchanges tail) l other = sym (append-nil l)
-no_break rate (why.Break at reason tail o before r) l other = absurd (other at reason tail o before r refl)
-no_break rate (why.Contradiction at exchanges places known shown) l other = sym (append-nil l)
+no_break p (why.Yes records exchanges tail) l other = sym (append-nil l)
+no_break p (why.Break at reason tail o before r) l other = absurd (other at reason tail o before r refl)
+no_break p (why.Contradiction at exchanges places known shown) l other = sym (append-nil l)
 
 -- the time of the last open record, or of the last of the exchange before
 pub end_of_tail : (tail : List LineByte) (before : Option EndedExchange) (last : LineByte) → Some last ≡ slice_get tail (length tail - 1)

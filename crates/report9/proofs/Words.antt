@@ -6,7 +6,6 @@ pub use Rattle.block9.specs.declared.open.Open.{Open}
 pub use Rattle.block9.specs.declared.reason.Reason.{Reason}
 pub use Rattle.tc25.specs.declared.rate.Rate.{Rate}
 pub use Rattle.capture9.specs.declared.line_byte.LineByte.{LineByte}
-pub use Rattle.deck9.proofs.ModeSetLemmas.{some_any}
 pub use Rattle.deck9.specs.Mode.{every_mode, name_of}
 pub use Rattle.deck9.specs.ModeSet.{has}
 pub use Rattle.deck9.specs.declared.mode.Mode.{Mode}
@@ -14,12 +13,11 @@ pub use Rattle.deck9.specs.declared.profile.Profile.{Profile}
 pub use Rattle.deck9.specs.declared.state.State.{State}
 pub use Rattle.report9.specs.RunText.{lines_of_run}
 unfoldable pub use Rattle.report9.specs.RunText.{line_of_state}
-pub use Rattle.report9.specs.WhyText.{end_before, hex_bytes, lines_at}
-unfoldable pub use Rattle.report9.specs.WhyText.{line_of_breaking, line_of_contradicting, line_of_could_show, line_of_open, lines_of_break, lines_of_open, text_of_reply_given, text_of_command_sent}
-unfoldable pub use Rattle.report9.specs.WhyText.{line_of_before, text_of_block, text_of_records, text_of_reply, words_of}
+pub use Rattle.report9.specs.WhyText.{end_before, lines_at}
+unfoldable pub use Rattle.report9.specs.WhyText.{line_of_breaking, line_of_contradicting, line_of_could_show, line_of_open, lines_of_break, lines_of_open}
+unfoldable pub use Rattle.report9.specs.WhyText.{line_of_before}
 pub use Rattle.verdict9.specs.declared.why_verdict.EndedExchange.{EndedExchange}
 pub use Rattle.verdict9.specs.declared.why_verdict.WhyVerdict.{WhyVerdict}
-pub use Rattle.report9.specs.Working.WhyText.{next_before}
 pub use Rattle.std.proofs.Common.{[], ap, append_assoc, arith, Bool, codes, drop, drop-cons, get_or, if◌then◌else◌, inl, inr, length, length-append, List, Option, refl}
 pub use Rattle.std.proofs.Common.{Global, Vec, ◌≢◌}
 pub use Rattle.std.proofs.Common.{Result, rules, slice_get, Some, suc, sym, take, true, ℕ, ◌*◌, ◌++◌, ◌+◌, ◌-◌, ◌<◌, ◌∙◌, ◌∷◌, ◌≡◌, ◌≤◌, ◌⊎◌}
@@ -35,7 +33,8 @@ pub use Rattle.std.specs.Result.{IsErr}
 pub use Rattle.tc25.specs.Day.{text_of}
 pub use Rattle.text9.proofs.PieceLemmas.{pieces2, pieces4}
 pub use Rattle.text9.proofs.WriteLemmas.{failed, first_part, none_written, part_after, piece_after, writes}
-pub use Rattle.text9.specs.Explanation.{hex_byte, text_of_fields}
+pub use Rattle.text9.specs.Bytes.{hex_byte, hex_bytes}
+pub use Rattle.text9.specs.Explanation.{text_of_fields}
 pub use Rattle.text9.specs.Row.{in_a_row, names_of}
 pub use Rattle.text9.proofs.RowLemmas.{names_more}
 pub use Rattle.text9.specs.Writing.{AppendsPart}

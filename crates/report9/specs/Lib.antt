@@ -1,3 +1,2 @@
 pub mod RunText
 pub mod WhyText
-pub mod Working

@@ -1,10 +1,8 @@
 //! The text of why a verdict is a no: the records that are open before the one that breaks a rule, or the replies that
 //! contradict one another and what the deck could show before the last of them.
-mod block_bytes;
 mod break_lines;
 mod exchange_line;
 mod modes;
-mod said;
 
 ghost use Rattle.std.specs.Prelude.{◌≡◌, ◌⊎◌, ◌-◌, ◌++◌, [], OnOk, IfErr};
 ghost use Rattle.std.specs.Io.KnownBytes.{Appends};
@@ -16,11 +14,10 @@ use block9::{Exchange, Reason, records_in};
 use break_lines::put_break;
 use deck9::{Knowledge, ModeSet, Profile};
 use exchange_line::put_contradicting;
-use modes::{is_every, put_modes};
+use modes::is_every;
 use std::alloc::{AllocError, Global};
 use std::io::Write;
-use tc25::Rate;
-use text9::{put_fields_for, put_text, write_all};
+use text9::{put_fields_for, put_modes, put_text, write_all};
 use verdict9::{JudgeError, WhyVerdict, put_no_line, put_yes_line};
 
 /// Writes why a verdict is a no: where no run of the deck remains a line for each of the replies that contradict one
@@ -76,7 +73,7 @@ pub fn put_why_for(
             tail,
         } => put_yes_line(text, *records, u64::from(*exchanges), *tail),
         WhyVerdict::Break { at, reason, .. } => {
-            put_break(text, profile.rate, verdict)?;
+            put_break(text, profile, verdict)?;
             put_no_line(text, *at, *reason)
         }
         WhyVerdict::Contradiction {
@@ -86,13 +83,7 @@ pub fn put_why_for(
             known,
             shown,
         } => {
-            put_lines(
-                text,
-                profile.rate,
-                *at,
-                places.as_slice(),
-                exchanges.as_slice(),
-            )?;
+            put_lines(text, profile, *at, places.as_slice(), exchanges.as_slice())?;
             put_could_show(text, profile, known, *shown)?;
             put_no_line(text, *at, Reason::NoRun)
         }
@@ -102,20 +93,20 @@ pub fn put_why_for(
 /// Puts the lines of the exchanges at these places, the last of which ends with the record of this number.
 fn put_lines(
     text: &mut Vec<u8>,
-    rate: Rate,
+    profile: &Profile,
     last: u32,
     places: &[usize],
     exchanges: &[Exchange],
 ) -> Result<(), AllocError>
     ensures { OnOk result (text.new.items ≡ text.old.items
-        ++ lines_at rate places.now 0 (last - records_in exchanges.now) exchanges.now) }
+        ++ lines_at profile.now places.now 0 (last - records_in exchanges.now) exchanges.now) }
 {
     let mut at = u128::from(last).saturating_sub(records_in(exchanges));
     for (place, exchange) in exchanges.iter().enumerate() {
-        if places.contains(&place) {
-            put_contradicting(text, rate, at, exchange)?;
-        }
         at += exchange.records() as u128;
+        if places.contains(&place) {
+            put_contradicting(text, profile, at, exchange)?;
+        }
     }
     Ok(())
 }

@@ -1,5 +1,5 @@
 -- The way back from the end of a capture to a run of the deck: the trackers at marks, and one exchange back.
-use Rattle.run9.proofs.Words.{[], All, AllPairs, ap, append-nil, append_assoc, AreMarks, arith, drop, Exchange, Exchanges, follows-then, FollowsFrom, from-start, get_or, GoesBack, LastMarkFollows}
+use Rattle.run9.proofs.Words.{[], All, AllPairs, ap, append-nil, append_assoc, AreMarks, arith, drop, Exchange, Goes, follows-then, FollowsFrom, from-start, get_or, GoesBack, LastMarkFollows}
 use Rattle.run9.proofs.Words.{inl, inr, IsFirst, IsNextMark, IsRun, last_mark, leads_joined, LeadsFrom, length, length_push, List, Mark, None, Option, place_of, Possible, Profile, refl}
 use Rattle.run9.proofs.Words.{reverse, reverse-append, reverse-reverse, slice_get, slice_range, Some, State, subst, suc, sym, take, take-add, take_all, take_more, Tracked, tracked_by, ℕ}
 use Rattle.run9.proofs.Words.{◌++◌, ◌+◌, ◌-◌, ◌<◌, ◌↔◌, ◌∙◌, ◌∷◌, ◌≡◌, ◌≤◌}
@@ -133,20 +133,20 @@ module _ {first before : Tracked} (es : List Exchange) (at : ℕ) (e : Exchange)
 
   -- a state to which the exchanges lead comes from one before the last of them
   pub step_from : (state : State) → LeadsFrom first (take (at + 1) es) state
-      → (s : State) × Possible before.states s × Exchanges before.profile e.command e.reply s state
+      → (s : State) × Possible before.states s × Goes before.profile e s state
   step_from state leads =
       let l = (leads_joined first.profile (Possible first.states) (take at es) (e ∷ []) state).0 (rw one_more at leads) in
-      (l.0, (follows.states l.0).1 l.1, subst (λ h. Exchanges h e.command e.reply l.0 state) (sym follows.profile) l.2)
+      (l.0, (follows.states l.0).1 l.1, subst (λ h. Goes h e l.0 state) (sym follows.profile) l.2)
 
   -- through one exchange more
   pub back-more : (end state earlier : State) (old mid new : List State)
       → GoesBack first.profile (LeadsFrom first (take (at + 1) es)) (drop (at + 1) es) end old mid state
-      → Possible before.states earlier × Exchanges before.profile e.command e.reply earlier state → new ≡ mid ++ state ∷ []
+      → Possible before.states earlier × Goes before.profile e earlier state → new ≡ mid ++ state ∷ []
       → GoesBack first.profile (LeadsFrom first (take at es)) (drop at es) end old new earlier
   back-more end state earlier old mid new g from put = rw split (record {
     from = (follows.states earlier).0 from.0;
     after = state ∷ g.after;
-    is_run = (subst (λ h. Exchanges h e.command e.reply earlier state) follows.profile from.1, g.is_run);
+    is_run = (subst (λ h. Goes h e earlier state) follows.profile from.1, g.is_run);
     is_end = g.is_end;
     put = put ∙ ap (λ (l : List State). l ++ state ∷ []) g.put ∙ append_assoc old (reverse g.after) (state ∷ [])
         ∙ ap (λ (l : List State). old ++ l) (sym (reverse-append (state ∷ []) g.after));

@@ -2,7 +2,7 @@
 pub use Rattle.block9.specs.declared.exchange.Exchange.{Exchange}
 pub use Rattle.deck9.specs.Run.{IsRun}
 pub use Rattle.deck9.specs.State.{IsFirst}
-pub use Rattle.deck9.specs.Step.{Exchanges}
+pub use Rattle.deck9.specs.Step.{Goes}
 pub use Rattle.deck9.specs.declared.profile.Profile.{Profile}
 pub use Rattle.deck9.specs.declared.state.State.{State}
 pub use Rattle.run9.specs.Working.{AreMarks, GoesBack, LastMarkFollows, IsNextMark, last_mark, place_of, tracked_by}

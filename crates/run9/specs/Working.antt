@@ -6,14 +6,14 @@ use Rattle.block9.specs.declared.exchange.Exchange.{Exchange}
 use Rattle.deck9.specs.declared.profile.Profile.{Profile}
 use Rattle.deck9.specs.declared.state.State.{State}
 use Rattle.deck9.specs.Run.{IsRunFrom, last_state}
-use Rattle.deck9.specs.Step.{Exchanges}
+use Rattle.deck9.specs.Step.{Goes}
 use Rattle.track9.specs.Following.{FollowsFrom}
 use Rattle.track9.specs.Tracker.{Possible, Tracked}
 use Rattle.run9.specs.declared.way_back.Mark.{Mark}
 
 -- the state before the exchange is one that the tracker keeps, and the exchange leads from it to this state
 abbrev pub ComesFrom : Tracked → Exchange → State → State → Type 0
-ComesFrom t e state s = Possible t.states s × Exchanges t.profile e.command e.reply s state
+ComesFrom t e state s = Possible t.states s × Goes t.profile e s state
 
 abbrev pub CanComeFrom : Tracked → Exchange → State → Type 0
 CanComeFrom t e state = (s : State) × ComesFrom t e state s

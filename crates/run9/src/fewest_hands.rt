@@ -121,7 +121,7 @@ fn place_of_hand(
         if may_be_on {
             place = at;
         }
-        if !tracker.observe(&exchange.command, &exchange.reply)? {
+        if !tracker.take(exchange)? {
             return Ok(Some(place));
         }
         may_be_on = may_be_on_after(profile, exchange, may_be_on);

@@ -92,7 +92,7 @@ fn has_run(
 /// Whether a state remains of the tracker's after these exchanges.
 fn goes_on(tracker: &mut Tracker<SpanSet>, exchanges: &[Exchange]) -> Result<bool, AllocError> {
     for exchange in exchanges {
-        if !tracker.observe(&exchange.command, &exchange.reply)? {
+        if !tracker.take(exchange)? {
             return Ok(false);
         }
     }
@@ -162,9 +162,12 @@ fn leads_to(
     after: &State,
 ) -> Result<bool, AllocError> {
     let tracker = Tracker::<SpanSet>::starting(alloc, profile, before)?;
-    let earlier = tracker.before(&exchange.command, &exchange.reply, after);
+    let earlier = tracker.before_exchange(exchange, after);
     drop(tracker);
-    Ok(earlier.is_some())
+    match earlier {
+        Ok(state) => Ok(state.is_some()),
+        Err(error) => Err(error),
+    }
 }
 
 /// All that there is to know of a deck in this state that nobody touches.

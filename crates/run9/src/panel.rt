@@ -1,9 +1,9 @@
 //! What exchanges do to the panel where hands are allowed, and states with the panel filled in.
 
 use block9::Exchange;
-use deck9::{Deck, Effect, Profile, State};
+use deck9::{Deck, Effect, Forgotten, Profile, State};
 
-/// What a command that is acknowledged makes of the panel.
+/// What a command that is acknowledged, and what is forgotten besides, make of the panel.
 #[derive(Clone, Copy)]
 enum Switch {
     /// It is on.
@@ -19,7 +19,11 @@ fn switch_of(profile: &Profile, exchange: &Exchange) -> Option<Switch> {
     if exchange.reply.is_nak() {
         return None;
     }
-    match Deck::effect(profile.deck.as_ref(), &exchange.command) {
+    let deck = profile.deck.as_ref();
+    if Deck::forgotten_with(deck, exchange) == Forgotten::Everything {
+        return Some(Switch::Free);
+    }
+    match Deck::effect(deck, &exchange.command) {
         Effect::Panel(true) => Some(Switch::On),
         Effect::Panel(false) => Some(Switch::Off),
         Effect::ForgetAll => Some(Switch::Free),

@@ -5,7 +5,7 @@
 //! at marks: few where they take much memory, and before each exchange of the range that is gone back through next.
 ghost use Rattle.std.specs.Prelude.{◌≡◌, ◌<◌, ◌≤◌, ◌+◌, ◌++◌, [], ◌∷◌, IfOk, List, OnOk, length};
 ghost use Rattle.deck9.specs.Run.{IsRun};
-ghost use Rattle.deck9.specs.Step.{Exchanges};
+ghost use Rattle.deck9.specs.Step.{Goes};
 ghost use Rattle.deck9.specs.declared.state.State.{State as AState};
 ghost use Rattle.run9.specs.Working.{CanComeFrom, ComesFrom, AreMarks, GoesBack, LastMarkFollows, last_mark, place_of, tracked_by};
 ghost use Rattle.run9.specs.declared.way_back.Mark.{Mark as AMark};
@@ -226,7 +226,7 @@ fn step_back(
     ensures from { IfOk result (ComesFrom before.now exchange.now state) }
     ensures put { OnOk result (states.new.items ≡ states.old.items ++ state ∷ []) }
 {
-    let Some(earlier) = before.before(&exchange.command, &exchange.reply, &state) else {
+    let Some(earlier) = before.before_exchange(exchange, &state)? else {
         unreachable!();
     };
     states.push(state)?;

@@ -1,3 +1,6 @@
 pub mod EmptyLemmas
+pub mod PartLemmas
 pub mod PrintLemmas
+pub mod ReplyLemmas
+pub mod TableLemmas
 pub mod Words

@@ -7,9 +7,12 @@ use Rattle.std.specs.Char.{digit_char}
 use Rattle.std.specs.Char.Escape.{backslash, escape_ascii, hex_digit_at}
 use Rattle.std.specs.Fmt.{digits}
 use Rattle.std.specs.List.{list_all}
-use Rattle.sheet9.specs.declared.refusal.ForgetsFault.TheVariants.{the_data as ForgetsFault}
+use Rattle.sheet9.specs.declared.refusal.EntryFault.TheVariants.{the_data as EntryFault}
+use Rattle.sheet9.specs.declared.refusal.ItemFault.TheVariants.{the_data as ItemFault}
 use Rattle.sheet9.specs.declared.refusal.Refusal.TheVariants.{the_data as Refusal}
 use Rattle.sheet9.specs.declared.refusal.SheetError.TheVariants.{the_data as SheetError}
+use Rattle.sheet9.specs.declared.refusal.TableName.TheVariants.{the_data as TableName}
+use Rattle.sheet9.specs.Text.{name_of, words_of_item}
 
 abbrev pub Prints : List ℕ → Type 0
 Prints text = list_all is_printable text ≡ true
@@ -41,10 +44,22 @@ decimal_prints : (n : ℕ) → Prints (decimal n)
 unfolding digits
 decimal_prints n = digits_print 64 n [] refl
 
-words_print : (fault : ForgetsFault) → Prints (words_of fault)
-words_print ForgetsFault.Reply = refl
+words_print : (fault : EntryFault) → Prints (words_of fault)
+words_print EntryFault.Reply = refl
 words_print _ = refl
+
+item_prints : (fault : ItemFault) → Prints (words_of_item fault)
+item_prints ItemFault.NoMode = refl
+item_prints _ = refl
+
+name_prints : (table : TableName) → Prints (name_of table)
+name_prints TableName.Names = refl
+name_prints _ = refl
 
 pub error_prints : (e : SheetError) → Prints (error_text e)
 error_prints (SheetError.Refused (Refusal.NotToml line)) = simp (list_all-append, decimal_prints)
-error_prints _ = search (list_all-append, flat_prints, words_print)
+error_prints (SheetError.Refused (Refusal.UnknownKey key)) = simp (list_all-append, flat_prints)
+error_prints (SheetError.Refused (Refusal.NoTable table)) = simp (list_all-append, name_prints)
+error_prints (SheetError.Refused (Refusal.Entry table key fault)) = simp (list_all-append, flat_prints, name_prints, words_print)
+error_prints (SheetError.Refused (Refusal.Item table key item fault)) = simp (list_all-append, flat_prints, name_prints, item_prints)
+error_prints SheetError.OutOfMemory = refl

@@ -1,4 +1,4 @@
--- The command that a key of [forgets] names, and which commands it may name.
+-- The command that a key names, and which blocks are no commands.
 use Rattle.std.specs.Prelude.{ℕ, ◌+◌, ◌*◌, ◌==◌, ◌||◌, if◌then◌else◌, Bool, List, [], ◌∷◌, Option, Some, None}
 use Rattle.capture9.specs.Fields.{byte_in}
 use Rattle.block9.specs.Command.{group_of}

@@ -1,7 +1,10 @@
+pub mod Entries
 pub mod Forgets
 pub mod Head
+pub mod Names
 pub mod Passes
 pub mod Refusal
+pub mod Replies
 pub mod Sheet
 pub mod Text
 pub mod Working

@@ -7,7 +7,10 @@ use Rattle.deck9.specs.declared.mode_set.ModeSet.{ModeSet}
 use Rattle.deck9.specs.Mode.{every_mode, index_of, name_of}
 use Rattle.deck9.specs.ModeCalls.{way}
 use Rattle.deck9.specs.ModeSet.{bit_of, either, modes}
-use Rattle.sheet9.specs.Refusal.{Fault, PassesNoTable, NoGoal, NoModes, NoMode, and_then}
+use Rattle.sheet9.specs.declared.refusal.EntryFault.TheVariants.{NoGoal, NoModes}
+use Rattle.sheet9.specs.declared.refusal.ItemFault.TheVariants.{NoMode}
+use Rattle.sheet9.specs.declared.refusal.TableName.TheVariants.{Passes}
+use Rattle.sheet9.specs.Refusal.{Fault, NoTable, Entry, Item, and_then}
 
 -- the mode with this name
 abbrev pub mode_named : List ℕ → Option Mode
@@ -15,8 +18,8 @@ mode_named name = find (λ m. bytes_eq name (name_of m)) every_mode
 
 -- the mode that an item of a list names, under the key of a goal; the item is given as a text, where it is one
 abbrev pub mode_in : List ℕ → Option (List ℕ) → Result Mode Fault
-mode_in key None = Err (NoModes key)
-mode_in key (Some name) = ok_or (mode_named name) (NoMode key name)
+mode_in key None = Err (Entry Passes key NoModes)
+mode_in key (Some name) = ok_or (mode_named name) (Item Passes key name NoMode)
 
 -- a set with the modes that a list names; or what is wrong with the first item that is wrong
 abbrev pub with_names : List ℕ → ModeSet → Items → Result ModeSet Fault
@@ -26,7 +29,7 @@ with_names key set (item value rest) =
 
 -- the modes on the way to a goal by its entry: those of the profile, and those that the entry's list names
 abbrev pub way_with : List ℕ → Mode → Option Items → Result ModeSet Fault
-way_with key goal None = Err (NoModes key)
+way_with key goal None = Err (Entry Passes key NoModes)
 way_with key goal (Some names) = with_names key (way goal) names
 
 -- the ways to the goals in the order of the modes, with those of some entries in place of theirs; or what is wrong with the first
@@ -34,7 +37,7 @@ way_with key goal (Some names) = with_names key (way goal) names
 abbrev pub passes_of : List ModeSet → Members → Result (List ModeSet) Fault
 passes_of ways no_members = Ok ways
 passes_of ways (member key value rest) =
-    and_then (ok_or (mode_named key) (NoGoal key))
+    and_then (ok_or (mode_named key) (Entry Passes key NoGoal))
     (λ goal. and_then (way_with key goal (as_array value)) (λ way. passes_of (slice_set ways (index_of goal) way) rest))
 
 -- the ways of the rules
@@ -47,5 +50,5 @@ passes_in None = Ok own_ways
 passes_in (Some value) = in_table (as_table value)
   where
     in_table : Option Members → Result (List ModeSet) Fault
-    in_table None = Err PassesNoTable
+    in_table None = Err (NoTable Passes)
     in_table (Some entries) = passes_of own_ways entries

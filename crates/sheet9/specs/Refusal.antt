@@ -2,22 +2,21 @@
 use Rattle.std.specs.Prelude.{◌≡◌, ℕ, ◌+◌, ◌≤◌, ◌==◌, List, length, take, ⊤, IfSome, Option, Some, None, Result, Ok, Err, string_bytes}
 use Rattle.std.specs.List.{count_by}
 use Rattle.std.specs.Str.{IsUtf8, IsValidUpTo}
-use Rattle.sheet9.specs.declared.refusal.ForgetsFault.{ForgetsFault}
+use Rattle.sheet9.specs.declared.refusal.EntryFault.{EntryFault}
+use Rattle.sheet9.specs.declared.refusal.ItemFault.{ItemFault}
+use Rattle.sheet9.specs.declared.refusal.TableName.{TableName}
 use Rattle.sheet9.specs.declared.refusal.Refusal.{Refusal}
 use Rattle.sheet9.specs.declared.refusal.Refusal.TheVariants as refusal
 use Rattle.sheet9.specs.declared.refusal.SheetError.{SheetError}
 use Rattle.sheet9.specs.declared.refusal.SheetError.TheVariants as error
 
--- what is wrong with a text, with the bytes of the keys and names that it has there
+-- what is wrong with a text, with the bytes of the keys and items that it has there
 pub data Fault : Type 0 where
   NotToml : Fault
   UnknownKey : List ℕ → Fault
-  ForgetsNoTable : Fault
-  Forgets : List ℕ → ForgetsFault → Fault
-  PassesNoTable : Fault
-  NoGoal : List ℕ → Fault
-  NoModes : List ℕ → Fault
-  NoMode : List ℕ → List ℕ → Fault
+  NoTable : TableName → Fault
+  Entry : TableName → List ℕ → EntryFault → Fault
+  Item : TableName → List ℕ → List ℕ → ItemFault → Fault
 
 -- what is made of a value, where nothing is wrong until then
 abbrev pub and_then : {A B : Type 0} → Result A Fault → (A → Result B Fault) → Result B Fault
@@ -28,12 +27,9 @@ and_then (Err fault) f = Err fault
 abbrev pub fault_of : Refusal → Fault
 fault_of (refusal.NotToml line) = NotToml
 fault_of (refusal.UnknownKey key) = UnknownKey (string_bytes key)
-fault_of refusal.ForgetsNoTable = ForgetsNoTable
-fault_of (refusal.Forgets key fault) = Forgets (string_bytes key) fault
-fault_of refusal.PassesNoTable = PassesNoTable
-fault_of (refusal.NoGoal goal) = NoGoal (string_bytes goal)
-fault_of (refusal.NoModes goal) = NoModes (string_bytes goal)
-fault_of (refusal.NoMode goal name) = NoMode (string_bytes goal) (string_bytes name)
+fault_of (refusal.NoTable table) = NoTable table
+fault_of (refusal.Entry table key fault) = Entry table (string_bytes key) fault
+fault_of (refusal.Item table key item fault) = Item table (string_bytes key) (string_bytes item) fault
 
 -- where there is this meaning or fault, the error is about that fault; that memory was refused says nothing of the text
 abbrev pub Reports : {A : Type 0} → Result A Fault → SheetError → Type 0

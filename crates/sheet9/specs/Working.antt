@@ -1,11 +1,12 @@
 -- Words that only private functions cite.
-use Rattle.std.specs.Prelude.{◌≡◌, ℕ, List, None, Result, Err, ⊤, IsOkAnd}
+use Rattle.std.specs.Prelude.{◌≡◌, ℕ, if◌then◌else◌, List, None, Result, Err, ⊤, IsOkAnd, option_map}
 use Rattle.std.specs.BTreeMap.{BTreeMap, get}
 use Rattle.std.specs.Ordering.{nat_cmp}
+use Rattle.block9.specs.Command.{is_listed_head}
 use Rattle.deck9.specs.declared.deck.Forgotten.{Forgotten}
 use Rattle.sheet9.specs.declared.refusal.SheetError.{SheetError}
 use Rattle.sheet9.specs.declared.refusal.SheetError.TheVariants as error
-use Rattle.sheet9.specs.Forgets.{named_at}
+use Rattle.sheet9.specs.Entries.{said_at}
 use Rattle.sheet9.specs.Refusal.{Fault, fault_of, line_in}
 
 -- an error of a document, which names no line: it is about this fault, or memory was refused
@@ -18,6 +19,12 @@ abbrev pub ReportsWithoutLine : {A : Type 0} → Result A Fault → SheetError �
 ReportsWithoutLine meaning (error.Refused r) = (meaning ≡ Err (fault_of r)) × (line_in r ≡ None)
 ReportsWithoutLine meaning error.OutOfMemory = ⊤
 
--- a map has what is named, and nothing else
-abbrev pub HasNamed : Result (List (ℕ × Forgotten)) Fault → BTreeMap ℕ Forgotten → Type 0
-HasNamed meaning m = IsOkAnd meaning (λ named. (head : ℕ) → get nat_cmp m head ≡ named_at named head)
+-- a map has what is said of commands, and nothing else; what is said is read from the map's values
+abbrev pub HasSaid : {V A : Type 0} → (V → A) → Result (List (ℕ × A)) Fault → BTreeMap ℕ V → Type 0
+HasSaid read meaning m = IsOkAnd meaning (λ said. (head : ℕ) → option_map read (get nat_cmp m head) ≡ said_at said head)
+
+-- one map has what is said of commands that are not listed, the other what is said of those that are
+abbrev pub HaveParted : Result (List (ℕ × Forgotten)) Fault → BTreeMap ℕ Forgotten → BTreeMap ℕ Forgotten → Type 0
+HaveParted meaning unlisted listed = IsOkAnd meaning (λ said.
+    ((head : ℕ) → get nat_cmp unlisted head ≡ (if is_listed_head head then None else said_at said head))
+    × ((head : ℕ) → get nat_cmp listed head ≡ (if is_listed_head head then said_at said head else None)))

@@ -1,6 +1,12 @@
 //! What an empty sheet means, and what the text of an error is: each the contract of a function that does nothing.
 ghost use Rattle.std.specs.Prelude.{◌≡◌, ◌↔◌, ℕ, true, List, None, Some, IsOkAnd};
 ghost use Rattle.std.specs.List.{list_all};
+ghost use Rattle.std.specs.BTreeMap.{get};
+ghost use Rattle.std.specs.Ordering.{nat_cmp};
+ghost use Rattle.block9.specs.Command.{fits};
+ghost use Rattle.block9.specs.Replies.{takes};
+ghost use Rattle.block9.specs.declared.block.Block.{Block};
+ghost use Rattle.block9.specs.declared.command.Command.{Command};
 ghost use Rattle.block9.specs.declared.exchange.Exchange.{Exchange};
 ghost use Rattle.deck9.specs.declared.deck.Deck.{Deck};
 ghost use Rattle.deck9.specs.declared.profile.Profile.{Profile};
@@ -15,8 +21,13 @@ pub fn errors_are_printable()
     ensures { (error : SheetError) → list_all is_printable (error_text error) ≡ true }
 {}
 
-/// A document with no keys is a sheet, and a deck that does what it says has exactly the runs of a deck without one.
+/// A document with no keys is a sheet. A deck that does what it says has exactly the runs of a deck without one, takes to each
+/// command the replies that fit it, and has no name for any.
 pub fn an_empty_sheet_changes_nothing()
-    ensures { (text : List ℕ) (p : Profile) (es : List Exchange) → document_of text ≡ Some no_members → IsOkAnd (sheet_of text)
+    ensures runs { (text : List ℕ) (p : Profile) (es : List Exchange) → document_of text ≡ Some no_members → IsOkAnd (sheet_of text)
         (λ sheet. (deck : Deck) → IsDeckOf sheet deck → HasRun (record p { deck = Some deck }) es ↔ HasRun (record p { deck = None }) es) }
+    ensures replies { (text : List ℕ) (head : ℕ) (c : Command) (reply : Block) → document_of text ≡ Some no_members → IsOkAnd (sheet_of text)
+        (λ sheet. (deck : Deck) → IsDeckOf sheet deck → takes (Some deck.replies) head c reply ≡ fits c reply) }
+    ensures names { (text : List ℕ) (head : ℕ) → document_of text ≡ Some no_members → IsOkAnd (sheet_of text)
+        (λ sheet. (deck : Deck) → IsDeckOf sheet deck → get nat_cmp deck.names head ≡ None) }
 {}

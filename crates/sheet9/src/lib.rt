@@ -2,28 +2,35 @@
 //!
 //! ```toml
 //! # an edit deck
-//! [forgets]                  # at a command that is not listed, and that it does not refuse
-//! "20 61" = "nothing"        # FULL EE ON
-//! "20 65" = "motion"         # EDIT ON
+//! [forgets]                  # at a command that it does not refuse
+//! "20 61" = "nothing"
+//! "20 65" = "motion"
+//! [names]                    # of commands that are not listed
+//! "20 61" = "FULL EE ON"
+//! "20 65" = "EDIT ON"
 //! [passes]                   # modes that it may also show on the way to a goal
 //! REC = ["SHUTTLE", "JOG"]
+//! [replies]                  # that it may also give to a command
+//! "61 0A" = ["74 08", "78 08"]
 //! ```
 //!
 //! `specs/Sheet.antt` says what such a text means, over the toml library's own definition of a document. [`read_sheet`] gives
 //! exactly that, or the first thing that is wrong, which a [`Refusal`] tells in one line.
 #![tactic(auto)]
 
-mod entry;
+mod entries;
 mod forgets;
 mod head;
 pub mod laws;
+mod names;
 mod passes;
 mod quoted;
 mod refusal;
+mod replies;
 mod sheet;
 #[cfg(test)]
 mod tests;
 mod text;
 
-pub use refusal::{ForgetsFault, Refusal, SheetError};
+pub use refusal::{EntryFault, ItemFault, Refusal, SheetError, TableName};
 pub use sheet::read_sheet;

@@ -3,10 +3,9 @@ ghost use Rattle.std.specs.Prelude.{◌≡◌, IfOk, IfErr, Ok, option_map};
 ghost use Rattle.toml.specs.Data.{as_array, as_str};
 ghost use Rattle.toml.specs.View.{array_view, table_view, view};
 ghost use Rattle.sheet9.specs.Passes.{mode_named, own_ways, passes_in, passes_of, way_with, with_names};
-ghost use Rattle.sheet9.specs.Refusal.{NoMode, NoModes};
-ghost use Rattle.sheet9.specs.Working.{ReportsWithoutLine, Says};
+ghost use Rattle.sheet9.specs.Working.{ReportsWithoutLine};
 
-use crate::refusal::{Refusal, SheetError};
+use crate::refusal::{EntryFault, ItemFault, Refusal, SheetError, TableName};
 use deck9::{Mode, ModeSet};
 use std::alloc::Global;
 use toml::value::Array;
@@ -22,7 +21,10 @@ pub(crate) fn read_passes(alloc: Global, value: Option<&Value>) -> Result<[ModeS
     };
     match value.as_table() {
         Some(entries) => read_entries(alloc, entries),
-        None => Err(SheetError::Refused(Refusal::PassesNoTable)),
+        None => {
+            let table = TableName::Passes;
+            Err(SheetError::Refused(Refusal::NoTable { table }))
+        }
     }
 }
 
@@ -41,8 +43,12 @@ fn read_entries(alloc: Global, entries: &Table) -> Result<[ModeSet; 10], SheetEr
     let mut ways = own_ways();
     'entries: for (key, value) in entries.iter() {
         let Some(goal) = mode_named(key.as_str()) else {
-            let goal = String::from_str(alloc, key.as_str())?;
-            return Err(SheetError::Refused(Refusal::NoGoal { goal }));
+            return Err(SheetError::of_entry(
+                alloc,
+                TableName::Passes,
+                key.as_str(),
+                EntryFault::NoGoal,
+            ));
         };
         ways[goal.index()] = read_way(alloc, key.as_str(), goal, value)?;
     }
@@ -56,7 +62,7 @@ fn read_way(alloc: Global, key: &str, goal: Mode, value: &Value) -> Result<ModeS
 {
     match value.as_array() {
         Some(names) => with_names(alloc, key, ModeSet::on_the_way(goal), names),
-        None => Err(no_modes(alloc, key)),
+        None => Err(SheetError::of_entry(alloc, TableName::Passes, key, EntryFault::NoModes)),
     }
 }
 
@@ -68,10 +74,11 @@ fn with_names(alloc: Global, key: &str, set: ModeSet, names: &Array) -> Result<M
     let mut way = set;
     'names: for value in names {
         let Some(name) = value.as_str() else {
-            return Err(no_modes(alloc, key));
+            return Err(SheetError::of_entry(alloc, TableName::Passes, key, EntryFault::NoModes));
         };
         let Some(mode) = mode_named(name) else {
-            return Err(no_mode(alloc, key, name));
+            let fault = ItemFault::NoMode;
+            return Err(SheetError::of_item(alloc, TableName::Passes, key, name, fault));
         };
         way = way.or(ModeSet::just(mode));
     }
@@ -88,24 +95,4 @@ fn mode_named(name: &str) -> Option<Mode>
         }
     }
     None
-}
-
-/// The error for a value that is no list of texts.
-fn no_modes(alloc: Global, goal: &str) -> SheetError
-    ensures { Says (NoModes goal.now) result }
-{
-    match String::from_str(alloc, goal) {
-        Ok(goal) => SheetError::Refused(Refusal::NoModes { goal }),
-        Err(_) => SheetError::OutOfMemory,
-    }
-}
-
-/// The error for a text that is no name of a mode.
-fn no_mode(alloc: Global, goal: &str, name: &str) -> SheetError
-    ensures { Says (NoMode goal.now name.now) result }
-{
-    match (String::from_str(alloc, goal), String::from_str(alloc, name)) {
-        (Ok(goal), Ok(name)) => SheetError::Refused(Refusal::NoMode { goal, name }),
-        _ => SheetError::OutOfMemory,
-    }
 }

@@ -1,6 +1,8 @@
 //! Why a text gives no deck.
+ghost use Rattle.sheet9.specs.Refusal.{Entry, Item};
+ghost use Rattle.sheet9.specs.Working.{Says};
 
-use std::alloc::AllocError;
+use std::alloc::{AllocError, Global};
 use std::error::Error;
 
 /// Why [`read_sheet`](crate::read_sheet) gives no deck.
@@ -12,7 +14,7 @@ pub enum SheetError {
     OutOfMemory,
 }
 
-/// What is wrong with the text of a sheet, and where: the first thing in the order of these variants, and within a table in
+/// What is wrong with the text of a sheet, and where: the first thing, in the order of the tables' names and within a table in
 /// the order of its keys. Its `Display` is one line of printable ASCII, without a line feed.
 #[derive(Debug, Drop, PartialEq, Eq)]
 pub enum Refusal {
@@ -22,54 +24,133 @@ pub enum Refusal {
         /// found.
         line: usize,
     },
-    /// At the top stands another key than `forgets` and `passes`.
+    /// At the top stands a key that is no table's name.
     UnknownKey {
         /// The key.
         key: String,
     },
-    /// The key `forgets` has no table.
-    ForgetsNoTable,
-    /// An entry of `[forgets]` is not one.
-    Forgets {
+    /// A table's name has a value that is no table.
+    NoTable {
+        /// The table.
+        table: TableName,
+    },
+    /// An entry of a table is not one.
+    Entry {
+        /// The table.
+        table: TableName,
         /// The entry's key.
         key: String,
         /// What is wrong with it.
-        fault: ForgetsFault,
+        fault: EntryFault,
     },
-    /// The key `passes` has no table.
-    PassesNoTable,
-    /// A key of `[passes]` is no name of a mode.
-    NoGoal {
-        /// The key.
-        goal: String,
-    },
-    /// A value of `[passes]` is no list, or has an item that is no text.
-    NoModes {
-        /// The value's key.
-        goal: String,
-    },
-    /// A list of `[passes]` has a text that is no name of a mode.
-    NoMode {
-        /// The list's key.
-        goal: String,
+    /// The list that an entry has for its value has a text that it may not have.
+    Item {
+        /// The table.
+        table: TableName,
+        /// The entry's key.
+        key: String,
         /// The text.
-        name: String,
+        item: String,
+        /// What is wrong with it.
+        fault: ItemFault,
     },
 }
 
-/// What is wrong with an entry of `[forgets]`: the first that holds, in this order.
+/// The tables of a sheet.
 #[derive(Clone, Copy, Debug, PartialEq, Eq)]
-pub enum ForgetsFault {
+pub enum TableName {
+    /// What is forgotten at some commands.
+    Forgets,
+    /// What some commands are called.
+    Names,
+    /// Which modes a deck may show on the way to a goal.
+    Passes,
+    /// Which replies some commands take.
+    Replies,
+}
+
+/// What is wrong with an entry: the first that holds, in this order.
+#[derive(Clone, Copy, Debug, PartialEq, Eq)]
+pub enum EntryFault {
     /// The key is not two bytes of two hexadecimal digits each, with one blank between.
     NotTwoBytes,
     /// The key names a block of group 1 or 7, which is a deck's.
     Reply,
-    /// The key names a listed command: what that does is fixed.
+    /// The key of `[forgets]` names a listed command of group 6: that only asks.
+    Sense,
+    /// The key of `[names]` names a listed command: that has its name.
     Listed,
+    /// The key of `[passes]` is no name of a mode.
+    NoGoal,
     /// The value is none of the five words for what is forgotten.
     NotForgotten,
+    /// The value is no text, where a name is wanted.
+    NoText,
+    /// The name has another character than capital letters, digits, blanks, `+`, `-` and `/`.
+    NameCharacter,
+    /// The name does not begin with a letter.
+    NameStart,
+    /// The name is longer than 24 characters.
+    NameLength,
+    /// The name has a blank at its end, or two together.
+    NameBlanks,
+    /// The value is no list, or has an item that is no text, where a list of modes is wanted.
+    NoModes,
+    /// The value is no list, or has an item that is no text, where a list of replies is wanted.
+    NoReplies,
+    /// The list of replies is empty.
+    EmptyList,
     /// The entry is right by itself, and another key before it names the same command.
     NamedTwice,
+}
+
+/// What is wrong with a text in a list.
+#[derive(Clone, Copy, Debug, PartialEq, Eq)]
+pub enum ItemFault {
+    /// It is no name of a mode.
+    NoMode,
+    /// It is no form of reply.
+    NoReply,
+    /// It is a form of group 0, 2, 4 or 6, which is a controller's.
+    Command,
+}
+
+impl SheetError {
+    /// The error that an entry is refused with.
+    pub(crate) fn of_entry(
+        alloc: Global,
+        table: TableName,
+        key: &str,
+        fault: EntryFault,
+    ) -> SheetError
+        ensures { Says (Entry table key.now fault) result }
+    {
+        match String::from_str(alloc, key) {
+            Ok(key) => SheetError::Refused(Refusal::Entry { table, key, fault }),
+            Err(_) => SheetError::OutOfMemory,
+        }
+    }
+
+    /// The error that an entry is refused with for a text in its list.
+    pub(crate) fn of_item(
+        alloc: Global,
+        table: TableName,
+        key: &str,
+        item: &str,
+        fault: ItemFault,
+    ) -> SheetError
+        ensures { Says (Item table key.now item.now fault) result }
+    {
+        match (String::from_str(alloc, key), String::from_str(alloc, item)) {
+            (Ok(key), Ok(item)) => SheetError::Refused(Refusal::Item {
+                table,
+                key,
+                item,
+                fault,
+            }),
+            _ => SheetError::OutOfMemory,
+        }
+    }
 }
 
 impl Error for SheetError {}

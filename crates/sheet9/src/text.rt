@@ -1,9 +1,9 @@
 //! The text of an error.
 ghost use Rattle.std.specs.Prelude.{◌≡◌};
-ghost use Rattle.sheet9.specs.Text.{words_of};
+ghost use Rattle.sheet9.specs.Text.{name_of, words_of, words_of_item};
 
 use crate::quoted::Quoted;
-use crate::refusal::{ForgetsFault, Refusal, SheetError};
+use crate::refusal::{EntryFault, ItemFault, Refusal, SheetError, TableName};
 use std::fmt;
 
 impl fmt::Display for SheetError {
@@ -36,50 +36,77 @@ impl fmt::Display for Refusal {
                 let key = Quoted(key.as_str());
                 write!(
                     f,
-                    "{key}: unknown key: only [forgets] and [passes] are read"
+                    "{key}: unknown key: only [forgets], [names], [passes] and [replies] are read"
                 )
             }
-            Refusal::ForgetsNoTable => write!(f, "\"forgets\": not a table"),
-            Refusal::Forgets { key, fault } => {
-                let (key, words) = (Quoted(key.as_str()), words_of(*fault));
-                write!(f, "[forgets] {key}: {words}")
+            Refusal::NoTable { table } => {
+                let table = name_of(*table);
+                write!(f, "\"{table}\": not a table")
             }
-            Refusal::PassesNoTable => write!(f, "\"passes\": not a table"),
-            Refusal::NoGoal { goal } => {
-                let goal = Quoted(goal.as_str());
-                write!(
-                    f,
-                    "[passes] {goal}: not STOP, PLAY, REC, FF, REW, SHUTTLE, JOG, VAR, CUED or EJECT"
-                )
+            Refusal::Entry { table, key, fault } => {
+                let (table, key, words) = (name_of(*table), Quoted(key.as_str()), words_of(*fault));
+                write!(f, "[{table}] {key}: {words}")
             }
-            Refusal::NoModes { goal } => {
-                let goal = Quoted(goal.as_str());
-                write!(
-                    f,
-                    "[passes] {goal}: not a list of modes, as [\"SHUTTLE\", \"JOG\"]"
-                )
-            }
-            Refusal::NoMode { goal, name } => {
-                let (goal, name) = (Quoted(goal.as_str()), Quoted(name.as_str()));
-                write!(
-                    f,
-                    "[passes] {goal}: {name} is not STOP, PLAY, REC, FF, REW, SHUTTLE, JOG, VAR, CUED or EJECT"
-                )
+            Refusal::Item {
+                table,
+                key,
+                item,
+                fault,
+            } => {
+                let (table, key) = (name_of(*table), Quoted(key.as_str()));
+                let (item, words) = (Quoted(item.as_str()), words_of_item(*fault));
+                write!(f, "[{table}] {key}: {item} is {words}")
             }
         }
     }
 }
 
-/// What is wrong with an entry of `[forgets]`, in words.
-fn words_of<'a>(fault: ForgetsFault) -> &'a str
+/// The name of a table.
+fn name_of<'a>(table: TableName) -> &'a str
+    ensures { result.now ≡ name_of table }
+{
+    match table {
+        TableName::Forgets => "forgets",
+        TableName::Names => "names",
+        TableName::Passes => "passes",
+        TableName::Replies => "replies",
+    }
+}
+
+/// What is said of a text that is no name of a mode.
+const NO_MODE: &str = "not STOP, PLAY, REC, FF, REW, SHUTTLE, JOG, VAR, CUED or EJECT";
+
+/// What is wrong with an entry, in words.
+fn words_of<'a>(fault: EntryFault) -> &'a str
     ensures { result.now ≡ words_of fault }
 {
     match fault {
-        ForgetsFault::NotTwoBytes => "not two bytes in hexadecimal, as \"20 61\"",
-        ForgetsFault::Reply => "groups 1 and 7 are a deck's replies, not commands",
-        ForgetsFault::Listed => "a listed command: what it does is fixed",
-        ForgetsFault::NamedTwice => "named twice",
-        ForgetsFault::NotForgotten =>
+        EntryFault::NotTwoBytes => "not two bytes in hexadecimal, as \"20 61\"",
+        EntryFault::Reply => "groups 1 and 7 are a deck's replies, not commands",
+        EntryFault::Sense => "a listed sense request: it changes nothing",
+        EntryFault::Listed => "a listed command: it has its name",
+        EntryFault::NoGoal => NO_MODE,
+        EntryFault::NotForgotten =>
             "not \"nothing\", \"motion\", \"registers\", \"tape\" or \"everything\"",
+        EntryFault::NoText => "not a text, as \"FULL EE ON\"",
+        EntryFault::NameCharacter => "a name has only A to Z, 0 to 9, blanks, +, - and /",
+        EntryFault::NameStart => "a name begins with a letter",
+        EntryFault::NameLength => "a name has no more than 24 characters",
+        EntryFault::NameBlanks => "a name has no blank at its end, and no two together",
+        EntryFault::NoModes => "not a list of modes, as [\"SHUTTLE\", \"JOG\"]",
+        EntryFault::NoReplies => "not a list of replies, as [\"74 08\", \"7* 21\"]",
+        EntryFault::EmptyList => "an empty list: at least one reply is wanted",
+        EntryFault::NamedTwice => "named twice",
+    }
+}
+
+/// What is wrong with a text in a list, in words.
+fn words_of_item<'a>(fault: ItemFault) -> &'a str
+    ensures { result.now ≡ words_of_item fault }
+{
+    match fault {
+        ItemFault::NoMode => NO_MODE,
+        ItemFault::NoReply => "no reply, as \"74 08\" or \"7* 21\"",
+        ItemFault::Command => "no reply: groups 0, 2, 4 and 6 are a controller's commands",
     }
 }

@@ -1,3 +1,5 @@
 pub mod PieceLemmas
 pub mod RowLemmas
+pub mod WordRow
+pub mod Words
 pub mod WriteLemmas

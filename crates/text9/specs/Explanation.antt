@@ -1,12 +1,12 @@
 -- The line that explains an exchange: what was asked and answered, and what is known of the deck after it.
-use Rattle.std.specs.Prelude.{ℕ, ◌/◌, ◌%◌, if◌then◌else◌, Bool, true, false, List, [], ◌∷◌, ◌++◌, unwrap_or, slice_index, codes}
+use Rattle.std.specs.Prelude.{ℕ, if◌then◌else◌, Bool, true, false, List, [], ◌++◌, unwrap_or, codes}
 use Rattle.std.specs.Fmt.{decimal}
 use Rattle.tc25.specs.Day.{text_of}
 use Rattle.tc25.specs.declared.rate.Rate.{Rate}
 use Rattle.block9.specs.declared.block.Block.{Block}
 use Rattle.block9.specs.declared.exchange.Exchange.{Exchange}
-use Rattle.block9.specs.Block.{first_datum, head_of}
-use Rattle.block9.specs.Command.{is_ack, is_nak, name_of}
+use Rattle.block9.specs.Block.{first_datum}
+use Rattle.block9.specs.Command.{is_ack, is_nak}
 use Rattle.block9.specs.Nak.{nak_bits}
 use Rattle.deck9.specs.declared.knowledge.Known.{Known}
 use Rattle.deck9.specs.declared.knowledge.Known.TheVariants as known
@@ -18,28 +18,19 @@ use Rattle.deck9.specs.declared.profile.Profile.{Profile}
 use Rattle.deck9.specs.declared.state.Hands.{Hands}
 use Rattle.deck9.specs.declared.state.Hands.TheVariants as hands
 use Rattle.deck9.specs.Mode.{name_of as name_of_mode}
+use Rattle.deck9.specs.Names.{name_told}
 use Rattle.deck9.specs.Status.{has_bit}
+use Rattle.text9.specs.declared.detail.Detail.{Detail}
+use Rattle.text9.specs.declared.detail.Detail.TheVariants as detail
+use Rattle.text9.specs.Bytes.{hex_byte, text_of_head}
+use Rattle.text9.specs.ExchangeBytes.{text_of_exchange}
 use Rattle.text9.specs.Row.{in_a_row, names_of}
-
--- ---- bytes
-
--- a hexadecimal digit, in upper case
-abbrev pub hex_digit : ℕ → ℕ
-hex_digit n = slice_index (codes "0123456789ABCDEF") n
-
--- a byte as two hexadecimal digits
-abbrev pub hex_byte : ℕ → List ℕ
-hex_byte n = hex_digit (n / 16 % 16) ∷ hex_digit (n % 16) ∷ []
-
--- the first two bytes of a block, as in 51 20
-unfoldable pub text_of_head : Block → List ℕ
-text_of_head b = hex_byte (head_of b / 256) ++ codes " " ++ hex_byte (head_of b % 256)
 
 -- ---- what was asked, and what was answered
 
--- the name of a command, and the first two bytes of one that is not listed
-unfoldable pub text_of_command : Exchange → List ℕ
-text_of_command e = unwrap_or (name_of e.command) (text_of_head e.block)
+-- the name of a command, and the first two bytes of one that has none
+unfoldable pub text_of_command : Profile → Exchange → List ℕ
+text_of_command p e = unwrap_or (name_told p.deck e.command) (text_of_head e.block)
 
 -- the names of the bits of a table that are set in a byte
 abbrev pub names_set : ℕ → List (List ℕ × ℕ) → List (List ℕ)
@@ -103,12 +94,12 @@ text_of_knowledge p k =
 
 -- ---- the line
 
+-- an exchange by its names, or with its bytes, by the number of its reply's last record
+unfoldable pub text_in : Detail → Profile → ℕ → Exchange → List ℕ
+text_in detail.Names p at e = (codes "record " ++ decimal at) ++ (codes ": " ++ text_of_command p e) ++ (codes " -> " ++ text_of_reply e.reply)
+text_in detail.Bytes p at e = text_of_exchange p at e
+
 -- the line of an exchange, by the number of its reply's last record and what is known after it
-unfoldable pub line_of_exchange : Profile → ℕ → Exchange → Knowledge → List ℕ
-line_of_exchange p at e k =
-    (codes "record " ++ decimal at)
-    ++ (codes ": " ++ text_of_command e)
-    ++ (codes " -> " ++ text_of_reply e.reply)
-    ++ (codes ", delay " ++ decimal e.delay_us)
-    ++ (codes ", " ++ text_of_knowledge p k)
-    ++ codes "\n"
+unfoldable pub line_of_exchange : Detail → Profile → ℕ → Exchange → Knowledge → List ℕ
+line_of_exchange detail p at e k =
+    text_in detail p at e ++ (codes ", delay " ++ decimal e.delay_us) ++ (codes ", " ++ text_of_knowledge p k) ++ codes "\n"

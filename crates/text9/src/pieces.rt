@@ -3,7 +3,7 @@
 //! An error comes where the buffer has no room and gets none.
 ghost use Rattle.std.specs.Prelude.{◌≡◌, ◌++◌, OnOk};
 ghost use Rattle.std.specs.Fmt.{decimal};
-ghost use Rattle.text9.specs.Explanation.{hex_byte};
+ghost use Rattle.text9.specs.Bytes.{hex_byte};
 
 use crate::buffer::TextBuffer;
 use itoa::Buffer;

@@ -7,7 +7,7 @@ use Rattle.track9.proofs.Words.{drifted_part, drifted_with, Effect, effect_of, E
 use Rattle.track9.proofs.Words.{gone_pairs, gone_part, has, has-and, has-or, has_pair, HasEffect, if◌then◌else◌, IfSome, in_local, inl, InPart}
 use Rattle.track9.proofs.Words.{inr, InHalves, is_as_wanted, part_remains, is_mode, is_mode-same, is_nak, LeadsOn, List, map_halves, masked, masked_part, Mode, mode_self, ModeSet}
 use Rattle.track9.proofs.Words.{no_states, None, Option, or-true, or_cases, Part, Presets, presets_after, put_settled}
-use Rattle.track9.proofs.Words.{refl, refused, RegAudioIn, RegAudioOut, RegIn, Register, RegistersSet, RegOut, reported_part, Sense, sense_of, sensed_part, set_where, settled}
+use Rattle.track9.proofs.Words.{refl, refused, RegAudioIn, RegAudioOut, RegIn, Register, RegistersSet, RegOut, reported_part, Sense, sense_of, sensed_part, shown_by, is_own, set_where, settled}
 use Rattle.track9.proofs.Words.{shown_with, ShowsStatus, Some, some_entry, some_mode, some_pair, halves_remain, State, Status, status_of, status_part, DeckStep, Stop, subst, sym, Taken, Tells, time_of, true}
 use Rattle.track9.proofs.Words.{halves_changed, halves_drifted, halves_gone, halves_sensed, halves_status, HalvesBelow, HalvesFew, Halves, HalvesWhole, where_remains, Whole, with_command, with_entries, with_entry}
 use Rattle.track9.proofs.Words.{Rate, rate_in, rate_of, untouched, with_pairs, ℕ, ◌&&◌, ◌||◌, ◌↔◌, ◌∙◌, ◌≡◌, ◌⊎◌}
@@ -305,7 +305,7 @@ has_effect deck rate m e h by whole below = leads rate (DoesOrNot deck rate m e)
     local : (s t : State) → DoesOrNot deck rate m e s t → t.local ≡ s.local
     local s t d = elim (does_keep deck rate m e s t d).1 [ inl all ↦ absurd (false≢true (sym (ap is_by_part all) ∙ by)) | inr same ↦ same ]
 
-has_forgotten_all : (deck : Option Deck) (rate : Rate) (may_stay : Bool) (h : Halves) → HalvesWhole rate h → HasEffect deck rate may_stay effect.ForgetAll h (all_forgotten h)
+pub has_forgotten_all : (deck : Option Deck) (rate : Rate) (may_stay : Bool) (h : Halves) → HalvesWhole rate h → HasEffect deck rate may_stay effect.ForgetAll h (all_forgotten h)
 has_forgotten_all deck rate m h whole = subst (λ other. HasEffect deck rate m effect.ForgetAll h (if halves_remain h then all_or_none other true else h))
     (sym (halves_rate rate h whole)) (record {
       reached = λ pn. (
@@ -501,9 +501,15 @@ reads_status rate status h whole = reads rate (λ s. ShowsStatus s status) (λ l
 
 -- ---- complete exchanges
 
--- a command that asks for something of the state has no effect
-pub asks_or_acts : (deck : Option Deck) (c : Command) → (sense_of c ≡ sense.Nothing) ⊎ (effect_of deck c ≡ effect.Nothing)
-asks_or_acts deck c = grind arith
+-- a command that asks for something of the state has no effect, and a reply to one that asks for nothing shows nothing
+asks_or_has_effect : (deck : Option Deck) (c : Command) → (sense_of c ≡ sense.Nothing) ⊎ (effect_of deck c ≡ effect.Nothing)
+asks_or_has_effect deck c = grind arith
+
+pub shows_or_acts : (deck : Option Deck) (c : Command) (reply : Block) → (shown_by c reply ≡ sense.Nothing) ⊎ (effect_of deck c ≡ effect.Nothing)
+shows_or_acts deck c reply = elim (asks_or_has_effect deck c) [
+  | inl e ↦ inl (cond_both (is_own c reply) (sense_of c) sense.Nothing (λ q. q ≡ sense.Nothing) (λ own. e) (λ other. refl))
+  | inr none ↦ inr none
+]
 
 -- the presets are those of the effect
 pub command_counts : (deck : Option Deck) (c : Command) (n : Presets) → with_command c n ≡ counted (effect_of deck c) n
@@ -528,8 +534,8 @@ exchanged_nak deck rate c reply h nak whole = exchanged_by deck rate c reply (λ
     back : (s t : State) → DeckStep (untouched deck rate) c reply s t → t ≡ s
     back s t h = grind arith
 
--- a step of a command that asks for something is what its reply shows
-asks : (deck : Option Deck) (rate : Rate) (c : Command) (reply : Block) (q : Sense) → is_nak reply ≡ false → sense_of c ≡ q → effect_of deck c ≡ effect.Nothing → (s t : State)
+-- a step whose reply shows something is what it shows
+asks : (deck : Option Deck) (rate : Rate) (c : Command) (reply : Block) (q : Sense) → is_nak reply ≡ false → shown_by c reply ≡ q → effect_of deck c ≡ effect.Nothing → (s t : State)
     → (Agrees rate q s reply × (t ≡ s)) ↔ DeckStep (untouched deck rate) c reply s t
 asks deck rate c reply q nak sensed none s t = grind arith
 
@@ -543,12 +549,12 @@ drift_sensed deck r time h = ap (halves_drifted deck) (halves_same _ (map_halves
     by : (p : Part) (b : Bool) → put_settled r (if b then Some (agreeing time (entries_of r p)) else None) p ≡ (if b then sensed_part r time p else p)
     by p b = grind arith
 
-pub exchanged_sense : (deck : Option Deck) (rate : Rate) (c : Command) (reply : Block) (r : Register) (h : Halves) → is_nak reply ≡ false → sense_of c ≡ sense.Register r → HalvesWhole rate h
+pub exchanged_sense : (deck : Option Deck) (rate : Rate) (c : Command) (reply : Block) (r : Register) (h : Halves) → is_nak reply ≡ false → shown_by c reply ≡ sense.Register r → HalvesWhole rate h
     → Taken deck rate c (Some reply) h (halves_drifted deck (halves_sensed r (time_of rate reply.bytes.items) h))
 exchanged_sense deck rate c reply r h nak wanted whole =
     let bytes = reply.bytes.items in
     let at = time_of rate bytes in
-    let none : effect_of deck c ≡ effect.Nothing = elim (asks_or_acts deck c) [ inl e ↦ cc | inr none ↦ none ] in
+    let none : effect_of deck c ≡ effect.Nothing = elim (shows_or_acts deck c reply) [ inl e ↦ cc | inr none ↦ none ] in
     rw (drift_sensed deck r at h) (exchanged_by deck rate c reply (λ s t. Tells rate (entry_of r s) bytes × (t ≡ s)) (λ n. n) h
     (map_halves (λ l. where_remains (sensed_part r at)) (halves_drifted deck h)) whole
     (asks deck rate c reply (sense.Register r) nak wanted none) (λ n. presets_of deck c reply n nak ∙ ap (λ e. counted e n) none)
@@ -557,16 +563,16 @@ exchanged_sense deck rate c reply r h nak wanted whole =
     (put_rate rate r (agreeing at (entries_of r p)) p same (agreeing_rate at (entries_of r p))))
     (λ l n p few. few_settled n _ (few_put n r (agreeing at (entries_of r p)) p few (few_agreeing _ at (entries_of r p))))))
 
-pub exchanged_status : (deck : Option Deck) (rate : Rate) (c : Command) (reply : Block) (asked : ℕ) (h : Halves) → is_nak reply ≡ false → sense_of c ≡ sense.Status asked → HalvesWhole rate h
+pub exchanged_status : (deck : Option Deck) (rate : Rate) (c : Command) (reply : Block) (asked : ℕ) (h : Halves) → is_nak reply ≡ false → shown_by c reply ≡ sense.Status asked → HalvesWhole rate h
     → Taken deck rate c (Some reply) h (halves_status (status_of asked reply) (halves_drifted deck h))
 exchanged_status deck rate c reply asked h nak asks_for whole =
     let status = status_of asked reply in
-    let none : effect_of deck c ≡ effect.Nothing = elim (asks_or_acts deck c) [ inl e ↦ cc | inr none ↦ none ] in
+    let none : effect_of deck c ≡ effect.Nothing = elim (shows_or_acts deck c reply) [ inl e ↦ cc | inr none ↦ none ] in
     exchanged_by deck rate c reply (λ s t. ShowsStatus s status × (t ≡ s)) (λ n. n) h (halves_status status (halves_drifted deck h)) whole
     (asks deck rate c reply (sense.Status asked) nak asks_for none)
     (λ n. presets_of deck c reply n nak ∙ ap (λ e. counted e n) none) (reads_status rate status (halves_drifted deck h) (drift_whole deck rate h whole))
 
-pub exchanged_effect : (deck : Option Deck) (rate : Rate) (c : Command) (reply : Block) (h g : Halves) → is_nak reply ≡ false → sense_of c ≡ sense.Nothing → HalvesWhole rate h
+pub exchanged_effect : (deck : Option Deck) (rate : Rate) (c : Command) (reply : Block) (h g : Halves) → is_nak reply ≡ false → shown_by c reply ≡ sense.Nothing → HalvesWhole rate h
     → HasEffect deck rate false (effect_of deck c) (halves_drifted deck h) g → Taken deck rate c (Some reply) h g
 exchanged_effect deck rate c reply h g nak sensed whole =
     exchanged_by deck rate c reply (DoesOrNot deck rate false (effect_of deck c)) (counted (effect_of deck c)) h g whole (λ s t. (there s t, back s t)) (λ n. presets_of deck c reply n nak)

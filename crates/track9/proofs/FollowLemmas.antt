@@ -1,5 +1,5 @@
 -- Where exchanges lead, and a tracker that takes them in turn.
-use Rattle.track9.proofs.Words.{[], ap, append-nil, append_assoc, AreReached, Ends, ends_more, ends_none, Exchange, Exchanges, FollowsFrom, get_or, IsFirst}
+use Rattle.track9.proofs.Words.{[], ap, append-nil, append_assoc, AreReached, Ends, ends_more, ends_none, Exchange, FollowsFrom, Goes, get_or, IsFirst}
 use Rattle.track9.proofs.Words.{KeepsEnds, Leads, LeadsFrom, length, List, Possible, Profile, refl, State, subst, sym, take, take_more, Tracked, ℕ}
 use Rattle.track9.proofs.Words.{◌++◌, ◌+◌, ◌<◌, ◌↔◌, ◌∙◌, ◌∷◌, ◌≡◌}
 
@@ -8,7 +8,7 @@ use Rattle.track9.proofs.Words.{◌++◌, ◌+◌, ◌<◌, ◌↔◌, ◌∙◌
 pub leads_on : (profile : Profile) (es : List Exchange) (X Y : State → Type 0) (t : State) → ((s : State) → X s → Y s) → Leads profile X es t → Leads profile Y es t
 leads_on profile [] X Y t f l = f t l
 leads_on profile (e ∷ es) X Y t f l =
-    leads_on profile es (λ u. (s : State) × X s × Exchanges profile e.command e.reply s u) (λ u. (s : State) × Y s × Exchanges profile e.command e.reply s u) t
+    leads_on profile es (λ u. (s : State) × X s × Goes profile e s u) (λ u. (s : State) × Y s × Goes profile e s u) t
     (λ u w. (w.0, f w.0 w.1, w.2)) l
 
 -- from where runs end, the exchanges that follow lead to where the runs of all end
@@ -16,19 +16,19 @@ ends_lead : (profile : Profile) (es fs : List Exchange) (t : State) → Ends pro
 ends_lead profile es [] t l = subst (λ (x : List Exchange). Ends profile x t) (append-nil es) l
 ends_lead profile es (f ∷ fs) t l =
     let more = ends_lead profile (es ++ f ∷ []) fs t (subst (λ (x : List Exchange). Ends profile x t) (sym (append_assoc es (f ∷ []) fs)) l) in
-    leads_on profile fs (Ends profile (es ++ f ∷ [])) (λ u. (s : State) × Ends profile es s × Exchanges profile f.command f.reply s u) t (λ u w. (ends_more profile es f).0 u w) more
+    leads_on profile fs (Ends profile (es ++ f ∷ [])) (λ u. (s : State) × Ends profile es s × Goes profile f s u) t (λ u w. (ends_more profile es f).0 u w) more
 
 lead_ends : (profile : Profile) (es fs : List Exchange) (t : State) → Leads profile (Ends profile es) fs t → Ends profile (es ++ fs) t
 lead_ends profile es [] t l = subst (λ (x : List Exchange). Ends profile x t) (sym (append-nil es)) l
 lead_ends profile es (f ∷ fs) t l =
-    let more = leads_on profile fs (λ u. (s : State) × Ends profile es s × Exchanges profile f.command f.reply s u) (Ends profile (es ++ f ∷ [])) t
+    let more = leads_on profile fs (λ u. (s : State) × Ends profile es s × Goes profile f s u) (Ends profile (es ++ f ∷ [])) t
     (λ u w. (ends_more profile es f).1 w.0 u w.1 w.2) l in
     subst (λ (x : List Exchange). Ends profile x t) (append_assoc es (f ∷ []) fs) (lead_ends profile (es ++ f ∷ []) fs t more)
 
 -- through some and then others
 pub leads_joined : (profile : Profile) (X : State → Type 0) (es fs : List Exchange) (t : State) → Leads profile X (es ++ fs) t ↔ Leads profile (Leads profile X es) fs t
 leads_joined profile X [] fs t = (λ l. l, λ l. l)
-leads_joined profile X (e ∷ es) fs t = leads_joined profile (λ u. (s : State) × X s × Exchanges profile e.command e.reply s u) es fs t
+leads_joined profile X (e ∷ es) fs t = leads_joined profile (λ u. (s : State) × X s × Goes profile e s u) es fs t
 
 -- ---- a tracker that follows another one
 
@@ -38,7 +38,7 @@ from-start t = record { states = λ s. (λ p. p, λ p. p); profile = refl }
 -- the same of the first exchanges of some
 pub from-next : (first : Tracked) (es : List Exchange) (k : ℕ) (e : Exchange) (old new : Tracked) → k < length es → e ≡ get_or es k e
     → FollowsFrom first (take k es) old
-    → AreReached (Possible old.states) (Exchanges old.profile e.command e.reply) (Possible new.states) → new.profile ≡ old.profile
+    → AreReached (Possible old.states) (Goes old.profile e) (Possible new.states) → new.profile ≡ old.profile
     → (take (k + 1) es ≡ take k es ++ e ∷ []) × FollowsFrom first (take (k + 1) es) new
 from-next first es k e old new low is f reached kept =
     let more = take_more es k e low ∙ ap (λ (x : Exchange). take k es ++ x ∷ []) (sym is) in

@@ -2,6 +2,7 @@ pub mod BeforeLemmas
 pub mod EffectLemmas
 pub mod EntryLemmas
 pub mod FollowLemmas
+pub mod ForgetLemmas
 pub mod KnownLemmas
 pub mod OneKnowledge
 pub mod PanelLemmas

@@ -2,15 +2,15 @@
 use Rattle.track9.proofs.Words.{Deck}
 use Rattle.track9.proofs.Words.{[], after_panel, all_drifted, all_or_none, AllLeadOn, ap, AreBelow, AreFew, AreReached, AreWhole, BelowDay, Block, Bool}
 use Rattle.track9.proofs.Words.{CanPass, Command, cond_both, counted, counts_after, Does, DoesOrNot, done, Drift, drift_from_pairs, DriftsAndGoes, Effect, effect_of, effect_taken, either_panel, entries_of}
-use Rattle.track9.proofs.Words.{false, false≢true, first_states, Follows, FollowsDrift, all_shown, Hands, hands_by, hands_of, has, HasEffect, if◌then◌else◌}
+use Rattle.track9.proofs.Words.{false, false≢true, first_states, Follows, FollowsDrift, Hands, hands_by, hands_of, has, HasEffect, if◌then◌else◌}
 use Rattle.track9.proofs.Words.{in_local, inl, InPart, inr, InHalves, is_nak, remains_with_panel_on, is_wide, IsIn, AreTracked, IsState}
 use Rattle.track9.proofs.Words.{LeadsOn, None, on_halves, Option, panel_passed, Possible, Presets, presets_after, refl, RegIn}
-use Rattle.track9.proofs.Words.{Register, sense_of, Some, states_remain, State, States, DeckStep, subst, switched, sym, Taken, StepOrPass, true, halves_drifted, halves_of, HalvesBelow, HalvesFew, Halves}
+use Rattle.track9.proofs.Words.{Register, shown_by, Some, states_remain, State, States, DeckStep, subst, switched, sym, Taken, StepOrPass, true, halves_drifted, halves_of, HalvesBelow, HalvesFew, Halves}
 use Rattle.track9.proofs.Words.{Profile, profile_of, Rate, rate_for, rate_in, untouched, HalvesWhole, with_command, ◌↔◌, ◌∙◌, ◌≡◌, ◌⊎◌}
 use Rattle.deck9.specs.declared.effect.Effect.TheVariants as effect
 use Rattle.deck9.specs.declared.sense.Sense.TheVariants as sense
 use Rattle.deck9.specs.declared.state.Hands.TheVariants as hands
-use Rattle.track9.proofs.EffectLemmas.{asks_or_acts, command_counts, drift_leads, leads_as, leads_same, leads_then, presets_of}
+use Rattle.track9.proofs.EffectLemmas.{shows_or_acts, command_counts, drift_leads, leads_as, leads_same, leads_then, presets_of}
 use Rattle.track9.proofs.EntryLemmas.{from_empty}
 use Rattle.track9.proofs.PartLemmas.{drifted_all, all_exactly, both_few, by_panel, drift_below, drift_few, drift_panel, drift_state, drift_whole, few_halves, first_exactly, live_some}
 use Rattle.track9.proofs.PartLemmas.{of_rate, off_drift, halves_rate, whole_in, possible_state, same_drift, some_live, state_is, halves_live, halves_none, halves_state, whole_halves}
@@ -135,8 +135,8 @@ wide_step deck rate c reply e was wide = (
         by false nak is = (nak, is)
         by true nak is = absurd (false≢true (ap is_wide is ∙ wide))
 
-    asks_nothing : sense_of c ≡ sense.Nothing
-    asks_nothing = elim (asks_or_acts deck c) [ inl e ↦ e | inr none ↦ absurd (false≢true (ap is_wide (sym none ∙ ok.1) ∙ wide)) ]
+    asks_nothing : shown_by c reply ≡ sense.Nothing
+    asks_nothing = elim (shows_or_acts deck c reply) [ inl e ↦ e | inr none ↦ absurd (false≢true (ap is_wide (sym none ∙ ok.1) ∙ wide)) ]
 
     back : (d t : State) → DeckStep (touched deck rate) c reply d t → Does (touched deck rate) e d t
     back d t h = grind arith
@@ -245,7 +245,7 @@ first_tracked rate hands.Allowed n = record {
   few = both_few n (first_states rate hands.Allowed) (few_halves rate n true) (few_halves rate n true);
 }
 
-leads_forgotten : (deck : Option Deck) (Goes : State → State → Type 0) (count : Presets → Presets) (v : States) → hands_of v ≡ hands.Allowed → AreWhole (rate_for v) v
+pub leads_forgotten : (deck : Option Deck) (Goes : State → State → Type 0) (count : Presets → Presets) (v : States) → hands_of v ≡ hands.Allowed → AreWhole (rate_for v) v
     → ((s t : State) → IsState (rate_for v) t → Goes s t) → ((s t : State) → Possible v s → Goes s t → IsState (rate_for v) t)
     → ((n : Presets) → count n ≡ n) → AllLeadOn (touched deck (rate_for v)) Goes count v (if states_remain v then first_states (rate_for v) hands.Allowed else v)
 leads_forgotten deck Goes count v allowed whole there back counts = by (states_remain v) refl

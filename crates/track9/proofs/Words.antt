@@ -40,7 +40,7 @@ pub use Rattle.track9.specs.Working.Deck.{day, Does, done, Drift, Effect, effect
 pub use Rattle.track9.specs.Working.Deck.{has_pair, ignored, in_local, InPart, is_mode, is_nak, is_of_goal_or_register, is_one_of, is_set, is_some, IsEntry, IsFirst, IsState}
 pub use Rattle.track9.specs.Working.Deck.{just, just_of, KeepsPanel, KeepsRest, Known, KnownEntry, KnowsModes, Mode, modes, ModeSet, moved_entry, Next, next_frame, on_the_way}
 pub use Rattle.track9.specs.Working.Deck.{MayBeOn, PairReaches, panel_switched, Part, Passes, Possible, Presets, presets_after, Prev, prev_frame, Profile, Rate, Recall, refused, RegAudioIn, RegAudioOut, RegIn}
-pub use Rattle.track9.specs.Working.Deck.{Register, RegistersSet, RegOut, Reset, Sense, sense_of, SetAt, SetSomewhere, shown_with, Shows, ShowsStatus, State, States, Status, status_of, DeckStep, Stop, Tells}
+pub use Rattle.track9.specs.Working.Deck.{Register, RegistersSet, RegOut, Reset, Sense, sense_of, shown_by, is_own, SetAt, SetSomewhere, shown_with, Shows, ShowsStatus, State, States, Status, status_of, DeckStep, Stop, Tells}
 pub use Rattle.track9.specs.Working.Deck.{time_of, Times, Tracked, Halves, way, with_command, with_entry, with_one, with_time}
 unfoldable pub use Rattle.track9.specs.Working.Deck.{span_count}
 pub use Rattle.track9.specs.Working.Entries.{agreeing, all_entries, is_nil, no_entries, set_entries, some_entry}
@@ -57,4 +57,7 @@ pub use Rattle.track9.specs.Following.{FollowsFrom, KeepsEnds, Leads, LeadsFrom}
 pub use Rattle.track9.specs.Start.{StartsFrom}
 pub use Rattle.track9.specs.Working.Starts.{entries_known, modes_known, pairs_of, part_from, part_known, shown_if, states_from, halves_from}
 pub use Rattle.track9.specs.declared.start.Start.{Start}
+pub use Rattle.track9.specs.Working.Deck.{Forgets, forgotten_beside, forgotten_with, Goes, head_of}
+pub use Rattle.track9.specs.Working.States.{AreForgotten, halves_forgotten, IsForgottenFromNone, IsReached, MayForget}
+pub use Rattle.deck9.specs.declared.deck.Forgotten.TheVariants.{Everything, Motion, Nothing, Registers, Tape}
 pub use Rattle.track9.specs.Working.States.{halves_of, halves_sensed, halves_status, HalvesBelow, HalvesFew, HalvesWhole}

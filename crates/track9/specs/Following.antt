@@ -4,13 +4,13 @@ use Rattle.block9.specs.declared.exchange.Exchange.{Exchange}
 use Rattle.deck9.specs.declared.profile.Profile.{Profile}
 use Rattle.deck9.specs.declared.state.State.{State}
 use Rattle.deck9.specs.Run.{Ends}
-use Rattle.deck9.specs.Step.{Exchanges}
+use Rattle.deck9.specs.Step.{Goes}
 use Rattle.track9.specs.Tracker.{Possible, Tracked}
 
 -- from one of the states X these exchanges lead to the state t
 abbrev pub Leads : Profile → (State → Type 0) → List Exchange → State → Type 0
 Leads profile X [] t = X t
-Leads profile X (e ∷ es) t = Leads profile (λ u. (s : State) × X s × Exchanges profile e.command e.reply s u) es t
+Leads profile X (e ∷ es) t = Leads profile (λ u. (s : State) × X s × Goes profile e s u) es t
 
 -- from one of the states that the first tracker keeps
 abbrev pub LeadsFrom : Tracked → List Exchange → State → Type 0

@@ -9,7 +9,7 @@ use Rattle.deck9.specs.declared.effect.Effect.TheVariants as effect
 use Rattle.deck9.specs.declared.sense.Sense.{Sense}
 use Rattle.deck9.specs.declared.sense.Sense.TheVariants as sense
 use Rattle.deck9.specs.Effect.{effect_of}
-use Rattle.deck9.specs.Shows.{sense_of}
+use Rattle.deck9.specs.Shows.{shown_by}
 
 -- an effect on goal, shown mode and panel alone
 abbrev pub is_frugal_effect : Effect → Bool
@@ -25,7 +25,7 @@ abbrev pub is_frugal_sense : Sense → Bool
 is_frugal_sense (sense.Register r) = false
 is_frugal_sense _ = true
 
--- a NAK; or a command that asks for no register's time, and changes and forgets no register: each system and transport
+-- a NAK; or a reply that gives no register's time, to a command that changes and forgets no register: each system and transport
 -- command, STATUS SENSE and CURRENT TIME SENSE are of this kind
 abbrev pub is_frugal : Option Deck → Command → Block → Bool
-is_frugal deck command reply = is_nak reply || (is_frugal_sense (sense_of command) && is_frugal_effect (effect_of deck command))
+is_frugal deck command reply = is_nak reply || (is_frugal_sense (shown_by command reply) && is_frugal_effect (effect_of deck command))

@@ -1,13 +1,15 @@
 //! The deck of a tracker's profile, if it has one: what it does in place of what the rules say of every deck.
 ghost use Rattle.std.specs.Prelude.{◌≡◌, None, slice_index_or};
-ghost use Rattle.deck9.specs.Deck.{way_of};
+ghost use Rattle.block9.specs.Block.{head_of};
+ghost use Rattle.deck9.specs.Deck.{forgotten_beside, way_of};
 ghost use Rattle.deck9.specs.Effect.{effect_of};
 ghost use Rattle.deck9.specs.Mode.{index_of};
 ghost use Rattle.deck9.specs.ModeSet.{modes};
+ghost use Rattle.deck9.specs.Step.{forgotten_with};
 ghost use Rattle.deck9.specs.declared.mode.Mode.{Mode as AMode};
 
-use block9::Command;
-use deck9::{Deck, Effect, Mode, ModeSet};
+use block9::{Command, Exchange};
+use deck9::{Deck, Effect, Forgotten, Mode, ModeSet};
 use std::marker::Model;
 
 /// A deck, or none: then the rules say what it does.
@@ -55,6 +57,22 @@ impl<'a> DeckRef<'a> {
         ensures { result ≡ effect_of self.now command.now }
     {
         Deck::effect(self.0, command)
+    }
+
+    /// What it forgets with an exchange beside the effect of its command: nothing where that got a NAK.
+    #[inline(always)] // it is asked of every exchange
+    pub(crate) fn forgotten_with(&self, exchange: &Exchange) -> Forgotten
+        ensures { result ≡ forgotten_with self.now exchange.now }
+    {
+        Deck::forgotten_with(self.0, exchange)
+    }
+
+    /// What it forgets beside the effect of an exchange's command, whatever the reply is.
+    #[inline(always)] // it is asked of every exchange
+    pub(crate) fn forgotten_beside(&self, exchange: &Exchange) -> Forgotten
+        ensures { result ≡ forgotten_beside self.now exchange.now.command (head_of exchange.now.block) }
+    {
+        Deck::forgotten_beside(self.0, exchange)
     }
 
     /// The modes that it may show on the way to each goal, in the order of the modes.

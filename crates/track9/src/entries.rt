@@ -138,7 +138,7 @@ impl<S: TimeSet> Entries<S> {
     }
 
     /// Whether this is one of the entries.
-    fn has(&self, entry: &Entry) -> bool
+    pub(crate) fn has(&self, entry: &Entry) -> bool
         ensures { IsTrue result ↔ Allows self.now entry.now }
     {
         match entry {

@@ -8,7 +8,7 @@ use sets25::TimeSet;
 use std::alloc::AllocError;
 
 impl<'a, S: TimeSet> Tracker<'a, S> {
-    /// Takes these exchanges in turn, as [`Tracker::observe`] takes one. The states are then exactly those to which the
+    /// Takes these exchanges in turn, as [`Tracker::take`] takes one. The states are then exactly those to which the
     /// exchanges lead from a state before.
     ///
     /// An error comes where memory is refused. The tracker has then taken the exchanges before the one that needed it.
@@ -16,7 +16,7 @@ impl<'a, S: TimeSet> Tracker<'a, S> {
         ensures { OnOk result (FollowsFrom self.old exchanges.now self.new) }
     {
         for exchange in exchanges {
-            self.observe(&exchange.command, &exchange.reply)?;
+            self.take(exchange)?;
         }
         Ok(())
     }

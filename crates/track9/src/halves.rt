@@ -9,13 +9,13 @@ ghost use Rattle.std.specs.Prelude.{◌≡◌, IfOk, OnErr, OnOk, false, max};
 ghost use Rattle.sets25.specs.Times.{BelowDay, span_count};
 ghost use Rattle.track9.specs.Tracker.{entries_of, in_local};
 ghost use Rattle.track9.specs.Working.Starts.{part_from, halves_from};
-ghost use Rattle.track9.specs.Working.States.{HalvesBelow, HalvesWhole, all_forgotten, all_or_none, motion_forgotten, rate_in, registers_forgotten, halves_remain, tape_forgotten, halves_changed, halves_drifted, halves_gone, halves_sensed, halves_status};
+ghost use Rattle.track9.specs.Working.States.{HalvesBelow, HalvesWhole, all_forgotten, all_or_none, motion_forgotten, rate_in, registers_forgotten, halves_remain, tape_forgotten, halves_changed, halves_drifted, halves_forgotten, halves_gone, halves_sensed, halves_status};
 
 use crate::deck_ref::DeckRef;
 use crate::part::Part;
 use crate::pattern::is_wanted;
 use crate::start::Start;
-use deck9::{Change, Mode, Register, Status};
+use deck9::{Change, Forgotten, Mode, Register, Status};
 use sets25::{SpanSet, TimeSet};
 use std::alloc::{AllocError, Global};
 use std::marker::Model;
@@ -85,6 +85,13 @@ impl<S: TimeSet> Halves<S> {
         ensures { result ≡ rate_in self.now }
     {
         self.remote.rate()
+    }
+
+    /// The part with this value of local.
+    pub(crate) fn part(&self, local: bool) -> &Part<S>
+        ensures { result.now ≡ in_local self.entry.now local }
+    {
+        if local { &self.local } else { &self.remote }
     }
 
     /// An equal set.
@@ -190,9 +197,33 @@ impl<S: TimeSet> Halves<S> {
         ensures some { result ≡ halves_remain self.new }
     {
         let some = self.drift(deck);
+        self.forget_motion();
+        some
+    }
+
+    /// Goal and shown mode are forgotten.
+    fn forget_motion(&mut self)
+        ensures { self.new ≡ motion_forgotten self.old }
+    {
         self.remote.forget_motion();
         self.local.forget_motion();
-        some
+    }
+
+    /// What is named is forgotten, without a drift. Where memory is refused nothing has changed.
+    pub(crate) fn forget(&mut self, alloc: Global, forgotten: Forgotten) -> Result<(), AllocError>
+        ensures ok { OnOk result (self.new ≡ halves_forgotten forgotten self.old) }
+        ensures err { OnErr result (self.new ≡ self.old) }
+    {
+        match forgotten {
+            Forgotten::Nothing => Ok(()),
+            Forgotten::Motion => {
+                self.forget_motion();
+                Ok(())
+            }
+            Forgotten::Registers => self.forget_registers(alloc),
+            Forgotten::Tape => self.forget_tape(alloc),
+            Forgotten::Everything => self.forget_all(alloc),
+        }
     }
 
     /// Goal, shown mode and registers are forgotten.

@@ -25,6 +25,7 @@ use tc25::Rate;
 
 mod before;
 mod boxed;
+mod forgetting;
 mod knowing;
 mod member;
 

@@ -26,6 +26,8 @@ use std::alloc::{AllocError, Global};
 use std::marker::Model;
 use tc25::Rate;
 
+mod forgetting;
+
 /// All states that the deck could be in after the exchanges of a capture so far.
 ///
 /// A contract sees it as a set of states, by the pairs of modes and the sets of times that it keeps; the states

@@ -25,8 +25,9 @@ mod status;
 mod told;
 mod worked;
 
-use block9::{Block, Command, reply_time_valid};
+use block9::{Block, Command, Exchange, reply_time_valid};
 use deck9::{Hands, Knowledge, Register};
+use plain_deck::head_of;
 use sent::Sent;
 use sets25::{SpanSet, TimeSet};
 use std::alloc::AllocError;
@@ -58,16 +59,35 @@ fn exchange(rt: &impl Abort, sent: Sent) -> (Command, Block) {
     (command_of(rt, sent.0), reply)
 }
 
-/// Takes an exchange whose reply is of a kind that the command has.
+/// Takes an exchange whose reply is of a kind that the command has, with a command's block that has its first two bytes.
 fn observe<S: TimeSet>(
     rt: &impl Abort,
     tracker: &mut Tracker<S>,
     command: &Command,
     reply: &Block,
 ) -> Result<bool, AllocError> {
+    let head = head_of(command);
+    let block = drawn::block(rt, (head / 256 % 256) as u8, (head % 256) as u8, [0; 15]);
+    observe_block(rt, tracker, command, block, reply)
+}
+
+/// The same with this block of the command.
+fn observe_block<S: TimeSet>(
+    rt: &impl Abort,
+    tracker: &mut Tracker<S>,
+    command: &Command,
+    block: Block,
+    reply: &Block,
+) -> Result<bool, AllocError> {
     let is_allowed = (command.fits(reply), reply_time_valid(command, reply));
     same(rt, is_allowed, (true, true), (command, reply));
-    tracker.observe(command, reply)
+    tracker.take(&Exchange {
+        command: *command,
+        block,
+        reply: reply.copy(),
+        time_us: 0,
+        delay_us: 0,
+    })
 }
 
 /// Takes an exchange.
@@ -77,7 +97,8 @@ fn take<S: TimeSet>(
     sent: Sent,
 ) -> Result<bool, AllocError> {
     let (command, reply) = exchange(rt, sent);
-    observe(rt, tracker, &command, &reply)
+    let block = Block::from_bytes(sent.0).expect(rt, "a block");
+    observe_block(rt, tracker, &command, block, &reply)
 }
 
 /// Takes an exchange of a case, after which a state remains, or none.

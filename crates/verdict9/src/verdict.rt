@@ -1,6 +1,7 @@
 //! What is answered to a capture that can be judged.
 
 use block9::Reason;
+use text9::Detail;
 
 /// The verdict on the records of a capture.
 #[derive(Clone, Copy, Debug, PartialEq, Eq)]
@@ -39,8 +40,8 @@ pub enum Beginning {
 pub enum View {
     /// The line of the verdict alone.
     Verdict,
-    /// A line for each exchange, with what is then known of the deck, and the line of the verdict.
-    Explain,
+    /// A line for each exchange, told so, with what is then known of the deck, and the line of the verdict.
+    Explain(Detail),
 }
 
 /// What is written of each part of a capture where the judging goes on after a break.

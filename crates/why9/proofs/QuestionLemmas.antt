@@ -1,9 +1,9 @@
 -- A run that believes some replies, exchange by exchange, from the states that a tracker keeps.
 use Rattle.why9.proofs.Words.{[], ap, append_assoc, AreReached, arith, before_the_first, behind_first, Bool, drop, drop-cons, drop-drop, Exchange}
-use Rattle.why9.proofs.Words.{false, Profile, HasBelieving, IsBelievingFrom, IsFirst, length, length-append, length-drop, length-take-le, List, MayDo, nat_le, nat_tests, sym}
-use Rattle.why9.proofs.Words.{slice_index_or, slice_range, State, subst, suc, take, take-append-drop, take_rest, true, ArePassed, ArePassedTo, DriftsAndMayDo, HasBelievingFrom, HasBelievingFromPlace, ℕ, ◌++◌, ◌+◌, ◌-◌, ◌<◌}
+use Rattle.why9.proofs.Words.{false, Profile, HasBelieving, IsBelievingFrom, IsFirst, length, length-append, length-drop, length-take-le, List, nat_le, nat_tests, sym}
+use Rattle.why9.proofs.Words.{slice_index_or, slice_range, State, subst, suc, take, take-append-drop, take_rest, true, ArePassed, ArePassedTo, MayGo, HasBelievingFrom, HasBelievingFromPlace, ℕ, ◌++◌, ◌+◌, ◌-◌, ◌<◌}
 use Rattle.why9.proofs.Words.{◌↔◌, ◌∙◌, ◌∷◌, ◌≡◌, ◌≤◌}
-use Rattle.why9.proofs.Words.{DeckStep, done, Drift, drift_join, false≢true, ignored, is_nak, refl, refused}
+use Rattle.why9.proofs.Words.{DeckStep, done, Drift, drift_join, false≢true, Forgets, forgotten_with, ignored, is_nak, refl, refused}
 
 -- ---- what plays no part
 
@@ -11,10 +11,8 @@ use Rattle.why9.proofs.Words.{DeckStep, done, Drift, drift_join, false≢true, i
 pub same_places : (profile : Profile) (b c : ℕ → Bool) (es : List Exchange) (s : State) (ts : List State) → ((k : ℕ) → k < length es → b k ≡ c k)
     → IsBelievingFrom profile b s es ts → IsBelievingFrom profile c s es ts
 same_places profile b c [] s [] same run = tt
-same_places profile b c (e ∷ es) s (t ∷ ts) same (d, drift, does, run) = (
-  d,
-  drift,
-  subst (λ (x : Bool). MayDo profile x e d t) (same 0 (omega arith)) does,
+same_places profile b c (e ∷ es) s (t ∷ ts) same (goes, run) = (
+  subst (λ (x : Bool). MayGo profile x e s t) (same 0 (omega arith)) goes,
   same_places profile (behind_first b) (behind_first c) es t ts
       (λ k below. same (k + 1) (omega arith)) run,
 )
@@ -43,18 +41,18 @@ goes-start profile b es first X low none firsts = (
 
 -- ---- through one exchange
 
-goes-first : (profile : Profile) (X Y : State → Type 0) (b : ℕ → Bool) (e : Exchange) (es : List Exchange) → AreReached X (DriftsAndMayDo profile (b 0) e) Y
+goes-first : (profile : Profile) (X Y : State → Type 0) (b : ℕ → Bool) (e : Exchange) (es : List Exchange) → AreReached X (MayGo profile (b 0) e) Y
     → HasBelievingFrom profile X b (e ∷ es) ↔ HasBelievingFrom profile Y (behind_first b) es
 goes-first profile X Y b e es reached =
-    (λ g. to g.0 g.1 g.2 g.3, λ g. let w = reached.0 g.0 g.1 in (w.0, w.1, g.0 ∷ g.2, (w.2.0, w.2.1, w.2.2, g.3)))
+    (λ g. to g.0 g.1 g.2 g.3, λ g. let w = reached.0 g.0 g.1 in (w.0, w.1, g.0 ∷ g.2, (w.2, g.3)))
   where
     to : (s : State) → X s → (ts : List State) → IsBelievingFrom profile b s (e ∷ es) ts → HasBelievingFrom profile Y (behind_first b) es
     to s x [] run = absurd run
-    to s x (t ∷ ts) (d, drift, does, run) = (t, reached.1 s t x (d, drift, does), ts, run)
+    to s x (t ∷ ts) (goes, run) = (t, reached.1 s t x goes, ts, run)
 
 -- the first of those from a place on
 pub goes-through : (profile : Profile) (X Y : State → Type 0) (b : ℕ → Bool) (es : List Exchange) (k : ℕ) (e : Exchange) (believed : Bool) → k < length es
-    → e ≡ slice_index_or es k e → believed ≡ b k → AreReached X (DriftsAndMayDo profile believed e) Y → HasBelievingFromPlace profile X k b es ↔ HasBelievingFromPlace profile Y (k + 1) b es
+    → e ≡ slice_index_or es k e → believed ≡ b k → AreReached X (MayGo profile believed e) Y → HasBelievingFromPlace profile X k b es ↔ HasBelievingFromPlace profile Y (k + 1) b es
 goes-through profile X Y b es k e believed low is asked reached = rw split (
   λ g. goes-same profile Y _ _ (drop (k + 1) es) (λ j below. ap b (omega arith)) (first.0 g),
   λ g. first.1 (goes-same profile Y _ _ (drop (k + 1) es) (λ j below. ap b (omega arith)) g),
@@ -73,7 +71,7 @@ goes-through profile X Y b es k e believed low is asked reached = rw split (
 drifts_before : (profile : Profile) (b : ℕ → Bool) (es : List Exchange) (s t : State) (ts : List State) → Drift profile s t → IsBelievingFrom profile b t es ts
     → IsBelievingFrom profile b s es ts
 drifts_before profile b [] s t [] drift run = tt
-drifts_before profile b (e ∷ es) s t (u ∷ us) drift (d, more, does, run) = (d, drift_join profile s t d drift more, does, run)
+drifts_before profile b (e ∷ es) s t (u ∷ us) drift ((d, v, more, does, forgets), run) = ((d, v, drift_join profile s t d drift more, does, forgets), run)
 drifts_before profile b es s t ts drift run = absurd run
 
 keeps_state : (profile : Profile) (e : Exchange) (s t : State) → is_nak e.reply ≡ true → DeckStep profile e.command e.reply s t → t ≡ s
@@ -81,15 +79,20 @@ keeps_state profile e s t nak (refused is same) = same
 keeps_state profile e s t nak (done other shows does) = absurd (false≢true (sym other ∙ nak))
 keeps_state profile e s t nak (ignored other shows may local same) = same
 
+keeps_all : (profile : Profile) (e : Exchange) (s t : State) → is_nak e.reply ≡ true → Forgets profile (forgotten_with profile.deck e) s t ↔ (t ≡ s)
+keeps_all profile e s t nak = rw nak (λ same. same, λ same. same)
+
 -- it keeps the state, and the drift before it goes on in the next one
 goes-nak : (profile : Profile) (X : State → Type 0) (e : Exchange) (es : List Exchange) → is_nak e.reply ≡ true
     → HasBelievingFrom profile X (λ k. true) (e ∷ es) ↔ HasBelievingFrom profile X (λ k. true) es
-goes-nak profile X e es nak = (λ g. to g.0 g.1 g.2 g.3, λ g. (g.0, g.1, g.0 ∷ g.2, (g.0, ([], refl), refused nak refl, g.3)))
+goes-nak profile X e es nak =
+    (λ g. to g.0 g.1 g.2 g.3, λ g. (g.0, g.1, g.0 ∷ g.2, ((g.0, g.0, ([], refl), refused nak refl, (keeps_all profile e g.0 g.0 nak).1 refl), g.3)))
   where
     to : (s : State) → X s → (ts : List State) → IsBelievingFrom profile (λ k. true) s (e ∷ es) ts → HasBelievingFrom profile X (λ k. true) es
     to s x [] run = absurd run
-    to s x (t ∷ ts) (d, drift, does, run) =
-        (s, x, ts, drifts_before profile (λ k. true) es s t ts (subst (λ u. Drift profile s u) (sym (keeps_state profile e d t nak does)) drift) run)
+    to s x (t ∷ ts) ((d, u, drift, does, forgets), run) =
+        let same = (keeps_all profile e u t nak).0 forgets ∙ keeps_state profile e d u nak does in
+        (s, x, ts, drifts_before profile (λ k. true) es s t ts (subst (λ u. Drift profile s u) (sym same) drift) run)
 
 -- the first of those from a place on
 pub goes-past-nak : (profile : Profile) (X : State → Type 0) (es : List Exchange) (k : ℕ) (e : Exchange) → k < length es → e ≡ slice_index_or es k e
@@ -101,7 +104,7 @@ goes-past-nak profile X es k e low is nak = rw split (goes-nak profile X e (drop
 
 -- ---- through exchanges that are passed
 
-pub passed-more : (profile : Profile) (X Y Z : State → Type 0) (es : List Exchange) (e : Exchange) → ArePassed profile X es Y → AreReached Y (DriftsAndMayDo profile false e) Z
+pub passed-more : (profile : Profile) (X Y Z : State → Type 0) (es : List Exchange) (e : Exchange) → ArePassed profile X es Y → AreReached Y (MayGo profile false e) Z
     → ArePassed profile X (es ++ e ∷ []) Z
 passed-more profile X Y Z es e passed reached = record { goes = goes }
   where
@@ -113,7 +116,7 @@ passed-more profile X Y Z es e passed reached = record { goes = goes }
     goes b rest none =
         let all = passed.goes b (e ∷ rest) (λ k below. none k (omega (arith, size))) in
         let here : false ≡ b (length es + 0) = sym (none (length es + 0) (omega (arith, size))) in
-        let one = goes-first profile Y Z (λ k. b (length es + k)) e rest (subst (λ (x : Bool). AreReached Y (DriftsAndMayDo profile x e) Z) here reached) in
+        let one = goes-first profile Y Z (λ k. b (length es + k)) e rest (subst (λ (x : Bool). AreReached Y (MayGo profile x e) Z) here reached) in
         rw (append_assoc es (e ∷ []) rest) (
           λ g. goes-same profile Z _ _ rest (λ k below. ap b (omega (arith, size))) (one.0 (all.0 g)),
           λ g. all.1 (one.1 (goes-same profile Z _ _ rest (λ k below. ap b (omega (arith, size))) g)),

@@ -1,6 +1,7 @@
 -- The places found: in order, contradicting with all that follow, and each of them needed; and the tracker that goes along.
+use Rattle.why9.proofs.Words.{first_may, stays, subst}
 use Rattle.why9.proofs.Words.{[], All, All-head, All-nil, All-push, All-tail, all_pairs_push, AllPairs, ap, ArePassedTo, AreReached, arith, behind_first, believing_all}
-use Rattle.why9.proofs.Words.{believing_fewer, Bool, BreaksAtLast, Contradict, DriftsAndMayDo, drop, Exchange, false, false≢true, HasBelievingFrom, HasBelievingFromPlace, Profile, HasBelieving, inl, inr}
+use Rattle.why9.proofs.Words.{believing_fewer, Bool, BreaksAtLast, Contradict, MayGo, drop, Exchange, false, false≢true, HasBelievingFrom, HasBelievingFromPlace, Profile, HasBelieving, inl, inr}
 use Rattle.why9.proofs.Words.{is_among, is_among_others, IsBelievingFrom, IsBetween, IsContradiction, IsFirst, length, length-append, List, list_any-append, nat_le, nat_lt, nat_tests}
 use Rattle.why9.proofs.Words.{refl, slice_index_or, slice_range, State, sym, take_rest, true, ℕ, ◌++◌, ◌+◌, ◌-◌, ◌<◌, ◌==◌, ◌||◌, ◌↔◌, ◌∙◌, ◌∷◌, ◌≡◌, ◌≤◌, ◌⊎◌}
 use Rattle.why9.proofs.QuestionLemmas.{goes-same, goes-start, goes-through, same_places}
@@ -80,20 +81,20 @@ pub some_last : (profile : Profile) (es : List Exchange) → BreaksAtLast profil
 some_last profile es breaks = let n = simp length-append at (ap length breaks.is_split) in omega arith
 
 -- a run goes on by an exchange that is not believed
-passes_last : (profile : Profile) (b : ℕ → Bool) (es : List Exchange) (e : Exchange) (s : State) (ts : List State) → b (length es) ≡ false → IsBelievingFrom profile b s es ts
+passes_last : (profile : Profile) (b : ℕ → Bool) (es : List Exchange) (e : Exchange) (s : State) (ts : List State) → IsFirst profile s → b (length es) ≡ false → IsBelievingFrom profile b s es ts
     → (us : List State) × IsBelievingFrom profile b s (es ++ e ∷ []) us
-passes_last profile b [] e s ts none run = (s ∷ [], (s, ([], refl), rw none (inl refl), tt))
-passes_last profile b (f ∷ fs) e s [] none run = absurd run
-passes_last profile b (f ∷ fs) e s (t ∷ ts) none (d, drift, does, run) =
-    let more = passes_last profile (behind_first b) fs e t ts (ap b (omega arith) ∙ none) run in
-    (t ∷ more.0, (d, drift, does, more.1))
+passes_last profile b [] e s ts first none run = (s ∷ [], (subst (λ x. MayGo profile x e s s) (sym none) (stays profile e s first), tt))
+passes_last profile b (f ∷ fs) e s [] first none run = absurd run
+passes_last profile b (f ∷ fs) e s (t ∷ ts) first none (goes, run) =
+    let more = passes_last profile (behind_first b) fs e t ts (first_may profile (b 0) f s t first goes) (ap b (omega arith) ∙ none) run in
+    (t ∷ more.0, (goes, more.1))
 
 pub without_last : (profile : Profile) (b : ℕ → Bool) (es : List Exchange) (last : ℕ) → BreaksAtLast profile es → last + 1 ≡ length es → b last ≡ false → HasBelieving profile b es
 without_last profile b es last breaks is none =
     let w = believing_fewer profile (λ k. true) b breaks.before (λ k e. refl) ((believing_all profile breaks.before).1 breaks.has_run) in
     let n = simp length-append at (ap length breaks.is_split) in
     let place : length breaks.before ≡ last = omega arith in
-    let more = passes_last profile b breaks.before breaks.last w.first w.after (ap b place ∙ none) w.is_run in
+    let more = passes_last profile b breaks.before breaks.last w.first w.after w.is_first (ap b place ∙ none) w.is_run in
     rw breaks.is_split (record { first = w.first; is_first = w.is_first; after = more.0; is_run = more.1 })
 
 -- ---- the tracker that goes along
@@ -114,7 +115,7 @@ along-push profile X es place found along =
 
 -- it believes the reply at a place found
 along-believed : (profile : Profile) (X Y : State → Type 0) (es : List Exchange) (place : ℕ) (e : Exchange) (found : List ℕ) → place < length es
-    → e ≡ slice_index_or es place e → is_among found place ≡ true → AreReached X (DriftsAndMayDo profile true e) Y → IsAlong profile X es place found
+    → e ≡ slice_index_or es place e → is_among found place ≡ true → AreReached X (MayGo profile true e) Y → IsAlong profile X es place found
     → IsAlong profile Y es (place + 1) found
 along-believed profile X Y es place e found low is among reached along = record {
   goes = λ b same.
@@ -200,14 +201,14 @@ reached-first profile X es place firsts within contradict after = record {
 
 -- the reply at the place is believed
 reached-believed : (profile : Profile) (X Y : State → Type 0) (es : List Exchange) (place : ℕ) (e : Exchange) (found : List ℕ) → e ≡ slice_index_or es place e
-    → AreReached X (DriftsAndMayDo profile true e) Y → IsReached profile X es place found → IsAlong profile Y es (place + 1) found
+    → AreReached X (MayGo profile true e) Y → IsReached profile X es place found → IsAlong profile Y es (place + 1) found
 reached-believed profile X Y es place e found is reached at =
     along-believed profile X Y es place e found at.within is
     (let more = among_more at.earlier place place in rw at.end_with (grind (arith, nat_tests))) reached at.along
 
 -- where the next place is looked for
 pub reached-between : (profile : Profile) (X Y : State → Type 0) (es : List Exchange) (place : ℕ) (e : Exchange) (found : List ℕ) → BreaksAtLast profile es
-    → e ≡ slice_index_or es place e → AreReached X (DriftsAndMayDo profile true e) Y → IsReached profile X es place found → place + 1 < length es
+    → e ≡ slice_index_or es place e → AreReached X (MayGo profile true e) Y → IsReached profile X es place found → place + 1 < length es
     → IsBetween profile Y es (place + 1) (length es)
 reached-between profile X Y es place e found breaks is reached at more =
     let along = reached-believed profile X Y es place e found is reached at in
@@ -222,7 +223,7 @@ reached-between profile X Y es place e found breaks is reached at more =
 
 -- it is found, and the tracker passes up to it
 pub reached-next : (profile : Profile) (X Y Z : State → Type 0) (es : List Exchange) (place next : ℕ) (e : Exchange) (found : List ℕ)
-    → e ≡ slice_index_or es place e → AreReached X (DriftsAndMayDo profile true e) Y → IsReached profile X es place found → place + 1 ≤ next
+    → e ≡ slice_index_or es place e → AreReached X (MayGo profile true e) Y → IsReached profile X es place found → place + 1 ≤ next
     → ArePassedTo profile es (place + 1) Y next Z → IsBetween profile Z es next (next + 1) → IsReached profile Z es next (found ++ next ∷ [])
 reached-next profile X Y Z es place next e found is reached at le passed between = record {
   within = let high = between.high_end in omega arith;

@@ -3,9 +3,9 @@ pub use Rattle.block9.specs.declared.exchange.Exchange.{Exchange}
 pub use Rattle.block9.specs.Command.{is_nak}
 pub use Rattle.deck9.proofs.LawLemmas.{drift_join}
 pub use Rattle.deck9.specs.Drift.{Drift}
-pub use Rattle.deck9.specs.Step.{DeckStep, done, ignored, refused}
-pub use Rattle.deck9.proofs.ContradictLemmas.{before_the_first, believing_all, believing_fewer}
-pub use Rattle.deck9.specs.Contradict.{behind_first, Contradict, HasBelieving, IsBelievingFrom, MayDo}
+pub use Rattle.deck9.specs.Step.{DeckStep, done, Forgets, forgotten_with, Goes, ignored, refused}
+pub use Rattle.deck9.proofs.ContradictLemmas.{before_the_first, believing_all, believing_fewer, first_may, stays}
+pub use Rattle.deck9.specs.Contradict.{behind_first, Contradict, HasBelieving, IsBelievingFrom, MayGo}
 pub use Rattle.deck9.proofs.RunLemmas.{some_end}
 pub use Rattle.deck9.specs.Knowledge.{IsKnowledge}
 pub use Rattle.deck9.specs.ModeSet.{has}
@@ -32,4 +32,4 @@ pub use Rattle.track9.specs.Following.{KeepsEnds}
 pub use Rattle.track9.specs.Tracker.{Possible, Tracked}
 pub use Rattle.why9.specs.Contradiction.{BreaksAtLast, is_among, is_among_others, IsContradiction}
 pub use Rattle.why9.specs.Shown.{CouldBe, CouldShow}
-pub use Rattle.why9.specs.Working.{ArePassed, ArePassedTo, DriftsAndMayDo, HasBelievingFrom, HasBelievingFromPlace, IsBetween}
+pub use Rattle.why9.specs.Working.{ArePassed, ArePassedTo, HasBelievingFrom, HasBelievingFromPlace, IsBetween}

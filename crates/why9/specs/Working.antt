@@ -3,12 +3,7 @@ use Rattle.std.specs.Prelude.{ℕ, ◌≡◌, ◌<◌, ◌≤◌, ◌+◌, ◌�
 use Rattle.block9.specs.declared.exchange.Exchange.{Exchange}
 use Rattle.deck9.specs.declared.profile.Profile.{Profile}
 use Rattle.deck9.specs.declared.state.State.{State}
-use Rattle.deck9.specs.Contradict.{IsBelievingFrom, MayDo}
-use Rattle.deck9.specs.Drift.{Drift}
-
--- a drift, and what an exchange may do whose reply is believed or not
-abbrev pub DriftsAndMayDo : Profile → Bool → Exchange → State → State → Type 0
-DriftsAndMayDo profile is_believed e s t = (d : State) × Drift profile s d × MayDo profile is_believed e d t
+use Rattle.deck9.specs.Contradict.{IsBelievingFrom}
 
 -- some run of these exchanges from one of these states believes the replies at these places, counted from 0
 abbrev pub HasBelievingFrom : Profile → (State → Type 0) → (ℕ → Bool) → List Exchange → Type 0

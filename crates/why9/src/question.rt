@@ -1,9 +1,10 @@
 //! What the search asks: whether some run believes the replies from one place on.
 ghost use Rattle.std.specs.Prelude.{◌≡◌, ◌↔◌, ◌++◌, IfOk, IsTrue, OnOk, length, nat_le, true};
+ghost use Rattle.deck9.specs.Contradict.{MayGo};
 ghost use Rattle.deck9.specs.Step.{AreReached};
 ghost use Rattle.deck9.specs.declared.state.State.{State as AState};
 ghost use Rattle.track9.specs.Tracker.{Possible};
-ghost use Rattle.why9.specs.Working.{ArePassed, DriftsAndMayDo, HasBelievingFrom};
+ghost use Rattle.why9.specs.Working.{ArePassed, HasBelievingFrom};
 
 use block9::Exchange;
 use sets25::SpanSet;
@@ -47,7 +48,7 @@ pub(crate) fn pass_all(
     ensures profile { OnOk result (tracker.new.profile ≡ tracker.old.profile) }
 {
     for exchange in exchanges {
-        tracker.pass(&exchange.command)?;
+        tracker.take_unknown(exchange)?;
     }
     Ok(())
 }
@@ -74,9 +75,9 @@ pub(crate) fn believe(
     tracker: &mut Tracker<SpanSet>,
     exchange: &Exchange,
 ) -> Result<bool, AllocError>
-    ensures reached { IfOk result (λ b. AreReached (Possible tracker.old.states) (DriftsAndMayDo tracker.old.profile true exchange.now) (Possible tracker.new.states)) }
+    ensures reached { IfOk result (λ b. AreReached (Possible tracker.old.states) (MayGo tracker.old.profile true exchange.now) (Possible tracker.new.states)) }
     ensures remains { IfOk result (λ b. IsTrue b ↔ ((s : AState) × Possible tracker.new.states s)) }
     ensures profile { IfOk result (λ b. tracker.new.profile ≡ tracker.old.profile) }
 {
-    tracker.observe(&exchange.command, &exchange.reply)
+    tracker.take(exchange)
 }

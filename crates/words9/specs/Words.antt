@@ -64,6 +64,10 @@ all_rule = record (new_rule (codes "all")) { long = Some (codes "all"); action =
 abbrev pub line_buffered_rule : Rule
 line_buffered_rule = record (new_rule (codes "line-buffered")) { long = Some (codes "line-buffered"); action = Some SetTrue }
 
+-- the same, which `explain` alone has
+abbrev pub bytes_rule : Rule
+bytes_rule = record (new_rule (codes "bytes")) { long = Some (codes "bytes"); action = Some SetTrue }
+
 -- the word of a verb
 abbrev pub name_of : Verb → Text
 name_of verb.Check = codes "check"
@@ -80,7 +84,7 @@ plain_app_for names verb =
 -- the subcommand of a verb
 abbrev pub app_for : RateNames → Verb → App
 app_for names verb.Check = with_rule (with_rule (plain_app_for names verb.Check) all_rule) line_buffered_rule
-app_for names verb.Explain = with_rule (with_rule (plain_app_for names verb.Explain) all_rule) line_buffered_rule
+app_for names verb.Explain = with_rule (with_rule (with_rule (plain_app_for names verb.Explain) bytes_rule) all_rule) line_buffered_rule
 app_for names verb.Run = plain_app_for names verb.Run
 app_for names verb.Why = with_rule (with_rule (plain_app_for names verb.Why) all_rule) line_buffered_rule
 
@@ -116,6 +120,7 @@ pub record GivesTask (names : RateNames) (words : List Text) (task : Task) : Typ
   pub deck : option_map string_bytes task.deck ≡ first_of (codes "deck") rows
   pub all : task.all ≡ is_on (first_of (codes "all") rows)
   pub sync : task.sync ≡ is_on (first_of (codes "sync") rows)
+  pub bytes : task.bytes ≡ is_on (first_of (codes "bytes") rows)
   pub line_buffered : task.line_buffered ≡ is_on (first_of (codes "line-buffered") rows)
 
 -- it does not take them

@@ -37,6 +37,8 @@ pub struct Task {
     pub all: bool,
     /// Whether the records before the first that may begin a command are passed over.
     pub sync: bool,
+    /// Whether an explanation tells each exchange with its bytes.
+    pub bytes: bool,
     /// Whether each line of the report is handed on as soon as it is complete.
     pub line_buffered: bool,
 }

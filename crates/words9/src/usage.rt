@@ -3,7 +3,7 @@ ghost use Rattle.std.specs.Prelude.{◌≡◌, IfOk, false, map};
 ghost use Rattle.std.specs.String.{string_bytes};
 ghost use Rattle.clap.specs.Words.{FailsBy, app_of, fault_of, rule_of, subcommand_of, subcommand_rows_of, with_subcommand};
 ghost use Rattle.clap.specs.declared.builder.command.Command.TheViews.{out-Command as fields_of};
-ghost use Rattle.words9.specs.Words.{AreRateNames, all_rule, app_for, deck_rule, hands_rule, line_buffered_rule, name_of, plain_app_for, program, rate_rule, sync_rule, top};
+ghost use Rattle.words9.specs.Words.{AreRateNames, all_rule, app_for, bytes_rule, deck_rule, hands_rule, line_buffered_rule, name_of, plain_app_for, program, rate_rule, sync_rule, top};
 
 use crate::task::{VERSION_LINE, Verb};
 use clap::{Arg, ArgAction, ArgMatches, Command, Error};
@@ -81,7 +81,9 @@ fn subcommand<'a>(
     let command = plain_subcommand(alloc, verb, rates)?;
     match verb {
         Verb::Run => Ok(command),
-        Verb::Check | Verb::Explain | Verb::Why => {
+        Verb::Check | Verb::Why => command.arg(all(alloc))?.arg(line_buffered(alloc)),
+        Verb::Explain => {
+            let command = command.arg(bytes(alloc))?;
             command.arg(all(alloc))?.arg(line_buffered(alloc))
         }
     }
@@ -169,6 +171,17 @@ fn all<'a>(alloc: Global) -> Arg<'a>
         .long("all")
         .action(ArgAction::SetTrue)
         .help("Go on after each break, and judge the whole capture")
+}
+
+/// The option that tells exchanges with their bytes.
+fn bytes<'a>(alloc: Global) -> Arg<'a>
+    ensures rule { rule_of result ≡ bytes_rule }
+    ensures local { result.global ≡ false }
+{
+    Arg::new(alloc, "bytes")
+        .long("bytes")
+        .action(ArgAction::SetTrue)
+        .help("Write each exchange with its bytes, as why does")
 }
 
 /// The option that hands each line on at once.

@@ -17,8 +17,8 @@ use tc25::Rate;
 ///
 /// The words are `check`, `explain`, `run` or `why`, and with it at most one file and, before or after the file, at most once
 /// `--hands`, at most once `--sync`, at most once `--rate` with `24`, `25`, `30` or `29.97df`, at most once `--deck` with a sheet's
-/// file, and, but for `run`, at most once `--all` and at most once `--line-buffered`; or they are `--version` or `-V`. What else
-/// they may look like is `clap`'s own definition.
+/// file, and, but for `run`, at most once `--all` and at most once `--line-buffered`, and for `explain` at most once `--bytes`; or
+/// they are `--version` or `-V`. What else they may look like is `clap`'s own definition.
 ///
 /// * `Ok(task)` only where the definition takes the words. The task has the subcommand, the file and the options
 ///   that it gives for them, and 25 frames a second where they name no rate.
@@ -58,6 +58,7 @@ pub fn read_words(alloc: Global, words: Vec<String>) -> Result<Task, WordsFault>
     let rate = rate_of(found);
     let all = is_given(found, "all");
     let sync = is_given(found, "sync");
+    let bytes = is_given(found, "bytes");
     let line_buffered = is_given(found, "line-buffered");
     Ok(Task {
         verb,
@@ -67,6 +68,7 @@ pub fn read_words(alloc: Global, words: Vec<String>) -> Result<Task, WordsFault>
         deck,
         all,
         sync,
+        bytes,
         line_buffered,
     })
 }

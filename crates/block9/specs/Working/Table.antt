@@ -16,7 +16,9 @@ use Rattle.block9.specs.declared.place.Place.TheVariants.{Idle, InCommand, After
 use Rattle.block9.specs.declared.reason.Reason.{Reason}
 use Rattle.block9.specs.declared.reason.Reason.TheVariants.{WrongGroup, WrongSum, ByteGap, ReplyWithoutCommand, ReplyInsideCommand, CommandBeforeReply, CommandInsideReply, WrongReply, InvalidCommandTime, InvalidReplyTime, LateReply, NoReply}
 use Rattle.block9.specs.Working.Body.{block_of}
-use Rattle.block9.specs.Command.{command_of, fits, is_reply_time_valid}
+use Rattle.block9.specs.Block.{head_of}
+use Rattle.block9.specs.Command.{command_of, is_reply_time_valid}
+use Rattle.block9.specs.Replies.{takes}
 use Rattle.block9.specs.Line.{allows, block_len, byte_gap, bytes_of, group_in, last_time, reply_limit}
 
 -- where a tail stands, from how many records its first block has
@@ -72,15 +74,19 @@ abbrev pub command_fault : Option Command → Option Reason
 command_fault None = Some InvalidCommandTime
 command_fault (Some c) = None
 
--- a reply to a command with no meaning, of a kind that the command may not have, or with a time that is not valid
-abbrev pub reply_fault : LineRules → Option Command → Block → Option Reason
-reply_fault rules None reply = Some InvalidCommandTime
-reply_fault rules (Some c) reply = if fits c reply then (if is_reply_time_valid rules.rate c reply then None else Some InvalidReplyTime) else Some WrongReply
+-- a reply to a command of this block, where that has no meaning, or does not take the reply, or the reply has a time that is not valid
+abbrev pub reply_fault : LineRules → Block → Option Command → Block → Option Reason
+reply_fault rules block None reply = Some InvalidCommandTime
+reply_fault rules block (Some c) reply = if takes rules.replies (head_of block) c reply then (if is_reply_time_valid rules.rate c reply then None else Some InvalidReplyTime) else Some WrongReply
+
+-- a reply to the command of this block
+abbrev pub answer_fault : LineRules → Block → Block → Option Reason
+answer_fault rules block reply = reply_fault rules block (command_of rules.rate block) reply
 
 -- what the last record of a block breaks beside its sum; the block has the open records as its body
 abbrev pub meaning_fault : LineRules → Place → List LineByte → List LineByte → Option Reason
 meaning_fault rules InCommand tail current = command_fault (command_of rules.rate (block_of (bytes_of current)))
-meaning_fault rules InReply tail current = reply_fault rules (command_of rules.rate (block_of (bytes_of (take (block_len tail - 1) tail)))) (block_of (bytes_of current))
+meaning_fault rules InReply tail current = answer_fault rules (block_of (bytes_of (take (block_len tail - 1) tail))) (block_of (bytes_of current))
 meaning_fault rules _ tail current = None
 
 -- what the last record of a block breaks, by its sum or by what the block means: nothing where it is not the last one

@@ -1,7 +1,9 @@
 //! What a pairer answers to each record, by hand. Which record of a capture breaks which rule is in `tests/cases/`.
 
 use crate::tests::same;
-use block9::{Block, Command, Exchange, LineRules, Open, Pairer, Reason, ReplyLimit, Step};
+use block9::{
+    Block, Command, Exchange, LineRules, NamedReplies, Open, Pairer, Reason, ReplyLimit, Step,
+};
 use capture9::Wire::{Controller, Deck};
 use capture9::{LineByte, Wire};
 use std::process::Abort;
@@ -126,9 +128,13 @@ fn a_reason_stays(rt: HostRuntime) {
 }
 
 /// A pairer that reads times at 25 frames a second and has PLAY complete, whose last record came at this time.
-fn after_play(rt: &impl Abort, reply_limit: ReplyLimit, time_us: u64) -> Pairer {
+fn after_play(rt: &impl Abort, reply_limit: ReplyLimit, time_us: u64) -> Pairer<'static> {
     let rate = Rate::Fps25;
-    let mut pairer = Pairer::by(LineRules { rate, reply_limit });
+    let mut pairer = Pairer::by(LineRules {
+        rate,
+        reply_limit,
+        replies: NamedReplies::none(),
+    });
     for byte in [0x20, 0x01, 0x21] {
         assert!(rt; feed(rt, &mut pairer, record(time_us, Controller, byte)).is_ok());
     }

@@ -5,7 +5,7 @@ use Rattle.block9.specs.declared.line_rules.ReplyLimit.{ReplyLimit}
 use Rattle.block9.specs.declared.line_rules.ReplyLimit.TheVariants.{Counts, LeftAside}
 use Rattle.capture9.specs.Fields.{greatest_limit, most_rows}
 use Rattle.judge9.specs.Verdict.{Terms, line_rules}
-use Rattle.judge9.specs.Working.{[], AreReached, Bool, Break, CaptureError, Err, Exchange, Exchanges, false, Follower, GivesEnd, GivesRecord, GivesRefusal, IsFirst, IsTrue, JudgeError}
+use Rattle.judge9.specs.Working.{[], AreReached, Bool, Break, CaptureError, Err, Exchange, Goes, false, Follower, GivesEnd, GivesRecord, GivesRefusal, IsFirst, IsTrue, JudgeError}
 use Rattle.judge9.specs.Working.{Judging, LineByte, None, Ok, Option, Possible, Reason, refusal_of, Refuses, Result, Some, Standing, State, Outcome, suc, Takes, Tracked, true, Turn, zero, ℕ, ⊤}
 
 -- nothing is open, and nothing is known of the deck
@@ -38,7 +38,7 @@ IsOpen (Outcome.completes e) = ⊥
 
 -- an exchange was observed, and this is whether a state remains
 pub record Observes (old new : Tracked) (e : Exchange) (b : Bool) : Type 0 where
-  pub reached : AreReached (Possible old.states) (Exchanges old.profile e.command e.reply) (Possible new.states)
+  pub reached : AreReached (Possible old.states) (Goes old.profile e) (Possible new.states)
   pub profile : new.profile ≡ old.profile
   pub remains : IsTrue b ↔ ((s : State) × Possible new.states s)
 

@@ -8,7 +8,7 @@ use super::{answer_and_text, capture, report, same};
 use block9::Reason;
 use capture9::{CaptureError, CaptureKind};
 use deck9::Hands;
-use judge9::{JudgeError, Verdict, View, judge};
+use judge9::{Detail, JudgeError, Verdict, View, judge};
 use std::alloc::Global;
 use std::io::Read;
 use std::process::Abort;
@@ -129,7 +129,12 @@ fn tell_lines_before(
     (text, given, row): (&str, usize, u32),
     lines: &str,
 ) {
-    let (answer, written) = report(alloc, Cut::new(text, given), View::Explain, Hands::None);
+    let (answer, written) = report(
+        alloc,
+        Cut::new(text, given),
+        View::Explain(Detail::Names),
+        Hands::None,
+    );
     same(rt, answer, refused(CaptureKind::Read, row), row);
     same(rt, written.as_slice(), lines.as_bytes(), row);
 }
@@ -146,7 +151,11 @@ fn lines_before_a_reader_fails(rt: HostRuntime) {
 #[test]
 fn writers_that_stop_in_an_explanation(rt: HostRuntime) -> Result<(), Fail> {
     let text = capture(rt.alloc(), &WOUND_AND_PLAYED)?;
-    let report = (text.as_str(), View::Explain, WOUND_AND_PLAYED_LINES);
+    let report = (
+        text.as_str(),
+        View::Explain(Detail::Names),
+        WOUND_AND_PLAYED_LINES,
+    );
     for room in 0..WOUND_AND_PLAYED_LINES.len() {
         let stopped = Err(JudgeError::Write);
         tell_room(&rt, rt.alloc(), report, (room, Then::Fail), stopped);

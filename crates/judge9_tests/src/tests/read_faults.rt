@@ -5,7 +5,7 @@ use super::texts::PLAYED_AND_CUT;
 use super::{report, same};
 use capture9::{CaptureError, CaptureKind};
 use deck9::Hands;
-use judge9::{JudgeError, View, judge_with_run};
+use judge9::{Detail, JudgeError, View, judge_with_run};
 use std::alloc::Global;
 use std::process::Abort;
 
@@ -32,7 +32,7 @@ fn fault(row: u32) -> JudgeError {
 
 /// Compares what is answered to a reader that fails after so many bytes with the fault at this row.
 fn tell_fault(rt: &impl Abort, alloc: Global, hands: Hands, given: usize, row: u32) {
-    for view in [View::Verdict, View::Explain] {
+    for view in [View::Verdict, View::Explain(Detail::Names)] {
         let (answer, _) = report(alloc, Cut::new(PLAYED_AND_CUT, given), view, hands);
         same(rt, answer, Err(fault(row)), (view, given));
     }

@@ -3,7 +3,7 @@
 use crate::tests::same;
 use crate::tests::writers::{Narrow, took, took_to_the_end};
 use deck9::Hands;
-use judge9::{JudgeError, Verdict};
+use judge9::{Detail, JudgeError, Verdict};
 use program9::{Buffered, judge_and_flush};
 use std::alloc::{AllocError, Global};
 use std::io::Write;
@@ -24,7 +24,14 @@ fn judged(
     writer: Narrow,
 ) -> Option<(Result<Verdict, JudgeError>, Narrow)> {
     let mut out = Buffered::new(alloc, writer, false).ok()?;
-    let answer = judge_and_flush(alloc, text.as_bytes(), &mut out, verb, Hands::None);
+    let answer = judge_and_flush(
+        alloc,
+        text.as_bytes(),
+        &mut out,
+        verb,
+        Detail::Names,
+        Hands::None,
+    );
     Some((answer, out.into_writer()))
 }
 

@@ -4,7 +4,7 @@ use crate::tests::programs::{is_told, words_of};
 use crate::tests::same;
 use crate::tests::writers::{Narrow, took};
 use program9::{End, Message, Outcome, Unopened, UnreadSheet, WhyUnopened, run_program};
-use sheet9::{ForgetsFault, Refusal};
+use sheet9::{EntryFault, Refusal, TableName};
 use std::io;
 use words9::WordsFault;
 
@@ -57,7 +57,7 @@ fn sheet<'a>(file: &String) -> io::Result<&'a [u8]> {
         "empty" => Ok(b""),
         "edit" => Ok(b"[forgets]\n\"20 61\" = \"nothing\"\n"),
         "next" => Ok(b"[forgets]\n\"20 62\" = \"nothing\"\n"),
-        "play" => Ok(b"[forgets]\n\"20 01\" = \"nothing\"\n"),
+        "sense" => Ok(b"[forgets]\n\"61 20\" = \"nothing\"\n"),
         "torn" => Ok(b"[forgets\n"),
         "folder" => Err(io::Error::from(io::ErrorKind::IsADirectory)),
         "large" => Err(io::Error::from(io::ErrorKind::OutOfMemory)),
@@ -105,18 +105,18 @@ fn a_sheet_holds_the_deck_to_more(rt: HostRuntime) {
 
 #[test]
 fn a_sheet_that_is_none(rt: HostRuntime) {
-    let (end, writer) = end_on(&rt, &["check", "--deck", "play", "forbidden.csv"]);
-    let key = String::from_str(rt.alloc(), "20 01").expect(&rt, "memory");
-    let fault = ForgetsFault::Listed;
-    let listed = UnreadSheet {
-        file: String::from_str(rt.alloc(), "play").expect(&rt, "memory"),
-        refusal: Refusal::Forgets { key, fault },
+    let (end, writer) = end_on(&rt, &["check", "--deck", "sense", "forbidden.csv"]);
+    let key = String::from_str(rt.alloc(), "61 20").expect(&rt, "memory");
+    let (table, fault) = (TableName::Forgets, EntryFault::Sense);
+    let sense = UnreadSheet {
+        file: String::from_str(rt.alloc(), "sense").expect(&rt, "memory"),
+        refusal: Refusal::Entry { table, key, fault },
     };
     same(
         &rt,
-        is_told(&end, 3, Message::UnreadableSheet(listed)),
+        is_told(&end, 3, Message::UnreadableSheet(sense)),
         true,
-        "play",
+        "sense",
     );
     took(&rt, &writer, b"", 0, 0);
     let (end, writer) = end_on(&rt, &["check", "--deck", "torn", "forbidden.csv"]);

@@ -3,25 +3,25 @@
 ghost use Rattle.std.specs.Prelude.{◌≡◌, ◌+◌, ◌-◌, ◌≤◌, ◌<◌, ◌^◌, ◌++◌, ◌∷◌, [], OnOk, codes, length};
 ghost use Rattle.block9.specs.Line.{bytes_of};
 ghost use Rattle.capture9.specs.declared.line_byte.Wire.TheVariants.{Controller, Deck};
-ghost use Rattle.report9.specs.WhyText.{end_before, hex_bytes, letter_of, limit_told, line_if_ended, line_of_breaking, line_of_open, lines_of_break, lines_of_open, progress_told, since_told, sum_told, wanted_of_command, words_if_whole, would_end};
+ghost use Rattle.text9.specs.Bytes.{hex_bytes};
+ghost use Rattle.report9.specs.WhyText.{end_before, letter_of, limit_told, line_if_ended, line_of_breaking, line_of_open, lines_of_break, lines_of_open, progress_told, since_told, sum_told, wanted_of_command, words_if_whole, would_end};
 
-use crate::why_text::block_bytes::put_next;
-use crate::why_text::exchange_line::{put_before, put_records, put_words};
+use crate::why_text::exchange_line::put_before;
 use block9::{Command, Open, Reason};
 use capture9::{LineByte, Wire};
+use deck9::Profile;
 use std::alloc::AllocError;
-use tc25::Rate;
-use text9::{put_count, put_hex, put_text, put_word};
+use text9::{put_count, put_hex, put_next, put_records, put_text, put_word, put_words};
 use verdict9::{EndedExchange, WhyVerdict};
 
 /// Puts the line of the exchange before, where none is open, or that of the open command and that of its reply, each where it
 /// has records; and that of the record that breaks. Puts nothing for another verdict than a break.
 pub(super) fn put_break(
     line: &mut Vec<u8>,
-    rate: Rate,
+    profile: &Profile,
     verdict: &WhyVerdict,
 ) -> Result<(), AllocError>
-    ensures { OnOk result (line.new.items ≡ line.old.items ++ lines_of_break rate verdict.now) }
+    ensures { OnOk result (line.new.items ≡ line.old.items ++ lines_of_break profile.now verdict.now) }
 {
     let WhyVerdict::Break {
         at,
@@ -36,23 +36,22 @@ pub(super) fn put_break(
     };
     let count = u128::from(*at).saturating_sub(tail.len() as u128 + 1);
     let end_us = end_before(tail.as_slice(), before);
-    put_if_ended(line, rate, count, before)?;
-    put_open(line, rate, count, tail.as_slice(), so_far, breaking.wire)?;
+    put_if_ended(line, profile, count, before)?;
+    put_open(line, profile, count, tail.as_slice(), so_far, breaking.wire)?;
     put_breaking(line, *at, *reason, *breaking, end_us, so_far.sum)
 }
 
 /// Puts the line of the exchange before, where there is one. Its last record has this number.
 fn put_if_ended(
     line: &mut Vec<u8>,
-    rate: Rate,
+    profile: &Profile,
     at: u128,
     before: &Option<EndedExchange>,
 ) -> Result<(), AllocError>
-    requires { at ≤ 2 ^ 100 }
-    ensures { OnOk result (line.new.items ≡ line.old.items ++ line_if_ended rate at before.now) }
+    ensures { OnOk result (line.new.items ≡ line.old.items ++ line_if_ended profile.now at before.now) }
 {
     match before {
-        Some(ended) => put_before(line, rate, at, &ended.exchange),
+        Some(ended) => put_before(line, profile, at, &ended.exchange),
         None => Ok(()),
     }
 }
@@ -60,18 +59,18 @@ fn put_if_ended(
 /// Puts the line of the open command and that of its reply, each where it has records. So many records come before them.
 fn put_open(
     line: &mut Vec<u8>,
-    rate: Rate,
+    profile: &Profile,
     count: u128,
     tail: &[LineByte],
     so_far: &Open,
     breaking: Wire,
 ) -> Result<(), AllocError>
     requires { count ≤ 2 ^ 99 }
-    ensures { OnOk result (line.new.items ≡ line.old.items ++ lines_of_open rate count tail.now so_far.now breaking) }
+    ensures { OnOk result (line.new.items ≡ line.old.items ++ lines_of_open profile.now count tail.now so_far.now breaking) }
 {
     let came = so_far.asked;
     let (asked, answered) = tail.split_at(came.min(tail.len()));
-    put_open_command(line, rate, count, asked, so_far, breaking)?;
+    put_open_command(line, profile, count, asked, so_far, breaking)?;
     put_open_reply(line, count + came as u128, answered, so_far, breaking)
 }
 
@@ -79,7 +78,7 @@ fn put_open(
 /// records come before them.
 fn put_open_command(
     line: &mut Vec<u8>,
-    rate: Rate,
+    profile: &Profile,
     count: u128,
     asked: &[LineByte],
     so_far: &Open,
@@ -87,14 +86,14 @@ fn put_open_command(
 ) -> Result<(), AllocError>
     requires { count ≤ 2 ^ 100 }
     ensures { OnOk result (line.new.items ≡ line.old.items
-        ++ line_of_open count (words_if_whole rate so_far.now.command) (progress_told Controller breaking so_far.now.asked (wanted_of_command so_far.now)) asked.now) }
+        ++ line_of_open count (words_if_whole profile.now so_far.now.command) (progress_told Controller breaking so_far.now.asked (wanted_of_command so_far.now)) asked.now) }
 {
     let Some((first, rest)) = asked.split_first() else {
         return Ok(());
     };
     let wanted = wanted_of_command(so_far);
-    put_records(line, count, asked.len(), first.time_us)?;
-    put_words_if_whole(line, rate, ": ", &so_far.command)?;
+    put_records(line, count + 1, count + asked.len() as u128, first.time_us)?;
+    put_words_if_whole(line, profile, ": ", &so_far.command)?;
     put_bytes(line, *first, rest)?;
     put_progress(line, Wire::Controller, breaking, so_far.asked, wanted)?;
     put_text(line, "\n")
@@ -125,7 +124,12 @@ fn put_open_reply(
     let Some((first, rest)) = answered.split_first() else {
         return Ok(());
     };
-    put_records(line, count, answered.len(), first.time_us)?;
+    put_records(
+        line,
+        count + 1,
+        count + answered.len() as u128,
+        first.time_us,
+    )?;
     put_word(line, ": ", "-> ")?;
     put_bytes(line, *first, rest)?;
     put_progress(line, Wire::Deck, breaking, so_far.answered, so_far.wanted)?;
@@ -164,15 +168,15 @@ fn would_end(wire: Wire, breaking: Wire, came: usize, wanted: usize) -> bool
 /// Puts a label, and a command's name and time, where it is complete.
 fn put_words_if_whole(
     line: &mut Vec<u8>,
-    rate: Rate,
+    profile: &Profile,
     label: &str,
     command: &Option<Command>,
 ) -> Result<(), AllocError>
-    ensures { OnOk result (line.new.items ≡ line.old.items ++ (label.now ++ words_if_whole rate command.now)) }
+    ensures { OnOk result (line.new.items ≡ line.old.items ++ (label.now ++ words_if_whole profile.now command.now)) }
 {
     put_text(line, label)?;
     match command {
-        Some(command) => put_words(line, rate, command),
+        Some(command) => put_words(line, profile, command),
         None => Ok(()),
     }
 }

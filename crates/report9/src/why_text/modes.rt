@@ -1,14 +1,10 @@
-//! The modes of a set, named in a row.
-ghost use Rattle.std.specs.Prelude.{◌≡◌, ◌++◌, [], codes, OnOk};
+//! Whether a set has every mode.
+ghost use Rattle.std.specs.Prelude.{◌≡◌};
 ghost use Rattle.std.specs.List.{list_all};
-ghost use Rattle.deck9.specs.Mode.{every_mode, name_of};
+ghost use Rattle.deck9.specs.Mode.{every_mode};
 ghost use Rattle.deck9.specs.ModeSet.{has};
-ghost use Rattle.report9.specs.WhyText.{text_of_modes};
-ghost use Rattle.text9.specs.Row.{in_a_row, names_of};
 
 use deck9::{Mode, ModeSet};
-use std::alloc::AllocError;
-use text9::{put_chosen, put_text};
 
 /// Whether every mode is in a set.
 pub(super) fn is_every(modes: ModeSet) -> bool
@@ -20,27 +16,4 @@ pub(super) fn is_every(modes: ModeSet) -> bool
         }
     }
     true
-}
-
-/// Puts the names of the modes with bars between them, and `none` where there is none.
-#[tactic(auto, using(crate::proofs::Words::some_any), unfolding(crate::specs::WhyText::text_of_modes))]
-pub(super) fn put_modes(line: &mut Vec<u8>, modes: ModeSet) -> Result<(), AllocError>
-    ensures { OnOk result (line.new.items ≡ line.old.items ++ text_of_modes modes) }
-{
-    if !modes.is_some() {
-        return put_text(line, "none");
-    }
-    put_names(line, modes)
-}
-
-/// Puts the names of the modes with bars between them.
-fn put_names(line: &mut Vec<u8>, modes: ModeSet) -> Result<(), AllocError>
-    ensures { OnOk result (line.new.items ≡ line.old.items
-        ++ in_a_row [] (codes "|") (names_of (has modes.0) name_of every_mode)) }
-{
-    let mut before = "";
-    for mode in &Mode::ALL {
-        before = put_chosen(line, before, "|", mode.name(), modes.has(*mode))?;
-    }
-    Ok(())
 }

@@ -1,14 +1,19 @@
 //! Sheets that are taken.
 
 use crate::read_sheet;
+use block9::ReplyForm;
 use deck9::{Deck, Forgotten, Mode};
+use std::collections::BTreeMap;
 use std::test::Fail;
 
-/// A sheet: what it names, by the heads of the commands, and which modes it adds on the way to which goals.
+/// A sheet: what it says of commands, by their heads, and which modes it adds on the way to which goals.
 struct Taken {
     text: &'static str,
     forgets: &'static [(u32, Forgotten)],
+    also_forgets: &'static [(u32, Forgotten)],
+    names: &'static [(u32, &'static [u8])],
     adds: &'static [(Mode, Mode)],
+    replies: &'static [(u32, &'static [ReplyForm])],
 }
 
 const TAKEN: &[Taken] = &[
@@ -19,22 +24,34 @@ const TAKEN: &[Taken] = &[
             (0x20_65, Forgotten::Motion),
             (0x40_2D, Forgotten::Nothing),
         ],
+        also_forgets: &[],
+        names: &[],
         adds: &[(Mode::Rec, Mode::Shuttle), (Mode::Rec, Mode::Jog)],
+        replies: &[],
     },
     Taken {
         text: "",
         forgets: &[],
+        also_forgets: &[],
+        names: &[],
         adds: &[],
+        replies: &[],
     },
     Taken {
-        text: "# nothing\n[passes]\n[forgets]\n",
+        text: "# nothing\n[passes]\n[names]\n[forgets]\n",
         forgets: &[],
+        also_forgets: &[],
+        names: &[],
         adds: &[],
+        replies: &[],
     },
     Taken {
-        text: "forgets = { \"20 61\" = \"nothing\" }",
+        text: "forgets = { \"20 61\" = \"nothing\" }\nnames = { \"20 61\" = \"A\" }",
         forgets: &[(0x20_61, Forgotten::Nothing)],
+        also_forgets: &[],
+        names: &[(0x20_61, b"A")],
         adds: &[],
+        replies: &[],
     },
     // Listed codes with another number of data bytes, and groups without a table.
     Taken {
@@ -45,23 +62,163 @@ const TAKEN: &[Taken] = &[
             (0x00_0E, Forgotten::Everything),
             (0x80_00, Forgotten::Motion),
         ],
+        also_forgets: &[],
+        names: &[],
         adds: &[],
+        replies: &[],
     },
     Taken {
         text: "[forgets]\n\"2f fF\" = \"nothing\"\n\"aB Cd\" = 'tape'\n",
         forgets: &[(0x2F_FF, Forgotten::Nothing), (0xAB_CD, Forgotten::Tape)],
+        also_forgets: &[],
+        names: &[],
         adds: &[],
+        replies: &[],
+    },
+    // Listed commands of each group but the sense requests, among others.
+    Taken {
+        text: "[forgets]\n'20 0f' = 'registers'\n'20 0E' = 'tape'\n'00 1D' = 'nothing'\n'41 30' = 'motion'\n'61 0A' = 'tape'\n",
+        forgets: &[(0x20_0E, Forgotten::Tape), (0x61_0A, Forgotten::Tape)],
+        also_forgets: &[
+            (0x20_0F, Forgotten::Registers),
+            (0x00_1D, Forgotten::Nothing),
+            (0x41_30, Forgotten::Motion),
+        ],
+        names: &[],
+        adds: &[],
+        replies: &[],
+    },
+    // Names: the longest, the shortest, and every kind of character.
+    Taken {
+        text: "[names]\n'20 61' = 'FULL EE ON'\n'61 0a' = 'ABCDEFGHIJKLMNOPQRSTUVWX'\n'21 01' = 'Z'\n'62 0C' = 'A0 9+-/'\n'ab cd' = 'Y //'\n",
+        forgets: &[],
+        also_forgets: &[],
+        names: &[
+            (0x20_61, b"FULL EE ON"),
+            (0x61_0A, b"ABCDEFGHIJKLMNOPQRSTUVWX"),
+            (0x21_01, b"Z"),
+            (0x62_0C, b"A0 9+-/"),
+            (0xAB_CD, b"Y //"),
+        ],
+        adds: &[],
+        replies: &[],
     },
     // A goal that names itself, a name twice, the profile's own and none at all.
     Taken {
         text: "[passes]\nPLAY = ['PLAY']\nFF = ['REW', 'REW']\nREC = ['STOP']\nSTOP = []\nEJECT = ['VAR', 'CUED', 'EJECT']\n",
         forgets: &[],
+        also_forgets: &[],
+        names: &[],
         adds: &[
             (Mode::Play, Mode::Play),
             (Mode::FastForward, Mode::Rewind),
             (Mode::Eject, Mode::Var),
             (Mode::Eject, Mode::Cued),
             (Mode::Eject, Mode::Eject),
+        ],
+        replies: &[],
+    },
+    // Replies: to listed commands and others, in any order and twice, of every group that a deck may send, with no data and with
+    // fifteen, with any number of them, and in digits of either case.
+    Taken {
+        text: "[replies]\n'61 0a' = ['74 08', '74 09', '78 08']\n'61 0C' = ['78 00']\n'60 2B' = ['76 2B']\n'00 11' = ['13 11']\n'62 21' = ['7* 21']\n'20 01' = ['7f aB', '10 01', '7F Ab', 'a* 00', 'F0 0f', '3F FF', '51 00']\n",
+        forgets: &[],
+        also_forgets: &[],
+        names: &[],
+        adds: &[],
+        replies: &[
+            (
+                0x61_0A,
+                &[
+                    ReplyForm {
+                        group: 7,
+                        count: Some(4),
+                        code: 0x08,
+                    },
+                    ReplyForm {
+                        group: 7,
+                        count: Some(4),
+                        code: 0x09,
+                    },
+                    ReplyForm {
+                        group: 7,
+                        count: Some(8),
+                        code: 0x08,
+                    },
+                ],
+            ),
+            (
+                0x61_0C,
+                &[ReplyForm {
+                    group: 7,
+                    count: Some(8),
+                    code: 0x00,
+                }],
+            ),
+            (
+                0x60_2B,
+                &[ReplyForm {
+                    group: 7,
+                    count: Some(6),
+                    code: 0x2B,
+                }],
+            ),
+            (
+                0x00_11,
+                &[ReplyForm {
+                    group: 1,
+                    count: Some(3),
+                    code: 0x11,
+                }],
+            ),
+            (
+                0x62_21,
+                &[ReplyForm {
+                    group: 7,
+                    count: None,
+                    code: 0x21,
+                }],
+            ),
+            (
+                0x20_01,
+                &[
+                    ReplyForm {
+                        group: 7,
+                        count: Some(15),
+                        code: 0xAB,
+                    },
+                    ReplyForm {
+                        group: 1,
+                        count: Some(0),
+                        code: 0x01,
+                    },
+                    ReplyForm {
+                        group: 7,
+                        count: Some(15),
+                        code: 0xAB,
+                    },
+                    ReplyForm {
+                        group: 10,
+                        count: None,
+                        code: 0x00,
+                    },
+                    ReplyForm {
+                        group: 15,
+                        count: Some(0),
+                        code: 0x0F,
+                    },
+                    ReplyForm {
+                        group: 3,
+                        count: Some(15),
+                        code: 0xFF,
+                    },
+                    ReplyForm {
+                        group: 5,
+                        count: Some(1),
+                        code: 0x00,
+                    },
+                ],
+            ),
         ],
     },
 ];
@@ -70,20 +227,49 @@ const TAKEN: &[Taken] = &[
 fn sheets_that_are_taken(rt: HostRuntime) -> Result<(), Fail> {
     for taken in TAKEN {
         let deck = read_sheet(rt.alloc(), taken.text.as_bytes())?;
-        assert!(rt; forgets(&deck, taken.forgets), "{:?}", taken.text);
+        assert!(rt; forgets(&deck.forgets, taken.forgets), "{:?}", taken.text);
+        assert!(rt;
+            forgets(&deck.also_forgets, taken.also_forgets),
+            "{:?}",
+            taken.text
+        );
+        assert!(rt; names(&deck, taken.names), "{:?}", taken.text);
         assert!(rt; passes(&deck, taken.adds), "{:?}", taken.text);
+        assert!(rt; replies(&deck, taken.replies), "{:?}", taken.text);
     }
     Ok(())
 }
 
-/// Whether the deck names these commands and no others.
-fn forgets(deck: &Deck, wanted: &[(u32, Forgotten)]) -> bool {
+/// Whether a map has these commands and no others.
+fn forgets(map: &BTreeMap<u32, Forgotten>, wanted: &[(u32, Forgotten)]) -> bool {
     for (head, forgotten) in wanted {
-        if deck.forgets.get(head) != Some(forgotten) {
+        if map.get(head) != Some(forgotten) {
             return false;
         }
     }
-    deck.forgets.len() == wanted.len()
+    map.len() == wanted.len()
+}
+
+/// Whether the deck has these names and no others.
+fn names(deck: &Deck, wanted: &[(u32, &'static [u8])]) -> bool {
+    for (head, name) in wanted {
+        match deck.names.get(head) {
+            Some(found) if found.as_slice() == *name => {}
+            _ => return false,
+        }
+    }
+    deck.names.len() == wanted.len()
+}
+
+/// Whether the deck has these forms of reply and no others.
+fn replies(deck: &Deck, wanted: &[(u32, &'static [ReplyForm])]) -> bool {
+    for (head, forms) in wanted {
+        match deck.replies.get(head) {
+            Some(found) if found.as_slice() == *forms => {}
+            _ => return false,
+        }
+    }
+    deck.replies.len() == wanted.len()
 }
 
 /// Whether the modes on the way to each goal are those of the profile and the added ones.

@@ -16,23 +16,23 @@ const REFUSED: &[(&'static [u8], &'static str)] = &[
     (b"= 1\n\n\xC3\n", "line 3: not TOML"),
     (
         b"forget = 1",
-        "\"forget\": unknown key: only [forgets] and [passes] are read",
+        "\"forget\": unknown key: only [forgets], [names], [passes] and [replies] are read",
     ),
     (
         b"[Passes]\n[zzz]\n",
-        "\"Passes\": unknown key: only [forgets] and [passes] are read",
+        "\"Passes\": unknown key: only [forgets], [names], [passes] and [replies] are read",
     ),
     (
         b"forgets = 1\n\"zz\" = 2",
-        "\"zz\": unknown key: only [forgets] and [passes] are read",
+        "\"zz\": unknown key: only [forgets], [names], [passes] and [replies] are read",
     ),
     (
         b"\"\" = 1",
-        "\"\": unknown key: only [forgets] and [passes] are read",
+        "\"\": unknown key: only [forgets], [names], [passes] and [replies] are read",
     ),
     (
         b"\"a\\n\\u001B[31m\\\"\\u00e9\" = 1",
-        "\"a\\n\\x1b[31m\\\"\\xc3\\xa9\": unknown key: only [forgets] and [passes] are read",
+        "\"a\\n\\x1b[31m\\\"\\xc3\\xa9\": unknown key: only [forgets], [names], [passes] and [replies] are read",
     ),
     (b"forgets = 1", "\"forgets\": not a table"),
     (
@@ -41,29 +41,22 @@ const REFUSED: &[(&'static [u8], &'static str)] = &[
     ),
     (b"[[forgets]]\n", "\"forgets\": not a table"),
     (b"passes = \"REC\"", "\"passes\": not a table"),
-    (
-        b"[forgets]\n\"20 01\" = \"nothing\"",
-        "[forgets] \"20 01\": a listed command: what it does is fixed",
-    ),
+    // Sense requests that are listed.
     (
         b"[forgets]\n\"61 0C\" = \"nothing\"",
-        "[forgets] \"61 0C\": a listed command: what it does is fixed",
+        "[forgets] \"61 0C\": a listed sense request: it changes nothing",
     ),
     (
-        b"[forgets]\n\"61 0c\" = \"nothing\"",
-        "[forgets] \"61 0c\": a listed command: what it does is fixed",
+        b"[forgets]\n\"61 0c\" = 1",
+        "[forgets] \"61 0c\": a listed sense request: it changes nothing",
     ),
     (
-        b"[forgets]\n\"24 31\" = \"nothing\"",
-        "[forgets] \"24 31\": a listed command: what it does is fixed",
+        b"[forgets]\n\"61 20\" = \"tape\"",
+        "[forgets] \"61 20\": a listed sense request: it changes nothing",
     ),
     (
-        b"[forgets]\n\"00 1D\" = \"nothing\"",
-        "[forgets] \"00 1D\": a listed command: what it does is fixed",
-    ),
-    (
-        b"[forgets]\n\"41 30\" = \"nothing\"",
-        "[forgets] \"41 30\": a listed command: what it does is fixed",
+        b"[forgets]\n\"20 0f\" = \"nothing\"\n\"20 0F\" = \"tape\"",
+        "[forgets] \"20 0f\": named twice",
     ),
     (
         b"[forgets]\n\"20 6a\" = \"nothing\"\n\"20 6A\" = \"nothing\"",
@@ -118,6 +111,94 @@ const REFUSED: &[(&'static [u8], &'static str)] = &[
         b"[passes]\nX = 1\n[forgets]\n\"20 62\" = 1\n\"20 61\" = 1",
         "[forgets] \"20 61\": not \"nothing\", \"motion\", \"registers\", \"tape\" or \"everything\"",
     ),
+    (b"names = []", "\"names\": not a table"),
+    (
+        b"names = 1\npasses = 1\n[forgets]\n\"20 61\" = 1",
+        "[forgets] \"20 61\": not \"nothing\", \"motion\", \"registers\", \"tape\" or \"everything\"",
+    ),
+    (b"names = 1\npasses = 1", "\"names\": not a table"),
+    (
+        b"[names]\n\"20  61\" = 1",
+        "[names] \"20  61\": not two bytes in hexadecimal, as \"20 61\"",
+    ),
+    (
+        b"[names]\n\"7a 0c\" = 1",
+        "[names] \"7a 0c\": groups 1 and 7 are a deck's replies, not commands",
+    ),
+    (
+        b"[names]\n\"61 0C\" = 1",
+        "[names] \"61 0C\": a listed command: it has its name",
+    ),
+    (
+        b"[names]\n\"20 01\" = \"PLAY\"",
+        "[names] \"20 01\": a listed command: it has its name",
+    ),
+    (
+        b"[names]\n\"20 61\" = 1",
+        "[names] \"20 61\": not a text, as \"FULL EE ON\"",
+    ),
+    (
+        b"[names]\n\"20 61\" = [\"A\"]",
+        "[names] \"20 61\": not a text, as \"FULL EE ON\"",
+    ),
+    (
+        b"[names]\n\"20 61\" = \"Full EE\"",
+        "[names] \"20 61\": a name has only A to Z, 0 to 9, blanks, +, - and /",
+    ),
+    (
+        b"[names]\n\"20 61\" = \"FULL_EE\"",
+        "[names] \"20 61\": a name has only A to Z, 0 to 9, blanks, +, - and /",
+    ),
+    (
+        b"[names]\n\"20 61\" = \"\\u00c9E\"",
+        "[names] \"20 61\": a name has only A to Z, 0 to 9, blanks, +, - and /",
+    ),
+    (
+        b"[names]\n\"20 61\" = \"A\\tB\"",
+        "[names] \"20 61\": a name has only A to Z, 0 to 9, blanks, +, - and /",
+    ),
+    // Another character comes before the length.
+    (
+        b"[names]\n\"20 61\" = \"ABCDEFGHIJKLMNOPQRSTUVWXy\"",
+        "[names] \"20 61\": a name has only A to Z, 0 to 9, blanks, +, - and /",
+    ),
+    (
+        b"[names]\n\"20 61\" = \"\"",
+        "[names] \"20 61\": a name begins with a letter",
+    ),
+    (
+        b"[names]\n\"20 61\" = \" EE\"",
+        "[names] \"20 61\": a name begins with a letter",
+    ),
+    (
+        b"[names]\n\"20 61\" = \"2ND EE\"",
+        "[names] \"20 61\": a name begins with a letter",
+    ),
+    (
+        b"[names]\n\"20 61\" = \"ABCDEFGHIJKLMNOPQRSTUVWXY\"",
+        "[names] \"20 61\": a name has no more than 24 characters",
+    ),
+    (
+        b"[names]\n\"20 61\" = \"EE  ON\"",
+        "[names] \"20 61\": a name has no blank at its end, and no two together",
+    ),
+    (
+        b"[names]\n\"20 61\" = \"EE \"",
+        "[names] \"20 61\": a name has no blank at its end, and no two together",
+    ),
+    (
+        b"[names]\n\"20 6a\" = \"EE\"\n\"20 6A\" = \"FF\"",
+        "[names] \"20 6a\": named twice",
+    ),
+    (
+        b"[names]\n\"20 6a\" = \"ee\"\n\"20 6A\" = \"FF\"",
+        "[names] \"20 6a\": a name has only A to Z, 0 to 9, blanks, +, - and /",
+    ),
+    // The table before [passes], though that stands first.
+    (
+        b"[passes]\nX = 1\n[names]\n\"20 62\" = 1",
+        "[names] \"20 62\": not a text, as \"FULL EE ON\"",
+    ),
     (
         b"[passes]\nRECORD = []",
         "[passes] \"RECORD\": not STOP, PLAY, REC, FF, REW, SHUTTLE, JOG, VAR, CUED or EJECT",
@@ -145,6 +226,83 @@ const REFUSED: &[(&'static [u8], &'static str)] = &[
     (
         b"[passes.REC]\nJOG = 1",
         "[passes] \"REC\": not a list of modes, as [\"SHUTTLE\", \"JOG\"]",
+    ),
+    (b"replies = \"74 08\"", "\"replies\": not a table"),
+    (
+        b"replies = 1\n[passes]\nX = 1",
+        "[passes] \"X\": not STOP, PLAY, REC, FF, REW, SHUTTLE, JOG, VAR, CUED or EJECT",
+    ),
+    (
+        b"[replies]\n\"61 0\" = 1",
+        "[replies] \"61 0\": not two bytes in hexadecimal, as \"20 61\"",
+    ),
+    (
+        b"[replies]\n\"74 08\" = [\"74 08\"]",
+        "[replies] \"74 08\": groups 1 and 7 are a deck's replies, not commands",
+    ),
+    (
+        b"[replies]\n\"61 0A\" = \"74 08\"",
+        "[replies] \"61 0A\": not a list of replies, as [\"74 08\", \"7* 21\"]",
+    ),
+    (
+        b"[replies]\n\"61 0A\" = [\"74 08\", 7408]",
+        "[replies] \"61 0A\": not a list of replies, as [\"74 08\", \"7* 21\"]",
+    ),
+    (
+        b"[replies]\n\"61 0A\" = [[\"74 08\"]]",
+        "[replies] \"61 0A\": not a list of replies, as [\"74 08\", \"7* 21\"]",
+    ),
+    (
+        b"[replies]\n\"61 0A\" = []",
+        "[replies] \"61 0A\": an empty list: at least one reply is wanted",
+    ),
+    (
+        b"[replies]\n\"61 0A\" = [\"74 08\", \"74 8\", 1]",
+        "[replies] \"61 0A\": \"74 8\" is no reply, as \"74 08\" or \"7* 21\"",
+    ),
+    (
+        b"[replies]\n\"61 0A\" = [\"\"]",
+        "[replies] \"61 0A\": \"\" is no reply, as \"74 08\" or \"7* 21\"",
+    ),
+    (
+        b"[replies]\n\"61 0A\" = [\"*4 08\"]",
+        "[replies] \"61 0A\": \"*4 08\" is no reply, as \"74 08\" or \"7* 21\"",
+    ),
+    (
+        b"[replies]\n\"61 0A\" = [\"74 0*\"]",
+        "[replies] \"61 0A\": \"74 0*\" is no reply, as \"74 08\" or \"7* 21\"",
+    ),
+    (
+        b"[replies]\n\"61 0A\" = [\"74_08\"]",
+        "[replies] \"61 0A\": \"74_08\" is no reply, as \"74 08\" or \"7* 21\"",
+    ),
+    (
+        b"[replies]\n\"61 0A\" = [\"74 08\\u0007\"]",
+        "[replies] \"61 0A\": \"74 08\\x07\" is no reply, as \"74 08\" or \"7* 21\"",
+    ),
+    (
+        b"[replies]\n\"61 0A\" = [\"04 08\"]",
+        "[replies] \"61 0A\": \"04 08\" is no reply: groups 0, 2, 4 and 6 are a controller's commands",
+    ),
+    (
+        b"[replies]\n\"61 0A\" = [\"2* 08\"]",
+        "[replies] \"61 0A\": \"2* 08\" is no reply: groups 0, 2, 4 and 6 are a controller's commands",
+    ),
+    (
+        b"[replies]\n\"61 0A\" = [\"74 08\", \"40 08\", \"x\"]",
+        "[replies] \"61 0A\": \"40 08\" is no reply: groups 0, 2, 4 and 6 are a controller's commands",
+    ),
+    (
+        b"[replies]\n\"61 0A\" = [\"61 0A\"]",
+        "[replies] \"61 0A\": \"61 0A\" is no reply: groups 0, 2, 4 and 6 are a controller's commands",
+    ),
+    (
+        b"[replies]\n\"61 0a\" = [\"74 08\"]\n\"61 0A\" = [\"74 09\"]",
+        "[replies] \"61 0a\": named twice",
+    ),
+    (
+        b"[replies]\n\"61 0a\" = []\n\"61 0A\" = [\"74 09\"]",
+        "[replies] \"61 0a\": an empty list: at least one reply is wanted",
     ),
 ];
 

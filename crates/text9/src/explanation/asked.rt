@@ -2,27 +2,31 @@
 ghost use Rattle.std.specs.Prelude.{◌≡◌, ◌++◌, OnOk, codes};
 ghost use Rattle.block9.specs.Nak.{nak_bits};
 ghost use Rattle.deck9.specs.Status.{has_bit};
-ghost use Rattle.text9.specs.Explanation.{names_set, text_of_command, text_of_head, text_of_nak, text_of_reply};
+ghost use Rattle.text9.specs.Bytes.{text_of_head};
+ghost use Rattle.text9.specs.Explanation.{names_set, text_of_command, text_of_nak, text_of_reply};
 ghost use Rattle.text9.specs.Row.{in_a_row};
 
+use crate::buffer::TextBuffer;
 use crate::pieces::{put_hex, put_text};
 use crate::row::put_chosen;
 use bitflags::Flags;
 use block9::{Block, Exchange, NakBits};
+use deck9::Profile;
 use std::alloc::AllocError;
 
-/// Puts a label and a command: its name, or the first two bytes of one that is not listed.
+/// Puts a label and a command: its name, or the first two bytes of one that has none.
 #[tactic(auto, unfolding(crate::specs::Explanation::text_of_command))]
 pub(super) fn put_command(
     line: &mut Vec<u8>,
     label: &str,
+    profile: &Profile,
     exchange: &Exchange,
 ) -> Result<(), AllocError>
-    ensures { OnOk result (line.new.items ≡ line.old.items ++ (label.now ++ text_of_command exchange.now)) }
+    ensures { OnOk result (line.new.items ≡ line.old.items ++ (label.now ++ text_of_command profile.now exchange.now)) }
 {
     put_text(line, label)?;
-    match exchange.command.name() {
-        Some(name) => put_text(line, name),
+    match profile.name_of(&exchange.command) {
+        Some(name) => line.put(name),
         None => put_head(line, &exchange.block),
     }
 }

@@ -2,6 +2,10 @@
 use Rattle.std.specs.Prelude.{if◌then◌else◌, ◌==◌, ◌≡◌}
 use Rattle.track9.specs.Working.Deck.{Bool, code_by, Coded, coded_bool, coded_list, coded_option, coded_ℕ, coded×, Deck, Entries, false, Forgotten, Hands, List, ModeSet, Option, Part}
 use Rattle.track9.specs.Working.Deck.{Presets, Profile, Rate, refl, States, Times, Tracked, true, Halves, ℕ}
+use Rattle.arrayvec.specs.ArrayVec.{ArrayVec, array_vec_code}
+use Rattle.smallvec.specs.SmallVec.{SmallVec}
+use Rattle.block9.specs.declared.replies.ReplyForm.{ReplyForm}
+use Rattle.block9.specs.Working.Codes.{table_code}
 use Rattle.std.specs.FinSet as set
 use Rattle.std_collections.specs.Layout.BTreeMap.{BTreeMap, btree_map_code}
 use Rattle.deck9.specs.declared.deck.Forgotten.TheVariants as forgotten
@@ -83,10 +87,15 @@ forgotten_back forgotten.Everything = refl
 abbrev pub forgotten_code : Coded Forgotten
 forgotten_code = code_by ℕ coded_ℕ number_forgotten forgotten_by_number forgotten_back
 
+abbrev pub forgets_code : Coded (BTreeMap ℕ Forgotten)
+forgets_code = btree_map_code coded_ℕ forgotten_code
+
 abbrev pub deck_code : Coded Deck
 deck_code =
-    code_by (BTreeMap ℕ Forgotten × List ModeSet) (coded× (btree_map_code coded_ℕ forgotten_code) (coded_list mode_set_code))
-    (λ d. (d.forgets, d.ways)) (λ p. record { forgets = p.0; ways = p.1 }) (λ _. refl)
+    code_by (BTreeMap ℕ Forgotten × (BTreeMap ℕ Forgotten × (List ModeSet × (BTreeMap ℕ (ArrayVec ℕ) × BTreeMap ℕ (SmallVec ReplyForm)))))
+    (coded× forgets_code (coded× forgets_code (coded× (coded_list mode_set_code) (coded× (btree_map_code coded_ℕ (array_vec_code coded_ℕ)) table_code))))
+    (λ d. (d.forgets, (d.also_forgets, (d.ways, (d.names, d.replies)))))
+    (λ p. record { forgets = p.0; also_forgets = p.1.0; ways = p.1.1.0; names = p.1.1.1.0; replies = p.1.1.1.1 }) (λ _. refl)
 
 abbrev pub profile_code : Coded Profile
 profile_code =

@@ -1,6 +1,7 @@
 -- The names from elsewhere that definitions and proofs cite, of the deck, of its blocks, of time and of this crate's
 -- contracts, passed on from one place. Declares nothing.
 pub use Rattle.block9.specs.Command.{is_nak}
+pub use Rattle.block9.specs.Replies.{is_own}
 pub use Rattle.block9.specs.declared.block.Block.{Block}
 pub use Rattle.block9.specs.declared.command.Command.{Command}
 pub use Rattle.deck9.specs.Contradict.{CanPass, Passes}
@@ -10,11 +11,12 @@ pub use Rattle.deck9.specs.Local.{is_of_goal_or_register, may_ignore}
 pub use Rattle.deck9.specs.Mode.{is_mode, is_one_of, on_the_way}
 pub use Rattle.deck9.specs.ModeCalls.{both, is_some, KnowsModes, way}
 pub use Rattle.deck9.specs.ModeSet.{bit_of, either, has, modes}
-pub use Rattle.deck9.specs.Shows.{Agrees, AreSet, sense_of, Shows, ShowsStatus, Tells}
+pub use Rattle.deck9.specs.Shows.{Agrees, AreSet, sense_of, Shows, shown_by, ShowsStatus, Tells}
 pub use Rattle.deck9.specs.State.{entry_of, is_set, IsEntry, IsFirst, IsState, MayBeOn, with_entry}
 pub use Rattle.deck9.specs.Status.{status_of}
-pub use Rattle.deck9.specs.Step.{AreReached, done, Exchanges, ignored, refused, DeckStep}
-pub use Rattle.deck9.specs.Deck.{way_of}
+pub use Rattle.deck9.specs.Step.{AreReached, DeckStep, done, Exchanges, Forgets, forgotten_with, Goes, ignored, refused}
+pub use Rattle.block9.specs.Block.{head_of}
+pub use Rattle.deck9.specs.Deck.{forgotten_beside, way_of}
 pub use Rattle.deck9.specs.declared.deck.Deck.{Deck}
 pub use Rattle.deck9.specs.declared.deck.Forgotten.{Forgotten}
 pub use Rattle.deck9.specs.declared.effect.Change.{Change}

@@ -3,6 +3,9 @@ use Rattle.std.specs.Prelude.{if◌then◌else◌, ◌+◌, ◌||◌, ◌≡◌,
 use Rattle.track9.specs.Working.Deck.{AreReached, begin_count, BelowDay, Block, Bool, CanPass, Change, Command, count_of, Deck, Does, Drift, Effect, effect_of, entries_of, false, Hands}
 use Rattle.track9.specs.Working.Deck.{in_local, InPart, is_nak, is_of_goal_or_register, Mode, None, Option, Part, Possible, Presets, Profile, Rate}
 use Rattle.track9.specs.Working.Deck.{presets_after, Register, SetAt, Some, State, States, Status, DeckStep, true, Halves, with_command, with_one, ℕ}
+use Rattle.block9.specs.declared.exchange.Exchange.{Exchange}
+use Rattle.track9.specs.Working.Deck.{Exchanges, Forgets, Forgotten, Tracked}
+use Rattle.deck9.specs.declared.deck.Forgotten.TheVariants as forgotten
 use Rattle.deck9.specs.declared.effect.Effect.TheVariants as effect
 use Rattle.deck9.specs.declared.state.Hands.TheVariants as hands
 use Rattle.track9.specs.Frugal.{is_frugal, is_frugal_effect}
@@ -81,6 +84,13 @@ registers_forgotten h = map_halves (λ local. where_remains forgotten_part) h
 
 abbrev pub all_forgotten : Halves → Halves
 all_forgotten h = if halves_remain h then all_or_none (rate_in h) true else h
+
+abbrev pub halves_forgotten : Forgotten → Halves → Halves
+halves_forgotten forgotten.Nothing h = h
+halves_forgotten forgotten.Motion h = motion_forgotten h
+halves_forgotten forgotten.Registers h = registers_forgotten h
+halves_forgotten forgotten.Tape h = tape_forgotten h
+halves_forgotten forgotten.Everything h = all_forgotten h
 
 -- the rules, or this deck, at a rate, where nobody touches the panel
 abbrev pub untouched : Option Deck → Rate → Profile
@@ -238,3 +248,19 @@ FollowsDrift p v w = AllLeadOn p (Drift p) (λ n. n) v w
 -- the states after a command
 abbrev pub Follows : Profile → Command → Option Block → States → States → Type 0
 Follows p command reply v w = AllLeadOn p (DriftsAndGoes (StepOrPass command reply) p) (counts_after command reply) v w
+
+-- the states after something is forgotten, whatever deck it is
+abbrev pub AreForgotten : Forgotten → States → States → Type 0
+AreForgotten forgotten v w = (deck : Option Deck) → AllLeadOn (profile_of deck v) (Forgets (profile_of deck v) forgotten) (λ n. n) v w
+
+-- forgetting leads from one state to another, whatever deck it is
+abbrev pub MayForget : States → Forgotten → State → State → Type 0
+MayForget v forgotten s t = (deck : Option Deck) → Forgets (profile_of deck v) forgotten s t
+
+-- it leads from no possible state to this one
+abbrev pub IsForgottenFromNone : States → Forgotten → State → Type 0
+IsForgottenFromNone v forgotten t = (deck : Option Deck) → ¬ ((s : State) × Possible v s × Forgets (profile_of deck v) forgotten s t)
+
+-- an exchange leads from one of a tracker's states to this one, before what is forgotten besides
+abbrev pub IsReached : Tracked → Exchange → State → Type 0
+IsReached t e u = (s : State) × Possible t.states s × Exchanges t.profile e.command e.reply s u

@@ -55,7 +55,7 @@ impl<S: TimeSet> Halves<S> {
         if reply.is_nak() {
             return Ok(self.drift(deck));
         }
-        match Sense::of(command) {
+        match Sense::shown_by(command, reply) {
             Sense::Register(register) => self.read(alloc, deck, register, reply),
             Sense::Status(asked) => Ok(self.report(alloc, deck, asked, reply)),
             Sense::Nothing => self.apply(alloc, deck, false, command),

@@ -57,10 +57,14 @@ impl<'a> Course<'a> {
         }
     }
 
-    /// A command of any kind. Where the deck's sheet names some, every third is not listed and may be named.
+    /// A command of any kind. Where the deck's sheet names some, every third is not listed and may be named, and so may some that
+    /// are.
     fn any_command(&mut self) -> Command {
         if !self.sheet.named.is_empty() && self.draw.one_in(3) {
             sheets::unlisted(&mut self.draw)
+        } else if self.sheet.names_listed() && self.draw.one_in(3) {
+            let time = self.draw.time(&self.times);
+            sheets::listed(&mut self.draw, time)
         } else {
             command(&mut self.draw, &self.times)
         }

@@ -161,8 +161,8 @@ pub(super) fn moved(draw: &mut Draw, day: &Day, sheet: &Sheet, state: &PlainStat
     moved
 }
 
-/// The block of the deck with this first byte and code, and as many of these data as the first byte says.
-fn block(rt: &impl Abort, first: u8, code: u8, data: [u8; 15]) -> Block {
+/// The block with this first byte and code, and as many of these data as the first byte says.
+pub(super) fn block(rt: &impl Abort, first: u8, code: u8, data: [u8; 15]) -> Block {
     let count = usize::from(first % 16);
     let mut bytes = [0u8; 18];
     bytes[0] = first;

@@ -38,7 +38,7 @@ const STILL: &[Sent] = &[
 const OF_STILL: &str =
     "goal STOP, shown STOP, in 10:00:00:00, local no, ain 10:00:00:00, panel off";
 
-/// What is named for commands that are not listed.
+/// What is named for commands.
 type Names = &'static [(u32, Forgotten)];
 
 /// Whether hands are allowed, what is named, exchanges that leave a state, one more, and what is known after that.
@@ -58,6 +58,14 @@ const TAPE_AT_6: Names = &[(0x60_50, Forgotten::Tape)];
 const EVERYTHING_AT_6: Names = &[(0x60_50, Forgotten::Everything)];
 
 const NOTHING_AT_8: Names = &[(0x80_00, Forgotten::Nothing)];
+
+const EJECT: &[u8] = &[0x20, 0x0F, 0x2F];
+
+const REGISTERS_AT_EJECT: Names = &[(0x20_0F, Forgotten::Registers)];
+
+const MOTION_AT_PRESET: Names = &[(0x44_14, Forgotten::Motion)];
+
+const EVERYTHING_AT_PANEL_OFF: Names = &[(0x00_0C, Forgotten::Everything)];
 
 const REGISTERS_AT_8: Names = &[(0x80_00, Forgotten::Registers)];
 
@@ -130,6 +138,54 @@ const FORGETS: &[ForgetsRow] = &[
     ),
     (Hands::Allowed, NOTHING_AT_8, STILL, UNLISTED_8, OF_STILL),
     (Hands::Allowed, &[], STILL, UNLISTED_8, ""),
+    // EJECT beside its effect, and after a NAK.
+    (
+        Hands::None,
+        REGISTERS_AT_EJECT,
+        STILL,
+        EJECTED,
+        "goal EJECT, shown STOP, local no, panel off",
+    ),
+    (
+        Hands::None,
+        REGISTERS_AT_EJECT,
+        STILL,
+        (EJECT, NAK),
+        OF_STILL,
+    ),
+    (
+        Hands::Allowed,
+        REGISTERS_AT_EJECT,
+        STILL,
+        EJECTED,
+        "goal EJECT, shown STOP, local no, panel off",
+    ),
+    // In LOCAL it forgets whether EJECT was done or not.
+    (
+        Hands::None,
+        REGISTERS_AT_EJECT,
+        &[LOCAL_WITH_IN, SENSED_10],
+        EJECTED,
+        "local yes, panel off",
+    ),
+    // IN DATA PRESET 10:00:00:00, of a deck that has that time already.
+    (
+        Hands::None,
+        MOTION_AT_PRESET,
+        &[LOCAL_WITH_IN, SENSED_10],
+        PRESET_10,
+        "in 10:00:00:00, out clear, local yes, ain clear, aout clear, panel off",
+    ),
+    // LOCAL DISABLE, where hands are allowed, with the panel too, and not without.
+    (Hands::Allowed, EVERYTHING_AT_PANEL_OFF, &[], PANEL_OFF, ""),
+    (
+        Hands::None,
+        EVERYTHING_AT_PANEL_OFF,
+        &[],
+        PANEL_OFF,
+        "panel off",
+    ),
+    (Hands::Allowed, &[], &[], PANEL_OFF, "panel off"),
     // A deck in LOCAL ignores no command that is not listed.
     (
         Hands::None,

@@ -1,19 +1,22 @@
 //! Profiles of decks that do things of their own, by plain sheets.
 
-use super::plain_deck::{MODES, Sheet};
+use super::plain_deck::{LISTED_HEADS, MODES, Sheet};
 use deck9::{Deck, Forgotten, Hands, Mode, ModeSet, Profile};
 use std::alloc::{AllocError, Global};
 use std::collections::BTreeMap;
 use tc25::Rate;
 
-/// What is forgotten at the commands that are named.
+/// What is forgotten at the commands that are named: at those that are listed, or at those that are not.
 fn forgets_of(
     alloc: Global,
     named: &[(u32, Forgotten)],
+    is_listed: bool,
 ) -> Result<BTreeMap<u32, Forgotten>, AllocError> {
     let mut forgets = BTreeMap::new(alloc);
     for (head, forgotten) in named {
-        forgets.insert(*head, *forgotten)?;
+        if LISTED_HEADS.contains(head) == is_listed {
+            forgets.insert(*head, *forgotten)?;
+        }
     }
     Ok(forgets)
 }
@@ -35,13 +38,17 @@ pub(super) fn profile_of(
     hands: Hands,
     sheet: &Sheet,
 ) -> Result<Profile, AllocError> {
-    let forgets = forgets_of(alloc, sheet.named)?;
+    let forgets = forgets_of(alloc, sheet.named, false)?;
+    let also_forgets = forgets_of(alloc, sheet.named, true)?;
     Ok(Profile {
         rate: Rate::Fps25,
         hands,
         deck: Some(Deck {
             forgets,
+            also_forgets,
             ways: ways_of(sheet.ways),
+            names: BTreeMap::new(alloc),
+            replies: BTreeMap::new(alloc),
         }),
     })
 }

@@ -8,7 +8,9 @@ mod commands;
 mod replies;
 mod sheet;
 
-pub(super) use commands::{FORGETTABLE, change_of, forgets, is_free_in_local, sensed_by, small_of};
+pub(super) use commands::{
+    FORGETTABLE, LISTED_HEADS, change_of, forgets, head_of, is_free_in_local, sensed_by, small_of,
+};
 use deck9::{Change, Mode, Register};
 pub(super) use replies::{datum_of, shows};
 pub(super) use sheet::{NO_SHEET, Sheet};

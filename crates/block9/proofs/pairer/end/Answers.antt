@@ -1,5 +1,5 @@
 use Rattle.block9.proofs.Words.{completes, refl, rules, sym}
-use Rattle.block9.proofs.FeedLemmas.{command_held, ends_exchange, reply_says}
+use Rattle.block9.proofs.FeedLemmas.{ends_exchange, reply_says}
 use Rattle.block9.proofs.StandsLemmas.{right_sum}
 use Rattle.block9.proofs.pairer.end.Goals as goal
 
@@ -9,7 +9,7 @@ returns-in-Ok-end_reply-clause-ok c =
     let ok = c.in-Ok-end_reply.ensures.ok in (
       completes c.end_reply.new.exchange,
       refl,
-      ends_exchange c.args.rules c.args.tail.now c.args.block.now c.args.line_byte _ _ c.requires.held c.in-Deck.is c.requires.later c.requires.ends right ok.1 ok.0,
+      ends_exchange c.args.rules.now c.args.tail.now c.args.block.now c.args.line_byte _ _ c.requires.held c.in-Deck.is c.requires.later c.requires.ends right ok.1 ok.0,
       refl,
       ok.2,
       refl,
@@ -18,9 +18,8 @@ returns-in-Ok-end_reply-clause-ok c =
 pub returns-in-Err-end_reply-clause-err : goal.returns-in-Err-end_reply-clause-err
 returns-in-Err-end_reply-clause-err c =
     let right = right_sum c.args.tail.now c.args.block.now c.args.line_byte.byte c.requires.held.stands (sym c.requires.ends.1) (search rules) in
-    let held = command_held c.args.rules _ _ _ c.requires.held c.in-Deck.is in
     rw c.refuse-in-Err-end_reply.ensures.refused (
-      reply_says c.args.rules c.args.tail.now c.args.exchange.now.command c.args.line_byte _ held c.requires.ends right c.in-Err-end_reply.ensures.err,
+      reply_says c.args.rules.now c.args.tail.now c.args.block.now c.args.exchange.now c.args.line_byte _ c.requires.held c.in-Deck.is c.requires.ends right c.in-Err-end_reply.ensures.err,
       c.refuse-in-Err-end_reply.ensures.kept,
       c.in-Err-end_reply.ensures.same.0,
     )

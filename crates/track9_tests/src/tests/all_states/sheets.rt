@@ -3,7 +3,7 @@
 use super::{Course, NOON, agree_from_first};
 use crate::tests::drawn::Draw;
 use crate::tests::own_deck::profile_of;
-use crate::tests::plain_deck::Sheet;
+use crate::tests::plain_deck::{LISTED_HEADS, Sheet};
 use crate::tests::same;
 use block9::Command;
 use deck9::{Forgotten, Hands, Mode, Register};
@@ -11,6 +11,7 @@ use std::alloc::{AllocError, Global};
 use std::ops::Range;
 use std::process::Abort;
 use std::test::Fail;
+use tc25::TimeCode;
 
 /// Commands that are not listed, of which a sheet may name each: two of group 2 that differ in the last bit, and one at least of
 /// every group that has a rule of its own.
@@ -25,6 +26,19 @@ pub(super) fn unlisted(draw: &mut Draw) -> Command {
     Command::Unlisted { head }
 }
 
+/// A listed command that a sheet may name, with this time if it has one.
+pub(super) fn listed(draw: &mut Draw, time: TimeCode) -> Command {
+    match draw.below(7) {
+        0 => Command::LocalDisable,
+        1 => Command::DeviceType,
+        2 => Command::Eject,
+        3 => Command::InDataPreset { time },
+        4 => Command::OutDataPreset { time },
+        5 => Command::AudioInDataPreset { time },
+        _ => Command::AudioOutDataPreset { time },
+    }
+}
+
 /// What a sheet names for a command, if it names something.
 fn drawn_forgotten(draw: &mut Draw) -> Option<Forgotten> {
     match draw.below(6) {
@@ -37,11 +51,15 @@ fn drawn_forgotten(draw: &mut Draw) -> Option<Forgotten> {
     }
 }
 
-fn drawn_names(alloc: Global, draw: &mut Draw) -> Result<Vec<(u32, Forgotten)>, AllocError> {
+fn drawn_names(
+    alloc: Global,
+    draw: &mut Draw,
+    heads: &[u32],
+) -> Result<Vec<(u32, Forgotten)>, AllocError> {
     let mut named = Vec::new(alloc);
-    for head in HEADS {
+    for head in heads {
         if let Some(forgotten) = drawn_forgotten(draw) {
-            named.push((head, forgotten))?;
+            named.push((*head, forgotten))?;
         }
     }
     Ok(named)
@@ -74,9 +92,10 @@ struct DrawnSheet {
 }
 
 impl DrawnSheet {
-    fn new(alloc: Global, draw: &mut Draw) -> Result<DrawnSheet, AllocError> {
+    /// A sheet that may name these commands.
+    fn new(alloc: Global, draw: &mut Draw, heads: &[u32]) -> Result<DrawnSheet, AllocError> {
         Ok(DrawnSheet {
-            named: drawn_names(alloc, draw)?,
+            named: drawn_names(alloc, draw, heads)?,
             ways: drawn_ways(alloc, draw)?,
         })
     }
@@ -92,16 +111,17 @@ impl DrawnSheet {
 /// How many exchanges a course has at most.
 const TURNS: u32 = 12;
 
-/// Takes a course with a deck whose sheet is drawn.
+/// Takes a course with a deck whose sheet is drawn, and may name these commands.
 fn agree_with_sheet(
     rt: &impl Abort,
     alloc: Global,
     hands: Hands,
     registers: &'static [Register],
+    heads: &[u32],
     seed: u32,
 ) -> Result<u32, AllocError> {
     let mut draw = Draw::new(seed);
-    let drawn = DrawnSheet::new(alloc, &mut draw)?;
+    let drawn = DrawnSheet::new(alloc, &mut draw, heads)?;
     let profile = profile_of(alloc, hands, &drawn.sheet())?;
     let mut course = Course::new(&profile, NOON, registers, draw);
     course.sheet = drawn.sheet();
@@ -115,12 +135,13 @@ fn agree_on_sheets(
     alloc: Global,
     hands: Hands,
     registers: &'static [Register],
+    heads: &[u32],
     seeds: Range<u32>,
 ) -> Result<(), AllocError> {
     let courses = seeds.end.saturating_sub(seeds.start);
     let mut left = 0u32;
     for seed in seeds {
-        let turns = agree_with_sheet(rt, alloc, hands, registers, seed)?;
+        let turns = agree_with_sheet(rt, alloc, hands, registers, heads, seed)?;
         left = left.saturating_add(turns);
     }
     // The draws have to leave states.
@@ -128,44 +149,91 @@ fn agree_on_sheets(
     Ok(())
 }
 
-// There are 1,000 courses in all.
+// There are 1,000 courses with sheets that name commands that are not listed, and 100 with sheets that name listed ones.
 
 #[test]
 fn modes(rt: HostRuntime) -> Result<(), Fail> {
-    agree_on_sheets(&rt, rt.alloc(), Hands::None, &[], 0..300)?;
+    agree_on_sheets(&rt, rt.alloc(), Hands::None, &[], &HEADS, 0..300)?;
     Ok(())
 }
 
 #[test]
 fn modes_with_hands(rt: HostRuntime) -> Result<(), Fail> {
-    agree_on_sheets(&rt, rt.alloc(), Hands::Allowed, &[], 300..600)?;
+    agree_on_sheets(&rt, rt.alloc(), Hands::Allowed, &[], &HEADS, 300..600)?;
     Ok(())
 }
 
 #[test]
 fn ins(rt: HostRuntime) -> Result<(), Fail> {
     let registers = &[Register::RegIn];
-    agree_on_sheets(&rt, rt.alloc(), Hands::None, registers, 600..700)?;
+    agree_on_sheets(&rt, rt.alloc(), Hands::None, registers, &HEADS, 600..700)?;
     Ok(())
 }
 
 #[test]
 fn audio_outs(rt: HostRuntime) -> Result<(), Fail> {
     let registers = &[Register::RegAudioOut];
-    agree_on_sheets(&rt, rt.alloc(), Hands::None, registers, 700..800)?;
+    agree_on_sheets(&rt, rt.alloc(), Hands::None, registers, &HEADS, 700..800)?;
     Ok(())
 }
 
 #[test]
 fn outs_with_hands(rt: HostRuntime) -> Result<(), Fail> {
     let registers = &[Register::RegOut];
-    agree_on_sheets(&rt, rt.alloc(), Hands::Allowed, registers, 800..900)?;
+    agree_on_sheets(&rt, rt.alloc(), Hands::Allowed, registers, &HEADS, 800..900)?;
     Ok(())
 }
 
 #[test]
 fn audio_ins_with_hands(rt: HostRuntime) -> Result<(), Fail> {
     let registers = &[Register::RegAudioIn];
-    agree_on_sheets(&rt, rt.alloc(), Hands::Allowed, registers, 900..1_000)?;
+    agree_on_sheets(
+        &rt,
+        rt.alloc(),
+        Hands::Allowed,
+        registers,
+        &HEADS,
+        900..1_000,
+    )?;
+    Ok(())
+}
+
+#[test]
+fn listed_modes(rt: HostRuntime) -> Result<(), Fail> {
+    agree_on_sheets(&rt, rt.alloc(), Hands::None, &[], &LISTED_HEADS, 0..40)?;
+    Ok(())
+}
+
+#[test]
+fn listed_modes_with_hands(rt: HostRuntime) -> Result<(), Fail> {
+    agree_on_sheets(&rt, rt.alloc(), Hands::Allowed, &[], &LISTED_HEADS, 40..80)?;
+    Ok(())
+}
+
+#[test]
+fn listed_ins(rt: HostRuntime) -> Result<(), Fail> {
+    let registers = &[Register::RegIn];
+    agree_on_sheets(
+        &rt,
+        rt.alloc(),
+        Hands::None,
+        registers,
+        &LISTED_HEADS,
+        80..90,
+    )?;
+    Ok(())
+}
+
+#[test]
+fn listed_ins_with_hands(rt: HostRuntime) -> Result<(), Fail> {
+    let registers = &[Register::RegIn];
+    agree_on_sheets(
+        &rt,
+        rt.alloc(),
+        Hands::Allowed,
+        registers,
+        &LISTED_HEADS,
+        90..100,
+    )?;
     Ok(())
 }

@@ -65,6 +65,26 @@ fn goal_of(command: &Command) -> Option<Mode> {
     Some(goal)
 }
 
+/// The first two bytes of listed commands that a sheet may name.
+pub(in crate::tests) const LISTED_HEADS: [u32; 7] = [
+    0x00_0C, 0x00_11, 0x20_0F, 0x44_14, 0x44_15, 0x44_16, 0x44_17,
+];
+
+/// The first two bytes of a command's block, where a sheet may name it; otherwise of none that is named.
+pub(in crate::tests) fn head_of(command: &Command) -> u32 {
+    match command {
+        Command::Unlisted { head } => *head,
+        Command::LocalDisable => 0x00_0C,
+        Command::DeviceType => 0x00_11,
+        Command::Eject => 0x20_0F,
+        Command::InDataPreset { .. } => 0x44_14,
+        Command::OutDataPreset { .. } => 0x44_15,
+        Command::AudioInDataPreset { .. } => 0x44_16,
+        Command::AudioOutDataPreset { .. } => 0x44_17,
+        _ => 0x20_00,
+    }
+}
+
 /// What may be forgotten.
 pub(in crate::tests) const FORGETTABLE: [Small; 8] = [
     Small::AnyGoal,
@@ -105,7 +125,7 @@ fn forgets_named(named: Forgotten, hands: Hands, forgotten: &Small) -> bool {
     }
 }
 
-/// Whether a command, which is then not listed, makes the deck forget this.
+/// Whether a command makes the deck forget this: one that is listed where a sheet names it.
 pub(in crate::tests) fn forgets(
     sheet: &Sheet,
     command: &Command,

@@ -1,13 +1,14 @@
 //! What a deck does of its own, in short lists that are read from the front.
 
-use super::WAYS;
+use super::{LISTED_HEADS, WAYS, head_of};
 use block9::Command;
 use deck9::{Forgotten, Mode};
 
 /// What a deck does of its own.
 #[derive(Clone, Copy)]
 pub(in crate::tests) struct Sheet<'a> {
-    /// What it forgets at commands that are not listed, by the first two bytes of their blocks. No two are the same.
+    /// What it forgets at commands, by the first two bytes of their blocks: at one that is listed beside its effect. No two are
+    /// the same.
     pub(in crate::tests) named: &'a [(u32, Forgotten)],
     /// Goals, each with a mode that may be shown on the way to it beside those of every deck.
     pub(in crate::tests) ways: &'a [(Mode, Mode)],
@@ -20,17 +21,22 @@ pub(in crate::tests) const NO_SHEET: Sheet<'static> = Sheet {
 };
 
 impl<'a> Sheet<'a> {
-    /// What is named for a command that is not listed, if something is.
+    /// What is named for a command, if something is.
     pub(super) fn named_for(&self, command: &Command) -> Option<Forgotten> {
-        let Command::Unlisted { head } = command else {
-            return None;
-        };
+        let head = head_of(command);
         for (named, forgotten) in self.named {
-            if named == head {
+            if *named == head {
                 return Some(*forgotten);
             }
         }
         None
+    }
+
+    /// Whether it names a listed command.
+    pub(in crate::tests) fn names_listed(&self) -> bool {
+        self.named
+            .iter()
+            .any(|(head, _)| LISTED_HEADS.contains(head))
     }
 
     /// The mode at a place, counted from 0, of those on the way to a goal.

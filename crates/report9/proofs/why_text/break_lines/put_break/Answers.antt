@@ -7,4 +7,4 @@ unfolding lines_of_break
 returns c = search (rules, IfOk-equal, append_assoc)
 
 pub returns-in_default : goal.returns-in_default
-returns-in_default c = no_break c.args.rate c.args.verdict.now _ c.in_default.not-Break
+returns-in_default c = no_break c.args.profile.now c.args.verdict.now _ c.in_default.not-Break

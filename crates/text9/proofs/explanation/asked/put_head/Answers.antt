@@ -1,5 +1,5 @@
 use Rattle.std.proofs.Common.{append_assoc}
-use Rattle.text9.specs.Explanation.{text_of_head}
+use Rattle.text9.specs.Bytes.{text_of_head}
 use Rattle.text9.proofs.explanation.asked.put_head.Goals as goal
 
 pub returns : goal.returns

@@ -9,14 +9,14 @@ returns-then-is_nak-clause-ok g c = rw c.drift.ensures.drifted (exchanged_nak c.
 pub returns-in-Register-clause-ok : goal.returns-in-Register-clause-ok
 returns-in-Register-clause-ok g c = on_ok_weaker c.read.result
     (λ new. rw new (exchanged_sense c.args.deck.now (rate_in c.args.self.now) c.args.command.now c.args.reply.now c.in-Register.register c.args.self.now (sym c.is_nak.ensures ∙ c.if-is_nak.false)
-    (sym c.of.ensures ∙ c.in-Register.is) c.requires)) c.read.ensures.ok
+    (sym c.shown_by.ensures ∙ c.in-Register.is) c.requires)) c.read.ensures.ok
 
 pub returns-in-Status-clause-ok : goal.returns-in-Status-clause-ok
 returns-in-Status-clause-ok g c = rw c.report.ensures.kept
     (exchanged_status c.args.deck.now (rate_in c.args.self.now) c.args.command.now c.args.reply.now c.in-Status.asked c.args.self.now (sym c.is_nak.ensures ∙ c.if-is_nak.false)
-    (sym c.of.ensures ∙ c.in-Status.is) c.requires)
+    (sym c.shown_by.ensures ∙ c.in-Status.is) c.requires)
 
 pub returns-in-Nothing-clause-ok : goal.returns-in-Nothing-clause-ok
 returns-in-Nothing-clause-ok g c = on_ok_weaker c.apply.result
     (exchanged_effect c.args.deck.now (rate_in c.args.self.now) c.args.command.now c.args.reply.now c.args.self.now c.apply.new.self (sym c.is_nak.ensures ∙ c.if-is_nak.false)
-    (sym c.of.ensures ∙ c.in-Nothing.is) c.requires) c.apply.ensures.ok
+    (sym c.shown_by.ensures ∙ c.in-Nothing.is) c.requires) c.apply.ensures.ok

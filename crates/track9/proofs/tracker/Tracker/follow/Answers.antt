@@ -7,8 +7,8 @@ loop-exchange-init g c = from-start c.args.self.now
 
 pub loop-exchange-preserved : goal.loop-exchange-preserved
 loop-exchange-preserved g c =
-    (from-next c.args.self.now c.args.exchanges.now c.loop-exchange.exchange-index c.exchange-item.result c.loop-exchange.self c.observe.new.self
-    c.loop-exchange-test.true c.exchange-item.is c.loop-exchange.invariant c.in_ok-observe.ensures.reached c.in_ok-observe.ensures.profile).1
+    (from-next c.args.self.now c.args.exchanges.now c.loop-exchange.exchange-index c.exchange-item.result c.loop-exchange.self c.take.new.self
+    c.loop-exchange-test.true c.exchange-item.is c.loop-exchange.invariant c.in_ok-take.ensures.reached c.in_ok-take.ensures.profile).1
 
 pub returns : goal.returns
 returns g c = rw (take_all c.loop-exchange.exchange-index c.args.exchanges.now c.loop-exchange-test.false) at c.loop-exchange.invariant

@@ -1,2 +1,0 @@
--- What the clauses of private functions cite. No public contract reaches it, so no reader has to believe it.
-pub mod WhyText

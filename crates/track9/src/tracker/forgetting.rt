@@ -1,0 +1,182 @@
+//! What is forgotten, and complete exchanges with what is forgotten besides.
+ghost use Rattle.std.specs.Prelude.{◌≡◌, ◌↔◌, IfErr, IfNone, IfOk, IfSome, IsTrue, OnErr, OnOk, false};
+ghost use Rattle.block9.specs.Block.{head_of};
+ghost use Rattle.deck9.specs.Contradict.{MayGo};
+ghost use Rattle.deck9.specs.Deck.{forgotten_beside};
+ghost use Rattle.deck9.specs.Step.{AreReached, Forgets, Goes, forgotten_with};
+ghost use Rattle.track9.specs.Presets.{presets_after, with_command};
+ghost use Rattle.track9.specs.Tracker.{Possible};
+ghost use Rattle.track9.specs.Working.States.{IsReached};
+ghost use Rattle.deck9.specs.declared.state.State.{State as AState};
+
+use crate::tracker::Tracker;
+use block9::Exchange;
+use deck9::{Forgotten, State};
+use sets25::TimeSet;
+use std::alloc::AllocError;
+use std::mem::replace;
+
+impl<'a, S: TimeSet> Tracker<'a, S> {
+    /// Forgets what is named: that may be anything from here on, and all else stays.
+    ///
+    /// The states are then exactly those to which forgetting leads from a state before. So there is one where there was one.
+    ///
+    /// An error comes where memory is refused, and the tracker is then as it was.
+    pub fn forget(&mut self, forgotten: Forgotten) -> Result<(), AllocError>
+        ensures reached { OnOk result (AreReached (Possible self.old.states) (Forgets self.old.profile forgotten) (Possible self.new.states)) }
+        ensures remains { OnOk result (((s : AState) × Possible self.old.states s) ↔ ((s : AState) × Possible self.new.states s)) }
+        ensures profile { OnOk result (self.new.profile ≡ self.old.profile) }
+        ensures presets { OnOk result (self.new.presets ≡ self.old.presets) }
+        ensures unchanged { OnErr result (self.new ≡ self.old) }
+    {
+        self.states.below_day();
+        self.states.forget(self.alloc, forgotten)?;
+        Ok(())
+    }
+
+    /// Takes the next exchange, as [`Tracker::observe`] takes its command and reply, and then forgets what the deck forgets besides.
+    ///
+    /// The states are then exactly those to which the exchange leads from a state before. It answers true where there is such a
+    /// state, and false where there is none.
+    ///
+    /// An error comes where memory is refused, and the tracker is then as it was.
+    #[inline(always)] // each exchange of a capture comes here
+    pub fn take(&mut self, exchange: &Exchange) -> Result<bool, AllocError>
+        ensures reached { IfOk result (λ b. AreReached (Possible self.old.states) (Goes self.old.profile exchange.now) (Possible self.new.states)) }
+        ensures remains { IfOk result (λ b. IsTrue b ↔ ((s : AState) × Possible self.new.states s)) }
+        ensures profile { IfOk result (λ b. self.new.profile ≡ self.old.profile) }
+        ensures presets { IfOk result (λ b. self.new.presets ≡ presets_after exchange.now.command exchange.now.reply b self.old.presets) }
+        ensures unchanged { IfErr result (λ e. self.new ≡ self.old) }
+    {
+        match self.deck.forgotten_with(exchange) {
+            Forgotten::Nothing => self.observe(&exchange.command, &exchange.reply),
+            forgotten => self.take_aside(exchange, forgotten),
+        }
+    }
+
+    /// The same where something is forgotten besides: aside, so that nothing has changed where memory is refused.
+    #[inline(never)] // as it is rare
+    fn take_aside(&mut self, exchange: &Exchange, forgotten: Forgotten) -> Result<bool, AllocError>
+        requires { forgotten ≡ forgotten_with self.old.profile.deck exchange.now }
+        ensures reached { IfOk result (λ b. AreReached (Possible self.old.states) (Goes self.old.profile exchange.now) (Possible self.new.states)) }
+        ensures remains { IfOk result (λ b. IsTrue b ↔ ((s : AState) × Possible self.new.states s)) }
+        ensures profile { IfOk result (λ b. self.new.profile ≡ self.old.profile) }
+        ensures presets { IfOk result (λ b. self.new.presets ≡ presets_after exchange.now.command exchange.now.reply b self.old.presets) }
+        ensures unchanged { IfErr result (λ e. self.new ≡ self.old) }
+    {
+        let mut next = self.snapshot()?;
+        match next.observe_and_forget(exchange, forgotten) {
+            Ok(remains) => {
+                drop(replace(self, next));
+                Ok(remains)
+            }
+            Err(error) => {
+                drop(next);
+                Err(error)
+            }
+        }
+    }
+
+    /// Takes an exchange, and then forgets this besides. Where memory is refused it may have taken the exchange alone.
+    fn observe_and_forget(
+        &mut self,
+        exchange: &Exchange,
+        forgotten: Forgotten,
+    ) -> Result<bool, AllocError>
+        requires { forgotten ≡ forgotten_with self.old.profile.deck exchange.now }
+        ensures reached { IfOk result (λ b. AreReached (Possible self.old.states) (Goes self.old.profile exchange.now) (Possible self.new.states)) }
+        ensures remains { IfOk result (λ b. IsTrue b ↔ ((s : AState) × Possible self.new.states s)) }
+        ensures profile { IfOk result (λ b. self.new.profile ≡ self.old.profile) }
+        ensures presets { IfOk result (λ b. self.new.presets ≡ presets_after exchange.now.command exchange.now.reply b self.old.presets) }
+    {
+        let remains = self.observe(&exchange.command, &exchange.reply)?;
+        self.forget(forgotten)?;
+        Ok(remains)
+    }
+
+    /// Takes the next exchange, of which the reply is not believed: as [`Tracker::pass`] takes its command, and then it forgets
+    /// what the deck forgets besides.
+    ///
+    /// The states are then exactly those to which the exchange may lead from a state before. So there is one where there was one.
+    ///
+    /// An error comes where memory is refused. The tracker may then have taken the command alone.
+    pub fn take_unknown(&mut self, exchange: &Exchange) -> Result<(), AllocError>
+        ensures reached { OnOk result (AreReached (Possible self.old.states) (MayGo self.old.profile false exchange.now) (Possible self.new.states)) }
+        ensures remains { OnOk result (((s : AState) × Possible self.old.states s) ↔ ((s : AState) × Possible self.new.states s)) }
+        ensures profile { OnOk result (self.new.profile ≡ self.old.profile) }
+        ensures presets { OnOk result (self.new.presets ≡ with_command exchange.now.command self.old.presets) }
+    {
+        match self.deck.forgotten_beside(exchange) {
+            Forgotten::Nothing => self.pass(&exchange.command),
+            forgotten => self.pass_and_forget(exchange, forgotten),
+        }
+    }
+
+    /// The same where this is forgotten besides.
+    fn pass_and_forget(
+        &mut self,
+        exchange: &Exchange,
+        forgotten: Forgotten,
+    ) -> Result<(), AllocError>
+        requires { forgotten ≡ forgotten_beside self.old.profile.deck exchange.now.command (head_of exchange.now.block) }
+        ensures reached { OnOk result (AreReached (Possible self.old.states) (MayGo self.old.profile false exchange.now) (Possible self.new.states)) }
+        ensures remains { OnOk result (((s : AState) × Possible self.old.states s) ↔ ((s : AState) × Possible self.new.states s)) }
+        ensures profile { OnOk result (self.new.profile ≡ self.old.profile) }
+        ensures presets { OnOk result (self.new.presets ≡ with_command exchange.now.command self.old.presets) }
+    {
+        self.pass(&exchange.command)?;
+        self.forget(forgotten)?;
+        Ok(())
+    }
+
+    /// A possible state from which the exchange leads to the target, or `None` exactly where there is none. Which one it is of
+    /// several is not said.
+    ///
+    /// An error comes where memory is refused. It takes memory only where something is forgotten besides.
+    pub fn before_exchange(
+        &self,
+        exchange: &Exchange,
+        target: &State,
+    ) -> Result<Option<State>, AllocError>
+        ensures some { IfOk result (λ o. IfSome o (λ s. Possible self.now.states s × Goes self.now.profile exchange.now s target.now)) }
+        ensures none { IfOk result (λ o. IfNone o (¬ ((s : AState) × Possible self.now.states s × Goes self.now.profile exchange.now s target.now))) }
+    {
+        match self.deck.forgotten_with(exchange) {
+            Forgotten::Nothing => Ok(self.before(&exchange.command, &exchange.reply, target)),
+            forgotten => match self.between(exchange, forgotten, target)? {
+                Some(between) => Ok(self.before(&exchange.command, &exchange.reply, &between)),
+                None => Ok(None),
+            },
+        }
+    }
+
+    /// A state to which an exchange leads, and from which forgetting this besides leads to the target.
+    fn between(
+        &self,
+        exchange: &Exchange,
+        forgotten: Forgotten,
+        target: &State,
+    ) -> Result<Option<State>, AllocError>
+        ensures some { IfOk result (λ o. IfSome o (λ u. IsReached self.now exchange.now u × Forgets self.now.profile forgotten u target.now)) }
+        ensures none { IfOk result (λ o. IfNone o (¬ ((u : AState) × IsReached self.now exchange.now u × Forgets self.now.profile forgotten u target.now))) }
+    {
+        let mut after = self.snapshot()?;
+        let between = after.observed_before(exchange, forgotten, target);
+        drop(after);
+        between
+    }
+
+    /// The same, by a tracker that takes the exchange itself.
+    fn observed_before(
+        &mut self,
+        exchange: &Exchange,
+        forgotten: Forgotten,
+        target: &State,
+    ) -> Result<Option<State>, AllocError>
+        ensures some { IfOk result (λ o. IfSome o (λ u. IsReached self.old exchange.now u × Forgets self.old.profile forgotten u target.now)) }
+        ensures none { IfOk result (λ o. IfNone o (¬ ((u : AState) × IsReached self.old exchange.now u × Forgets self.old.profile forgotten u target.now))) }
+    {
+        self.observe(&exchange.command, &exchange.reply)?;
+        Ok(self.states.before_forgetting(forgotten, target))
+    }
+}
