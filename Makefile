@@ -42,7 +42,7 @@ install: built
 	install -D -m 644 -t "$(to)/share/ninecheck/convert" convert/*.awk
 	install -D -m 644 -t "$(to)/share/ninecheck/view" view/*.awk
 	install -D -m 644 -t "$(to)/share/ninecheck/decks" decks/*.toml
-	install -D -m 644 -t "$(to)/share/ninecheck/examples" examples/*.csv examples/ANSWERS
+	install -D -m 644 -t "$(to)/share/ninecheck/examples" examples/*.csv examples/*.toml examples/ANSWERS
 	install -D -m 644 -t "$(to)/share/ninecheck/examples/exports" examples/exports/*
 	install -D -m 644 -t "$(to)/share/ninecheck/examples/views" examples/views/*
 	install -D -m 644 -t "$(to)/share/doc/ninecheck" README.md docs/*.md

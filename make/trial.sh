@@ -32,7 +32,7 @@ name_files() {
         [ "$at" -gt 0 ] || continue
         case $options$word in
             true--) options=false; continue ;;
-            true--hands | true--sync | true--all | true--line-buffered) continue ;;
+            true--hands | true--sync | true--all | true--line-buffered | true--bytes) continue ;;
             true-?*) reads_input=false; continue ;;
         esac
         reads_input=false

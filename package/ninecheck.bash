@@ -8,6 +8,7 @@ _ninecheck() {
     case ${COMP_WORDS[1]} in
         check | explain | run | why)
             [ "${COMP_WORDS[1]}" != run ] || options='--hands --sync --rate --deck --help'
+            [ "${COMP_WORDS[1]}" != explain ] || options="--bytes $options"
             # In `--rate=25` the equals sign is a word of its own.
             [ "$word" != = ] || word=
             [ "$before" != = ] || before=${COMP_WORDS[COMP_CWORD - 2]}

@@ -9,6 +9,7 @@ complete -c ninecheck -n '__fish_seen_subcommand_from check explain run why; and
 complete -c ninecheck -n '__fish_seen_subcommand_from check explain run why; and not __fish_seen_subcommand_from help' -l sync -d 'The capture may begin inside a command or a reply'
 complete -c ninecheck -n '__fish_seen_subcommand_from check explain why; and not __fish_seen_subcommand_from help run' -l all -d 'Go on after each break'
 complete -c ninecheck -n '__fish_seen_subcommand_from check explain why; and not __fish_seen_subcommand_from help run' -l line-buffered -d 'Write each line as soon as it is complete'
+complete -c ninecheck -n '__fish_seen_subcommand_from explain; and not __fish_seen_subcommand_from help check run why' -l bytes -d 'Write each exchange with its bytes, as why does'
 complete -c ninecheck -n '__fish_seen_subcommand_from check explain run why; and not __fish_seen_subcommand_from help' -l rate -x -a '24 25 30 29.97df' -d 'The frame rate of the machine, 25 if left out'
 complete -c ninecheck -n '__fish_seen_subcommand_from check explain run why; and not __fish_seen_subcommand_from help' -l deck -r -F -d 'A sheet of what this deck does of its own'
 complete -c ninecheck -s h -l help -d 'What can be asked for'

@@ -24,6 +24,7 @@ case $words[2] in
             '--rate[the frame rate of the machine, 25 if left out]:rate:(24 25 30 29.97df)'
             '--deck[a sheet of what this deck does of its own]:sheet:_files'
         )
+        [[ $words[2] == explain ]] && options+=('--bytes[write each exchange with its bytes, as why does]')
         [[ $words[2] == run ]] || options+=(
             '--all[go on after each break, and judge the whole capture]'
             '--line-buffered[write each line as soon as it is complete]'

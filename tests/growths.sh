@@ -110,7 +110,7 @@ try_words 0 check
 try_words 0 explain --hands
 try_words 1 explain examples/second-reply.csv
 try_words 3 check examples/bad-byte.csv
-try_words 1 check --deck decks/edit-session.toml examples/lost-in-point.csv
+try_words 1 check --deck decks/nine-pin-commands.toml examples/lost-in-point.csv
 try_words 3 check --deck examples/play.csv examples/play.csv
 try_words 4 check absent.csv
 try_words 0 check --sync examples/fast-forward.csv

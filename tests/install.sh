@@ -66,7 +66,7 @@ run_pages() {
         esac
     done < <(sed -n 's/^    \(awk .*examples\/exports.*\)/\1/p' "$root/share/doc/ninecheck/CAPTURE.md"
         sed -n 's/^    \$ //p' "$root/share/doc/ninecheck/VIEWS.md" | sed 's#\./ninecheck#ninecheck#')
-    judge "$name: the pages' commands: $commands" [ "$commands" = 18 ]
+    judge "$name: the pages' commands: $commands" [ "$commands" = 19 ]
     cmp "$work/a copy/late-reply.svg" docs/pictures/late-reply.svg > "$work/out" 2>&1
     status=$?
     judge "$name: the picture" [ "$status" = 0 ]
@@ -147,11 +147,12 @@ ninecheck e|explain|explain
 ninecheck -|--help --version -V -h|--help --version -V -h
 ninecheck why -|--all --deck --hands --help --line-buffered --rate --sync -h|--all --deck --hands --help --line-buffered --rate --sync -h
 ninecheck check --a|--all|--all
+ninecheck explain --b|--bytes|--bytes
 ninecheck run -|--deck --hands --help --rate --sync -h|--deck --hands --help --rate --sync -h
 ninecheck check --rate |24 25 29.97df 30|24 25 29.97df 30
 ninecheck run --rate 2|24 25 29.97df|24 25 29.97df
 ninecheck explain capture.csv --rate 3|30|30
-ninecheck check --deck decks/edit|edit-session.toml|decks/edit-session.toml
+ninecheck check --deck decks/nine|nine-pin-commands.toml|decks/nine-pin-commands.toml
 ninecheck help |check explain help run why|check explain help run why
 ninecheck run examples/play|play.csv|examples/play.csv
 END
@@ -208,13 +209,13 @@ expect 'verbs are offered' 0 'check explain run why help --help --version' ''
 complete_words ninecheck run --
 expect 'options are offered' 0 '--hands --sync --rate --deck --help' ''
 complete_words ninecheck explain --
-expect 'options are offered where the judging can go on' 0 '--hands --sync --all --line-buffered --rate --deck --help' ''
+expect 'options are offered where the judging can go on' 0 '--bytes --hands --sync --all --line-buffered --rate --deck --help' ''
 complete_words ninecheck why --rate ''
 expect 'rates are offered' 0 '24 25 30 29.97df' ''
 complete_words ninecheck why --rate = 2
 expect 'rates are offered after an equals sign' 0 '24 25 29.97df' ''
-complete_words ninecheck check --deck decks/e
-expect 'a sheet is completed' 0 'decks/edit-session.toml' ''
+complete_words ninecheck check --deck decks/n
+expect 'a sheet is completed' 0 'decks/nine-pin-commands.toml' ''
 complete_words ninecheck check examples/play
 expect 'a file is completed' 0 'examples/play.csv' ''
 

@@ -53,6 +53,7 @@ text;docs/MANY.md;1 captures/tuesday.csv:
 many.sh;docs/MANY.md;find captures
 many.sh;docs/MANY.md;cut
 text;docs/OUTPUT.md;record N: COMMAND
+text;docs/OUTPUT.md;records A to B at T: COMMAND BYTES -> REPLY, delay D
 text;docs/OUTPUT.md;record N: goal G
 text;docs/OUTPUT.md;records A to B at T: COMMAND BYTES -> REPLY
 text;docs/OUTPUT.md;records A to B at T: COMMAND BYTES
@@ -154,7 +155,7 @@ for page in README.md docs/*.md; do
     done < "$page"
     [ ${#block[@]} = 0 ] || take_block
 done
-judge "the commands with a dollar sign: $shown" [ "$shown" = 24 ]
+judge "the commands with a dollar sign: $shown" [ "$shown" = 39 ]
 judge "the other blocks: $others" [ "$others" = "$(wc -l <<< "$blocks")" ]
 
 # The command that stands in a sentence: it joins two exports into the one that is stored.

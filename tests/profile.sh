@@ -29,14 +29,25 @@ is_told() {
     judge "$command: $1" grep -q "$2" <(tail -n 2 "$work/out" | head -n 1)
 }
 
-# not_in_sheet COMMAND: the shipped sheet has no line for this command.
-not_in_sheet() { ! grep -q "^\"$1\"" decks/edit-session.toml; }
+# in_sheet TABLE FORM: this table of the shipped sheet has a line of this form.
+in_sheet() { sed -n "/^\[$1\]/,/^\[/p" decks/nine-pin-commands.toml | grep -q "$2"; }
+
+# not_in_sheet TABLE COMMAND: it has no line for this command.
+not_in_sheet() { ! in_sheet "$1" "^\"$2\""; }
+
+# reply_of FORM: a reply of this form, without its checksum: of any number of data none.
+reply_of() {
+    local first=${1%% *} count
+    first=${first/\*/0}
+    count=$((0x$first % 16))
+    echo "$first ${1##* }$(printf "%${count}s" '' | sed 's/ / 00/g')"
+}
 
 # The deck is in remote, goes for STOP and shows it, and has IN at 10:00:00:00; then comes the command; and then the deck shows REC.
 known='C 61 20 01,D 71 20 00,C 20 00,D 10 01,C 61 20 12,D 72 20 20 00,C 44 14 00 00 00 10,D 10 01'
 recording='C 61 20 12,D 72 20 02 00'
 rows=0
-while IFS='|' read -r command name forgets sheet; do
+while IFS='|' read -r command name forgets sheet replies; do
     first=${command%% *}
     data=$(printf "%$((0x$first % 16))s" '' | sed 's/ / 00/g')
     blocks "$known,C $command$data,D 10 01" | "$program" explain > "$work/out" 2>&1
@@ -49,16 +60,28 @@ while IFS='|' read -r command name forgets sheet; do
     esac
     blocks "$known,C $command$data,D 10 01,$recording" | "$program" check > "$work/out" 2>&1
     case $sheet in
-        'not named') judge "$command: the shipped sheet does not name it" not_in_sheet "$command" ;;
-        *) judge "$command: the shipped sheet's word" grep -q "^\"$command\" = $sheet  *# $name\$" decks/edit-session.toml ;;
+        'not named') judge "$command: the shipped sheet does not say what is forgotten" not_in_sheet forgets "$command" ;;
+        *) judge "$command: the shipped sheet's word" in_sheet forgets "^\"$command\" = $sheet  *# $name\$" ;;
     esac
+    # With the sheet it has its name, takes its replies and a NAK, and no other reply.
+    IFS=',' read -ra forms <<< "$replies"
+    for form in "${forms[@]}"; do
+        blocks "C $command$data,D $(reply_of "${form# }")" | "$program" explain --deck decks/nine-pin-commands.toml > "$work/out" 2>&1
+        judge "$command: its name, with $form" grep -q "^record [0-9]*: $name -> " "$work/out"
+        judge "$command: takes $form" grep -q '^yes' "$work/out"
+    done
+    blocks "C $command$data,D 11 12 01" | "$program" check --deck decks/nine-pin-commands.toml > "$work/out" 2>&1
+    judge "$command: takes a NAK" grep -q '^yes' "$work/out"
+    blocks "C $command$data,D 72 3F 00 00" | "$program" check --deck decks/nine-pin-commands.toml > "$work/out" 2>&1
+    judge "$command: takes no other reply" grep -q ': P5 ' "$work/out"
+    blocks "$known,C $command$data,D 10 01,$recording" | "$program" check > "$work/out" 2>&1
     case $forgets in
         'the tape and the registers') judge "$command: the mode is forgotten" grep -q '^yes' "$work/out" ;;
         *) judge "$command: the mode is kept" grep -q ': M1 ' "$work/out" ;;
     esac
     rows=$((rows + 1))
 done < <(table 'Not listed')
-judge "rows of commands: $rows" [ "$rows" = 25 ]
+judge "rows of commands: $rows" [ "$rows" = 48 ]
 
 rows=0
 while IFS='|' read -r command reply what; do

@@ -225,6 +225,11 @@ err|run --line-buffered|error: unexpected argument '--line-buffered' found
 err|why --line-buffered --line-buffered|error: the argument '--line-buffered' cannot be used multiple times
 err|check --line-buffer|  tip: a similar argument exists: '--line-buffered'
 err|--line-buffered check|error: unexpected argument '--line-buffered' found
+err|check --bytes|error: unexpected argument '--bytes' found
+err|run --bytes|error: unexpected argument '--bytes' found
+err|why --bytes|error: unexpected argument '--bytes' found
+err|explain --bytes --bytes|error: the argument '--bytes' cannot be used multiple times
+err|explain --byte|  tip: a similar argument exists: '--bytes'
 err|run --hand|  tip: a similar argument exists: '--hands'
 err|--hands run|error: unexpected argument '--hands' found
 err|check --hands --hands|error: the argument '--hands' cannot be used multiple times

@@ -389,7 +389,7 @@ name='a command of a sheet'
 capture_of "D 01 11 $remote $preset C 20 40 60 $ack C 60 10 70 D 74 10 00 00 00 11 95"
 synced check 0 'yes: records 34, exchanges 4, open 0'
 for words in check run; do
-    synced "$words --deck decks/edit-session.toml" 1 'no at record 36: M1 no run remains'
+    synced "$words --deck decks/nine-pin-commands.toml" 1 'no at record 36: M1 no run remains'
 done
 
 # Nothing is kept of 300,000 records that are passed over: the program has 64 MB.

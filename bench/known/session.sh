@@ -78,9 +78,9 @@ tell() {
         END { printf "%s: %d exchanges, %d switches, IN known at %.1f %%, LOCAL at %.1f %%; %s\n", what, exchanges, switches, 100 * known / exchanges, 100 * local / exchanges, last }'
 }
 tell 'status of one datum' one
-tell 'the same, with the sheet' one --deck "$here/../../decks/edit-session.toml"
+tell 'the same, with the sheet' one --deck "$here/../../decks/nine-pin-commands.toml"
 tell 'status of three data' three
-tell 'the same, with the sheet' three --deck "$here/../../decks/edit-session.toml"
+tell 'the same, with the sheet' three --deck "$here/../../decks/nine-pin-commands.toml"
 tell 'without the switches' none
 tell 'the same, one reply in 1,000 late' late-1000 --all
 tell 'the same, one reply in 100 late' late-100 --all

@@ -106,7 +106,7 @@ function put_records(list,    parts, n, i, word, times) {
             time += gap
             gap = 400
             records++
-            print time "," wire "," word > capture
+            printf "%.0f,%s,%s\n", time, wire, word > capture
         }
         else if (word ~ /^@[a-z0-9]+$/) marks[substr(word, 2)] = records
         else if (word ~ /^\+[0-9]+$/) gap = substr(word, 2) + 0
