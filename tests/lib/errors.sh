@@ -1,7 +1,7 @@
 # To be sourced by a script of tests that compares what stands on standard error.
 
-# both_lines LINE: the first line that is said of a capture or a stream, and the second that belongs to it; nothing where
-# nothing is said.
+# both_lines LINE [FIELD]: the first line that is said of a capture or a stream, and the second that belongs to it; nothing where
+# nothing is said. FIELD is what the row has in the field that is wrong, as it is shown between the quotes.
 both_lines() {
     [ -n "$1" ] || return 0
     echo "$1"
@@ -9,10 +9,10 @@ both_lines() {
         *': header')
             echo 'expected the header time_us,wire,byte; convert/ makes captures of exports, see docs/CAPTURE.md' ;;
         *': fields') echo 'expected three fields: time_us,wire,byte' ;;
-        *': time') echo 'expected 1 to 15 decimal digits, the time in microseconds' ;;
-        *': wire') echo "expected C for the controller's wire, or D for the deck's" ;;
-        *': byte') echo 'expected two hexadecimal digits' ;;
-        *': backwards') echo 'expected a time no earlier than that of the row before' ;;
+        *': time') echo "expected 1 to 15 decimal digits, the time in microseconds; the row has \"${2-}\"" ;;
+        *': wire') echo "expected C for the controller's wire, or D for the deck's; the row has \"${2-}\"" ;;
+        *': byte') echo "expected two hexadecimal digits; the row has \"${2-}\"" ;;
+        *': backwards') echo "expected a time no earlier than that of the row before; the row has \"${2-}\"" ;;
         *': too many rows')
             echo 'expected at most 4000000 rows; --all judges a longer capture' ;;
         'read fault at row '*) echo 'expected a capture that can be read to its end, not a directory' ;;

@@ -37,6 +37,7 @@ given-more items progress after r h gives = record {
     in_range = All-push (λ (x : LineByte). x.time_us < 10 ^ 15) items r h.can_be.in_range gives.in_range;
     bytes = All-push (λ (x : LineByte). x.byte < 256) items r h.can_be.bytes gives.is_byte;
     fault = tt;
+    shown = tt;
   };
   given = count;
   last_time = gives.last_time ∙ sym (last-push 0 items r);
@@ -54,5 +55,6 @@ given-refused {limit = limit} items progress after e h reads refusal text = reco
   in_order = h.can_be.in_order;
   in_range = h.can_be.in_range;
   bytes = h.can_be.bytes;
-  fault = let placed = rw h.same_limit at (refusal.place.at_its_row text) in grind (arith, nil_from_length items, can-follow limit e.kind items e.row text placed);
+  fault = let placed = rw h.same_limit at (refusal.place.at_its_row text) in grind (arith, nil_from_length items, can-follow limit e.kind items e.row text placed.header placed.too_many);
+  shown = rw h.last_time at (refusal.shown reads);
 }

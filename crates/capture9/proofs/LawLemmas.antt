@@ -1,7 +1,7 @@
 -- What always holds of the rows of a text: they are rows that some text can hold.
-use Rattle.capture9.proofs.Words.{[], All, All-cons, arith, bad_row, CanBeRows, CanFollow, CaptureError, CaptureKind, Err, good_row, HasHeader, headed_rows, is_header}
+use Rattle.capture9.proofs.Words.{[], All, All-cons, arith, bad_row, CanBeRows, CanFollow, CanShow, CaptureError, CaptureKind, Err, good_row, HasHeader, headed_rows, is_header}
 use Rattle.capture9.proofs.Words.{is_of_text, IsAfter, IsAtItsRow, IsNonDecreasingBy, IsNonDecreasingBy-insert, IsTrue, last_time, length, LineByte, List, Ok, refl}
-use Rattle.capture9.proofs.Words.{row_of, Rows, rows_from, Some, true, ℕ, ◌+◌, ◌<◌, ◌^◌, ◌↔◌, ◌∷◌, ◌≡◌, ◌≤◌}
+use Rattle.capture9.proofs.Words.{row_fault, row_of, Rows, rows_from, Some, true, ℕ, ◌+◌, ◌<◌, ◌^◌, ◌↔◌, ◌∷◌, ◌≡◌, ◌≤◌}
 use Rattle.capture9.proofs.RuleLemmas.{at-its-row, row_of-err, row_of-ok, row_then-by, rows_from-has_header}
 
 -- the fault of rows that begin with this number, after a row of this time
@@ -9,7 +9,7 @@ pub record IsFaultFrom (limit number before : ℕ) (rows : Rows) (e : CaptureErr
   pub of_text : IsTrue (is_of_text e.kind)
   pub at_its_row : IsAtItsRow limit e
   pub row : e.row ≡ number + length rows.records
-  pub backwards : e.kind ≡ CaptureKind.Backwards → 0 < last_time before rows.records
+  pub shown : CanShow (last_time before rows.records) e.kind e.field
 
 -- rows that begin with this number, after a row of this time
 pub record HoldsFrom (limit number before : ℕ) (rows : Rows) : Type 0 where
@@ -20,10 +20,10 @@ pub record HoldsFrom (limit number before : ℕ) (rows : Rows) : Type 0 where
   pub bytes : All (λ r. r.byte < 256) rows.records
   pub fault : 1 ≤ number → number ≤ limit + 1 → (e : CaptureError) → rows.fault ≡ Some e → IsFaultFrom limit number before rows e
 
-holds-bad : (limit number before : ℕ) (fields : List (List ℕ)) (k : CaptureKind) → row_of limit number before fields ≡ Err k → HoldsFrom limit number before (bad_row k number)
+holds-bad : (limit number before : ℕ) (fields : List (List ℕ)) (k : CaptureKind) → row_of limit number before fields ≡ Err k → HoldsFrom limit number before (bad_row (row_fault number fields k))
 holds-bad limit number before fields k bad =
     let known = row_of-err limit number before fields k bad in
-    grind (arith, at-its-row, known.of_text)
+    grind (arith, at-its-row, known.of_text, known.shown)
 
 holds-good : (limit number before : ℕ) (fields : List (List ℕ)) (r : LineByte) (rest : Rows) → row_of limit number before fields ≡ Ok r
     → HoldsFrom limit (number + 1) r.time_us rest
@@ -56,10 +56,9 @@ has-header limit (fields ∷ rest) = (λ h. (fields, rest, refl, grind arith), �
 -- ---- rows that some text can hold
 
 -- a fault of a data row can follow the records before it
-pub can-follow : (limit : ℕ) (k : CaptureKind) (items : List LineByte) (row : ℕ) → IsTrue (is_of_text k) → IsAtItsRow limit (record { kind = k; row = row })
-    → row ≡ length items + 1 → length items ≤ limit
-    → (k ≡ CaptureKind.Backwards → 0 < last_time 0 items) → CanFollow limit k items row
-can-follow limit k items row t placed place within late = grind arith
+pub can-follow : (limit : ℕ) (k : CaptureKind) (items : List LineByte) (row : ℕ) → IsTrue (is_of_text k) → (k ≡ CaptureKind.Header) ↔ (row ≡ 0)
+    → (k ≡ CaptureKind.TooMany) ↔ (row ≡ limit + 1) → row ≡ length items + 1 → length items ≤ limit → CanFollow limit k items row
+can-follow limit k items row t header too_many place within = grind arith
 
 headed-can-be : (limit : ℕ) (rows : Rows) → HoldsFrom limit 1 0 rows → CanBeRows limit rows
 headed-can-be limit rows h = let within : length rows.records ≤ limit = omega (arith, h.within (omega arith)) in record {
@@ -68,6 +67,7 @@ headed-can-be limit rows h = let within : length rows.records ≤ limit = omega 
   in_range = h.in_range;
   bytes = h.bytes;
   fault = grind (arith, h.fault, can-follow);
+  shown = grind (arith, h.fault);
 }
 
 pub can-be : (limit : ℕ) (csv : List (List (List ℕ))) → CanBeRows limit (headed_rows limit csv)

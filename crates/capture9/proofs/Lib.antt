@@ -6,5 +6,6 @@ pub mod LaneLemmas
 pub mod LawLemmas
 pub mod RecordsLemmas
 pub mod RuleLemmas
+pub mod ShownLemmas
 pub mod TextLemmas
 pub mod Words

@@ -1,7 +1,7 @@
 -- What the reading of one CSV record does to a `Records`, as its callers see it.
-use Rattle.capture9.proofs.Words.{arith, bad_row, CaptureError, CaptureKind, Err, false, GivesRecord, GivesRefusal, greatest_limit, HasHeader, HoldsInRecords, IfSome, is_of_text, is_past_header, IsAfter}
-use Rattle.capture9.proofs.Words.{IsAtItsRow, IsPlaced, IsTrue, length, LineByte, List, nat_tests, nil_from_length, None, Ok, Option, option_map, Progress, Reader, refl, row_of}
-use Rattle.capture9.proofs.Words.{rows_from, rows_to_come, Some, Stage, Standing, standing_at, sym, TakesFields, TakesRecord, true, true≢false, ℕ, ◌+◌, ◌<◌, ◌≡◌, ◌≤◌}
+use Rattle.capture9.proofs.Words.{arith, bad_row, CanShow, CaptureError, CaptureKind, Err, false, GivesRecord, GivesRefusal, greatest_limit, HasHeader, HoldsInRecords, IfSome, is_of_text, is_past_header, IsAfter}
+use Rattle.capture9.proofs.Words.{IsAtItsRow, IsPlaced, IsTrue, length, LineByte, List, nat_tests, nil_from_length, None, Ok, Option, option_map, Progress, Reader, refl, row_fault, row_of}
+use Rattle.capture9.proofs.Words.{rows_from, rows_to_come, Some, Stage, Standing, standing_at, sym, TakesFields, TakesRecord, true, true≢false, ℕ, ◌+◌, ◌≡◌, ◌≤◌}
 use Rattle.capture9.proofs.RuleLemmas.{at-its-row, row_of-err, row_of-ok, rows_from-has_header}
 
 -- how callers see a `Records` with these fields, these CSV records unread, and this reader
@@ -38,34 +38,37 @@ gives-record source left s limit given last_time unread after fields r reads pas
     rw (in-rows s reads past) (search (few, past-header limit given last_time unread, takes-row limit given last_time unread after fields r read good))
 
 -- what is wrong with the first of the rows to come, if it is a fault of the text
-pub record IsRowFault (limit given last_time : ℕ) (unread : Option (List (List (List ℕ)))) (k : CaptureKind) : Type 0 where
-  pub fault : IsTrue (is_of_text k) → IfSome (option_map (rows_from limit (given + 1) last_time) unread) (λ rows. rows ≡ bad_row k (given + 1))
-  pub at_its_row : IsTrue (is_of_text k) → IsAtItsRow limit (record { kind = k; row = given + 1 })
-  pub backwards : k ≡ CaptureKind.Backwards → 0 < last_time
+pub record IsRowFault (limit given last_time : ℕ) (unread : Option (List (List (List ℕ)))) (e : CaptureError) : Type 0 where
+  pub row : e.row ≡ given + 1
+  pub fault : IsTrue (is_of_text e.kind) → IfSome (option_map (rows_from limit (given + 1) last_time) unread) (λ rows. rows ≡ bad_row e)
+  pub at_its_row : IsTrue (is_of_text e.kind) → IsAtItsRow limit e
+  pub shown : CanShow last_time e.kind e.field
 
 -- a fault that is not of the text
-pub not-of-text : (limit given last_time : ℕ) (unread : Option (List (List (List ℕ)))) (k : CaptureKind) → is_of_text k ≡ false → IsRowFault limit given last_time unread k
+pub not-of-text : (limit given last_time : ℕ) (unread : Option (List (List (List ℕ)))) (k : CaptureKind) → is_of_text k ≡ false
+    → IsRowFault limit given last_time unread (record { kind = k; row = given + 1; field = None })
 not-of-text limit given last_time unread k e = grind arith
 
 -- a row that breaks a rule
 pub bad-first : (limit given last_time : ℕ) (unread after : Option (List (List (List ℕ)))) (fields : List (List ℕ)) (k : CaptureKind) → given ≤ limit
-    → IfSome unread (λ rows. TakesFields rows true fields after) → row_of limit (given + 1) last_time fields ≡ Err k → IsRowFault limit given last_time unread k
+    → IfSome unread (λ rows. TakesFields rows true fields after) → row_of limit (given + 1) last_time fields ≡ Err k
+    → IsRowFault limit given last_time unread (row_fault (given + 1) fields k)
 bad-first limit given last_time unread after fields k within read bad =
     let known = row_of-err limit (given + 1) last_time fields k bad in
-    grind (arith, at-its-row limit (given + 1) last_time k (omega arith) (omega arith) known)
+    grind (arith, at-its-row limit (given + 1) last_time fields k (omega arith) (omega arith) known, known.shown)
 
 pub refuses-row : {R : Type 0} (source left : R) (s new : Stage) (limit given last_time : ℕ) (unread after : Option (List (List (List ℕ))))
-    (k : CaptureKind) (e : CaptureError)
-    → standing_at s ≡ Standing.Reading → is_past_header s ≡ true → e ≡ record { kind = k; row = given + 1 } → new ≡ Stage.Refused e → IsRowFault limit given last_time unread k
+    (e : CaptureError)
+    → standing_at s ≡ Standing.Reading → is_past_header s ≡ true → new ≡ Stage.Refused e → IsRowFault limit given last_time unread e
     → GivesRefusal (progress_of limit s given last_time unread source) e (progress_of limit new given last_time after left)
-refuses-row source left s new limit given last_time unread after k e reads past is marked wrong =
-    rw (in-rows s reads past, marked, is) (grind (arith, nat_tests, past-header limit given last_time unread))
+refuses-row source left s new limit given last_time unread after e reads past marked wrong =
+    rw (in-rows s reads past, marked) (grind (arith, nat_tests, past-header limit given last_time unread))
 
 -- what stands inside a `Records` that was refused at a row
-pub refused-holds : {R : Type 0} (left : Reader R) (new : Stage) (limit given last_time : ℕ) (k : CaptureKind) (e : CaptureError)
-    → given ≤ limit → limit ≤ greatest_limit → e ≡ record { kind = k; row = given + 1 } → new ≡ Stage.Refused e
-    → (IsTrue (is_of_text k) → IsAtItsRow limit (record { kind = k; row = given + 1 })) → HoldsInRecords limit new given last_time left
-refused-holds left new limit given last_time k e within numbered is marked at_its_row = rw (marked, is) (grind (arith, nat_tests))
+pub refused-holds : {R : Type 0} (left : Reader R) (new : Stage) (limit given last_time : ℕ) (e : CaptureError)
+    → given ≤ limit → limit ≤ greatest_limit → e.row ≡ given + 1 → new ≡ Stage.Refused e
+    → (IsTrue (is_of_text e.kind) → IsAtItsRow limit e) → HoldsInRecords limit new given last_time left
+refused-holds left new limit given last_time e within numbered row marked at_its_row = rw marked (grind (arith, nat_tests))
 
 -- a refusal is told again, and nothing changes
 pub refuses-again : {R : Type 0} (source : R) (s : Stage) (limit given last_time : ℕ) (unread : Option (List (List (List ℕ)))) (e : CaptureError)

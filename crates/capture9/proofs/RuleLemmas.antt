@@ -1,7 +1,7 @@
 -- What a row is read as, against the rules of a row, each on its own, and what is then known of it.
-use Rattle.capture9.proofs.Words.{[], All-from_recursion, AllByRecursion, ap, AreGood, AreLeft, arith, bad_row, byte_in, CaptureKind, cond_both, Err, fields_record, good_row}
+use Rattle.capture9.proofs.Words.{[], All-from_recursion, AllByRecursion, ap, AreGood, AreLeft, arith, bad_row, byte_in, CanShow, CaptureKind, cond_both, Err, fields_record, good_row}
 use Rattle.capture9.proofs.Words.{HasFirstPart, HasHeader, headed_rows, hex_digit_of, is_header, is_of_text, IsAtItsRow, IsFirstOf, IsTrue, last_time, length, LineByte, List}
-use Rattle.capture9.proofs.Words.{nat_lt, nat_tests, None, Ok, Option, record_of, refl, Result, row_kinds, row_of, row_then, RowBreaks, Rows, rows_from, Some, Spell}
+use Rattle.capture9.proofs.Words.{nat_lt, nat_tests, None, Ok, Option, record_of, refl, Result, row_fault, row_kinds, row_of, row_then, RowBreaks, Rows, rows_from, shown_in, Some, Spell}
 use Rattle.capture9.proofs.Words.{time_in, true, Wire, wire_in, ℕ, ◌++◌, ◌+◌, ◌<◌, ◌^◌, ◌↔◌, ◌∷◌, ◌≡◌, ◌≢◌, ◌≤◌}
 use Rattle.capture9.proofs.FieldLemmas.{time_in-lt}
 
@@ -47,9 +47,10 @@ row-read limit number before fields =
 -- what holds of a row that was read and the rows after it, and of one that breaks a rule
 pub row_then-by : (P : Rows → Type 0) (limit number before : ℕ) (fields : List (List ℕ)) (rest : ℕ → Rows)
     → ((r : LineByte) → row_of limit number before fields ≡ Ok r → P (good_row r (rest r.time_us)))
-    → ((k : CaptureKind) → row_of limit number before fields ≡ Err k → P (bad_row k number)) → P (row_then number (row_of limit number before fields) rest)
+    → ((k : CaptureKind) → row_of limit number before fields ≡ Err k → P (bad_row (row_fault number fields k)))
+    → P (row_then number fields (row_of limit number before fields) rest)
 row_then-by P limit number before fields rest good bad =
-    elim (row_of limit number before fields) as (λ o. row_of limit number before fields ≡ o → P (row_then number o rest)) [ Ok r ↦ good r | Err k ↦ bad k ] refl
+    elim (row_of limit number before fields) as (λ o. row_of limit number before fields ≡ o → P (row_then number fields o rest)) [ Ok r ↦ good r | Err k ↦ bad k ] refl
 
 -- the same of rows from a number on, after a row of this time
 pub record HasPartFrom (limit number before : ℕ) (rows : List (List (List ℕ))) (held : Rows) : Type 0 where
@@ -109,28 +110,36 @@ row_of-ok limit number before fields r e = by fields (rw e at (row-read limit nu
         record { within = omega arith; in_order = omega arith; in_range = time_in-lt a r.time_us read.0.0; is_byte = byte-lt c r.byte read.0.2 }
     by fields read = absurd read.0
 
--- a kind of fault that the data row with this number has
-pub record IsRowKind (limit number before : ℕ) (k : CaptureKind) : Type 0 where
+-- a kind of fault that the data row with this number and these fields has
+pub record IsRowKind (limit number before : ℕ) (fields : List (List ℕ)) (k : CaptureKind) : Type 0 where
   pub of_text : IsTrue (is_of_text k)
   pub no_header : k ≢ CaptureKind.Header
   pub too_many : (k ≡ CaptureKind.TooMany) ↔ (limit < number)
-  pub backwards : k ≡ CaptureKind.Backwards → 0 < before
+  pub shown : CanShow before k (shown_in fields k)
+
+-- a rule that a row breaks is that of the field that is shown, where it is a rule of one field
+can-show : (limit number before : ℕ) (k : CaptureKind) (fields : List (List ℕ)) → RowBreaks limit k number before fields → CanShow before k (shown_in fields k)
+can-show limit number before CaptureKind.Time (a ∷ b ∷ c ∷ []) h = (a, h, refl)
+can-show limit number before CaptureKind.Wire (a ∷ b ∷ c ∷ []) h = (b, h, refl)
+can-show limit number before CaptureKind.Byte (a ∷ b ∷ c ∷ []) h = (c, h, refl)
+can-show limit number before CaptureKind.Backwards (a ∷ b ∷ c ∷ []) h = (a, h.0, h.1, h.2, refl)
+can-show limit number before k fields h = grind arith
 
 -- a row breaks rules of a text, and none of the header
-pub row_of-err : (limit number before : ℕ) (fields : List (List ℕ)) (k : CaptureKind) → row_of limit number before fields ≡ Err k → IsRowKind limit number before k
+pub row_of-err : (limit number before : ℕ) (fields : List (List ℕ)) (k : CaptureKind) → row_of limit number before fields ≡ Err k → IsRowKind limit number before fields k
 row_of-err limit number before fields k e =
     let read = rw e at (row-read limit number before fields) in
     record {
       of_text = grind (arith, read.holds);
       no_header = grind (arith, read.holds);
       too_many = (λ is. rw is at read.holds, λ over. grind (arith, nat_tests));
-      backwards = λ is. let late = rw is at read.holds in grind arith;
+      shown = can-show limit number before k fields read.holds;
     }
 
 -- the fault of a row, of which there is one too many at most, is where that kind of fault is
-pub at-its-row : (limit number before : ℕ) (k : CaptureKind) → 1 ≤ number → number ≤ limit + 1 → IsRowKind limit number before k
-    → IsAtItsRow limit (record { kind = k; row = number })
-at-its-row limit number before k low within known = grind arith
+pub at-its-row : (limit number before : ℕ) (fields : List (List ℕ)) (k : CaptureKind) → 1 ≤ number → number ≤ limit + 1 → IsRowKind limit number before fields k
+    → IsAtItsRow limit (row_fault number fields k)
+at-its-row limit number before fields k low within known = grind arith
 
 -- after the header no row has the header's fault
 pub rows_from-has_header : (limit number before : ℕ) (unread : List (List (List ℕ))) → HasHeader (rows_from limit number before unread)

@@ -1,9 +1,9 @@
 -- A text for rows that some text can hold.
-use Rattle.capture9.proofs.Words.{[], add-zero, All, ap, append-nil, arith, bad_row, byte_in, CanBeRows, CanFollow, CaptureError, CaptureKind, codes, Controller, decimal}
-use Rattle.capture9.proofs.Words.{decimal_nonempty, Deck, default_config, default_writer, digits_decimal, digits_value-decimal, false, fields_text, get_or, hex_digit_of}
+use Rattle.capture9.proofs.Words.{[], add-zero, All, ap, append-nil, arith, bad_row, byte_in, CanBeRows, CanFollow, CanShow, CaptureError, CaptureKind, codes, Controller, decimal}
+use Rattle.capture9.proofs.Words.{decimal_nonempty, Deck, default_config, default_writer, digits_decimal, digits_value-decimal, false, fields_text, get_or, header_fault, hex_digit_of}
 use Rattle.capture9.proofs.Words.{if◌then◌else◌, is_blank, IsNonDecreasingBy, IsOfSomeText, last_time, le-leb, length, length-decimal-le, LineByte, List, lit<, map}
 use Rattle.capture9.proofs.Words.{nat_lt, nat_tests, no_rows, None, Ok, Option, read-write, read_back, records_at, refl, row_of, row_text, Rows, rows_from, rows_text, rows_within}
-use Rattle.capture9.proofs.Words.{Some, State, strip_bom, suc, time_in, Wire, wire_in, ℕ, ◌%◌, ◌*◌, ◌++◌, ◌+◌, ◌/◌, ◌<◌, ◌^◌, ◌∙◌, ◌∷◌, ◌≡◌, ◌≢◌, ◌≤◌}
+use Rattle.capture9.proofs.Words.{ShownField, Some, State, strip_bom, suc, time_in, Wire, wire_in, ℕ, ◌%◌, ◌*◌, ◌++◌, ◌+◌, ◌/◌, ◌<◌, ◌^◌, ◌∙◌, ◌∷◌, ◌≡◌, ◌≢◌, ◌≤◌}
 use Rattle.capture9.proofs.FieldLemmas.{numerals}
 use Rattle.capture9.proofs.CsvLemmas.{none_at_start, records_at-some}
 
@@ -46,13 +46,13 @@ spelled-read limit number before r within order range byte =
     let named : wire_in (letter r.wire) ≡ Some r.wire = grind arith in
     rw (few.0, time-read r.time_us range, named, byte-read r.byte byte, few.1) refl
 
--- a row that breaks this rule first
-abbrev bad_fields : CaptureKind → List (List ℕ)
-bad_fields CaptureKind.Time = [] ∷ [] ∷ [] ∷ []
-bad_fields CaptureKind.Wire = codes "0" ∷ [] ∷ [] ∷ []
-bad_fields CaptureKind.Byte = codes "0" ∷ codes "C" ∷ [] ∷ []
-bad_fields CaptureKind.Backwards = codes "0" ∷ codes "C" ∷ codes "00" ∷ []
-bad_fields _ = [] ∷ []
+-- a row that breaks this rule first, with the field that its fault shows
+abbrev bad_fields : (before : ℕ) (k : CaptureKind) (shown : Option ShownField) → CanShow before k shown → List (List ℕ)
+bad_fields before CaptureKind.Time shown h = h.0 ∷ [] ∷ [] ∷ []
+bad_fields before CaptureKind.Wire shown h = codes "0" ∷ h.0 ∷ [] ∷ []
+bad_fields before CaptureKind.Byte shown h = codes "0" ∷ codes "C" ∷ h.0 ∷ []
+bad_fields before CaptureKind.Backwards shown h = h.0 ∷ codes "C" ∷ codes "00" ∷ []
+bad_fields before _ shown h = [] ∷ []
 
 -- records that keep the limits, from the row with this number on and after a row of this time
 abbrev AreInRange : ℕ → ℕ → ℕ → List LineByte → Type 0
@@ -107,9 +107,15 @@ headed-text : (limit : ℕ) (rows : List (List (List ℕ))) → rows_within limi
 headed-text limit rows = rw (no-mark rows, records-rows (header ∷ rows)) refl
 
 -- the row of a fault that can follow these records
-bad-read : (limit : ℕ) (k : CaptureKind) (items : List LineByte) (row : ℕ) → CanFollow limit k items row → k ≢ CaptureKind.Header
-    → rows_from limit (1 + length items) (last_time 0 items) (map read_back (bad_fields k ∷ [])) ≡ bad_row k row
-bad-read limit k items row follows other = grind (arith, nat_tests)
+bad-read : (limit : ℕ) (k : CaptureKind) (items : List LineByte) (row : ℕ) (shown : Option ShownField) → CanFollow limit k items row
+    → (h : CanShow (last_time 0 items) k shown) → k ≢ CaptureKind.Header
+    → rows_from limit (1 + length items) (last_time 0 items) (map read_back (bad_fields (last_time 0 items) k shown h ∷ []))
+    ≡ bad_row (record { kind = k; row = row; field = shown })
+bad-read limit CaptureKind.Time items row shown follows h other = grind (arith, nat_tests)
+bad-read limit CaptureKind.Wire items row shown follows h other = grind (arith, nat_tests)
+bad-read limit CaptureKind.Byte items row shown follows h other = grind (arith, nat_tests)
+bad-read limit CaptureKind.Backwards items row shown follows h other = grind (arith, nat_tests)
+bad-read limit k items row shown follows h other = grind (arith, nat_tests)
 
 -- a text of these records and then others
 text-then : (limit : ℕ) (items : List LineByte) (rest : List (List (List ℕ))) (tail : Rows) (fault : Option CaptureError)
@@ -120,7 +126,7 @@ text-then limit items rest tail fault h left =
     let good = in-range limit 1 0 items (omega (arith, h.within)) (λ d lt. omega arith) h.in_order h.in_range h.bytes in
     (rows_text (header ∷ (map spelled items ++ rest)), headed-text limit (map spelled items ++ rest) ∙ read-then limit 1 0 items rest tail good left)
 
-empty-text : (limit : ℕ) → rows_within limit [] ≡ bad_row CaptureKind.Header 0
+empty-text : (limit : ℕ) → rows_within limit [] ≡ bad_row header_fault
 unfolding strip_bom
 empty-text limit = rw (none_at_start default_config 1) refl
 
@@ -128,14 +134,16 @@ empty-text limit = rw (none_at_start default_config 1) refl
 text-of : (limit : ℕ) (items : List LineByte) (fault : Option CaptureError) → CanBeRows limit (record { records = items; fault = fault })
     → (text : List ℕ) × (rows_within limit text ≡ record { records = items; fault = fault })
 text-of limit items None h = rw (append-nil items) at (text-then limit items [] no_rows None h refl)
-text-of limit items (Some e) h = by e.kind items e.row h
+text-of limit items (Some e) h = by e.kind items e.row e.field h
   where
-    by : (k : CaptureKind) (items : List LineByte) (row : ℕ) → (let fault : CaptureError = record { kind = k; row = row } in
+    by : (k : CaptureKind) (items : List LineByte) (row : ℕ) (shown : Option ShownField) → (let fault : CaptureError = record { kind = k; row = row; field = shown } in
         CanBeRows limit (record { records = items; fault = Some fault }))
-        → (text : List ℕ) × (rows_within limit text ≡ record { records = items; fault = Some (record { kind = k; row = row }) })
-    by CaptureKind.Header items row h = ([], rw (h.fault.0, h.fault.1) (empty-text limit))
-    by k items row h = rw (append-nil items) at (text-then limit items (bad_fields k ∷ []) (bad_row k row) (Some (record { kind = k; row = row })) h
-        (bad-read limit k items row h.fault (λ e. cc)))
+        → (text : List ℕ) × (rows_within limit text ≡ record { records = items; fault = Some (record { kind = k; row = row; field = shown }) })
+    by CaptureKind.Header items row shown h = ([], rw (h.fault.0, h.fault.1, h.shown) (empty-text limit))
+    by k items row shown h =
+        let fault : CaptureError = record { kind = k; row = row; field = shown } in
+        rw (append-nil items) at (text-then limit items (bad_fields (last_time 0 items) k shown h.shown ∷ []) (bad_row fault) (Some fault) h
+        (bad-read limit k items row shown h.fault h.shown (λ e. cc)))
 
 pub some-text : (limit : ℕ) (rows : Rows) → CanBeRows limit rows → IsOfSomeText limit rows
 some-text limit rows h = text-of limit rows.records rows.fault h

@@ -5,5 +5,6 @@ pub mod Fields
 pub mod Records
 pub mod RowRules
 pub mod Rows
+pub mod Shown
 pub mod SomeText
 pub mod Working

@@ -1,11 +1,10 @@
 -- A `Records` as its callers see it: what is still to come, and what a call of `next` does to it.
 use Rattle.std.specs.Prelude.{◌≡◌, ℕ, ◌+◌, ◌^◌, ◌<◌, ◌≤◌, ◌⊎◌, Bool, true, false, IsTrue, Option, Some, None, IfSome, if◌then◌else◌, ⊤}
 use Rattle.capture9.specs.declared.error.CaptureError.{CaptureError}
-use Rattle.capture9.specs.declared.error.CaptureKind.TheVariants as kind
 use Rattle.capture9.specs.declared.line_byte.LineByte.{LineByte}
 use Rattle.capture9.specs.declared.records.Standing.{Standing}
 use Rattle.capture9.specs.declared.records.Standing.TheVariants as standing
-use Rattle.capture9.specs.Error.{IsAtItsRow, is_of_text}
+use Rattle.capture9.specs.Error.{CanShow, IsAtItsRow, is_of_text}
 use Rattle.capture9.specs.Fields.{greatest_limit}
 use Rattle.capture9.specs.Rows.{Rows, HasHeader, no_rows, bad_row, good_row}
 
@@ -75,7 +74,7 @@ pub record GivesRefusal {R : Type 0} (old : Progress R) (e : CaptureError) (new 
   pub stays_headed : old.is_headed ≡ true → new.is_headed ≡ true
   pub has_header : new.is_headed ≡ true → IfSome old.rows HasHeader
   -- a fault of the text is the one that was to come
-  pub fault : IsTrue (is_of_text e.kind) → IfSome old.rows (λ rows. rows ≡ bad_row e.kind e.row)
-  -- a row is told as backwards only after a time above 0
-  pub backwards : old.standing ≡ standing.Reading → e.kind ≡ kind.Backwards → 0 < old.last_time
+  pub fault : IsTrue (is_of_text e.kind) → IfSome old.rows (λ rows. rows ≡ bad_row e)
+  -- it shows a field that breaks the rule of its kind
+  pub shown : old.standing ≡ standing.Reading → CanShow old.last_time e.kind e.field
   pub rows : new.rows ≡ None

@@ -5,7 +5,7 @@ use Rattle.capture9.specs.declared.error.CaptureKind.{CaptureKind}
 use Rattle.capture9.specs.declared.error.CaptureKind.TheVariants as kind
 use Rattle.capture9.specs.declared.line_byte.LineByte.{LineByte}
 use Rattle.capture9.specs.Fields.{byte_in, time_in, wire_in}
-use Rattle.capture9.specs.Rows.{Rows}
+use Rattle.capture9.specs.Rows.{row_fault, Rows}
 
 -- the fields are a time, a wire and a byte of which this holds
 abbrev pub AreThree : (List ℕ → List ℕ → List ℕ → Type 0) → List (List ℕ) → Type 0
@@ -60,7 +60,7 @@ AreGood limit number before (fields ∷ rows) (r ∷ items) =
 abbrev pub AreLeft : ℕ → ℕ → ℕ → List (List (List ℕ)) → Option CaptureError → Type 0
 AreLeft limit number before [] fault = fault ≡ None
 AreLeft limit number before (fields ∷ rows) fault =
-    (k : CaptureKind) × IsFirstOf (λ j. RowBreaks limit j number before fields) row_kinds k × (fault ≡ Some (record { kind = k; row = number }))
+    (k : CaptureKind) × IsFirstOf (λ j. RowBreaks limit j number before fields) row_kinds k × (fault ≡ Some (row_fault number fields k))
 
 -- the data rows of a text hold this: the records of the longest first part of good rows, and the fault of the row
 -- after it

@@ -4,6 +4,7 @@ use Rattle.std.specs.List.Sorted.{IsNonDecreasingBy}
 use Rattle.capture9.specs.declared.error.CaptureKind.{CaptureKind}
 use Rattle.capture9.specs.declared.error.CaptureKind.TheVariants as kind
 use Rattle.capture9.specs.declared.line_byte.LineByte.{LineByte}
+use Rattle.capture9.specs.Error.{CanShow}
 use Rattle.capture9.specs.RowRules.{last_time}
 use Rattle.capture9.specs.Rows.{Rows, rows_within}
 
@@ -18,7 +19,7 @@ CanFollow limit kind.Fields items row = IsNextRow limit items row
 CanFollow limit kind.Time items row = IsNextRow limit items row
 CanFollow limit kind.Wire items row = IsNextRow limit items row
 CanFollow limit kind.Byte items row = IsNextRow limit items row
-CanFollow limit kind.Backwards items row = IsNextRow limit items row × (0 < last_time 0 items)
+CanFollow limit kind.Backwards items row = IsNextRow limit items row
 CanFollow limit kind.TooMany items row = (length items ≡ limit) × (row ≡ limit + 1)
 CanFollow limit kind.Read items row = ⊥
 CanFollow limit kind.OutOfMemory items row = ⊥
@@ -30,6 +31,7 @@ pub record CanBeRows (limit : ℕ) (rows : Rows) : Type 0 where
   pub in_range : All (λ r. r.time_us < 10 ^ 15) rows.records
   pub bytes : All (λ r. r.byte < 256) rows.records
   pub fault : IfSome rows.fault (λ e. CanFollow limit e.kind rows.records e.row)
+  pub shown : IfSome rows.fault (λ e. CanShow (last_time 0 rows.records) e.kind e.field)
 
 -- some text holds exactly these rows
 abbrev pub IsOfSomeText : ℕ → Rows → Type 0

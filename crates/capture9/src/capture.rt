@@ -1,6 +1,6 @@
 //! A whole capture in memory.
 
-ghost use Rattle.std.specs.Prelude.{[], ◌+◌, ◌≡◌, ◌≤◌, length, IfErr, IfSome};
+ghost use Rattle.std.specs.Prelude.{[], ◌+◌, ◌≡◌, ◌≤◌, length, IfErr, IfSome, None};
 ghost use Rattle.std.specs.Result.{result_err};
 ghost use Rattle.capture9.specs.Capture.{WasRead};
 ghost use Rattle.capture9.specs.Error.{IsAfter};
@@ -62,10 +62,7 @@ fn read_into<R: Read + Drop>(
 /// Out of memory at the row after so many.
 fn no_room(held: usize) -> CaptureError
     requires { held ≤ most_rows }
-    ensures { result ≡ record { kind = CaptureKind.OutOfMemory; row = held + 1 } }
+    ensures { result ≡ record { kind = CaptureKind.OutOfMemory; row = held + 1; field = None } }
 {
-    CaptureError {
-        kind: CaptureKind::OutOfMemory,
-        row: held as u32 + 1,
-    }
+    CaptureError::of_row(CaptureKind::OutOfMemory, held as u32 + 1)
 }

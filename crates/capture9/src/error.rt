@@ -1,5 +1,9 @@
 //! Why a capture can be read no further, and at which row.
 
+ghost use Rattle.std.specs.Prelude.{◌≡◌, None, Some};
+ghost use Rattle.capture9.specs.Shown.{shown_of};
+
+use crate::shown_field::ShownField;
 use std::error::Error;
 use std::fmt;
 
@@ -37,6 +41,32 @@ pub struct CaptureError {
     pub kind: CaptureKind,
     /// The data row in question, counted from 1, and 0 while the header is being read.
     pub row: u32,
+    /// The field that is wrong, where it is one: of `Time` and `Backwards` the time, of `Wire` the wire, of `Byte` the byte.
+    pub field: Option<ShownField>,
+}
+
+impl CaptureError {
+    /// A fault that is not that of one field.
+    pub(crate) fn of_row(kind: CaptureKind, row: u32) -> CaptureError
+        ensures { result ≡ record { kind = kind; row = row; field = None } }
+    {
+        CaptureError {
+            kind,
+            row,
+            field: None,
+        }
+    }
+
+    /// The fault of this field.
+    pub(crate) fn of_field(kind: CaptureKind, row: u32, field: &[u8]) -> CaptureError
+        ensures { result ≡ record { kind = kind; row = row; field = Some (shown_of field.now) } }
+    {
+        CaptureError {
+            kind,
+            row,
+            field: Some(ShownField::of(field)),
+        }
+    }
 }
 
 impl fmt::Display for CaptureError {

@@ -5,10 +5,10 @@ ghost use Rattle.std.specs.Char.{is_ascii_digit};
 ghost use Rattle.std.specs.Result.{result_ok};
 ghost use Rattle.csv.specs.Records.{fields_of};
 ghost use Rattle.capture9.specs.Fields.{byte_in, hex_digit_of, is_header, time_in, wire_in};
-ghost use Rattle.capture9.specs.Rows.{row_of};
+ghost use Rattle.capture9.specs.Rows.{row_fault, row_of};
 ghost use Rattle.capture9.specs.Working.{digits_after};
 
-use crate::error::CaptureKind;
+use crate::error::{CaptureError, CaptureKind};
 use crate::line_byte::{LineByte, Wire};
 use csv::ByteRecord;
 use std::simd::prelude::*;
@@ -81,31 +81,32 @@ pub(crate) fn read_row(
     })
 }
 
-/// The first rule that the data row with this number breaks, where it breaks one.
+/// The fault of the data row with this number, where it breaks a rule: that of the first one in order.
 ///
 /// It reads the fields again, so that `read_row` says nothing of rules: nearly every row keeps them all.
 #[cold]
 #[inline(never)]
-pub(crate) fn fault_in(number: u32, most_rows: u32, row: &ByteRecord) -> CaptureKind
-    ensures { (before : ℕ) → IfErr (row_of most_rows number before (fields_of row.now)) (λ k. result ≡ k) }
+pub(crate) fn fault_in(number: u32, most_rows: u32, row: &ByteRecord) -> CaptureError
+    ensures { (before : ℕ) → IfErr (row_of most_rows number before (fields_of row.now))
+        (λ k. result ≡ row_fault number (fields_of row.now) k) }
 {
     if number > most_rows {
-        return CaptureKind::TooMany;
+        return CaptureError::of_row(CaptureKind::TooMany, number);
     }
     let Some(columns) = three_columns(row) else {
-        return CaptureKind::Fields;
+        return CaptureError::of_row(CaptureKind::Fields, number);
     };
     if read_time(columns.time).is_none() {
-        return CaptureKind::Time;
+        return CaptureError::of_field(CaptureKind::Time, number, columns.time);
     }
     if read_wire(columns.wire).is_none() {
-        return CaptureKind::Wire;
+        return CaptureError::of_field(CaptureKind::Wire, number, columns.wire);
     }
     if read_byte(columns.byte).is_none() {
-        return CaptureKind::Byte;
+        return CaptureError::of_field(CaptureKind::Byte, number, columns.byte);
     }
     // No other rule is left.
-    CaptureKind::Backwards
+    CaptureError::of_field(CaptureKind::Backwards, number, columns.time)
 }
 
 /// The time that a field tells, in microseconds: 1 to 15 decimal digits.

@@ -1,15 +1,17 @@
 //! The laws of the rows of a text, each the contract of a function that does nothing.
-ghost use Rattle.std.specs.Prelude.{◌≡◌, ◌↔◌, ◌∷◌, true, ℕ, ◌^◌, ◌<◌, ◌≤◌, IsTrue, List, Some, length};
-ghost use Rattle.std.specs.List.{All};
+ghost use Rattle.std.specs.Prelude.{◌≡◌, ◌↔◌, ◌∷◌, true, ℕ, ◌^◌, ◌<◌, ◌≤◌, IsTrue, List, Some, length, nat_lt, take};
+ghost use Rattle.std.specs.List.{All, list_all};
 ghost use Rattle.std.specs.List.Sorted.{IsNonDecreasingBy};
 ghost use Rattle.capture9.specs.Error.{IsAfter, is_of_text};
 ghost use Rattle.capture9.specs.Fields.{is_header};
 ghost use Rattle.capture9.specs.RowRules.{HasFirstPart};
 ghost use Rattle.capture9.specs.Rows.{HasHeader, Rows, rows_within};
+ghost use Rattle.capture9.specs.Shown.{in_quotes, is_printable, shown_of, shown_text};
 ghost use Rattle.capture9.specs.SomeText.{CanBeRows, IsOfSomeText};
 ghost use Rattle.csv.specs.Reading.{default_config, records, strip_bom};
 
 use crate::error::CaptureError;
+use crate::shown_field::ShownField;
 
 /// A text has its header exactly where its first CSV record is one.
 pub fn header_of_a_text()
@@ -47,4 +49,11 @@ pub fn longest_first_part()
 pub fn rows_of_some_text()
     ensures each_text { (limit : ℕ) (text : List ℕ) → CanBeRows limit (rows_within limit text) }
     ensures some_text { (limit : ℕ) (rows : Rows) → CanBeRows limit rows → IsOfSomeText limit rows }
+{}
+
+/// The text of a field has its first 24 bytes, and dots exactly where it has more. Whatever the bytes are, it is printable ASCII:
+/// so it stays on one line, and has no control characters.
+pub fn text_of_a_field()
+    ensures text { (field : List ℕ) → shown_text (shown_of field) ≡ in_quotes (take 24 field) (nat_lt 24 (length field)) }
+    ensures printable { (field : ShownField) → list_all is_printable (shown_text field) ≡ true }
 {}

@@ -188,7 +188,7 @@ impl<R: Read + Drop> Records<R> {
             }
             Err(kind) => kind,
         };
-        Err(refuse(&mut self.stage, kind, 0))
+        Err(refuse(&mut self.stage, CaptureError::of_row(kind, 0)))
     }
 
     /// Reads the next CSV record, which is a data row.
@@ -216,9 +216,9 @@ impl<R: Read + Drop> Records<R> {
                 self.stage = Stage::Ended;
                 return Ok(None);
             }
-            Err(kind) => kind,
+            Err(kind) => CaptureError::of_row(kind, number),
         };
-        Err(refuse(&mut self.stage, fault, number))
+        Err(refuse(&mut self.stage, fault))
     }
 }
 
@@ -259,12 +259,11 @@ fn kind_of(error: &csv::Error) -> CaptureKind
     }
 }
 
-/// Marks a refusal at this row, and answers it.
-fn refuse(stage: &mut Stage, kind: CaptureKind, row: u32) -> CaptureError
-    ensures error { result ≡ record { kind = kind; row = row } }
+/// Marks a refusal, and answers it.
+fn refuse(stage: &mut Stage, error: CaptureError) -> CaptureError
+    ensures error { result ≡ error }
     ensures marked { stage.new ≡ Stage.Refused result }
 {
-    let error = CaptureError { kind, row };
     *stage = Stage::Refused(error);
     error
 }

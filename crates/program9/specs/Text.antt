@@ -1,16 +1,23 @@
 -- The text of what is said on standard error.
-use Rattle.std.specs.Prelude.{ℕ, List, [], ◌++◌, codes}
+use Rattle.std.specs.Prelude.{ℕ, List, [], ◌++◌, Option, Some, None, codes}
 use Rattle.std.specs.Fmt.{decimal}
 use Rattle.std.specs.String.{string_bytes}
+use Rattle.capture9.specs.Shown.{shown_text}
+use Rattle.capture9.specs.declared.shown_field.ShownField.{ShownField}
 use Rattle.sheet9.specs.Text as sheet
 use Rattle.program9.specs.declared.ending.Message.{Message}
 use Rattle.program9.specs.declared.ending.Message.TheVariants as message
 use Rattle.program9.specs.Word.{expected_of, file_name_of, first_line_of, reason_of, word_of}
 
+-- what a bad row has in the field that is wrong, after what was expected there
+abbrev pub found_text : Option ShownField → List ℕ
+found_text (Some field) = codes "; the row has " ++ shown_text field
+found_text None = []
+
 -- two lines, without a line feed at the end; nothing where there is a verdict, or the version was told
 abbrev pub text_of : Message → List ℕ
 text_of message.Nothing = []
-text_of (message.Unreadable e) = codes "unreadable at row " ++ decimal e.row ++ codes ": " ++ word_of e.kind ++ codes "\n" ++ expected_of e.kind e.row
+text_of (message.Unreadable e) = codes "unreadable at row " ++ decimal e.row ++ codes ": " ++ word_of e.kind ++ codes "\n" ++ expected_of e.kind e.row ++ found_text e.field
 text_of (message.ReadFault row) = codes "read fault at row " ++ decimal row ++ codes "\nexpected a capture that can be read to its end, not a directory"
 text_of (message.CannotOpen u) = first_line_of u.why ++ codes "\n" ++ file_name_of u.file ++ codes ": " ++ reason_of u.why
 text_of (message.UnreadableSheet u) = codes "unreadable deck sheet\n" ++ string_bytes u.file ++ codes ": " ++ sheet.text_of u.refusal

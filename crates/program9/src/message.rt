@@ -17,7 +17,11 @@ impl fmt::Display for Message {
             Message::Nothing => Ok(()),
             Message::Unreadable(e) => {
                 let (row, word, expected) = (e.row, word_of(e.kind), expected_of(e.kind, e.row));
-                write!(f, "unreadable at row {row}: {word}\n{expected}")
+                write!(f, "unreadable at row {row}: {word}\n{expected}")?;
+                match &e.field {
+                    Some(field) => write!(f, "; the row has {field}"),
+                    None => Ok(()),
+                }
             }
             Message::ReadFault(row) => {
                 let row = *row;

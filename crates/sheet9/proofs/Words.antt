@@ -5,7 +5,8 @@ pub use Rattle.deck9.specs.declared.mode.Mode.TheVariants.{Stop, the_data as Mod
 pub use Rattle.sheet9.specs.Passes.{mode_named, own_ways, passes_of, with_names}
 pub use Rattle.sheet9.specs.Refusal.{line_after}
 pub use Rattle.sheet9.specs.Sheet.{IsDeckOf, Sheet, unknown_key}
-pub use Rattle.sheet9.specs.Text.{error_text, escaped, is_printable, words_of}
+pub use Rattle.capture9.specs.Shown.{is_printable}
+pub use Rattle.sheet9.specs.Text.{error_text, escaped, words_of}
 pub use Rattle.std.proofs.Common.{ap, append_assoc, cond, encode_utf8, encode_utf8_all, find, flat_map, nat_cmp, nat_lt, slice_index, slice_index_or, take, zero, ◌%◌}
 pub use Rattle.std.proofs.lemmas.Bool.{agree_below_at, cond_both}
 pub use Rattle.std.specs.Fmt.{decimal, digit_glyph, digits_onto, HasWritten, IsPlainFormatter}

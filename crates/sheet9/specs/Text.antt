@@ -1,5 +1,5 @@
 -- The text of an error: one line of printable ASCII, without a line feed at its end.
-use Rattle.std.specs.Prelude.{ℕ, Bool, ◌&&◌, nat_le, nat_lt, List, ◌++◌, codes, flat_map, encode_utf8_all, string_bytes}
+use Rattle.std.specs.Prelude.{ℕ, List, ◌++◌, codes, flat_map, encode_utf8_all, string_bytes}
 use Rattle.std.specs.Char.Escape.{escape_ascii}
 use Rattle.std.specs.Fmt.{decimal}
 use Rattle.sheet9.specs.declared.refusal.EntryFault.{EntryFault}
@@ -12,10 +12,6 @@ use Rattle.sheet9.specs.declared.refusal.TableName.{TableName}
 use Rattle.sheet9.specs.declared.refusal.TableName.TheVariants.{Forgets, Names, Passes, Replies}
 use Rattle.sheet9.specs.declared.refusal.SheetError.{SheetError}
 use Rattle.sheet9.specs.declared.refusal.SheetError.TheVariants as error
-
--- printable ASCII
-abbrev pub is_printable : ℕ → Bool
-is_printable c = nat_le 32 c && nat_lt c 127
 
 -- a byte of a key as `escape_ascii` writes it: itself where it is printable ASCII, but for ', " and \, and else behind a backslash
 abbrev pub escaped : ℕ → List ℕ

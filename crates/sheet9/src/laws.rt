@@ -8,13 +8,14 @@ ghost use Rattle.block9.specs.Replies.{takes};
 ghost use Rattle.block9.specs.declared.block.Block.{Block};
 ghost use Rattle.block9.specs.declared.command.Command.{Command};
 ghost use Rattle.block9.specs.declared.exchange.Exchange.{Exchange};
+ghost use Rattle.capture9.specs.Shown.{is_printable};
 ghost use Rattle.deck9.specs.declared.deck.Deck.{Deck};
 ghost use Rattle.deck9.specs.declared.profile.Profile.{Profile};
 ghost use Rattle.deck9.specs.Run.{HasRun};
 ghost use Rattle.toml.specs.Data.{no_members};
 ghost use Rattle.sheet9.specs.declared.refusal.SheetError.{SheetError};
 ghost use Rattle.sheet9.specs.Sheet.{IsDeckOf, document_of, sheet_of};
-ghost use Rattle.sheet9.specs.Text.{error_text, is_printable};
+ghost use Rattle.sheet9.specs.Text.{error_text};
 
 /// The text of an error is printable ASCII, whatever the sheet's keys hold: so it stays on one line, and has no control characters.
 pub fn errors_are_printable()

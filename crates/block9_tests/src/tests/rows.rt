@@ -4,7 +4,8 @@ mod readers;
 
 use crate::tests::same;
 use capture9::{
-    CaptureError, CaptureKind, GREATEST_LIMIT, LineByte, MOST_ROWS, Records, Wire, read_capture,
+    CaptureError, CaptureKind, GREATEST_LIMIT, LineByte, MOST_ROWS, Records, ShownField, Wire,
+    read_capture,
 };
 use readers::{Cut, Repeated};
 use std::alloc::Global;
@@ -75,8 +76,13 @@ fn from_controller(time_us: u64, byte: u8) -> LineByte {
     }
 }
 
+/// A fault that is not that of one field.
 fn error(kind: CaptureKind, row: u32) -> CaptureError {
-    CaptureError { kind, row }
+    CaptureError {
+        kind,
+        row,
+        field: None,
+    }
 }
 
 #[test]
@@ -121,7 +127,10 @@ fn the_end_is_told_again(rt: HostRuntime) {
 
 #[test]
 fn a_refusal_is_told_again(rt: HostRuntime) {
-    let refusal = error(CaptureKind::Byte, 7);
+    let refusal = CaptureError {
+        field: Some(ShownField::of(b"G1")),
+        ..error(CaptureKind::Byte, 7)
+    };
     let mut records = Records::new(rt.alloc(), Repeated::new(SIX, b"2800,C,G1\n", 3), MOST_ROWS);
     for record in SIX_RECORDS {
         same(&rt, records.next(), Ok(Some(record)), record);

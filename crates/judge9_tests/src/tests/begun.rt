@@ -5,7 +5,7 @@ use super::texts::HEADER;
 use super::writers::Narrow;
 use super::{Tap, same};
 use block9::Reason;
-use capture9::{CaptureError, CaptureKind};
+use capture9::{CaptureError, CaptureKind, ShownField};
 use deck9::{Hands, Profile};
 use judge9::{
     Beginning, JudgeError, RunVerdict, Telling, Totals, Verdict, View, judge_for, judge_parts_for,
@@ -129,14 +129,25 @@ fn the_totals_with_what_is_passed_over(rt: HostRuntime) -> Result<(), AllocError
 fn a_refusal_among_records_that_are_passed_over(rt: HostRuntime) -> Result<(), AllocError> {
     let mut text = String::from_str(rt.alloc(), HEADER)?;
     text.push_str("400,D,01\n800,D,G1\n1200,C,20\n")?;
-    let refused = |kind, row| JudgeError::Capture(CaptureError { kind, row });
+    let refused = |kind, row, field| JudgeError::Capture(CaptureError { kind, row, field });
+    let byte = Some(ShownField::of(b"G1"));
     let answer = begun(rt.alloc(), text.as_bytes());
-    same(&rt, answer, Err(refused(CaptureKind::Byte, 2)), "a bad row");
+    same(
+        &rt,
+        answer,
+        Err(refused(CaptureKind::Byte, 2, byte)),
+        "a bad row",
+    );
     let totals = begun_in_parts(rt.alloc(), text.as_bytes());
-    same(&rt, totals, Err(refused(CaptureKind::Byte, 2)), "in parts");
+    same(
+        &rt,
+        totals,
+        Err(refused(CaptureKind::Byte, 2, byte)),
+        "in parts",
+    );
     // The header has 18 bytes, and a row 9.
     for (bytes, row) in [(0, 0), (18, 1), (27, 2)] {
-        let fault = Err(refused(CaptureKind::Read, row));
+        let fault = Err(refused(CaptureKind::Read, row, None));
         let reader = Cut::new(text.as_str(), bytes);
         same(&rt, begun(rt.alloc(), reader), fault, bytes);
     }

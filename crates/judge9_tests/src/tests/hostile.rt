@@ -14,9 +14,13 @@ use std::io::Read;
 use std::process::Abort;
 use std::test::Fail;
 
-/// The refusal of a capture.
+/// The refusal of a capture, for no field.
 fn refused(kind: CaptureKind, row: u32) -> Result<Verdict, JudgeError> {
-    Err(JudgeError::Capture(CaptureError { kind, row }))
+    Err(JudgeError::Capture(CaptureError {
+        kind,
+        row,
+        field: None,
+    }))
 }
 
 /// What is answered at a wrong sum in record 3.
@@ -174,6 +178,7 @@ fn refusals_in_words(rt: HostRuntime) {
     let byte = JudgeError::Capture(CaptureError {
         kind: CaptureKind::Byte,
         row: 7,
+        field: None,
     });
     let words = "the byte of row 7 is not two hexadecimal digits";
     tell_words(&rt, rt.alloc(), byte, words);

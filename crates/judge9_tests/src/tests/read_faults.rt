@@ -27,6 +27,7 @@ fn fault(row: u32) -> JudgeError {
     JudgeError::Capture(CaptureError {
         kind: CaptureKind::Read,
         row,
+        field: None,
     })
 }
 

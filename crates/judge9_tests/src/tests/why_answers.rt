@@ -107,7 +107,11 @@ fn a_reader_that_fails(rt: HostRuntime) -> Result<(), Fail> {
         let reader = Cut::new(PLAYED_AND_CUT, given);
         let answer = judge_with_contradiction(rt.alloc(), reader, Hands::None);
         let kind = CaptureKind::Read;
-        let fault = JudgeError::Capture(CaptureError { kind, row });
+        let fault = JudgeError::Capture(CaptureError {
+            kind,
+            row,
+            field: None,
+        });
         same(&rt, answer, Err(fault), given);
     }
     // One that fails after the break is not asked for more.

@@ -12,6 +12,7 @@ fn a_refusal_has_its_status_and_its_two_lines(rt: HostRuntime) {
     let unread = CaptureError {
         kind: CaptureKind::Read,
         row: 4,
+        field: None,
     };
     let faults = [
         (
