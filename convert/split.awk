@@ -1,15 +1,15 @@
 # Cuts a capture of more than 4,000,000 rows into parts that begin between exchanges: NAME-001.csv, NAME-002.csv and so on.
 #
-#     awk -v to=NAME -f convert/split.awk < long.csv
+#     ninecheck split --to NAME long.csv
 #
-# Each part has the header and 4,000,000 rows at most, or as many as `-v rows=N` says. A part begins with a byte of the
+# Each part has the header and 4,000,000 rows at most, or as many as `rows` (--rows N) says. A part begins with a byte of the
 # controller that follows one of the deck. Each is judged by itself, so at its beginning nothing is known of the deck: what
 # an earlier part showed contradicts nothing any more. The names of the parts go to standard output.
 
 BEGIN {
-    if (to == "") refuse("-v to=NAME is missing")
+    if (to == "") refuse("--to NAME is missing", 2)
     if (rows == "") rows = 4000000
-    if (rows !~ /^[1-9][0-9]*$/ || rows + 0 > 4000000) refuse("-v rows=N is no number from 1 to 4000000")
+    if (rows !~ /^[1-9][0-9]*$/ || rows + 0 > 4000000) refuse("--rows is no number from 1 to 4000000: " rows, 2)
 }
 
 { sub(/\r$/, "") }
@@ -48,7 +48,7 @@ function begin() {
 }
 
 function end() {
-    if (part != "" && close(part) != 0) refuse("the part " name[parts] " can't be written")
+    if (part != "" && close(part) != 0) refuse("the part " name[parts] " can't be written", 4)
     part = ""
 }
 
@@ -58,18 +58,18 @@ function quoted(text) {
     return "'" text "'"
 }
 
-# Says what is wrong, and leaves no part behind.
-function refuse(what,    k) {
-    print "split.awk: line " NR ": " what | "cat >&2"
+# Says what is wrong, leaves no part behind, and ends with this status, or else with that of a capture that can't be read.
+function refuse(what, status,    k) {
+    print "ninecheck split: line " NR ": " what | "cat >&2"
     close("cat >&2")
     if (part != "") close(part)
     for (k = 1; k <= parts; k++) system("rm -f " quoted(name[k]))
-    refused = 1
-    exit 1
+    refused = status == "" ? 3 : status
+    exit refused
 }
 
 END {
-    if (refused) exit 1
+    if (refused) exit refused
     if (NR == 0) refuse("expected the header time_us,wire,byte")
     hand_on()
     end()

@@ -13,10 +13,10 @@ trap 'exit 143' TERM HUP
 
 say() { printf 'ninecheck: %s\n' "$@" >&2; }
 
-# Says why there is no answer, and what to do.
+# give_up WHY [ADVICE]: says why there is no answer, and what to do.
 give_up() {
     say "no answer: $1"
-    say "run \`make\`: it proves and builds the program, which has no such limit"
+    say "${2:-run \`make\`: it proves and builds the program, which has no such limit}"
     exit 125
 }
 
@@ -26,18 +26,27 @@ words=("$@")
 named=()
 reads_input=true
 name_files() {
-    local at word options=true
+    local at word awaits= options=true
     for at in "${!words[@]}"; do
         word=${words[at]}
         [ "$at" -gt 0 ] || continue
-        case $options$word in
-            true--) options=false; continue ;;
-            true--hands | true--sync | true--all | true--line-buffered | true--bytes) continue ;;
-            true-?*) reads_input=false; continue ;;
+        case $awaits in
+            --rate) awaits=; continue ;;
+            --deck) awaits=; name_file "$at" '' "$word"; continue ;;
         esac
-        reads_input=false
-        case $word in '' | /*) ;; *) named+=("$word"); words[at]=$PWD/$word ;; esac
+        case $options$word in
+            true--) options=false ;;
+            true--hands | true--sync | true--all | true--line-buffered | true--bytes | true--rate=*) ;;
+            true--rate | true--deck) awaits=$word ;;
+            true--deck=*) name_file "$at" --deck= "${word#--deck=}" ;;
+            true-?*) reads_input=false ;;
+            *) reads_input=false; name_file "$at" '' "$word" ;;
+        esac
     done
+}
+# name_file AT OPTION FILE: the word at this place has this file's whole path, behind the option.
+name_file() {
+    case $3 in '' | /*) ;; *) named+=("$3"); words[$1]=$2$PWD/$3 ;; esac
 }
 case ${1-} in
     check | explain | run | why) name_files ;;
@@ -54,8 +63,9 @@ as_named() {
     printf '%s' "${text%.}"
 }
 
+command -v rt > /dev/null || give_up "it is not built here, and \`rt\`, the command of the Rattle kit, is not on the path" \
+    "install a package that was made where the kit is (\`make deb\`, \`make dist\`): it needs neither"
 say "not built yet: this answer comes from the same code with run-time checks and without its proof; \`make\` proves and builds it"
-command -v rt > /dev/null || give_up "it takes \`rt\`, the command of the Rattle kit, and that is not on the path"
 : > "$work/capture"
 if $reads_input; then
     head -c $((capture_limit + 1)) > "$work/capture" 2> /dev/null || give_up "standard input can't be read"

@@ -103,7 +103,7 @@ second=$work/second.csv
 } > "$work/bad.csv"
 broken='no at record 7: P1 reply without a command'
 run check --all "$work/bad.csv"
-judge 'a bad row that is passed over' is_text 3 "$broken" "$(both_lines 'unreadable at row 10: byte')"
+judge 'a bad row that is passed over' is_text 3 "$broken" "$(both_lines 'unreadable at row 10: byte' 1G)"
 run check --all "$second"
 judge 'two breaks' is_text 1 "$broken
 no at record 16: P1 reply without a command

@@ -8,6 +8,7 @@ need_tools jq
 . tests/lib/judge.sh
 . tests/lib/program.sh
 . tests/lib/blocks.sh
+. tests/lib/awk.sh
 awk=${AWK:-awk}
 
 # says WORDS STATUS TEXT: the program with these words on $work/capture.csv.
@@ -127,21 +128,21 @@ for file in session hands keeps-playing several-breaks late-replies; do
         for capture in '' "-v capture=examples/views/$file.csv"; do
             [ "$view$capture" != motion ] || continue
             # shellcheck disable=SC2086
-            "$awk" $capture -f view/$view.awk "$work/named" > "$work/want" 2> "$work/err"
+            "$awk" $capture $(files_of $view) "$work/named" > "$work/want" 2> "$work/err"
             # shellcheck disable=SC2086
-            "$awk" $capture -f view/$view.awk "$work/lines" > "$work/out" 2>> "$work/err"
+            "$awk" $capture $(files_of $view) "$work/lines" > "$work/out" 2>> "$work/err"
             judge "$view of $file $capture" eval 'cmp "$work/out" "$work/want" && [ -s "$work/out" ] && [ ! -s "$work/err" ]'
         done
     done
-    "$awk" -f view/json.awk "$work/named" > "$work/want"
-    "$awk" -f view/json.awk "$work/lines" > "$work/more"
+    "$awk" $(files_of json) "$work/named" > "$work/want"
+    "$awk" $(files_of json) "$work/lines" > "$work/more"
     jq -c 'del(.first_record, .time_us, .command_time, .command_bytes, .reply_time, .reply_bytes, .says)' "$work/more" > "$work/out"
     judge "json of $file" cmp "$work/out" "$work/want"
     judge "json of $file has the bytes of each exchange" \
         [ "$(jq -r 'select(.line == "exchange") | .command_bytes + .reply_bytes' "$work/more" | grep -c ' ')" = "$(grep -c '^records ' "$work/lines")" ]
 done
 capture_of "$sense_ltc $ltc"
-"$program" explain --bytes "$work/capture.csv" | "$awk" -f view/json.awk | head -n 1 > "$work/out"
+"$program" explain --bytes "$work/capture.csv" | "$awk" $(files_of json) | head -n 1 > "$work/out"
 echo '{"line":"exchange","record":11,"command":"CURRENT TIME SENSE","reply":"74 04","delay_us":400,"goal":"unknown","shown":"unknown","in":"unknown","out":"unknown","local":"unknown","ain":"unknown","aout":"unknown","first_record":1,"time_us":400,"command_bytes":"61 0C 01 6E","reply_time":"10:00:00:00","reply_bytes":"74 04 00 00 00 10 88","says":{}}' > "$work/want"
 judge 'json of a time' cmp "$work/out" "$work/want"
 

@@ -12,7 +12,7 @@ need_tools mawk gawk busybox
 
 # clock WORDS: the view on $work/in; its streams are left in $work/out and $work/err.
 clock() {
-    $awk $1 -f view/clock.awk < "$work/in" > "$work/out" 2> "$work/err"
+    $awk $1 $(files_of clock) < "$work/in" > "$work/out" 2> "$work/err"
     status=$?
 }
 
@@ -64,16 +64,16 @@ for awk in mawk 'gawk --posix' 'busybox awk'; do
     judge "$awk: why had times" [ "$(grep -c ' at 00:00:00\.00[0-9]*: ' "$work/want")" = 3 ]
     clock '-v form=hours'
     judge "$awk: another form" [ "$status" = 1 -a ! -s "$work/out" ]
-    judge "$awk: the message of another form" [ "$(cat "$work/err")" = 'clock.awk: line 0: form has to be clock or seconds: hours' ]
+    judge "$awk: the message of another form" [ "$(cat "$work/err")" = 'ninecheck clock: line 0: form has to be clock or seconds: hours' ]
     for lines in 17 20000; do
         awk -v lines=$lines 'BEGIN { for (k = 1; k <= lines; k++) print "record " k " at " k ": D 10" }' > "$work/in"
         # Under its option --posix gawk does not tell what became of a pipe, so it runs without.
-        ${awk% --posix} -f view/clock.awk < "$work/in" > /dev/full 2> "$work/err"
+        ${awk% --posix} $(files_of clock) < "$work/in" > /dev/full 2> "$work/err"
         status=$?
         judge "$awk: a full device, $lines lines" [ "$status" = 1 ]
         judge "$awk: the message of a full device, $lines lines" \
-            grep -q "^clock.awk: line $lines: the text can't be written$" "$work/err"
-        into_closed $awk -f view/clock.awk
+            grep -q "^ninecheck clock: line $lines: the text can't be written$" "$work/err"
+        into_closed $awk $(files_of clock)
         judge "$awk: a reader that has gone, $lines lines" is_silent
     done
 done

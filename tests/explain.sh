@@ -87,7 +87,7 @@ judge 'a deck in local' has_line 2 'yes: records 8, exchanges 1, open 0'
 } | "$program" explain > "$work/out" 2> "$work/err"
 status=$?
 judge 'a bad row, the status' [ "$status" = 3 ]
-judge 'a bad row, the lines on standard error' [ "$(cat "$work/err")" = "$(both_lines 'unreadable at row 7: byte')" ]
+judge 'a bad row, the lines on standard error' [ "$(cat "$work/err")" = "$(both_lines 'unreadable at row 7: byte' G1)" ]
 judge 'a bad row, the lines before it' has_lines 1
 judge 'a bad row, the line of PLAY' has_line 1 \
     "record 6: PLAY -> ACK, delay 400, goal unknown, shown unknown, in unknown, out unknown, local unknown$audio"

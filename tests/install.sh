@@ -27,10 +27,10 @@ as_nobody() {
     status=$?
 }
 
-# run_installed NAME ROOT PREFIX: the program below this root, by a symlink and from another folder. The man page's example names
-# a converter below the prefix.
+# run_installed NAME ROOT PREFIX: the program below this root, by a symlink and from another folder. The man page names a
+# folder below the prefix.
 run_installed() {
-    local name=$1 root=$2 prefix=$3 example
+    local name=$1 root=$2 prefix=$3 folder
     as_nobody "$root/bin/ninecheck" --version
     expect "$name: the version" 0 "ninecheck $(make/version.sh)" ''
     ln -sf "$root/bin/ninecheck" "$work/a folder/nine"
@@ -38,11 +38,17 @@ run_installed() {
     expect "$name: a check" 0 'yes: records 6, exchanges 1, open 0' ''
     as_nobody "$root/bin/ninecheck" check "$root/share/ninecheck/examples/second-reply.csv"
     expect "$name: an example" 1 'no at record 7: P1 reply without a command' ''
+    as_nobody ./nine digest capture.csv
+    expect "$name: a digest" 0 'record 6, 0.002400 s: PLAY -> ACK
+yes: records 6, exchanges 1, open 0
+known, of 1 exchanges: shown 0.0 %, in 0.0 %, out 0.0 %, local 0.0 %, ain 0.0 %, aout 0.0 %' ''
+    as_nobody ./nine page capture.csv
+    judge "$name: a page" eval '[ "$status" = 0 ] && grep -q "^<h1>0 breaks</h1>" "$work/out"'
     run_pages "$name" "$root"
     : > "$work/out"
     judge "$name: the version of the man page" grep -qE "^\.TH NINECHECK 1 [0-9-]+ \"ninecheck $(make/version.sh)\"" "$root/share/man/man1/ninecheck.1"
-    example=$(grep -o "$prefix/share[^ ]*\.awk" "$root/share/man/man1/ninecheck.1")
-    judge "$name: the man page's converter" [ -f "$root${example#"$prefix"}" ]
+    folder=$(grep -o "$prefix/share/ninecheck/decks" "$root/share/man/man1/ninecheck.1")
+    judge "$name: the man page's folder of sheets" [ -d "$root${folder#"$prefix"}" ]
 }
 
 # run_pages NAME ROOT: the commands of the installed pages on captures and on views, in a copy of the folder that has the
@@ -64,15 +70,15 @@ run_pages() {
                 status=$?
                 judge "$name: the capture of $export" [ "$status" = 0 ] ;;
         esac
-    done < <(sed -n 's/^    \(awk .*examples\/exports.*\)/\1/p' "$root/share/doc/ninecheck/CAPTURE.md"
-        sed -n 's/^    \$ //p' "$root/share/doc/ninecheck/VIEWS.md" | sed 's#\./ninecheck#ninecheck#')
-    judge "$name: the pages' commands: $commands" [ "$commands" = 19 ]
+    done < <(sed -n 's#^    \./\(ninecheck convert .*examples/exports.*\)#\1#p' "$root/share/doc/ninecheck/CAPTURE.md"
+        sed -n 's/^    \$ //p' "$root/share/doc/ninecheck/VIEWS.md" | sed 's#\./ninecheck#ninecheck#g')
+    judge "$name: the pages' commands: $commands" [ "$commands" = 22 ]
     cmp "$work/a copy/late-reply.svg" docs/pictures/late-reply.svg > "$work/out" 2>&1
     status=$?
     judge "$name: the picture" [ "$status" = 0 ]
 }
 is_quiet() {
-    [ "$status" = 0 ] && [ ! -s "$work/err" ]
+    [ "$status" -le 1 ] && [ ! -s "$work/err" ]
 }
 
 mkdir "$work/a folder"
@@ -142,10 +148,14 @@ while IFS='|' read -r typed in_zsh in_fish; do
     offered_in_fish "$root" "$typed"
     expect "fish: $typed" 0 "$in_fish" ''
 done <<'END'
-ninecheck |check explain help run why|check explain help run why
+ninecheck |check clock convert delays digest explain help json motion page picture run split touches try why|check clock convert delays digest explain help json motion page picture run split touches try why
 ninecheck e|explain|explain
 ninecheck -|--help --version -V -h|--help --version -V -h
-ninecheck why -|--all --deck --hands --help --line-buffered --rate --sync -h|--all --deck --hands --help --line-buffered --rate --sync -h
+ninecheck why -|--all --deck --hands --help --line-buffered --quiet --rate --sync -h|--all --deck --hands --help --line-buffered --quiet --rate --sync -h
+ninecheck try -|--all --deck --help --sync -h|--all --deck --help --sync -h
+ninecheck picture --w|--width|--width
+ninecheck convert |log saleae sigrok|log saleae sigrok
+ninecheck convert log --unit |ms us|ms us
 ninecheck check --a|--all|--all
 ninecheck explain --b|--bytes|--bytes
 ninecheck run -|--deck --hands --help --rate --sync -h|--deck --hands --help --rate --sync -h
@@ -153,7 +163,7 @@ ninecheck check --rate |24 25 29.97df 30|24 25 29.97df 30
 ninecheck run --rate 2|24 25 29.97df|24 25 29.97df
 ninecheck explain capture.csv --rate 3|30|30
 ninecheck check --deck decks/nine|nine-pin-commands.toml|decks/nine-pin-commands.toml
-ninecheck help |check explain help run why|check explain help run why
+ninecheck help |check clock convert delays digest explain help json motion page picture run split touches try why|check clock convert delays digest explain help json motion page picture run split touches try why
 ninecheck run examples/play|play.csv|examples/play.csv
 END
 
@@ -205,11 +215,17 @@ complete_words() {
 complete_words ninecheck e
 expect 'a verb is completed' 0 'explain' ''
 complete_words ninecheck ''
-expect 'verbs are offered' 0 'check explain run why help --help --version' ''
+expect 'verbs are offered' 0 'check explain run why convert split try digest delays motion touches picture page json clock help --help --version' ''
 complete_words ninecheck run --
 expect 'options are offered' 0 '--hands --sync --rate --deck --help' ''
 complete_words ninecheck explain --
 expect 'options are offered where the judging can go on' 0 '--bytes --hands --sync --all --line-buffered --rate --deck --help' ''
+complete_words ninecheck try --
+expect 'options of a word that is not the program'"'"'s own' 0 '--all --sync --deck --help' ''
+complete_words ninecheck convert s
+expect 'exports are offered' 0 'sigrok saleae' ''
+complete_words ninecheck convert log --unit ''
+expect 'units are offered' 0 'ms us' ''
 complete_words ninecheck why --rate ''
 expect 'rates are offered' 0 '24 25 30 29.97df' ''
 complete_words ninecheck why --rate = 2
@@ -225,7 +241,7 @@ status=$?
 expect 'the man page' 0 '' ''
 
 # Each subcommand and option that the program's help names stands in the man page and in each completion.
-for word in $("$program" --help | awk '/^Commands:/ { on = 1; next } /^$/ { on = 0 } on { print $1 }') hands sync all rate deck version; do
+for word in $(./ninecheck --help | awk '/^(Commands|For the bench):/ { on = 1; next } /^$/ { on = 0 } on { print $1 }') quiet hands sync all rate deck version; do
     for file in package/ninecheck.1 package/ninecheck.bash package/ninecheck.zsh package/ninecheck.fish; do
         holds "$word in $file" grep -qw -- "$word" "$file"
     done

@@ -4,12 +4,11 @@
 set -u
 cd "$(dirname "$0")/.." || exit 1
 . tests/lib/tools.sh
-need_tools gawk python3 ts=moreutils
+need_tools python3 ts=moreutils
 . tests/lib/judge.sh
 . tests/lib/program.sh
 
-ln -s "$PWD/convert" "$work/convert"
-ln -s "$program" "$work/ninecheck"
+ln -s "$PWD/ninecheck" "$work/ninecheck"
 sed -n '/^## While it is recorded/,/^## /{/^    for port in /,/^$/s/^    //p}' docs/CAPTURE.md > "$work/live.sh"
 
 # record END: the controller sends PLAY. The deck's reply is late, so that it is certain to stand after PLAY, and its sum is

@@ -15,7 +15,7 @@ export TOLD=$work/told
 new_tree() {
     rm -rf "$tree" "$work"/told/*
     mkdir -p "$tree"
-    cp -r make Makefile HANDLES ninecheck "$tree/"
+    cp -r make Makefile HANDLES ninecheck view "$tree/"
     printf '%s\n' "$1" > "$tree/crates.txt"
     for crate in $(sed -n 's/^\([a-z_]*\):.*/\1/p' "$tree/crates.txt"); do
         mkdir -p "$tree/crates/$crate/src"
@@ -88,7 +88,7 @@ ninecheck proved (3 of 3)
 $end" ''
 judge 'nothing else is proved' eval '[ "$(tr "\n" " " < "$work/told/order")" = "high ninecheck " ]'
 judge 'the program is built last, and run on its capture' eval '[ "$(cat "$tree/crates/ninecheck/out/input")" = "a capture" ]'
-judge 'nothing but the work of rt stays' eval '[ "$(cd "$tree" && ls -A | LC_ALL=C sort | tr "\n" " ")" = "HANDLES Makefile crates crates.txt make ninecheck " ]'
+judge 'nothing but the work of rt stays' eval '[ "$(cd "$tree" && ls -A | LC_ALL=C sort | tr "\n" " ")" = "HANDLES Makefile crates crates.txt make ninecheck view " ]'
 echo 'a row' | "$tree/ninecheck" two words > "$work/out" 2> "$work/err"
 status=$?
 judge 'the script runs the program that was built' is_text 7 'two words

@@ -74,7 +74,7 @@ capture_of() {
 
 # motion WORDS: the view on the explanation in $work/in; its streams are left in $work/out and $work/err.
 motion() {
-    $awk $1 -f view/motion.awk < "$work/in" > "$work/out" 2> "$work/err"
+    $awk $1 $(files_of motion) < "$work/in" > "$work/out" 2> "$work/err"
     status=$?
 }
 
@@ -269,6 +269,40 @@ worth looking at: 1
     record 31, 0.012400 s: time stands still at 10:00:01:00 for 1.004400 s, while PLAY is shown
 yes: records 62, exchanges 6, open 0
 END
+# A sheet that allows user bits where a time was asked for: they are no time, whatever they look like.
+printf '[replies]\n"61 0C" = ["74 05"]\n' > "$work/bits.toml"
+is_motion 'user bits in place of a time' "s=01,00 t=10:00:00:00 r=05=45:00:00:00 t=10:00:00:01 s=01,00/--deck $work/bits.toml" <<'END'
+@first
+no transport command with a mode of its own was acknowledged
+worth looking at: nothing
+yes: records 51, exchanges 5, open 0
+END
+is_motion 'a time that jumps while PLAY is shown' 's=01,00 t=10:00:00:00 s=01,00 t=10:00:02:01 s=01,00 t=10:00:02:01 s=01,00' <<'END'
+@first
+no transport command with a mode of its own was acknowledged
+worth looking at: 1
+    record 40, 0.016000 s: time jumps from 10:00:00:00 to 10:00:02:01 in 0.008000 s, while PLAY is shown
+yes: records 69, exchanges 7, open 0
+END
+is_motion 'a time that jumps back twice while REC is shown' 's=02,00 t=10:00:10:00 t=10:00:00:00 t=09:59:50:00 s=02,00' <<'END'
+@first
+no transport command with a mode of its own was acknowledged
+worth looking at: 1
+    record 31, 0.012400 s: time jumps from 10:00:10:00 to 10:00:00:00 in 0.004400 s, the first of 2 jumps, while REC is shown
+yes: records 51, exchanges 5, open 0
+END
+is_motion 'times that move by no more than two seconds beyond the clock' 's=01,00 t=10:00:00:00 t=10:00:02:00 +8000000 t=10:00:10:00 s=01,00' <<'END'
+@first
+no transport command with a mode of its own was acknowledged
+worth looking at: nothing
+yes: records 51, exchanges 5, open 0
+END
+is_motion 'a time that jumps in SHUTTLE' 's=00,20 t=10:00:00:00 t=10:00:40:00 s=00,20' <<'END'
+@first
+no transport command with a mode of its own was acknowledged
+worth looking at: nothing
+yes: records 40, exchanges 4, open 0
+END
 is_motion 'a time that stands still for less than a second' 's=02,00 t=10:00:00:00 s=02,00 +991999 t=10:00:00:00 s=02,00' <<'END'
 @first
 no transport command with a mode of its own was acknowledged
@@ -458,10 +492,10 @@ capture_of 'PLAY t=10:00:00:29'
 "$program" explain --rate 30 "$work/capture.csv" > "$work/in"
 for awk in mawk 'gawk --posix' 'busybox awk'; do
     motion "-v capture=$work/capture.csv -v rate=50"
-    judge "$awk: a rate that is none" is_refused 'motion.awk: line 0: rate has to be 24, 25, 30 or 29.97df: 50'
+    judge "$awk: a rate that is none" is_refused 'ninecheck motion: line 0: rate has to be 24, 25, 30 or 29.97df: 50'
     motion "-v capture=$work/capture.csv"
     judge "$awk: a report of another rate" is_refused \
-        'motion.awk: line 2: record 17 has no time at rate 25: give the rate of the report with -v rate='
+        'ninecheck motion: line 2: record 17 has no time at rate 25: give the rate of the report'
 done
 
 # What it refuses, beside what every view refuses.
@@ -469,38 +503,38 @@ capture_of 'PLAY s=01,00'
 "$program" explain "$work/capture.csv" > "$work/in"
 for awk in mawk 'gawk --posix' 'busybox awk'; do
     motion ''
-    judge "$awk: no capture" is_refused 'motion.awk: line 0: -v capture=FILE is missing'
+    judge "$awk: no capture" is_refused 'ninecheck motion: line 0: no capture beside the report'
     motion "-v capture=$work/none"
-    judge "$awk: no such capture" is_refused "motion.awk: line 0: the capture can't be opened: $work/none"
+    judge "$awk: no such capture" is_refused "ninecheck motion: line 0: the capture can't be opened: $work/none"
     motion '-v capture=examples/play.csv'
     judge "$awk: the capture of another explanation" is_refused \
-        'motion.awk: line 2: the capture ends before record 7: examples/play.csv'
+        'ninecheck motion: line 2: the capture ends before record 7: examples/play.csv'
     sed 's/,D,11/,D,12/; s/,D,10/,D,11/' "$work/capture.csv" > "$work/other.csv"
     motion "-v capture=$work/other.csv"
-    judge "$awk: another reply" is_refused "motion.awk: line 1: record 6 of the capture ends another reply: $work/other.csv"
+    judge "$awk: another reply" is_refused "ninecheck motion: line 1: record 6 of the capture ends another reply: $work/other.csv"
     sed 's/^400,C/400,D/' "$work/capture.csv" > "$work/other.csv"
     motion "-v capture=$work/other.csv"
-    judge "$awk: a reply first" is_refused "motion.awk: line 1: record 1 of the capture is on the other wire: $work/other.csv"
+    judge "$awk: a reply first" is_refused "ninecheck motion: line 1: record 1 of the capture is on the other wire: $work/other.csv"
     sed 's/^2000,D/2000,C/' "$work/capture.csv" > "$work/other.csv"
     motion "-v capture=$work/other.csv"
-    judge "$awk: a command inside a reply" is_refused "motion.awk: line 1: record 5 of the capture is on the other wire: $work/other.csv"
+    judge "$awk: a command inside a reply" is_refused "ninecheck motion: line 1: record 5 of the capture is on the other wire: $work/other.csv"
     printf '%s\n' 'no at record 4: L1 late reply' > "$work/late"
-    $awk -v capture="$work/capture.csv" -f view/motion.awk < "$work/late" > "$work/out" 2> "$work/err"
+    $awk -v capture="$work/capture.csv" $(files_of motion) < "$work/late" > "$work/out" 2> "$work/err"
     status=$?
-    judge "$awk: a reply that is not late" is_refused "motion.awk: line 1: record 4 of the capture is no late reply: $work/capture.csv"
+    judge "$awk: a reply that is not late" is_refused "ninecheck motion: line 1: record 4 of the capture is no late reply: $work/capture.csv"
     sed 's/record 4/record 5/' "$work/late" > "$work/later"
-    $awk -v capture="$work/capture.csv" -f view/motion.awk < "$work/later" > "$work/out" 2> "$work/err"
+    $awk -v capture="$work/capture.csv" $(files_of motion) < "$work/later" > "$work/out" 2> "$work/err"
     status=$?
-    judge "$awk: not where a late reply begins" is_refused "motion.awk: line 1: record 5 of the capture is no late reply: $work/capture.csv"
+    judge "$awk: not where a late reply begins" is_refused "ninecheck motion: line 1: record 5 of the capture is no late reply: $work/capture.csv"
     sed '$d' "$work/in" > "$work/cut"
-    $awk -v capture="$work/capture.csv" -f view/motion.awk < "$work/cut" > "$work/out" 2> "$work/err"
+    $awk -v capture="$work/capture.csv" $(files_of motion) < "$work/cut" > "$work/out" 2> "$work/err"
     status=$?
-    judge "$awk: no verdict" is_refused "motion.awk: line 2: no verdict: the capture can't be read, or the text was cut short"
+    judge "$awk: no verdict" is_refused "ninecheck motion: line 2: no verdict: the capture can't be read, or the text was cut short"
     # Under its option --posix gawk does not tell what became of a pipe, so it runs without.
-    ${awk% --posix} -v capture="$work/capture.csv" -f view/motion.awk < "$work/in" > /dev/full 2> "$work/err"
+    ${awk% --posix} -v capture="$work/capture.csv" $(files_of motion) < "$work/in" > /dev/full 2> "$work/err"
     status=$?
     judge "$awk: a full device" [ "$status" = 1 ]
-    judge "$awk: the message of a full device" grep -q "^motion.awk: line 3: the view can't be written$" "$work/err"
+    judge "$awk: the message of a full device" grep -q "^ninecheck motion: line 3: the view can't be written$" "$work/err"
 done
 judge 'no file is left' [ -z "$(ls "$TMPDIR")" ]
 

@@ -33,18 +33,18 @@ blocks="run_it;README.md;./ninecheck check examples/play.csv
 text;docs/ARCHITECTURE.md;bytes
 sigrok.sh;docs/CAPTURE.md;sigrok-cli -d fx2lafw
 sigrok.sh;docs/CAPTURE.md;sigrok-cli -i recording.sr
-convert.sh;docs/CAPTURE.md;awk -v rate=2000000 -f convert/sigrok.awk < examples/exports/sigrok.txt
-convert.sh;docs/CAPTURE.md;awk -v controller=Editor -v deck=Deck -f convert/saleae.awk < examples/exports/saleae.csv
-convert.sh;docs/CAPTURE.md;awk -v controller=Editor -v deck=Deck -f convert/saleae.awk < examples/exports/saleae-older.csv
-convert.sh;docs/CAPTURE.md;awk -f convert/saleae.awk < examples/exports/saleae-older-two-files.csv
-convert.sh;docs/CAPTURE.md;awk -v controller=COM3 -v deck=COM4 -f convert/log.awk < examples/exports/serial.log
-convert.sh;docs/CAPTURE.md;awk -v controller=COM3 -v deck=COM4 -f convert/log.awk < examples/exports/serial-clock.log
+convert.sh;docs/CAPTURE.md;./ninecheck convert sigrok --samplerate 2000000 examples/exports/sigrok.txt
+convert.sh;docs/CAPTURE.md;./ninecheck convert saleae --controller Editor --deck Deck examples/exports/saleae.csv
+convert.sh;docs/CAPTURE.md;./ninecheck convert saleae --controller Editor --deck Deck examples/exports/saleae-older.csv
+convert.sh;docs/CAPTURE.md;./ninecheck convert saleae examples/exports/saleae-older-two-files.csv
+convert.sh;docs/CAPTURE.md;./ninecheck convert log --controller COM3 --deck COM4 examples/exports/serial.log
+convert.sh;docs/CAPTURE.md;./ninecheck convert log --controller COM3 --deck COM4 examples/exports/serial-clock.log
 convert.sh;docs/CAPTURE.md;for port in /dev/ttyUSB0 /dev/ttyUSB1
-coarse;docs/CAPTURE.md;log.awk: timestamps are coarser
+coarse;docs/CAPTURE.md;ninecheck convert log: timestamps are coarser
 live.sh;docs/CAPTURE.md;for port in /dev/ttyUSB0 /dev/ttyUSB1
-convert.sh;docs/CAPTURE.md;awk -v rate=2000000 -v from=0.02 -f convert/sigrok.awk < examples/exports/sigrok-damaged.txt
-refuse;docs/CAPTURE.md;sigrok.awk: line 10:
-split;docs/CAPTURE.md;awk -v to=part -f convert/split.awk
+convert.sh;docs/CAPTURE.md;./ninecheck convert sigrok --samplerate 2000000 --from 0.02 examples/exports/sigrok-damaged.txt
+refuse;docs/CAPTURE.md;ninecheck convert sigrok: line 10:
+split;docs/CAPTURE.md;./ninecheck split --to part
 judge_it;docs/CAPTURE.md;./ninecheck check capture.csv
 text;docs/DECKS.md;# an edit deck
 text;docs/DECKS.md;unreadable deck sheet
@@ -58,7 +58,7 @@ text;docs/OUTPUT.md;record N: goal G
 text;docs/OUTPUT.md;records A to B at T: COMMAND BYTES -> REPLY
 text;docs/OUTPUT.md;records A to B at T: COMMAND BYTES
 text;docs/OUTPUT.md;records 1067 to 1070 at 1999300:
-refuse_view;docs/VIEWS.md;delays.awk: line 3:"
+refuse_view;docs/VIEWS.md;ninecheck picture: line 1:"
 
 # The first builds nothing here, since the program is there; tests/unbuilt.sh has it where it is not. The second proves, which
 # tests/make.sh has with a stand-in, and the third is the gate itself. The fourth installs below a root of its own.
@@ -74,13 +74,13 @@ run_it() {
 }
 
 refuse() {
-    in_here 'awk -v rate=2000000 -f convert/sigrok.awk < examples/exports/sigrok-damaged.txt'
+    in_here './ninecheck convert sigrok --samplerate 2000000 examples/exports/sigrok-damaged.txt'
     is_said "$page: ${block[0]}" "${block[0]}"
 }
 
 coarse() {
     printf '0.001 A 20\n0.002 A 01\n' > "$work/here/coarse.log"
-    in_here 'awk -v controller=A -v deck=B -f convert/log.awk < coarse.log > capture.csv'
+    in_here './ninecheck convert log --controller A --deck B coarse.log > capture.csv'
     is_said "$page: ${block[0]}" "${block[0]}"
 }
 
@@ -98,8 +98,7 @@ judge_it() {
 }
 
 refuse_view() {
-    { head -n 2 examples/views/session.txt; echo 'yes: records 24, exchanges 3, open 0'; } > "$work/here/cut"
-    in_here 'awk -f view/delays.awk < cut'
+    in_here './ninecheck picture examples/play.csv'
     is_said "$page: ${block[0]}" "${block[0]}"
 }
 
@@ -155,13 +154,7 @@ for page in README.md docs/*.md; do
     done < "$page"
     [ ${#block[@]} = 0 ] || take_block
 done
-judge "the commands with a dollar sign: $shown" [ "$shown" = 39 ]
+judge "the commands with a dollar sign: $shown" [ "$shown" = 43 ]
 judge "the other blocks: $others" [ "$others" = "$(wc -l <<< "$blocks")" ]
-
-# The command that stands in a sentence: it joins two exports into the one that is stored.
-command=$(sed -n 's/.*(`\(cat [^`]*\)`).*/\1/p' docs/CAPTURE.md)
-awk -v to="$work/here" '/^Time/ { n++ } { print > (to (n == 1 ? "/controller.csv" : "/deck.csv")) }' examples/exports/saleae-older-two-files.csv
-in_here "$command"
-judge "docs/CAPTURE.md: $command" cmp "$work/here/both.csv" examples/exports/saleae-older-two-files.csv
 
 tell_counts

@@ -1,7 +1,7 @@
-"""Checks the pictures of view/picture.awk: that each awk draws the same, that the drawn bytes are those of the capture, that
-the record in question and the measured time stand out, and that no text lies on another or on a byte; that the rows of a
-contradiction are those of `why`; that of several breaks the right one is drawn; and of the picture of each reason that rsvg-convert renders it, with the record in question on
-it."""
+"""Checks the pictures that `ninecheck picture` draws: that each awk draws the same, that the drawn bytes are those of the capture,
+that the record in question and the measured time stand out, and that no text lies on another or on a byte; that the rows of a
+contradiction are those of `why`; that of several breaks the right one is drawn; and of the picture of each reason that rsvg-convert
+renders it, with the record in question on it."""
 import math
 import os
 import random
@@ -15,6 +15,7 @@ import xml.etree.ElementTree as xml
 
 PROGRAM = os.environ.get('NINECHECK', 'crates/ninecheck/out/ninecheck')
 AWKS = ['mawk', 'gawk --posix', 'busybox awk']
+FILES = subprocess.run(['sh', '-c', '. view/files.sh; view_files picture'], capture_output=True, text=True).stdout.split()
 WIDTHS = [700, 1200]
 LIMITS = {'P3': 9287, 'L1': 9287, 'L2': 9287, 'B3': 10287}
 SVG = '{http://www.w3.org/2000/svg}'
@@ -37,7 +38,8 @@ def run(words, text=''):
 
 def picture(awk, verdict, *settings):
     given = [word for setting in settings for word in ('-v', setting)]
-    return run([*awk.split(), *given, '-f', 'view/picture.awk'], verdict)
+    files = [word for file in FILES for word in ('-f', f'view/{file}.awk')]
+    return run([*awk.split(), *given, *files], verdict)
 
 
 class Box:
@@ -330,7 +332,7 @@ def check_contradictions(work):
         for awk in AWKS:
             status, out, err = picture(awk, why, f'capture={other}')
             tail = '' if what == 'a bad row' else f': {other}'
-            judge(f'{awk}: {what}: {err}', (status, out, err) == (1, '', f'picture.awk: line {len(why.splitlines())}: {message}{tail}\n'))
+            judge(f'{awk}: {what}: {err}', (status, out, err) == (1, '', f'ninecheck picture: line {len(why.splitlines())}: {message}{tail}\n'))
 
 
 def pixels_of(png):
@@ -428,7 +430,7 @@ def check_parts(work):
         open(silent, 'w').write('\n'.join([*rows[:40], *(row.replace('C', 'D') for row in rows[40:])]) + '\n')
         refused = picture(awk, cases[0][1], f'capture={silent}', 'at=45')
         judge(f'{awk}: a capture of another report: {refused}', refused == (
-            1, '', f'picture.awk: line 14: no command can begin between the breaks at records 39 and 45: {silent}\n'))
+            1, '', f'ninecheck picture: line 14: no command can begin between the breaks at records 39 and 45: {silent}\n'))
 
 
 def check_late(work):
@@ -486,16 +488,16 @@ def check_refusals(work):
     open(short, 'w').write('time_us,wire,byte\n400,C,20\n')
     rows = [
         ('a yes', 'yes: records 6, exchanges 1, open 0\n', [f'capture={capture}'], 'line 1: the verdict is a yes: there is nothing to draw'),
-        ('no capture', verdict, [], 'line 1: -v capture=FILE is missing'),
+        ('no capture', verdict, [], 'line 1: no capture beside the report'),
         ('no such capture', verdict, [f'capture={work}/none'], f"line 1: the capture can't be opened: {work}/none"),
         ('a short capture', verdict, [f'capture={short}'], f'line 1: the capture ends before record 4: {short}'),
         ('no header', verdict, ['capture=examples/wrong-header.csv'], 'line 1: no header of a capture: examples/wrong-header.csv'),
         ('a bad row', 'no at record 9: L1 late reply\n', ['capture=examples/bad-byte.csv'], 'line 1: row 7 of the capture is no record: 2800,C,G1'),
-        ('a narrow picture', verdict, [f'capture={capture}', 'width=699'], 'line 0: width has to be a number from 700 on: 699'),
-        ('no number', verdict, [f'capture={capture}', 'width=wide'], 'line 0: width has to be a number from 700 on: wide'),
+        ('a narrow picture', verdict, [f'capture={capture}', 'width=699'], 'line 0: --width has to be a number from 700 on: 699'),
+        ('no number', verdict, [f'capture={capture}', 'width=wide'], 'line 0: --width has to be a number from 700 on: wide'),
         ('another record', verdict, [f'capture={capture}', 'at=5'], 'line 1: there is no break at record 5'),
         ('a record of no break', several, [f'capture={several_capture}', 'at=23'], 'line 14: there is no break at record 23'),
-        ('no record', several, [f'capture={several_capture}', 'at=last'], 'line 0: at has to be the number of a record: last'),
+        ('no record', several, [f'capture={several_capture}', 'at=last'], 'line 0: --at has to be the number of a record: last'),
         ('no break', 'breaks 0: records 6, exchanges 1, passed over 0, open 0\n', [f'capture={capture}'],
          'line 1: no part breaks: there is nothing to draw'),
         ('totals that are missing', several[:several.index('breaks')], [f'capture={several_capture}', 'at=39'],
@@ -506,7 +508,7 @@ def check_refusals(work):
     for awk in AWKS:
         for name, text, settings, why in rows:
             status, out, err = picture(awk, text, *settings)
-            judge(f'{awk}: {name}: {err}', (status, out, err) == (1, '', f'picture.awk: {why}\n'))
+            judge(f'{awk}: {name}: {err}', (status, out, err) == (1, '', f'ninecheck picture: {why}\n'))
 
 
 def main():

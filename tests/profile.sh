@@ -95,7 +95,7 @@ judge "rows of replies: $rows" [ "$rows" = 6 ]
 # The rows of second lines, but for the two that name a file, which tests/program.sh has.
 rows=0
 while IFS='|' read -r first second; do
-    both_lines "${first/row K/row 7}" > "$work/out"
+    both_lines "${first/row K/row 7}" F > "$work/out"
     judge "the second line of '$first'" [ "$(tail -n +2 "$work/out")" = "$second" ]
     rows=$((rows + 1))
 done < <(sed -n '/^| First line | Second line |$/,/^$/p' docs/OUTPUT.md | grep '^| `' | grep -v 'FILE' |

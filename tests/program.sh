@@ -25,7 +25,7 @@ run_text() {
 while IFS='|' read -r file want_status want_out want_err; do
     case "$file" in '#'* | '') continue ;; esac
     run_on "examples/$file"
-    expect "examples/$file" "$want_status" "$want_out" "$(both_lines "$want_err")"
+    expect "examples/$file" "$want_status" "$want_out" "${want_err//|/$'\n'}"
 done < examples/ANSWERS
 
 # Forms of CSV that are the same capture.
@@ -49,36 +49,39 @@ run_text 'time_us,wire,byte'
 expect 'a header without a line feed' 0 'yes: records 0, exchanges 0, open 0' ''
 
 # Texts that can't be read.
-while IFS='|' read -r name row word text; do
+while IFS='|' read -r name row word field text; do
     run_text "$text"
-    expect "$name" 3 '' "$(both_lines "unreadable at row $row: $word")"
+    expect "$name" 3 '' "$(both_lines "unreadable at row $row: $word" "$field")"
 done <<'END'
-an empty text|0|header|
-empty lines alone|0|header|\n\r\n
-a byte order mark alone|0|header|\357\273\277
-another header|0|header|time_us,wire,Byte\n400,C,20\n
-a header with a byte that is no UTF-8|0|header|time_us,wire,byte\377\n400,C,20\n
-an unclosed quote in the header|0|header|"time_us,wire,byte\n400,C,20\n
-two fields|1|fields|time_us,wire,byte\n400,C\n
-a line of blanks|1|fields|time_us,wire,byte\n  \n400,C,20\n
-one empty field in quotes|1|fields|time_us,wire,byte\n""\n
-a comment|2|fields|time_us,wire,byte\n400,C,20\n# over\n
-an unclosed quote that takes the rest of the text|2|fields|time_us,wire,byte\n400,C,20\n"800,C,01\n1200,C,21\n
-sixteen digits|1|time|time_us,wire,byte\n1000000000000000,C,20\n
-a sign|1|time|time_us,wire,byte\n+400,C,20\n
-a blank after the time|1|time|time_us,wire,byte\n400 ,C,20\n
-three empty fields|1|time|time_us,wire,byte\n,,\n
-a byte order mark before a row|1|time|time_us,wire,byte\n\357\273\277400,C,20\n
-a lower-case wire|1|wire|time_us,wire,byte\n400,c,20\n
-a wire that is no UTF-8|1|wire|time_us,wire,byte\n400,\377,20\n
-one digit|1|byte|time_us,wire,byte\n400,C,2\n
-a blank before the byte|1|byte|time_us,wire,byte\n400,C, 20\n
-a byte that is no UTF-8|1|byte|time_us,wire,byte\n400,C,\377\376\n
-a quote inside a field|1|byte|time_us,wire,byte\n400,C,2"0"\n
-two quotes for one|1|byte|time_us,wire,byte\n400,C,"2""0"\n
-a line feed inside quotes|1|byte|time_us,wire,byte\n400,C,"20\n"\n
-an unclosed quote that takes a line feed|1|byte|time_us,wire,byte\n400,C,"20\n
-a time that falls|2|backwards|time_us,wire,byte\n800,C,20\n400,C,01\n
+an empty text|0|header||
+empty lines alone|0|header||\n\r\n
+a byte order mark alone|0|header||\357\273\277
+another header|0|header||time_us,wire,Byte\n400,C,20\n
+a header with a byte that is no UTF-8|0|header||time_us,wire,byte\377\n400,C,20\n
+an unclosed quote in the header|0|header||"time_us,wire,byte\n400,C,20\n
+two fields|1|fields||time_us,wire,byte\n400,C\n
+a line of blanks|1|fields||time_us,wire,byte\n  \n400,C,20\n
+one empty field in quotes|1|fields||time_us,wire,byte\n""\n
+a comment|2|fields||time_us,wire,byte\n400,C,20\n# over\n
+an unclosed quote that takes the rest of the text|2|fields||time_us,wire,byte\n400,C,20\n"800,C,01\n1200,C,21\n
+sixteen digits|1|time|1000000000000000|time_us,wire,byte\n1000000000000000,C,20\n
+a sign|1|time|+400|time_us,wire,byte\n+400,C,20\n
+a blank after the time|1|time|400 |time_us,wire,byte\n400 ,C,20\n
+three empty fields|1|time||time_us,wire,byte\n,,\n
+a byte order mark before a row|1|time|???400|time_us,wire,byte\n\357\273\277400,C,20\n
+a lower-case wire|1|wire|c|time_us,wire,byte\n400,c,20\n
+a wire that is no UTF-8|1|wire|?|time_us,wire,byte\n400,\377,20\n
+one digit|1|byte|2|time_us,wire,byte\n400,C,2\n
+a blank before the byte|1|byte| 20|time_us,wire,byte\n400,C, 20\n
+a byte that is no UTF-8|1|byte|??|time_us,wire,byte\n400,C,\377\376\n
+a quote inside a field|1|byte|2"0"|time_us,wire,byte\n400,C,2"0"\n
+two quotes for one|1|byte|2"0|time_us,wire,byte\n400,C,"2""0"\n
+a line feed inside quotes|1|byte|20?|time_us,wire,byte\n400,C,"20\n"\n
+an unclosed quote that takes a line feed|1|byte|20?|time_us,wire,byte\n400,C,"20\n
+a time that falls|2|backwards|400|time_us,wire,byte\n800,C,20\n400,C,01\n
+the last printable byte and the ones beside it|1|wire|~??|time_us,wire,byte\n400,~\177\200,20\n
+the first printable byte and the ones beside it|1|wire| !?|time_us,wire,byte\n400, !\037,20\n
+a carriage return in quotes|1|wire|C?D|time_us,wire,byte\n400,"C\rD",20\n
 END
 run_text 'time_us,wire,byte\n400,C,20\n800,C,01\n1200,C,22\n1600,D,G1\n'
 expect 'a rule broken before a bad row' 1 'no at record 3: B2 wrong sum' ''
@@ -118,7 +121,7 @@ expect 'check with the option on standard input' 0 "$yes" ''
 run check examples/second-reply.csv < /dev/null
 expect 'check with a file that breaks a rule' 1 'no at record 7: P1 reply without a command' ''
 run check examples/bad-byte.csv < /dev/null
-expect 'check with a file that has a bad row' 3 '' "$(both_lines 'unreadable at row 7: byte')"
+expect 'check with a file that has a bad row' 3 '' "$(both_lines 'unreadable at row 7: byte' G1)"
 cp examples/play.csv "$work/--hands"
 (cd "$work" && "$program" check -- --hands) > "$work/out" 2> "$work/err" < /dev/null
 status=$?
@@ -169,7 +172,7 @@ expect 'run of a capture that breaks a rule' 1 'no at record 7: P1 reply without
 run run examples/disputed-in-point.csv < /dev/null
 expect 'run with a file of which no run remains' 1 'no at record 28: M1 no run remains' ''
 run run examples/bad-byte.csv < /dev/null
-expect 'run with a file that has a bad row' 3 '' "$(both_lines 'unreadable at row 7: byte')"
+expect 'run with a file that has a bad row' 3 '' "$(both_lines 'unreadable at row 7: byte' G1)"
 run run < examples/wrong-header.csv
 expect 'run of a text that is no capture' 3 '' "$(both_lines 'unreadable at row 0: header')"
 
@@ -189,7 +192,7 @@ no at record 7: P1 reply without a command' ''
 run why examples/disputed-in-point.csv < /dev/null
 explained 'why with a file of which no run remains' 1 'no at record 28: M1 no run remains' ''
 run why examples/bad-byte.csv < /dev/null
-expect 'why with a file that has a bad row' 3 '' "$(both_lines 'unreadable at row 7: byte')"
+expect 'why with a file that has a bad row' 3 '' "$(both_lines 'unreadable at row 7: byte' G1)"
 run why < examples/wrong-header.csv
 expect 'why of a text that is no capture' 3 '' "$(both_lines 'unreadable at row 0: header')"
 
@@ -369,7 +372,7 @@ expect 'a long pipe' 0 'yes: records 240000, exchanges 40000, open 0' ''
 
 # The address space that the script leaves to the program: 4 GB, or less where less is left to the script.
 mkdir -p "$work/tree/crates/ninecheck/out"
-cp ninecheck "$work/tree/"
+cp -r ninecheck view "$work/tree/"
 printf '#!/bin/sh\nulimit -v\n' > "$work/tree/crates/ninecheck/out/ninecheck"
 chmod +x "$work/tree/crates/ninecheck/out/ninecheck"
 for bound in '-v 8388608' '-S -v 8388608' '-v 4194304' '-v 1048576' '-S -v 1048576'; do

@@ -74,7 +74,7 @@ while IFS='|' read -r file want_status want_out want_err; do
         judge "examples/$file, its last line" [ "$(tail -n 1 "$work/out")" = "$want_out" ]
         judge "examples/$file, with hands as without" is_untouched "examples/$file"
     else
-        judge "examples/$file" is_text "$want_status" "$want_out" "$(both_lines "$want_err")"
+        judge "examples/$file" is_text "$want_status" "$want_out" "${want_err//|/$'\n'}"
     fi
 done < examples/ANSWERS
 
@@ -113,7 +113,7 @@ judge 'no run remains' is_text 1 'no at record 34: M1 no run remains' ''
 capture_of "C 20 01 21 $ack"
 echo '2800,C,G1' >> "$work/capture.csv"
 run_of "$work/capture.csv"
-judge 'a bad row' is_text 3 '' "$(both_lines 'unreadable at row 7: byte')"
+judge 'a bad row' is_text 3 '' "$(both_lines 'unreadable at row 7: byte' G1)"
 
 # Two of three shifts of a local deck are done: which, is not known before the register is sensed.
 capture_of "$local_at_10 $shift $shift $shift C 60 10 70 D 74 10 02 00 00 10 96"

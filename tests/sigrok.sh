@@ -10,9 +10,9 @@ need_tools sigrok-cli
 . tests/lib/program.sh
 top=$PWD
 
-ln -s "$top/convert" "$work/convert"
+ln -s "$top/ninecheck" "$work/ninecheck"
 
-# in_work COMMAND: runs it in a folder that has the converters beside it.
+# in_work COMMAND: runs it in a folder that has the script beside it.
 in_work() {
     rm -f "$work/capture.csv"
     (cd "$work" && bash -c "$1") > "$work/out" 2> "$work/err" < /dev/null
@@ -74,8 +74,8 @@ is_sent() {
 
 # is_refused ERROR: the converter refused the fifth record for this error, and nothing else went wrong.
 is_refused() {
-    [ "$status" = 1 ] && [ ! -s "$work/capture.csv" ] && [ "$(wc -l < "$work/err")" = 1 ] &&
-        grep -qE "^sigrok.awk: line [0-9]+: a damaged byte: [0-9]+-[0-9]+ uart-2: $1\$" "$work/err"
+    [ "$status" = 3 ] && [ ! -s "$work/capture.csv" ] && [ "$(wc -l < "$work/err")" = 1 ] &&
+        grep -qE "^ninecheck convert sigrok: line [0-9]+: a damaged byte: [0-9]+-[0-9]+ uart-2: $1\$" "$work/err"
 }
 
 # is_answer LINE: the program says this of the page's capture.
@@ -95,7 +95,7 @@ for file in disputed-in-point second-reply; do
     for rate in 2000000 1000000; do
         draw $rate none
         judge "$file at $rate samples a second is recorded" is_recorded $rate
-        in_work "$(echo "$decode" | sed "s/rate=2000000/rate=$rate/")"
+        in_work "$(echo "$decode" | sed "s/--samplerate 2000000/--samplerate $rate/")"
         judge "$file at $rate samples a second is what was sent" is_sent
         judge "$file at $rate samples a second has its answer" is_answer "$answer"
     done

@@ -9,6 +9,7 @@ need_tools mawk gawk busybox
 . tests/lib/program.sh
 . tests/lib/errors.sh
 . tests/lib/blocks.sh
+. tests/lib/awk.sh
 . tests/lib/closed.sh
 top=$PWD
 
@@ -24,7 +25,7 @@ split_file() {
     shift 2
     rm -rf "$work/parts"
     mkdir "$work/parts"
-    (cd "$work/parts" && $awk -v to="$name" "$@" -f "$top/convert/split.awk" < "$file") > "$work/out" 2> "$work/err"
+    (cd "$work/parts" && "$(cd "$top" && script_under "$awk")" split --to "$name" "$@" "$file") > "$work/out" 2> "$work/err"
     status=$?
 }
 
@@ -42,12 +43,14 @@ is_split() {
 
 # is_refused LINE: the line is on standard error, nothing is on standard output, and no part is left.
 is_refused() {
-    [ "$status" = 1 ] && [ ! -s "$work/out" ] && [ "$(cat "$work/err")" = "$1" ] && [ -z "$(ls "$work/parts")" ]
+    local want=3
+    case $1 in *': --'*) want=2 ;; esac
+    [ "$status" = $want ] && [ ! -s "$work/out" ] && [ "$(cat "$work/err")" = "$1" ] && [ -z "$(ls "$work/parts")" ]
 }
 
 # is_refused_last LINE: the same, after what the shell says.
 is_refused_last() {
-    [ "$status" = 1 ] && [ ! -s "$work/out" ] && [ "$(tail -n 1 "$work/err")" = "$1" ] && [ -z "$(ls "$work/parts")" ]
+    [ "$status" = 4 ] && [ ! -s "$work/out" ] && [ "$(tail -n 1 "$work/err")" = "$1" ] && [ -z "$(ls "$work/parts")" ]
 }
 
 # Two exchanges of three and three rows, and an open command of one.
@@ -60,36 +63,36 @@ for awk in mawk 'gawk --posix' 'busybox awk'; do
     split_into "$capture" part
     judge "$awk: a short capture is one part" is_split "$first$second$open"
     judge "$awk: the names" [ "$(cat "$work/out")" = part-001.csv ]
-    split_into "$capture" "it's a part" -v rows=7
+    split_into "$capture" "it's a part" --rows 7
     judge "$awk: an exchange is not cut" is_split "$first" "$second$open"
     judge "$awk: names with blanks and marks" [ "$(cat "$work/out")" = "it's a part-001.csv
 it's a part-002.csv" ]
-    split_into "$capture" part -v rows=6
+    split_into "$capture" part --rows 6
     judge "$awk: full parts" is_split "$first" "$second" "$open"
-    split_into "${capture//\\n/\\r\\n}" part -v rows=12
+    split_into "${capture//\\n/\\r\\n}" part --rows 12
     judge "$awk: CRLF" is_split "$first$second" "$open"
     split_into 'time_us,wire,byte\n' part
     judge "$awk: a header alone is one part" is_split ''
-    split_into "$capture" part -v rows=5
-    judge "$awk: no place to cut" is_refused 'split.awk: line 7: no place between exchanges in 5 rows'
-    split_into "$capture" '' -v rows=5
-    judge "$awk: no name" is_refused 'split.awk: line 0: -v to=NAME is missing'
-    split_into "$capture" part -v rows=4000001
-    judge "$awk: too many rows asked for" is_refused 'split.awk: line 0: -v rows=N is no number from 1 to 4000000'
+    split_into "$capture" part --rows 5
+    judge "$awk: no place to cut" is_refused 'ninecheck split: line 7: no place between exchanges in 5 rows'
+    split_into "$capture" '' --rows 5
+    judge "$awk: no name" is_refused 'ninecheck split: line 0: --to NAME is missing'
+    split_into "$capture" part --rows 4000001
+    judge "$awk: too many rows asked for" is_refused 'ninecheck split: line 0: --rows is no number from 1 to 4000000: 4000001'
     split_into '1,C,20\n' part
-    judge "$awk: no header" is_refused 'split.awk: line 1: expected the header time_us,wire,byte: 1,C,20'
+    judge "$awk: no header" is_refused 'ninecheck split: line 1: expected the header time_us,wire,byte: 1,C,20'
     split_into '' part
-    judge "$awk: nothing at all" is_refused 'split.awk: line 0: expected the header time_us,wire,byte'
+    judge "$awk: nothing at all" is_refused 'ninecheck split: line 0: expected the header time_us,wire,byte'
     # Under its option --posix gawk does not tell what became of a pipe, so it runs without.
     awk=${awk% --posix} split_into "$capture" none/part
     judge "$awk: a folder that is not there" is_refused_last \
-        "split.awk: line 14: the part none/part-001.csv can't be written"
+        "ninecheck split: line 14: the part none/part-001.csv can't be written"
     # The names go to standard output by themselves, so each awk tells what became of them.
     printf "$capture" > "$work/in"
-    into_closed $awk -v to="$work/parts/part" -v rows=6 -f convert/split.awk
+    into_closed "$(script_under "$awk")" split --to "$work/parts/part" --rows 6
     judge "$awk: a reader of the names that has gone" [ "$status" = 141 -a ! -s "$work/err" ]
-    split_into "$capture"'22,C\n' part -v rows=6
-    judge "$awk: a bad row, and no part is left" is_refused 'split.awk: line 15: no row of a time, a wire and a byte: 22,C'
+    split_into "$capture"'22,C\n' part --rows 6
+    judge "$awk: a bad row, and no part is left" is_refused 'ninecheck split: line 15: no row of a time, a wire and a byte: 22,C'
 done
 
 # A capture of one row more than may be judged, of which each part is: the last byte but one begins an exchange.

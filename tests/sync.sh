@@ -10,13 +10,14 @@ need_tools python3
 . tests/lib/errors.sh
 . tests/lib/program.sh
 . tests/lib/blocks.sh
+. tests/lib/awk.sh
 
-# synced WORDS STATUS TEXT [FIRST]: the whole of what comes of $work/capture.csv with these words and --sync; FIRST is the first line
-# on standard error.
+# synced WORDS STATUS TEXT [FIRST [FIELD]]: the whole of what comes of $work/capture.csv with these words and --sync; FIRST is the
+# first line on standard error, and FIELD what a bad row has in the field that is wrong.
 synced() {
     # shellcheck disable=SC2086
     run $1 --sync "$work/capture.csv" < /dev/null
-    expect "$name: $1 --sync" "$2" "$3" "$(both_lines "${4-}")"
+    expect "$name: $1 --sync" "$2" "$3" "$(both_lines "${4-}" "${5-}")"
 }
 
 # text TEXT: makes $work/capture.csv of the header and these rows, with printf's escapes.
@@ -196,12 +197,12 @@ begins_at 'the last record of a reply, and a rest' 1
 capture_of "C 21 $at_limit D 10 01 11 $play"
 begins_at 'a rest at the limit before a reply' 4
 
-# refused NAME ROW WORD: the row is refused, and nothing is written.
+# refused NAME ROW WORD [FIELD]: the row is refused, for this field if it is one, and nothing is written.
 refused() {
     local words
     name=$1
     for words in check explain run why 'check --hands' 'check --all' 'explain --all' 'why --all'; do
-        synced "$words" 3 '' "unreadable at row $2: $3"
+        synced "$words" 3 '' "unreadable at row $2: $3" "${4-}"
     done
 }
 
@@ -209,13 +210,13 @@ refused() {
 text '400,D\n800,C,20\n1200,C,01\n'
 refused 'a bad row 1' 1 fields
 text '400,D,10\n800,D,1G\n1200,D,11\n1600,C,20\n2000,C,01\n2400,C,22\n'
-refused 'a bad row before the first command, which breaks a rule' 2 byte
+refused 'a bad row before the first command, which breaks a rule' 2 byte 1G
 text '400,D,11\n800,c,20\n1200,C,01\n'
-refused 'a bad row in the place of the first command' 2 wire
+refused 'a bad row in the place of the first command' 2 wire c
 text '800,D,11\n400,C,20\n800,C,01\n'
-refused 'a time that falls in the place of the first command' 2 backwards
+refused 'a time that falls in the place of the first command' 2 backwards 400
 text '400,D,10\n800,D,01\n,D,11\n'
-refused 'a bad row where no record begins a command' 3 time
+refused 'a bad row where no record begins a command' 3 time ''
 printf 'time,wire,byte\n400,D,11\n800,C,20\n' > "$work/capture.csv"
 refused 'a wrong header' 0 header
 : > "$work/capture.csv"
@@ -226,10 +227,10 @@ name='a bad row after an exchange'
 records "D 11 $play" > "$work/capture.csv"
 echo '3200,C,2' >> "$work/capture.csv"
 for words in check run why 'check --hands' 'check --all' 'why --all'; do
-    synced "$words" 3 '' 'unreadable at row 8: byte'
+    synced "$words" 3 '' 'unreadable at row 8: byte' 2
 done
 for words in explain 'explain --all'; do
-    synced "$words" 3 "$(told 7 400)" 'unreadable at row 8: byte'
+    synced "$words" 3 "$(told 7 400)" 'unreadable at row 8: byte' 2
 done
 
 # Behind a break no row is looked at, unless judging goes on.
@@ -460,8 +461,8 @@ for file in examples/*.csv; do
             "$program" $words "$work/rest.csv" > "$work/of_rest"
             for view in digest delays motion; do
                 name="$view of $words, $(basename "$file") without its first $cut records"
-                awk -v sync=1 -v capture="$work/capture.csv" -f view/$view.awk < "$work/report" 2>&1 | moved 0 > "$work/out"
-                awk -v capture="$work/rest.csv" -f view/$view.awk < "$work/of_rest" 2>&1 | moved "$by" > "$work/want"
+                awk -v sync=1 -v capture="$work/capture.csv" $(files_of $view) < "$work/report" 2>&1 | moved 0 > "$work/out"
+                awk -v capture="$work/rest.csv" $(files_of $view) < "$work/of_rest" 2>&1 | moved "$by" > "$work/want"
                 if [ "$view" = motion ]; then
                     sed -i -E 's/^( .*[^ ]) +[0-9]+(  [A-Z])/\1\2/' "$work/out" "$work/want"
                 fi
@@ -473,7 +474,7 @@ done
 awk 'NR == 1 || NR > 5' examples/in-point.csv > "$work/capture.csv"
 "$program" explain --sync "$work/capture.csv" > "$work/report"
 for view in digest delays motion; do
-    awk -v sync=1 -v capture=examples/in-point.csv -f view/$view.awk < "$work/report" > "$work/out" 2> "$work/err"
+    awk -v sync=1 -v capture=examples/in-point.csv $(files_of $view) < "$work/report" > "$work/out" 2> "$work/err"
     judge "$view with another capture" [ -s "$work/err" ]
 done
 
@@ -496,8 +497,8 @@ END
 awk 'NR == 1 || NR > 8' "$work/capture.csv" > "$work/rest.csv"
 "$program" check --sync "$work/capture.csv" > "$work/report"
 "$program" check "$work/rest.csv" > "$work/of_rest"
-awk -v sync=1 -v capture="$work/capture.csv" -f view/picture.awk < "$work/report" 2>&1 | moved 0 > "$work/out"
-awk -v capture="$work/rest.csv" -f view/picture.awk < "$work/of_rest" 2>&1 | moved 7 > "$work/want"
+awk -v sync=1 -v capture="$work/capture.csv" $(files_of picture) < "$work/report" 2>&1 | moved 0 > "$work/out"
+awk -v capture="$work/rest.csv" $(files_of picture) < "$work/of_rest" 2>&1 | moved 7 > "$work/want"
 judge 'a picture of what was judged' cmp "$work/out" "$work/want"
 judge 'a picture with the command' grep -q '>PLAY<' "$work/out"
 

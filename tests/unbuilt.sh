@@ -7,8 +7,9 @@ cd "$(dirname "$0")/.." || exit 1
 
 tree=$work/tree
 mkdir -p "$tree/crates/ninecheck/src" "$tree/a folder" "$work/bin" "$work/temporary"
-cp -r ninecheck ./make "$tree/"
+cp -r ninecheck ./make ./view ./convert "$tree/"
 echo 'a capture' > "$tree/a folder/play.csv"
+(cd "$tree" && find . | LC_ALL=C sort) > "$work/before"
 first='ninecheck: not built yet: this answer comes from the same code with run-time checks and without its proof; `make` proves and builds it'
 advice='ninecheck: run `make`: it proves and builds the program, which has no such limit'
 
@@ -45,11 +46,11 @@ stand_in 1 'no at record 7: P1 reply without a command\n' \
 ask check 'a folder/play.csv' < /dev/null
 judge 'a no' is_text 1 'no at record 7: P1 reply without a command' "$first"
 judge 'a file by its whole path' was_told "[check][$tree/a folder/play.csv]"
-stand_in 3 '' 'unreadable at row 7: byte\nexpected two hexadecimal digits\nchecked: ended status=3\nrun=ended status=3 runners=1 proved=no\n'
+stand_in 3 '' 'unreadable at row 7: byte\nexpected two hexadecimal digits; the row has "G1"\nchecked: ended status=3\nrun=ended status=3 runners=1 proved=no\n'
 ask explain --hands "$tree/a folder/play.csv" < /dev/null
 judge 'a bad row' is_text 3 '' "$first
 unreadable at row 7: byte
-expected two hexadecimal digits"
+expected two hexadecimal digits; the row has \"G1\""
 judge 'a file that is named by its whole path' was_told "[explain][--hands][$tree/a folder/play.csv]"
 
 # A file that can't be read is told by the name that it was given, however often it is named.
@@ -84,6 +85,41 @@ done
 ask help check < /dev/null
 judge 'words that are handed on as they are' was_told '[help][check]'
 
+# A rate is no file, and a sheet is none that the capture is read from.
+printf 'a row\n' | ask check --rate 30 --deck 'a folder/sheet.toml' --hands
+judge 'a rate and a sheet, with standard input' was_told "[check][--rate][30][--deck][$tree/a folder/sheet.toml][--hands]a row"
+ask check --rate=30 --deck=sheet.toml 'a folder/play.csv' < /dev/null
+judge 'a rate and a sheet in one word each' was_told "[check][--rate=30][--deck=$tree/sheet.toml][$tree/a folder/play.csv]"
+
+# The words that ask the program ask the trial, and tell its first line once.
+cp examples/play.csv "$tree/a folder/play.csv"
+ended='checked: ended status=0\nrun=ended status=0 runners=1 proved=no\n'
+exchange='records 1 to 6 at 400: PLAY 20 01 21 -> 10 01 11, delay 400, goal PLAY, shown unknown, in unknown, out unknown, local unknown, ain unknown, aout unknown'
+stand_in 0 "$exchange\nyes: records 6, exchanges 1, open 0\n" "$ended"
+ask digest 'a folder/play.csv' < /dev/null
+judge 'a digest' is_text 0 'record 6, 0.002400 s: PLAY -> ACK, goal: unknown => PLAY
+yes: records 6, exchanges 1, open 0
+known, of 1 exchanges: shown 0.0 %, in 0.0 %, out 0.0 %, local 0.0 %, ain 0.0 %, aout 0.0 %' "$first"
+judge 'a digest asks for an explanation with bytes' was_told "[explain][--bytes][--][$tree/a folder/play.csv]"
+for word in delays motion json; do
+    ask $word 'a folder/play.csv' < /dev/null
+    judge "$word" eval '[ "$status" = 0 ] && [ -s "$work/out" ] && [ "$(cat "$work/err")" = "$first" ]'
+done
+stand_in 0 'breaks 0: records 6, exchanges 1, passed over 0, open 0\n' "$ended"
+ask try --all < "$tree/a folder/play.csv"
+judge 'try' eval '[ "$status" = 0 ] && [ "$(wc -l < "$work/out")" = 8 ] && [ "$(cat "$work/err")" = "$first" ]'
+judge 'a line of try' [ "$(tail -n 1 "$work/out")" = '--rate 29.97df --hands: breaks 0: records 6, exchanges 1, passed over 0, open 0' ]
+stand_in 1 'no at record 4: L1 late reply\n' "$ended"
+ask why 'a folder/play.csv' < /dev/null
+judge 'why asks once' is_text 1 'no at record 4: L1 late reply' "$first"
+stand_in 6 '' 'checked: no-answer: the program wrote more than 1048576 bytes to standard output\nrun=no-answer proved=no\n'
+ask digest 'a folder/play.csv' < /dev/null
+judge 'a digest without an answer' is_text 125 '' "$first
+ninecheck: no answer: it has over 1 MiB
+$advice"
+ask convert sigrok --samplerate 2000000 < examples/exports/sigrok.txt
+judge 'a converter asks nobody' eval '[ "$status" = 0 ] && cmp "$work/out" examples/exports/sigrok-capture.csv && [ ! -s "$work/err" ]'
+
 # No answer: why, and what to do.
 while IFS='|' read -r name checked why; do
     stand_in 6 '' "interpreter: no-answer: a call\nchecked: $checked\nrun=no-answer proved=no\n"
@@ -115,16 +151,20 @@ mkdir "$work/few"
 for tool in sh bash cat dirname mktemp readlink rm; do ln -s "$(command -v $tool)" "$work/few/$tool"; done
 (cd "$tree" && PATH="$work/few" ./ninecheck check absent) > "$work/out" 2> "$work/err"
 status=$?
-judge 'no rt on the path' is_text 125 '' "$first
-ninecheck: no answer: it takes \`rt\`, the command of the Rattle kit, and that is not on the path
-$advice"
+judge 'no rt on the path' is_text 125 '' "ninecheck: no answer: it is not built here, and \`rt\`, the command of the Rattle kit, is not on the path
+ninecheck: install a package that was made where the kit is (\`make deb\`, \`make dist\`): it needs neither"
 
-judge 'nothing stays in the tree' eval '[ "$(cd "$tree" && find . | LC_ALL=C sort | head -n 4 | tr "\n" " ")" = ". ./a folder ./a folder/play.csv ./crates " ] && [ ! -e "$tree/crates/ninecheck/out" ]'
+(cd "$tree" && find . | LC_ALL=C sort) > "$work/after"
+judge 'nothing stays in the tree' cmp "$work/before" "$work/after"
 judge 'nothing stays among the temporary files' eval '[ -z "$(ls -A "$work/temporary")" ]'
 
 # Where the program is installed there is no trial.
-mkdir -p "$work/installed/bin"
+mkdir -p "$work/installed/bin" "$work/installed/share/ninecheck"
 cp ninecheck "$work/installed/bin/"
+"$work/installed/bin/ninecheck" check > "$work/out" 2> "$work/err" < /dev/null
+status=$?
+judge 'an installation without its words' is_text 125 '' "ninecheck: $work/installed/share/ninecheck is missing: install it again"
+cp -r view convert "$work/installed/share/ninecheck"
 "$work/installed/bin/ninecheck" check > "$work/out" 2> "$work/err" < /dev/null
 status=$?
 judge 'an installation without its program' is_text 125 '' 'ninecheck: the program is missing: install it again'

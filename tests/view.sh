@@ -16,7 +16,8 @@ mkdir "$TMPDIR"
 
 # view NAME WORDS: the view on standard input; its streams are left in $work/out and $work/err.
 view() {
-    $awk $2 -f "view/$1" > "$work/out" 2> "$work/err"
+    # shellcheck disable=SC2046
+    $awk $2 $(files_of "${1%.awk}") > "$work/out" 2> "$work/err"
     status=$?
 }
 
@@ -93,7 +94,10 @@ what was known in the part before|digest|record 8: STATUS SENSE -> 71 20, @in se
 nothing open, and no record before|json|record 1 at 0: D 10\nno at record 1: P1 reply without a command\n|{"line":"breaking_record","record":1,"time_us":0,"wire":"D","byte":"10"}\n{"line":"verdict","verdict":"no","record":1,"reason":"P1","text":"reply without a command"}\n
 a yes alone|digest|yes: records 0, exchanges 0, open 0\n|yes: records 0, exchanges 0, open 0\n
 a command that changes nothing|digest|record 6: PLAY -> ACK, @unknown\nyes: records 7, exchanges 1, open 1\n|record 6: PLAY -> ACK\nyes: records 7, exchanges 1, open 1\n@known 1 0.0\n
-a command that is not listed|digest|record 6: 60 40 -> ACK, @unknown\nno at record 7: P1 reply without a command\n|record 6: 60 40 -> ACK\nno at record 7: P1 reply without a command\n@known 1 0.0\n
+a command that is not listed|digest|record 6: 20 40 -> ACK, @unknown\nno at record 7: P1 reply without a command\n|record 6: 20 40 -> ACK\nno at record 7: P1 reply without a command\n@known 1 0.0\n
+polls that are not listed, of group 6 and with data|digest|record 6: 60 40 -> ACK, @unknown\nrecord 12: 61 0A -> NAK 01 undefined, @unknown\nrecord 18: 20 40 -> 74 08, @unknown\nrecord 24: A0 40 -> 13 11, @unknown\nyes: records 24, exchanges 4, open 0\n|... 1 60 40, 1 61 0A -> NAK 01 undefined, 1 20 40, 1 A0 40\nyes: records 24, exchanges 4, open 0\n@known 4 0.0\n
+a poll that a sheet names, with its bytes|digest|records 1 to 8 at 400: TC GEN SENSE 61 0A 01 6C -> 71 20 00 91, @unknown\nyes: records 8, exchanges 1, open 0\n|... 1 TC GEN SENSE\nyes: records 8, exchanges 1, open 0\n@known 1 0.0\n
+a command that a sheet names, and a listed one with data|digest|record 6: FULL EE ON -> ACK, @unknown\nrecord 12: PLAY -> 13 11, @unknown\nrecord 18: IN SHIFT + -> 13 11, @unknown\nyes: records 18, exchanges 3, open 0\n|record 6: FULL EE ON -> ACK\nrecord 12: PLAY -> 13 11\nrecord 18: IN SHIFT + -> 13 11\nyes: records 18, exchanges 3, open 0\n@known 3 0.0\n
 a field that is no longer known is told once for each value|digest|record 8: STATUS SENSE -> 71 20, @in set\nrecord 16: STATUS SENSE -> 71 20, @unknown\nrecord 24: STATUS SENSE -> 71 20, @in set\nrecord 32: DEVICE TYPE -> 12 11, @unknown\nrecord 40: STATUS SENSE -> 71 20, @in clear\nrecord 48: STATUS SENSE -> 71 20, @unknown\nrecord 56: STATUS SENSE -> 71 20, @in clear\nrecord 62: PLAY -> ACK, @unknown\nyes: records 62, exchanges 8, open 0\n|record 8: STATUS SENSE -> 71 20, in: unknown => set\nrecord 16: STATUS SENSE -> 71 20, in: set => unknown\n... 1 STATUS SENSE, 1 DEVICE TYPE\nrecord 40: STATUS SENSE -> 71 20, in: set => clear\nrecord 48: STATUS SENSE -> 71 20, in: clear => unknown\n... 1 STATUS SENSE\nrecord 62: PLAY -> ACK, in: clear => unknown\nyes: records 62, exchanges 8, open 0\n@known 8 25.0 set 25.0\nno longer known after STATUS SENSE: in 2\nno longer known after DEVICE TYPE: in 1\nno longer known after PLAY: in 1\n
 every question|digest|record 7: AUDIO OUT DATA SENSE -> 74 13, @unknown\nrecord 14: AUDIO IN DATA SENSE -> 74 12, @unknown\nrecord 21: OUT DATA SENSE -> 74 11, @unknown\nrecord 28: IN DATA SENSE -> 74 10, @unknown\nrecord 35: DEVICE TYPE -> 12 11, @unknown\nrecord 43: CURRENT TIME SENSE -> 74 04, @unknown\nrecord 50: STATUS SENSE -> 72 20, @unknown\nyes: records 50, exchanges 7, open 0\n|... 1 AUDIO OUT DATA SENSE, 1 AUDIO IN DATA SENSE, 1 OUT DATA SENSE, 1 IN DATA SENSE, 1 DEVICE TYPE, 1 CURRENT TIME SENSE, 1 STATUS SENSE\nyes: records 50, exchanges 7, open 0\n@known 7 0.0\n
 what a command took away|digest|record 8: STATUS SENSE -> 71 20, delay 400, goal unknown, shown PLAY, in set, out clear, local no, ain unknown, aout unknown\nrecord 14: 20 61 -> ACK, delay 400, goal unknown, shown unknown, in unknown, out unknown, local no, ain unknown, aout unknown\nyes: records 14, exchanges 2, open 0\n|record 8: STATUS SENSE -> 71 20, shown: unknown => PLAY, in: unknown => set, out: unknown => clear, local: unknown => no\nrecord 14: 20 61 -> ACK, shown: PLAY => unknown, in: set => unknown, out: clear => unknown\nyes: records 14, exchanges 2, open 0\nknown, of 2 exchanges: shown 50.0 %%, in 0.0 %% (set 50.0 %%), out 50.0 %%, local 100.0 %%, ain 0.0 %%, aout 0.0 %%\nno longer known after 20 61: in 1, out 1\n
@@ -111,7 +115,7 @@ refused_by() {
         what=$(text_of "$what")
         for view in $1; do
             view "$view.awk" '' < "$work/in"
-            judge "$awk: $view: $name" is_refused "$view.awk: line $line: $what"
+            judge "$awk: $view: $name" is_refused "ninecheck $view: line $line: $what"
         done
     done
 }
@@ -254,7 +258,7 @@ bad_explanations() {
         what=$(text_of "$what")
         for view in digest delays; do
             view "$view.awk" "$words" < "$work/in"
-            judge "$awk: $view: $name" is_refused "$view.awk: line $line: ${what/@capture/$work/beside.csv}"
+            judge "$awk: $view: $name" is_refused "ninecheck $view: line $line: ${what/@capture/$work/beside.csv}"
         done
     done <<'END'
 a run|1|a line of a run, and not of an explanation: record 6: @state|-|record 6: @state\nyes: records 6, exchanges 1, open 0\n
@@ -282,25 +286,25 @@ bad_captures() {
     local view
     view digest.awk '-v capture=examples/play.csv' < examples/views/session.txt
     judge "$awk: digest: the capture of another explanation" is_refused \
-        'digest.awk: line 1: the capture ends before record 8: examples/play.csv'
+        'ninecheck digest: line 1: the capture ends before record 8: examples/play.csv'
     text_of 'record 3: PLAY -> ACK, @unknown\nyes: records 6, exchanges 1, open 3\n' > "$work/in"
     view digest.awk '-v capture=examples/play.csv' < "$work/in"
     judge "$awk: digest: a reply on the other wire" is_refused \
-        'digest.awk: line 1: record 3 of the capture is on the other wire: examples/play.csv'
+        'ninecheck digest: line 1: record 3 of the capture is on the other wire: examples/play.csv'
     echo 'no at record 4: L1 late reply' > "$work/in"
     for view in digest delays; do
         view $view.awk '-v capture=examples/play.csv' < "$work/in"
         judge "$awk: $view: a reply that is not late" is_refused \
-            "$view.awk: line 1: record 4 of the capture is no late reply: examples/play.csv"
+            "ninecheck $view: line 1: record 4 of the capture is no late reply: examples/play.csv"
     done
     sed 's/^10488,/10487,/' examples/late-reply.csv > "$work/beside.csv"
     view delays.awk "-v capture=$work/beside.csv" < "$work/in"
     judge "$awk: delays: a reply just in time" is_refused \
-        "delays.awk: line 1: record 4 of the capture is no late reply: $work/beside.csv"
+        "ninecheck delays: line 1: record 4 of the capture is no late reply: $work/beside.csv"
     sed 's/delay 9287/delay 9288/' examples/views/session.txt > "$work/in"
     view delays.awk '' < "$work/in"
     judge "$awk: delays: a delay above the limit" is_refused \
-        "delays.awk: line 18: a delay above the limit of 9287: $(sed -n 18p "$work/in")"
+        "ninecheck delays: line 18: a delay above the limit of 9287: $(sed -n 18p "$work/in")"
 }
 
 # Many replies of one command, after 1 to 200 microseconds, and one of another after 700; and a late reply alone.
@@ -470,17 +474,17 @@ is_without_verdict() {
 full_device() {
     local view
     for view in digest delays json picture; do
-        ${awk% --posix} -v capture=examples/views/session.csv -f view/$view.awk < examples/views/session.txt > /dev/full 2> "$work/err"
+        ${awk% --posix} -v capture=examples/views/session.csv $(files_of $view) < examples/views/session.txt > /dev/full 2> "$work/err"
         status=$?
         judge "$awk: $view: a full device" [ "$status" = 1 ]
         judge "$awk: $view: the message of a full device" \
-            grep -q "^$view.awk: line 21: the view can't be written$" "$work/err"
-        TMPDIR=$work/none ${awk% --posix} -v capture=examples/views/session.csv -f view/$view.awk < examples/views/session.txt \
+            grep -q "^ninecheck $view: line 21: the view can't be written$" "$work/err"
+        TMPDIR=$work/none ${awk% --posix} -v capture=examples/views/session.csv $(files_of $view) < examples/views/session.txt \
             > "$work/out" 2> "$work/err"
         status=$?
         judge "$awk: $view: no room to keep the lines" [ "$status" = 1 ]
         judge "$awk: $view: the message of no room" \
-            [ "$(tail -n 1 "$work/err")" = "$view.awk: line 21: the view can't be written" ]
+            [ "$(tail -n 1 "$work/err")" = "ninecheck $view: line 21: the view can't be written" ]
     done
 }
 
@@ -489,7 +493,7 @@ closed_early() {
     local view
     cp examples/views/session.txt "$work/in"
     for view in digest delays motion json picture; do
-        into_closed $awk -v capture=examples/views/session.csv -f view/$view.awk
+        into_closed $awk -v capture=examples/views/session.csv $(files_of $view)
         judge "$awk: $view: a reader that has gone" is_silent
     done
 }
@@ -544,19 +548,5 @@ judge 'jq: the bits of a NAK' [ "$(jq -c 'select(.nak) | [.nak, .bits]' "$work/o
 # What awk prints for a number's point depends on the country, so none is asked for.
 grep -nE '%[-+0-9]*[.][1-9][0-9]*[feg]' view/*.awk convert/*.awk > "$work/out"
 judge 'numbers are printed without a point' [ ! -s "$work/out" ]
-
-# What the views have in common is the same in each.
-for view in digest delays motion json picture; do
-    sed -n '/^# From here on every view is the same/,$p' view/$view.awk > "$work/$view.every"
-    sed -n '/^# From here on digest.awk, delays.awk and motion.awk are the same/,$p' view/$view.awk > "$work/$view.some"
-done
-judge 'a common end' [ -s "$work/digest.every" ]
-judge 'the same end of delays.awk' cmp "$work/digest.every" "$work/delays.every"
-judge 'the same end of motion.awk' cmp "$work/digest.every" "$work/motion.every"
-judge 'the same end of json.awk' cmp "$work/digest.every" "$work/json.every"
-judge 'the same end of picture.awk' cmp "$work/digest.every" "$work/picture.every"
-judge 'a longer common end' [ -s "$work/digest.some" ]
-judge 'the same longer end of delays.awk' cmp "$work/digest.some" "$work/delays.some"
-judge 'the same longer end of motion.awk' cmp "$work/digest.some" "$work/motion.some"
 
 tell_counts

@@ -39,7 +39,7 @@ is_why() {
 while IFS='|' read -r file want_status want_out want_err; do
     case "$file" in '#'* | '') continue ;; esac
     why "examples/$file"
-    judge "examples/$file" is_why "$want_status" "$want_out" "$(both_lines "$want_err")"
+    judge "examples/$file" is_why "$want_status" "$want_out" "${want_err//|/$'\n'}"
     "$program" check --hands "examples/$file" > "$work/checked" 2> "$work/checked_err"
     want_status=$?
     why --hands "examples/$file"
@@ -334,9 +334,9 @@ no at record 4: L2 no reply'
 capture_of "C 20 01 21 $ack"
 echo '2800,C,G1' >> "$work/capture.csv"
 why "$work/capture.csv"
-judge 'a bad row' is_text 3 '' "$(both_lines 'unreadable at row 7: byte')"
+judge 'a bad row' is_text 3 '' "$(both_lines 'unreadable at row 7: byte' G1)"
 why "$work/capture.csv" --hands
-judge 'a bad row, with hands' is_text 3 '' "$(both_lines 'unreadable at row 7: byte')"
+judge 'a bad row, with hands' is_text 3 '' "$(both_lines 'unreadable at row 7: byte' G1)"
 capture_of "$remote $preset $sensed_at_11"
 echo '12000,C,G1' >> "$work/capture.csv"
 why "$work/capture.csv"

@@ -67,7 +67,7 @@ def write_report(verb, capture, path, last_line):
     return os.path.getsize(path)
 
 # Processor time of the view and of what it calls, and the greatest resident memory of the view itself.
-def measure(words, report, out):
+def measure(words, report, out, wanted=0):
     high = 0
     with open(report, 'rb') as text, open(out, 'wb') as to:
         child = subprocess.Popen(words, stdin=text, stdout=to)
@@ -79,7 +79,7 @@ def measure(words, report, out):
                 break
             time.sleep(0.01)
     child.returncode = os.waitstatus_to_exitcode(status)
-    if child.returncode != 0:
+    if child.returncode != wanted:
         sys.exit(f'{words}: status {child.returncode}')
     return used.ru_utime + used.ru_stime, high
 
@@ -96,13 +96,18 @@ for name, verb, capture, last_line in (('check', 'check', late, no), ('explain',
 too_much = False
 for view, report in (('digest', 'explain'), ('delays', 'explain'), ('motion', 'explain'), ('json', 'explain'), ('json', 'run'),
                      ('json', 'why'), ('picture', 'check'), ('picture', 'why'), ('clock', 'explain')):
-    words = ['mawk', '-f', f'{views}/{view}.awk']
+    listed = subprocess.run(['sh', '-c', '. "$1/files.sh" && view_files "$2"', 'sh', views, view], capture_output=True, text=True)
+    words = ['mawk'] + [word for file in listed.stdout.split() for word in ('-f', f'{views}/{file}.awk')]
     if view not in ('json', 'clock'):
         words[1:1] = ['-v', f'capture={late}']
     seconds, high = measure(words, f'{work}/{report}', f'{work}/view')
     too_much = too_much or seconds > SECONDS or high > KILOBYTES
     print(f'{view} of {report} ({sizes[report] / 1e6:.1f} MB): {seconds:.1f} s, {high / 1000:.1f} MB, '
           f'{os.path.getsize(f"{work}/view") / 1e6:.1f} MB written')
+# The page asks the program by itself. The memory is that of the shell.
+seconds, _ = measure([f'{views}/../ninecheck', 'page', late], late, f'{work}/view', 1)
+too_much = too_much or seconds > SECONDS
+print(f'page: {seconds:.1f} s, {os.path.getsize(f"{work}/view") / 1e6:.1f} MB written')
 if too_much:
     sys.exit(f'more than {SECONDS} s or {KILOBYTES // 1000} MB')
 PY

@@ -1,5 +1,25 @@
-# To be sourced by a script of tests that runs a view or a converter, after judge.sh: what the last run made, whose status is in
-# $status and whose streams are in the folder $work.
+# To be sourced by a script of tests that runs a view or a converter, after judge.sh: of which awk files that is, and what the last
+# run made, whose status is in $status and whose streams are in the folder $work.
+
+. view/files.sh
+
+# files_of VIEW: the words of awk that name its files.
+files_of() {
+    local file
+    for file in $(view_files "$1"); do echo "-f view/$file.awk"; done
+}
+
+# script_under AWK: a script that is `ninecheck` where this is the awk on the path.
+script_under() {
+    local place=$work/under/$1
+    if [ ! -e "$place/ninecheck" ]; then
+        mkdir -p "$place/bin"
+        printf '#!/bin/sh\nexec %s "$@"\n' "$(command -v "${1%% *}")${1#"${1%% *}"}" > "$place/bin/awk"
+        printf '#!/bin/sh\nPATH="%s:$PATH" exec "%s" "$@"\n' "$place/bin" "$PWD/ninecheck" > "$place/ninecheck"
+        chmod +x "$place/bin/awk" "$place/ninecheck"
+    fi
+    echo "$place/ninecheck"
+}
 
 # is_made FILE: the run made this text and said nothing.
 is_made() {

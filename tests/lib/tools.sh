@@ -22,6 +22,22 @@ need_tools() {
     exit 1
 }
 
+# need_module MODULE PACKAGE: the same for a module of Debian's own Python, which is /usr/bin/python3.
+need_module() {
+    has_module "$1" && return
+    (
+        flock 9 || exit 1
+        ! has_module "$1" || exit 0
+        export DEBIAN_FRONTEND=noninteractive
+        apt-get update -qq && apt-get install -y -qq "$2"
+    ) 9> "${TMPDIR:-/tmp}/ninecheck-tools-$(id -u).lock" > /dev/null 2>&1
+    has_module "$1" && return
+    echo "FAILED not there, and can't be installed: the module $1"
+    echo '0 passed, 1 failed'
+    exit 1
+}
+has_module() { /usr/bin/python3 -c "import $1" > /dev/null 2>&1; }
+
 # missing_tools TOOL...: those of these tools that are not there, parted by blanks.
 missing_tools() {
     local tool missing=

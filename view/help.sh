@@ -1,0 +1,165 @@
+# To be sourced: what `--help` says of the words that are not the program's own.
+
+# bench_words: a line for each, as `ninecheck help` has it.
+bench_words() {
+    cat <<'END'
+For the bench:
+  convert  Make a capture of what sigrok, Saleae Logic or a serial logger exports
+  split    Cut a long capture into parts
+  try      Ask at each frame rate, without hands and with, and with a sheet
+  digest   What happened: each command, and each change of what is known
+  delays   How long the deck took to reply
+  motion   What the deck did after each transport command
+  touches  Where somebody must have touched the deck's front panel
+  picture  A picture (SVG) of the record that breaks a rule
+  page     The whole session as one page (HTML), to look at and to send on
+  json     A JSON object for each line of a report
+  clock    A text with its times as a clock
+END
+}
+
+# word_usage: how the word is used, in a line.
+word_usage() {
+    case $word in
+        'convert sigrok') echo 'Usage: ninecheck convert sigrok --samplerate <N> [OPTIONS] [FILE]' ;;
+        'convert saleae') echo 'Usage: ninecheck convert saleae [OPTIONS] [FILE]...' ;;
+        'convert log') echo 'Usage: ninecheck convert log --controller <PORT> --deck <PORT> [OPTIONS] [FILE]' ;;
+        convert) echo 'Usage: ninecheck convert <sigrok|saleae|log> [OPTIONS] [FILE]' ;;
+        split) echo 'Usage: ninecheck split --to <NAME> [OPTIONS] [FILE]' ;;
+        json) echo 'Usage: ninecheck json [check|explain|run|why] [OPTIONS] [FILE]' ;;
+        *) echo "Usage: ninecheck $word [OPTIONS] [FILE]" ;;
+    esac
+}
+
+# show_help WORD: all that is said of it. The status is that of the program's help.
+show_help() {
+    word=$1
+    word_about
+    echo
+    word_usage
+    case $word in
+        convert* | split | clock | try) echo && word_options ;;
+        *)
+            echo
+            ask "$asks" --help | sed -n '/^Arguments:/,$p' | without_options
+            word_options ;;
+    esac
+    exit 2
+}
+
+# without_options: what the program says of its options, without those that the word does not need.
+without_options() {
+    case $word in
+        page) grep -v '^ *--bytes \|^ *--all \|^ *--line-buffered ' ;;
+        touches) grep -v '^ *--hands ' ;;
+        *) cat ;;
+    esac
+}
+
+# word_about: what it makes.
+word_about() {
+    case $word in
+        convert*) echo 'Makes a capture of an export of both wires, and writes it to standard output' ;;
+        split) echo 'Cuts a capture into parts that begin between exchanges: NAME-001.csv, NAME-002.csv and so on' ;;
+        try) echo 'Judges a capture at each frame rate, without hands and with, and with a sheet and without: a line for each' ;;
+        digest) echo 'Folds an explanation: each command, and each query that changed what is known; others are counted' ;;
+        delays) echo 'Counts how long the deck took to reply, for each command and overall' ;;
+        motion) echo 'Tells what the deck did after each transport command that it acknowledged; it judges nothing' ;;
+        touches) echo "Tells where somebody must have touched the deck's front panel, as seldom as possible, and what changed" ;;
+        picture) echo 'Draws the record that breaks a rule, or the replies that contradict one another, as an SVG' ;;
+        page) echo 'Makes a page of the whole capture: HTML that needs no network, to look at and to send on' ;;
+        json) echo 'Makes a JSON object of each line of a report; of explain if no subcommand is named' ;;
+        clock) echo 'Writes the times of a text as a clock: of a report, of a digest or of a motion' ;;
+    esac
+}
+
+# word_options: what it takes beside the words of the subcommand that it asks.
+word_options() {
+    case $word in
+        'convert sigrok') cat <<'END' ;;
+Arguments:
+  [FILE]  What sigrok-cli printed of both wires; standard input if left out
+
+Options:
+      --samplerate <N>  The recording's number of samples a second
+      --from <SECONDS>  Leave out the bytes before this time of the export
+      --to <SECONDS>    Leave out the bytes from this time of the export on
+END
+        'convert saleae') cat <<'END' ;;
+Arguments:
+  [FILE]...  The export; of two files without names the controller's first; standard input if left out
+
+Options:
+      --controller <ANALYZER>  The name of the controller's analyzer
+      --deck <ANALYZER>        The name of the deck's analyzer
+      --from <SECONDS>         Leave out the bytes before this time of the export
+      --to <SECONDS>           Leave out the bytes from this time of the export on
+END
+        'convert log') cat <<'END' ;;
+Arguments:
+  [FILE]  The log; standard input if left out
+
+Options:
+      --controller <PORT>  The controller's port, as the log names it
+      --deck <PORT>        The deck's port
+      --unit <UNIT>        The timestamps are a counter of milliseconds (ms) or microseconds (us)
+      --live               Write each row as soon as it can be, of a log that grows
+      --from <SECONDS>     Leave out the bytes before this time of the log
+      --to <SECONDS>       Leave out the bytes from this time of the log on
+END
+        convert) cat <<'END' ;;
+Exports:
+  sigrok  What sigrok-cli prints of both wires
+  saleae  The CSV of two Async Serial analyzers of Saleae Logic
+  log     A serial log of two ports, with a timestamp on each line
+
+See `ninecheck convert sigrok --help` and so on for the options.
+END
+        split) cat <<'END' ;;
+Arguments:
+  [FILE]  The capture; standard input if left out
+
+Options:
+      --to <NAME>  How the parts are called
+      --rows <N>   The most rows of a part: 4000000 if left out
+END
+        clock) cat <<'END' ;;
+Arguments:
+  [FILE]  The text; standard input if left out
+
+Options:
+      --seconds  Write the times in seconds
+END
+        try) cat <<'END' ;;
+Arguments:
+  [FILE]  The capture of both wires of the RS-422 line, as CSV; standard input if left out
+
+Options:
+      --all          Go on after each break: a line has the totals, and a yes is no break
+      --sync         The capture may begin inside a command or a reply
+      --deck <FILE>  A sheet of what this deck does of its own: asked with it, and without
+END
+        picture) cat <<'END' ;;
+
+Of the picture:
+      --at <RECORD>  With --all the break at this record; the first if left out
+      --width <N>    The greatest width in pixels, from 700 on; 1200 if left out
+END
+    esac
+}
+
+# top_help WORDS...: what the program says of itself, with the other words below its own. The status is the program's.
+top_help() {
+    case ${2-} in
+        convert | split | try | digest | delays | motion | touches | picture | page | json | clock)
+            [ "$1" != help ] || exec "$self" "$2" --help ;;
+    esac
+    (run_program "$@")
+    status=$?
+    case $status:$#:${2-} in
+        2:0:) { echo && bench_words; } >&2 ;;
+        2:1:) echo && bench_words ;;
+        2:2:why) echo && echo "      --quiet  Without the line on standard error that says what to ask next" ;;
+    esac
+    exit $status
+}
