@@ -1,31 +1,49 @@
 # Completes the words of ninecheck in bash.
+
+# _ninecheck_options WORD...: the options of a word, or of an export.
+_ninecheck_options() {
+    local judging='--hands --sync --all --line-buffered --rate --deck'
+    case $1 in
+        check) echo "$judging --help" ;;
+        explain | digest | delays | motion | json) echo "--bytes $judging --help" ;;
+        why) echo "$judging --quiet --help" ;;
+        run) echo '--hands --sync --rate --deck --help' ;;
+        picture) echo "--at --width $judging --help" ;;
+        touches) echo '--sync --rate --deck --help' ;;
+        page) echo '--hands --sync --rate --deck --help' ;;
+        try) echo '--all --sync --deck --help' ;;
+        clock) echo '--seconds --help' ;;
+        split) echo '--to --rows --help' ;;
+        sigrok) echo '--samplerate --from --to --help' ;;
+        saleae) echo '--controller --deck --from --to --help' ;;
+        log) echo '--controller --deck --unit --live --from --to --help' ;;
+    esac
+}
+
 _ninecheck() {
-    local word=${COMP_WORDS[COMP_CWORD]} before=${COMP_WORDS[COMP_CWORD - 1]} options='--hands --sync --all --line-buffered --rate --deck --help'
+    local word=${COMP_WORDS[COMP_CWORD]} before=${COMP_WORDS[COMP_CWORD - 1]} asked=${COMP_WORDS[1]}
+    local words='check explain run why convert split try digest delays motion touches picture page json clock help'
     if [ "$COMP_CWORD" = 1 ]; then
-        mapfile -t COMPREPLY < <(compgen -W 'check explain run why help --help --version' -- "$word")
+        mapfile -t COMPREPLY < <(compgen -W "$words --help --version" -- "$word")
         return
     fi
-    case ${COMP_WORDS[1]} in
-        check | explain | run | why)
-            [ "${COMP_WORDS[1]}" != run ] || options='--hands --sync --rate --deck --help'
-            [ "${COMP_WORDS[1]}" != explain ] || options="--bytes $options"
-            # In `--rate=25` the equals sign is a word of its own.
-            [ "$word" != = ] || word=
-            [ "$before" != = ] || before=${COMP_WORDS[COMP_CWORD - 2]}
-            if [ "$before" = --rate ]; then
-                mapfile -t COMPREPLY < <(compgen -W '24 25 30 29.97df' -- "$word")
-                return
-            fi
-            if [ "$before" = --deck ]; then
-                mapfile -t COMPREPLY < <(compgen -f -- "$word")
-                return
-            fi
-            case $word in
-                -*) mapfile -t COMPREPLY < <(compgen -W "$options" -- "$word") ;;
-                *) mapfile -t COMPREPLY < <(compgen -f -- "$word") ;;
-            esac
-            ;;
-        help) mapfile -t COMPREPLY < <(compgen -W 'check explain run why help' -- "$word") ;;
+    case $asked:$COMP_CWORD in
+        help:2) mapfile -t COMPREPLY < <(compgen -W "$words" -- "$word") && return ;;
+        convert:2) mapfile -t COMPREPLY < <(compgen -W 'sigrok saleae log --help' -- "$word") && return ;;
+        json:2) [[ $word == -* ]] || { mapfile -t COMPREPLY < <(compgen -fW 'check explain run why' -- "$word") && return; } ;;
+    esac
+    [ "$asked" != convert ] || asked=${COMP_WORDS[2]}
+    # In `--rate=25` the equals sign is a word of its own.
+    [ "$word" != = ] || word=
+    [ "$before" != = ] || before=${COMP_WORDS[COMP_CWORD - 2]}
+    case $before in
+        --rate) mapfile -t COMPREPLY < <(compgen -W '24 25 30 29.97df' -- "$word") && return ;;
+        --unit) mapfile -t COMPREPLY < <(compgen -W 'ms us' -- "$word") && return ;;
+    esac
+    case $before:$word in
+        --deck:*) mapfile -t COMPREPLY < <(compgen -f -- "$word") ;;
+        *:-*) mapfile -t COMPREPLY < <(compgen -W "$(_ninecheck_options "$asked")" -- "$word") ;;
+        *) mapfile -t COMPREPLY < <(compgen -f -- "$word") ;;
     esac
 }
 complete -o filenames -F _ninecheck ninecheck
