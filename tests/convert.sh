@@ -340,11 +340,11 @@ open_log() {
     judge "$awk: an open log, once it has ended" is_made "$work/want"
 }
 
-# is_soon TEXT: within two seconds this is what was made, with printf's escapes.
+# is_soon TEXT: within twenty seconds this is what was made, with printf's escapes.
 is_soon() {
     local look
     printf "$1" > "$work/want"
-    for look in {1..40}; do
+    for look in {1..400}; do
         ! cmp -s "$work/out" "$work/want" || return 0
         sleep 0.05
     done
@@ -473,18 +473,13 @@ judge "the page's commands: $commands" [ "$commands" = 7 ]
 # wire's bytes are sent once its port is set as the page sets it.
 sed -n '/^    for port in /,/^$/{s/^    //p;/^$/q}' docs/CAPTURE.md > "$work/log.sh"
 PYTHONPATH=tests/lib python3 -B - "$work" > "$work/out" 2> "$work/err" <<'PY'
-import os, subprocess, sys
-from ports import close_ports, must_wait_for, send, with_ports
+import subprocess, sys
+from ports import close_ports, lines_of, must_wait_for, send, with_ports
 work = sys.argv[1]
-
-def logged():
-    path = f'{work}/serial.log'
-    return len(open(path).readlines()) if os.path.exists(path) else 0
-
 logging = subprocess.Popen(['sh', '-c', with_ports(open(f'{work}/log.sh').read())], cwd=work)
 for k, sent in enumerate((bytes([0x20, 0x01, 0x21]), bytes([0x10, 0x01, 0x11]))):
     send(k, sent)
-    must_wait_for(lambda: logged() == 3 * k + 3)
+    must_wait_for(lambda: lines_of(f'{work}/serial.log') == 3 * k + 3)
 close_ports()
 sys.exit(logging.wait())
 PY

@@ -31,10 +31,10 @@ end() {
     status=$?
 }
 
-# ends_soon LINE: within five seconds the last line that was written begins so.
+# ends_soon LINE: within twenty seconds the last line that was written begins so.
 ends_soon() {
     local tries
-    for ((tries = 0; tries < 100; tries++)); do
+    for ((tries = 0; tries < 400; tries++)); do
         case $(tail -n 1 "$work/out") in "$1"*) [ -n "$1" ] || [ ! -s "$work/out" ] && return ;; esac
         sleep 0.05
     done

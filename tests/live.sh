@@ -11,20 +11,25 @@ need_tools python3 ts=moreutils
 ln -s "$PWD/ninecheck" "$work/ninecheck"
 sed -n '/^## While it is recorded/,/^## /{/^    for port in /,/^$/s/^    //p}' docs/CAPTURE.md > "$work/live.sh"
 
-# record END: the controller sends PLAY. The deck's reply is late, so that it is certain to stand after PLAY, and its sum is
-# wrong. Then one byte more comes. What stands on the screen is left in $work/replied and in $work/more, each once it has two
-# lines, or a second after the bytes. In the end the ports go, or where END is interrupt, the commands get what Ctrl-C sends, and
-# $work/taken says whether a byte that comes afterwards is read all the same.
+# record END: the controller sends PLAY. Once its bytes are in the log, and so have their times, the deck replies: too late, and
+# with a wrong sum. Then one byte more comes. What stands on the screen is left in $work/replied a second after the reply's first
+# break, and in $work/more once it has two lines. In the end the ports go, or where END is interrupt, the commands get what Ctrl-C
+# sends, and $work/taken says whether a byte that comes afterwards is read all the same.
 record() {
+    rm -f "$work/serial.log"
     PYTHONPATH=tests/lib python3 -B - "$work" "$1" 2> "$work/err" <<'PY'
 import os, select, shutil, signal, subprocess, sys, threading, time
-from ports import close_ports, ports, send, wait_for, with_ports
+from ports import close_ports, lines_of, must_wait_for, ports, send, wait_for, with_ports
 work, end = sys.argv[1:]
 screen = open(f'{work}/out', 'w')
 
-def look(name, lines):
-    wait_for(lambda: len(open(f'{work}/out').readlines()) >= lines, 1)
-    shutil.copy(f'{work}/out', f'{work}/{name}')
+def send_and_log(k, sent):
+    before = lines_of(f'{work}/serial.log')
+    send(k, sent)
+    must_wait_for(lambda: lines_of(f'{work}/serial.log') == before + len(sent))
+
+def wait_for_screen(lines):
+    wait_for(lambda: lines_of(f'{work}/out') >= lines, 20)
 
 def interrupt():
     os.killpg(live.pid, signal.SIGINT)
@@ -35,19 +40,23 @@ def interrupt():
     is_there = select.select([ports[0][1]], [], [], 0)[0]
     open(f'{work}/taken', 'w').write('no' if is_there else 'yes')
 
-# What a shell starts in the background ignores what Ctrl-C sends, as this script may.
-commands = ['env', '--default-signal=INT', 'sh', '-c', with_ports(open(f'{work}/live.sh').read())]
+# The log is kept as the page says. What a shell starts in the background ignores what Ctrl-C sends, as this script may.
+kept = with_ports(open(f'{work}/live.sh').read()).replace('| ./ninecheck convert', '| tee serial.log | ./ninecheck convert')
+commands = ['env', '--default-signal=INT', 'sh', '-c', kept]
 live = subprocess.Popen(commands, cwd=work, stdout=screen, start_new_session=True)
 # Should it never end, it is ended, and the test fails.
-stop = threading.Timer(60, os.killpg, (live.pid, signal.SIGKILL))
+stop = threading.Timer(120, os.killpg, (live.pid, signal.SIGKILL))
 stop.daemon = True
 stop.start()
-send(0, bytes([0x20, 0x01, 0x21]))
-time.sleep(0.3)
-send(1, bytes([0x10, 0x01, 0x12]))
-look('replied', 2)
-send(0, bytes([0x20]))
-look('more', 2)
+send_and_log(0, bytes([0x20, 0x01, 0x21]))
+time.sleep(0.1)
+send_and_log(1, bytes([0x10, 0x01, 0x12]))
+wait_for_screen(1)
+time.sleep(1)
+shutil.copy(f'{work}/out', f'{work}/replied')
+send_and_log(0, bytes([0x20]))
+wait_for_screen(2)
+shutil.copy(f'{work}/out', f'{work}/more')
 open(f'{work}/open', 'w').write('yes' if live.poll() is None else 'no')
 if end == 'interrupt':
     interrupt()
@@ -60,16 +69,15 @@ PY
 late='no at record 4: L1 late reply'
 wrong='no at record 6: B2 wrong sum'
 
-# A machine that is busy may stamp bytes of a block more than ten milliseconds apart, which breaks B3, or take more than a second.
-# Then it is tried again.
-for attempt in {1..5}; do
+# A machine that is busy may stamp bytes of a block more than ten milliseconds apart, which breaks B3. Then it is tried again.
+for attempt in {1..20}; do
     record close
     [ "$(cat "$work/replied")" != "$late" ] || [ "$(cat "$work/more")" != "$late
 $wrong" ] || break
 done
 
 judge 'the late reply, and not yet its last byte' [ "$(cat "$work/replied")" = "$late" ]
-judge 'the wrong sum, within a second of the byte after it' [ "$(cat "$work/more")" = "$late
+judge 'the wrong sum, once the byte after it has come' [ "$(cat "$work/more")" = "$late
 $wrong" ]
 judge 'the ports are still open then' [ "$(cat "$work/open")" = yes ]
 judge 'the end, once the ports have gone' [ "$status" = 1 ]

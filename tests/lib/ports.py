@@ -27,6 +27,11 @@ def wait_for(is_so, seconds=60):
     return True
 
 
+def lines_of(path):
+    """How many lines a file has by now: none where it is not there."""
+    return len(open(path).readlines()) if os.path.exists(path) else 0
+
+
 def must_wait_for(is_so):
     if not wait_for(is_so):
         sys.exit('it takes too long')
