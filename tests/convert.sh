@@ -322,6 +322,14 @@ seconds since 1970||2|a time of more than fifteen digits: 1700000000.5 A 20|1 A 
 END
 }
 
+# A name that is not UTF-8, where the letters of the locale are.
+latin_name() {
+    printf 'name,type,start_time,duration,data,error\n"Ger\344t",data,1,1,0x20,""\n' > "$work/in"
+    printf 'time_us,wire,byte\n1000000,C,20\n' > "$work/want"
+    LC_ALL=C.UTF-8 convert saleae "--controller $(printf 'Ger\344t') --deck B" < "$work/in"
+    judge "$awk: saleae: a name that is not UTF-8" is_made "$work/want"
+}
+
 # The rows of a line are there once the next line has come, while the log is still open. mawk has to be told to read it line by line.
 open_log() {
     rm -f "$work/log"
@@ -445,6 +453,7 @@ closed_early() {
 for awk in mawk 'gawk --posix' 'busybox awk'; do
     stored_exports
     good_exports
+    latin_name
     bad_exports
     stopped_logs
     open_log

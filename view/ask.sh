@@ -52,7 +52,7 @@ keep_capture() {
 }
 
 # run_awk FOLDER FILES NAME=VALUE...: awk on these of the folder's files, with these variables. awk takes a backslash in a
-# value for the beginning of an escape, so each is doubled.
+# value for the beginning of an escape, so each is doubled. It takes bytes as bytes, since a name may be of another locale.
 run_awk() {
     folder=$1
     files=$2
@@ -64,7 +64,7 @@ run_awk() {
         left=$((left - 1))
     done
     for part in $files; do set -- "$@" -f "$share/$folder/$part.awk"; done
-    $awk "$@"
+    LC_ALL=C $awk "$@"
 }
 
 # run_view VIEW NAME=VALUE...: the view, of the report on standard input.
