@@ -101,12 +101,17 @@ is_refused_so() {
     [ "$status" = "$1" ] && [ ! -s "$work/out" ] && cmp "$work/err" "$work/want"
 }
 
-# The program's own refusal of a word that it does not know names the word that was asked for.
-unknown_words() {
-    ask digest --foo examples/play.csv
-    judge "$shell, $awk: an unknown option" [ "$status" = 2 -a ! -s "$work/out" ]
-    judge "$shell, $awk: an unknown option is named" grep -q -e "'--foo'" "$work/err"
-    judge "$shell, $awk: its usage is that of the word" grep -q '^Usage: ninecheck digest ' "$work/err"
+# The program refuses an option that it does not know, and the usage is that of the word that was asked for.
+unknown_options() {
+    local asked usage
+    for asked in digest delays motion touches picture page json; do
+        usage="Usage: ninecheck $asked [OPTIONS] [FILE]"
+        [ $asked != json ] || usage='Usage: ninecheck json [check|explain|run|why] [OPTIONS] [FILE]'
+        ask $asked --foo examples/play.csv
+        judge "$shell, $awk: an unknown option of $asked" [ "$status" = 2 -a ! -s "$work/out" ]
+        judge "$shell, $awk: an unknown option of $asked is named" grep -q -e "'--foo'" "$work/err"
+        judge "$shell, $awk: the usage of $asked" grep -qxF "$usage" "$work/err"
+    done
 }
 
 # Names that a shell or awk might take for something else.
@@ -157,7 +162,7 @@ clocks() {
 each_way() {
     made_views
     refused_words
-    unknown_words
+    unknown_options
     odd_names
     closed_early
     clocks

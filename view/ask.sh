@@ -79,7 +79,7 @@ run_view() {
 # can't write, 141 where its reader has gone, and 2 where the words ask for what there is not.
 end_view() {
     status=$(cat "$held/status")
-    sed "s/^Usage: ninecheck $asks /Usage: ninecheck $word /" "$held/said" >&2
+    sed "s/^Usage: ninecheck .*/$(word_usage)/" "$held/said" >&2
     [ "$status" != 2 ] || rate_hint "$own_rate" >&2
     case $status in
         0 | 1) ;;
