@@ -2,8 +2,8 @@
 # How much processor time each view takes under mawk on what the program writes of 4,000,000 records, and its greatest resident
 # memory: at most 60 s and 600 MB are wanted, and a view that takes more ends this with status 1. The capture is two hours of
 # polling, STATUS SENSE and CURRENT TIME SENSE in each frame of a deck that plays, with a preset and its sense every minute. For
-# `run` it is a yes; for the others its last reply comes late. Not part of the gate. The program is the one that the gate or
-# `make` built.
+# `run` it is a yes; for the others its last reply comes late. A page is also made of two captures in which every 124th reply and
+# every second one has a wrong sum. Not part of the gate. The program is the one that the gate or `make` built.
 set -u
 top=$(cd "$(dirname "$0")/../.." && pwd)
 program=${NINECHECK:-$top/crates/ninecheck/out/ninecheck}
@@ -12,8 +12,11 @@ command -v mawk > /dev/null || { echo "mawk is not there"; exit 1; }
 
 work=$(mktemp -d)
 trap 'rm -rf "$work"' EXIT
-# The lines that a view holds back are kept here.
+# The lines that a view holds back are kept here, and `awk` is mawk here.
 export TMPDIR=$work
+mkdir "$work/bin"
+ln -s "$(command -v mawk)" "$work/bin/awk"
+PATH=$work/bin:$PATH
 PYTHONDONTWRITEBYTECODE=1 PYTHONPATH=$top/bench/lib python3 - "$program" "$top/view" "$work" <<'PY'
 import os, subprocess, sys, time
 from blocks import ACK, block, time_bytes
@@ -34,9 +37,9 @@ def frame(number):
     yield block(6, 0x0C, 0x01), block(7, 0x04, *at)
 
 # Whole exchanges, so many that the next one would be too many. It says how many records they have, and which is the first of
-# the last reply, which is late by one microsecond or not.
-def write(path, is_late):
-    records = frames = 0
+# the last reply, which is late by one microsecond or not. Every reply so many further has a wrong sum, where a number is given.
+def write(path, is_late, wrong_each=0):
+    records = frames = exchanges = 0
     last = []
     with open(path, 'w') as text:
         text.write('time_us,wire,byte\n')
@@ -47,6 +50,9 @@ def write(path, is_late):
                     text.writelines(row(at + (LATE_US - BYTE_US if is_late and wire == 'D' else 0), wire, byte) for at, wire, byte in last)
                     return records, records - sum(wire == 'D' for _, wire, _ in last) + 1
                 text.writelines(row(*sent) for sent in last)
+                exchanges += 1
+                if wrong_each > 0 and exchanges % wrong_each == 0:
+                    answered = [*answered[:-1], (answered[-1] + 1) % 256]
                 last = [(now + BYTE_US * k, wire, byte)
                         for k, (wire, byte) in enumerate([('C', byte) for byte in asked] + [('D', byte) for byte in answered])]
                 now += BYTE_US * len(last)
@@ -104,10 +110,14 @@ for view, report in (('digest', 'explain'), ('delays', 'explain'), ('motion', 'e
     too_much = too_much or seconds > SECONDS or high > KILOBYTES
     print(f'{view} of {report} ({sizes[report] / 1e6:.1f} MB): {seconds:.1f} s, {high / 1000:.1f} MB, '
           f'{os.path.getsize(f"{work}/view") / 1e6:.1f} MB written')
-# The page asks the program by itself. The memory is that of the shell.
-seconds, _ = measure([f'{views}/../ninecheck', 'page', late], late, f'{work}/view', 1)
-too_much = too_much or seconds > SECONDS
-print(f'page: {seconds:.1f} s, {os.path.getsize(f"{work}/view") / 1e6:.1f} MB written')
+# The page asks the program by itself, so its time is that of both, and its memory is not told.
+for what, capture, wrong_each in (('the capture', late, 0), ('every 124th reply wrong', f'{work}/some.csv', 124),
+                                  ('every second reply wrong', f'{work}/many.csv', 2)):
+    if wrong_each > 0:
+        write(capture, False, wrong_each)
+    seconds, _ = measure([f'{views}/../ninecheck', 'page', capture], capture, f'{work}/view', 1)
+    too_much = too_much or seconds > SECONDS
+    print(f'page of {what}: {seconds:.1f} s, {os.path.getsize(f"{work}/view") / 1e6:.1f} MB written')
 if too_much:
     sys.exit(f'more than {SECONDS} s or {KILOBYTES // 1000} MB')
 PY
