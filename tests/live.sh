@@ -70,7 +70,7 @@ late='no at record 4: L1 late reply'
 wrong='no at record 6: B2 wrong sum'
 
 # A machine that is busy may stamp bytes of a block more than ten milliseconds apart, which breaks B3. Then it is tried again.
-for attempt in {1..20}; do
+for attempt in {1..10}; do
     record close
     [ "$(cat "$work/replied")" != "$late" ] || [ "$(cat "$work/more")" != "$late
 $wrong" ] || break
